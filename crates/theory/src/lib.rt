@@ -1,0 +1,3 @@
+//! The theory: terms, families, conversion, derivations and well-formed signatures as pure data, and the laws that
+//! hold of them. `specs/` has the definitions; each function here has one law as its contract, and an empty body.
+#![tactic(auto)]
