@@ -1,1 +1,2 @@
+pub mod Substitutions
 pub mod Terms
