@@ -1,2 +1,10 @@
+pub mod Conversion
+pub mod Eliminators
+pub mod Families
+pub mod Prelude
+pub mod Signatures
 pub mod Substitutions
+pub mod Telescopes
 pub mod Terms
+pub mod Typing
+pub mod WellFormed
