@@ -1,6 +1,7 @@
 //! The types that every crate shares, terms first, and the calls on them.
 #![tactic(auto)]
 
+mod copying;
 mod items;
 mod name;
 mod stop;
@@ -8,9 +9,10 @@ mod term;
 mod units;
 mod verdict;
 
+pub use copying::copy;
 pub use items::Items;
 pub use name::Name;
 pub use stop::Stop;
-pub use term::{TOP, Tele, Term};
+pub use term::{MAX_HEIGHT, TOP, Tele, Term};
 pub use units::Units;
 pub use verdict::{Denial, Place, Reason, Verdict};
