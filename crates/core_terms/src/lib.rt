@@ -3,6 +3,7 @@
 
 mod copying;
 mod items;
+mod lifting;
 mod name;
 mod stop;
 mod term;
@@ -11,6 +12,7 @@ mod verdict;
 
 pub use copying::copy;
 pub use items::Items;
+pub use lifting::lift;
 pub use name::Name;
 pub use stop::Stop;
 pub use term::{MAX_HEIGHT, TOP, Tele, Term};
