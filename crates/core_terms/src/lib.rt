@@ -1,10 +1,20 @@
 //! The types that every crate shares, terms first, and the calls on them.
 #![tactic(auto)]
 
+mod copying;
 mod items;
+mod lifting;
 mod name;
 mod stop;
+mod term;
+mod units;
+mod verdict;
 
+pub use copying::copy;
 pub use items::Items;
+pub use lifting::lift;
 pub use name::Name;
 pub use stop::Stop;
+pub use term::{MAX_HEIGHT, TOP, Tele, Term};
+pub use units::Units;
+pub use verdict::{Denial, Place, Reason, Verdict};
