@@ -1,0 +1,5 @@
+pub mod Instances
+pub mod Shifts
+pub mod FreeVariables
+pub mod Heights
+pub mod SortLevels
