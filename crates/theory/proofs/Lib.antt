@@ -1,5 +1,6 @@
-pub mod Instances
-pub mod Shifts
+pub mod Commuting
 pub mod FreeVariables
 pub mod Heights
+pub mod Instances
+pub mod Shifts
 pub mod SortLevels

@@ -3,7 +3,8 @@ use Rattle.std.proofs.Common.{◌≡◌, ℕ, zero, suc, ◌+◌, ◌-◌, ◌<�
 use Rattle.std.proofs.lemmas.Bool.Decides.{nat_tests}
 use Rattle.theory.specs.Terms.{Term, lift, lift_var, subst, subst_var}
 use Rattle.theory.specs.Terms.Term.{Var, Sort, Pi, Lam, App, Let, Const, Fam, Con, Elim, AxiomK}
-use Rattle.theory.specs.Substitutions.{ren, up, inst, ups}
+use Rattle.theory.specs.Substitutions.{ren, up, inst, ups, extend}
+use Rattle.theory.specs.TermLaws.{LiftIsRen, LiftIsWeaken, SubstIsInst, SubstIsExtend}
 use Rattle.theory.proofs.Instances.{ren-same, inst-same, ren-ren, inst-ren, ren-inst, inst-inst, inst-var, ren-is_inst, ap₃}
 
 -- a variable below `from` stays
@@ -39,7 +40,7 @@ pub compare : (n at : ℕ) → (n < at) ⊎ ((n ≡ at) ⊎ (at < n))
 compare n at = grind arith
 
 -- lifting renames each variable
-pub lift-is_ren : (t : Term) (by from : ℕ) → lift t by from ≡ ren (λ n. lift_var n by from) t
+pub lift-is_ren : LiftIsRen
 lift-is_ren (Pi a b) by from =
     ap₂ Pi (lift-is_ren a by from) (lift-is_ren b by (from + 1) ∙ sym (ren-same b (up-shift by from)))
 lift-is_ren (Lam a b) by from =
@@ -53,8 +54,8 @@ lift-is_ren _ by from = refl
 lift_var-all : (n : ℕ) → suc n ≡ lift_var n 1 0
 lift_var-all n = grind (arith, nat_tests)
 
--- lifting everything by one renames by the successor
-pub lift-one : (t : Term) → lift t 1 0 ≡ ren suc t
+-- lifting everything by one goes one binder further in
+pub lift-one : LiftIsWeaken
 lift-one t = lift-is_ren t 1 0 ∙ sym (ren-same t lift_var-all)
 
 ups-put : (at : ℕ) (u : Term) (n : ℕ) → ups (λ m. subst_var m at u) n ≡ subst_var n (at + 1) (lift u 1 0)
@@ -66,7 +67,7 @@ ups-put at u (suc n) = elim (compare n at) [
 ]
 
 -- substitution instantiates each variable
-pub subst-is_inst : (t : Term) (at : ℕ) (u : Term) → subst t at u ≡ inst (λ n. subst_var n at u) t
+pub subst-is_inst : SubstIsInst
 subst-is_inst (Pi a b) at u =
     ap₂ Pi (subst-is_inst a at u) (subst-is_inst b (at + 1) (lift u 1 0) ∙ sym (inst-same b (ups-put at u)))
 subst-is_inst (Lam a b) at u =
@@ -76,6 +77,14 @@ subst-is_inst (Let a t b) at u =
     ap₃ Let (subst-is_inst a at u) (subst-is_inst t at u)
     (subst-is_inst b (at + 1) (lift u 1 0) ∙ sym (inst-same b (ups-put at u)))
 subst-is_inst _ at u = refl
+
+extend-put : (u : Term) (n : ℕ) → subst_var n 0 u ≡ extend Var u n
+extend-put u zero = subst_var-at 0 0 u refl
+extend-put u (suc n) = subst_var-above (suc n) 0 u (omega arith) ∙ ap Var (omega arith)
+
+-- substitution for the nearest variable
+pub subst-is_extend : SubstIsExtend
+subst-is_extend t u = subst-is_inst t 0 u ∙ inst-same t (extend-put u)
 
 -- lifting instantiates each variable by a variable
 pub lift-is_inst : (t : Term) (by from : ℕ) → lift t by from ≡ inst (λ n. Var (lift_var n by from)) t

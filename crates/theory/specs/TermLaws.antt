@@ -1,6 +1,23 @@
--- The laws of `lift` and `subst`, with general positions.
+-- The laws of `lift` and `subst`, with general positions, and what they are as renaming and instantiation.
 use Rattle.std.specs.Prelude.{◌≡◌, ℕ, ◌+◌, ◌-◌, ◌<◌, ◌≤◌, max, nat_lt, cond, ◌↔◌}
-use Rattle.theory.specs.Terms.{Term, lift, subst, height, free_of, SortsBelow}
+use Rattle.theory.specs.Terms.{Term, Var, lift, lift_var, subst, subst_var, height, free_of, SortsBelow}
+use Rattle.theory.specs.Substitutions.{ren, weaken, inst, extend}
+
+-- a lift is the renaming that does to each variable what the lift does
+abbrev pub LiftIsRen : Type 0
+LiftIsRen = (t : Term) (by from : ℕ) → lift t by from ≡ ren (λ n. lift_var n by from) t
+
+-- a lift of every variable by one goes one binder further in
+abbrev pub LiftIsWeaken : Type 0
+LiftIsWeaken = (t : Term) → lift t 1 0 ≡ weaken t
+
+-- a substitution is the instantiation that does to each variable what the substitution does
+abbrev pub SubstIsInst : Type 0
+SubstIsInst = (t : Term) (at : ℕ) (u : Term) → subst t at u ≡ inst (λ n. subst_var n at u) t
+
+-- a substitution for the nearest variable gives that one a term, and each other its own place
+abbrev pub SubstIsExtend : Type 0
+SubstIsExtend = (t u : Term) → subst t 0 u ≡ inst (extend Var u) t
 
 -- lifting by nothing changes nothing
 abbrev pub LiftByNone : Type 0
