@@ -1,8 +1,8 @@
 -- How `lift` and `subst` change the free variables of a term.
-use Rattle.std.proofs.Common.{◌≡◌, ℕ, ◌+◌, ◌-◌, ◌<◌, ◌≤◌, ◌⊎◌, max, nat_lt, cond, inl, inr, refl, ap, ap₂, sym, ◌∙◌, arith}
+use Rattle.std.proofs.Common.{◌≡◌, ℕ, ◌+◌, ◌-◌, ◌<◌, ◌≤◌, ◌⊎◌, max, nat_lt, cond, inl, inr, refl, ap, ap₂, ◌∙◌, arith}
 use Rattle.std.proofs.lemmas.Bool.Decides.{nat_tests}
-use Rattle.theory.specs.Terms.{Term, lift, lift_var, subst, subst_var, free_of}
-use Rattle.theory.specs.Terms.Term.{Var, Sort, Pi, Lam, App, Let, Const, Fam, Con, Elim, AxiomK}
+use Rattle.theory.specs.Terms.{Term, lift, subst_var, free_of}
+use Rattle.theory.specs.Terms.Term.{Var, Pi, Lam, App, Let}
 use Rattle.theory.specs.TermLaws.{LiftOfScoped, SubstOfScoped, FreeOfLift, FreeOfSubst, FreeBeforeSubst}
 use Rattle.theory.proofs.Instances.{ap₃}
 use Rattle.theory.proofs.Shifts.{lift_var-below, lift_var-tells, subst_var-below, subst_var-at, subst_var-above, compare}
@@ -64,7 +64,7 @@ free_of-lift (App f a) by from =
 free_of-lift (Let a t b) by from =
     ap₂ max (free_of-lift a by from)
     (ap₂ (λ x y. max x (y - 1)) (free_of-lift t by from) (free_of-lift b by (from + 1))
-      ∙ raised-under (free_of t) (free_of b) by from)
+    ∙ raised-under (free_of t) (free_of b) by from)
     ∙ raised-max (free_of a) (max (free_of t) (free_of b - 1)) by from
 free_of-lift _ by from = omega (arith, raised-tells 0 by from)
 
@@ -74,7 +74,7 @@ free_of-lift_one u n h = omega (arith, free_of-lift u 1 0, raised-tells (free_of
 
 free_of-subst_var : (m at : ℕ) (u : Term) (n : ℕ) → at ≤ n → m + 1 ≤ n + 1 → free_of u ≤ n → free_of (subst_var m at u) ≤ n
 free_of-subst_var m at u n low h hu = elim (compare m at) [
-    inl lt ↦ omega (arith, ap free_of (subst_var-below m at u lt))
+  | inl lt ↦ omega (arith, ap free_of (subst_var-below m at u lt))
   | inr (inl eq) ↦ omega (arith, ap free_of (subst_var-at m at u eq))
   | inr (inr gt) ↦ omega (arith, ap free_of (subst_var-above m at u gt))
 ]
@@ -83,25 +83,32 @@ free_of-subst_var m at u n low h hu = elim (compare m at) [
 pub free_of-subst : FreeOfSubst
 free_of-subst (Var m) at u n low h hu = free_of-subst_var m at u n low h hu
 free_of-subst (Pi a b) at u n low h hu =
-    omega
-      (arith, free_of-subst a at u n low (omega arith) hu,
-        free_of-subst b (at + 1) (lift u 1 0) (n + 1) (omega arith) (omega arith) (free_of-lift_one u n hu))
+    omega (
+      arith,
+      free_of-subst a at u n low (omega arith) hu,
+      free_of-subst b (at + 1) (lift u 1 0) (n + 1) (omega arith) (omega arith) (free_of-lift_one u n hu),
+    )
 free_of-subst (Lam a b) at u n low h hu =
-    omega
-      (arith, free_of-subst a at u n low (omega arith) hu,
-        free_of-subst b (at + 1) (lift u 1 0) (n + 1) (omega arith) (omega arith) (free_of-lift_one u n hu))
+    omega (
+      arith,
+      free_of-subst a at u n low (omega arith) hu,
+      free_of-subst b (at + 1) (lift u 1 0) (n + 1) (omega arith) (omega arith) (free_of-lift_one u n hu),
+    )
 free_of-subst (App f a) at u n low h hu =
     omega
-      (arith, free_of-subst f at u n low (omega arith) hu, free_of-subst a at u n low (omega arith) hu)
+    (arith, free_of-subst f at u n low (omega arith) hu, free_of-subst a at u n low (omega arith) hu)
 free_of-subst (Let a t b) at u n low h hu =
-    omega
-      (arith, free_of-subst a at u n low (omega arith) hu, free_of-subst t at u n low (omega arith) hu,
-        free_of-subst b (at + 1) (lift u 1 0) (n + 1) (omega arith) (omega arith) (free_of-lift_one u n hu))
+    omega (
+      arith,
+      free_of-subst a at u n low (omega arith) hu,
+      free_of-subst t at u n low (omega arith) hu,
+      free_of-subst b (at + 1) (lift u 1 0) (n + 1) (omega arith) (omega arith) (free_of-lift_one u n hu),
+    )
 free_of-subst _ at u n low h hu = omega arith
 
 free_before_subst-var : (m at : ℕ) (u : Term) (n : ℕ) → at ≤ n → free_of (subst_var m at u) ≤ n → m + 1 ≤ n + 1
 free_before_subst-var m at u n low h = elim (compare m at) [
-    inl lt ↦ omega arith
+  | inl lt ↦ omega arith
   | inr (inl eq) ↦ omega arith
   | inr (inr gt) ↦ omega (arith, ap free_of (subst_var-above m at u gt))
 ]
@@ -110,17 +117,24 @@ free_before_subst-var m at u n low h = elim (compare m at) [
 pub free_before_subst : FreeBeforeSubst
 free_before_subst (Var m) at u n low h = free_before_subst-var m at u n low h
 free_before_subst (Pi a b) at u n low h =
-    omega
-      (arith, free_before_subst a at u n low (omega arith),
-        free_before_subst b (at + 1) (lift u 1 0) (n + 1) (omega arith) (omega arith))
+    omega (
+      arith,
+      free_before_subst a at u n low (omega arith),
+      free_before_subst b (at + 1) (lift u 1 0) (n + 1) (omega arith) (omega arith),
+    )
 free_before_subst (Lam a b) at u n low h =
-    omega
-      (arith, free_before_subst a at u n low (omega arith),
-        free_before_subst b (at + 1) (lift u 1 0) (n + 1) (omega arith) (omega arith))
+    omega (
+      arith,
+      free_before_subst a at u n low (omega arith),
+      free_before_subst b (at + 1) (lift u 1 0) (n + 1) (omega arith) (omega arith),
+    )
 free_before_subst (App f a) at u n low h =
     omega (arith, free_before_subst f at u n low (omega arith), free_before_subst a at u n low (omega arith))
 free_before_subst (Let a t b) at u n low h =
-    omega
-      (arith, free_before_subst a at u n low (omega arith), free_before_subst t at u n low (omega arith),
-        free_before_subst b (at + 1) (lift u 1 0) (n + 1) (omega arith) (omega arith))
+    omega (
+      arith,
+      free_before_subst a at u n low (omega arith),
+      free_before_subst t at u n low (omega arith),
+      free_before_subst b (at + 1) (lift u 1 0) (n + 1) (omega arith) (omega arith),
+    )
 free_before_subst _ at u n low h = omega arith

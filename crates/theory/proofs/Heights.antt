@@ -1,7 +1,7 @@
 -- How `lift` and `subst` change the height of a term.
-use Rattle.std.proofs.Common.{◌≡◌, ℕ, ◌+◌, ◌≤◌, max, refl, ap, ap₂, inl, inr, arith}
+use Rattle.std.proofs.Common.{ℕ, ◌+◌, ◌≤◌, max, refl, ap, ap₂, inl, inr, arith}
 use Rattle.theory.specs.Terms.{Term, lift, subst, subst_var, height}
-use Rattle.theory.specs.Terms.Term.{Var, Sort, Pi, Lam, App, Let, Const, Fam, Con, Elim, AxiomK}
+use Rattle.theory.specs.Terms.Term.{Var, Pi, Lam, App, Let}
 use Rattle.theory.specs.TermLaws.{HeightOfLift, HeightOfSubst}
 use Rattle.theory.proofs.Shifts.{compare, subst_var-below, subst_var-at, subst_var-above}
 
@@ -33,12 +33,12 @@ height-subst-least (Lam a b) at u =
 height-subst-least (App f a) at u = omega (arith, height-subst-least f at u, height-subst-least a at u)
 height-subst-least (Let a t b) at u =
     omega
-      (arith, height-subst-least a at u, height-subst-least t at u, height-subst-least b (at + 1) (lift u 1 0))
+    (arith, height-subst-least a at u, height-subst-least t at u, height-subst-least b (at + 1) (lift u 1 0))
 height-subst-least _ at u = omega arith
 
 height-subst_var : (n at : ℕ) (u : Term) → height (subst_var n at u) ≤ height u
 height-subst_var n at u = elim (compare n at) [
-    inl lt ↦ omega (arith, ap height (subst_var-below n at u lt), height-positive u)
+  | inl lt ↦ omega (arith, ap height (subst_var-below n at u lt), height-positive u)
   | inr (inl eq) ↦ omega (arith, ap height (subst_var-at n at u eq))
   | inr (inr gt) ↦ omega (arith, ap height (subst_var-above n at u gt), height-positive u)
 ]
@@ -52,9 +52,13 @@ height-subst-most (Lam a b) at u =
     omega (arith, height-subst-most a at u, height-subst-most b (at + 1) (lift u 1 0), height-lift u 1 0)
 height-subst-most (App f a) at u = omega (arith, height-subst-most f at u, height-subst-most a at u)
 height-subst-most (Let a t b) at u =
-    omega
-      (arith, height-subst-most a at u, height-subst-most t at u, height-subst-most b (at + 1) (lift u 1 0),
-        height-lift u 1 0)
+    omega (
+      arith,
+      height-subst-most a at u,
+      height-subst-most t at u,
+      height-subst-most b (at + 1) (lift u 1 0),
+      height-lift u 1 0,
+    )
 height-subst-most _ at u = omega (arith, height-positive u)
 
 -- both bounds

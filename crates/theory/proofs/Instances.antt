@@ -3,7 +3,7 @@ use Rattle.std.proofs.Common.{◌≡◌, ℕ, zero, suc, refl, ap, ap₂, sym, �
 use mathlib.Core.Path.{fun_ext}
 use Rattle.theory.specs.Terms.{Term}
 use Rattle.theory.specs.Substitutions.{ren, up, inst, ups}
-use Rattle.theory.specs.Terms.Term.{Var, Sort, Pi, Lam, App, Let, Const, Fam, Con, Elim, AxiomK}
+use Rattle.theory.specs.Terms.Term.{Var, Pi, Lam, App, Let}
 
 -- a path in each argument of a three-place constructor
 pub ap₃ : {x x' y y' z z' : Term} → (f : Term → Term → Term → Term) → x ≡ x' → y ≡ y' → z ≡ z' → f x y z ≡ f x' y' z'

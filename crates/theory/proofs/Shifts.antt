@@ -1,11 +1,11 @@
 -- `lift` is a renaming and `subst` an instantiation, so that each law of the two is one about a single variable.
-use Rattle.std.proofs.Common.{◌≡◌, ℕ, zero, suc, ◌+◌, ◌-◌, ◌<◌, ◌≤◌, ◌==◌, nat_lt, cond, ◌⊎◌, inl, inr, refl, ap, ap₂, sym, ◌∙◌, arith}
+use Rattle.std.proofs.Common.{◌≡◌, ℕ, zero, suc, ◌+◌, ◌-◌, ◌<◌, ◌≤◌, ◌⊎◌, inl, inr, refl, ap, ap₂, sym, ◌∙◌, arith}
 use Rattle.std.proofs.lemmas.Bool.Decides.{nat_tests}
 use Rattle.theory.specs.Terms.{Term, lift, lift_var, subst, subst_var}
-use Rattle.theory.specs.Terms.Term.{Var, Sort, Pi, Lam, App, Let, Const, Fam, Con, Elim, AxiomK}
+use Rattle.theory.specs.Terms.Term.{Var, Pi, Lam, App, Let}
 use Rattle.theory.specs.Substitutions.{ren, up, inst, ups, extend}
 use Rattle.theory.specs.TermLaws.{LiftIsRen, LiftIsWeaken, SubstIsInst, SubstIsExtend}
-use Rattle.theory.proofs.Instances.{ren-same, inst-same, ren-ren, inst-ren, ren-inst, inst-inst, inst-var, ren-is_inst, ap₃}
+use Rattle.theory.proofs.Instances.{ren-same, inst-same, inst-inst, ren-is_inst, ap₃}
 
 -- a variable below `from` stays
 pub lift_var-below : (n by from : ℕ) → n < from → lift_var n by from ≡ n
@@ -61,7 +61,7 @@ lift-one t = lift-is_ren t 1 0 ∙ sym (ren-same t lift_var-all)
 ups-put : (at : ℕ) (u : Term) (n : ℕ) → ups (λ m. subst_var m at u) n ≡ subst_var n (at + 1) (lift u 1 0)
 ups-put at u zero = sym (subst_var-below 0 (at + 1) (lift u 1 0) (omega arith))
 ups-put at u (suc n) = elim (compare n at) [
-    inl h ↦ ap (ren suc) (subst_var-below n at u h) ∙ sym (subst_var-below (suc n) (at + 1) (lift u 1 0) (omega arith))
+  | inl h ↦ ap (ren suc) (subst_var-below n at u h) ∙ sym (subst_var-below (suc n) (at + 1) (lift u 1 0) (omega arith))
   | inr (inl h) ↦ ap (ren suc) (subst_var-at n at u h) ∙ (sym (lift-one u) ∙ sym (subst_var-at (suc n) (at + 1) (lift u 1 0) (omega arith)))
   | inr (inr h) ↦ ap (ren suc) (subst_var-above n at u h) ∙ (ap Var (omega arith) ∙ sym (subst_var-above (suc n) (at + 1) (lift u 1 0) (omega arith)))
 ]

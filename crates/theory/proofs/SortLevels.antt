@@ -1,7 +1,7 @@
 -- How `lift` and `subst` change the sorts in a term.
-use Rattle.std.proofs.Common.{◌≡◌, ℕ, ◌+◌, ◌<◌, ◌≤◌, ◌↔◌, subst as transport, sym, inl, inr, arith}
-use Rattle.theory.specs.Terms.{Term, lift, subst, subst_var, SortsBelow}
-use Rattle.theory.specs.Terms.Term.{Var, Sort, Pi, Lam, App, Let, Const, Fam, Con, Elim, AxiomK}
+use Rattle.std.proofs.Common.{ℕ, ◌+◌, subst as transport, sym, inl, inr, arith}
+use Rattle.theory.specs.Terms.{Term, lift, subst_var, SortsBelow}
+use Rattle.theory.specs.Terms.Term.{Var, Sort, Pi, Lam, App, Let}
 use Rattle.theory.specs.TermLaws.{SortsRaised, SortsOfLift, SortsOfSubst, SortsBeforeSubst}
 use Rattle.theory.proofs.Shifts.{compare, subst_var-below, subst_var-at, subst_var-above}
 
@@ -41,7 +41,7 @@ sorts_of_lift t by from n = (sorts_into_lift t by from n, sorts_from_lift t by f
 
 sorts_of_subst-var : (m at : ℕ) (u : Term) (n : ℕ) → SortsBelow n u → SortsBelow n (subst_var m at u)
 sorts_of_subst-var m at u n s = elim (compare m at) [
-    inl lt ↦ transport (SortsBelow n) (sym (subst_var-below m at u lt)) tt
+  | inl lt ↦ transport (SortsBelow n) (sym (subst_var-below m at u lt)) tt
   | inr (inl eq) ↦ transport (SortsBelow n) (sym (subst_var-at m at u eq)) s
   | inr (inr gt) ↦ transport (SortsBelow n) (sym (subst_var-above m at u gt)) tt
 ]
@@ -55,9 +55,11 @@ sorts_of_subst (Pi a b) at u n s su =
 sorts_of_subst (Lam a b) at u n s su =
     (sorts_of_subst a at u n s.0 su, sorts_of_subst b (at + 1) (lift u 1 0) n s.1 (sorts_into_lift u 1 0 n su))
 sorts_of_subst (App f a) at u n s su = (sorts_of_subst f at u n s.0 su, sorts_of_subst a at u n s.1 su)
-sorts_of_subst (Let a t b) at u n s su =
-    (sorts_of_subst a at u n s.0 su, sorts_of_subst t at u n s.1 su,
-    sorts_of_subst b (at + 1) (lift u 1 0) n s.2 (sorts_into_lift u 1 0 n su))
+sorts_of_subst (Let a t b) at u n s su = (
+  sorts_of_subst a at u n s.0 su,
+  sorts_of_subst t at u n s.1 su,
+  sorts_of_subst b (at + 1) (lift u 1 0) n s.2 (sorts_into_lift u 1 0 n su),
+)
 sorts_of_subst _ at u n s su = tt
 
 -- a substitution drops no sorts
@@ -68,7 +70,9 @@ sorts_before_subst (Pi a b) at u n s =
 sorts_before_subst (Lam a b) at u n s =
     (sorts_before_subst a at u n s.0, sorts_before_subst b (at + 1) (lift u 1 0) n s.1)
 sorts_before_subst (App f a) at u n s = (sorts_before_subst f at u n s.0, sorts_before_subst a at u n s.1)
-sorts_before_subst (Let a t b) at u n s =
-    (sorts_before_subst a at u n s.0, sorts_before_subst t at u n s.1,
-    sorts_before_subst b (at + 1) (lift u 1 0) n s.2)
+sorts_before_subst (Let a t b) at u n s = (
+  sorts_before_subst a at u n s.0,
+  sorts_before_subst t at u n s.1,
+  sorts_before_subst b (at + 1) (lift u 1 0) n s.2,
+)
 sorts_before_subst _ at u n s = tt
