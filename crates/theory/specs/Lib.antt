@@ -5,6 +5,7 @@ pub mod Prelude
 pub mod Signatures
 pub mod Substitutions
 pub mod Telescopes
+pub mod TermLaws
 pub mod Terms
 pub mod Typing
 pub mod WellFormed

@@ -1,5 +1,5 @@
 -- Terms of the core language as trees, with de Bruijn indices: variable 0 belongs to the nearest binder.
-use Rattle.std.specs.Prelude.{◌≡◌, ℕ, ◌+◌, ◌-◌, ◌==◌, nat_lt, cond, max}
+use Rattle.std.specs.Prelude.{◌≡◌, ℕ, ◌+◌, ◌-◌, ◌<◌, ◌==◌, nat_lt, cond, max}
 
 -- the greatest sort level: `Type top` is a term that has no type
 abbrev pub top : ℕ
@@ -78,3 +78,12 @@ free_of _ = 0
 -- no variable is free
 abbrev pub IsClosed : Term → Type 0
 IsClosed t = free_of t ≡ 0
+
+-- every sort in the term has a level below `n`
+abbrev pub SortsBelow : ℕ → Term → Type 0
+SortsBelow n (Sort i) = i < n
+SortsBelow n (Pi a b) = SortsBelow n a × SortsBelow n b
+SortsBelow n (Lam a b) = SortsBelow n a × SortsBelow n b
+SortsBelow n (App f a) = SortsBelow n f × SortsBelow n a
+SortsBelow n (Let a t b) = SortsBelow n a × SortsBelow n t × SortsBelow n b
+SortsBelow n _ = Unit {0}

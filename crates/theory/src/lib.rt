@@ -1,3 +1,5 @@
 //! The theory: terms, families, conversion, derivations and well-formed signatures as pure data, and the laws that
 //! hold of them. `specs/` has the definitions; each function here has one law as its contract, and an empty body.
 #![tactic(auto)]
+
+pub mod term_laws;

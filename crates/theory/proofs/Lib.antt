@@ -1,0 +1,6 @@
+pub mod Commuting
+pub mod FreeVariables
+pub mod Heights
+pub mod Instances
+pub mod Shifts
+pub mod SortLevels
