@@ -4,3 +4,4 @@ pub mod Heights
 pub mod Instances
 pub mod Shifts
 pub mod SortLevels
+pub mod StabilityStatements
