@@ -23,7 +23,7 @@ IsEntryAt S n e = slice_get S.entries n ≡ Some e
 
 -- no body has a free variable
 abbrev pub HasClosedBodies : Signature → Type 0
-HasClosedBodies S = (n : ℕ) {name : List ℕ} {type body : Term} → IsEntryAt S n (Definition name type body) → IsClosed body
+HasClosedBodies S = (n : ℕ) (name : List ℕ) (type body : Term) → IsEntryAt S n (Definition name type body) → IsClosed body
 
 -- the names that an entry brings
 abbrev pub names_of : Entry → List (List ℕ)
