@@ -2,7 +2,8 @@ pub mod Commuting
 pub mod FreeVariables
 pub mod Heights
 pub mod Instances
+pub mod Instantiation
 pub mod Scoping
 pub mod Shifts
 pub mod SortLevels
-pub mod StabilityStatements
+pub mod Stability
