@@ -1,4 +1,5 @@
 pub mod Commuting
+pub mod Congruence
 pub mod FreeVariables
 pub mod Heights
 pub mod Instances

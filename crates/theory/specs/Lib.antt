@@ -1,4 +1,5 @@
 pub mod Conversion
+pub mod ConversionLaws
 pub mod Eliminators
 pub mod Families
 pub mod Prelude
