@@ -1,3 +1,5 @@
+pub mod AllOf
+pub mod Bounds
 pub mod Commuting
 pub mod Congruence
 pub mod FreeVariables
@@ -6,5 +8,8 @@ pub mod Instances
 pub mod Instantiation
 pub mod Scoping
 pub mod Shifts
+pub mod SortInstances
 pub mod SortLevels
 pub mod Stability
+pub mod StepSorts
+pub mod TermSorts

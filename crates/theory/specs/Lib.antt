@@ -4,6 +4,7 @@ pub mod Eliminators
 pub mod Families
 pub mod Prelude
 pub mod Signatures
+pub mod SortLaws
 pub mod Substitutions
 pub mod Telescopes
 pub mod TermLaws

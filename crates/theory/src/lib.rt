@@ -3,4 +3,5 @@
 #![tactic(auto)]
 
 pub mod conversion_laws;
+pub mod sort_laws;
 pub mod term_laws;
