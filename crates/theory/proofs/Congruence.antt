@@ -1,7 +1,7 @@
 -- Conversion is an equivalence that every former of terms keeps, and so does putting terms for variables.
-use Rattle.std.proofs.Common.{ℕ, zero, suc, ◌≡◌, ◌⊎◌, inl, inr, sym, subst₂}
-use Rattle.theory.specs.Terms.{Term, lift, lift_var, subst, subst_var}
-use Rattle.theory.specs.Terms.Term.{Var, Sort, Pi, Lam, App, Let, Const, Fam, Con, Elim, AxiomK}
+use Rattle.std.proofs.Common.{ℕ, zero, suc, inl, inr, sym, subst₂}
+use Rattle.theory.specs.Terms.{Term, subst_var}
+use Rattle.theory.specs.Terms.Term.{Var, Pi, Lam, App, Let}
 use Rattle.theory.specs.Substitutions.{inst, ups}
 use Rattle.theory.specs.Signatures.{Signature, HasClosedBodies}
 use Rattle.theory.specs.Conversion.{Step, Converts, Below}

@@ -4,7 +4,7 @@ use Rattle.std.proofs.lemmas.List.{map-append}
 use mathlib.Core.Path.{fun_ext}
 use Rattle.theory.specs.Terms.{Term, subst, free_of, IsClosed}
 use Rattle.theory.specs.Terms.Term.{Var, Pi, Lam, App, Let, Elim}
-use Rattle.theory.specs.Substitutions.{ren, inst, ups, weaken, extend, fill}
+use Rattle.theory.specs.Substitutions.{inst, ups, weaken, extend, fill}
 use Rattle.theory.specs.Telescopes.{Telescope, applied}
 use Rattle.theory.specs.Families.{Argument, Plain, Recursive}
 use Rattle.theory.specs.Eliminators.{hypothesis, hypotheses, iota_right, no_variable}

@@ -1,10 +1,10 @@
 -- How renaming and instantiation change the sorts in a term, and the sorts of a constructor's record.
-use Rattle.std.proofs.Common.{◌≡◌, ℕ, zero, suc, ◌<◌, List, [], ◌∷◌, map, All, arith}
+use Rattle.std.proofs.Common.{ℕ, zero, suc, ◌<◌, List, [], ◌∷◌, map, All}
 use Rattle.std.proofs.lemmas.List.Elements.{All-nil, All-cons, All-head, All-tail}
 use Rattle.theory.specs.Terms.{Term, SortsBelow}
 use Rattle.theory.specs.Terms.Term.{Var, Sort, Pi, Lam, App, Let}
 use Rattle.theory.specs.Substitutions.{ren, up, weaken, inst, ups}
-use Rattle.theory.specs.Telescopes.{Telescope, products, applied}
+use Rattle.theory.specs.Telescopes.{Telescope, products}
 use Rattle.theory.specs.Families.{Argument, Plain, Recursive, Constructor, Family, argument_type, argument_types, recursive_type, constructor_type, family_head}
 use Rattle.theory.proofs.Bounds.{HasTerms, IsBound, applied-parts}
 

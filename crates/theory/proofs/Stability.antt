@@ -1,13 +1,12 @@
 -- Renaming and instantiation keep steps, conversion and below, where bodies are closed.
-use Rattle.std.proofs.Common.{◌≡◌, ℕ, Some, List, ◌∷◌, ◌++◌, map, length, option_map, slice_get, ap, sym, ◌∙◌, refl, subst as transport, subst₂}
+use Rattle.std.proofs.Common.{◌≡◌, ℕ, List, ◌∷◌, ◌++◌, map, option_map, ap, sym, ◌∙◌, refl, subst₂}
 use Rattle.std.proofs.lemmas.List.{map-append, length-map}
 use Rattle.std.proofs.lemmas.Option.{slice_get-map}
-use Rattle.theory.specs.Terms.{Term, subst}
+use Rattle.theory.specs.Terms.{Term}
 use Rattle.theory.specs.Terms.Term.{App, Con, Elim}
 use Rattle.theory.specs.Substitutions.{ren, inst, ups}
 use Rattle.theory.specs.Telescopes.{applied}
 use Rattle.theory.specs.Families.{Family, Constructor}
-use Rattle.theory.specs.Eliminators.{iota_right}
 use Rattle.theory.specs.Signatures.{Signature, HasClosedBodies}
 use Rattle.theory.specs.Conversion.{IsIotaRedex, Contracts, Step, Converts, Below}
 use Rattle.theory.specs.Conversion.Contracts.{beta, zeta, delta, iota, axiom_k}

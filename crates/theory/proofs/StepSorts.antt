@@ -1,11 +1,11 @@
 -- A step keeps every bound on the sorts from top on.
-use Rattle.std.proofs.Common.{ℕ, ◌≤◌, inl, inr, All, arith}
+use Rattle.std.proofs.Common.{ℕ, ◌≤◌, inl, inr, arith}
 use Rattle.std.proofs.lemmas.List.Elements.{All-weaker}
 use Rattle.theory.specs.Terms.{Term, SortsBelow, top}
 use Rattle.theory.specs.Families.{Argument, Plain, Recursive}
 use Rattle.theory.specs.Signatures.{Signature}
 use Rattle.theory.specs.Signatures.TypeOf.{constructor}
-use Rattle.theory.specs.Conversion.{Contracts, Step}
+use Rattle.theory.specs.Conversion.{Contracts}
 use Rattle.theory.specs.Conversion.Contracts.{beta, zeta, delta, iota, axiom_k}
 use Rattle.theory.specs.Conversion.Step.{here, domain, codomain, annotation, body, function, argument, let_type, let_value, let_body}
 use Rattle.theory.specs.WellFormed.{IsTyped}
@@ -18,8 +18,7 @@ use Rattle.theory.proofs.TermSorts.{sorts_of_term}
 terms-raised : (n m : ℕ) → n ≤ m → (a : Argument) → HasTerms (SortsBelow n) a → HasTerms (SortsBelow m) a
 terms-raised n m le (Plain type level) h = tt
 terms-raised n m le (Recursive inner targets level) h =
-    let raise : (t : Term) → SortsBelow n t → SortsBelow m t = λ t. sorts_raised t n m le in
-    (
+    let raise : (t : Term) → SortsBelow n t → SortsBelow m t = λ t. sorts_raised t n m le in (
       All-weaker (SortsBelow n) (SortsBelow m) raise inner h.0,
       All-weaker (SortsBelow n) (SortsBelow m) raise targets h.1,
     )

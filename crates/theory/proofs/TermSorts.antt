@@ -5,7 +5,6 @@ use Rattle.theory.specs.Signatures.{Signature, TypeOf}
 use Rattle.theory.specs.Signatures.TypeOf.{constant, family, constructor, eliminator, axiom_k}
 use Rattle.theory.specs.Typing.{Has}
 use Rattle.theory.specs.Typing.Has.{variable, sort, product, function, application, local, symbol, below, below_sort}
-use Rattle.theory.specs.WellFormed.{IsTyped}
 use Rattle.theory.specs.SortLaws.{SortsOfDerivation, SortsOfSymbolType}
 use Rattle.theory.proofs.SortLevels.{sorts_before_subst}
 
