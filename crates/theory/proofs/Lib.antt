@@ -6,6 +6,7 @@ pub mod FreeVariables
 pub mod Heights
 pub mod Instances
 pub mod Instantiation
+pub mod Renaming
 pub mod Scoping
 pub mod Shifts
 pub mod SortInstances
@@ -13,3 +14,4 @@ pub mod SortLevels
 pub mod Stability
 pub mod StepSorts
 pub mod TermSorts
+pub mod Weakening

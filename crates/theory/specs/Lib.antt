@@ -10,4 +10,5 @@ pub mod Telescopes
 pub mod TermLaws
 pub mod Terms
 pub mod Typing
+pub mod TypingLaws
 pub mod WellFormed

@@ -1,0 +1,67 @@
+-- The laws of derivations.
+use Rattle.std.specs.Prelude.{Some, ◌≡◌, ℕ, ◌+◌, ◌≤◌, List, [], ◌∷◌, ◌++◌, length, slice_get}
+use Rattle.theory.specs.Terms.{Term, Var, Sort, Pi, Lam, App, Let, lift, subst, free_of}
+use Rattle.theory.specs.Substitutions.{ren, inst}
+use Rattle.theory.specs.Telescopes.{Context, lift_context}
+use Rattle.theory.specs.Signatures.{Signature, TypeOf, HasClosedBodies}
+use Rattle.theory.specs.Conversion.{Below}
+use Rattle.theory.specs.Typing.{IsContext, Has, HasSort, IsType}
+use Rattle.theory.specs.WellFormed.{IsTyped}
+
+-- a derivation stands in a well-formed context
+abbrev pub ContextOfDerivation : Type 0
+ContextOfDerivation = (S : Signature) (G : Context) (t a : Term) → Has S G t a → IsContext S G
+
+-- its term has no variables but those of the context
+abbrev pub TermScoped : Type 0
+TermScoped = (S : Signature) (G : Context) (t a : Term) → Has S G t a → free_of t ≤ length G
+
+-- nor has its type
+abbrev pub TypeScoped : Type 0
+TypeScoped = (S : Signature) (G : Context) (t a : Term) → IsTyped S → Has S G t a → free_of a ≤ length G
+
+-- the bodies of definitions are closed
+abbrev pub BodiesClosed : Type 0
+BodiesClosed = (S : Signature) → IsTyped S → HasClosedBodies S
+
+-- r takes each variable of G to one of D that has the renamed type
+abbrev pub Renames : (ℕ → ℕ) → Context → Context → Type 0
+Renames r G D =
+    (n : ℕ) (a : Term) → slice_get G n ≡ Some a
+    → (b : Term) × (slice_get D (r n) ≡ Some b) × (lift b (r n + 1) 0 ≡ ren r (lift a (n + 1) 0))
+
+-- s puts for each variable of G a term that has in D the instantiated type
+abbrev pub Replaces : Signature → (ℕ → Term) → Context → Context → Type 0
+Replaces S s G D = (n : ℕ) (a : Term) → slice_get G n ≡ Some a → Has S D (s n) (inst s (lift a (n + 1) 0))
+
+-- renaming keeps derivations
+abbrev pub Renaming : Type 0
+Renaming =
+    (S : Signature) (r : ℕ → ℕ) (G D : Context) (t a : Term) →
+    IsTyped S → Renames r G D → IsContext S D → Has S G t a → Has S D (ren r t) (ren r a)
+
+-- weakening: new types may be put in anywhere
+abbrev pub Weakening : Type 0
+Weakening =
+    (S : Signature) (near new G : Context) (t a : Term) →
+    IsTyped S → IsContext S (new ++ G) → Has S (near ++ G) t a →
+    let k = length new in
+    Has S (lift_context near k ++ (new ++ G)) (lift t k (length near)) (lift a k (length near))
+
+-- and the context stays well formed
+abbrev pub WeakeningOfContexts : Type 0
+WeakeningOfContexts =
+    (S : Signature) (near new G : Context) →
+    IsTyped S → IsContext S (new ++ G) → IsContext S (near ++ G) → IsContext S (lift_context near (length new) ++ (new ++ G))
+
+-- instantiation keeps derivations
+abbrev pub Instantiation : Type 0
+Instantiation =
+    (S : Signature) (s : ℕ → Term) (G D : Context) (t a : Term) →
+    IsTyped S → Replaces S s G D → IsContext S D → Has S G t a → Has S D (inst s t) (inst s a)
+
+-- a term may be put for the nearest variable
+abbrev pub Substitution : Type 0
+Substitution =
+    (S : Signature) (G : Context) (t u a b : Term) →
+    IsTyped S → Has S (a ∷ G) t b → Has S G u a → Has S G (subst t 0 u) (subst b 0 u)
