@@ -15,3 +15,4 @@ pub mod Stability
 pub mod StepSorts
 pub mod TermSorts
 pub mod Weakening
+pub mod Widening

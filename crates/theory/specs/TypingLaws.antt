@@ -3,8 +3,8 @@ use Rattle.std.specs.Prelude.{Some, ◌≡◌, ℕ, ◌+◌, ◌≤◌, List, []
 use Rattle.theory.specs.Terms.{Term, Var, Sort, Pi, Lam, App, Let, lift, subst, free_of}
 use Rattle.theory.specs.Substitutions.{ren, inst}
 use Rattle.theory.specs.Telescopes.{Context, lift_context}
-use Rattle.theory.specs.Signatures.{Signature, TypeOf, HasClosedBodies}
-use Rattle.theory.specs.Conversion.{Below}
+use Rattle.theory.specs.Signatures.{Signature, IsPrefix, TypeOf, HasClosedBodies}
+use Rattle.theory.specs.Conversion.{Converts, Below}
 use Rattle.theory.specs.Typing.{IsContext, Has, HasSort, IsType}
 use Rattle.theory.specs.WellFormed.{IsTyped}
 
@@ -65,3 +65,23 @@ abbrev pub Substitution : Type 0
 Substitution =
     (S : Signature) (G : Context) (t u a b : Term) →
     IsTyped S → Has S (a ∷ G) t b → Has S G u a → Has S G (subst t 0 u) (subst b 0 u)
+
+-- weakening of signatures: a longer signature has the types of symbols,
+abbrev pub WiderTypes : Type 0
+WiderTypes = (S T : Signature) (t a : Term) → IsPrefix S T → TypeOf S t a → TypeOf T t a
+
+-- conversion,
+abbrev pub WiderConversion : Type 0
+WiderConversion = (S T : Signature) (t u : Term) → IsPrefix S T → Converts S t u → Converts T t u
+
+-- the order of types,
+abbrev pub WiderOrder : Type 0
+WiderOrder = (S T : Signature) (a b : Term) → IsPrefix S T → Below S a b → Below T a b
+
+-- contexts
+abbrev pub WiderContext : Type 0
+WiderContext = (S T : Signature) (G : Context) → IsPrefix S T → IsContext S G → IsContext T G
+
+-- and derivations of the shorter one
+abbrev pub WiderDerivation : Type 0
+WiderDerivation = (S T : Signature) (G : Context) (t a : Term) → IsPrefix S T → Has S G t a → Has T G t a
