@@ -3,6 +3,7 @@ pub mod Bounds
 pub mod Commuting
 pub mod Congruence
 pub mod FreeVariables
+pub mod Generation
 pub mod Heights
 pub mod Instances
 pub mod Instantiation
@@ -13,6 +14,7 @@ pub mod SortInstances
 pub mod SortLevels
 pub mod Stability
 pub mod StepSorts
+pub mod Substituting
 pub mod TermSorts
 pub mod Weakening
 pub mod Widening

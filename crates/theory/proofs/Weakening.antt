@@ -17,6 +17,14 @@ use Rattle.theory.proofs.Renaming.{lift-more, ren-weaken, ren-subst, ren-closed}
 use Rattle.theory.proofs.Scoping.{some_is, context_of, symbol_closed, symbol_type_closed, closed_bodies}
 use Rattle.theory.proofs.Stability.{below-ren}
 
+-- a lift by one more, as a renaming under a binder needs it
+pub lift-next : (a : Term) (n : ℕ) → lift a (suc n + 1) 0 ≡ weaken (lift a (n + 1) 0)
+lift-next a n = let e : suc n + 1 ≡ n + 1 + 1 = omega arith in ap (λ k. lift a k 0) e ∙ lift-more a (n + 1)
+
+-- weakening renames each variable to the next one
+pub renames-suc : (a : Term) (G : Context) → Renames suc G (a ∷ G)
+renames-suc a G n c at = (c, at, lift-next c n)
+
 -- under a binder
 pub renames_up : (r : ℕ → ℕ) (G D : Context) (a : Term) → Renames r G D → Renames (up r) (a ∷ G) (ren r a ∷ D)
 renames_up r G D a h = each

@@ -2,6 +2,7 @@ pub mod Conversion
 pub mod ConversionLaws
 pub mod Eliminators
 pub mod Families
+pub mod Generation
 pub mod Prelude
 pub mod Signatures
 pub mod SortLaws

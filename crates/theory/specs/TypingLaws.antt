@@ -5,6 +5,7 @@ use Rattle.theory.specs.Substitutions.{ren, inst}
 use Rattle.theory.specs.Telescopes.{Context, lift_context}
 use Rattle.theory.specs.Signatures.{Signature, IsPrefix, TypeOf, HasClosedBodies}
 use Rattle.theory.specs.Conversion.{Converts, Below}
+use Rattle.theory.specs.Generation.{Parts}
 use Rattle.theory.specs.Typing.{IsContext, Has, HasSort, IsType}
 use Rattle.theory.specs.WellFormed.{IsTyped}
 
@@ -85,3 +86,11 @@ WiderContext = (S T : Signature) (G : Context) → IsPrefix S T → IsContext S 
 -- and derivations of the shorter one
 abbrev pub WiderDerivation : Type 0
 WiderDerivation = (S T : Signature) (G : Context) (t a : Term) → IsPrefix S T → Has S G t a → Has T G t a
+
+-- generation: a derivation is made of the parts that the form of its term asks for
+abbrev pub Generation : Type 0
+Generation = (S : Signature) (G : Context) (t a : Term) → Has S G t a → Parts S G t a
+
+-- validity: every derived type is a sort or has one
+abbrev pub Validity : Type 0
+Validity = (S : Signature) (G : Context) (t a : Term) → IsTyped S → Has S G t a → IsType S G a
