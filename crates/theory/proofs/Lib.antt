@@ -16,5 +16,7 @@ pub mod Stability
 pub mod StepSorts
 pub mod Substituting
 pub mod TermSorts
+pub mod Validity
 pub mod Weakening
+pub mod WellFormedness
 pub mod Widening
