@@ -7,6 +7,7 @@ pub mod Generation
 pub mod Heights
 pub mod Instances
 pub mod Instantiation
+pub mod Pushing
 pub mod Renaming
 pub mod Scoping
 pub mod Shifts

@@ -1,13 +1,13 @@
 -- The laws of derivations.
-use Rattle.std.specs.Prelude.{Some, ◌≡◌, ℕ, ◌+◌, ◌≤◌, List, [], ◌∷◌, ◌++◌, length, slice_get}
+use Rattle.std.specs.Prelude.{Some, ◌≡◌, ◌≢◌, ℕ, Bool, AllPairs, ◌+◌, ◌≤◌, List, [], ◌∷◌, ◌++◌, length, slice_get}
 use Rattle.theory.specs.Terms.{Term, Var, Sort, Pi, Lam, App, Let, lift, subst, free_of}
 use Rattle.theory.specs.Substitutions.{ren, inst}
 use Rattle.theory.specs.Telescopes.{Context, lift_context}
-use Rattle.theory.specs.Signatures.{Signature, IsPrefix, TypeOf, HasClosedBodies}
+use Rattle.theory.specs.Signatures.{Signature, Entry, names, IsPrefix, TypeOf, HasClosedBodies}
 use Rattle.theory.specs.Conversion.{Converts, Below}
 use Rattle.theory.specs.Generation.{Parts}
 use Rattle.theory.specs.Typing.{IsContext, Has, HasSort, IsType}
-use Rattle.theory.specs.WellFormed.{IsTyped}
+use Rattle.theory.specs.WellFormed.{pushed, IsEntry, IsWellFormed, IsWellFormedSoFar, IsTyped}
 
 -- a derivation stands in a well-formed context
 abbrev pub ContextOfDerivation : Type 0
@@ -94,3 +94,21 @@ Generation = (S : Signature) (G : Context) (t a : Term) → Has S G t a → Part
 -- validity: every derived type is a sort or has one
 abbrev pub Validity : Type 0
 Validity = (S : Signature) (G : Context) (t a : Term) → IsTyped S → Has S G t a → IsType S G a
+
+-- a well-formed signature has what the laws of typing need
+abbrev pub WellFormedTyped : Type 0
+WellFormedTyped = (S : Signature) → IsWellFormed S → IsTyped S
+
+-- and so has one that is well formed up to a provisional end
+abbrev pub SoFarTyped : Type 0
+SoFarTyped = (S : Signature) → IsWellFormedSoFar S → IsTyped S
+
+-- the signature without entries is well formed
+abbrev pub EmptyIsWellFormed : Type 0
+EmptyIsWellFormed = (k : Bool) → IsWellFormed (record { entries = []; has_k = k })
+
+-- a well-formed signature stays so where an entry is pushed that is well formed over it and brings new names
+abbrev pub PushKeeps : Type 0
+PushKeeps =
+    (S : Signature) (e : Entry) →
+    IsWellFormed S → IsEntry S e → AllPairs (λ x y. x ≢ y) (names (pushed S e)) → IsWellFormed (pushed S e)
