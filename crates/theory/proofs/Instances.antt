@@ -57,7 +57,8 @@ ren-inst r s (Let a t b) =
 ren-inst r s (Var n) = refl
 ren-inst r s _ = refl
 
-ups-ups : (p s : ℕ → Term) (n : ℕ) → inst (ups p) (ups s n) ≡ ups (λ m. inst p (s m)) n
+-- two instantiations in turn, under a binder
+pub ups-ups : (p s : ℕ → Term) (n : ℕ) → inst (ups p) (ups s n) ≡ ups (λ m. inst p (s m)) n
 ups-ups p s zero = refl
 ups-ups p s (suc n) = inst-ren (ups p) suc (s n) ∙ sym (ren-inst suc p (s n))
 

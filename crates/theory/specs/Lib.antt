@@ -1,11 +1,15 @@
 pub mod Conversion
+pub mod ConversionLaws
 pub mod Eliminators
 pub mod Families
+pub mod Generation
 pub mod Prelude
 pub mod Signatures
+pub mod SortLaws
 pub mod Substitutions
 pub mod Telescopes
 pub mod TermLaws
 pub mod Terms
 pub mod Typing
+pub mod TypingLaws
 pub mod WellFormed
