@@ -8,7 +8,7 @@ use crate::{MAX_HEIGHT, Stop, Term};
 use std::alloc::Global;
 
 /// Adds `by` to every variable numbered `from` or more, or answers Deep.
-#[tactic(auto, using(crate::proofs::Heights::height_lift))]
+#[tactic(auto, using(crate::proofs::Lifts::height_lift))]
 pub fn lift(alloc: Global, t: &Term, by: u32, from: u32) -> Result<Term, Stop>
     requires { tree.free_of (tree_of t.now) + by ≤ most_free }
     ensures { Gives tree_of result (bounded (tree.lift (tree_of t.now) by from)) }
@@ -21,7 +21,7 @@ pub fn lift(alloc: Global, t: &Term, by: u32, from: u32) -> Result<Term, Stop>
 
 /// Lifts a term of any height.
 pub(crate) fn lift_whole(alloc: Global, t: &Term, by: u32, from: u64) -> Result<Term, Stop>
-    requires indices { tree.free_of (tree_of t.now) + tree.height (tree_of t.now) + by ≤ 2 ^ 32 + 1 }
+    requires indices { tree.free_of (tree_of t.now) + tree.height (tree_of t.now) + by < 2 ^ 32 }
     requires binders { from + tree.height (tree_of t.now) < 2 ^ 64 }
     ensures { Gives tree_of result (Ok (tree.lift (tree_of t.now) by from)) }
 {
