@@ -5,6 +5,7 @@ ghost use Rattle.core_terms.specs.Meanings.{tree_of};
 ghost use Rattle.core_terms.specs.Substitution.{subst_under, height_with};
 ghost use Rattle.theory.specs.Terms as tree;
 
+use crate::copying::copy_whole;
 use crate::lifting::lift_whole;
 use crate::term::above;
 use crate::{MAX_HEIGHT, Stop, Term};
@@ -16,14 +17,14 @@ pub fn subst(alloc: Global, t: &Term, at: u32, by: &Term) -> Result<Term, Stop>
     requires { tree.free_of (tree_of by.now) ≤ most_free }
     ensures { Gives tree_of result (bounded (tree.subst (tree_of t.now) at (tree_of by.now))) }
 {
-    if t.height() > MAX_HEIGHT || height_put(t, at as u64, by.height()) > MAX_HEIGHT {
+    if t.height() > MAX_HEIGHT || substituted_height(t, at as u64, by.height()) > MAX_HEIGHT {
         return Err(Stop::Deep);
     }
     subst_whole(alloc, t, at as u64, by, 0)
 }
 
 /// The height that `t` has once a term of height `put` stands for variable `at`, or `MAX_HEIGHT + 1` where it is greater.
-fn height_put(t: &Term, at: u64, put: u32) -> u32
+fn substituted_height(t: &Term, at: u64, put: u32) -> u32
     requires height { put ≤ 2001 }
     requires binders { at + tree.height (tree_of t.now) < 2 ^ 64 }
     ensures { result ≡ min (height_with (tree_of t.now) at put) 2001 }
@@ -31,12 +32,14 @@ fn height_put(t: &Term, at: u64, put: u32) -> u32
     match t {
         Term::Var(n) if *n as u64 == at => put,
         Term::Pi(a, b) | Term::Lam(a, b) => {
-            above(height_put(a, at, put).max(height_put(b, at + 1, put)))
+            above(substituted_height(a, at, put).max(substituted_height(b, at + 1, put)))
         }
-        Term::App(f, a) => above(height_put(f, at, put).max(height_put(a, at, put))),
-        Term::Let(a, t, b) => {
-            let parts = height_put(t, at, put).max(height_put(b, at + 1, put));
-            above(height_put(a, at, put).max(parts))
+        Term::App(f, a) => above(substituted_height(f, at, put).max(substituted_height(
+            a, at, put,
+        ))),
+        Term::Let(a, v, b) => {
+            let parts = substituted_height(v, at, put).max(substituted_height(b, at + 1, put));
+            above(substituted_height(a, at, put).max(parts))
         }
         _ => 1,
     }
@@ -50,7 +53,6 @@ fn subst_whole(alloc: Global, t: &Term, at: u64, by: &Term, under: u32) -> Resul
 {
     Ok(match t {
         Term::Var(n) => return subst_variable(alloc, *n, at, by, under),
-        Term::Sort(i) => Term::Sort(*i),
         Term::Pi(a, b) => Term::Pi(
             Box::new(alloc, subst_whole(alloc, a, at, by, under)?)?,
             Box::new(alloc, subst_whole(alloc, b, at + 1, by, under + 1)?)?,
@@ -63,16 +65,17 @@ fn subst_whole(alloc: Global, t: &Term, at: u64, by: &Term, under: u32) -> Resul
             Box::new(alloc, subst_whole(alloc, f, at, by, under)?)?,
             Box::new(alloc, subst_whole(alloc, a, at, by, under)?)?,
         ),
-        Term::Let(a, t, b) => Term::Let(
+        Term::Let(a, v, b) => Term::Let(
             Box::new(alloc, subst_whole(alloc, a, at, by, under)?)?,
-            Box::new(alloc, subst_whole(alloc, t, at, by, under)?)?,
+            Box::new(alloc, subst_whole(alloc, v, at, by, under)?)?,
             Box::new(alloc, subst_whole(alloc, b, at + 1, by, under + 1)?)?,
         ),
-        Term::Const(c) => Term::Const(*c),
-        Term::Fam(f) => Term::Fam(*f),
-        Term::Con(f, c) => Term::Con(*f, *c),
-        Term::Elim(f, m) => Term::Elim(*f, *m),
-        Term::AxiomK(i, m) => Term::AxiomK(*i, *m),
+        Term::Sort(_)
+        | Term::Const(_)
+        | Term::Fam(_)
+        | Term::Con(_, _)
+        | Term::Elim(_, _)
+        | Term::AxiomK(_, _) => copy_whole(alloc, t)?,
     })
 }
 
