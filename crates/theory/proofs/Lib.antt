@@ -2,5 +2,9 @@ pub mod Commuting
 pub mod FreeVariables
 pub mod Heights
 pub mod Instances
+pub mod Lists
+pub mod PreludeFamilies
+pub mod PreludeNames
+pub mod PreludeWellFormed
 pub mod Shifts
 pub mod SortLevels

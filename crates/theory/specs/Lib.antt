@@ -2,6 +2,7 @@ pub mod Conversion
 pub mod Eliminators
 pub mod Families
 pub mod Prelude
+pub mod PreludeLaws
 pub mod Signatures
 pub mod Substitutions
 pub mod Telescopes

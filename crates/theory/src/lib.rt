@@ -2,4 +2,5 @@
 //! hold of them. `specs/` has the definitions; each function here has one law as its contract, and an empty body.
 #![tactic(auto)]
 
+pub mod prelude_laws;
 pub mod term_laws;
