@@ -1,4 +1,5 @@
 pub mod Commuting
+mod Examples
 pub mod FreeVariables
 pub mod Heights
 pub mod Instances
