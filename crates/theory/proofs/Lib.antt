@@ -1,3 +1,4 @@
+mod Examples
 pub mod AllOf
 pub mod Bounds
 pub mod Commuting
@@ -7,6 +8,10 @@ pub mod Generation
 pub mod Heights
 pub mod Instances
 pub mod Instantiation
+pub mod Lists
+pub mod PreludeFamilies
+pub mod PreludeNames
+pub mod PreludeWellFormed
 pub mod Pushing
 pub mod Renaming
 pub mod Scoping

@@ -4,6 +4,7 @@ pub mod Eliminators
 pub mod Families
 pub mod Generation
 pub mod Prelude
+pub mod PreludeLaws
 pub mod Signatures
 pub mod SortLaws
 pub mod Substitutions

@@ -4,4 +4,5 @@
 
 pub mod conversion_laws;
 pub mod sort_laws;
+pub mod prelude_laws;
 pub mod term_laws;
