@@ -1,17 +1,19 @@
 -- Generation: what a derivation is made of, by the form of its term.
-use Rattle.std.proofs.Common.{ℕ, ◌+◌}
-use Rattle.theory.specs.Terms.{Term, lift, subst}
+use Rattle.std.proofs.Common.{[], ◌∷◌, max}
+use Rattle.theory.specs.Terms.{Term, subst}
 use Rattle.theory.specs.Terms.Term.{Var, Sort, Pi, Lam, App, Let, Const, Fam, Con, Elim, AxiomK}
-use Rattle.theory.specs.Telescopes.{Context}
+use Rattle.theory.specs.Telescopes.{Context, Telescope, context_behind}
 use Rattle.theory.specs.Signatures.{Signature, TypeOf}
 use Rattle.theory.specs.Signatures.TypeOf.{constant, family, constructor, eliminator, axiom_k}
 use Rattle.theory.specs.Conversion.{Below}
 use Rattle.theory.specs.Conversion.Converts.{same}
 use Rattle.theory.specs.Conversion.Below.{converts, trans}
 use Rattle.theory.specs.Generation.{Parts}
-use Rattle.theory.specs.Typing.{Has}
+use Rattle.theory.specs.Typing.{IsContext, Has, HasSort}
+use Rattle.theory.specs.Typing.IsContext.{bind}
 use Rattle.theory.specs.Typing.Has.{variable, sort, product, function, application, local, symbol, below, below_sort}
-use Rattle.theory.specs.TypingLaws.{Generation}
+use Rattle.theory.specs.TypingLaws.{TelescopeFormation, TelescopeGeneration}
+use Rattle.theory.proofs.Scoping.{context_of}
 
 -- a type is below itself
 pub below_same : {S : Signature} (a : Term) → Below S a a
@@ -83,6 +85,23 @@ parts {G = G} (symbol context type) = of_symbol G type
 parts (below {t = t} i dt le db) = raise t le (λ u du. below i du le db) (parts dt)
 parts (below_sort {t = t} i dt le) = raise t le (λ u du. below_sort i du le) (parts dt)
 
--- generation
-pub generation : Generation
-generation S G t a d = parts d
+context_before : {S : Signature} (G : Context) (tele : Telescope) → IsContext S (context_behind G tele) → IsContext S G
+context_before G [] context = context
+context_before G (a ∷ tele) context = elim (context_before (a ∷ G) tele context) [ bind i before d ↦ before ]
+
+head_sort : {S : Signature} {G : Context} {a : Term} → IsContext S (a ∷ G) → HasSort S G a
+head_sort (bind i context d) = (i, d)
+
+-- products over a telescope have a sort where the body has one behind it
+pub telescope_formation : TelescopeFormation
+telescope_formation S G [] body context d = d
+telescope_formation S G (a ∷ tele) body context d =
+    let (i, da) = head_sort (context_before (a ∷ G) tele context) in
+    let (j, db) = telescope_formation S (a ∷ G) tele body context d in
+    (max i j, product i j da db)
+
+-- and only there
+pub telescope_generation : TelescopeGeneration
+telescope_generation S G [] body (i, d) = (context_of d, (i, d))
+telescope_generation S G (a ∷ tele) body (i, d) =
+    let p = parts d in telescope_generation S (a ∷ G) tele body (p.codomain_level, p.codomain)

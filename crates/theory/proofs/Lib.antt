@@ -1,8 +1,8 @@
-mod Examples
 pub mod AllOf
 pub mod Bounds
 pub mod Commuting
 pub mod Congruence
+mod Examples
 pub mod FreeVariables
 pub mod Generation
 pub mod Heights

@@ -1,6 +1,7 @@
 -- Lists: entries by number, all elements, all pairs.
-use Rattle.std.proofs.Common.{◌≡◌, ℕ, zero, suc, ◌+◌, ◌<◌, ◌≤◌, List, [], ◌∷◌, ◌++◌, length, slice_get, get_or, Some, refl, All, AllPairs, flat_map, arith}
+use Rattle.std.proofs.Common.{◌≡◌, ◌⊎◌, ℕ, zero, suc, ◌+◌, ◌<◌, ◌≤◌, List, [], ◌∷◌, ◌++◌, length, take, drop, slice_get, get_or, Some, refl, ap, ◌∙◌, inl, inr, unwrap_or, All, AllPairs, flat_map, arith}
 use Rattle.std.specs.List.{range_with_len}
+use Rattle.std.proofs.lemmas.Option.{none-some, slice_get_within}
 use Rattle.std.proofs.lemmas.List.Elements.{All-cons, All-nil, All-append}
 use Rattle.std.proofs.lemmas.List.Kept.{AllPairs-cons}
 
@@ -44,3 +45,34 @@ All-flat_map P pieces from zero h = All-nil P
 All-flat_map P pieces from (suc n) h =
     All-append P (pieces from) (flat_map pieces (range_with_len (from + 1) n)) (h from (omega arith) (omega arith))
     (All-flat_map P pieces (from + 1) n (λ i l u. h i (omega arith) (omega arith)))
+
+-- two options that are the same hold the same
+pub some_is : {X : Type 0} {x y : X} → Some x ≡ Some y → x ≡ y
+some_is {x = x} e = ap (λ o. unwrap_or o x) e
+
+-- an element keeps its number in a longer list
+pub slice_get-longer : {X : Type 0} (xs ys : List X) (n : ℕ) (x : X) → slice_get xs n ≡ Some x → slice_get (xs ++ ys) n ≡ Some x
+slice_get-longer xs ys n x at = slice_get-append xs ys n (slice_get_within xs n x at) ∙ at
+
+-- an element of a list with one more stands in the list or is that one
+pub slice_get-pushed : {X : Type 0} (xs : List X) (y : X) (n : ℕ) (x : X) → slice_get (xs ++ y ∷ []) n ≡ Some x → (slice_get xs n ≡ Some x) ⊎ ((n ≡ length xs) × (y ≡ x))
+slice_get-pushed [] y zero x at = inr (refl, some_is at)
+slice_get-pushed [] y (suc n) x at = absurd (none-some x at)
+slice_get-pushed (z ∷ xs) y zero x at = inl at
+slice_get-pushed (z ∷ xs) y (suc n) x at = elim (slice_get-pushed xs y n x at) [
+  | inl before ↦ inl before
+  | inr (place, same) ↦ inr (ap suc place, same)
+]
+
+-- an element of the first n stands in the whole list
+pub slice_get-take : {X : Type 0} (n : ℕ) (xs : List X) (m : ℕ) (x : X) → slice_get (take n xs) m ≡ Some x → slice_get xs m ≡ Some x
+slice_get-take zero xs m x at = absurd (none-some x at)
+slice_get-take (suc n) [] m x at = at
+slice_get-take (suc n) (y ∷ xs) zero x at = at
+slice_get-take (suc n) (y ∷ xs) (suc m) x at = slice_get-take n xs m x at
+
+-- a list is what stands before an element, the element and what is behind it
+pub split_at : {X : Type 0} (xs : List X) (n : ℕ) (x : X) → slice_get xs n ≡ Some x → xs ≡ (take n xs ++ x ∷ []) ++ drop (suc n) xs
+split_at [] n x at = absurd (none-some x at)
+split_at (y ∷ xs) zero x at = ap (λ z. z ∷ xs) (some_is at)
+split_at (y ∷ xs) (suc n) x at = ap (λ zs. y ∷ zs) (split_at xs n x at)

@@ -1,36 +1,27 @@
 -- One entry more: what a signature keeps, and that it stays well formed.
-use Rattle.std.proofs.Common.{◌≡◌, ◌≢◌, ◌⊎◌, ℕ, zero, suc, ◌+◌, ◌≤◌, Bool, Some, List, [], ◌∷◌, ◌++◌, length, take, slice_get, subst as transport, sym, refl, ap, ◌∙◌, inl, inr, arith}
+use Rattle.std.proofs.Common.{◌≡◌, ◌≢◌, ◌⊎◌, ℕ, ◌≤◌, List, [], ◌∷◌, ◌++◌, length, take, drop, AllPairs, flat_map, subst as transport, sym, refl, ap, ◌∙◌, inl, inr, arith}
 use Rattle.std.proofs.lemmas.Option.{none-some, slice_get_within}
-use Rattle.std.proofs.lemmas.List.{take-append-le, take_at}
+use Rattle.std.proofs.lemmas.List.{take-append-le, take_at, take-append-drop, length-take, take-take, length-append, append_assoc, append-nil, get_or_append_left}
+use Rattle.std.proofs.lemmas.Grind.{flat_map-append}
 use Rattle.theory.specs.Terms.{Term}
 use Rattle.theory.specs.Terms.Term.{Const}
-use Rattle.theory.specs.Signatures.{Signature, Entry, FamilyOf, EliminatorAt, AxiomKAt, Definition, IsEntryAt, IsPrefix, TypeOf, names}
+use Rattle.theory.specs.Signatures.{Signature, Entry, Definition, IsEntryAt, IsPrefix, TypeOf, names, names_of}
 use Rattle.theory.specs.Signatures.TypeOf.{constant, family, constructor, eliminator, axiom_k}
 use Rattle.theory.specs.Typing.{Has, HasSort}
-use Rattle.theory.specs.WellFormed.{pushed, first_entries, provisional, IsEntry, IsWellFormed, IsWellFormedSoFar, IsTyped}
+use Rattle.theory.specs.WellFormed.{pushed, first_entries, provisional, IsEntry, IsWellFormed}
 use Rattle.theory.specs.WellFormed.IsWellFormedSoFar.{whole, with_provisional}
-use Rattle.theory.specs.TypingLaws.{PushKeeps, EmptyIsWellFormed, WellFormedTyped, SoFarTyped}
-use Rattle.theory.proofs.Scoping.{some_is}
-use Rattle.theory.proofs.Widening.{prefix_keeps, has-wider}
-use Rattle.theory.proofs.WellFormedness.{sort-wider, well_formed-typed}
-
--- what stands in a list with one element more
-slice_get-last : {X : Type 0} (xs : List X) (y : X) (n : ℕ) (x : X) → slice_get (xs ++ y ∷ []) n ≡ Some x → (slice_get xs n ≡ Some x) ⊎ ((n ≡ length xs) × (y ≡ x))
-slice_get-last [] y zero x at = inr (refl, some_is at)
-slice_get-last [] y (suc n) x at = absurd (none-some x at)
-slice_get-last (z ∷ xs) y zero x at = inl at
-slice_get-last (z ∷ xs) y (suc n) x at = elim (slice_get-last xs y n x at) [
-  | inl before ↦ inl before
-  | inr (place, same) ↦ inr (ap suc place, same)
-]
+use Rattle.theory.specs.SignatureLaws.{PushIsLonger, PrefixTransitive, PushIsWellFormed, EmptyIsWellFormed, NamesOfPush, FirstEntriesAreWellFormed, SoFarIsTyped}
+use Rattle.theory.proofs.Lists.{slice_get-pushed, slice_get-take}
+use Rattle.theory.proofs.Widening.{prefix_keeps, has-wider, sort-wider}
+use Rattle.theory.proofs.WellFormedness.{well_formed_typed}
 
 -- a signature is a prefix of what is pushed on it
-pub pushed_prefix : (S : Signature) (e : Entry) → IsPrefix S (pushed S e)
-pushed_prefix S e = record { more = e ∷ []; entries = refl; has_k = refl }
+pub push_is_longer : PushIsLonger
+push_is_longer S e = record { more = e ∷ []; entries = refl; has_k = refl }
 
 -- an entry of the longer signature is an earlier one or the last
 pub entry_of-pushed : (S : Signature) (e : Entry) (n : ℕ) (x : Entry) → IsEntryAt (pushed S e) n x → IsEntryAt S n x ⊎ ((n ≡ length S.entries) × (e ≡ x))
-entry_of-pushed S e n x at = slice_get-last S.entries e n x at
+entry_of-pushed S e n x at = slice_get-pushed S.entries e n x at
 
 with_entries : Signature → List Entry → Signature
 with_entries S es = record { entries = es; has_k = S.has_k }
@@ -44,7 +35,7 @@ unfolding with_entries
 all_of-pushed S e n place = ap (with_entries S) (sym (take_at S.entries (e ∷ []) n (sym place)))
 
 -- a well-formed entry over a well-formed signature, with new names
-pub push_well_formed : PushKeeps
+pub push_well_formed : PushIsWellFormed
 push_well_formed S e h entry distinct = record { distinct = distinct; each = each }
   where
     each : (n : ℕ) (x : Entry) → IsEntryAt (pushed S e) n x → IsEntry (first_entries (pushed S e) n) x
@@ -84,14 +75,16 @@ body_in t _ = t
 provisional-types : (S : Signature) (name : List ℕ) (type : Term) → IsWellFormed S → HasSort S [] type → {t a : Term} → TypeOf (provisional S name type) t a → HasSort (provisional S name type) [] a
 unfolding is_definition type_in
 provisional-types S name type h sorted of = elim (split of) [
-  | inl old ↦ sort-wider into ((well_formed-typed h).types old)
-  | inr same ↦ transport (HasSort (provisional S name type) []) same (sort-wider into sorted)
+  | inl old ↦ sort-wider (prefix_keeps into) ((well_formed_typed S h).types old)
+  | inr same ↦ transport (HasSort (provisional S name type) []) same (sort-wider (prefix_keeps into) sorted)
 ]
   where
     own : Term
     own = Const (length S.entries)
+
     into : IsPrefix S (provisional S name type)
-    into = pushed_prefix S (Definition name type own)
+    into = push_is_longer S (Definition name type own)
+
     split : {t a : Term} → TypeOf (provisional S name type) t a → TypeOf S t a ⊎ (type ≡ a)
     split (constant n at) = elim (entry_of-pushed S (Definition name type own) n _ at) [
       | inl before ↦ inl (constant n before)
@@ -107,9 +100,9 @@ provisional-bodies : (S : Signature) (name : List ℕ) (type : Term) → IsWellF
 unfolding body_in
 provisional-bodies S name type h n name' type' body at =
     elim (entry_of-pushed S (Definition name type own) n (Definition name' type' body) at) [
-      | inl before ↦ elim ((well_formed-typed h).bodies before) [
+      | inl before ↦ elim ((well_formed_typed S h).bodies before) [
         | inl same ↦ inl same
-        | inr d ↦ inr (has-wider (prefix_keeps (pushed_prefix S (Definition name type own))) d)
+        | inr d ↦ inr (has-wider (prefix_keeps (push_is_longer S (Definition name type own))) d)
       ]
       | inr (place, same) ↦ inl (sym (ap (body_in body) same) ∙ ap Const (sym place))
     ]
@@ -118,15 +111,46 @@ provisional-bodies S name type h n name' type' body at =
     own = Const (length S.entries)
 
 -- so is one that is well formed up to a provisional end
-pub so_far-typed : {S : Signature} → IsWellFormedSoFar S → IsTyped S
-so_far-typed (whole h) = well_formed-typed h
-so_far-typed (with_provisional S name type h distinct sorted) =
+pub so_far_typed : SoFarIsTyped
+so_far_typed S (whole h) = well_formed_typed S h
+so_far_typed _ (with_provisional S name type h distinct sorted) =
     record { types = provisional-types S name type h sorted; bodies = λ at. provisional-bodies S name type h _ _ _ _ at }
 
--- a well-formed signature is typed
-pub well_formed_typed : WellFormedTyped
-well_formed_typed S h = well_formed-typed h
+-- a prefix of a prefix
+pub prefix_transitive : PrefixTransitive
+prefix_transitive S T U h k = record {
+  more = h.more ++ k.more;
+  entries = k.entries ∙ (ap (λ es. es ++ k.more) h.entries ∙ append_assoc S.entries h.more k.more);
+  has_k = k.has_k ∙ h.has_k;
+}
 
--- and so is one with a provisional end
-pub so_far_typed : SoFarTyped
-so_far_typed S h = so_far-typed h
+-- the names after a push
+pub names_of_push : NamesOfPush
+names_of_push S e = flat_map-append names_of S.entries (e ∷ []) ∙ ap (λ ns. names S ++ ns) (append-nil (names_of e))
+
+first_twice : (S : Signature) (n m : ℕ) → m ≤ n → first_entries S m ≡ first_entries (first_entries S n) m
+unfolding with_entries
+first_twice S n m le = ap (with_entries S) (sym (take-take m n S.entries le))
+
+distinct-left : {X : Type 0} (xs ys : List X) → AllPairs (λ x y. x ≢ y) (xs ++ ys) → AllPairs (λ x y. x ≢ y) xs
+distinct-left xs ys h i j d lt within same =
+    h i j d lt (omega (arith, length-append xs ys))
+    (get_or_append_left xs ys d i (omega arith) ∙ (same ∙ sym (get_or_append_left xs ys d j within)))
+
+names_of-first : (S : Signature) (n : ℕ) → names S ≡ names (first_entries S n) ++ flat_map names_of (drop n S.entries)
+names_of-first S n = ap (flat_map names_of) (sym (take-append-drop n S.entries)) ∙ flat_map-append names_of (take n S.entries) (drop n S.entries)
+
+-- the first entries
+pub first_entries_well_formed : FirstEntriesAreWellFormed
+first_entries_well_formed S n h = record { distinct = distinct; each = each }
+  where
+    distinct : AllPairs (λ x y. x ≢ y) (names (first_entries S n))
+    distinct =
+        distinct-left (names (first_entries S n)) (flat_map names_of (drop n S.entries))
+        (transport (AllPairs (λ x y. x ≢ y)) (names_of-first S n) h.distinct)
+
+    each : (m : ℕ) (e : Entry) → IsEntryAt (first_entries S n) m e → IsEntry (first_entries (first_entries S n) m) e
+    each m e at =
+        let lt = slice_get_within (take n S.entries) m e at in
+        transport (λ T. IsEntry T e) (first_twice S n m (omega (arith, length-take n S.entries)))
+        (h.each m e (slice_get-take n S.entries m e at))

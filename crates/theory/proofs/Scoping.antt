@@ -1,20 +1,17 @@
 -- The context of a derivation is well formed, and its term and type are scoped in it.
-use Rattle.std.proofs.Common.{◌≡◌, ℕ, ◌+◌, ◌-◌, ◌≤◌, zero, suc, Some, slice_get, ◌⊎◌, inl, inr, subst as transport, sym, [], ◌∷◌, length, refl, ap, unwrap_or, arith}
+use Rattle.std.proofs.Common.{◌≡◌, ℕ, ◌+◌, ◌-◌, ◌≤◌, zero, suc, Some, slice_get, inl, inr, length, refl, ap, arith}
 use Rattle.std.proofs.lemmas.Option.{slice_get_within, none-some}
 use Rattle.std.proofs.lemmas.Bool.Decides.{nat_tests}
 use Rattle.theory.specs.Terms.{Term, lift, free_of, IsClosed}
 use Rattle.theory.specs.Telescopes.{Context}
 use Rattle.theory.specs.Signatures.{Signature, TypeOf, HasClosedBodies}
 use Rattle.theory.specs.Signatures.TypeOf.{constant, family, constructor, eliminator, axiom_k}
-use Rattle.theory.specs.Typing.{IsContext, Has, HasSort}
+use Rattle.theory.specs.Typing.{IsContext, Has}
 use Rattle.theory.specs.Typing.IsContext.{empty, bind}
 use Rattle.theory.specs.Typing.Has.{variable, sort, product, function, application, local, symbol, below, below_sort}
 use Rattle.theory.specs.WellFormed.{IsTyped}
+use Rattle.theory.proofs.Lists.{some_is}
 use Rattle.theory.proofs.FreeVariables.{free_before_subst, free_of-subst, free_of-lift}
-
--- what stands in the two options is the same
-pub some_is : {X : Type 0} {x y : X} → Some x ≡ Some y → x ≡ y
-some_is {x = x} e = ap (λ o. unwrap_or o x) e
 
 -- a derivation stands in a context
 pub context_of : {S : Signature} {G : Context} {t a : Term} → Has S G t a → IsContext S G

@@ -1,5 +1,5 @@
 -- Instantiation keeps derivations, and so does the substitution for the nearest variable.
-use Rattle.std.proofs.Common.{◌≡◌, ℕ, zero, suc, ◌+◌, Some, slice_get, subst as transport, subst₂, sym, refl, ap, ◌∙◌, ◌∷◌, arith}
+use Rattle.std.proofs.Common.{◌≡◌, ℕ, zero, suc, ◌+◌, Some, subst as transport, subst₂, sym, refl, ap, ◌∙◌, ◌∷◌}
 use Rattle.theory.specs.Terms.{Term, lift, subst}
 use Rattle.theory.specs.Terms.Term.{Var, App}
 use Rattle.theory.specs.Substitutions.{weaken, inst, ups, extend}
@@ -9,10 +9,11 @@ use Rattle.theory.specs.Typing.{IsContext, Has}
 use Rattle.theory.specs.Typing.IsContext.{bind}
 use Rattle.theory.specs.Typing.Has.{variable, sort, product, function, application, local, symbol, below, below_sort}
 use Rattle.theory.specs.WellFormed.{IsTyped}
-use Rattle.theory.specs.TypingLaws.{Replaces, Instantiation, Substitution}
+use Rattle.theory.specs.TypingLaws.{Replaces, Substitution}
 use Rattle.theory.proofs.Commuting.{subst_cancels}
 use Rattle.theory.proofs.Instantiation.{inst-weaken, inst-subst, inst-closed}
-use Rattle.theory.proofs.Scoping.{some_is, context_of, symbol_closed, symbol_type_closed, closed_bodies}
+use Rattle.theory.proofs.Lists.{some_is}
+use Rattle.theory.proofs.Scoping.{context_of, symbol_closed, symbol_type_closed, closed_bodies}
 use Rattle.theory.proofs.Shifts.{lift-one, subst-is_extend}
 use Rattle.theory.proofs.Stability.{below-inst}
 use Rattle.theory.proofs.Weakening.{has-ren, lift-next, renames-suc}
@@ -24,8 +25,10 @@ replaces_up {S} typed s G D a h into = each
     near : (c : Term) → Some a ≡ Some c → lift (inst s a) (0 + 1) 0 ≡ inst (ups s) (lift c (0 + 1) 0)
     near c at =
         lift-one (inst s a) ∙ (sym (inst-weaken s a) ∙ ap (inst (ups s)) (sym (lift-one a) ∙ ap (λ x. lift x 1 0) (some_is at)))
+
     next : (n : ℕ) (c : Term) → weaken (inst s (lift c (n + 1) 0)) ≡ inst (ups s) (lift c (suc n + 1) 0)
     next n c = sym (inst-weaken s (lift c (n + 1) 0)) ∙ ap (inst (ups s)) (sym (lift-next c n))
+
     each : Replaces S (ups s) (a ∷ G) (inst s a ∷ D)
     each zero c at = transport (Has S (inst s a ∷ D) (Var 0)) (near c at) (variable 0 into refl)
     each (suc n) c at =
@@ -59,18 +62,16 @@ has-inst {S} typed (below i dt le db) s D h into =
 has-inst {S} typed (below_sort i dt le) s D h into =
     below_sort i (has-inst typed dt s D h into) (below-inst S (closed_bodies typed) s le)
 
--- instantiation keeps derivations
-pub instantiation : Instantiation
-instantiation S s G D t a typed h into d = has-inst typed d s D h into
-
 -- a term for the nearest variable
 pub replaces-extend : {S : Signature} {G : Context} {a u : Term} → Has S G u a → Replaces S (extend Var u) (a ∷ G) G
 replaces-extend {S} {G} {a} {u} du = each
   where
     drop : (x : Term) → inst (extend Var u) (weaken x) ≡ x
     drop x = sym (subst-is_extend (weaken x) u) ∙ (ap (λ y. subst y 0 u) (sym (lift-one x)) ∙ subst_cancels x 0 u)
+
     near : (c : Term) → Some a ≡ Some c → a ≡ inst (extend Var u) (lift c (0 + 1) 0)
     near c at = some_is at ∙ (sym (drop c) ∙ ap (inst (extend Var u)) (sym (lift-one c)))
+
     each : Replaces S (extend Var u) (a ∷ G) G
     each zero c at = transport (Has S G u) (near c at) du
     each (suc n) c at =

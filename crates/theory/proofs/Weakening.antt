@@ -1,20 +1,21 @@
 -- Renaming keeps derivations: weakening of contexts.
-use Rattle.std.proofs.Common.{◌≡◌, ℕ, zero, suc, ◌+◌, Some, slice_get, subst as transport, subst₂, sym, refl, ap, ◌∙◌, List, [], ◌∷◌, ◌++◌, length, arith}
+use Rattle.std.proofs.Common.{◌≡◌, ℕ, zero, suc, ◌+◌, Some, slice_get, subst as transport, subst₂, sym, refl, ap, ◌∙◌, [], ◌∷◌, ◌++◌, length, arith}
 use mathlib.Core.Path.{fun_ext}
-use Rattle.theory.specs.Terms.{Term, lift, lift_var, subst}
+use Rattle.theory.specs.Terms.{Term, lift, lift_var}
 use Rattle.theory.specs.Terms.Term.{Var, Sort, App}
 use Rattle.theory.specs.Substitutions.{ren, up, weaken}
 use Rattle.theory.specs.Telescopes.{Context, lift_context}
-use Rattle.theory.specs.Signatures.{Signature, TypeOf}
+use Rattle.theory.specs.Signatures.{Signature}
 use Rattle.theory.specs.Typing.{IsContext, Has}
 use Rattle.theory.specs.Typing.IsContext.{bind}
 use Rattle.theory.specs.Typing.Has.{variable, sort, product, function, application, local, symbol, below, below_sort}
 use Rattle.theory.specs.WellFormed.{IsTyped}
-use Rattle.theory.specs.TypingLaws.{Renames, Renaming, Weakening, WeakeningOfContexts}
+use Rattle.theory.specs.TypingLaws.{Renames, Weakening, WeakeningOfContexts}
 use Rattle.theory.proofs.Commuting.{lift_merge}
 use Rattle.theory.proofs.Shifts.{lift-one, lift-is_ren, lift_var-above, up-shift}
 use Rattle.theory.proofs.Renaming.{lift-more, ren-weaken, ren-subst, ren-closed}
-use Rattle.theory.proofs.Scoping.{some_is, context_of, symbol_closed, symbol_type_closed, closed_bodies}
+use Rattle.theory.proofs.Lists.{some_is}
+use Rattle.theory.proofs.Scoping.{context_of, symbol_closed, symbol_type_closed, closed_bodies}
 use Rattle.theory.proofs.Stability.{below-ren}
 
 -- a lift by one more, as a renaming under a binder needs it
@@ -71,10 +72,6 @@ has-ren {S} typed (below i dt le db) r D h into =
 has-ren {S} typed (below_sort i dt le) r D h into =
     below_sort i (has-ren typed dt r D h into) (below-ren S (closed_bodies typed) r le)
 
--- renaming keeps derivations
-pub renaming : Renaming
-renaming S r G D t a typed h into d = has-ren typed d r D h into
-
 behind : (new G : Context) (n : ℕ) → slice_get (new ++ G) (n + length new) ≡ slice_get G n
 behind [] G n = let e : n + 0 ≡ n = omega arith in ap (slice_get G) e
 behind (a ∷ new) G n =
@@ -89,6 +86,7 @@ renames-lift [] new G = each
     same n a =
         ap (λ k. lift a k 0) (ap (λ k. k + 1) (lift_var-above n (length new) 0 (omega arith)) ∙ omega arith)
         ∙ (sym (lift_merge a (n + 1) 0 (length new) 0 (omega arith) (omega arith)) ∙ lift-is_ren (lift a (n + 1) 0) (length new) 0)
+
     each : Renames (λ n. lift_var n (length new) 0) G (new ++ G)
     each n a at = (a, ap (slice_get (new ++ G)) (lift_var-above n (length new) 0 (omega arith)) ∙ (behind new G n ∙ at), same n a)
 renames-lift (a ∷ near) new G =
@@ -97,6 +95,7 @@ renames-lift (a ∷ near) new G =
   where
     k : ℕ
     k = length new
+
     next : (n : ℕ) → up (λ m. lift_var m k (length near)) n ≡ lift_var n k (suc (length near))
     next n = up-shift k (length near) n ∙ ap (lift_var n k) (omega arith)
 

@@ -1,6 +1,5 @@
 -- A longer signature has what holds over a shorter one: weakening of signatures.
-use Rattle.std.proofs.Common.{◌≡◌, ℕ, zero, suc, Some, List, [], ◌∷◌, ◌++◌, slice_get, ap, ◌∙◌, sym, IsTrue, subst as transport}
-use Rattle.std.proofs.lemmas.Option.{none-some}
+use Rattle.std.proofs.Common.{ℕ, List, slice_get, ap, ◌∙◌, sym, IsTrue, subst as transport}
 use Rattle.theory.specs.Terms.{Term}
 use Rattle.theory.specs.Telescopes.{Context, Telescope}
 use Rattle.theory.specs.Families.{Family, Constructor}
@@ -16,23 +15,19 @@ use Rattle.theory.specs.Typing.{IsContext, Has, HasSort}
 use Rattle.theory.specs.Typing.IsContext.{empty, bind}
 use Rattle.theory.specs.Typing.Has.{variable, sort, product, application, local, symbol, below, below_sort}
 use Rattle.theory.specs.Typing.Has.{function as function_rule}
-use Rattle.theory.specs.TypingLaws.{WiderTypes, WiderConversion, WiderOrder, WiderContext, WiderDerivation}
+use Rattle.theory.specs.WellFormed.{HasLevels, IsConstructor, IsDefinition}
+use Rattle.theory.specs.WellFormed.HasLevels.{none, more}
+use Rattle.theory.proofs.Lists.{slice_get-longer}
 
 -- each entry of S has its number in T, and T has K where S has it
 pub record Keeps (S T : Signature) : Type 0 where
   pub entry : (n : ℕ) (e : Entry) → IsEntryAt S n e → IsEntryAt T n e
   pub k : IsTrue S.has_k → IsTrue T.has_k
 
--- what stands in a list stands at its place in a longer one
-pub slice_get-append : {X : Type 0} (xs ys : List X) (n : ℕ) (x : X) → slice_get xs n ≡ Some x → slice_get (xs ++ ys) n ≡ Some x
-slice_get-append [] ys n x at = absurd (none-some x at)
-slice_get-append (y ∷ xs) ys zero x at = at
-slice_get-append (y ∷ xs) ys (suc n) x at = slice_get-append xs ys n x at
-
 -- a longer signature keeps the entries
 pub prefix_keeps : {S T : Signature} → IsPrefix S T → Keeps S T
 prefix_keeps {S} {T} h = record {
-  entry = λ n e at. ap (λ es. slice_get es n) h.entries ∙ slice_get-append S.entries h.more n e at;
+  entry = λ n e at. ap (λ es. slice_get es n) h.entries ∙ slice_get-longer S.entries h.more n e at;
   k = λ on. transport IsTrue (sym h.has_k) on;
 }
 
@@ -94,22 +89,24 @@ mutual
   has-wider h (below i dt le db) = below i (has-wider h dt) (below-wider h le) (has-wider h db)
   has-wider h (below_sort i dt le) = below_sort i (has-wider h dt) (below-wider h le)
 
--- the types of symbols over a longer signature
-pub wider_types : WiderTypes
-wider_types S T t a h = type_of-wider (prefix_keeps h)
+-- sorts
+pub sort-wider : {S T : Signature} → Keeps S T → {G : Context} {a : Term} → HasSort S G a → HasSort T G a
+sort-wider h (i, d) = (i, has-wider h d)
 
--- conversion over a longer signature
-pub wider_conversion : WiderConversion
-wider_conversion S T t u h = converts-wider (prefix_keeps h)
+-- the levels of a telescope
+pub levels-wider : {S T : Signature} {level : ℕ} → Keeps S T → {G : Context} {tele : Telescope} {levels : List ℕ} → HasLevels S level G tele levels → HasLevels T level G tele levels
+levels-wider h none = none
+levels-wider h (more d le rest) = more (has-wider h d) le (levels-wider h rest)
 
--- the order of types over a longer signature
-pub wider_order : WiderOrder
-wider_order S T a b h = below-wider (prefix_keeps h)
+-- constructors
+pub constructor-wider : {S T : Signature} → Keeps S T → {n : ℕ} {f : Family} {c : Constructor} → IsConstructor S n f c → IsConstructor T n f c
+constructor-wider h c = record {
+  type = sort-wider h c.type;
+  levels = levels-wider h c.levels;
+  targets = c.targets;
+  argument_targets = c.argument_targets;
+}
 
--- contexts over a longer signature
-pub wider_context : WiderContext
-wider_context S T G h = context-wider (prefix_keeps h)
-
--- derivations over a longer signature
-pub wider_derivation : WiderDerivation
-wider_derivation S T G t a h = has-wider (prefix_keeps h)
+-- definitions
+pub definition-wider : {S T : Signature} → Keeps S T → {type body : Term} → IsDefinition S type body → IsDefinition T type body
+definition-wider h d = record { type_sort = sort-wider h d.type_sort; body_type = has-wider h d.body_type }

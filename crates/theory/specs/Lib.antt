@@ -5,6 +5,7 @@ pub mod Families
 pub mod Generation
 pub mod Prelude
 pub mod PreludeLaws
+pub mod SignatureLaws
 pub mod Signatures
 pub mod SortLaws
 pub mod Substitutions

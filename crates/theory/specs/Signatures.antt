@@ -21,7 +21,7 @@ pub record Signature : Type 0 where
 abbrev pub IsEntryAt : Signature → ℕ → Entry → Type 0
 IsEntryAt S n e = slice_get S.entries n ≡ Some e
 
--- T has the entries of S first, and K where S has it
+-- the entries of S are the first ones of T, and both have K or neither has
 pub record IsPrefix (S T : Signature) : Type 0 where
   pub more : List Entry
   pub entries : T.entries ≡ S.entries ++ more

@@ -1,13 +1,12 @@
 -- The laws of derivations.
-use Rattle.std.specs.Prelude.{Some, ◌≡◌, ◌≢◌, ℕ, Bool, AllPairs, ◌+◌, ◌≤◌, List, [], ◌∷◌, ◌++◌, length, slice_get}
-use Rattle.theory.specs.Terms.{Term, Var, Sort, Pi, Lam, App, Let, lift, subst, free_of}
+use Rattle.std.specs.Prelude.{Some, ◌≡◌, ℕ, ◌+◌, ◌≤◌, ◌∷◌, ◌++◌, length, slice_get}
+use Rattle.theory.specs.Terms.{Term, lift, subst, free_of}
 use Rattle.theory.specs.Substitutions.{ren, inst}
-use Rattle.theory.specs.Telescopes.{Context, lift_context}
-use Rattle.theory.specs.Signatures.{Signature, Entry, names, IsPrefix, TypeOf, HasClosedBodies}
-use Rattle.theory.specs.Conversion.{Converts, Below}
+use Rattle.theory.specs.Telescopes.{Context, Telescope, context_behind, products, lift_context}
+use Rattle.theory.specs.Signatures.{Signature, HasClosedBodies}
 use Rattle.theory.specs.Generation.{Parts}
 use Rattle.theory.specs.Typing.{IsContext, Has, HasSort, IsType}
-use Rattle.theory.specs.WellFormed.{pushed, IsEntry, IsWellFormed, IsWellFormedSoFar, IsTyped}
+use Rattle.theory.specs.WellFormed.{IsTyped}
 
 -- a derivation stands in a well-formed context
 abbrev pub ContextOfDerivation : Type 0
@@ -67,48 +66,22 @@ Substitution =
     (S : Signature) (G : Context) (t u a b : Term) →
     IsTyped S → Has S (a ∷ G) t b → Has S G u a → Has S G (subst t 0 u) (subst b 0 u)
 
--- weakening of signatures: a longer signature has the types of symbols,
-abbrev pub WiderTypes : Type 0
-WiderTypes = (S T : Signature) (t a : Term) → IsPrefix S T → TypeOf S t a → TypeOf T t a
-
--- conversion,
-abbrev pub WiderConversion : Type 0
-WiderConversion = (S T : Signature) (t u : Term) → IsPrefix S T → Converts S t u → Converts T t u
-
--- the order of types,
-abbrev pub WiderOrder : Type 0
-WiderOrder = (S T : Signature) (a b : Term) → IsPrefix S T → Below S a b → Below T a b
-
--- contexts
-abbrev pub WiderContext : Type 0
-WiderContext = (S T : Signature) (G : Context) → IsPrefix S T → IsContext S G → IsContext T G
-
--- and derivations of the shorter one
-abbrev pub WiderDerivation : Type 0
-WiderDerivation = (S T : Signature) (G : Context) (t a : Term) → IsPrefix S T → Has S G t a → Has T G t a
-
 -- generation: a derivation is made of the parts that the form of its term asks for
 abbrev pub Generation : Type 0
 Generation = (S : Signature) (G : Context) (t a : Term) → Has S G t a → Parts S G t a
 
+-- products over a telescope have a sort where its types make a context, and the body has a sort behind it
+abbrev pub TelescopeFormation : Type 0
+TelescopeFormation =
+    (S : Signature) (G : Context) (tele : Telescope) (body : Term) →
+    IsContext S (context_behind G tele) → HasSort S (context_behind G tele) body → HasSort S G (products tele body)
+
+-- and only there
+abbrev pub TelescopeGeneration : Type 0
+TelescopeGeneration =
+    (S : Signature) (G : Context) (tele : Telescope) (body : Term) → HasSort S G (products tele body) →
+    IsContext S (context_behind G tele) × HasSort S (context_behind G tele) body
+
 -- validity: every derived type is a sort or has one
 abbrev pub Validity : Type 0
 Validity = (S : Signature) (G : Context) (t a : Term) → IsTyped S → Has S G t a → IsType S G a
-
--- a well-formed signature has what the laws of typing need
-abbrev pub WellFormedTyped : Type 0
-WellFormedTyped = (S : Signature) → IsWellFormed S → IsTyped S
-
--- and so has one that is well formed up to a provisional end
-abbrev pub SoFarTyped : Type 0
-SoFarTyped = (S : Signature) → IsWellFormedSoFar S → IsTyped S
-
--- the signature without entries is well formed
-abbrev pub EmptyIsWellFormed : Type 0
-EmptyIsWellFormed = (k : Bool) → IsWellFormed (record { entries = []; has_k = k })
-
--- a well-formed signature stays so where an entry is pushed that is well formed over it and brings new names
-abbrev pub PushKeeps : Type 0
-PushKeeps =
-    (S : Signature) (e : Entry) →
-    IsWellFormed S → IsEntry S e → AllPairs (λ x y. x ≢ y) (names (pushed S e)) → IsWellFormed (pushed S e)
