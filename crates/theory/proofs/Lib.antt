@@ -2,10 +2,14 @@ pub mod AllOf
 pub mod Bounds
 pub mod Commuting
 pub mod Congruence
+pub mod FreeInstances
 pub mod FreeVariables
+pub mod HeightInstances
 pub mod Heights
 pub mod Instances
 pub mod Instantiation
+pub mod ScopedTypes
+pub mod Scopes
 pub mod Scoping
 pub mod Shifts
 pub mod SortInstances

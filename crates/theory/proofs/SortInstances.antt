@@ -1,11 +1,13 @@
 -- How renaming and instantiation change the sorts in a term, and the sorts of a constructor's record.
-use Rattle.std.proofs.Common.{ℕ, zero, suc, ◌<◌, List, [], ◌∷◌, map, All}
+use Rattle.std.proofs.Common.{ℕ, zero, suc, ◌<◌, List, [], ◌∷◌, map, All, subst as transport}
 use Rattle.std.proofs.lemmas.List.Elements.{All-nil, All-cons, All-head, All-tail}
 use Rattle.theory.specs.Terms.{Term, SortsBelow}
 use Rattle.theory.specs.Terms.Term.{Var, Sort, Pi, Lam, App, Let}
 use Rattle.theory.specs.Substitutions.{ren, up, weaken, inst, ups}
 use Rattle.theory.specs.Telescopes.{Telescope, products}
 use Rattle.theory.specs.Families.{Argument, Plain, Recursive, Constructor, Family, argument_type, argument_types, recursive_type, constructor_type, family_head}
+use Rattle.theory.specs.InstanceLaws.{SortsOfRen, SortsOfInst, SortsBeforeInst}
+use Rattle.theory.proofs.Instances.{ren-is_inst}
 use Rattle.theory.proofs.Bounds.{HasTerms, IsBound, applied-parts}
 
 -- a renaming keeps the sorts
@@ -22,7 +24,7 @@ sorts_of_ups s n each zero = tt
 sorts_of_ups s n each (suc i) = sorts_of_ren suc (s i) n (each i)
 
 -- an instantiation brings no sorts but those of its terms
-pub sorts_of_inst : (s : ℕ → Term) (t : Term) (n : ℕ) → SortsBelow n t → ((i : ℕ) → SortsBelow n (s i)) → SortsBelow n (inst s t)
+pub sorts_of_inst : SortsOfInst
 sorts_of_inst s (Var i) n h each = each i
 sorts_of_inst s (Sort i) n h each = h
 sorts_of_inst s (Pi a b) n h each =
@@ -35,7 +37,7 @@ sorts_of_inst s (Let a t b) n h each =
 sorts_of_inst s _ n h each = tt
 
 -- and drops none
-pub sorts_before_inst : (s : ℕ → Term) (t : Term) (n : ℕ) → SortsBelow n (inst s t) → SortsBelow n t
+pub sorts_before_inst : SortsBeforeInst
 sorts_before_inst s (Sort i) n h = h
 sorts_before_inst s (Pi a b) n h = (sorts_before_inst s a n h.0, sorts_before_inst (ups s) b n h.1)
 sorts_before_inst s (Lam a b) n h = (sorts_before_inst s a n h.0, sorts_before_inst (ups s) b n h.1)
@@ -43,6 +45,10 @@ sorts_before_inst s (App f a) n h = (sorts_before_inst s f n h.0, sorts_before_i
 sorts_before_inst s (Let a t b) n h =
     (sorts_before_inst s a n h.0, sorts_before_inst s t n h.1, sorts_before_inst (ups s) b n h.2)
 sorts_before_inst s _ n h = tt
+
+-- a renaming brings no sorts and drops none
+pub sorts_under_ren : SortsOfRen
+sorts_under_ren r t n = (sorts_of_ren r t n, λ h. sorts_before_inst (λ i. Var (r i)) t n (transport (SortsBelow n) (ren-is_inst r t) h))
 
 -- a bound on the sorts is one that formers keep
 pub sorts_bound : (n : ℕ) → 0 < n → IsBound (SortsBelow n) (λ k. SortsBelow n)

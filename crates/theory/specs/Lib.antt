@@ -2,8 +2,11 @@ pub mod Conversion
 pub mod ConversionLaws
 pub mod Eliminators
 pub mod Families
+pub mod InstanceLaws
 pub mod Prelude
 pub mod Signatures
+pub mod ScopeLaws
+pub mod Scopes
 pub mod SortLaws
 pub mod Substitutions
 pub mod Telescopes
