@@ -1,11 +1,11 @@
 -- What an instantiation does to a scoped term, to a substitution, to spines and to the right side of iota.
-use Rattle.std.proofs.Common.{◌≡◌, ℕ, zero, suc, ◌+◌, ◌<◌, ◌≤◌, List, [], ◌∷◌, ◌++◌, map, refl, ap, ap₂, sym, ◌∙◌, arith}
+use Rattle.std.proofs.Common.{◌≡◌, ℕ, zero, suc, ◌+◌, ◌<◌, ◌≤◌, List, [], ◌∷◌, ◌++◌, map, length, refl, ap, ap₂, sym, ◌∙◌, arith}
 use Rattle.std.proofs.lemmas.List.{map-append}
 use mathlib.Core.Path.{fun_ext}
 use Rattle.theory.specs.Terms.{Term, subst, free_of, IsClosed}
 use Rattle.theory.specs.Terms.Term.{Var, Pi, Lam, App, Let, Elim}
 use Rattle.theory.specs.Substitutions.{inst, ups, weaken, extend, fill}
-use Rattle.theory.specs.Telescopes.{Telescope, applied}
+use Rattle.theory.specs.Telescopes.{Telescope, products, applied, arrows, inst_telescope}
 use Rattle.theory.specs.Families.{Argument, Plain, Recursive}
 use Rattle.theory.specs.Eliminators.{hypothesis, hypotheses, iota_right, no_variable}
 use Rattle.theory.proofs.Instances.{ap₃, inst-same, inst-var, inst-ren, ren-inst, inst-inst, ups-ups}
@@ -60,6 +60,22 @@ inst-subst s b u =
 pub inst-applied : (s : ℕ → Term) (head : Term) (spine : List Term) → inst s (applied head spine) ≡ applied (inst s head) (map (inst s) spine)
 inst-applied s head [] = refl
 inst-applied s head (a ∷ spine) = inst-applied s (App head a) spine
+
+-- an instantiation passes arrows
+pub inst-arrows : (s : ℕ → Term) (types : List Term) (b : Term) → inst s (arrows types b) ≡ arrows (map (inst s) types) (inst s b)
+inst-arrows s [] b = refl
+inst-arrows s (a ∷ types) b =
+    ap (Pi (inst s a)) (inst-weaken s (arrows types b) ∙ ap weaken (inst-arrows s types b))
+
+-- an instantiation under k binders
+abbrev pub ups_by : ℕ → (ℕ → Term) → ℕ → Term
+ups_by zero s = s
+ups_by (suc k) s = ups_by k (ups s)
+
+-- an instantiation passes products
+pub inst-products : (s : ℕ → Term) (tele : Telescope) (body : Term) → inst s (products tele body) ≡ products (inst_telescope s tele) (inst (ups_by (length tele) s) body)
+inst-products s [] body = refl
+inst-products s (a ∷ tele) body = ap (Pi (inst s a)) (inst-products (ups s) tele body)
 
 -- an instantiation behind another, in each term of a list
 pub map-inst-inst : (p s : ℕ → Term) (ts : List Term) → map (inst p) (map (inst s) ts) ≡ map (inst (λ n. inst p (s n))) ts

@@ -8,6 +8,7 @@ pub mod HeightInstances
 pub mod Heights
 pub mod Instances
 pub mod Instantiation
+pub mod RecordScopes
 pub mod ScopedTypes
 pub mod Scopes
 pub mod Scoping
@@ -15,5 +16,6 @@ pub mod Shifts
 pub mod SortInstances
 pub mod SortLevels
 pub mod Stability
+pub mod StepScopes
 pub mod StepSorts
 pub mod TermSorts

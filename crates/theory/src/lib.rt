@@ -3,5 +3,7 @@
 #![tactic(auto)]
 
 pub mod conversion_laws;
+pub mod instance_laws;
+pub mod scope_laws;
 pub mod sort_laws;
 pub mod term_laws;
