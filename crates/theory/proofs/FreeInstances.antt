@@ -1,9 +1,9 @@
 -- How renaming and instantiation change the free variables of a term.
-use Rattle.std.proofs.Common.{◌≡◌, ℕ, zero, suc, ◌+◌, ◌-◌, ◌<◌, ◌≤◌, inl, inr, max, List, [], ◌∷◌, map, All, length, ap, sym, ◌∙◌, refl, subst as transport, arith}
+use Rattle.std.proofs.Common.{ℕ, zero, suc, ◌+◌, ◌<◌, ◌≤◌, List, [], ◌∷◌, map, All, length, arith}
 use Rattle.std.proofs.lemmas.List.Elements.{All-nil, All-cons, All-head, All-tail}
 use Rattle.theory.specs.Terms.{Term, free_of}
 use Rattle.theory.specs.Terms.Term.{Var, Pi, Lam, App, Let}
-use Rattle.theory.specs.Substitutions.{ren, up, weaken, inst, ups, extend, fill}
+use Rattle.theory.specs.Substitutions.{up, weaken, inst, ups, extend, fill}
 use Rattle.theory.specs.Telescopes.{weaken_by, variables}
 use Rattle.theory.specs.InstanceLaws.{FreeOfRen, FreeOfInst}
 use Rattle.theory.proofs.Bounds.{IsBound}

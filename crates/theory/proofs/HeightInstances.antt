@@ -2,7 +2,7 @@
 use Rattle.std.proofs.Common.{ℕ, zero, suc, ◌+◌, ◌≤◌, max, refl, ap₂, arith}
 use Rattle.theory.specs.Terms.{Term, height}
 use Rattle.theory.specs.Terms.Term.{Var, Pi, Lam, App, Let}
-use Rattle.theory.specs.Substitutions.{ren, up, inst, ups}
+use Rattle.theory.specs.Substitutions.{up, inst, ups}
 use Rattle.theory.specs.InstanceLaws.{HeightOfRen, HeightOfInst}
 use Rattle.theory.proofs.Heights.{height-positive}
 

@@ -1,17 +1,15 @@
 -- The records of a typed signature are scoped, since the types that they bring along are closed.
-use Rattle.std.proofs.Common.{◌≡◌, ℕ, zero, suc, ◌+◌, ◌-◌, ◌<◌, ◌≤◌, max, List, [], ◌∷◌, map, All, length, get_or, refl, ap, sym, ◌∙◌, subst as transport, arith}
+use Rattle.std.proofs.Common.{ℕ, zero, suc, ◌+◌, ◌<◌, ◌≤◌, List, [], ◌∷◌, map, All, length, get_or, ap, arith}
 use Rattle.std.proofs.lemmas.List.Elements.{All-nil, All-cons, All-head, All-tail}
 use Rattle.std.proofs.lemmas.Bool.Decides.{nat_tests}
 use Rattle.std.proofs.lemmas.Option.{slice_get-get_or}
 use Rattle.theory.specs.Terms.{Term, free_of}
 use Rattle.theory.specs.Terms.Term.{Var, Sort, Pi, Lam, App, Let}
 use Rattle.theory.specs.Substitutions.{weaken, inst, ups}
-use Rattle.theory.specs.Telescopes.{Telescope, products, applied, weaken_by}
+use Rattle.theory.specs.Telescopes.{Telescope, applied, weaken_by}
 use Rattle.theory.specs.Families.{Argument, Plain, Recursive, Constructor, Family, index_types, argument_type, argument_types, recursive_type, constructor_type, constructor_telescope, family_head}
-use Rattle.theory.specs.Signatures.{Signature, FamilyOf, IsEntryAt}
 use Rattle.theory.specs.Signatures.TypeOf.{family, constructor}
-use Rattle.theory.specs.WellFormed.{IsTyped}
-use Rattle.theory.specs.Scopes.{IsScopedTelescope, IsScopedArgument, IsScopedArguments, IsScopedConstructor, IsScopedFamily}
+use Rattle.theory.specs.Scopes.{IsScopedTelescope, IsScopedArgument, IsScopedArguments, IsScopedConstructor}
 use Rattle.theory.specs.ScopeLaws.{RecordsScoped}
 use Rattle.theory.proofs.Shifts.{lift-one}
 use Rattle.theory.proofs.FreeVariables.{free_of-lift}
@@ -65,11 +63,10 @@ recursive-scoped : (s : ℕ → Term) (head : Term) (inner : Telescope) (targets
 recursive-scoped s head [] targets k n each h = (
   tt,
   scoped-raised targets k (k + 0) (omega arith)
-  (map_inst-scoped s targets k n each (applied-scoped head (map (inst s) targets) n h).1),
+      (map_inst-scoped s targets k n each (applied-scoped head (map (inst s) targets) n h).1),
 )
 recursive-scoped s head (a ∷ inner) targets k n each h =
-    let rest = recursive-scoped (ups s) (weaken head) inner targets (k + 1) (n + 1) (reflects-ups s k n each) (omega arith) in
-    (
+    let rest = recursive-scoped (ups s) (weaken head) inner targets (k + 1) (n + 1) (reflects-ups s k n each) (omega arith) in (
       (free_before_inst s a k n each (omega arith), rest.0),
       scoped-raised targets ((k + 1) + length inner) (k + suc (length inner)) (omega arith) rest.1,
     )
@@ -111,6 +108,6 @@ records_scoped S typed n f at =
       parameters = whole.0;
       indices = (products-scoped (index_types f) (Sort f.level) p (omega arith)).0;
       constructors = λ number d lt.
-        constructor-scoped n f (get_or f.constructors number d)
-        (term_scoped (typed.types (constructor n number at (slice_get-get_or f.constructors number d lt))).1);
+          constructor-scoped n f (get_or f.constructors number d)
+          (term_scoped (typed.types (constructor n number at (slice_get-get_or f.constructors number d lt))).1);
     }

@@ -1,18 +1,17 @@
 -- The types that scoped records bring along are closed.
-use Rattle.std.proofs.Common.{◌≡◌, ℕ, zero, suc, ◌+◌, ◌-◌, ◌<◌, ◌≤◌, max, List, [], ◌∷◌, map, All, length, refl, ap, sym, ◌∙◌, subst as transport, arith}
+use Rattle.std.proofs.Common.{◌≡◌, ℕ, zero, suc, ◌+◌, ◌≤◌, List, [], ◌∷◌, map, All, length, refl, ap, arith}
 use Rattle.std.proofs.lemmas.List.{length-map}
 use Rattle.std.proofs.lemmas.List.Elements.{All-nil, All-cons, All-head, All-tail}
 use Rattle.theory.specs.Terms.{Term, free_of, IsClosed}
 use Rattle.theory.specs.Terms.Term.{Var, Sort, Pi, App, Fam, Con}
 use Rattle.theory.specs.Substitutions.{weaken, inst, ups, extend, fill}
-use Rattle.theory.specs.Telescopes.{Telescope, products, applied, arrows, variables, weaken_by, inst_telescope}
-use Rattle.theory.specs.Families.{Argument, Plain, Recursive, Constructor, Family, index_types, argument_types, family_type, constructor_type, constructor_telescope, family_head}
-use Rattle.theory.specs.Eliminators.{motive_type, hypothesis_type, hypothesis_types, method_type, method_types, eliminator_type}
-use Rattle.theory.specs.Signatures.{axiom_k_type}
+use Rattle.theory.specs.Telescopes.{Telescope, products, applied, variables, weaken_by, inst_telescope}
+use Rattle.theory.specs.Families.{Argument, Plain, Recursive, Constructor, Family, index_types, argument_types, constructor_telescope, family_head}
+use Rattle.theory.specs.Eliminators.{motive_type, hypothesis_type, hypothesis_types, method_type, method_types}
 use Rattle.theory.specs.Scopes.{IsScopedTelescope, IsScopedArguments, IsScopedConstructor, IsScopedFamily}
 use Rattle.theory.specs.ScopeLaws.{FamilyTypeClosed, ConstructorTypeClosed, EliminatorTypeClosed, AxiomKTypeClosed}
 use Rattle.theory.proofs.FreeInstances.{free_of-weaken, free_of-weaken_by, free_of-ups, free_of-inst, free_of-extend, free_of-fill, free_of-map_inst, free_of-variables}
-use Rattle.theory.proofs.Scopes.{Scoped, Places, scoped-products, scoped-applied, scoped-arrows, scoped-weaken_by, scoped-weaken, scoped-raised, scoped-arguments, length-argument_types}
+use Rattle.theory.proofs.Scopes.{Scoped, Places, scoped-products, scoped-applied, scoped-arrows, scoped-weaken, scoped-raised, scoped-arguments, length-argument_types}
 
 -- there are k nearest variables
 pub length-variables : (k : ℕ) → length (variables k) ≡ k
@@ -43,7 +42,7 @@ constructor_type_closed number f c sp sc =
     let head = family_head number f in
     let types = length-argument_types Var head c.arguments in
     let end : free_of (applied (weaken_by k head) c.targets) ≤ p + k =
-        scoped-applied (weaken_by k head) c.targets (p + k) (free_of-weaken_by k head p (scoped-head number f)) sc.targets in
+    scoped-applied (weaken_by k head) c.targets (p + k) (free_of-weaken_by k head p (scoped-head number f)) sc.targets in
     closed-products f.parameters _ sp
     (scoped-products (constructor_telescope number f c) _ p
     (scoped-arguments Var head c.arguments p p (λ i lt. omega arith) (scoped-head number f) sc.arguments)
@@ -58,8 +57,8 @@ scoped-motive number f m scoped =
     let k = length f.indices in
     let p = length f.parameters in
     let head : free_of (applied (weaken_by k (family_head number f)) (variables k)) ≤ p + k =
-        scoped-applied _ (variables k) (p + k) (free_of-weaken_by k _ p (scoped-head number f))
-        (free_of-variables k (p + k) (omega arith)) in
+    scoped-applied _ (variables k) (p + k) (free_of-weaken_by k _ p (scoped-head number f))
+    (free_of-variables k (p + k) (omega arith)) in
     scoped-products (index_types f) _ p scoped.indices (omega (arith, head, length-map f.indices (λ i. i.0)))
 
 scoped-hypothesis : (s : ℕ → Term) (P r : Term) (inner : Telescope) (targets : List Term) (k n : ℕ) → Places s k n → free_of P ≤ n → free_of r ≤ n → IsScopedTelescope k inner → All (Scoped (k + length inner)) targets → free_of (hypothesis_type s P r inner targets) ≤ n
@@ -67,7 +66,7 @@ scoped-hypothesis s P r [] targets k n each hp hr si st =
     omega (
       arith,
       scoped-applied P (map (inst s) targets) n hp
-      (free_of-map_inst s targets k n each (scoped-raised targets (k + 0) k (omega arith) st)),
+          (free_of-map_inst s targets k n each (scoped-raised targets (k + 0) k (omega arith) st)),
     )
 scoped-hypothesis s P r (a ∷ inner) targets k n each hp hr si st =
     let hw = free_of-weaken r n hr in
@@ -75,8 +74,8 @@ scoped-hypothesis s P r (a ∷ inner) targets k n each hp hr si st =
       arith,
       free_of-inst s a k n si.0 each,
       scoped-hypothesis (ups s) (weaken P) (App (weaken r) (Var 0)) inner targets (k + 1) (n + 1) (free_of-ups s k n each)
-      (free_of-weaken P n hp) (omega arith) si.1
-      (scoped-raised targets (k + suc (length inner)) ((k + 1) + length inner) (omega arith) st),
+          (free_of-weaken P n hp) (omega arith) si.1
+          (scoped-raised targets (k + suc (length inner)) ((k + 1) + length inner) (omega arith) st),
     )
 
 scoped-hypotheses : (s : ℕ → Term) (P : Term) (arguments : List Argument) (us : List Term) (k n : ℕ) → Places s k n → free_of P ≤ n → IsScopedArguments k arguments → All (Scoped n) us → All (Scoped n) (hypothesis_types s P arguments us)
@@ -106,15 +105,15 @@ scoped-method s head con P c k n each hh hc hp sc =
     let su : All (Scoped (n + j)) us = free_of-variables j (n + j) (omega arith) in
     let wp = free_of-weaken_by j P n hp in
     let left =
-        scoped-applied (weaken_by j P) _ (n + j) wp
-        (free_of-map_inst (fill inside us) c.targets (k + j) (n + j) (scoped-filled s j k n each) sc.targets) in
+    scoped-applied (weaken_by j P) _ (n + j) wp
+    (free_of-map_inst (fill inside us) c.targets (k + j) (n + j) (scoped-filled s j k n each) sc.targets) in
     let right = scoped-applied (weaken_by j con) us (n + j) (free_of-weaken_by j con n hc) su in
     let end =
-        scoped-arrows (hypothesis_types inside (weaken_by j P) c.arguments us)
-        (App (applied (weaken_by j P) (map (inst (fill inside us)) c.targets)) (applied (weaken_by j con) us)) (n + j)
-        (scoped-hypotheses inside (weaken_by j P) c.arguments us k (n + j) (λ i lt. free_of-weaken_by j (s i) n (each i lt)) wp
-        sc.arguments su)
-        (omega (arith, left, right)) in
+    scoped-arrows (hypothesis_types inside (weaken_by j P) c.arguments us)
+    (App (applied (weaken_by j P) (map (inst (fill inside us)) c.targets)) (applied (weaken_by j con) us)) (n + j)
+    (scoped-hypotheses inside (weaken_by j P) c.arguments us k (n + j) (λ i lt. free_of-weaken_by j (s i) n (each i lt)) wp
+    sc.arguments su)
+    (omega (arith, left, right)) in
     scoped-products (argument_types s head c.arguments) _ n (scoped-arguments s head c.arguments k n each hh sc.arguments)
     (omega (arith, end, length-argument_types s head c.arguments))
 
@@ -146,12 +145,12 @@ scoped-conclusion number f scoped =
     let ps = map weaken (variables p) in
     let head = scoped-applied (Fam number) ps (p + 1) (omega arith) (scoped-weaken (variables p) p (scoped-variables p)) in
     let domain =
-        scoped-applied (weaken_by k (applied (Fam number) ps)) (variables k) ((p + 1) + k)
-        (free_of-weaken_by k (applied (Fam number) ps) (p + 1) head)
-        (free_of-variables k ((p + 1) + k) (omega arith)) in
+    scoped-applied (weaken_by k (applied (Fam number) ps)) (variables k) ((p + 1) + k)
+    (free_of-weaken_by k (applied (Fam number) ps) (p + 1) head)
+    (free_of-variables k ((p + 1) + k) (omega arith)) in
     let spine =
-        scoped-applied (Var (k + 1)) (map weaken (variables k)) (((p + 1) + k) + 1) (omega arith)
-        (scoped-raised (map weaken (variables k)) (k + 1) (((p + 1) + k) + 1) (omega arith) (scoped-weaken (variables k) k (scoped-variables k))) in
+    scoped-applied (Var (k + 1)) (map weaken (variables k)) (((p + 1) + k) + 1) (omega arith)
+    (scoped-raised (map weaken (variables k)) (k + 1) (((p + 1) + k) + 1) (omega arith) (scoped-weaken (variables k) k (scoped-variables k))) in
     scoped-products (inst_telescope s (index_types f)) _ (p + 1)
     (scoped-inst_telescope s (index_types f) p (p + 1) (λ i lt. omega arith) scoped.indices)
     (omega (arith, domain, spine, length-inst_telescope s (index_types f), length-map f.indices (λ i. i.0)))
@@ -163,8 +162,8 @@ eliminator_type_closed number f m scoped =
     let s : ℕ → Term = λ v. Var (suc v) in
     let ps = map weaken (variables p) in
     let methods =
-        scoped-arrows (method_types s number ps (Var 0) 0 f.constructors) _ (p + 1)
-        (scoped-methods s number ps (Var 0) 0 f.constructors p (p + 1) (λ i lt. omega arith)
-        (scoped-weaken (variables p) p (scoped-variables p)) (omega arith) scoped.constructors)
-        (scoped-conclusion number f scoped) in
+    scoped-arrows (method_types s number ps (Var 0) 0 f.constructors) _ (p + 1)
+    (scoped-methods s number ps (Var 0) 0 f.constructors p (p + 1) (λ i lt. omega arith)
+    (scoped-weaken (variables p) p (scoped-variables p)) (omega arith) scoped.constructors)
+    (scoped-conclusion number f scoped) in
     closed-products f.parameters _ scoped.parameters (omega (arith, scoped-motive number f m scoped, methods))

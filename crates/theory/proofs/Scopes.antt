@@ -1,18 +1,14 @@
 -- Terms that are made of scoped parts: products, spines, arrows and the types of constructor arguments.
-use Rattle.std.proofs.Common.{◌≡◌, ℕ, zero, suc, ◌+◌, ◌-◌, ◌<◌, ◌≤◌, max, List, [], ◌∷◌, map, All, length, refl, ap, arith}
-use Rattle.std.proofs.lemmas.List.{length-map}
-use Rattle.std.proofs.lemmas.List.Elements.{All-nil, All-cons, All-head, All-tail, All-map, All-weaker}
+use Rattle.std.proofs.Common.{◌≡◌, ℕ, suc, ◌+◌, ◌<◌, ◌≤◌, List, [], ◌∷◌, map, All, length, refl, ap, arith}
+use Rattle.std.proofs.lemmas.List.Elements.{All-head, All-tail, All-map, All-weaker}
 use Rattle.theory.specs.Terms.{Term, free_of}
-use Rattle.theory.specs.Terms.Term.{Var, Sort, Pi, App, Fam, Con}
-use Rattle.theory.specs.Substitutions.{weaken, inst, ups, extend, fill}
-use Rattle.theory.specs.Telescopes.{Telescope, products, applied, arrows, variables, weaken_by, inst_telescope}
-use Rattle.theory.specs.Families.{Argument, Plain, Recursive, Constructor, Family, index_types, argument_type, argument_types, recursive_type, family_type, constructor_type, family_head}
-use Rattle.theory.specs.Eliminators.{motive_type, hypothesis_type, hypothesis_types, method_type, method_types, eliminator_type}
-use Rattle.theory.specs.Signatures.{axiom_k_type}
-use Rattle.theory.specs.Scopes.{IsScopedTelescope, IsScopedArgument, IsScopedArguments, IsScopedConstructor, IsScopedFamily}
-use Rattle.theory.specs.ScopeLaws.{FreeOfProducts, FreeOfApplied, FamilyTypeClosed, ConstructorTypeClosed, EliminatorTypeClosed, AxiomKTypeClosed}
+use Rattle.theory.specs.Substitutions.{weaken, inst, ups}
+use Rattle.theory.specs.Telescopes.{Telescope, products, applied, arrows, weaken_by}
+use Rattle.theory.specs.Families.{Argument, Plain, Recursive, argument_type, argument_types, recursive_type}
+use Rattle.theory.specs.Scopes.{IsScopedTelescope, IsScopedArgument, IsScopedArguments}
+use Rattle.theory.specs.ScopeLaws.{FreeOfProducts, FreeOfApplied}
 use Rattle.theory.proofs.Bounds.{applied-kept, applied-parts}
-use Rattle.theory.proofs.FreeInstances.{free_of-weaken, free_of-weaken_by, free_of-ups, free_of-inst, free_of-extend, free_of-fill, free_of-map_inst, free_of-variables}
+use Rattle.theory.proofs.FreeInstances.{free_of-weaken, free_of-weaken_by, free_of-ups, free_of-inst, free_of-map_inst}
 
 -- the terms have no variables but the nearest n
 abbrev pub Scoped : ℕ → Term → Type 0
@@ -84,7 +80,7 @@ scoped-recursive s head (a ∷ inner) targets k n each hh si st =
       arith,
       free_of-inst s a k n si.0 each,
       scoped-recursive (ups s) (weaken head) inner targets (k + 1) (n + 1) (free_of-ups s k n each) (free_of-weaken head n hh) si.1
-      (scoped-raised targets (k + suc (length inner)) ((k + 1) + length inner) (omega arith) st),
+          (scoped-raised targets (k + suc (length inner)) ((k + 1) + length inner) (omega arith) st),
     )
 
 scoped-argument : (s : ℕ → Term) (head : Term) (a : Argument) (k n : ℕ) → Places s k n → free_of head ≤ n → IsScopedArgument k a → free_of (argument_type s head a) ≤ n

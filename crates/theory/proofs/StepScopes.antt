@@ -1,9 +1,9 @@
 -- A step brings no free variable in.
-use Rattle.std.proofs.Common.{ℕ, ◌+◌, ◌-◌, ◌≤◌, max, List, All, get_or, arith}
+use Rattle.std.proofs.Common.{ℕ, ◌≤◌, List, All, get_or, arith}
 use Rattle.theory.specs.Terms.{Term, free_of}
 use Rattle.theory.specs.Families.{Argument, Plain, Recursive}
 use Rattle.theory.specs.Signatures.{Signature, HasClosedBodies}
-use Rattle.theory.specs.Conversion.{Contracts, Step}
+use Rattle.theory.specs.Conversion.{Contracts}
 use Rattle.theory.specs.Conversion.Contracts.{beta, zeta, delta, iota, axiom_k}
 use Rattle.theory.specs.Conversion.Step.{here, domain, codomain, annotation, body, function, argument, let_type, let_value, let_body}
 use Rattle.theory.specs.ScopeLaws.{FreeOfIota, FreeOfStep}
