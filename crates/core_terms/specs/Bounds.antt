@@ -1,7 +1,7 @@
 -- Bounds under which an index of a variable fits 32 bits.
 use Rattle.std.specs.Prelude.{ℕ}
 
--- in a term of height 2,000 or less with at most so many free variables no index passes u32.MAX: it has at most
--- 1,999 binders around a variable, and 4294965297 + 1999 is 2 ^ 32
+-- 2 ^ 32 - 2001: with so many free variables a term of height 2,000 or less has no index above u32.MAX, since fewer
+-- than 2,000 binders stand around a variable
 abbrev pub most_free : ℕ
-most_free = 4294965297
+most_free = 4294965295

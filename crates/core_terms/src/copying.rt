@@ -1,9 +1,8 @@
-ghost use Rattle.std.specs.Prelude.{◌≤◌};
 ghost use Rattle.core_terms.specs.Answers.{Gives, bounded};
-ghost use Rattle.core_terms.specs.Meanings.{tree_of};
-ghost use Rattle.theory.specs.Terms as tree;
+ghost use Rattle.core_terms.specs.Meanings.{tree_of, tele_of};
+ghost use Rattle.core_terms.specs.PatternMeanings.{pat_of};
 
-use crate::{MAX_HEIGHT, Stop, Term};
+use crate::{Items, MAX_HEIGHT, Pat, Stop, Tele, Term};
 use std::alloc::Global;
 
 /// The same term in memory of its own, or Deep.
@@ -35,9 +34,9 @@ pub(crate) fn copy_whole(alloc: Global, t: &Term) -> Result<Term, Stop>
             Box::new(alloc, copy_whole(alloc, f)?)?,
             Box::new(alloc, copy_whole(alloc, a)?)?,
         ),
-        Term::Let(a, t, b) => Term::Let(
+        Term::Let(a, v, b) => Term::Let(
             Box::new(alloc, copy_whole(alloc, a)?)?,
-            Box::new(alloc, copy_whole(alloc, t)?)?,
+            Box::new(alloc, copy_whole(alloc, v)?)?,
             Box::new(alloc, copy_whole(alloc, b)?)?,
         ),
         Term::Const(c) => Term::Const(*c),
@@ -45,5 +44,35 @@ pub(crate) fn copy_whole(alloc: Global, t: &Term) -> Result<Term, Stop>
         Term::Con(f, c) => Term::Con(*f, *c),
         Term::Elim(f, m) => Term::Elim(*f, *m),
         Term::AxiomK(i, m) => Term::AxiomK(*i, *m),
+    })
+}
+
+/// The same list of terms in memory of its own.
+pub fn copy_tele(alloc: Global, terms: &[Term]) -> Result<Tele, Stop>
+    ensures { Gives tele_of result (Ok (tele_of terms.now)) }
+{
+    let mut copies = Items::new(alloc);
+    for t in terms {
+        copies.push(copy_whole(alloc, t)?)?;
+    }
+    Ok(copies)
+}
+
+/// The same pattern in memory of its own.
+pub fn copy_pat(alloc: Global, pat: &Pat) -> Result<Pat, Stop>
+    ensures { Gives pat_of result (Ok (pat_of pat.now)) }
+{
+    Ok(match pat {
+        Pat::Bind => Pat::Bind,
+        Pat::Wild => Pat::Wild,
+        Pat::Dot(t) => Pat::Dot(copy_whole(alloc, t)?),
+        Pat::Con(f, c, args) => {
+            let mut copies = Items::new(alloc);
+            for arg in args.as_slice() {
+                copies.push(copy_pat(alloc, arg)?)?;
+            }
+            Pat::Con(*f, *c, copies)
+        }
+        Pat::Absurd => Pat::Absurd,
     })
 }

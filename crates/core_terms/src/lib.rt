@@ -1,20 +1,26 @@
 //! The types that every crate shares, terms first, and the calls on them.
 #![tactic(auto)]
 
+mod case_tree;
 mod copying;
 mod items;
 mod lifting;
 mod name;
+mod pattern;
 mod stop;
+mod substitution;
 mod term;
 mod units;
 mod verdict;
 
-pub use copying::copy;
+pub use case_tree::{Branch, Origin, Rule, Step, Tree, Walk};
+pub use copying::{copy, copy_pat, copy_tele};
 pub use items::Items;
 pub use lifting::lift;
 pub use name::Name;
+pub use pattern::{Clause, Pat, Right};
 pub use stop::Stop;
+pub use substitution::subst;
 pub use term::{MAX_HEIGHT, TOP, Tele, Term};
 pub use units::Units;
 pub use verdict::{Denial, Place, Reason, Verdict};

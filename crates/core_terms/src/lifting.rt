@@ -4,11 +4,12 @@ ghost use Rattle.core_terms.specs.Bounds.{most_free};
 ghost use Rattle.core_terms.specs.Meanings.{tree_of};
 ghost use Rattle.theory.specs.Terms as tree;
 
+use crate::copying::copy_whole;
 use crate::{MAX_HEIGHT, Stop, Term};
 use std::alloc::Global;
 
 /// Adds `by` to every variable numbered `from` or more, or answers Deep.
-#[tactic(auto, using(crate::proofs::Heights::height_lift))]
+#[tactic(auto, using(crate::proofs::Lifts::height_lift))]
 pub fn lift(alloc: Global, t: &Term, by: u32, from: u32) -> Result<Term, Stop>
     requires { tree.free_of (tree_of t.now) + by ≤ most_free }
     ensures { Gives tree_of result (bounded (tree.lift (tree_of t.now) by from)) }
@@ -21,13 +22,12 @@ pub fn lift(alloc: Global, t: &Term, by: u32, from: u32) -> Result<Term, Stop>
 
 /// Lifts a term of any height.
 pub(crate) fn lift_whole(alloc: Global, t: &Term, by: u32, from: u64) -> Result<Term, Stop>
-    requires indices { tree.free_of (tree_of t.now) + tree.height (tree_of t.now) + by ≤ 2 ^ 32 + 1 }
+    requires indices { tree.free_of (tree_of t.now) + tree.height (tree_of t.now) + by < 2 ^ 32 }
     requires binders { from + tree.height (tree_of t.now) < 2 ^ 64 }
     ensures { Gives tree_of result (Ok (tree.lift (tree_of t.now) by from)) }
 {
     Ok(match t {
         Term::Var(n) => Term::Var(lift_variable(*n, by, from)),
-        Term::Sort(i) => Term::Sort(*i),
         Term::Pi(a, b) => Term::Pi(
             Box::new(alloc, lift_whole(alloc, a, by, from)?)?,
             Box::new(alloc, lift_whole(alloc, b, by, from + 1)?)?,
@@ -40,16 +40,17 @@ pub(crate) fn lift_whole(alloc: Global, t: &Term, by: u32, from: u64) -> Result<
             Box::new(alloc, lift_whole(alloc, f, by, from)?)?,
             Box::new(alloc, lift_whole(alloc, a, by, from)?)?,
         ),
-        Term::Let(a, t, b) => Term::Let(
+        Term::Let(a, v, b) => Term::Let(
             Box::new(alloc, lift_whole(alloc, a, by, from)?)?,
-            Box::new(alloc, lift_whole(alloc, t, by, from)?)?,
+            Box::new(alloc, lift_whole(alloc, v, by, from)?)?,
             Box::new(alloc, lift_whole(alloc, b, by, from + 1)?)?,
         ),
-        Term::Const(c) => Term::Const(*c),
-        Term::Fam(f) => Term::Fam(*f),
-        Term::Con(f, c) => Term::Con(*f, *c),
-        Term::Elim(f, m) => Term::Elim(*f, *m),
-        Term::AxiomK(i, m) => Term::AxiomK(*i, *m),
+        Term::Sort(_)
+        | Term::Const(_)
+        | Term::Fam(_)
+        | Term::Con(_, _)
+        | Term::Elim(_, _)
+        | Term::AxiomK(_, _) => copy_whole(alloc, t)?,
     })
 }
 

@@ -1,14 +1,22 @@
+mod Examples
 pub mod AllOf
 pub mod Bounds
 pub mod Commuting
 pub mod Congruence
 pub mod FreeInstances
 pub mod FreeVariables
+pub mod Generation
 pub mod HeightInstances
 pub mod Heights
 pub mod Instances
 pub mod Instantiation
+pub mod Lists
+pub mod PreludeFamilies
+pub mod PreludeNames
+pub mod PreludeWellFormed
+pub mod Pushing
 pub mod RecordScopes
+pub mod Renaming
 pub mod ScopedTypes
 pub mod Scopes
 pub mod Scoping
@@ -18,4 +26,9 @@ pub mod SortLevels
 pub mod Stability
 pub mod StepScopes
 pub mod StepSorts
+pub mod Substituting
 pub mod TermSorts
+pub mod Validity
+pub mod Weakening
+pub mod WellFormedness
+pub mod Widening

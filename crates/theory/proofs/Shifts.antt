@@ -31,7 +31,8 @@ subst_var-above n at u h = grind (arith, nat_tests)
 pub lift_var-tells : (n by from : ℕ) → ((n < from) × (lift_var n by from ≡ n)) ⊎ ((from ≤ n) × (lift_var n by from ≡ n + by))
 lift_var-tells n by from = grind (arith, nat_tests)
 
-up-shift : (by from n : ℕ) → up (λ m. lift_var m by from) n ≡ lift_var n by (from + 1)
+-- a lift under a binder
+pub up-shift : (by from n : ℕ) → up (λ m. lift_var m by from) n ≡ lift_var n by (from + 1)
 up-shift by from zero = grind (arith, nat_tests)
 up-shift by from (suc n) = grind (arith, nat_tests)
 

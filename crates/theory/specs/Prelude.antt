@@ -1,5 +1,6 @@
 -- The prelude: the families Empty, then Eq.i, then Unit.i, then Pair.i, each for the levels i from 0 to top - 1.
-use Rattle.std.specs.Prelude.{ℕ, zero, suc, ◌+◌, ◌/◌, ◌%◌, nat_lt, cond, Bool, List, [], ◌∷◌, ◌++◌, map, codes}
+use Rattle.std.specs.Prelude.{ℕ, ◌+◌, ◌*◌, ◌/◌, ◌%◌, nat_lt, cond, Bool, List, [], ◌∷◌, ◌++◌, map, codes}
+use Rattle.std.specs.List.{range_with_len}
 use Rattle.theory.specs.Terms.{Var, Sort, top}
 use Rattle.theory.specs.Families.{Family, Plain}
 use Rattle.theory.specs.Signatures.{Entry, FamilyOf, Signature}
@@ -42,14 +43,19 @@ pair_family i = record {
       record { name = codes "pair." ++ level_text i; arguments = Plain (Var 1) i ∷ Plain (Var 1) i ∷ []; targets = [] } ∷ [];
 }
 
--- from, from + 1, .., n numbers
-abbrev pub counting : ℕ → ℕ → List ℕ
-counting from zero = []
-counting from (suc n) = from ∷ counting (suc from) n
-
 -- one entry for each level from 0 to top - 1
 abbrev pub at_levels : (ℕ → Family) → List Entry
-at_levels family = map (λ i. FamilyOf (family i)) (counting 0 top)
+at_levels family = map (λ i. FamilyOf (family i)) (range_with_len 0 top)
+
+-- the entry numbers of the families Empty, Unit.i and Pair.i; that of Eq.i is `equality i`
+abbrev pub empty_type : ℕ
+empty_type = 0
+
+abbrev pub unit_type : ℕ → ℕ
+unit_type i = top + 1 + i
+
+abbrev pub pair_type : ℕ → ℕ
+pair_type i = 2 * top + 1 + i
 
 abbrev pub prelude : Bool → Signature
 prelude k = record {

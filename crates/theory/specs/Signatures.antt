@@ -1,5 +1,5 @@
 -- Signatures: the entries that a term may name by their numbers, in order, and whether axiom K is on.
-use Rattle.std.specs.Prelude.{Some, ℕ, suc, Bool, List, [], ◌∷◌, map, flat_map, slice_get, ◌≡◌}
+use Rattle.std.specs.Prelude.{Some, ℕ, suc, Bool, List, [], ◌∷◌, ◌++◌, map, flat_map, slice_get, ◌≡◌}
 use Rattle.theory.specs.Terms.{Term, Var, Sort, Pi, App, Const, Fam, Con, Elim, AxiomK, IsClosed}
 use Rattle.theory.specs.Families.{Family, Constructor, family_type, constructor_type}
 use Rattle.theory.specs.Eliminators.{eliminator_type}
@@ -20,6 +20,12 @@ pub record Signature : Type 0 where
 -- entry n is e
 abbrev pub IsEntryAt : Signature → ℕ → Entry → Type 0
 IsEntryAt S n e = slice_get S.entries n ≡ Some e
+
+-- T has the entries of S first, and K where S has it
+pub record IsPrefix (S T : Signature) : Type 0 where
+  pub more : List Entry
+  pub entries : T.entries ≡ S.entries ++ more
+  pub has_k : T.has_k ≡ S.has_k
 
 -- no body has a free variable
 abbrev pub HasClosedBodies : Signature → Type 0

@@ -1,6 +1,6 @@
 -- Telescopes: lists of types, each over the variables of those before it.
-use Rattle.std.specs.Prelude.{ℕ, zero, suc, ◌+◌, List, [], ◌∷◌}
-use Rattle.theory.specs.Terms.{Term, Var, Pi, Lam, App}
+use Rattle.std.specs.Prelude.{ℕ, zero, suc, ◌+◌, List, [], ◌∷◌, length}
+use Rattle.theory.specs.Terms.{Term, Var, Pi, Lam, App, lift}
 use Rattle.theory.specs.Substitutions.{weaken, ups, ren, inst}
 
 -- a context lists the types of its variables from the nearest one on, each over the variables behind it
@@ -14,6 +14,11 @@ Telescope = List Term
 abbrev pub context_behind : Context → Telescope → Context
 context_behind G [] = G
 context_behind G (a ∷ tele) = context_behind (a ∷ G) tele
+
+-- the nearest types of a context where `by` types are put in behind them
+abbrev pub lift_context : Context → ℕ → Context
+lift_context [] by = []
+lift_context (a ∷ near) by = lift a by (length near) ∷ lift_context near by
 
 -- (tele) -> body
 abbrev pub products : Telescope → Term → Term

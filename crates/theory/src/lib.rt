@@ -4,6 +4,7 @@
 
 pub mod conversion_laws;
 pub mod instance_laws;
+pub mod prelude_laws;
 pub mod scope_laws;
 pub mod sort_laws;
 pub mod term_laws;

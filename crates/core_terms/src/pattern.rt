@@ -1,0 +1,37 @@
+use crate::{Items, Term};
+
+/// A pattern of a clause.
+///
+/// `Bind` is a variable and `Wild` the pattern `_`. `Dot` is a forced term, written behind a dot, and `Absurd` the
+/// pattern `( )`. `Con(f, c, args)` is constructor `c` of the family with entry number `f`, whose arguments stand
+/// without the parameters.
+#[derive(Debug, Drop)]
+pub enum Pat {
+    Bind,
+    Wild,
+    Dot(Term),
+    Con(u32, u32, Items<Pat>),
+    Absurd,
+}
+
+/// What a clause says: a right side, a `with` of a scrutinee and clauses that have one pattern more, or nothing, where
+/// one of the patterns is absurd.
+#[cycle(clauses)]
+#[derive(Debug, Drop)]
+pub enum Right {
+    Side(Term),
+    With(Term, Items<Clause>),
+    Absurd,
+}
+
+/// A clause of a function.
+///
+/// Its terms are over `binds` variables, numbered by their order in the text, the last being variable 0. Dots and
+/// wildcards bind none.
+#[cycle(clauses)]
+#[derive(Debug, Drop)]
+pub struct Clause {
+    pub pats: Items<Pat>,
+    pub binds: u32,
+    pub right: Right,
+}

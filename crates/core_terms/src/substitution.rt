@@ -1,0 +1,93 @@
+ghost use Rattle.std.specs.Prelude.{◌≡◌, ◌≤◌, ◌<◌, ◌+◌, ◌^◌, min};
+ghost use Rattle.core_terms.specs.Answers.{Gives, bounded};
+ghost use Rattle.core_terms.specs.Bounds.{most_free};
+ghost use Rattle.core_terms.specs.Meanings.{tree_of};
+ghost use Rattle.core_terms.specs.Substitution.{subst_under, height_with};
+ghost use Rattle.theory.specs.Terms as tree;
+
+use crate::copying::copy_whole;
+use crate::lifting::lift_whole;
+use crate::term::above;
+use crate::{MAX_HEIGHT, Stop, Term};
+use std::alloc::Global;
+
+/// Puts `by` for variable `at` and lowers greater variables by one, or answers Deep.
+#[tactic(auto, using(crate::proofs::SubstUnder::subst_under_none, crate::proofs::SubstUnder::height_subst, crate::proofs::SubstUnder::height_with_least, crate::proofs::SubstUnder::height_subst_least))]
+pub fn subst(alloc: Global, t: &Term, at: u32, by: &Term) -> Result<Term, Stop>
+    requires { tree.free_of (tree_of by.now) ≤ most_free }
+    ensures { Gives tree_of result (bounded (tree.subst (tree_of t.now) at (tree_of by.now))) }
+{
+    if t.height() > MAX_HEIGHT || substituted_height(t, at as u64, by.height()) > MAX_HEIGHT {
+        return Err(Stop::Deep);
+    }
+    subst_whole(alloc, t, at as u64, by, 0)
+}
+
+/// The height that `t` has once a term of height `put` stands for variable `at`, or `MAX_HEIGHT + 1` where it is greater.
+fn substituted_height(t: &Term, at: u64, put: u32) -> u32
+    requires height { put ≤ 2001 }
+    requires binders { at + tree.height (tree_of t.now) < 2 ^ 64 }
+    ensures { result ≡ min (height_with (tree_of t.now) at put) 2001 }
+{
+    match t {
+        Term::Var(n) if *n as u64 == at => put,
+        Term::Pi(a, b) | Term::Lam(a, b) => {
+            above(substituted_height(a, at, put).max(substituted_height(b, at + 1, put)))
+        }
+        Term::App(f, a) => above(substituted_height(f, at, put).max(substituted_height(
+            a, at, put,
+        ))),
+        Term::Let(a, v, b) => {
+            let parts = substituted_height(v, at, put).max(substituted_height(b, at + 1, put));
+            above(substituted_height(a, at, put).max(parts))
+        }
+        _ => 1,
+    }
+}
+
+/// Puts `by`, lifted by `under`, for variable `at` in a term of any height.
+fn subst_whole(alloc: Global, t: &Term, at: u64, by: &Term, under: u32) -> Result<Term, Stop>
+    requires indices { tree.free_of (tree_of by.now) + under + height_with (tree_of t.now) at (tree.height (tree_of by.now)) < 2 ^ 32 }
+    requires binders { at + tree.height (tree_of t.now) < 2 ^ 64 }
+    ensures { Gives tree_of result (Ok (subst_under (tree_of t.now) at (tree_of by.now) under)) }
+{
+    Ok(match t {
+        Term::Var(n) => return subst_variable(alloc, *n, at, by, under),
+        Term::Pi(a, b) => Term::Pi(
+            Box::new(alloc, subst_whole(alloc, a, at, by, under)?)?,
+            Box::new(alloc, subst_whole(alloc, b, at + 1, by, under + 1)?)?,
+        ),
+        Term::Lam(a, b) => Term::Lam(
+            Box::new(alloc, subst_whole(alloc, a, at, by, under)?)?,
+            Box::new(alloc, subst_whole(alloc, b, at + 1, by, under + 1)?)?,
+        ),
+        Term::App(f, a) => Term::App(
+            Box::new(alloc, subst_whole(alloc, f, at, by, under)?)?,
+            Box::new(alloc, subst_whole(alloc, a, at, by, under)?)?,
+        ),
+        Term::Let(a, v, b) => Term::Let(
+            Box::new(alloc, subst_whole(alloc, a, at, by, under)?)?,
+            Box::new(alloc, subst_whole(alloc, v, at, by, under)?)?,
+            Box::new(alloc, subst_whole(alloc, b, at + 1, by, under + 1)?)?,
+        ),
+        Term::Sort(_)
+        | Term::Const(_)
+        | Term::Fam(_)
+        | Term::Con(_, _)
+        | Term::Elim(_, _)
+        | Term::AxiomK(_, _) => copy_whole(alloc, t)?,
+    })
+}
+
+fn subst_variable(alloc: Global, n: u32, at: u64, by: &Term, under: u32) -> Result<Term, Stop>
+    requires { tree.free_of (tree_of by.now) + under + height_with (tree.Var n) at (tree.height (tree_of by.now)) < 2 ^ 32 }
+    ensures { Gives tree_of result (Ok (tree.subst_var n at (tree.lift (tree_of by.now) under 0))) }
+{
+    if (n as u64) < at {
+        Ok(Term::Var(n))
+    } else if n as u64 == at {
+        lift_whole(alloc, by, under, 0)
+    } else {
+        Ok(Term::Var(n - 1))
+    }
+}

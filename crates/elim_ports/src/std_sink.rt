@@ -1,0 +1,60 @@
+ghost use Rattle.std.specs.Prelude.{◌≡◌, ◌+◌, ◌-◌, ◌^◌, ◌<◌, min, length, IfOk, Err, OnOk, OnErr, IsOkUnless, None, ◌≤◌};
+ghost use Rattle.std.specs.Io.{WritesAtMost};
+ghost use Rattle.std.specs.Io.KnownBytes.{WriteAppends};
+ghost use Rattle.core_terms.specs.Count.{Rose};
+
+use crate::{PortError, Sink};
+use std::io::Write;
+use std::marker::Model;
+
+/// A sink over a writer of the standard library. It tells nothing of the bytes.
+#[derive(Debug, Drop)]
+pub struct StdSink<W> {
+    writer: W,
+    faults: u64,
+}
+
+impl<W> Model for StdSink<W> {
+    ghost use Rattle.std.specs.Prelude.{ℕ, ◌^◌, ◌<◌};
+
+    ghost Value = { ℕ };
+
+    ghost view = { λ s. s.faults };
+
+    ghost invariant = { λ s. s.faults < 2 ^ 64 };
+}
+
+impl<W: Write + Drop> StdSink<W> {
+    pub fn new(writer: W) -> StdSink<W>
+        ensures { result ≡ 0 }
+    {
+        StdSink { writer, faults: 0 }
+    }
+}
+
+impl<W: Write + Drop> Sink for StdSink<W> {
+    ghost written = { λ _. None };
+
+    ghost faults = { λ count. count };
+
+    fn write(&mut self, from: &[u8]) -> Result<usize, PortError>
+        ensures bound { WritesAtMost result from.now }
+        ensures bytes { WriteAppends None None result from.now }
+        ensures some { 0 < length from.now → IfOk result (λ n. 0 < n) }
+        ensures fault { result ≡ Err PortError.Fault → Rose self.old self.new }
+        ensures never_falls { self.old ≤ self.new }
+
+        // The count is raised at each error of the writer and at each piece not taken, and no memory is taken.
+        ensures ok { OnOk result (self.new ≡ self.old) }
+        ensures err { OnErr result (self.new ≡ min (self.old + 1) (2 ^ 64 - 1)) }
+        ensures no_memory { IsOkUnless result PortError.Fault }
+    {
+        match self.writer.write(from) {
+            Ok(n) if n > 0 || from.is_empty() => Ok(n),
+            _ => {
+                self.faults = self.faults.saturating_add(1);
+                Err(PortError::Fault)
+            }
+        }
+    }
+}

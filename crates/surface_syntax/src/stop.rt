@@ -1,0 +1,43 @@
+ghost use Rattle.surface_syntax.specs.declared.stop.SyntaxStop.TheVariants.{Memory};
+
+use std::alloc::{AllocError, AllocFailed};
+use thiserror::Error;
+
+/// Why a text has no tokens or no declarations; each offset is one in bytes.
+///
+/// `Memory` is want of memory. `NotUtf8` has the first byte that begins no character, `BadToken` the first byte of what
+/// is no token, `Syntax` the first token with which no text of the language continues, or the length of the text, and
+/// `Nested` the first token of a term, pattern or clause that stands inside 2,000 others.
+#[derive(Clone, Copy, Debug, PartialEq, Eq, Error)]
+pub enum SyntaxStop {
+    #[error("Memory")]
+    Memory,
+    #[error("NotUtf8")]
+    NotUtf8(u32),
+    #[error("BadToken")]
+    BadToken(u32),
+    #[error("Nested")]
+    Nested(u32),
+    #[error("Syntax")]
+    Syntax(u32),
+}
+
+impl From<AllocError> for SyntaxStop {
+    ghost use Rattle.std.specs.Prelude.{◌≡◌};
+
+    ghost from_gives = { λ _ e. e ≡ Memory };
+
+    fn from(_error: AllocError) -> SyntaxStop {
+        SyntaxStop::Memory
+    }
+}
+
+impl<T: Drop> From<AllocFailed<T>> for SyntaxStop {
+    ghost use Rattle.std.specs.Prelude.{◌≡◌};
+
+    ghost from_gives = { λ _ e. e ≡ Memory };
+
+    fn from(_failed: AllocFailed<T>) -> SyntaxStop {
+        SyntaxStop::Memory
+    }
+}

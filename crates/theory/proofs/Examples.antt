@@ -1,0 +1,6 @@
+mod Families
+mod Positivity
+mod Reduction
+mod Sample
+mod Terms
+

@@ -1,0 +1,61 @@
+-- Validity: every derived type is a sort or has one.
+use Rattle.std.proofs.Common.{◌≡◌, ℕ, zero, suc, ◌+◌, Some, [], ◌∷◌, slice_get, subst as transport, sym, ap, ◌∙◌}
+use Rattle.std.proofs.lemmas.Option.{none-some}
+use Rattle.theory.specs.Terms.{Term, lift, IsClosed}
+use Rattle.theory.specs.Terms.Term.{Sort, Pi}
+use Rattle.theory.specs.Substitutions.{ren, weaken}
+use Rattle.theory.specs.Telescopes.{Context}
+use Rattle.theory.specs.Signatures.{Signature}
+use Rattle.theory.specs.Typing.{IsContext, Has, HasSort, IsType}
+use Rattle.theory.specs.Typing.IsContext.{empty, bind}
+use Rattle.theory.specs.Typing.IsType.{is_sort, has_sort}
+use Rattle.theory.specs.Typing.Has.{variable, sort, product, function, application, local, symbol, below, below_sort}
+use Rattle.theory.specs.WellFormed.{IsTyped}
+use Rattle.theory.specs.TypingLaws.{Validity}
+use Rattle.theory.proofs.Generation.{parts}
+use Rattle.theory.proofs.Renaming.{ren-closed}
+use Rattle.theory.proofs.Scoping.{some_is, context_of, symbol_type_closed}
+use Rattle.theory.proofs.Shifts.{lift-one}
+use Rattle.theory.proofs.Substituting.{substitution}
+use Rattle.theory.proofs.Weakening.{has-ren, lift-next, renames-suc}
+
+-- the type of a variable has a sort in the whole context
+pub variable_sort : {S : Signature} {G : Context} → IsTyped S → (n : ℕ) (a : Term) → IsContext S G → slice_get G n ≡ Some a → HasSort S G (lift a (n + 1) 0)
+variable_sort typed n a empty at = absurd (none-some a at)
+variable_sort {S} typed zero a (bind {G = G} {a = b} i context db) at =
+    (i, transport (λ x. Has S (b ∷ G) x (Sort i)) (sym (lift-one b) ∙ ap (λ x. lift x 1 0) (some_is at))
+    (has-ren typed db suc (b ∷ G) (renames-suc b G) (bind i context db)))
+variable_sort {S} typed (suc n) a (bind {G = G} {a = b} i context db) at =
+    let (j, d) = variable_sort typed n a context at in
+    (j, transport (λ x. Has S (b ∷ G) x (Sort j)) (sym (lift-next a n))
+    (has-ren typed d suc (b ∷ G) (renames-suc b G) (bind i context db)))
+
+-- what a closed term has in the empty context, it has in every context
+pub has-anywhere : {S : Signature} {G : Context} {t : Term} → IsTyped S → IsClosed t → (i : ℕ) → IsContext S G → Has S [] t (Sort i) → Has S G t (Sort i)
+has-anywhere {S} {G} {t} typed closed i context d =
+    transport (λ x. Has S G x (Sort i)) (ren-closed (λ n. n) t closed)
+    (has-ren typed d (λ n. n) G (λ n a at. absurd (none-some a at)) context)
+
+-- a product is no sort, so it has one where it is a type
+pub product_sort : {S : Signature} {G : Context} {a b : Term} → IsType S G (Pi a b) → HasSort S G (Pi a b)
+product_sort (has_sort i d) = (i, d)
+
+-- every derived type is a sort or has one
+pub valid : {S : Signature} → IsTyped S → {G : Context} {t a : Term} → Has S G t a → IsType S G a
+valid typed (variable {a = a} n context at) = let (i, d) = variable_sort typed n a context at in has_sort i d
+valid typed (sort i context limit) = is_sort _
+valid typed (product i j da db) = is_sort _
+valid typed (function i j da db dc) = has_sort _ (product i j da dc)
+valid {S} typed (application {G = G} {u = u} {a = a} {b = b} df du) =
+    let (i, d) = product_sort (valid typed df) in
+    let p = parts d in
+    has_sort p.codomain_level (substitution S G b u a (Sort p.codomain_level) typed p.codomain du)
+valid typed (local i da dt db) = valid typed db
+valid typed (symbol context type) =
+    let (i, d) = typed.types type in has_sort i (has-anywhere typed (symbol_type_closed typed type) i context d)
+valid typed (below i dt le db) = has_sort i db
+valid typed (below_sort i dt le) = is_sort i
+
+-- validity
+pub validity : Validity
+validity S G t a typed d = valid typed d
