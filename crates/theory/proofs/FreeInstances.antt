@@ -47,7 +47,8 @@ pub free_of-weaken_by : (k : ℕ) (t : Term) (n : ℕ) → free_of t ≤ n → f
 free_of-weaken_by k t n h = free_of-ren (λ i. i + k) t n (n + k) h (λ i lt. omega arith)
 
 -- an instantiation under a binder
-pub free_of-ups : (s : ℕ → Term) (k n : ℕ) → ((i : ℕ) → i < k → free_of (s i) ≤ n) → (i : ℕ) → i < k + 1 → free_of (ups s i) ≤ n + 1
+pub free_of-ups : (s : ℕ → Term) (k n : ℕ) → ((i : ℕ) → i < k → free_of (s i) ≤ n) → (i : ℕ) → i < k + 1
+    → free_of (ups s i) ≤ n + 1
 free_of-ups s k n each zero lt = omega arith
 free_of-ups s k n each (suc i) lt = free_of-weaken (s i) n (each i (omega arith))
 
@@ -78,12 +79,14 @@ free_of-inst s (Let a t b) k n h each =
 free_of-inst s _ k n h each = omega arith
 
 -- one term more
-pub free_of-extend : (s : ℕ → Term) (u : Term) (k n : ℕ) → ((i : ℕ) → i < k → free_of (s i) ≤ n) → free_of u ≤ n → (i : ℕ) → i < k + 1 → free_of (extend s u i) ≤ n
+pub free_of-extend : (s : ℕ → Term) (u : Term) (k n : ℕ) → ((i : ℕ) → i < k → free_of (s i) ≤ n) → free_of u ≤ n → (i : ℕ)
+    → i < k + 1 → free_of (extend s u i) ≤ n
 free_of-extend s u k n each h zero lt = h
 free_of-extend s u k n each h (suc i) lt = each i (omega arith)
 
 -- the terms of a list more
-pub free_of-fill : (s : ℕ → Term) (us : List Term) (k n : ℕ) → ((i : ℕ) → i < k → free_of (s i) ≤ n) → All (λ u. free_of u ≤ n) us → (i : ℕ) → i < k + length us → free_of (fill s us i) ≤ n
+pub free_of-fill : (s : ℕ → Term) (us : List Term) (k n : ℕ) → ((i : ℕ) → i < k → free_of (s i) ≤ n)
+    → All (λ u. free_of u ≤ n) us → (i : ℕ) → i < k + length us → free_of (fill s us i) ≤ n
 free_of-fill s [] k n each all i lt = each i (omega arith)
 free_of-fill s (u ∷ us) k n each all i lt =
     free_of-fill (extend s u) us (k + 1) n
@@ -91,7 +94,8 @@ free_of-fill s (u ∷ us) k n each all i lt =
     (omega arith)
 
 -- the terms of a list, instantiated
-pub free_of-map_inst : (s : ℕ → Term) (ts : List Term) (k n : ℕ) → ((i : ℕ) → i < k → free_of (s i) ≤ n) → All (λ t. free_of t ≤ k) ts → All (λ t. free_of t ≤ n) (map (inst s) ts)
+pub free_of-map_inst : (s : ℕ → Term) (ts : List Term) (k n : ℕ) → ((i : ℕ) → i < k → free_of (s i) ≤ n)
+    → All (λ t. free_of t ≤ k) ts → All (λ t. free_of t ≤ n) (map (inst s) ts)
 free_of-map_inst s [] k n each all = All-nil (λ t. free_of t ≤ n)
 free_of-map_inst s (t ∷ ts) k n each all =
     All-cons (λ x. free_of x ≤ n) (inst s t) (map (inst s) ts)

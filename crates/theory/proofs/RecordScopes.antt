@@ -53,13 +53,15 @@ free_before_inst s (Let a t b) k n each h =
     )
 free_before_inst s _ k n each h = omega arith
 
-map_inst-scoped : (s : ℕ → Term) (ts : List Term) (k n : ℕ) → Reflects s k n → All (Scoped n) (map (inst s) ts) → All (Scoped k) ts
+map_inst-scoped : (s : ℕ → Term) (ts : List Term) (k n : ℕ) → Reflects s k n → All (Scoped n) (map (inst s) ts)
+    → All (Scoped k) ts
 map_inst-scoped s [] k n each h = All-nil (Scoped k)
 map_inst-scoped s (t ∷ ts) k n each h =
     All-cons (Scoped k) t ts (free_before_inst s t k n each (All-head (Scoped n) (inst s t) (map (inst s) ts) h))
     (map_inst-scoped s ts k n each (All-tail (Scoped n) (inst s t) (map (inst s) ts) h))
 
-recursive-scoped : (s : ℕ → Term) (head : Term) (inner : Telescope) (targets : List Term) (k n : ℕ) → Reflects s k n → free_of (recursive_type s head inner targets) ≤ n → IsScopedTelescope k inner × All (Scoped (k + length inner)) targets
+recursive-scoped : (s : ℕ → Term) (head : Term) (inner : Telescope) (targets : List Term) (k n : ℕ) → Reflects s k n
+    → free_of (recursive_type s head inner targets) ≤ n → IsScopedTelescope k inner × All (Scoped (k + length inner)) targets
 recursive-scoped s head [] targets k n each h = (
   tt,
   scoped-raised targets k (k + 0) (omega arith)
@@ -71,11 +73,13 @@ recursive-scoped s head (a ∷ inner) targets k n each h =
       scoped-raised targets ((k + 1) + length inner) (k + suc (length inner)) (omega arith) rest.1,
     )
 
-argument-scoped : (s : ℕ → Term) (head : Term) (a : Argument) (k n : ℕ) → Reflects s k n → free_of (argument_type s head a) ≤ n → IsScopedArgument k a
+argument-scoped : (s : ℕ → Term) (head : Term) (a : Argument) (k n : ℕ) → Reflects s k n
+    → free_of (argument_type s head a) ≤ n → IsScopedArgument k a
 argument-scoped s head (Plain type level) k n each h = free_before_inst s type k n each h
 argument-scoped s head (Recursive inner targets level) k n each h = recursive-scoped s head inner targets k n each h
 
-arguments-scoped : (s : ℕ → Term) (head : Term) (arguments : List Argument) (k n : ℕ) → Reflects s k n → IsScopedTelescope n (argument_types s head arguments) → IsScopedArguments k arguments
+arguments-scoped : (s : ℕ → Term) (head : Term) (arguments : List Argument) (k n : ℕ) → Reflects s k n
+    → IsScopedTelescope n (argument_types s head arguments) → IsScopedArguments k arguments
 arguments-scoped s head [] k n each h = tt
 arguments-scoped s head (a ∷ arguments) k n each h = (
   argument-scoped s head a k n each h.0,
@@ -83,7 +87,8 @@ arguments-scoped s head (a ∷ arguments) k n each h = (
 )
 
 -- a constructor whose type is closed
-constructor-scoped : (number : ℕ) (f : Family) (c : Constructor) → free_of (constructor_type number f c) ≤ 0 → IsScopedConstructor (length f.parameters) c
+constructor-scoped : (number : ℕ) (f : Family) (c : Constructor) → free_of (constructor_type number f c) ≤ 0
+    → IsScopedConstructor (length f.parameters) c
 constructor-scoped number f c h =
     let p = length f.parameters in
     let head = family_head number f in

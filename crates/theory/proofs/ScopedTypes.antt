@@ -21,11 +21,13 @@ length-variables (suc k) = ap suc (length-variables k)
 scoped-variables : (k : ℕ) → All (Scoped k) (variables k)
 scoped-variables k = free_of-variables k k (omega arith)
 
-scoped-head : (number : ℕ) (f : Family) → free_of (family_head number f) ≤ length f.parameters
+-- a family at its parameters
+pub scoped-head : (number : ℕ) (f : Family) → free_of (family_head number f) ≤ length f.parameters
 scoped-head number f = scoped-applied (Fam number) _ (length f.parameters) (omega arith) (scoped-variables (length f.parameters))
 
 -- products over parameters are closed
-closed-products : (tele : Telescope) (body : Term) → IsScopedTelescope 0 tele → free_of body ≤ length tele → IsClosed (products tele body)
+closed-products : (tele : Telescope) (body : Term) → IsScopedTelescope 0 tele → free_of body ≤ length tele
+    → IsClosed (products tele body)
 closed-products tele body st sb = omega (arith, scoped-products tele body 0 st (omega arith))
 
 -- the type of a scoped family
@@ -52,7 +54,9 @@ constructor_type_closed number f c sp sc =
 pub axiom_k_type_closed : AxiomKTypeClosed
 axiom_k_type_closed i m = refl
 
-scoped-motive : (number : ℕ) (f : Family) (m : ℕ) → IsScopedFamily f → free_of (motive_type number f m) ≤ length f.parameters
+-- the type of a motive
+pub scoped-motive : (number : ℕ) (f : Family) (m : ℕ) → IsScopedFamily f
+    → free_of (motive_type number f m) ≤ length f.parameters
 scoped-motive number f m scoped =
     let k = length f.indices in
     let p = length f.parameters in
@@ -61,7 +65,10 @@ scoped-motive number f m scoped =
     (free_of-variables k (p + k) (omega arith)) in
     scoped-products (index_types f) _ p scoped.indices (omega (arith, head, length-map f.indices (λ i. i.0)))
 
-scoped-hypothesis : (s : ℕ → Term) (P r : Term) (inner : Telescope) (targets : List Term) (k n : ℕ) → Places s k n → free_of P ≤ n → free_of r ≤ n → IsScopedTelescope k inner → All (Scoped (k + length inner)) targets → free_of (hypothesis_type s P r inner targets) ≤ n
+-- the type of a hypothesis
+pub scoped-hypothesis : (s : ℕ → Term) (P r : Term) (inner : Telescope) (targets : List Term) (k n : ℕ) → Places s k n
+    → free_of P ≤ n → free_of r ≤ n → IsScopedTelescope k inner → All (Scoped (k + length inner)) targets
+    → free_of (hypothesis_type s P r inner targets) ≤ n
 scoped-hypothesis s P r [] targets k n each hp hr si st =
     omega (
       arith,
@@ -78,7 +85,9 @@ scoped-hypothesis s P r (a ∷ inner) targets k n each hp hr si st =
           (scoped-raised targets (k + suc (length inner)) ((k + 1) + length inner) (omega arith) st),
     )
 
-scoped-hypotheses : (s : ℕ → Term) (P : Term) (arguments : List Argument) (us : List Term) (k n : ℕ) → Places s k n → free_of P ≤ n → IsScopedArguments k arguments → All (Scoped n) us → All (Scoped n) (hypothesis_types s P arguments us)
+-- the types of the hypotheses
+pub scoped-hypotheses : (s : ℕ → Term) (P : Term) (arguments : List Argument) (us : List Term) (k n : ℕ) → Places s k n
+    → free_of P ≤ n → IsScopedArguments k arguments → All (Scoped n) us → All (Scoped n) (hypothesis_types s P arguments us)
 scoped-hypotheses s P [] us k n each hp sa su = All-nil (Scoped n)
 scoped-hypotheses s P (Plain type level ∷ arguments) [] k n each hp sa su = All-nil (Scoped n)
 scoped-hypotheses s P (Recursive inner targets level ∷ arguments) [] k n each hp sa su = All-nil (Scoped n)
@@ -92,12 +101,15 @@ scoped-hypotheses s P (Recursive inner targets level ∷ arguments) (u ∷ us) k
     (All-tail (Scoped n) u us su))
 
 -- the variables that are bound by a method's arguments, and those of the record behind them
-scoped-filled : (s : ℕ → Term) (j k n : ℕ) → Places s k n → Places (fill (λ i. weaken_by j (s i)) (variables j)) (k + j) (n + j)
+scoped-filled : (s : ℕ → Term) (j k n : ℕ) → Places s k n
+    → Places (fill (λ i. weaken_by j (s i)) (variables j)) (k + j) (n + j)
 scoped-filled s j k n each i lt =
     free_of-fill (λ v. weaken_by j (s v)) (variables j) k (n + j) (λ v h. free_of-weaken_by j (s v) n (each v h))
     (free_of-variables j (n + j) (omega arith)) i (omega (arith, length-variables j))
 
-scoped-method : (s : ℕ → Term) (head con P : Term) (c : Constructor) (k n : ℕ) → Places s k n → free_of head ≤ n → free_of con ≤ n → free_of P ≤ n → IsScopedConstructor k c → free_of (method_type s head con P c) ≤ n
+-- the type of a method
+pub scoped-method : (s : ℕ → Term) (head con P : Term) (c : Constructor) (k n : ℕ) → Places s k n → free_of head ≤ n
+    → free_of con ≤ n → free_of P ≤ n → IsScopedConstructor k c → free_of (method_type s head con P c) ≤ n
 scoped-method s head con P c k n each hh hc hp sc =
     let j = length c.arguments in
     let us = variables j in
@@ -117,7 +129,10 @@ scoped-method s head con P c k n each hh hc hp sc =
     scoped-products (argument_types s head c.arguments) _ n (scoped-arguments s head c.arguments k n each hh sc.arguments)
     (omega (arith, end, length-argument_types s head c.arguments))
 
-scoped-methods : (s : ℕ → Term) (family : ℕ) (ps : List Term) (P : Term) (number : ℕ) (cs : List Constructor) (k n : ℕ) → Places s k n → All (Scoped n) ps → free_of P ≤ n → All (IsScopedConstructor k) cs → All (Scoped n) (method_types s family ps P number cs)
+-- the types of the methods
+pub scoped-methods : (s : ℕ → Term) (family : ℕ) (ps : List Term) (P : Term) (number : ℕ) (cs : List Constructor) (k n : ℕ)
+    → Places s k n → All (Scoped n) ps → free_of P ≤ n → All (IsScopedConstructor k) cs
+    → All (Scoped n) (method_types s family ps P number cs)
 scoped-methods s family ps P number [] k n each sp hp sc = All-nil (Scoped n)
 scoped-methods s family ps P number (c ∷ cs) k n each sp hp sc =
     All-cons (Scoped n) _ _
@@ -126,7 +141,9 @@ scoped-methods s family ps P number (c ∷ cs) k n each sp hp sc =
     (All-head (IsScopedConstructor k) c cs sc))
     (scoped-methods s family ps P (number + 1) cs k n each sp hp (All-tail (IsScopedConstructor k) c cs sc))
 
-scoped-inst_telescope : (s : ℕ → Term) (tele : Telescope) (k n : ℕ) → Places s k n → IsScopedTelescope k tele → IsScopedTelescope n (inst_telescope s tele)
+-- a telescope with terms put for the variables that it stands over
+pub scoped-inst_telescope : (s : ℕ → Term) (tele : Telescope) (k n : ℕ) → Places s k n → IsScopedTelescope k tele
+    → IsScopedTelescope n (inst_telescope s tele)
 scoped-inst_telescope s [] k n each st = tt
 scoped-inst_telescope s (a ∷ tele) k n each st =
     (free_of-inst s a k n st.0 each, scoped-inst_telescope (ups s) tele (k + 1) (n + 1) (free_of-ups s k n each) st.1)
@@ -137,7 +154,15 @@ length-inst_telescope s [] = refl
 length-inst_telescope s (a ∷ tele) = ap suc (length-inst_telescope (ups s) tele)
 
 -- (I) -> (x : D p I) -> P I x, where P is the nearest variable
-scoped-conclusion : (number : ℕ) (f : Family) → IsScopedFamily f → let k = length f.indices in let s : ℕ → Term = λ v. Var (suc v) in let ps = map weaken (variables (length f.parameters)) in free_of (products (inst_telescope s (index_types f)) (Pi (applied (weaken_by k (applied (Fam number) ps)) (variables k)) (App (applied (Var (k + 1)) (map weaken (variables k))) (Var 0)))) ≤ length f.parameters + 1
+abbrev conclusion : ℕ → Family → Term
+conclusion number f =
+    let k = length f.indices in
+    let ps = map weaken (variables (length f.parameters)) in
+    products (inst_telescope (λ v. Var (suc v)) (index_types f))
+    (Pi (applied (weaken_by k (applied (Fam number) ps)) (variables k))
+    (App (applied (Var (k + 1)) (map weaken (variables k))) (Var 0)))
+
+scoped-conclusion : (number : ℕ) (f : Family) → IsScopedFamily f → free_of (conclusion number f) ≤ length f.parameters + 1
 scoped-conclusion number f scoped =
     let k = length f.indices in
     let p = length f.parameters in

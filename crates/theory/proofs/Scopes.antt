@@ -15,13 +15,15 @@ abbrev pub Scoped : ℕ → Term → Type 0
 Scoped n t = free_of t ≤ n
 
 -- a scoped telescope before a scoped term
-pub scoped-products : (tele : Telescope) (body : Term) (n : ℕ) → IsScopedTelescope n tele → free_of body ≤ n + length tele → free_of (products tele body) ≤ n
+pub scoped-products : (tele : Telescope) (body : Term) (n : ℕ) → IsScopedTelescope n tele → free_of body ≤ n + length tele
+    → free_of (products tele body) ≤ n
 scoped-products [] body n st sb = omega arith
 scoped-products (a ∷ tele) body n st sb =
     let ha = st.0 in omega (arith, scoped-products tele body (n + 1) st.1 (omega arith))
 
 -- and its parts
-pub products-scoped : (tele : Telescope) (body : Term) (n : ℕ) → free_of (products tele body) ≤ n → IsScopedTelescope n tele × (free_of body ≤ n + length tele)
+pub products-scoped : (tele : Telescope) (body : Term) (n : ℕ) → free_of (products tele body) ≤ n
+    → IsScopedTelescope n tele × (free_of body ≤ n + length tele)
 products-scoped [] body n h = (tt, omega arith)
 products-scoped (a ∷ tele) body n h =
     let rest = products-scoped tele body (n + 1) (omega arith) in
@@ -33,11 +35,13 @@ pub free_of-products : FreeOfProducts
 free_of-products tele body n = (λ h. scoped-products tele body n h.0 h.1, products-scoped tele body n)
 
 -- a scoped head with a scoped spine
-pub scoped-applied : (head : Term) (spine : List Term) (n : ℕ) → free_of head ≤ n → All (Scoped n) spine → free_of (applied head spine) ≤ n
+pub scoped-applied : (head : Term) (spine : List Term) (n : ℕ) → free_of head ≤ n → All (Scoped n) spine
+    → free_of (applied head spine) ≤ n
 scoped-applied head spine n = applied-kept (Scoped n) (λ f a hf ha. omega arith) head spine
 
 -- and its parts
-pub applied-scoped : (head : Term) (spine : List Term) (n : ℕ) → free_of (applied head spine) ≤ n → (free_of head ≤ n) × All (Scoped n) spine
+pub applied-scoped : (head : Term) (spine : List Term) (n : ℕ) → free_of (applied head spine) ≤ n
+    → (free_of head ≤ n) × All (Scoped n) spine
 applied-scoped head spine n = applied-parts (Scoped n) (λ f a h. (omega arith, omega arith)) head spine
 
 -- both directions
@@ -45,17 +49,12 @@ pub free_of-applied : FreeOfApplied
 free_of-applied head spine n = (λ h. scoped-applied head spine n h.0 h.1, applied-scoped head spine n)
 
 -- scoped types before a scoped term in one context
-pub scoped-arrows : (types : List Term) (b : Term) (n : ℕ) → All (Scoped n) types → free_of b ≤ n → free_of (arrows types b) ≤ n
+pub scoped-arrows : (types : List Term) (b : Term) (n : ℕ) → All (Scoped n) types → free_of b ≤ n
+    → free_of (arrows types b) ≤ n
 scoped-arrows [] b n all h = h
 scoped-arrows (a ∷ types) b n all h =
     let ha = All-head (Scoped n) a types all in
     omega (arith, free_of-weaken (arrows types b) n (scoped-arrows types b n (All-tail (Scoped n) a types all) h))
-
--- terms k binders further in
-pub scoped-weaken_by : (k : ℕ) (ts : List Term) (n : ℕ) → All (Scoped n) ts → All (Scoped (n + k)) (map (weaken_by k) ts)
-scoped-weaken_by k ts n all =
-    All-map (Scoped (n + k)) (weaken_by k) ts
-    (All-weaker (Scoped n) (λ t. Scoped (n + k) (weaken_by k t)) (λ t h. free_of-weaken_by k t n h) ts all)
 
 -- terms one binder further in
 pub scoped-weaken : (ts : List Term) (n : ℕ) → All (Scoped n) ts → All (Scoped (n + 1)) (map weaken ts)
@@ -71,7 +70,9 @@ Places s k n = (i : ℕ) → i < k → free_of (s i) ≤ n
 pub scoped-raised : (ts : List Term) (k n : ℕ) → k ≤ n → All (Scoped k) ts → All (Scoped n) ts
 scoped-raised ts k n le all = All-weaker (Scoped k) (Scoped n) (λ t h. omega arith) ts all
 
-scoped-recursive : (s : ℕ → Term) (head : Term) (inner : Telescope) (targets : List Term) (k n : ℕ) → Places s k n → free_of head ≤ n → IsScopedTelescope k inner → All (Scoped (k + length inner)) targets → free_of (recursive_type s head inner targets) ≤ n
+scoped-recursive : (s : ℕ → Term) (head : Term) (inner : Telescope) (targets : List Term) (k n : ℕ) → Places s k n
+    → free_of head ≤ n → IsScopedTelescope k inner → All (Scoped (k + length inner)) targets
+    → free_of (recursive_type s head inner targets) ≤ n
 scoped-recursive s head [] targets k n each hh si st =
     scoped-applied head (map (inst s) targets) n hh
     (free_of-map_inst s targets k n each (scoped-raised targets (k + 0) k (omega arith) st))
@@ -83,13 +84,15 @@ scoped-recursive s head (a ∷ inner) targets k n each hh si st =
           (scoped-raised targets (k + suc (length inner)) ((k + 1) + length inner) (omega arith) st),
     )
 
-scoped-argument : (s : ℕ → Term) (head : Term) (a : Argument) (k n : ℕ) → Places s k n → free_of head ≤ n → IsScopedArgument k a → free_of (argument_type s head a) ≤ n
+scoped-argument : (s : ℕ → Term) (head : Term) (a : Argument) (k n : ℕ) → Places s k n → free_of head ≤ n
+    → IsScopedArgument k a → free_of (argument_type s head a) ≤ n
 scoped-argument s head (Plain type level) k n each hh sa = free_of-inst s type k n sa each
 scoped-argument s head (Recursive inner targets level) k n each hh sa =
     scoped-recursive s head inner targets k n each hh sa.0 sa.1
 
 -- the telescope of scoped arguments
-pub scoped-arguments : (s : ℕ → Term) (head : Term) (arguments : List Argument) (k n : ℕ) → Places s k n → free_of head ≤ n → IsScopedArguments k arguments → IsScopedTelescope n (argument_types s head arguments)
+pub scoped-arguments : (s : ℕ → Term) (head : Term) (arguments : List Argument) (k n : ℕ) → Places s k n → free_of head ≤ n
+    → IsScopedArguments k arguments → IsScopedTelescope n (argument_types s head arguments)
 scoped-arguments s head [] k n each hh sa = tt
 scoped-arguments s head (a ∷ arguments) k n each hh sa = (
   scoped-argument s head a k n each hh sa.0,
@@ -97,6 +100,7 @@ scoped-arguments s head (a ∷ arguments) k n each hh sa = (
 )
 
 -- there is one type for each argument
-pub length-argument_types : (s : ℕ → Term) (head : Term) (arguments : List Argument) → length (argument_types s head arguments) ≡ length arguments
+pub length-argument_types : (s : ℕ → Term) (head : Term) (arguments : List Argument)
+    → length (argument_types s head arguments) ≡ length arguments
 length-argument_types s head [] = refl
 length-argument_types s head (a ∷ arguments) = ap suc (length-argument_types (ups s) (weaken head) arguments)

@@ -24,7 +24,8 @@ free_of-iota family level n ps P ms arguments method us hp hP hm hmethod hu =
     iota_right-kept (λ t. Unit {0}) (λ k t. free_of t ≤ k) free_bound n family level ps P ms arguments method us
     (any_terms arguments) hp hP hm hmethod hu
 
-free_of-contracts : (S : Signature) → HasClosedBodies S → (n : ℕ) {t u : Term} → Contracts S t u → free_of t ≤ n → free_of u ≤ n
+free_of-contracts : (S : Signature) → HasClosedBodies S → (n : ℕ) {t u : Term} → Contracts S t u → free_of t ≤ n
+    → free_of u ≤ n
 free_of-contracts S closed n (beta {a} {b} {u}) h = free_of-subst b 0 u n (omega arith) (omega arith) (omega arith)
 free_of-contracts S closed n (zeta {a} {t} {b}) h = free_of-subst b 0 t n (omega arith) (omega arith) (omega arith)
 free_of-contracts S closed n (delta k {name} {type} {body = value} at new) h = omega (arith, closed k name type value at)
