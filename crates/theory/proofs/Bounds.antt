@@ -10,13 +10,15 @@ use Rattle.theory.specs.Eliminators.{hypothesis, hypotheses, iota_right, no_vari
 use Rattle.theory.proofs.AllOf.{all_left, all_right, all_at}
 
 -- a spine keeps what applications keep
-pub applied-kept : (P : Term → Type 0) → ((f a : Term) → P f → P a → P (App f a)) → (head : Term) (spine : List Term) → P head → All P spine → P (applied head spine)
+pub applied-kept : (P : Term → Type 0) → ((f a : Term) → P f → P a → P (App f a)) → (head : Term) (spine : List Term)
+    → P head → All P spine → P (applied head spine)
 applied-kept P kept head [] h all = h
 applied-kept P kept head (a ∷ spine) h all =
     applied-kept P kept (App head a) spine (kept head a h (All-head P a spine all)) (All-tail P a spine all)
 
 -- a spine has what applications have in their parts
-pub applied-parts : (P : Term → Type 0) → ((f a : Term) → P (App f a) → P f × P a) → (head : Term) (spine : List Term) → P (applied head spine) → P head × All P spine
+pub applied-parts : (P : Term → Type 0) → ((f a : Term) → P (App f a) → P f × P a) → (head : Term) (spine : List Term)
+    → P (applied head spine) → P head × All P spine
 applied-parts P parts head [] h = (h, All-nil P)
 applied-parts P parts head (a ∷ spine) h =
     let rest = applied-parts P parts (App head a) spine h in
@@ -29,7 +31,8 @@ extend-kept P s u each h zero = h
 extend-kept P s u each h (suc i) = each i
 
 -- terms that are put for variables keep what all of them have
-pub fill-kept : (P : Term → Type 0) (s : ℕ → Term) (us : List Term) → ((i : ℕ) → P (s i)) → All P us → (i : ℕ) → P (fill s us i)
+pub fill-kept : (P : Term → Type 0) (s : ℕ → Term) (us : List Term) → ((i : ℕ) → P (s i)) → All P us → (i : ℕ)
+    → P (fill s us i)
 fill-kept P s [] each all i = each i
 fill-kept P s (u ∷ us) each all i =
     fill-kept P (extend s u) us (extend-kept P s u each (All-head P u us all)) (All-tail P u us all) i
@@ -57,11 +60,14 @@ module _ (Q : Term → Type 0) (P : ℕ → Term → Type 0) (bound : IsBound Q 
   ups-kept n s each (suc i) = bound.weakened n (s i) (each i)
 
   -- the terms of a record, instantiated
-  pub map_inst-kept : (n : ℕ) (s : ℕ → Term) (ts : List Term) → ((i : ℕ) → P n (s i)) → All Q ts → All (P n) (map (inst s) ts)
+  pub map_inst-kept : (n : ℕ) (s : ℕ → Term) (ts : List Term) → ((i : ℕ) → P n (s i)) → All Q ts
+      → All (P n) (map (inst s) ts)
   map_inst-kept n s ts each all =
       All-map (P n) (inst s) ts (All-weaker Q (λ t. P n (inst s t)) (λ t q. bound.instance n s t q each) ts all)
 
-  hypothesis-kept : (n : ℕ) (s : ℕ → Term) (recursor r : Term) (inner : Telescope) (targets : List Term) → ((i : ℕ) → P n (s i)) → P n recursor → P n r → All Q inner → All Q targets → P n (hypothesis s recursor r inner targets)
+  hypothesis-kept : (n : ℕ) (s : ℕ → Term) (recursor r : Term) (inner : Telescope) (targets : List Term)
+      → ((i : ℕ) → P n (s i)) → P n recursor → P n r → All Q inner → All Q targets
+      → P n (hypothesis s recursor r inner targets)
   hypothesis-kept n s recursor r [] targets each pe pr qi qt =
       bound.application n _ r
       (applied-kept (P n) (bound.application n) recursor (map (inst s) targets) pe (map_inst-kept n s targets each qt)) pr
@@ -71,7 +77,9 @@ module _ (Q : Term → Type 0) (P : ℕ → Term → Type 0) (bound : IsBound Q 
       (bound.weakened n recursor pe) (bound.application (n + 1) _ _ (bound.weakened n r pr) (bound.nearest n))
       (All-tail Q a inner qi) qt)
 
-  hypotheses-kept : (n : ℕ) (s : ℕ → Term) (recursor : Term) (arguments : List Argument) (us : List Term) → All (HasTerms Q) arguments → ((i : ℕ) → P n (s i)) → P n recursor → All (P n) us → All (P n) (hypotheses s recursor arguments us)
+  hypotheses-kept : (n : ℕ) (s : ℕ → Term) (recursor : Term) (arguments : List Argument) (us : List Term)
+      → All (HasTerms Q) arguments → ((i : ℕ) → P n (s i)) → P n recursor → All (P n) us
+      → All (P n) (hypotheses s recursor arguments us)
   hypotheses-kept n s recursor [] us qa each pe pu = All-nil (P n)
   hypotheses-kept n s recursor (Plain type level ∷ arguments) [] qa each pe pu = All-nil (P n)
   hypotheses-kept n s recursor (Recursive inner targets level ∷ arguments) [] qa each pe pu = All-nil (P n)
@@ -86,7 +94,9 @@ module _ (Q : Term → Type 0) (P : ℕ → Term → Type 0) (bound : IsBound Q 
       (extend-kept (P n) s u each (All-head (P n) u us pu)) pe (All-tail (P n) u us pu))
 
   -- the right side of iota
-  pub iota_right-kept : (n family level : ℕ) (ps : List Term) (motive : Term) (ms : List Term) (arguments : List Argument) (method : Term) (us : List Term) → All (HasTerms Q) arguments → All (P n) ps → P n motive → All (P n) ms → P n method → All (P n) us → P n (iota_right family level ps motive ms arguments method us)
+  pub iota_right-kept : (n family level : ℕ) (ps : List Term) (motive : Term) (ms : List Term) (arguments : List Argument) (method : Term) (us : List Term)
+      → All (HasTerms Q) arguments → All (P n) ps → P n motive → All (P n) ms → P n method → All (P n) us
+      → P n (iota_right family level ps motive ms arguments method us)
   iota_right-kept n family level ps motive ms arguments method us qa pp pm pms pmethod pu =
       applied-kept (P n) (bound.application n) method _ pmethod
       (All-append (P n) us _ pu
@@ -97,7 +107,10 @@ module _ (Q : Term → Type 0) (P : ℕ → Term → Type 0) (bound : IsBound Q 
       pu))
 
   -- iota keeps a bound
-  pub iota-kept : (n family level number : ℕ) (ps : List Term) (motive : Term) (ms is qs us : List Term) (chosen : ℕ) (method : Term) (arguments : List Argument) → All (HasTerms Q) arguments → slice_get ms chosen ≡ Some method → P n (App (applied (Elim family level) (ps ++ motive ∷ (ms ++ is))) (applied (Con family number) (qs ++ us))) → P n (iota_right family level ps motive ms arguments method us)
+  pub iota-kept : (n family level number : ℕ) (ps : List Term) (motive : Term) (ms is qs us : List Term) (chosen : ℕ) (method : Term) (arguments : List Argument)
+      → All (HasTerms Q) arguments → slice_get ms chosen ≡ Some method
+      → P n (App (applied (Elim family level) (ps ++ motive ∷ (ms ++ is))) (applied (Con family number) (qs ++ us)))
+      → P n (iota_right family level ps motive ms arguments method us)
   iota-kept n family level number ps motive ms is qs us chosen method arguments qa at h =
       let two = bound.parts n _ _ h in
       let left = (applied-parts (P n) (bound.parts n) (Elim family level) _ two.0).1 in

@@ -24,7 +24,8 @@ converts-sym (forwards h rest) = converts-trans (converts-sym rest) (backwards h
 converts-sym (backwards h rest) = converts-trans (converts-sym rest) (forwards h same)
 
 -- a place that keeps steps keeps conversion
-pub converts-at : {S : Signature} (place : Term → Term) → ((t u : Term) → Step S t u → Step S (place t) (place u)) → {t u : Term} → Converts S t u → Converts S (place t) (place u)
+pub converts-at : {S : Signature} (place : Term → Term) → ((t u : Term) → Step S t u → Step S (place t) (place u))
+    → {t u : Term} → Converts S t u → Converts S (place t) (place u)
 converts-at place steps same = same
 converts-at place steps (forwards {t} {u} h rest) = forwards (steps t u h) (converts-at place steps rest)
 converts-at place steps (backwards {t} {u} h rest) = backwards (steps u t h) (converts-at place steps rest)
@@ -45,17 +46,20 @@ converts-app {f' = f'} {a = a} h k =
     converts-trans (converts-at (λ x. App x a) (λ t u. function) h) (converts-at (App f') (λ t u. argument) k)
 
 -- lets
-pub converts-let : {S : Signature} {a a' t t' b b' : Term} → Converts S a a' → Converts S t t' → Converts S b b' → Converts S (Let a t b) (Let a' t' b')
+pub converts-let : {S : Signature} {a a' t t' b b' : Term} → Converts S a a' → Converts S t t' → Converts S b b'
+    → Converts S (Let a t b) (Let a' t' b')
 converts-let {a' = a'} {t = t} {t' = t'} {b = b} h k l =
     converts-trans (converts-at (λ x. Let x t b) (λ x y. let_type) h)
     (converts-trans (converts-at (λ x. Let a' x b) (λ x y. let_value) k) (converts-at (Let a' t') (λ x y. let_body) l))
 
-converts-ups : (S : Signature) → HasClosedBodies S → (s p : ℕ → Term) → ((n : ℕ) → Converts S (s n) (p n)) → (n : ℕ) → Converts S (ups s n) (ups p n)
+converts-ups : (S : Signature) → HasClosedBodies S → (s p : ℕ → Term) → ((n : ℕ) → Converts S (s n) (p n)) → (n : ℕ)
+    → Converts S (ups s n) (ups p n)
 converts-ups S closed s p each zero = same
 converts-ups S closed s p each (suc n) = converts-ren S closed suc (each n)
 
 -- instantiations whose terms convert
-pub converts-inst-each : (S : Signature) → HasClosedBodies S → (s p : ℕ → Term) → ((n : ℕ) → Converts S (s n) (p n)) → (t : Term) → Converts S (inst s t) (inst p t)
+pub converts-inst-each : (S : Signature) → HasClosedBodies S → (s p : ℕ → Term) → ((n : ℕ) → Converts S (s n) (p n))
+    → (t : Term) → Converts S (inst s t) (inst p t)
 converts-inst-each S closed s p each (Var n) = each n
 converts-inst-each S closed s p each (Pi a b) =
     converts-pi (converts-inst-each S closed s p each a)
@@ -70,7 +74,8 @@ converts-inst-each S closed s p each (Let a t b) =
     (converts-inst-each S closed (ups s) (ups p) (converts-ups S closed s p each) b)
 converts-inst-each S closed s p each _ = same
 
-converts-subst_var : {S : Signature} (n at : ℕ) {u u' : Term} → Converts S u u' → Converts S (subst_var n at u) (subst_var n at u')
+converts-subst_var : {S : Signature} (n at : ℕ) {u u' : Term} → Converts S u u'
+    → Converts S (subst_var n at u) (subst_var n at u')
 converts-subst_var {S} n at {u} {u'} h = elim (compare n at) [
   | inl lt ↦ subst₂ (Converts S) (sym (subst_var-below n at u lt)) (sym (subst_var-below n at u' lt)) same
   | inr (inl eq) ↦ subst₂ (Converts S) (sym (subst_var-at n at u eq)) (sym (subst_var-at n at u' eq)) h

@@ -1,10 +1,12 @@
+mod Examples
 pub mod AllOf
 pub mod Bounds
 pub mod Commuting
 pub mod Congruence
-mod Examples
+pub mod FreeInstances
 pub mod FreeVariables
 pub mod Generation
+pub mod HeightInstances
 pub mod Heights
 pub mod Instances
 pub mod Instantiation
@@ -13,12 +15,16 @@ pub mod PreludeFamilies
 pub mod PreludeNames
 pub mod PreludeWellFormed
 pub mod Pushing
+pub mod RecordScopes
 pub mod Renaming
+pub mod ScopedTypes
+pub mod Scopes
 pub mod Scoping
 pub mod Shifts
 pub mod SortInstances
 pub mod SortLevels
 pub mod Stability
+pub mod StepScopes
 pub mod StepSorts
 pub mod Substituting
 pub mod TermSorts

@@ -23,7 +23,8 @@ terms-raised n m le (Recursive inner targets level) h =
       All-weaker (SortsBelow n) (SortsBelow m) raise targets h.1,
     )
 
-sorts_of_contracts : (S : Signature) → IsTyped S → (n : ℕ) → top ≤ n → {t u : Term} → Contracts S t u → SortsBelow n t → SortsBelow n u
+sorts_of_contracts : (S : Signature) → IsTyped S → (n : ℕ) → top ≤ n → {t u : Term} → Contracts S t u → SortsBelow n t
+    → SortsBelow n u
 sorts_of_contracts S typed n le (beta {a} {b} {u}) h = sorts_of_subst b 0 u n h.0.1 h.1
 sorts_of_contracts S typed n le (zeta {a} {t} {b}) h = sorts_of_subst b 0 t n h.2 h.1
 sorts_of_contracts S typed n le (delta k {body = value} at new) h = elim (typed.bodies at) [

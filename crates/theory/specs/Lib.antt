@@ -3,8 +3,11 @@ pub mod ConversionLaws
 pub mod Eliminators
 pub mod Families
 pub mod Generation
+pub mod InstanceLaws
 pub mod Prelude
 pub mod PreludeLaws
+pub mod ScopeLaws
+pub mod Scopes
 pub mod SignatureLaws
 pub mod Signatures
 pub mod SortLaws

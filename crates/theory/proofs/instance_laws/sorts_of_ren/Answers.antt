@@ -1,0 +1,5 @@
+use Rattle.theory.proofs.SortInstances.{sorts_of_ren}
+use Rattle.theory.proofs.instance_laws.sorts_of_ren.Goals as goal
+
+pub returns : goal.returns
+returns c = sorts_of_ren
