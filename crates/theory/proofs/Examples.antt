@@ -1,3 +1,5 @@
+mod Derivations
+mod Eliminators
 mod Families
 mod Positivity
 mod Reduction
