@@ -5,4 +5,5 @@ mod Positivity
 mod Reduction
 mod Sample
 mod Terms
+mod WellFormed
 
