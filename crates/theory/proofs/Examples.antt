@@ -6,4 +6,3 @@ mod Reduction
 mod Sample
 mod Terms
 mod WellFormed
-

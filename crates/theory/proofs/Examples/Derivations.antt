@@ -1,13 +1,12 @@
 -- Derivations: sorts, the identity function, `let`, cumulativity, symbols; what has no type.
-use Rattle.std.proofs.Common.{◌≡◌, ℕ, ◌+◌, ◌<◌, ◌≤◌, [], ◌∷◌, refl, arith, lit<, lit≤, max}
-use Rattle.theory.specs.Terms.{Term, Var, Sort, Pi, Lam, App, Let, Const, Fam, Con, Elim, AxiomK, top}
+use Rattle.std.proofs.Common.{◌≡◌, ℕ, [], ◌∷◌, refl, arith, lit<, lit≤}
+use Rattle.theory.specs.Terms.{Term, Var, Sort, Pi, Lam, Let, Const, Con, Elim, AxiomK, top}
 use Rattle.theory.specs.Telescopes.{Context}
-use Rattle.theory.specs.Families.{family_type}
 use Rattle.theory.specs.Eliminators.{eliminator_type}
 use Rattle.theory.specs.Signatures.{Signature, TypeOf, constant, family, constructor, eliminator, axiom_k, axiom_k_type}
 use Rattle.theory.specs.Conversion.{Step, here, argument, delta, forwards, same, converts, sorts, products}
-use Rattle.theory.specs.Typing.{IsContext, Has, empty, bind, variable, sort, product, function, application, local, symbol, below, below_sort, HasSort, IsType, is_sort, has_sort}
-use Rattle.theory.proofs.Examples.Sample.{nat, vec, tree, Nat, zero_term, suc_of, Vec, nat_family, vec_family, two, sample}
+use Rattle.theory.specs.Typing.{IsContext, Has, empty, bind, variable, sort, product, function, application, local, symbol, below, below_sort, IsType, is_sort, has_sort}
+use Rattle.theory.proofs.Examples.Sample.{nat, vec, Nat, zero_term, suc_of, Vec, nat_family, vec_family, two, sample}
 
 -- Type 0 : Type 1
 type_zero : (S : Signature) → Has S [] (Sort 0) (Sort 1)

@@ -1,7 +1,7 @@
 -- Families that are positive, and constructors that are refused.
-use Rattle.std.proofs.Common.{◌≡◌, ℕ, zero, suc, ◌+◌, List, [], ◌∷◌, length, map, refl, arith, true≢false, true, ap, sym, ◌∙◌, All}
+use Rattle.std.proofs.Common.{◌≡◌, ℕ, List, [], ◌∷◌, length, map, refl, arith, true≢false, true, ap, sym, ◌∙◌, All}
 use Rattle.std.proofs.lemmas.List.Elements.{All-cons, All-nil}
-use Rattle.theory.specs.Terms.{Term, Var, Sort, Pi, Lam, App, Let, Const, Fam, Con, Elim, AxiomK}
+use Rattle.theory.specs.Terms.{Term, Var, Pi, App, Fam}
 use Rattle.theory.specs.Substitutions.{inst}
 use Rattle.theory.specs.Telescopes.{products, applied, weaken_by}
 use Rattle.theory.specs.Families.{Family, Constructor, Argument, Plain, Recursive, IsPositive, IsPositiveArgument, IsPositiveConstructor, Lacks, mentions, constructor_type, argument_types}

@@ -1,12 +1,11 @@
 -- The right side of iota, one step of each kind and at each place, conversion, cumulativity.
-use Rattle.std.proofs.Common.{◌≡◌, ◌≢◌, ℕ, ◌+◌, ◌≤◌, List, [], ◌∷◌, ◌++◌, length, refl, arith, Some, slice_get, ap, sym, ◌∙◌, lit≤}
-use Rattle.theory.specs.Terms.{Term, Var, Sort, Pi, Lam, App, Let, Const, Fam, Con, Elim, AxiomK, subst}
+use Rattle.std.proofs.Common.{◌≡◌, ◌≢◌, ℕ, List, [], ◌∷◌, refl, arith, Some, slice_get, ap, sym, ◌∙◌, lit≤}
+use Rattle.theory.specs.Terms.{Term, Var, Sort, Pi, Lam, App, Let, Const, Elim, AxiomK}
 use Rattle.theory.specs.Substitutions.{weaken}
 use Rattle.theory.specs.Eliminators.{iota_right}
 use Rattle.theory.specs.Signatures.{Signature, Definition, IsEntryAt, reflexivity}
-use Rattle.theory.specs.Conversion.{Contracts, beta, zeta, delta, iota, axiom_k, Step, here, domain, codomain, annotation, body, function, argument, let_type, let_value, let_body, Converts, same, forwards, backwards, Below, converts, sorts, products, trans}
-use Rattle.theory.specs.Prelude.{empty_family, equality_family}
-use Rattle.theory.proofs.Examples.Sample.{nat, vec, tree, Nat, zero_term, suc_of, Vec, nil_of, cons_of, zero_constructor, suc_constructor, nil, cons, node, nat_family, vec_family, tree_family, two, sample}
+use Rattle.theory.specs.Conversion.{beta, zeta, delta, iota, axiom_k, Step, here, domain, codomain, annotation, body, function, argument, let_type, let_value, let_body, Converts, same, forwards, backwards, Below, converts, sorts, products, trans}
+use Rattle.theory.proofs.Examples.Sample.{nat, vec, tree, Nat, zero_term, suc_of, suc_constructor, cons, node, nat_family, two, sample}
 
 -- Nat!elim.m P z s (suc n) steps to s n (Nat!elim.m P z s n)
 suc_iota : (m : ℕ) (P z s n : Term) → iota_right nat m [] P (z ∷ s ∷ []) suc_constructor.arguments s (n ∷ [])
