@@ -37,7 +37,7 @@ equality_type S i h = (
 )
 
 -- the family that was just declared is a symbol of the signature
-new_family : (S : Signature) (f : Family) {G : Context} → IsContext (pushed S (FamilyOf f)) G → Has (pushed S (FamilyOf f)) G (Fam (length S.entries)) (family_type f)
+pub new_family : (S : Signature) (f : Family) {G : Context} → IsContext (pushed S (FamilyOf f)) G → Has (pushed S (FamilyOf f)) G (Fam (length S.entries)) (family_type f)
 new_family S f c = symbol c (family (length S.entries) (slice_get-last S.entries (FamilyOf f)))
 
 reflexivity_type : (S : Signature) (n i : ℕ) → i < top → Has S (Var 0 ∷ Sort i ∷ []) (Fam n) (family_type (equality_family i))

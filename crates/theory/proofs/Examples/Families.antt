@@ -1,6 +1,6 @@
 -- Types that families bring along, as a reader would write them.
 use Rattle.std.proofs.Common.{◌≡◌, ℕ, [], ◌∷◌, refl}
-use Rattle.theory.specs.Terms.{Term, Var, Sort, Pi, App, Fam, Con}
+use Rattle.theory.specs.Terms.{Var, Sort, Pi, App, Fam, Con}
 use Rattle.theory.specs.Families.{index_types, family_type, family_head, constructor_type, constructor_telescope}
 use Rattle.theory.specs.Eliminators.{eliminator_type, motive_type}
 use Rattle.theory.specs.Signatures.{equality, equation, reflexivity, axiom_k_type}

@@ -1,7 +1,7 @@
 -- Families that are positive, and constructors that are refused.
-use Rattle.std.proofs.Common.{◌≡◌, ℕ, zero, suc, ◌+◌, List, [], ◌∷◌, length, map, refl, arith, true≢false, true, ap, sym, ◌∙◌, All}
+use Rattle.std.proofs.Common.{◌≡◌, ℕ, List, [], ◌∷◌, length, map, refl, arith, true≢false, true, ap, sym, ◌∙◌, All}
 use Rattle.std.proofs.lemmas.List.Elements.{All-cons, All-nil}
-use Rattle.theory.specs.Terms.{Term, Var, Sort, Pi, Lam, App, Let, Const, Fam, Con, Elim, AxiomK}
+use Rattle.theory.specs.Terms.{Term, Var, Pi, App, Fam}
 use Rattle.theory.specs.Substitutions.{inst}
 use Rattle.theory.specs.Telescopes.{products, applied, weaken_by}
 use Rattle.theory.specs.Families.{Family, Constructor, Argument, Plain, Recursive, IsPositive, IsPositiveArgument, IsPositiveConstructor, Lacks, mentions, constructor_type, argument_types}
@@ -9,13 +9,13 @@ use Rattle.theory.proofs.Examples.Sample.{nat, vec, tree, Nat, suc_of, zero_term
 use Rattle.theory.proofs.Instances.{inst-var}
 use Rattle.theory.proofs.Lists.{only, both}
 
-nat_is_positive : IsPositive nat nat_family
+pub nat_is_positive : IsPositive nat nat_family
 nat_is_positive =
     both (IsPositiveConstructor nat) zero_constructor suc_constructor
     (record { arguments = All-nil _; targets = All-nil _ })
     (record { arguments = only (IsPositiveArgument nat) (Recursive [] [] 0) (All-nil _, All-nil _); targets = All-nil _ })
 
-vec_is_positive : IsPositive vec vec_family
+pub vec_is_positive : IsPositive vec vec_family
 vec_is_positive =
     both (IsPositiveConstructor vec) nil cons
     (record { arguments = All-nil _; targets = only (Lacks vec) zero_term refl })
@@ -26,7 +26,7 @@ vec_is_positive =
       targets = only (Lacks vec) (suc_of (Var 2)) refl;
     })
 
-tree_is_positive : IsPositive tree tree_family
+pub tree_is_positive : IsPositive tree tree_family
 tree_is_positive =
     only (IsPositiveConstructor tree) node
     (record { arguments = only (IsPositiveArgument tree) (Recursive (Nat ∷ []) [] 0) (only (Lacks tree) Nat refl, All-nil _); targets = All-nil _ })

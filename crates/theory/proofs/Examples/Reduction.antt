@@ -1,12 +1,11 @@
 -- The right side of iota, one step of each kind and at each place, conversion, cumulativity.
-use Rattle.std.proofs.Common.{◌≡◌, ◌≢◌, ℕ, ◌+◌, ◌≤◌, List, [], ◌∷◌, ◌++◌, length, refl, true, arith, codes, Some}
-use Rattle.theory.specs.Terms.{Term, Var, Sort, Pi, Lam, App, Let, Const, Fam, Con, Elim, AxiomK, subst}
+use Rattle.std.proofs.Common.{◌≡◌, ◌≢◌, ℕ, List, [], ◌∷◌, refl, arith, Some, slice_get, ap, sym, ◌∙◌, lit≤}
+use Rattle.theory.specs.Terms.{Term, Var, Sort, Pi, Lam, App, Let, Const, Elim, AxiomK}
 use Rattle.theory.specs.Substitutions.{weaken}
 use Rattle.theory.specs.Eliminators.{iota_right}
-use Rattle.theory.specs.Signatures.{Signature, FamilyOf, EliminatorAt, AxiomKAt, Definition, reflexivity}
-use Rattle.theory.specs.Conversion.{Contracts, beta, zeta, delta, iota, axiom_k, Step, here, domain, codomain, annotation, body, function, argument, let_type, let_value, let_body, Converts, same, forwards, backwards, Below, converts, sorts, products, trans}
-use Rattle.theory.specs.Prelude.{empty_family, equality_family}
-use Rattle.theory.proofs.Examples.Sample.{nat, vec, tree, Nat, zero_term, suc_of, Vec, nil_of, cons_of, zero_constructor, suc_constructor, nil, cons, node, nat_family, vec_family, tree_family, sample}
+use Rattle.theory.specs.Signatures.{Signature, Definition, IsEntryAt, reflexivity}
+use Rattle.theory.specs.Conversion.{beta, zeta, delta, iota, axiom_k, Step, here, domain, codomain, annotation, body, function, argument, let_type, let_value, let_body, Converts, same, forwards, backwards, Below, converts, sorts, products, trans}
+use Rattle.theory.proofs.Examples.Sample.{nat, vec, tree, Nat, zero_term, suc_of, suc_constructor, cons, node, nat_family, two, sample}
 
 -- Nat!elim.m P z s (suc n) steps to s n (Nat!elim.m P z s n)
 suc_iota : (m : ℕ) (P z s n : Term) → iota_right nat m [] P (z ∷ s ∷ []) suc_constructor.arguments s (n ∷ [])
@@ -32,15 +31,56 @@ zeta_step : (a t : Term) → Step sample (Let a t (App (Var 0) (Var 0))) (App t 
 zeta_step a t = here zeta
 
 -- two steps to suc (suc zero)
-delta_step : Step sample (Const 8) (suc_of (suc_of zero_term))
-delta_step = here (delta 8 refl ?two)
+two_is_given : two ≢ Const 8
+two_is_given e = grind arith
 
--- a provisional constant takes no step
-open_is_stuck : (t : Term) → Contracts sample (Const 9) t → ⊥
-open_is_stuck t s = ?open
+delta_step : Step sample (Const 8) (suc_of (suc_of zero_term))
+delta_step = here (delta 8 refl two_is_given)
+
+-- a provisional constant takes no step, in any signature
+same_body : {name name' : List ℕ} {type type' b b' : Term} → Some (Definition name type b) ≡ Some (Definition name' type' b') → b ≡ b'
+same_body e = cc
+
+const_number : {m n : ℕ} → Const m ≡ Const n → m ≡ n
+const_number e = cc
+
+provisional_is_stuck : (S : Signature) (n : ℕ) (name : List ℕ) (type : Term) → IsEntryAt S n (Definition name type (Const n))
+    → (t u : Term) → t ≡ Const n → Step S t u → ⊥
+provisional_is_stuck S n name type at t u e (here beta) = grind arith
+provisional_is_stuck S n name type at t u e (here zeta) = grind arith
+provisional_is_stuck S n name type at t u e (here (delta m found given)) =
+    let number : m ≡ n = const_number e in
+    given (same_body (sym found ∙ (ap (slice_get S.entries) number ∙ at)) ∙ ap Const (sym number))
+provisional_is_stuck S n name type at t u e (here (iota k m number f c ps P ms is qs us found constructor redex method)) = grind arith
+provisional_is_stuck S n name type at t u e (here (axiom_k i m on)) = grind arith
+provisional_is_stuck S n name type at t u e _ = grind arith
 
 iota_step : (P z s n : Term) → Step sample (App (App (App (App (Elim nat 0) P) z) s) (suc_of n)) (App (App s n) (App (App (App (App (Elim nat 0) P) z) s) n))
 iota_step P z s n = here (iota nat 0 1 nat_family suc_constructor [] P (z ∷ s ∷ []) [] [] (n ∷ []) refl refl (record { parameters = refl; methods = refl; indices = refl; constructor_parameters = refl; arguments = refl }) refl)
 
 k_step : (A a P d B b : Term) → Step sample (App (App (App (App (App (AxiomK 0 1) A) a) P) d) (reflexivity 0 B b)) d
 k_step A a P d B b = here (axiom_k 0 1 refl)
+
+-- a step at each place, in terms that hold the constant two
+two_step : Step sample (Const 8) two
+two_step = delta_step
+
+places : (t : Term)
+    → Step sample (Pi (Const 8) t) (Pi two t) × Step sample (Pi t (Const 8)) (Pi t two) × Step sample (Lam (Const 8) t) (Lam two t)
+    × Step sample (Lam t (Const 8)) (Lam t two) × Step sample (App (Const 8) t) (App two t) × Step sample (App t (Const 8)) (App t two)
+    × Step sample (Let (Const 8) t t) (Let two t t) × Step sample (Let t (Const 8) t) (Let t two t) × Step sample (Let t t (Const 8)) (Let t t two)
+places t = (domain two_step, codomain two_step, annotation two_step, body two_step, function two_step, argument two_step, let_type two_step, let_value two_step, let_body two_step)
+
+-- suc (suc zero) and (\x. suc x) (suc zero) convert by a step backwards, and with two by one forwards before it
+converts_back : Converts sample two (App (Lam Nat (suc_of (Var 0))) (suc_of zero_term))
+converts_back = backwards (here beta) same
+
+converts_both_ways : Converts sample (Const 8) (App (Lam Nat (suc_of (Var 0))) (suc_of zero_term))
+converts_both_ways = forwards two_step converts_back
+
+-- A -> Type 0 is below A -> Type 2, and so where a domain is converted
+below_products : (a : Term) → Below sample (Pi a (Sort 0)) (Pi a (Sort 2))
+below_products a = products same (sorts (lit≤ tt))
+
+below_converted : (b : Term) → Below sample (Pi (App b (Const 8)) (Sort 0)) (Pi (App b two) (Sort 1))
+below_converted b = trans (converts (forwards (domain (argument two_step)) same)) (products same (sorts (lit≤ tt)))

@@ -1,8 +1,9 @@
 -- Families and terms of the examples: natural numbers, vectors, trees that branch over the numbers.
 use Rattle.std.specs.Prelude.{ℕ, true, [], ◌∷◌, codes}
-use Rattle.theory.specs.Terms.{Term, Var, Sort, App, Const, Fam, Con}
+use Rattle.theory.specs.Terms.{Term, Var, Sort, App, Fam, Con}
 use Rattle.theory.specs.Families.{Constructor, Family, Plain, Recursive}
 use Rattle.theory.specs.Signatures.{Signature, FamilyOf, EliminatorAt, AxiomKAt, Definition}
+use Rattle.theory.specs.WellFormed.{provisional}
 use Rattle.theory.specs.Prelude.{empty_family, equality_family}
 
 -- the entry numbers: Empty and Eq.0 stand where the prelude has them
@@ -64,12 +65,15 @@ tree_family = record { name = codes "Tree"; parameters = []; indices = []; level
 abbrev pub two : Term
 two = suc_of (suc_of zero_term)
 
--- a signature with K, whose last entry is provisional
-abbrev pub sample : Signature
-sample = record {
+-- a signature with K
+abbrev pub defined : Signature
+defined = record {
   entries =
       FamilyOf empty_family ∷ FamilyOf (equality_family 0) ∷ FamilyOf nat_family ∷ FamilyOf vec_family ∷ FamilyOf tree_family
-      ∷ EliminatorAt nat 0 ∷ EliminatorAt vec 0 ∷ AxiomKAt 0 1
-      ∷ Definition (codes "two") Nat two ∷ Definition (codes "open") Nat (Const 9) ∷ [];
+      ∷ EliminatorAt nat 0 ∷ EliminatorAt vec 0 ∷ AxiomKAt 0 1 ∷ Definition (codes "two") Nat two ∷ [];
   has_k = true;
 }
+
+-- with a provisional entry number 9 at its end
+abbrev pub sample : Signature
+sample = provisional defined (codes "open") Nat

@@ -1,7 +1,7 @@
 -- Lifting, substitution, heights, free variables, telescopes.
-use Rattle.std.proofs.Common.{◌≡◌, ℕ, zero, suc, ◌+◌, [], ◌∷◌, refl, lit<}
-use Rattle.theory.specs.Terms.{Term, Var, Sort, Pi, Lam, App, Let, Const, lift, subst, height, free_of, IsClosed, SortsBelow, top}
-use Rattle.theory.specs.Substitutions.{ren, weaken, inst, extend, fill}
+use Rattle.std.proofs.Common.{◌≡◌, [], ◌∷◌, refl, lit<}
+use Rattle.theory.specs.Terms.{Term, Var, Sort, Pi, Lam, App, Let, Const, lift, subst, height, free_of, IsClosed, SortsBelow}
+use Rattle.theory.specs.Substitutions.{weaken, inst, extend, fill}
 use Rattle.theory.specs.Telescopes.{products, functions, applied, arrows, variables, weaken_by, context_behind, inst_telescope}
 
 -- \x. x y0 y1 with y0 the nearest free variable: y0 and the bound variable stay, y1 goes up
