@@ -3,10 +3,10 @@
 #![tactic(auto)]
 
 pub mod conversion_laws;
-pub mod prelude_laws;
-pub mod signature_laws;
 pub mod instance_laws;
+pub mod prelude_laws;
 pub mod scope_laws;
+pub mod signature_laws;
 pub mod sort_laws;
 pub mod term_laws;
 pub mod typing_laws;
