@@ -14,7 +14,7 @@ use Rattle.theory.specs.Typing.{empty, bind, variable, sort}
 use Rattle.theory.specs.WellFormed.{pushed, first_entries, HasTargets, HasLevels, none, more, IsConstructor, IsFamily, IsEntry, family, eliminator, axiom_k, definition, IsWellFormed, IsWellFormedSoFar, with_provisional, IsTyped}
 use Rattle.theory.proofs.Lists.{only, both}
 use Rattle.theory.proofs.Products.{pi}
-use Rattle.theory.proofs.Pushing.{so_far-typed}
+use Rattle.theory.proofs.Pushing.{so_far_typed}
 use Rattle.theory.proofs.PreludeFamilies.{empty_is_family, equality_is_family, new_family}
 use Rattle.theory.proofs.Examples.Sample.{nat, vec, tree, Nat, Vec, zero_constructor, suc_constructor, nil, cons, node, nat_family, vec_family, tree_family, two, defined, sample}
 use Rattle.theory.proofs.Examples.Positivity.{nat_is_positive, vec_is_positive, tree_is_positive}
@@ -191,4 +191,4 @@ sample_is_well_formed_so_far =
     with_provisional defined (codes "open") Nat defined_is_well_formed (all_distinct (names sample) refl) (0, nat_in defined refl empty)
 
 sample_is_typed : IsTyped sample
-sample_is_typed = so_far-typed sample_is_well_formed_so_far
+sample_is_typed = so_far_typed sample sample_is_well_formed_so_far
