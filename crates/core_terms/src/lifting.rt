@@ -9,7 +9,7 @@ use crate::{MAX_HEIGHT, Stop, Term};
 use std::alloc::Global;
 
 /// Adds `by` to every variable numbered `from` or more, or answers Deep.
-#[tactic(auto, using(crate::proofs::Lifts::height_lift))]
+#[tactic(auto, using(crate::proofs::SubstUnder::lift_laws))]
 pub fn lift(alloc: Global, t: &Term, by: u32, from: u32) -> Result<Term, Stop>
     requires { tree.free_of (tree_of t.now) + by ≤ most_free }
     ensures { Gives tree_of result (bounded (tree.lift (tree_of t.now) by from)) }

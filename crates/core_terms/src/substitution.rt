@@ -12,7 +12,7 @@ use crate::{MAX_HEIGHT, Stop, Term};
 use std::alloc::Global;
 
 /// Puts `by` for variable `at` and lowers greater variables by one, or answers Deep.
-#[tactic(auto, using(crate::proofs::SubstUnder::subst_under_none, crate::proofs::SubstUnder::height_subst, crate::proofs::SubstUnder::height_with_least, crate::proofs::SubstUnder::height_subst_least))]
+#[tactic(auto, using(crate::proofs::SubstUnder::subst_laws))]
 pub fn subst(alloc: Global, t: &Term, at: u32, by: &Term) -> Result<Term, Stop>
     requires { tree.free_of (tree_of by.now) ≤ most_free }
     ensures { Gives tree_of result (bounded (tree.subst (tree_of t.now) at (tree_of by.now))) }
