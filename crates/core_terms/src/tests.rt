@@ -8,26 +8,6 @@ use std::alloc::Global;
 use std::process::Abort;
 use std::test::Fail;
 
-fn pi(alloc: Global, a: Term, b: Term) -> Result<Term, Stop> {
-    Ok(Term::Pi(Box::new(alloc, a)?, Box::new(alloc, b)?))
-}
-
-fn lam(alloc: Global, a: Term, b: Term) -> Result<Term, Stop> {
-    Ok(Term::Lam(Box::new(alloc, a)?, Box::new(alloc, b)?))
-}
-
-fn app(alloc: Global, f: Term, a: Term) -> Result<Term, Stop> {
-    Ok(Term::App(Box::new(alloc, f)?, Box::new(alloc, a)?))
-}
-
-fn let_in(alloc: Global, a: Term, v: Term, b: Term) -> Result<Term, Stop> {
-    Ok(Term::Let(
-        Box::new(alloc, a)?,
-        Box::new(alloc, v)?,
-        Box::new(alloc, b)?,
-    ))
-}
-
 /// One more than the greatest free variable, or 0.
 fn free_of(t: &Term) -> u64
     ensures { result ≡ tree.free_of (tree_of t.now) }
@@ -73,47 +53,55 @@ fn liftings_of_leaves(alloc: Global) -> Result<Vec<LiftCase>, Stop> {
 }
 
 fn liftings_under_binders(alloc: Global) -> Result<Vec<LiftCase>, Stop> {
-    let inner = lam(alloc, Term::Var(0), app(alloc, Term::Var(1), Term::Var(2))?)?;
-    let inner_expected = lam(alloc, Term::Var(0), app(alloc, Term::Var(1), Term::Var(3))?)?;
+    let inner = Term::new_lam(
+        alloc,
+        Term::Var(0),
+        Term::new_app(alloc, Term::Var(1), Term::Var(2))?,
+    )?;
+    let inner_expected = Term::new_lam(
+        alloc,
+        Term::Var(0),
+        Term::new_app(alloc, Term::Var(1), Term::Var(3))?,
+    )?;
     Ok(vec![in alloc;
         lift_case(
-            pi(alloc, Term::Var(0), Term::Var(0))?,
+            Term::new_pi(alloc, Term::Var(0), Term::Var(0))?,
             3,
             0,
-            pi(alloc, Term::Var(3), Term::Var(0))?
+            Term::new_pi(alloc, Term::Var(3), Term::Var(0))?
         ),
         lift_case(
-            pi(alloc, Term::Var(0), Term::Var(1))?,
+            Term::new_pi(alloc, Term::Var(0), Term::Var(1))?,
             3,
             0,
-            pi(alloc, Term::Var(3), Term::Var(4))?
+            Term::new_pi(alloc, Term::Var(3), Term::Var(4))?
         ),
         lift_case(
-            lam(alloc, Term::Var(0), inner)?,
+            Term::new_lam(alloc, Term::Var(0), inner)?,
             1,
             0,
-            lam(alloc, Term::Var(1), inner_expected)?
+            Term::new_lam(alloc, Term::Var(1), inner_expected)?
         ),
         lift_case(
-            app(alloc, Term::Var(0), Term::Var(4))?,
+            Term::new_app(alloc, Term::Var(0), Term::Var(4))?,
             2,
             1,
-            app(alloc, Term::Var(0), Term::Var(6))?
+            Term::new_app(alloc, Term::Var(0), Term::Var(6))?
         ),
         lift_case(
-            let_in(
+            Term::new_let(
                 alloc,
                 Term::Var(0),
                 Term::Var(1),
-                app(alloc, Term::Var(1), Term::Var(2))?
+                Term::new_app(alloc, Term::Var(1), Term::Var(2))?
             )?,
             5,
             1,
-            let_in(
+            Term::new_let(
                 alloc,
                 Term::Var(0),
                 Term::Var(6),
-                app(alloc, Term::Var(1), Term::Var(7))?
+                Term::new_app(alloc, Term::Var(1), Term::Var(7))?
             )?,
         ),
     ]?)
@@ -171,37 +159,37 @@ fn substitutions_in_leaves(alloc: Global) -> Result<Vec<SubstCase>, Stop> {
 fn substitutions_under_one_binder(alloc: Global) -> Result<Vec<SubstCase>, Stop> {
     Ok(vec![in alloc;
         subst_case(
-            pi(alloc, Term::Var(0), Term::Var(1))?,
+            Term::new_pi(alloc, Term::Var(0), Term::Var(1))?,
             0,
             Term::Var(5),
-            pi(alloc, Term::Var(5), Term::Var(6))?,
+            Term::new_pi(alloc, Term::Var(5), Term::Var(6))?,
         ),
         subst_case(
-            pi(alloc, Term::Var(1), Term::Var(0))?,
+            Term::new_pi(alloc, Term::Var(1), Term::Var(0))?,
             0,
             Term::Sort(2),
-            pi(alloc, Term::Var(0), Term::Var(0))?,
+            Term::new_pi(alloc, Term::Var(0), Term::Var(0))?,
         ),
         subst_case(
-            app(alloc, Term::Var(1), Term::Var(2))?,
+            Term::new_app(alloc, Term::Var(1), Term::Var(2))?,
             1,
             Term::Sort(0),
-            app(alloc, Term::Sort(0), Term::Var(1))?,
+            Term::new_app(alloc, Term::Sort(0), Term::Var(1))?,
         ),
         subst_case(
-            let_in(
+            Term::new_let(
                 alloc,
                 Term::Var(0),
                 Term::Var(1),
-                app(alloc, Term::Var(0), Term::Var(1))?
+                Term::new_app(alloc, Term::Var(0), Term::Var(1))?
             )?,
             0,
             Term::Var(4),
-            let_in(
+            Term::new_let(
                 alloc,
                 Term::Var(4),
                 Term::Var(0),
-                app(alloc, Term::Var(0), Term::Var(5))?
+                Term::new_app(alloc, Term::Var(0), Term::Var(5))?
             )?,
         ),
     ]?)
@@ -209,15 +197,23 @@ fn substitutions_under_one_binder(alloc: Global) -> Result<Vec<SubstCase>, Stop>
 
 /// In `\%2. \%1. %2 %3` the term `\%0. %1` is put for variable 0, under no binder, one and two.
 fn substitution_under_two_binders(alloc: Global) -> Result<SubstCase, Stop> {
-    let body = lam(alloc, Term::Var(1), app(alloc, Term::Var(2), Term::Var(3))?)?;
-    let lifted_twice = lam(alloc, Term::Var(2), Term::Var(3))?;
-    let new_body = app(alloc, lifted_twice, Term::Var(2))?;
-    let lifted_once = lam(alloc, Term::Var(1), Term::Var(2))?;
+    let body = Term::new_lam(
+        alloc,
+        Term::Var(1),
+        Term::new_app(alloc, Term::Var(2), Term::Var(3))?,
+    )?;
+    let lifted_twice = Term::new_lam(alloc, Term::Var(2), Term::Var(3))?;
+    let new_body = Term::new_app(alloc, lifted_twice, Term::Var(2))?;
+    let lifted_once = Term::new_lam(alloc, Term::Var(1), Term::Var(2))?;
     Ok(subst_case(
-        lam(alloc, Term::Var(2), body)?,
+        Term::new_lam(alloc, Term::Var(2), body)?,
         0,
-        lam(alloc, Term::Var(0), Term::Var(1))?,
-        lam(alloc, Term::Var(1), lam(alloc, lifted_once, new_body)?)?,
+        Term::new_lam(alloc, Term::Var(0), Term::Var(1))?,
+        Term::new_lam(
+            alloc,
+            Term::Var(1),
+            Term::new_lam(alloc, lifted_once, new_body)?,
+        )?,
     ))
 }
 
@@ -243,7 +239,7 @@ fn substitutes(rt: HostRuntime) -> Result<(), Fail> {
 fn tower(alloc: Global, height: u32, n: u32) -> Result<Term, Stop> {
     let mut t = Term::Var(n);
     for _ in 1..height {
-        t = let_in(alloc, Term::Sort(0), Term::Sort(0), t)?;
+        t = Term::new_let(alloc, Term::Sort(0), Term::Sort(0), t)?;
     }
     Ok(t)
 }
