@@ -11,6 +11,7 @@ pub mod Scopes
 pub mod SignatureLaws
 pub mod Signatures
 pub mod SortLaws
+pub mod Spines
 pub mod Substitutions
 pub mod Telescopes
 pub mod TermLaws

@@ -1,0 +1,4 @@
+pub mod Comparison
+pub mod Entries
+pub mod Reduction
+pub mod Steps

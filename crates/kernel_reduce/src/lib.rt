@@ -1,0 +1,2 @@
+//! Reduction and comparison of terms, with units.
+#![tactic(auto)]
