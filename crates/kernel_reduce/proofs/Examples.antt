@@ -1,14 +1,13 @@
 -- Small cases of reduction and comparison, by computation: the answers with the units that are left.
 use native.Mathlib.Decide.{ℕ_discrete}
-use Rattle.std.proofs.Common.{◌≡◌, ℕ, zero, suc, true, false, Some, None, Ok, Err, List, [], ◌∷◌, refl}
-use Rattle.theory.specs.Terms.{Term, Var, Sort, Pi, Lam, App, Let, Const, Fam, Con, Elim, AxiomK}
+use Rattle.std.proofs.Common.{◌≡◌, true, false, Ok, Err, [], ◌∷◌, refl}
+use Rattle.theory.specs.Terms.{Term, Var, Sort, Pi, Lam, App, Let, Const, Fam, Con, Elim}
 use Rattle.theory.specs.Telescopes.{applied}
-use Rattle.theory.specs.Families.{Family, Plain, Recursive}
+use Rattle.theory.specs.Families.{Recursive}
 use Rattle.theory.specs.Signatures.{Signature, FamilyOf, Definition}
-use Rattle.core_terms.specs.Answers.{Spent}
-use Rattle.core_terms.specs.declared.stop.Stop.TheVariants.{Fuel, Deep}
-use Rattle.kernel_reduce.specs.Reduction.{answered, whnf_of, normal_of, head_step_of}
-use Rattle.kernel_reduce.specs.Comparison.{convertible_of, subtype_of}
+use Rattle.core_terms.specs.declared.stop.Stop.TheVariants.{Fuel}
+use Rattle.kernel_reduce.specs.Reduction.{answered, whnf_of, normal_of}
+use Rattle.kernel_reduce.specs.Comparison.{convertible_of}
 
 -- Nat is family 0, constant 1 is the type Type 0 -> Type 0, and constant 2 is provisional
 sample : Signature

@@ -1,1 +1,5 @@
+pub mod Answers
+pub mod ComparisonLaws
 pub mod Examples
+pub mod ReductionLaws
+pub mod StepLaws

@@ -1,5 +1,5 @@
 -- What stands at a number of a signature.
-use Rattle.std.specs.Prelude.{ℕ, Bool, false, cond, ◌==◌, Option, Some, None, option_and_then, List, slice_get}
+use Rattle.std.specs.Prelude.{ℕ, Bool, false, cond, ◌==◌, Option, Some, None, option_and_then, slice_get}
 use Rattle.theory.specs.Terms.{Term, Const}
 use Rattle.theory.specs.Families.{Family, Constructor}
 use Rattle.theory.specs.Signatures.{Entry, FamilyOf, Definition, Signature}

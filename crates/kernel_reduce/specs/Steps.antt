@@ -1,5 +1,5 @@
 -- The one next step of a term at its head.
-use Rattle.std.specs.Prelude.{ℕ, ◌+◌, Bool, cond, ◌&&◌, ◌==◌, Option, Some, None, option_map, option_and_then, List, [], ◌∷◌, ◌++◌, length, take, drop, slice_get}
+use Rattle.std.specs.Prelude.{ℕ, ◌+◌, Bool, cond, ◌&&◌, ◌==◌, Option, Some, None, option_map, option_and_then, List, [], ◌∷◌, length, take, drop, slice_get}
 use Rattle.theory.specs.Terms.{Term, Lam, App, Let, Const, Con, Elim, AxiomK, subst}
 use Rattle.theory.specs.Telescopes.{applied}
 use Rattle.theory.specs.Spines.{head_of, spine_of}

@@ -23,6 +23,7 @@ pub mod Scoping
 pub mod Shifts
 pub mod SortInstances
 pub mod SortLevels
+pub mod Spines
 pub mod Stability
 pub mod StepScopes
 pub mod StepSorts
