@@ -17,6 +17,8 @@ pub mod PreludeWellFormed
 pub mod Pushing
 pub mod RecordScopes
 pub mod Renaming
+pub mod ScopedEntries
+pub mod ScopedTerms
 pub mod ScopedTypes
 pub mod Scopes
 pub mod Scoping
