@@ -2,4 +2,5 @@ pub mod Answers
 pub mod ComparisonLaws
 pub mod Examples
 pub mod ReductionLaws
+pub mod ScopedReduction
 pub mod StepLaws

@@ -40,7 +40,7 @@ family-in None g e = grind arith
 pub family-found : (S : Signature) (n : ℕ) (f : Family) → family_at S n ≡ Some f → IsEntryAt S n (FamilyOf f)
 family-found S n f e = family-in (slice_get S.entries n) f e
 
-body-in : (n : ℕ) (o : Option Entry) (body : Term) → option_and_then (body_in n) o ≡ Some body → (name : List ℕ) × (type : Term) × (o ≡ Some (Definition name type body)) × (is_constant n body ≡ false)
+pub body-in : (n : ℕ) (o : Option Entry) (body : Term) → option_and_then (body_in n) o ≡ Some body → (name : List ℕ) × (type : Term) × (o ≡ Some (Definition name type body)) × (is_constant n body ≡ false)
 body-in n (Some (FamilyOf f)) body e = absurd (grind arith)
 body-in n (Some (EliminatorAt m k)) body e = absurd (grind arith)
 body-in n (Some (AxiomKAt i m)) body e = absurd (grind arith)

@@ -2,6 +2,7 @@
 use Rattle.std.specs.Prelude.{◌≡◌, ℕ, ◌≤◌, Bool, None, IfSome, IfOk, IsTrue}
 use Rattle.theory.specs.Terms.{Term, height}
 use Rattle.theory.specs.Signatures.{Signature}
+use Rattle.theory.specs.Scoping.{IsScoped, IsScopedSignature}
 use Rattle.theory.specs.Conversion.{Step, Converts, Below}
 use Rattle.kernel_reduce.specs.Steps.{step_of}
 use Rattle.kernel_reduce.specs.Reduction.{head_step_of, whnf_of, normal_of}
@@ -58,3 +59,19 @@ ConvertibleSpends = (S : Signature) (room : ℕ) (a b : Term) (left : ℕ) → (
 
 abbrev pub SubtypeSpends : Type 0
 SubtypeSpends = (S : Signature) (room : ℕ) (a b : Term) (left : ℕ) → (subtype_of S room a b left).1 ≤ left
+
+-- head steps, head forms and normal forms of scoped terms are scoped, over a scoped signature
+abbrev pub StepScoped : Type 0
+StepScoped =
+    (S : Signature) (delta : Bool) (n : ℕ) (t : Term) → IsScopedSignature S → IsScoped S n t →
+    IfSome (step_of S delta t) (IsScoped S n)
+
+abbrev pub WhnfScoped : Type 0
+WhnfScoped =
+    (S : Signature) (delta : Bool) (left n : ℕ) (t : Term) → IsScopedSignature S → IsScoped S n t →
+    IfOk (whnf_of S delta left t).0 (IsScoped S n)
+
+abbrev pub NormalScoped : Type 0
+NormalScoped =
+    (S : Signature) (delta : Bool) (room n : ℕ) (t : Term) (left : ℕ) → IsScopedSignature S → IsScoped S n t →
+    IfOk (normal_of S delta room t left).0 (IsScoped S n)

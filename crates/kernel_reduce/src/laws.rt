@@ -1,5 +1,5 @@
 //! What reduction and comparison mean in the theory.
-ghost use Rattle.kernel_reduce.specs.Laws.{HeadStepIsStep, WhnfIsHeadForm, NormalConverts, ConvertibleConverts, SubtypeIsBelow, HeadStepSpends, WhnfSpends, NormalSpends, ConvertibleSpends, SubtypeSpends};
+ghost use Rattle.kernel_reduce.specs.Laws.{HeadStepIsStep, WhnfIsHeadForm, NormalConverts, ConvertibleConverts, SubtypeIsBelow, HeadStepSpends, WhnfSpends, NormalSpends, ConvertibleSpends, SubtypeSpends, StepScoped, WhnfScoped, NormalScoped};
 
 /// A head step is a step of the theory.
 pub fn head_step_is_step()
@@ -49,4 +49,19 @@ pub fn convertible_spends()
 /// Comparison for cumulativity gives no units back.
 pub fn subtype_spends()
     ensures { SubtypeSpends }
+{}
+
+/// A head step keeps terms scoped.
+pub fn step_scoped()
+    ensures { StepScoped }
+{}
+
+/// Head reduction keeps terms scoped.
+pub fn whnf_scoped()
+    ensures { WhnfScoped }
+{}
+
+/// Normalisation keeps terms scoped.
+pub fn normal_scoped()
+    ensures { NormalScoped }
 {}

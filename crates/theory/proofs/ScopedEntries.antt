@@ -46,7 +46,7 @@ constructor-over_all S count n indices c h = record {
   target_count = h.target_count;
 }
 
-All-at : {X : Type 0} (P : X → Type 0) (xs : List X) (n : ℕ) (x : X) → slice_get xs n ≡ Some x → All P xs → P x
+pub All-at : {X : Type 0} (P : X → Type 0) (xs : List X) (n : ℕ) (x : X) → slice_get xs n ≡ Some x → All P xs → P x
 All-at P [] n x e h = absurd (grind arith)
 All-at P (y ∷ xs) zero x e h = transport P (same_Some y x e) (All-head P y xs h)
 All-at P (y ∷ xs) (suc n) x e h = All-at P xs n x e (All-tail P y xs h)
