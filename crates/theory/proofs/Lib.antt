@@ -18,12 +18,15 @@ pub mod Products
 pub mod Pushing
 pub mod RecordScopes
 pub mod Renaming
+pub mod ScopedEntries
+pub mod ScopedTerms
 pub mod ScopedTypes
 pub mod Scopes
 pub mod Scoping
 pub mod Shifts
 pub mod SortInstances
 pub mod SortLevels
+pub mod Spines
 pub mod Stability
 pub mod StepScopes
 pub mod StepSorts

@@ -8,6 +8,8 @@ pub mod Prelude
 pub mod PreludeLaws
 pub mod ScopeLaws
 pub mod Scopes
+pub mod Scoping
+pub mod ScopingLaws
 pub mod SignatureLaws
 pub mod Signatures
 pub mod SortLaws

@@ -1,0 +1,6 @@
+pub mod Answers
+pub mod ComparisonLaws
+pub mod Examples
+pub mod ReductionLaws
+pub mod ScopedReduction
+pub mod StepLaws

@@ -1,0 +1,192 @@
+-- The step of a term at its head is a step of the theory.
+use Rattle.std.proofs.Common.{◌≡◌, ℕ, ◌+◌, Bool, true, false, cond, ◌&&◌, ◌==◌, Option, Some, None, IfSome, option_map, option_and_then, sym, List, [], ◌∷◌, ◌++◌, length, take, drop, slice_get, refl, ap, ◌∙◌, subst as transport, arith}
+use Rattle.std.proofs.lemmas.Bool.Decides.{Decides-eqb}
+use Rattle.std.proofs.lemmas.List.{take-append-drop, length-take, length-drop}
+use Rattle.theory.specs.Terms.{Term}
+use Rattle.theory.specs.Terms.Term.{Var, Lam, App, Let, Const, Con, Elim, AxiomK}
+use Rattle.theory.specs.Telescopes.{applied}
+use Rattle.theory.specs.Spines.{head_of, spine_of}
+use Rattle.theory.specs.Families.{Family, Constructor}
+use Rattle.theory.specs.Eliminators.{iota_right}
+use Rattle.theory.specs.Signatures.{Entry, FamilyOf, EliminatorAt, AxiomKAt, Definition, Signature, IsEntryAt, equality}
+use Rattle.theory.specs.Conversion.{IsIotaRedex, Step}
+use Rattle.theory.specs.Conversion.Contracts.{beta, zeta, delta as delta_step, iota, axiom_k}
+use Rattle.theory.specs.Conversion.Step.{here, function, argument}
+use Rattle.theory.proofs.Spines.{applied-spine}
+use Rattle.kernel_reduce.specs.Entries.{is_constant, body_in, body_at, family_in, family_at}
+use Rattle.kernel_reduce.specs.Steps.{method_applied, iota_at, iota_of, scrutinee_first, eliminator_step, k_contraction, redex_step, application_step, step_of}
+
+-- what an option leads to, where each value in it does
+pub some-next : {A B : Type 0} (P : B → Type 0) (next : A → Option B) (o : Option A) → ((x : A) → o ≡ Some x → IfSome (next x) P) → IfSome (option_and_then next o) P
+some-next P next (Some x) h = h x refl
+some-next P next None h = tt
+
+pub some-map : {A B : Type 0} (P : B → Type 0) (f : A → B) (o : Option A) → ((x : A) → o ≡ Some x → P (f x)) → IfSome (option_map f o) P
+some-map P f (Some x) h = h x refl
+some-map P f None h = tt
+
+pub some-cond : {A : Type 0} (P : A → Type 0) (test : Bool) (o : Option A) → (test ≡ true → IfSome o P) → IfSome (cond test o None) P
+some-cond P true o h = h refl
+some-cond P false o h = tt
+
+family-in : (o : Option Entry) (f : Family) → option_and_then family_in o ≡ Some f → o ≡ Some (FamilyOf f)
+family-in (Some (FamilyOf f)) g e = grind arith
+family-in (Some (EliminatorAt n m)) g e = grind arith
+family-in (Some (AxiomKAt i m)) g e = grind arith
+family-in (Some (Definition name type body)) g e = grind arith
+family-in None g e = grind arith
+
+-- a family that is found stands there
+pub family-found : (S : Signature) (n : ℕ) (f : Family) → family_at S n ≡ Some f → IsEntryAt S n (FamilyOf f)
+family-found S n f e = family-in (slice_get S.entries n) f e
+
+pub body-in : (n : ℕ) (o : Option Entry) (body : Term) → option_and_then (body_in n) o ≡ Some body → (name : List ℕ) × (type : Term) × (o ≡ Some (Definition name type body)) × (is_constant n body ≡ false)
+body-in n (Some (FamilyOf f)) body e = absurd (grind arith)
+body-in n (Some (EliminatorAt m k)) body e = absurd (grind arith)
+body-in n (Some (AxiomKAt i m)) body e = absurd (grind arith)
+body-in n None body e = absurd (grind arith)
+body-in n (Some (Definition name type t)) body e = go (is_constant n t) refl e
+  where
+    go : (b : Bool) → is_constant n t ≡ b → cond b None (Some t) ≡ Some body → (name' : List ℕ) × (type' : Term) × (Some (Definition name type t) ≡ Some (Definition name' type' body)) × (is_constant n body ≡ false)
+    go true test e = absurd (grind arith)
+    go false test e =
+        let same : t ≡ body = grind arith in
+        (name, type, ap (λ x. Some (Definition name type x)) same, transport (λ x. is_constant n x ≡ false) same test)
+
+constant-itself : (n : ℕ) (t : Term) → is_constant n t ≡ false → t ≡ Const n → ⊥
+constant-itself n t test e =
+    let h : (n == n) ≡ false = transport (λ x. is_constant n x ≡ false) e test in
+    let k : (n == n) ≡ true = (Decides-eqb n n).1 refl in
+    grind arith
+
+delta-steps : (S : Signature) (n : ℕ) (allowed : Bool) → IfSome (cond allowed (body_at S n) None) (Step S (Const n))
+delta-steps S n false = tt
+delta-steps S n true = go (body_at S n) refl
+  where
+    go : (o : Option Term) → body_at S n ≡ o → IfSome o (Step S (Const n))
+    go None e = tt
+    go (Some body) e =
+        let found = body-in n (slice_get S.entries n) body e in
+        here (delta_step n found.2 (constant-itself n body found.3))
+
+-- iota at a constructor with all its arguments, in the words of the eliminator's and the constructor's spine
+iota-here : (S : Signature) (n m number : ℕ) (f : Family) (c : Constructor) (args us ps : List Term) (P : Term) (ms is qs vs : List Term) (method : Term)
+    → IsEntryAt S n (FamilyOf f) → slice_get f.constructors number ≡ Some c → IsIotaRedex f c ps ms is qs vs → slice_get ms number ≡ Some method
+    → ps ++ P ∷ (ms ++ is) ≡ args → qs ++ vs ≡ us
+    → Step S (App (applied (Elim n m) args) (applied (Con n number) us)) (iota_right n m ps P ms c.arguments method vs)
+iota-here S n m number f c args us ps P ms is qs vs method entry con redex at ea eu =
+    transport (λ x. Step S (App (applied (Elim n m) x) (applied (Con n number) us)) (iota_right n m ps P ms c.arguments method vs)) ea
+    (transport (λ x. Step S (App (applied (Elim n m) (ps ++ P ∷ (ms ++ is))) (applied (Con n number) x)) (iota_right n m ps P ms c.arguments method vs)) eu
+    (here (iota n m number f c ps P ms is qs vs entry con redex at)))
+
+-- the eliminator's arguments are exactly all
+IsFull : Family → List Term → Type 0
+IsFull f args = length args ≡ length f.parameters + (1 + (length f.constructors + length f.indices))
+
+redex-parts : (f : Family) (c : Constructor) (args us : List Term) (P : Term) (rest : List Term)
+    → IsFull f args → length us ≡ length f.parameters + length c.arguments → drop (length f.parameters) args ≡ P ∷ rest
+    → IsIotaRedex f c (take (length f.parameters) args) (take (length f.constructors) rest) (drop (length f.constructors) rest) (take (length f.parameters) us) (drop (length f.parameters) us)
+unfolding IsFull
+redex-parts f c args us P rest full len e =
+    let k = length f.parameters in
+    let nc = length f.constructors in
+    let behind = length-drop k args in
+    let all = ap length e in
+    record {
+      parameters = omega (arith, length-take k args);
+      methods = omega (arith, length-take nc rest);
+      indices = omega (arith, length-drop nc rest);
+      constructor_parameters = omega (arith, length-take k us);
+      arguments = omega (arith, length-drop k us);
+    }
+
+method-steps : (S : Signature) (n m number : ℕ) (f : Family) (c : Constructor) (args us rest : List Term)
+    → IsEntryAt S n (FamilyOf f) → slice_get f.constructors number ≡ Some c → IsFull f args
+    → length us ≡ length f.parameters + length c.arguments → drop (length f.parameters) args ≡ rest
+    → IfSome (method_applied n m f number c (drop (length f.parameters) us) (take (length f.parameters) args) rest) (Step S (App (applied (Elim n m) args) (applied (Con n number) us)))
+unfolding IsFull
+method-steps S n m number f c args us [] entry con full len e = tt
+method-steps S n m number f c args us (P ∷ rest) entry con full len e =
+    let k = length f.parameters in
+    let nc = length f.constructors in
+    some-map _ _ (slice_get (take nc rest) number) (λ method at.
+    iota-here S n m number f c args us (take k args) P (take nc rest) (drop nc rest) (take k us) (drop k us) method entry con (redex-parts f c args us P rest full len e) at
+    (ap (λ x. take k args ++ P ∷ x) (take-append-drop nc rest) ∙ ap (λ x. take k args ++ x) (sym e) ∙ take-append-drop k args)
+    (take-append-drop k us))
+
+constructor-steps : (S : Signature) (n m number : ℕ) (f : Family) (args us : List Term)
+    → IsEntryAt S n (FamilyOf f) → IsFull f args
+    → IfSome (option_and_then (iota_at n m f args number us) (slice_get f.constructors number)) (Step S (App (applied (Elim n m) args) (applied (Con n number) us)))
+constructor-steps S n m number f args us entry full =
+    some-next _ _ (slice_get f.constructors number) (λ c con.
+    some-cond _ (length us == length f.parameters + length c.arguments) _ (λ len.
+    method-steps S n m number f c args us (drop (length f.parameters) args) entry con full ((Decides-eqb _ _).0 len) refl))
+
+iota-steps : (S : Signature) (n m : ℕ) (f : Family) (args : List Term) (h : Term) (us : List Term)
+    → IsEntryAt S n (FamilyOf f) → IsFull f args
+    → IfSome (iota_of n m f args h us) (Step S (App (applied (Elim n m) args) (applied h us)))
+iota-steps S n m f args (Con g number) us entry full =
+    some-cond _ (g == n) _ (λ test.
+    transport (λ x. IfSome (option_and_then (iota_at n m f args number us) (slice_get f.constructors number)) (Step S (App (applied (Elim n m) args) (applied (Con x number) us))))
+    (sym ((Decides-eqb g n).0 test))
+    (constructor-steps S n m number f args us entry full))
+iota-steps S n m f args (Var x) us entry full = tt
+iota-steps S n m f args _ us entry full = tt
+
+scrutinee-steps : (S : Signature) (f u : Term) (inner contraction : Option Term) → IfSome inner (Step S u) → IfSome contraction (Step S (App f u))
+    → IfSome (scrutinee_first f inner contraction) (Step S (App f u))
+scrutinee-steps S f u (Some v) contraction h k = argument h
+scrutinee-steps S f u None contraction h k = k
+
+eliminator-steps : (S : Signature) (n m : ℕ) (args : List Term) (u : Term) (inner : Option Term) → IfSome inner (Step S u)
+    → IfSome (option_and_then (eliminator_step n m args u inner) (family_at S n)) (Step S (App (applied (Elim n m) args) u))
+unfolding IsFull
+eliminator-steps S n m args u inner h =
+    some-next _ _ (family_at S n) (λ f found.
+    some-cond _ (length args == length f.parameters + (1 + (length f.constructors + length f.indices))) _ (λ full.
+    scrutinee-steps S (applied (Elim n m) args) u inner _ h
+    (transport (λ x. IfSome (iota_of n m f args (head_of u) (spine_of u)) (Step S (App (applied (Elim n m) args) x))) (applied-spine u)
+    (iota-steps S n m f args (head_of u) (spine_of u) (family-found S n f found) ((Decides-eqb _ _).0 full)))))
+
+pub both-true : (a b : Bool) → (a && b) ≡ true → (a ≡ true) × (b ≡ true)
+both-true true b h = (refl, h)
+both-true false b h = absurd (grind arith)
+
+k-steps : (S : Signature) (i m : ℕ) (A a P d h : Term) (us : List Term) → S.has_k ≡ true
+    → IfSome (k_contraction i d h us) (Step S (App (applied (AxiomK i m) (A ∷ a ∷ P ∷ d ∷ [])) (applied h us)))
+k-steps S i m A a P d (Con g number) (B ∷ b ∷ []) on = some-cond _ ((g == equality i) && (number == 0)) _ (λ test.
+    let parts = both-true (g == equality i) (number == 0) test in
+    transport (λ x. Step S (App (applied (AxiomK i m) (A ∷ a ∷ P ∷ d ∷ [])) (App (App (Con x number) B) b)) d) (sym ((Decides-eqb g (equality i)).0 parts.0))
+    (transport (λ x. Step S (App (applied (AxiomK i m) (A ∷ a ∷ P ∷ d ∷ [])) (App (App (Con (equality i) x) B) b)) d) (sym ((Decides-eqb number 0).0 parts.1))
+    (here (axiom_k i m on))))
+k-steps S i m A a P d (Con g number) _ on = tt
+k-steps S i m A a P d (Var x) us on = tt
+k-steps S i m A a P d _ us on = tt
+
+-- an application whose function takes no step, by the head and the spine of the function
+redex-steps : (S : Signature) (h : Term) (args : List Term) (u : Term) (inner : Option Term) → IfSome inner (Step S u)
+    → IfSome (redex_step S h args u inner) (Step S (App (applied h args) u))
+redex-steps S (Lam a b) [] u inner k = here beta
+redex-steps S (Elim n m) args u inner k = eliminator-steps S n m args u inner k
+redex-steps S (AxiomK i m) (A ∷ a ∷ P ∷ d ∷ []) u inner k =
+    some-cond _ S.has_k _ (λ on.
+    scrutinee-steps S (applied (AxiomK i m) (A ∷ a ∷ P ∷ d ∷ [])) u inner _ k
+    (transport (λ x. IfSome (k_contraction i d (head_of u) (spine_of u)) (Step S (App (applied (AxiomK i m) (A ∷ a ∷ P ∷ d ∷ [])) x))) (applied-spine u)
+    (k-steps S i m A a P d (head_of u) (spine_of u) on)))
+redex-steps S (Var n) args u inner k = tt
+redex-steps S _ args u inner k = tt
+
+application-steps : (S : Signature) (f u : Term) (outer inner : Option Term) → IfSome outer (Step S f) → IfSome inner (Step S u)
+    → IfSome (application_step S f u outer inner) (Step S (App f u))
+application-steps S f u (Some g) inner h k = function h
+application-steps S f u None inner h k =
+    transport (λ x. IfSome (redex_step S (head_of f) (spine_of f) u inner) (Step S (App x u))) (applied-spine f)
+    (redex-steps S (head_of f) (spine_of f) u inner k)
+
+-- what a term steps to is one step further
+pub step-steps : (S : Signature) (delta : Bool) (t : Term) → IfSome (step_of S delta t) (Step S t)
+step-steps S delta (App f u) =
+    application-steps S f u (step_of S delta f) (step_of S delta u) (step-steps S delta f) (step-steps S delta u)
+step-steps S delta (Let a t b) = here zeta
+step-steps S delta (Const n) = delta-steps S n delta
+step-steps S delta _ = tt

@@ -1,0 +1,5 @@
+pub mod Comparison
+pub mod Entries
+pub mod Laws
+pub mod Reduction
+pub mod Steps

@@ -1,0 +1,67 @@
+//! What reduction and comparison mean in the theory.
+ghost use Rattle.kernel_reduce.specs.Laws.{HeadStepIsStep, WhnfIsHeadForm, NormalConverts, ConvertibleConverts, SubtypeIsBelow, HeadStepSpends, WhnfSpends, NormalSpends, ConvertibleSpends, SubtypeSpends, StepScoped, WhnfScoped, NormalScoped};
+
+/// A head step is a step of the theory.
+pub fn head_step_is_step()
+    ensures { HeadStepIsStep }
+{}
+
+/// Head reduction answers a head form that its term converts to.
+pub fn whnf_is_head_form()
+    ensures { WhnfIsHeadForm }
+{}
+
+/// A term converts to its normal form.
+pub fn normal_converts()
+    ensures { NormalConverts }
+{}
+
+/// Terms that are found convertible convert.
+pub fn convertible_converts()
+    ensures { ConvertibleConverts }
+{}
+
+/// A term that is found below another one is below it.
+pub fn subtype_is_below()
+    ensures { SubtypeIsBelow }
+{}
+
+/// A head step gives no units back.
+pub fn head_step_spends()
+    ensures { HeadStepSpends }
+{}
+
+/// Head reduction gives no units back.
+pub fn whnf_spends()
+    ensures { WhnfSpends }
+{}
+
+/// Normalisation gives no units back.
+pub fn normal_spends()
+    ensures { NormalSpends }
+{}
+
+/// Comparison for convertibility gives no units back.
+pub fn convertible_spends()
+    ensures { ConvertibleSpends }
+{}
+
+/// Comparison for cumulativity gives no units back.
+pub fn subtype_spends()
+    ensures { SubtypeSpends }
+{}
+
+/// A head step keeps terms scoped.
+pub fn step_scoped()
+    ensures { StepScoped }
+{}
+
+/// Head reduction keeps terms scoped.
+pub fn whnf_scoped()
+    ensures { WhnfScoped }
+{}
+
+/// Normalisation keeps terms scoped.
+pub fn normal_scoped()
+    ensures { NormalScoped }
+{}

@@ -1,0 +1,4 @@
+//! Reduction and comparison of terms, with units.
+#![tactic(auto)]
+
+pub mod laws;

@@ -1,0 +1,52 @@
+//! The laws of scoping: what keeps terms scoped, and which terms are scoped with a signature.
+ghost use Rattle.theory.specs.ScopingLaws.{ScopedOverMore, ScopedOverAll, RenScoped, InstScoped, LiftScoped, SubstScoped, ContextScoped, TypesScoped, BodiesScoped, IotaScoped};
+
+/// What is scoped is scoped over more variables.
+pub fn scoped_over_more()
+    ensures { ScopedOverMore }
+{}
+
+/// What is scoped over the first entries is scoped over all.
+pub fn scoped_over_all()
+    ensures { ScopedOverAll }
+{}
+
+/// A renaming keeps terms scoped.
+pub fn ren_scoped()
+    ensures { RenScoped }
+{}
+
+/// An instantiation by scoped terms keeps terms scoped.
+pub fn inst_scoped()
+    ensures { InstScoped }
+{}
+
+/// A lift keeps terms scoped, over the variables that it makes room for too.
+pub fn lift_scoped()
+    ensures { LiftScoped }
+{}
+
+/// A substitution for one of n + 1 variables leaves a term over n.
+pub fn subst_scoped()
+    ensures { SubstScoped }
+{}
+
+/// A telescope is scoped exactly where the context behind it is.
+pub fn context_scoped()
+    ensures { ContextScoped }
+{}
+
+/// The types of all symbols are closed and scoped.
+pub fn types_scoped()
+    ensures { TypesScoped }
+{}
+
+/// The bodies of constants are closed and scoped.
+pub fn bodies_scoped()
+    ensures { BodiesScoped }
+{}
+
+/// Iota keeps terms scoped.
+pub fn iota_scoped()
+    ensures { IotaScoped }
+{}
