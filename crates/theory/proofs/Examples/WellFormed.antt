@@ -7,9 +7,9 @@ use Rattle.std.proofs.lemmas.List.Elements.{All-cons, All-nil}
 use Rattle.std.proofs.lemmas.List.Kept.{AllPairs-cons}
 use Rattle.std.proofs.lemmas.Option.{none-some, same_Some}
 use Rattle.std.proofs.lemmas.Slice.Eq.{bytes_eq-Decides}
-use Rattle.theory.specs.Terms.{Var, Sort}
+use Rattle.theory.specs.Terms.{Const, Var, Sort}
 use Rattle.theory.specs.Families.{Family, Plain, Recursive}
-use Rattle.theory.specs.Signatures.{Signature, Entry, FamilyOf, EliminatorAt, AxiomKAt, Definition, IsEntryAt, names}
+use Rattle.theory.specs.Signatures.{Signature, Entry, FamilyOf, EliminatorAt, AxiomKAt, Definition, IsEntryAt, IsPrefix, names}
 use Rattle.theory.specs.Typing.{empty, bind, variable, sort}
 use Rattle.theory.specs.WellFormed.{pushed, first_entries, HasTargets, HasLevels, none, more, IsConstructor, IsFamily, IsEntry, family, eliminator, axiom_k, definition, IsWellFormed, IsWellFormedSoFar, with_provisional, IsTyped}
 use Rattle.theory.proofs.Lists.{only, both}
@@ -189,6 +189,9 @@ defined_is_well_formed = record { distinct = all_distinct (names defined) refl; 
 sample_is_well_formed_so_far : IsWellFormedSoFar sample
 sample_is_well_formed_so_far =
     with_provisional defined (codes "open") Nat defined_is_well_formed (all_distinct (names sample) refl) (0, nat_in defined refl empty)
+
+defined_is_prefix : IsPrefix defined sample
+defined_is_prefix = record { more = Definition (codes "open") Nat (Const 9) ∷ []; entries = refl; has_k = refl }
 
 sample_is_typed : IsTyped sample
 sample_is_typed = so_far_typed sample sample_is_well_formed_so_far
