@@ -3,7 +3,9 @@ ghost use Rattle.std.specs.Prelude.{◌≡◌, ◌+◌, ◌-◌, max};
 ghost use Rattle.core_terms.specs.Meanings.{tree_of};
 ghost use Rattle.theory.specs.Terms as tree;
 
-use crate::{Items, MAX_HEIGHT, Name, Stop, Term, Units, copy, copy_pat, copy_tele, lift, subst};
+use crate::{
+    Items, MAX_HEIGHT, Name, Pat, Stop, Term, Units, copy, copy_pat, copy_tele, lift, subst,
+};
 use std::alloc::Global;
 use std::process::Abort;
 use std::test::Fail;
@@ -289,4 +291,40 @@ fn prints_stops(rt: HostRuntime) -> Result<(), Fail> {
         assert_eq!(rt; format!(in alloc; "{stop}")?.as_str(), message);
     }
     Ok(())
+}
+
+#[test]
+fn keeps_lists(rt: HostRuntime) -> Result<(), Fail> {
+    let alloc = rt.alloc();
+    let mut items = Items::from_vec(vec![in alloc; 1u8, 2]?);
+    items.push(3)?;
+    assert_eq!(rt; items.as_slice(), [1, 2, 3].as_slice());
+    assert_eq!(rt; items.into_vec().as_slice(), [1, 2, 3].as_slice());
+    let name = Name::from_vec(b"suc".to_vec(alloc)?);
+    assert_eq!(rt; name.as_slice(), b"suc".as_slice());
+    assert_eq!(rt; name.into_vec().as_slice(), b"suc".as_slice());
+    Ok(())
+}
+
+#[test]
+fn copies_lists_and_patterns(rt: HostRuntime) -> Result<(), Fail> {
+    let alloc = rt.alloc();
+    let tele = copy_tele(alloc, &[Term::Sort(0), Term::Var(0)])?;
+    assert!(rt; matches!(tele.as_slice(), [Term::Sort(0), Term::Var(0)]));
+    let args = Items::from_vec(vec![in alloc; Pat::Wild, Pat::Bind]?);
+    let copied = copy_pat(alloc, &Pat::Con(5, 1, args))?;
+    let Pat::Con(5, 1, copied_args) = &copied else {
+        panic!(rt; "another pattern");
+    };
+    assert!(rt; matches!(copied_args.as_slice(), [Pat::Wild, Pat::Bind]));
+    Ok(())
+}
+
+#[test]
+fn spends_units(rt: HostRuntime) {
+    let mut units = Units { left: 1, spent: 4 };
+    assert_eq!(rt; units.spend(), Ok(()));
+    assert_eq!(rt; units, Units { left: 0, spent: 5 });
+    assert_eq!(rt; units.spend(), Err(Stop::Fuel));
+    assert_eq!(rt; units, Units { left: 0, spent: 5 });
 }
