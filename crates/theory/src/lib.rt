@@ -3,14 +3,11 @@
 #![tactic(auto)]
 
 pub mod conversion_laws;
-<<<<<<< HEAD
 pub mod instance_laws;
 pub mod prelude_laws;
 pub mod scope_laws;
 pub mod signature_laws;
+pub mod signature_scope_laws;
 pub mod sort_laws;
-=======
-pub mod scoping_laws;
->>>>>>> ca91030 (Scoping of terms, telescopes and signatures, with what keeps it)
 pub mod term_laws;
 pub mod typing_laws;
