@@ -8,7 +8,7 @@ use Rattle.theory.specs.Telescopes.{applied}
 use Rattle.theory.specs.Spines.{head_of, spine_of}
 use Rattle.theory.specs.Families.{Family, Constructor}
 use Rattle.theory.specs.Signatures.{Signature, FamilyOf, IsEntryAt}
-use Rattle.theory.specs.Scoping.{IsScoped, IsScopedSignature}
+use Rattle.theory.specs.SignatureScopes.{IsScoped, IsScopedSignature}
 use Rattle.theory.proofs.ScopedTerms.{scoped-pi, scoped-lam, scoped-app, scoped-let, pi-scoped, lam-scoped, app-scoped, scoped_over_more, subst-scoped, applied-scoped, head-scoped, spine-scoped}
 use Rattle.theory.proofs.ScopedEntries.{All-at, bodies-scoped, iota-scoped}
 use Rattle.core_terms.specs.Answers.{Spent}

@@ -2,7 +2,7 @@
 use Rattle.std.specs.Prelude.{◌≡◌, ℕ, ◌≤◌, Bool, None, IfSome, IfOk, IsTrue}
 use Rattle.theory.specs.Terms.{Term, height}
 use Rattle.theory.specs.Signatures.{Signature}
-use Rattle.theory.specs.Scoping.{IsScoped, IsScopedSignature}
+use Rattle.theory.specs.SignatureScopes.{IsScoped, IsScopedSignature}
 use Rattle.theory.specs.Conversion.{Step, Converts, Below}
 use Rattle.kernel_reduce.specs.Steps.{step_of}
 use Rattle.kernel_reduce.specs.Reduction.{head_step_of, whnf_of, normal_of}

@@ -13,8 +13,8 @@ use Rattle.theory.specs.Eliminators.{motive_type, hypothesis_type, hypothesis_ty
 use Rattle.theory.specs.Signatures.{FamilyOf, AxiomKAt, Definition, Signature, IsEntryAt, equality, axiom_k_type}
 use Rattle.theory.specs.Signatures.TypeOf.{constant, family, constructor, eliminator, axiom_k}
 use Rattle.theory.specs.WellFormed.{first_entries}
-use Rattle.theory.specs.Scoping.{IsFamilyNumber, IsConstructorNumber, IsScoped, IsScopedTelescope, IsScopedArguments, IsScopedConstructor, IsScopedFamily, IsProvisional, IsScopedSignature}
-use Rattle.theory.specs.ScopingLaws.{TypesScoped, BodiesScoped, IotaScoped}
+use Rattle.theory.specs.SignatureScopes.{IsFamilyNumber, IsConstructorNumber, IsScoped, IsScopedTelescope, IsScopedArguments, IsScopedConstructor, IsScopedFamily, IsProvisional, IsScopedSignature}
+use Rattle.theory.specs.SignatureScopeLaws.{TypesScoped, BodiesScoped, IotaScoped}
 use Rattle.theory.proofs.ScopedTerms.{entries-of_first, pi-scoped, lam-scoped, app-scoped, var-scoped, sort-scoped, scoped_over_more, scoped_over_all, ren-scoped, weaken-scoped, ups-scoped, inst-scoped, applied-scoped}
 
 -- s has a scoped term over m variables for each of n variables

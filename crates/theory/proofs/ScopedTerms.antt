@@ -9,8 +9,8 @@ use Rattle.theory.specs.Telescopes.{Context, Telescope, applied, context_behind}
 use Rattle.theory.specs.Spines.{head_of, spine_of}
 use Rattle.theory.specs.Signatures.{Signature}
 use Rattle.theory.specs.WellFormed.{first_entries}
-use Rattle.theory.specs.Scoping.{HasEntries, IsScoped, IsScopedTelescope, IsScopedContext}
-use Rattle.theory.specs.ScopingLaws.{ScopedOverMore, ScopedOverAll, RenScoped, InstScoped, LiftScoped, SubstScoped, ContextScoped}
+use Rattle.theory.specs.SignatureScopes.{HasEntries, IsScoped, IsScopedTelescope, IsScopedContext}
+use Rattle.theory.specs.SignatureScopeLaws.{ScopedOverMore, ScopedOverAll, RenScoped, InstScoped, LiftScoped, SubstScoped, ContextScoped}
 use Rattle.theory.proofs.Shifts.{compare, lift_var-tells, subst_var-below, subst_var-at, subst_var-above, lift-is_ren, subst-is_inst}
 
 -- the parts of a scoped term

@@ -8,9 +8,9 @@ pub mod Prelude
 pub mod PreludeLaws
 pub mod ScopeLaws
 pub mod Scopes
-pub mod Scoping
-pub mod ScopingLaws
 pub mod SignatureLaws
+pub mod SignatureScopeLaws
+pub mod SignatureScopes
 pub mod Signatures
 pub mod SortLaws
 pub mod Spines

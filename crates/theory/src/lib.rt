@@ -8,6 +8,7 @@ pub mod prelude_laws;
 pub mod scope_laws;
 pub mod scoping_laws;
 pub mod signature_laws;
+pub mod signature_scope_laws;
 pub mod sort_laws;
 pub mod term_laws;
 pub mod typing_laws;

@@ -1,5 +1,5 @@
 use Rattle.theory.proofs.ScopedEntries.{iota-scoped}
-use Rattle.theory.proofs.scoping_laws.iota_scoped.Goals as goal
+use Rattle.theory.proofs.signature_scope_laws.iota_scoped.Goals as goal
 
 pub returns : goal.returns
 returns c = iota-scoped

@@ -1,5 +1,5 @@
 use Rattle.theory.proofs.ScopedTerms.{ren-scoped}
-use Rattle.theory.proofs.scoping_laws.ren_scoped.Goals as goal
+use Rattle.theory.proofs.signature_scope_laws.ren_scoped.Goals as goal
 
 pub returns : goal.returns
 returns c = ren-scoped

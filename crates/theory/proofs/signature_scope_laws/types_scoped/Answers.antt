@@ -1,5 +1,5 @@
 use Rattle.theory.proofs.ScopedEntries.{types-scoped}
-use Rattle.theory.proofs.scoping_laws.types_scoped.Goals as goal
+use Rattle.theory.proofs.signature_scope_laws.types_scoped.Goals as goal
 
 pub returns : goal.returns
 returns c = types-scoped

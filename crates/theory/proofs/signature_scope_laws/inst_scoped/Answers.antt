@@ -1,5 +1,5 @@
 use Rattle.theory.proofs.ScopedTerms.{inst-scoped}
-use Rattle.theory.proofs.scoping_laws.inst_scoped.Goals as goal
+use Rattle.theory.proofs.signature_scope_laws.inst_scoped.Goals as goal
 
 pub returns : goal.returns
 returns c = inst-scoped

@@ -7,7 +7,7 @@ use Rattle.theory.specs.Families.{Family, Constructor}
 use Rattle.theory.specs.Eliminators.{iota_right}
 use Rattle.theory.specs.Signatures.{Signature, FamilyOf, Definition, IsEntryAt, TypeOf}
 use Rattle.theory.specs.WellFormed.{first_entries}
-use Rattle.theory.specs.Scoping.{IsScoped, IsScopedTelescope, IsScopedContext, IsScopedSignature}
+use Rattle.theory.specs.SignatureScopes.{IsScoped, IsScopedTelescope, IsScopedContext, IsScopedSignature}
 
 -- over more variables
 abbrev pub ScopedOverMore : Type 0

@@ -1,5 +1,5 @@
 //! The laws of scoping: what keeps terms scoped, and which terms are scoped with a signature.
-ghost use Rattle.theory.specs.ScopingLaws.{ScopedOverMore, ScopedOverAll, RenScoped, InstScoped, LiftScoped, SubstScoped, ContextScoped, TypesScoped, BodiesScoped, IotaScoped};
+ghost use Rattle.theory.specs.SignatureScopeLaws.{ScopedOverMore, ScopedOverAll, RenScoped, InstScoped, LiftScoped, SubstScoped, ContextScoped, TypesScoped, BodiesScoped, IotaScoped};
 
 /// What is scoped is scoped over more variables.
 pub fn scoped_over_more()

@@ -1,5 +1,5 @@
 use Rattle.theory.proofs.ScopedTerms.{scoped_over_more}
-use Rattle.theory.proofs.scoping_laws.scoped_over_more.Goals as goal
+use Rattle.theory.proofs.signature_scope_laws.scoped_over_more.Goals as goal
 
 pub returns : goal.returns
 returns c = scoped_over_more
