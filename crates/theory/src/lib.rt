@@ -6,7 +6,6 @@ pub mod conversion_laws;
 pub mod instance_laws;
 pub mod prelude_laws;
 pub mod scope_laws;
-pub mod scoping_laws;
 pub mod signature_laws;
 pub mod signature_scope_laws;
 pub mod sort_laws;
