@@ -4,6 +4,7 @@ ghost use Rattle.core_terms.specs.Count.{Rose};
 ghost use Rattle.elim_ports.specs.Reading.{ReadsAll};
 ghost use Rattle.elim_ports.specs.declared.reading.ReadError.TheVariants.{Memory};
 
+use crate::copying::PIECE;
 use crate::{PortError, Source};
 use core_terms::Items;
 use std::alloc::{AllocError, Global};
@@ -45,9 +46,6 @@ impl From<AllocError> for ReadError {
         ReadError::Memory
     }
 }
-
-/// How many bytes are asked of the source at once.
-const PIECE: usize = 4096;
 
 /// Reads `source` to its end.
 ///

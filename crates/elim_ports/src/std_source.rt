@@ -4,12 +4,14 @@ ghost use Rattle.std.specs.Io.KnownBytes.{ReadConsumes};
 ghost use Rattle.core_terms.specs.Count.{Rose};
 ghost use Rattle.elim_ports.specs.Reading.{FillsFront};
 
-use crate::copying::copy_front;
+use crate::copying::{PIECE, copy_front};
 use crate::{PortError, Source};
 use std::io::Read;
 use std::marker::Model;
 
-/// A source over a reader of the standard library. It tells nothing of the bytes.
+/// A source over a reader of the standard library, which tells nothing of the bytes.
+///
+/// Each error of the reader is a fault, also one that says that the read was interrupted.
 #[derive(Debug, Drop)]
 pub struct StdSource<R: Read> {
     reader: R,
@@ -26,9 +28,6 @@ impl<R: Read> Model for StdSource<R> {
 
     ghost invariant = { λ s. s.faults < 2 ^ 64 };
 }
-
-/// How many bytes one read gives at most.
-const PIECE: usize = 4096;
 
 impl<R: Read + Drop> StdSource<R> {
     pub fn new(reader: R) -> StdSource<R>
