@@ -10,7 +10,9 @@ use crate::{PortError, Sink};
 use core_terms::Items;
 use std::marker::Model;
 
-/// A sink that keeps what it takes in memory, and some of whose writes fail.
+/// A sink that keeps what it takes in memory, with the allocator of `fails`.
+///
+/// Its writes are numbered from 1, and those in `fails` fail; behind number `u32::MAX` none does.
 #[derive(Debug, Drop)]
 pub struct MemorySink {
     bytes: Vec<u8>,

@@ -11,7 +11,9 @@ use crate::{PortError, Source};
 use core_terms::Items;
 use std::marker::Model;
 
-/// A source over bytes in memory, some of whose reads fail.
+/// A source over bytes in memory.
+///
+/// Its reads are numbered from 1, and those in `fails` fail; behind number `u32::MAX` none does.
 #[derive(Debug, Drop)]
 pub struct MemorySource {
     bytes: Items<u8>,

@@ -1,5 +1,5 @@
 ghost use Rattle.std.specs.Prelude.{◌≡◌, ◌≢◌, ◌+◌, ◌<◌, ◌≤◌, ◌++◌, length, IfOk, IfSome, OnOk, MatchResult, Err};
-ghost use Rattle.std.specs.Io.KnownBytes.{Consumes, Keeps, IsAtEnd};
+ghost use Rattle.std.specs.Io.KnownBytes.{Consumes, IsAtEnd};
 ghost use Rattle.core_terms.specs.Count.{Rose};
 ghost use Rattle.elim_ports.specs.Reading.{ReadsAll};
 ghost use Rattle.elim_ports.specs.declared.reading.ReadError.TheVariants.{Memory};
