@@ -22,14 +22,26 @@ pub(crate) fn copy_whole(alloc: Global, t: &Term) -> Result<Term, Stop>
     match t {
         Term::Var(n) => Ok(Term::Var(*n)),
         Term::Sort(i) => Ok(Term::Sort(*i)),
-        Term::Pi(a, b) => Term::new_pi(alloc, copy_whole(alloc, a)?, copy_whole(alloc, b)?),
-        Term::Lam(a, b) => Term::new_lam(alloc, copy_whole(alloc, a)?, copy_whole(alloc, b)?),
-        Term::App(f, a) => Term::new_app(alloc, copy_whole(alloc, f)?, copy_whole(alloc, a)?),
-        Term::Let(a, v, b) => Term::new_let(
+        Term::Pi(domain, codomain) => Term::new_pi(
             alloc,
-            copy_whole(alloc, a)?,
-            copy_whole(alloc, v)?,
-            copy_whole(alloc, b)?,
+            copy_whole(alloc, domain)?,
+            copy_whole(alloc, codomain)?,
+        ),
+        Term::Lam(domain, body) => Term::new_lam(
+            alloc,
+            copy_whole(alloc, domain)?,
+            copy_whole(alloc, body)?,
+        ),
+        Term::App(function, argument) => Term::new_app(
+            alloc,
+            copy_whole(alloc, function)?,
+            copy_whole(alloc, argument)?,
+        ),
+        Term::Let(ty, value, rest) => Term::new_let(
+            alloc,
+            copy_whole(alloc, ty)?,
+            copy_whole(alloc, value)?,
+            copy_whole(alloc, rest)?,
         ),
         Term::Const(c) => Ok(Term::Const(*c)),
         Term::Fam(f) => Ok(Term::Fam(*f)),

@@ -31,15 +31,19 @@ fn substituted_height(t: &Term, at: u64, put: u32) -> u32
 {
     match t {
         Term::Var(n) if *n as u64 == at => put,
-        Term::Pi(a, b) | Term::Lam(a, b) => {
-            above(substituted_height(a, at, put).max(substituted_height(b, at + 1, put)))
+        Term::Pi(first, second) | Term::Lam(first, second) => {
+            above(substituted_height(first, at, put).max(substituted_height(second, at + 1, put)))
         }
-        Term::App(f, a) => above(substituted_height(f, at, put).max(substituted_height(
-            a, at, put,
-        ))),
-        Term::Let(a, v, b) => {
-            let parts = substituted_height(v, at, put).max(substituted_height(b, at + 1, put));
-            above(substituted_height(a, at, put).max(parts))
+        Term::App(first, second) => {
+            above(substituted_height(first, at, put).max(substituted_height(second, at, put)))
+        }
+        Term::Let(ty, value, rest) => {
+            let parts = substituted_height(value, at, put).max(substituted_height(
+                rest,
+                at + 1,
+                put,
+            ));
+            above(substituted_height(ty, at, put).max(parts))
         }
         _ => 1,
     }
@@ -53,26 +57,26 @@ fn subst_whole(alloc: Global, t: &Term, at: u64, by: &Term, under: u32) -> Resul
 {
     match t {
         Term::Var(n) => subst_variable(alloc, *n, at, by, under),
-        Term::Pi(a, b) => Term::new_pi(
+        Term::Pi(domain, codomain) => Term::new_pi(
             alloc,
-            subst_whole(alloc, a, at, by, under)?,
-            subst_whole(alloc, b, at + 1, by, under + 1)?,
+            subst_whole(alloc, domain, at, by, under)?,
+            subst_whole(alloc, codomain, at + 1, by, under + 1)?,
         ),
-        Term::Lam(a, b) => Term::new_lam(
+        Term::Lam(domain, body) => Term::new_lam(
             alloc,
-            subst_whole(alloc, a, at, by, under)?,
-            subst_whole(alloc, b, at + 1, by, under + 1)?,
+            subst_whole(alloc, domain, at, by, under)?,
+            subst_whole(alloc, body, at + 1, by, under + 1)?,
         ),
-        Term::App(f, a) => Term::new_app(
+        Term::App(function, argument) => Term::new_app(
             alloc,
-            subst_whole(alloc, f, at, by, under)?,
-            subst_whole(alloc, a, at, by, under)?,
+            subst_whole(alloc, function, at, by, under)?,
+            subst_whole(alloc, argument, at, by, under)?,
         ),
-        Term::Let(a, v, b) => Term::new_let(
+        Term::Let(ty, value, rest) => Term::new_let(
             alloc,
-            subst_whole(alloc, a, at, by, under)?,
-            subst_whole(alloc, v, at, by, under)?,
-            subst_whole(alloc, b, at + 1, by, under + 1)?,
+            subst_whole(alloc, ty, at, by, under)?,
+            subst_whole(alloc, value, at, by, under)?,
+            subst_whole(alloc, rest, at + 1, by, under + 1)?,
         ),
         Term::Sort(_)
         | Term::Const(_)
