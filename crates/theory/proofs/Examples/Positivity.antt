@@ -1,7 +1,7 @@
 -- Families that are positive, and constructors that are refused.
-use Rattle.std.proofs.Common.{◌≡◌, ℕ, List, [], ◌∷◌, length, map, refl, arith, true≢false, true, ap, sym, ◌∙◌, All}
+use Rattle.std.proofs.Common.{◌≡◌, ℕ, List, [], ◌∷◌, length, map, refl, arith, true≢false, true, false, ap, sym, ◌∙◌, All}
 use Rattle.std.proofs.lemmas.List.Elements.{All-cons, All-nil}
-use Rattle.theory.specs.Terms.{Term, Var, Pi, App, Fam}
+use Rattle.theory.specs.Terms.{Term, Var, Sort, Pi, Lam, App, Let, Fam, Con, Elim}
 use Rattle.theory.specs.Substitutions.{inst}
 use Rattle.theory.specs.Telescopes.{products, applied, weaken_by}
 use Rattle.theory.specs.Families.{Family, Constructor, Argument, Plain, Recursive, IsPositive, IsPositiveArgument, IsPositiveConstructor, Lacks, mentions, constructor_type, argument_types}
@@ -31,6 +31,11 @@ pub tree_is_positive : IsPositive tree tree_family
 tree_is_positive =
     only (IsPositiveConstructor tree) node
     (record { arguments = only (IsPositiveArgument tree) (Recursive (Nat ∷ []) [] 0) (only (Lacks tree) Nat refl, All-nil _); targets = All-nil _ })
+
+-- each symbol of the family is a mention of it, wherever it stands
+mentioned_anywhere : (mentions nat (Pi (Sort 0) (Lam (Sort 0) (App (Var 0) Nat))) ≡ true) × (mentions nat (Let (Sort 0) (Con nat 1) (Elim vec 0)) ≡ true)
+    × (mentions nat (Elim nat 0) ≡ true) × (mentions nat (Pi (Fam vec) (App (Con vec 0) (Elim tree 0))) ≡ false)
+mentioned_anywhere = (refl, refl, refl, refl)
 
 -- Bad : Type 0 with one constructor, as entry 5
 abbrev bad : ℕ

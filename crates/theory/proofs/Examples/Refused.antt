@@ -4,13 +4,14 @@ use Rattle.std.proofs.Math.Seq.{take-append_seam}
 use Rattle.std.proofs.lemmas.Option.{slice_get_within}
 use Rattle.theory.specs.Terms.{Term, Const, top}
 use Rattle.theory.specs.Telescopes.{Context, Telescope}
-use Rattle.theory.specs.Families.{Family, Constructor, Plain, level_of}
+use Rattle.theory.specs.Families.{Family, Constructor, Plain, Recursive, level_of}
 use Rattle.theory.specs.Signatures.{Signature, Entry, Definition, TypeOf, constant, names}
+use Rattle.theory.specs.Conversion.{IsIotaRedex}
 use Rattle.theory.specs.Typing.{Has, symbol, below, below_sort}
-use Rattle.theory.specs.WellFormed.{IsFamily, IsEliminator, IsAxiomK, IsEntry, IsWellFormed, HasLevels, none, more, provisional, first_entries, family, eliminator, axiom_k, definition}
+use Rattle.theory.specs.WellFormed.{IsFamily, IsEliminator, IsAxiomK, IsEntry, IsWellFormed, HasLevels, HasTargets, none, more, provisional, first_entries, family, eliminator, axiom_k, definition}
 use Rattle.theory.proofs.Lists.{slice_get-last}
 use Rattle.theory.proofs.Examples.Forms.{const_number, type_same, body_same}
-use Rattle.theory.proofs.Examples.Sample.{nat, nat_family, defined}
+use Rattle.theory.proofs.Examples.Sample.{nat, suc_constructor, nat_family, vec_family, defined}
 
 -- K where it is off
 k_off : (S : Signature) (i m : ℕ) → S.has_k ≡ false → IsAxiomK S i m → ⊥
@@ -36,6 +37,14 @@ levels_above (more {i = j} {levels = js} t le h) i rest e lt = let same : j ≡ 
 big_level : (S : Signature) (name : List ℕ) (c : Constructor) → (type : Term) → c.arguments ≡ Plain type 1 ∷ []
     → IsFamily S (record { name = name; parameters = []; indices = []; level = 0; constructors = c ∷ [] }) → ⊥
 big_level S name c type e h = levels_above (h.constructors 0 c (lit< tt)).levels 1 [] (ap (map level_of) e) (lit< tt)
+
+-- a recursive argument of Vec without an index
+no_index : HasTargets vec_family (Recursive [] [] 0) → ⊥
+no_index e = grind arith
+
+-- an eliminator at a constructor that lacks its argument is no redex
+partial : (ms : List Term) → IsIotaRedex nat_family suc_constructor [] ms [] [] [] → ⊥
+partial ms h = let e = h.arguments in omega arith
 
 -- one name twice
 name_twice : (S : Signature) (s : List ℕ) → names S ≡ s ∷ s ∷ [] → IsWellFormed S → ⊥
