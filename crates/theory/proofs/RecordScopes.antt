@@ -9,7 +9,7 @@ use Rattle.theory.specs.Substitutions.{weaken, inst, ups}
 use Rattle.theory.specs.Telescopes.{Telescope, applied, weaken_by}
 use Rattle.theory.specs.Families.{Argument, Plain, Recursive, Constructor, Family, index_types, argument_type, argument_types, recursive_type, constructor_type, constructor_telescope, family_head}
 use Rattle.theory.specs.Signatures.TypeOf.{family, constructor}
-use Rattle.theory.specs.Scopes.{IsScopedTelescope, IsScopedArgument, IsScopedArguments, IsScopedConstructor}
+use Rattle.theory.specs.Scopes.{IsTelescopeOver, IsArgumentOver, AreArgumentsOver, IsConstructorOver}
 use Rattle.theory.specs.ScopeLaws.{RecordsScoped}
 use Rattle.theory.proofs.Shifts.{lift-one}
 use Rattle.theory.proofs.FreeVariables.{free_of-lift}
@@ -61,7 +61,7 @@ map_inst-scoped s (t ∷ ts) k n each h =
     (map_inst-scoped s ts k n each (All-tail (Scoped n) (inst s t) (map (inst s) ts) h))
 
 recursive-scoped : (s : ℕ → Term) (head : Term) (inner : Telescope) (targets : List Term) (k n : ℕ) → Reflects s k n
-    → free_of (recursive_type s head inner targets) ≤ n → IsScopedTelescope k inner × All (Scoped (k + length inner)) targets
+    → free_of (recursive_type s head inner targets) ≤ n → IsTelescopeOver k inner × All (Scoped (k + length inner)) targets
 recursive-scoped s head [] targets k n each h = (
   tt,
   scoped-raised targets k (k + 0) (omega arith)
@@ -74,12 +74,12 @@ recursive-scoped s head (a ∷ inner) targets k n each h =
     )
 
 argument-scoped : (s : ℕ → Term) (head : Term) (a : Argument) (k n : ℕ) → Reflects s k n
-    → free_of (argument_type s head a) ≤ n → IsScopedArgument k a
+    → free_of (argument_type s head a) ≤ n → IsArgumentOver k a
 argument-scoped s head (Plain type level) k n each h = free_before_inst s type k n each h
 argument-scoped s head (Recursive inner targets level) k n each h = recursive-scoped s head inner targets k n each h
 
 arguments-scoped : (s : ℕ → Term) (head : Term) (arguments : List Argument) (k n : ℕ) → Reflects s k n
-    → IsScopedTelescope n (argument_types s head arguments) → IsScopedArguments k arguments
+    → IsTelescopeOver n (argument_types s head arguments) → AreArgumentsOver k arguments
 arguments-scoped s head [] k n each h = tt
 arguments-scoped s head (a ∷ arguments) k n each h = (
   argument-scoped s head a k n each h.0,
@@ -88,7 +88,7 @@ arguments-scoped s head (a ∷ arguments) k n each h = (
 
 -- a constructor whose type is closed
 constructor-scoped : (number : ℕ) (f : Family) (c : Constructor) → free_of (constructor_type number f c) ≤ 0
-    → IsScopedConstructor (length f.parameters) c
+    → IsConstructorOver (length f.parameters) c
 constructor-scoped number f c h =
     let p = length f.parameters in
     let head = family_head number f in

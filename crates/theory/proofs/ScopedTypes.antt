@@ -8,7 +8,7 @@ use Rattle.theory.specs.Substitutions.{weaken, inst, ups, extend, fill}
 use Rattle.theory.specs.Telescopes.{Telescope, products, applied, variables, weaken_by, inst_telescope}
 use Rattle.theory.specs.Families.{Argument, Plain, Recursive, Constructor, Family, index_types, argument_types, constructor_telescope, family_head}
 use Rattle.theory.specs.Eliminators.{motive_type, hypothesis_type, hypothesis_types, method_type, method_types}
-use Rattle.theory.specs.Scopes.{IsScopedTelescope, IsScopedArguments, IsScopedConstructor, IsScopedFamily}
+use Rattle.theory.specs.Scopes.{IsTelescopeOver, AreArgumentsOver, IsConstructorOver, IsClosedFamily}
 use Rattle.theory.specs.ScopeLaws.{FamilyTypeClosed, ConstructorTypeClosed, EliminatorTypeClosed, AxiomKTypeClosed}
 use Rattle.theory.proofs.FreeInstances.{free_of-weaken, free_of-weaken_by, free_of-ups, free_of-inst, free_of-extend, free_of-fill, free_of-map_inst, free_of-variables}
 use Rattle.theory.proofs.Scopes.{Scoped, Places, scoped-products, scoped-applied, scoped-arrows, scoped-weaken, scoped-raised, scoped-arguments, length-argument_types}
@@ -26,7 +26,7 @@ pub scoped-head : (number : ℕ) (f : Family) → free_of (family_head number f)
 scoped-head number f = scoped-applied (Fam number) _ (length f.parameters) (omega arith) (scoped-variables (length f.parameters))
 
 -- products over parameters are closed
-closed-products : (tele : Telescope) (body : Term) → IsScopedTelescope 0 tele → free_of body ≤ length tele
+closed-products : (tele : Telescope) (body : Term) → IsTelescopeOver 0 tele → free_of body ≤ length tele
     → IsClosed (products tele body)
 closed-products tele body st sb = omega (arith, scoped-products tele body 0 st (omega arith))
 
@@ -55,7 +55,7 @@ pub axiom_k_type_closed : AxiomKTypeClosed
 axiom_k_type_closed i m = refl
 
 -- the type of a motive
-pub scoped-motive : (number : ℕ) (f : Family) (m : ℕ) → IsScopedFamily f
+pub scoped-motive : (number : ℕ) (f : Family) (m : ℕ) → IsClosedFamily f
     → free_of (motive_type number f m) ≤ length f.parameters
 scoped-motive number f m scoped =
     let k = length f.indices in
@@ -67,7 +67,7 @@ scoped-motive number f m scoped =
 
 -- the type of a hypothesis
 pub scoped-hypothesis : (s : ℕ → Term) (P r : Term) (inner : Telescope) (targets : List Term) (k n : ℕ) → Places s k n
-    → free_of P ≤ n → free_of r ≤ n → IsScopedTelescope k inner → All (Scoped (k + length inner)) targets
+    → free_of P ≤ n → free_of r ≤ n → IsTelescopeOver k inner → All (Scoped (k + length inner)) targets
     → free_of (hypothesis_type s P r inner targets) ≤ n
 scoped-hypothesis s P r [] targets k n each hp hr si st =
     omega (
@@ -87,7 +87,7 @@ scoped-hypothesis s P r (a ∷ inner) targets k n each hp hr si st =
 
 -- the types of the hypotheses
 pub scoped-hypotheses : (s : ℕ → Term) (P : Term) (arguments : List Argument) (us : List Term) (k n : ℕ) → Places s k n
-    → free_of P ≤ n → IsScopedArguments k arguments → All (Scoped n) us → All (Scoped n) (hypothesis_types s P arguments us)
+    → free_of P ≤ n → AreArgumentsOver k arguments → All (Scoped n) us → All (Scoped n) (hypothesis_types s P arguments us)
 scoped-hypotheses s P [] us k n each hp sa su = All-nil (Scoped n)
 scoped-hypotheses s P (Plain type level ∷ arguments) [] k n each hp sa su = All-nil (Scoped n)
 scoped-hypotheses s P (Recursive inner targets level ∷ arguments) [] k n each hp sa su = All-nil (Scoped n)
@@ -109,7 +109,7 @@ scoped-filled s j k n each i lt =
 
 -- the type of a method
 pub scoped-method : (s : ℕ → Term) (head con P : Term) (c : Constructor) (k n : ℕ) → Places s k n → free_of head ≤ n
-    → free_of con ≤ n → free_of P ≤ n → IsScopedConstructor k c → free_of (method_type s head con P c) ≤ n
+    → free_of con ≤ n → free_of P ≤ n → IsConstructorOver k c → free_of (method_type s head con P c) ≤ n
 scoped-method s head con P c k n each hh hc hp sc =
     let j = length c.arguments in
     let us = variables j in
@@ -131,19 +131,19 @@ scoped-method s head con P c k n each hh hc hp sc =
 
 -- the types of the methods
 pub scoped-methods : (s : ℕ → Term) (family : ℕ) (ps : List Term) (P : Term) (number : ℕ) (cs : List Constructor) (k n : ℕ)
-    → Places s k n → All (Scoped n) ps → free_of P ≤ n → All (IsScopedConstructor k) cs
+    → Places s k n → All (Scoped n) ps → free_of P ≤ n → All (IsConstructorOver k) cs
     → All (Scoped n) (method_types s family ps P number cs)
 scoped-methods s family ps P number [] k n each sp hp sc = All-nil (Scoped n)
 scoped-methods s family ps P number (c ∷ cs) k n each sp hp sc =
     All-cons (Scoped n) _ _
     (scoped-method s (applied (Fam family) ps) (applied (Con family number) ps) P c k n each
     (scoped-applied (Fam family) ps n (omega arith) sp) (scoped-applied (Con family number) ps n (omega arith) sp) hp
-    (All-head (IsScopedConstructor k) c cs sc))
-    (scoped-methods s family ps P (number + 1) cs k n each sp hp (All-tail (IsScopedConstructor k) c cs sc))
+    (All-head (IsConstructorOver k) c cs sc))
+    (scoped-methods s family ps P (number + 1) cs k n each sp hp (All-tail (IsConstructorOver k) c cs sc))
 
 -- a telescope with terms put for the variables that it stands over
-pub scoped-inst_telescope : (s : ℕ → Term) (tele : Telescope) (k n : ℕ) → Places s k n → IsScopedTelescope k tele
-    → IsScopedTelescope n (inst_telescope s tele)
+pub scoped-inst_telescope : (s : ℕ → Term) (tele : Telescope) (k n : ℕ) → Places s k n → IsTelescopeOver k tele
+    → IsTelescopeOver n (inst_telescope s tele)
 scoped-inst_telescope s [] k n each st = tt
 scoped-inst_telescope s (a ∷ tele) k n each st =
     (free_of-inst s a k n st.0 each, scoped-inst_telescope (ups s) tele (k + 1) (n + 1) (free_of-ups s k n each) st.1)
@@ -162,7 +162,7 @@ conclusion number f =
     (Pi (applied (weaken_by k (applied (Fam number) ps)) (variables k))
     (App (applied (Var (k + 1)) (map weaken (variables k))) (Var 0)))
 
-scoped-conclusion : (number : ℕ) (f : Family) → IsScopedFamily f → free_of (conclusion number f) ≤ length f.parameters + 1
+scoped-conclusion : (number : ℕ) (f : Family) → IsClosedFamily f → free_of (conclusion number f) ≤ length f.parameters + 1
 scoped-conclusion number f scoped =
     let k = length f.indices in
     let p = length f.parameters in

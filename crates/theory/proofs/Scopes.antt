@@ -5,7 +5,7 @@ use Rattle.theory.specs.Terms.{Term, free_of}
 use Rattle.theory.specs.Substitutions.{weaken, inst, ups}
 use Rattle.theory.specs.Telescopes.{Telescope, products, applied, arrows}
 use Rattle.theory.specs.Families.{Argument, Plain, Recursive, argument_type, argument_types, recursive_type}
-use Rattle.theory.specs.Scopes.{IsScopedTelescope, IsScopedArgument, IsScopedArguments}
+use Rattle.theory.specs.Scopes.{IsTelescopeOver, IsArgumentOver, AreArgumentsOver}
 use Rattle.theory.specs.ScopeLaws.{FreeOfProducts, FreeOfApplied}
 use Rattle.theory.proofs.Bounds.{applied-kept, applied-parts}
 use Rattle.theory.proofs.FreeInstances.{free_of-weaken, free_of-ups, free_of-inst, free_of-map_inst}
@@ -15,7 +15,7 @@ abbrev pub Scoped : ℕ → Term → Type 0
 Scoped n t = free_of t ≤ n
 
 -- a scoped telescope before a scoped term
-pub scoped-products : (tele : Telescope) (body : Term) (n : ℕ) → IsScopedTelescope n tele → free_of body ≤ n + length tele
+pub scoped-products : (tele : Telescope) (body : Term) (n : ℕ) → IsTelescopeOver n tele → free_of body ≤ n + length tele
     → free_of (products tele body) ≤ n
 scoped-products [] body n st sb = omega arith
 scoped-products (a ∷ tele) body n st sb =
@@ -23,7 +23,7 @@ scoped-products (a ∷ tele) body n st sb =
 
 -- and its parts
 pub products-scoped : (tele : Telescope) (body : Term) (n : ℕ) → free_of (products tele body) ≤ n
-    → IsScopedTelescope n tele × (free_of body ≤ n + length tele)
+    → IsTelescopeOver n tele × (free_of body ≤ n + length tele)
 products-scoped [] body n h = (tt, omega arith)
 products-scoped (a ∷ tele) body n h =
     let rest = products-scoped tele body (n + 1) (omega arith) in
@@ -71,7 +71,7 @@ pub scoped-raised : (ts : List Term) (k n : ℕ) → k ≤ n → All (Scoped k) 
 scoped-raised ts k n le all = All-weaker (Scoped k) (Scoped n) (λ t h. omega arith) ts all
 
 scoped-recursive : (s : ℕ → Term) (head : Term) (inner : Telescope) (targets : List Term) (k n : ℕ) → Places s k n
-    → free_of head ≤ n → IsScopedTelescope k inner → All (Scoped (k + length inner)) targets
+    → free_of head ≤ n → IsTelescopeOver k inner → All (Scoped (k + length inner)) targets
     → free_of (recursive_type s head inner targets) ≤ n
 scoped-recursive s head [] targets k n each hh si st =
     scoped-applied head (map (inst s) targets) n hh
@@ -85,14 +85,14 @@ scoped-recursive s head (a ∷ inner) targets k n each hh si st =
     )
 
 scoped-argument : (s : ℕ → Term) (head : Term) (a : Argument) (k n : ℕ) → Places s k n → free_of head ≤ n
-    → IsScopedArgument k a → free_of (argument_type s head a) ≤ n
+    → IsArgumentOver k a → free_of (argument_type s head a) ≤ n
 scoped-argument s head (Plain type level) k n each hh sa = free_of-inst s type k n sa each
 scoped-argument s head (Recursive inner targets level) k n each hh sa =
     scoped-recursive s head inner targets k n each hh sa.0 sa.1
 
 -- the telescope of scoped arguments
 pub scoped-arguments : (s : ℕ → Term) (head : Term) (arguments : List Argument) (k n : ℕ) → Places s k n → free_of head ≤ n
-    → IsScopedArguments k arguments → IsScopedTelescope n (argument_types s head arguments)
+    → AreArgumentsOver k arguments → IsTelescopeOver n (argument_types s head arguments)
 scoped-arguments s head [] k n each hh sa = tt
 scoped-arguments s head (a ∷ arguments) k n each hh sa = (
   scoped-argument s head a k n each hh sa.0,

@@ -8,13 +8,13 @@ use Rattle.theory.specs.Eliminators.{eliminator_type, iota_right}
 use Rattle.theory.specs.Signatures.{Signature, FamilyOf, IsEntryAt, HasClosedBodies, axiom_k_type}
 use Rattle.theory.specs.Conversion.{Step}
 use Rattle.theory.specs.WellFormed.{IsTyped}
-use Rattle.theory.specs.Scopes.{IsScopedTelescope, IsScopedConstructor, IsScopedFamily}
+use Rattle.theory.specs.Scopes.{IsTelescopeOver, IsConstructorOver, IsClosedFamily}
 
 -- products are scoped where their telescope is, and what stands behind it
 abbrev pub FreeOfProducts : Type 0
 FreeOfProducts =
     (tele : Telescope) (body : Term) (n : ℕ) →
-    (IsScopedTelescope n tele × (free_of body ≤ n + length tele)) ↔ (free_of (products tele body) ≤ n)
+    (IsTelescopeOver n tele × (free_of body ≤ n + length tele)) ↔ (free_of (products tele body) ≤ n)
 
 -- a spine is scoped where its head and its arguments are
 abbrev pub FreeOfApplied : Type 0
@@ -23,15 +23,15 @@ FreeOfApplied =
     ((free_of head ≤ n) × All (λ a. free_of a ≤ n) spine) ↔ (free_of (applied head spine) ≤ n)
 
 abbrev pub FamilyTypeClosed : Type 0
-FamilyTypeClosed = (f : Family) → IsScopedFamily f → IsClosed (family_type f)
+FamilyTypeClosed = (f : Family) → IsClosedFamily f → IsClosed (family_type f)
 
 abbrev pub ConstructorTypeClosed : Type 0
 ConstructorTypeClosed =
-    (n : ℕ) (f : Family) (c : Constructor) → IsScopedTelescope 0 f.parameters → IsScopedConstructor (length f.parameters) c →
+    (n : ℕ) (f : Family) (c : Constructor) → IsTelescopeOver 0 f.parameters → IsConstructorOver (length f.parameters) c →
     IsClosed (constructor_type n f c)
 
 abbrev pub EliminatorTypeClosed : Type 0
-EliminatorTypeClosed = (n : ℕ) (f : Family) (m : ℕ) → IsScopedFamily f → IsClosed (eliminator_type n f m)
+EliminatorTypeClosed = (n : ℕ) (f : Family) (m : ℕ) → IsClosedFamily f → IsClosed (eliminator_type n f m)
 
 abbrev pub AxiomKTypeClosed : Type 0
 AxiomKTypeClosed = (i m : ℕ) → IsClosed (axiom_k_type i m)
@@ -49,4 +49,4 @@ FreeOfStep = (S : Signature) → HasClosedBodies S → (t u : Term) → Step S t
 
 -- the records of a typed signature are scoped
 abbrev pub RecordsScoped : Type 0
-RecordsScoped = (S : Signature) → IsTyped S → (n : ℕ) (f : Family) → IsEntryAt S n (FamilyOf f) → IsScopedFamily f
+RecordsScoped = (S : Signature) → IsTyped S → (n : ℕ) (f : Family) → IsEntryAt S n (FamilyOf f) → IsClosedFamily f

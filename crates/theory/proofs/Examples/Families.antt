@@ -5,7 +5,7 @@ use Rattle.theory.specs.Families.{index_types, family_type, family_head, constru
 use Rattle.theory.specs.Eliminators.{eliminator_type, motive_type}
 use Rattle.theory.specs.Signatures.{equality, equation, reflexivity, axiom_k_type}
 use Rattle.theory.specs.Prelude.{equality_family, pair_family, level_text}
-use Rattle.theory.specs.Scopes.{IsScopedConstructor, IsScopedFamily}
+use Rattle.theory.specs.Scopes.{IsConstructorOver, IsClosedFamily}
 use Rattle.theory.proofs.Lists.{only, both}
 use Rattle.theory.proofs.Examples.Sample.{nat, vec, tree, Nat, zero_term, suc_of, Vec, nil_of, cons_of, zero_constructor, suc_constructor, nil, cons, nat_family, vec_family, tree_family}
 
@@ -109,11 +109,11 @@ twelve : level_text 12 ≡ 49 ∷ 50 ∷ []
 twelve = refl
 
 -- the record of Vec is scoped: parameters over nothing, indices over one variable, the targets of cons over four
-vec_is_scoped : IsScopedFamily vec_family
+vec_is_scoped : IsClosedFamily vec_family
 vec_is_scoped = record {
   parameters = (lit≤ tt, tt);
   indices = (lit≤ tt, tt);
-  constructors = both (IsScopedConstructor 1) nil cons
+  constructors = both (IsConstructorOver 1) nil cons
       (record { arguments = tt; targets = only (λ t. free_of t ≤ 1) zero_term (lit≤ tt) })
       (record {
         arguments = (lit≤ tt, (lit≤ tt, ((tt, only (λ t. free_of t ≤ 3) (Var 1) (lit≤ tt)), tt)));
