@@ -2,7 +2,7 @@
 use Rattle.std.proofs.Common.{◌≡◌, ℕ, ◌+◌, ◌==◌, cond, refl, ap, ap₂, ◌∙◌, sym, min, arith}
 use Rattle.std.proofs.lemmas.Bool.Decides.{nat_tests}
 use Rattle.theory.specs.Terms.{Term, lift, subst, subst_var, height}
-use Rattle.theory.specs.Terms.Term.{Var, Sort, Pi, Lam, App, Let, Const, Fam, Con, Elim, AxiomK}
+use Rattle.theory.specs.Terms.Term.{Var, Pi, Lam, App, Let}
 use Rattle.theory.proofs.Commuting.{lift_by_none, lift_merge}
 use Rattle.theory.proofs.Heights.{height-lift, height-subst-least}
 use Rattle.core_terms.specs.Substitution.{subst_under, height_with}
