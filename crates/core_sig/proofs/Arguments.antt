@@ -1,8 +1,8 @@
 -- Arguments of the code and those that they stand for, where their kinds are those of their types.
-use Rattle.std.proofs.Common.{◌≡◌, ℕ, zero, suc, ◌+◌, ◌<◌, ◌≤◌, List, [], ◌∷◌, ◌++◌, map, drop, length, refl, ap, ap₂, sym, ◌∙◌, arith, append-nil, append_assoc}
-use Rattle.std.proofs.lemmas.List.{length-map, length-append}
+use Rattle.std.proofs.Common.{◌≡◌, ℕ, zero, suc, ◌+◌, ◌<◌, ◌≤◌, List, [], ◌∷◌, ◌++◌, map, take, drop, length, get_or, refl, ap, ap₂, sym, ◌∙◌, arith, append-nil, append_assoc, add-one}
+use Rattle.std.proofs.lemmas.List.{length-map, length-append, length-take-le, map-append}
 use Rattle.std.proofs.lemmas.Simd.{map-map}
-use Rattle.std.proofs.Math.Seq.{drop-append_seam}
+use Rattle.std.proofs.Math.Seq.{drop-append_seam, take-suc}
 use mathlib.Core.Path.{fun_ext}
 use Rattle.theory.specs.Terms.{Term, lift, lift_var}
 use Rattle.theory.specs.Terms.Term.{Var, Pi, Lam, App, Let, Fam}
@@ -25,6 +25,7 @@ use Rattle.core_sig.specs.declared.family.ArgKind.{ArgKind}
 use Rattle.core_sig.specs.declared.family.ArgKind.TheVariants.{Plain, Recursive}
 use Rattle.core_sig.specs.declared.family.Arg.{Arg}
 use Rattle.core_sig.proofs.EntryInstances.{ren-id, inst-argument_type}
+use Rattle.core_sig.proofs.Telescoping.{lift_telescope-push}
 
 -- ---- splitting the type of a recursive argument
 
@@ -132,3 +133,14 @@ argument_types-of n f args kinds =
 -- the types of indices
 pub index_types-of : (f : Family) → index_types (family_of f) ≡ map (λ a. tree_of a.ty) f.indices
 index_types-of f = map-map (λ (i : Term × ℕ). i.0) (λ (a : Arg). (tree_of a.ty, a.level)) f.indices
+
+-- one type more of a lifted telescope
+pub lift_types-more : (args : List Arg) (n by : ℕ) (a : Arg) → n < length args → a ≡ get_or args n a → lift_telescope (map (λ k. tree_of k.ty) (take (n + 1) args)) by 0 ≡ lift_telescope (map (λ k. tree_of k.ty) (take n args)) by 0 ++ lift (tree_of a.ty) by n ∷ []
+lift_types-more args n by a lt is =
+    ap (λ xs. lift_telescope (map (λ k. tree_of k.ty) xs) by 0) (ap (λ k. take k args) (add-one n) ∙ (take-suc args n a lt ∙ ap (λ k. take n args ++ k ∷ []) (sym is)))
+    ∙ (ap (λ ts. lift_telescope ts by 0) (map-append (λ k. tree_of k.ty) (take n args) (a ∷ []))
+    ∙ (lift_telescope-push (map (λ k. tree_of k.ty) (take n args)) (tree_of a.ty) by 0
+    ∙ ap (λ k. lift_telescope (map (λ j. tree_of j.ty) (take n args)) by 0 ++ lift (tree_of a.ty) by k ∷ []) counted))
+  where
+    counted : 0 + length (map (λ k. tree_of k.ty) (take n args)) ≡ n
+    counted = omega (arith, length-map (take n args) (λ k. tree_of k.ty), length-take-le n args)

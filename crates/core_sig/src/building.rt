@@ -1,12 +1,14 @@
-ghost use Rattle.std.specs.Prelude.{◌≡◌, ◌≤◌, ◌<◌, ◌+◌, ◌^◌, map, IfOk, IfErr};
+ghost use Rattle.std.specs.Prelude.{◌≡◌, ◌≤◌, ◌<◌, ◌+◌, ◌^◌, map, length, All, IfOk, IfErr};
 ghost use Rattle.core_terms.specs.Answers.{Gives, bounded};
+ghost use Rattle.core_terms.specs.Bounds.{most_free};
 ghost use Rattle.core_terms.specs.Meanings.{tree_of, tele_of};
 ghost use Rattle.core_terms.specs.declared.stop.Stop.TheVariants.{Deep};
+ghost use Rattle.theory.specs.Terms as tree;
 ghost use Rattle.theory.specs.Telescopes as spec;
-ghost use Rattle.core_sig.specs.Building.{BuildsAll};
+ghost use Rattle.core_sig.specs.Building.{BuildsAll, lift_telescope};
 
 use crate::Arg;
-use core_terms::{MAX_HEIGHT, Stop, Term, copy};
+use core_terms::{MAX_HEIGHT, Stop, Term, copy, lift};
 use std::alloc::Global;
 
 /// A number of binders or of arguments, or Deep where a term with so many is too high.
@@ -76,4 +78,38 @@ pub(crate) fn copy_types(alloc: Global, args: &[Arg]) -> Result<Vec<Term>, Stop>
         types.push(copy(alloc, &arg.ty)?)?;
     }
     Ok(types)
+}
+
+/// The types of arguments or indices where the parameters are `by` further out.
+pub(crate) fn lift_types(alloc: Global, args: &[Arg], by: u32) -> Result<Vec<Term>, Stop>
+    requires few { length args.now ≤ 2000 }
+    requires free { All (λ a. tree.free_of (tree_of a.ty) + by ≤ most_free) args.now }
+    ensures { BuildsAll result (lift_telescope (map (λ a. tree_of a.ty) args.now) by 0) }
+{
+    let mut types = Vec::new(alloc);
+    for (at, arg) in args.iter().enumerate() {
+        types.push(lift(alloc, &arg.ty, by, at as u32)?)?;
+    }
+    Ok(types)
+}
+
+/// The term with `by` added to each variable numbered `from` or more, and then `more` to every variable.
+pub(crate) fn lift_twice(alloc: Global, t: &Term, by: u32, from: u32, more: u32) -> Result<Term, Stop>
+    requires { tree.free_of (tree_of t.now) + by + more ≤ most_free }
+    ensures { Gives tree_of result (bounded (tree.lift (tree.lift (tree_of t.now) by from) more 0)) }
+{
+    let t = lift(alloc, t, by, from)?;
+    lift(alloc, &t, more, 0)
+}
+
+/// Each term lifted twice.
+pub(crate) fn lift_all_twice(alloc: Global, terms: &[Term], by: u32, from: u32, more: u32) -> Result<Vec<Term>, Stop>
+    requires { All (λ t. tree.free_of (tree_of t) + by + more ≤ most_free) terms.now }
+    ensures { BuildsAll result (map (λ t. tree.lift (tree.lift t by from) more 0) (tele_of terms.now)) }
+{
+    let mut lifted = Vec::new(alloc);
+    for t in terms {
+        lifted.push(lift_twice(alloc, t, by, from, more)?)?;
+    }
+    Ok(lifted)
 }

@@ -5,6 +5,7 @@
 mod building;
 mod entry;
 mod family;
+mod hypotheses;
 mod name_index;
 mod naming;
 mod raw;
