@@ -8,9 +8,10 @@ use Rattle.theory.proofs.Heights.{height-lift}
 use Rattle.theory.proofs.FreeVariables.{free_of-lift}
 use Rattle.core_terms.specs.Answers.{Gives, bounded}
 use Rattle.core_terms.specs.Meanings.{tree_of}
+use Rattle.core_terms.specs.declared.term.Term.{Term as Code}
 use Rattle.core_terms.specs.declared.stop.Stop.{Stop}
 use Rattle.core_terms.specs.declared.stop.Stop.TheVariants.{Memory, Deep}
-use Rattle.core_sig.specs.Building.{greatest_height, lift_telescope}
+use Rattle.core_sig.specs.Building.{greatest_height, lift_telescope, Builds}
 
 -- a product over one type more
 pub products-push : (tele : Telescope) (a b : Term) → products (tele ++ a ∷ []) b ≡ products tele (Pi a b)
@@ -104,3 +105,12 @@ lift_telescope-push [] t by from = ap (λ k. lift t by k ∷ []) (omega arith)
 lift_telescope-push (a ∷ tele) t by from =
     ap (λ ts. lift a by from ∷ ts)
     (lift_telescope-push tele t by (from + 1) ∙ ap (λ k. lift_telescope tele by (from + 1) ++ lift t by k ∷ []) (omega arith))
+
+-- what is too high within a product
+pub deep-products : (e : Stop) (tele : Telescope) (b : Term) → (e ≢ Memory → (e ≡ Deep) × (2000 < greatest_height tele)) → e ≢ Memory → (e ≡ Deep) × (2000 < height (products tele b))
+deep-products e tele b why other = let high = why other in (high.0, omega (arith, greatest-products tele b))
+
+-- a term that is given is built
+pub gives-builds : (r : Result Code Stop) (x y : Term) → Gives tree_of r (Ok x) → x ≡ y → Builds r y
+gives-builds (Ok t) x y gives is = ok_is gives ∙ is
+gives-builds (Err e) x y gives is = λ other. let no = gives other in cc

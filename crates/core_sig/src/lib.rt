@@ -3,6 +3,7 @@
 #![tactic(auto)]
 
 mod building;
+mod eliminator;
 mod entry;
 mod family;
 mod hypotheses;
@@ -12,6 +13,7 @@ mod raw;
 mod signature;
 mod types;
 
+pub use eliminator::elim_type;
 pub use entry::{Draft, Entry, Found};
 pub use family::{Arg, ArgKind, Constructor, Family};
 pub use raw::{MutualRaw, RawCon, RawFamily, RawMember};
