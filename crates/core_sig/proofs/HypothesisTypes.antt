@@ -121,7 +121,7 @@ hypotheses-recursive n f P by before at count a args is kind =
         ∙ argument_with-recursive n f at count parts.0 parts.1 (tree_of a.ty) a.level parts.2 parts.3
 
 -- the arguments from one on are that one and those behind it
-drop-at : (args : List Arg) (at : ℕ) (a : Arg) → at < length args → a ≡ get_or args at a → drop at args ≡ a ∷ drop (at + 1) args
+pub drop-at : (args : List Arg) (at : ℕ) (a : Arg) → at < length args → a ≡ get_or args at a → drop at args ≡ a ∷ drop (at + 1) args
 drop-at args at a lt is = drop-cons args at a lt ∙ ap₂ ◌∷◌ (sym is) (ap (λ k. drop k args) (sym (add-one at)))
 
 -- from a plain argument on

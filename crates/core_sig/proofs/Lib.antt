@@ -7,4 +7,5 @@ pub mod Keeping
 pub mod Lookups
 pub mod MethodTypes
 pub mod NameLists
+pub mod PositiveFamilies
 pub mod Telescoping

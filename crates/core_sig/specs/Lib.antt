@@ -4,4 +4,6 @@ pub mod Invariants
 pub mod Kinds
 pub mod Meanings
 pub mod Names
+pub mod Offenders
+pub mod Settling
 pub mod Stages
