@@ -1,3 +1,11 @@
+pub mod Arguments
+pub mod ConstructorTypes
+pub mod EliminatorTypes
+pub mod EntryInstances
+pub mod HypothesisTypes
 pub mod Keeping
 pub mod Lookups
+pub mod MethodTypes
 pub mod NameLists
+pub mod PositiveFamilies
+pub mod Telescoping

@@ -2,14 +2,23 @@
 //! bring along.
 #![tactic(auto)]
 
+mod building;
+mod eliminator;
 mod entry;
 mod family;
+mod hypotheses;
 mod name_index;
 mod naming;
+mod positivity;
 mod raw;
+mod settling;
 mod signature;
+mod types;
 
+pub use eliminator::elim_type;
 pub use entry::{Draft, Entry, Found};
 pub use family::{Arg, ArgKind, Constructor, Family};
+pub use positivity::strictly_positive;
 pub use raw::{MutualRaw, RawCon, RawFamily, RawMember};
 pub use signature::Signature;
+pub use types::{con_type, family_type};
