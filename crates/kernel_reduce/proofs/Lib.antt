@@ -1,6 +1,7 @@
 pub mod Answers
 pub mod ComparisonLaws
 pub mod Examples
+pub mod InstanceUnder
 pub mod ReductionLaws
 pub mod ScopedReduction
 pub mod SpineLengths

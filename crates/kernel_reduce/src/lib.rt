@@ -3,5 +3,6 @@
 
 pub mod laws;
 mod lookup;
+mod making;
 mod spine;
 mod testing;
