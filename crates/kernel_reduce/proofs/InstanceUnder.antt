@@ -18,11 +18,11 @@ use Rattle.core_terms.specs.declared.stop.Stop.TheVariants.{Memory, Deep}
 use Rattle.core_terms.specs.declared.term.Term as code
 use Rattle.kernel_reduce.specs.Making.{MakesUnder, Makes, under_binders, instance_of}
 
-weaken-lifted : (t : Term) (k : ℕ) → weaken (lift t k 0) ≡ lift t (k + 1) 0
+pub weaken-lifted : (t : Term) (k : ℕ) → weaken (lift t k 0) ≡ lift t (k + 1) 0
 weaken-lifted t k = sym (lift-one (lift t k 0)) ∙ lift_merge t k 0 1 0 (omega arith) (omega arith)
 
 -- under one binder more
-ups-under : (k : ℕ) (s : ℕ → Term) (n : ℕ) → ups (under_binders k s) n ≡ under_binders (k + 1) s n
+pub ups-under : (k : ℕ) (s : ℕ → Term) (n : ℕ) → ups (under_binders k s) n ≡ under_binders (k + 1) s n
 unfolding under_binders
 ups-under k s zero = go (nat_lt 0 (k + 1)) refl
   where

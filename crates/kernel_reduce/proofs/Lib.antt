@@ -1,4 +1,6 @@
 pub mod Answers
+pub mod CallForms
+pub mod CallHeights
 pub mod ComparisonLaws
 pub mod Examples
 pub mod InstanceUnder

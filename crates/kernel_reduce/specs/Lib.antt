@@ -1,3 +1,4 @@
+pub mod Calls
 pub mod Comparison
 pub mod Entries
 pub mod Laws
