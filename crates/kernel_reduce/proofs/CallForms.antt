@@ -2,7 +2,9 @@
 use Rattle.std.proofs.Common.{◌≡◌, ℕ, zero, suc, ◌+◌, ◌-◌, ◌<◌, ◌≤◌, min, Bool, true, false, cond, nat_lt, nat_le, Some, None, option_map, List, [], ◌∷◌, ◌++◌, length, get_or, take, drop, map, slice_get, refl, sym, ap, ap₂, ◌∙◌, subst as transport, arith}
 use mathlib.Core.Path.{fun_ext}
 use Rattle.std.proofs.lemmas.Bool.Decides.{nat_tests}
-use Rattle.std.proofs.lemmas.List.{length-append, length-take, length-drop, get_or-take, get_or-drop, map-append}
+use Rattle.std.proofs.lemmas.List.{length-append, length-take, length-drop, get_or-take, get_or-drop, map-append, length-map}
+use Rattle.std.proofs.lemmas.List.Elements.{All-take}
+use Rattle.std.specs.List.{All}
 use Rattle.std.proofs.lemmas.Option.{slice_get-get_or}
 use Rattle.std.proofs.Math.Seq.{take-suc, drop-cons, take-add}
 use Rattle.theory.specs.Terms.{Term, lift}
@@ -13,7 +15,8 @@ use Rattle.theory.specs.Spines.{spine_of}
 use Rattle.theory.specs.Families.{Argument, Plain, Recursive, Constructor, Family}
 use Rattle.theory.specs.Eliminators.{hypothesis, hypotheses, no_variable, iota_right}
 use Rattle.theory.proofs.Commuting.{lift_by_none}
-use Rattle.core_terms.specs.Meanings.{tree_of}
+use Rattle.core_terms.specs.Meanings.{tree_of, tele_of}
+use Rattle.core_terms.specs.declared.term.Term as code
 use Rattle.core_sig.specs.Meanings.{domains, behind, argument_with, argument_of}
 use Rattle.core_sig.specs.declared.family.Arg.{Arg}
 use Rattle.core_sig.specs.declared.family.ArgKind.{ArgKind}
@@ -21,7 +24,7 @@ use Rattle.core_sig.specs.declared.family.ArgKind.TheVariants as kind
 use Rattle.kernel_reduce.specs.Making.{under_binders, instance_of}
 use Rattle.kernel_reduce.specs.Calls.{call_of, recursive_call_of, hypothesis_of, hypothesis_before, hypotheses_of}
 use Rattle.kernel_reduce.specs.Steps.{method_applied}
-use Rattle.kernel_reduce.proofs.InstanceUnder.{weaken-lifted, ups-under, instance-is_inst, applied_snoc}
+use Rattle.kernel_reduce.proofs.InstanceUnder.{weaken-lifted, ups-under, instance-is_inst, applied_snoc, value-at}
 
 drop-all : {A : Type 0} (xs : List A) (n : ℕ) → length xs ≤ n → drop n xs ≡ []
 drop-all [] zero h = refl
@@ -155,23 +158,58 @@ fill-more : (s : ℕ → Term) (values : List Term) (k : ℕ) (d : Term) → k <
 fill-more s values k d low =
     sym (fun_ext (fill-snoc s (take k values) (get_or values k d))) ∙ ap (fill s) (sym (take-suc values k d low))
 
-pub hypotheses-are : (values : List Term) (p : ℕ) (recursor : Term) (at k : ℕ) (args : List Arg) → p ≤ 2000 → k ≡ p + at → k + length args ≤ length values
-    → hypotheses_of values p recursor at args ≡ hypotheses (fill no_variable (take k values)) recursor (map (argument_of p) args) (drop k values)
-hypotheses-are values p recursor at k [] few e fits = refl
-hypotheses-are values p recursor at k (a ∷ args) few e fits =
-    by a.kind (hypotheses-are values p recursor (at + 1) (suc k) args few (omega arith) (omega arith))
-    ∙ ap (hypotheses (fill no_variable (take k values)) recursor (map (argument_of p) (a ∷ args))) (sym (drop-cons values k (Sort 0) low))
+pub hypotheses-are : (values : List Term) (p : ℕ) (recursor : Term) (known : ℕ) (args : List Arg) → p ≤ 2000 → known + length args ≤ length values
+    → hypotheses_of values p recursor known args ≡ hypotheses (fill no_variable (take known values)) recursor (map (argument_of p) args) (drop known values)
+hypotheses-are values p recursor known [] few fits = refl
+hypotheses-are values p recursor known (a ∷ args) few fits =
+    by a.kind (hypotheses-are values p recursor (known + 1) args few (omega arith))
+    ∙ ap (hypotheses (fill no_variable (take known values)) recursor (map (argument_of p) (a ∷ args))) (sym (drop-cons values known (Sort 0) low))
   where
-    low : k < length values
+    low : known < length values
     low = omega arith
+    one : known + 1 ≡ suc known
+    one = omega arith
     v : Term
-    v = get_or values k (Sort 0)
-    by : (kind : ArgKind) → hypotheses_of values p recursor (at + 1) args ≡ hypotheses (fill no_variable (take (suc k) values)) recursor (map (argument_of p) args) (drop (suc k) values)
-        → hypothesis_before values p recursor at (tree_of a.ty) kind (hypotheses_of values p recursor (at + 1) args)
-        ≡ hypotheses (fill no_variable (take k values)) recursor (argument_with p (tree_of a.ty) a.level kind ∷ map (argument_of p) args) (v ∷ drop (suc k) values)
-    by kind.Plain rest = rest ∙ ap (λ s. hypotheses s recursor (map (argument_of p) args) (drop (suc k) values)) (sym (fill-more no_variable values k (Sort 0) low))
+    v = get_or values known (Sort 0)
+    more : extend (fill no_variable (take known values)) v ≡ fill no_variable (take (known + 1) values)
+    more = fill-more no_variable values known (Sort 0) low ∙ ap (λ n. fill no_variable (take n values)) (sym one)
+    by : (kind : ArgKind) → hypotheses_of values p recursor (known + 1) args ≡ hypotheses (fill no_variable (take (known + 1) values)) recursor (map (argument_of p) args) (drop (known + 1) values)
+        → hypothesis_before values p recursor known (tree_of a.ty) kind (hypotheses_of values p recursor (known + 1) args)
+        ≡ hypotheses (fill no_variable (take known values)) recursor (argument_with p (tree_of a.ty) a.level kind ∷ map (argument_of p) args) (v ∷ drop (suc known) values)
+    by kind.Plain rest =
+        rest ∙ ap₂ (λ s n. hypotheses s recursor (map (argument_of p) args) (drop n values)) (sym more) one
     by (kind.Recursive inner) rest =
-        ap₂ ◌∷◌
-        (ap (λ n. hypothesis_of (take n values) p recursor (get_or values n (Sort 0)) inner 0 (tree_of a.ty)) (sym e)
-        ∙ hypothesis-is (take k values) p recursor v inner (tree_of a.ty) few)
-        (rest ∙ ap (λ s. hypotheses s recursor (map (argument_of p) args) (drop (suc k) values)) (sym (fill-more no_variable values k (Sort 0) low)))
+        ap₂ ◌∷◌ (hypothesis-is (take known values) p recursor v inner (tree_of a.ty) few)
+        (rest ∙ ap₂ (λ s n. hypotheses s recursor (map (argument_of p) args) (drop n values)) (sym more) one)
+
+map-take : {A B : Type 0} (f : A → B) (n : ℕ) (xs : List A) → map f (take n xs) ≡ take n (map f xs)
+map-take f zero [] = refl
+map-take f zero (x ∷ xs) = refl
+map-take f (suc n) [] = refl
+map-take f (suc n) (x ∷ xs) = ap (λ ys. f x ∷ ys) (map-take f n xs)
+
+pub map-drop : {A B : Type 0} (f : A → B) (n : ℕ) (xs : List A) → map f (drop n xs) ≡ drop n (map f xs)
+map-drop f zero xs = refl
+map-drop f (suc n) [] = refl
+map-drop f (suc n) (x ∷ xs) = map-drop f n xs
+
+pub tele-take : (n : ℕ) (xs : List code.Term) → tele_of (take n xs) ≡ take n (tele_of xs)
+tele-take n xs = map-take tree_of n xs
+
+-- a value of the code, whatever stands past the end
+pub value-there : (values : List code.Term) (k : ℕ) (r : code.Term) (d : Term) → k < length values → r ≡ get_or values k r → tree_of r ≡ get_or (tele_of values) k d
+value-there [] k r d low e = absurd (omega arith)
+value-there (v ∷ values) zero r d low e = ap tree_of e
+value-there (v ∷ values) (suc k) r d low e = value-there values k r d (omega arith) e
+
+pub first-values : (P : Term → Type 0) (values : List code.Term) (k : ℕ) → All P (tele_of values) → All P (tele_of (take k values))
+first-values P values k h = transport (All P) (sym (tele-take k values)) (All-take P k (tele_of values) h)
+
+pub value-has : (P : Term → Type 0) (values : List code.Term) (k : ℕ) (r : code.Term) → k < length values → r ≡ get_or values k r → All P (tele_of values) → P (tree_of r)
+value-has P values k r low e h =
+    transport P (value-at values k r low e) (h k (tree_of r) (transport (λ n. k < n) (sym (length-map values tree_of)) low))
+
+pub hypothesis-values : (values : List code.Term) (p : ℕ) (recursor : Term) (known : ℕ) (r : code.Term) (inner : ℕ) (t : Term) → known < length values → r ≡ get_or values known r
+    → hypothesis_of (tele_of (take known values)) p recursor (tree_of r) inner 0 t ≡ hypothesis_of (take known (tele_of values)) p recursor (get_or (tele_of values) known (Sort 0)) inner 0 t
+hypothesis-values values p recursor known r inner t low e =
+    ap₂ (λ us u. hypothesis_of us p recursor u inner 0 t) (tele-take known values) (value-there values known r (Sort 0) low e)

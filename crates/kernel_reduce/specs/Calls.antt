@@ -31,14 +31,15 @@ hypothesis_of values p recursor r inner under (Pi a b) =
     (recursive_call_of values p recursor r under (Pi a b))
 hypothesis_of values p recursor r inner under t = recursive_call_of values p recursor r under t
 
--- in front of `rest` the hypothesis for argument `at`, where it is recursive
+-- In front of `rest` the hypothesis for a recursive argument with the type t: the first `known` values stand for the variables
+-- of that type, and the next one is the argument.
 abbrev pub hypothesis_before : List Term → ℕ → Term → ℕ → Term → ArgKind → List Term → List Term
-hypothesis_before values p recursor at t Plain rest = rest
-hypothesis_before values p recursor at t (Recursive inner) rest =
-    hypothesis_of (take (p + at) values) p recursor (get_or values (p + at) (Sort 0)) inner 0 t ∷ rest
+hypothesis_before values p recursor known t Plain rest = rest
+hypothesis_before values p recursor known t (Recursive inner) rest =
+    hypothesis_of (take known values) p recursor (get_or values known (Sort 0)) inner 0 t ∷ rest
 
--- the hypotheses for arguments, the first of them with the number `at`
+-- the hypotheses for arguments behind the first `known` values
 abbrev pub hypotheses_of : List Term → ℕ → Term → ℕ → List Arg → List Term
-hypotheses_of values p recursor at [] = []
-hypotheses_of values p recursor at (a ∷ args) =
-    hypothesis_before values p recursor at (tree_of a.ty) a.kind (hypotheses_of values p recursor (at + 1) args)
+hypotheses_of values p recursor known [] = []
+hypotheses_of values p recursor known (a ∷ args) =
+    hypothesis_before values p recursor known (tree_of a.ty) a.kind (hypotheses_of values p recursor (known + 1) args)

@@ -1,4 +1,4 @@
-ghost use Rattle.std.specs.Prelude.{◌≡◌, ◌≤◌, ◌<◌, ◌+◌, ◌++◌, Ok, Some, length, take, drop, map, slice_get};
+ghost use Rattle.std.specs.Prelude.{◌≡◌, ◌≤◌, ◌<◌, ◌+◌, ◌++◌, [], Ok, Some, length, take, drop, map, slice_get, get_or};
 ghost use Rattle.std.specs.List.{All};
 ghost use Rattle.core_terms.specs.Answers.{Gives};
 ghost use Rattle.core_terms.specs.Meanings.{tree_of, tele_of};
@@ -6,7 +6,7 @@ ghost use Rattle.core_sig.specs.Meanings.{family_of};
 ghost use Rattle.theory.specs.Families as pure;
 ghost use Rattle.theory.specs.Telescopes as spec;
 ghost use Rattle.theory.specs.Terms as tree;
-ghost use Rattle.kernel_reduce.specs.Calls.{call_of, recursive_call_of, hypothesis_of, hypotheses_of};
+ghost use Rattle.kernel_reduce.specs.Calls.{call_of, recursive_call_of, hypothesis_of, hypothesis_before, hypotheses_of};
 ghost use Rattle.kernel_reduce.specs.Making.{Makes, MakesUnder};
 ghost use Rattle.kernel_reduce.specs.Steps.{iota_at};
 
@@ -64,5 +64,52 @@ fn hypothesis(alloc: Global, recursor: &Term, values: &[Term], params: u32, r: &
             Term::new_lam(alloc, a, b)
         }
         _ => recursive_call(alloc, recursor, values, params, r, ty, under),
+    }
+}
+
+/// The hypothesis for a recursive argument with the type `ty`.
+///
+/// The first `known` values stand for the variables of that type, and the next one is the argument.
+fn hypothesis_at(alloc: Global, recursor: &Term, values: &[Term], params: u32, ty: &Term, known: usize, inner: u32) -> Result<Term, Stop>
+    requires values { All (λ v. tree.free_of v ≤ 3221225472) (tele_of values.now) }
+    requires recursor { tree.free_of (tree_of recursor.now) ≤ 3221225472 }
+    requires known { known < length values.now }
+    ensures { Makes result (hypothesis_of (take known (tele_of values.now)) params (tree_of recursor.now) (get_or (tele_of values.now) known (tree.Sort 0)) inner 0 (tree_of ty.now)) }
+{
+    let r = &values[known];
+    hypothesis(alloc, recursor, &values[..known], params, r, ty, inner, 0)
+}
+
+/// `whole` applied to the hypothesis for an argument, where it is recursive.
+#[tactic(auto, using(crate::proofs::CallHeights::height_applied))]
+fn with_hypothesis(alloc: Global, recursor: &Term, values: &[Term], params: u32, arg: &Arg, known: usize, whole: Term) -> Result<Term, Stop>
+    requires values { All (λ v. tree.free_of v ≤ 3221225472) (tele_of values.now) }
+    requires recursor { tree.free_of (tree_of recursor.now) ≤ 3221225472 }
+    requires known { known < length values.now }
+    ensures { Makes result (spec.applied (tree_of whole) (hypothesis_before (tele_of values.now) params (tree_of recursor.now) known (tree_of arg.now.ty) arg.now.kind [])) }
+{
+    match arg.kind {
+        ArgKind::Plain => Ok(whole),
+        ArgKind::Recursive(inner) => {
+            let h = hypothesis_at(alloc, recursor, values, params, &arg.ty, known, inner)?;
+            Term::new_app(alloc, whole, h)
+        }
+    }
+}
+
+/// `whole` applied to the hypotheses for arguments behind the first `known` values.
+#[tactic(auto, using(crate::proofs::CallHeights::height_applied))]
+fn with_hypotheses(alloc: Global, recursor: &Term, values: &[Term], params: u32, args: &[Arg], known: usize, whole: Term) -> Result<Term, Stop>
+    requires values { All (λ v. tree.free_of v ≤ 3221225472) (tele_of values.now) }
+    requires recursor { tree.free_of (tree_of recursor.now) ≤ 3221225472 }
+    requires known { known + length args.now ≤ length values.now }
+    ensures { Makes result (spec.applied (tree_of whole) (hypotheses_of (tele_of values.now) params (tree_of recursor.now) known args.now)) }
+{
+    match args {
+        [] => Ok(whole),
+        [arg, rest @ ..] => {
+            let whole = with_hypothesis(alloc, recursor, values, params, arg, known, whole)?;
+            with_hypotheses(alloc, recursor, values, params, rest, known + 1, whole)
+        }
     }
 }
