@@ -193,8 +193,8 @@ map-drop f zero xs = refl
 map-drop f (suc n) [] = refl
 map-drop f (suc n) (x ∷ xs) = map-drop f n xs
 
-pub tele-take : (n : ℕ) (xs : List code.Term) → tele_of (take n xs) ≡ take n (tele_of xs)
-tele-take n xs = map-take tree_of n xs
+pub tele_take : (n : ℕ) (xs : List code.Term) → tele_of (take n xs) ≡ take n (tele_of xs)
+tele_take n xs = map-take tree_of n xs
 
 -- a value of the code, whatever stands past the end
 pub value-there : (values : List code.Term) (k : ℕ) (r : code.Term) (d : Term) → k < length values → r ≡ get_or values k r → tree_of r ≡ get_or (tele_of values) k d
@@ -203,7 +203,7 @@ value-there (v ∷ values) zero r d low e = ap tree_of e
 value-there (v ∷ values) (suc k) r d low e = value-there values k r d (omega arith) e
 
 pub first-values : (P : Term → Type 0) (values : List code.Term) (k : ℕ) → All P (tele_of values) → All P (tele_of (take k values))
-first-values P values k h = transport (All P) (sym (tele-take k values)) (All-take P k (tele_of values) h)
+first-values P values k h = transport (All P) (sym (tele_take k values)) (All-take P k (tele_of values) h)
 
 pub value-has : (P : Term → Type 0) (values : List code.Term) (k : ℕ) (r : code.Term) → k < length values → r ≡ get_or values k r → All P (tele_of values) → P (tree_of r)
 value-has P values k r low e h =
@@ -212,4 +212,17 @@ value-has P values k r low e h =
 pub hypothesis-values : (values : List code.Term) (p : ℕ) (recursor : Term) (known : ℕ) (r : code.Term) (inner : ℕ) (t : Term) → known < length values → r ≡ get_or values known r
     → hypothesis_of (tele_of (take known values)) p recursor (tree_of r) inner 0 t ≡ hypothesis_of (take known (tele_of values)) p recursor (get_or (tele_of values) known (Sort 0)) inner 0 t
 hypothesis-values values p recursor known r inner t low e =
-    ap₂ (λ us u. hypothesis_of us p recursor u inner 0 t) (tele-take known values) (value-there values known r (Sort 0) low e)
+    ap₂ (λ us u. hypothesis_of us p recursor u inner 0 t) (tele_take known values) (value-there values known r (Sort 0) low e)
+
+pub tele_drop : (n : ℕ) (xs : List code.Term) → tele_of (drop n xs) ≡ drop n (tele_of xs)
+tele_drop n xs = map-drop tree_of n xs
+
+take-whole : {A : Type 0} (xs : List A) (k : ℕ) → length xs ≤ k → take k xs ≡ xs
+take-whole [] zero low = refl
+take-whole [] (suc k) low = refl
+take-whole (x ∷ xs) zero low = absurd (omega arith)
+take-whole (x ∷ xs) (suc k) low = ap (λ ys. x ∷ ys) (take-whole xs k (omega arith))
+
+pub tele_behind : (n : ℕ) (xs : List code.Term) → tele_of (take (length xs - n) (drop n xs)) ≡ drop n (tele_of xs)
+tele_behind n xs =
+    ap tele_of (take-whole (drop n xs) (length xs - n) (omega (arith, length-drop n xs))) ∙ map-drop tree_of n xs

@@ -129,5 +129,10 @@ under-low under n s low = go (nat_lt n under) refl
     go true h = refl
     go false h = absurd (grind (arith, nat_tests))
 
-pub ok_is : {x y : Term} → ◌≡◌ {A = Result Term Stop} (Ok x) (Ok y) → x ≡ y
-ok_is e = grind arith
+abbrev answer-or : {A : Type 0} → A → Result A Stop → A
+answer-or d (Ok a) = a
+answer-or d (Err e) = d
+
+pub ok_is : {A : Type 0} {x y : A} → ◌≡◌ {A = Result A Stop} (Ok x) (Ok y) → x ≡ y
+ok_is {x = x} e = ap (answer-or x) e
+

@@ -4,6 +4,8 @@ pub mod CallHeights
 pub mod ComparisonLaws
 pub mod Examples
 pub mod InstanceUnder
+pub mod IotaBounds
+pub mod IotaForms
 pub mod ReductionLaws
 pub mod ScopedReduction
 pub mod SpineLengths

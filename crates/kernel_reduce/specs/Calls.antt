@@ -1,7 +1,7 @@
 -- Hypotheses of iota in the form in which the code makes them. The values stand for the variables of the family's record, the
 -- nearest one last, `p` of them for its parameters; `recursor` is the eliminator with parameters, motive and methods.
-use Rattle.std.specs.Prelude.{ℕ, ◌+◌, ◌-◌, nat_lt, nat_le, cond, min, List, [], ◌∷◌, length, take, get_or}
-use Rattle.theory.specs.Terms.{Term, Sort, Pi, Lam, App, lift}
+use Rattle.std.specs.Prelude.{ℕ, ◌+◌, ◌-◌, nat_lt, nat_le, cond, min, List, [], ◌∷◌, ◌++◌, length, take, drop, get_or}
+use Rattle.theory.specs.Terms.{Term, Sort, Pi, Lam, App, Elim, lift}
 use Rattle.theory.specs.Telescopes.{applied, variables}
 use Rattle.theory.specs.Spines.{spine_of}
 use Rattle.core_terms.specs.Meanings.{tree_of}
@@ -43,3 +43,10 @@ abbrev pub hypotheses_of : List Term → ℕ → Term → ℕ → List Arg → L
 hypotheses_of values p recursor known [] = []
 hypotheses_of values p recursor known (a ∷ args) =
     hypothesis_before values p recursor known (tree_of a.ty) a.kind (hypotheses_of values p recursor (known + 1) args)
+
+-- what iota makes of the eliminator of family n into Type m at constructor `number`, where `args` are the arguments of the
+-- eliminator and `us` those of the constructor, p parameters first in both
+abbrev pub iota_made : ℕ → ℕ → ℕ → ℕ → ℕ → List Term → List Term → List Arg → Term
+iota_made n m p constructors number args us codes =
+    applied (applied (get_or args (p + (1 + number)) (Sort 0)) (drop p us))
+    (hypotheses_of (take p args ++ drop p us) p (applied (Elim n m) (take (p + (1 + constructors)) args)) p codes)

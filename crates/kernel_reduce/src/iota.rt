@@ -99,7 +99,7 @@ fn with_hypothesis(alloc: Global, recursor: &Term, values: &[Term], params: u32,
 
 /// `whole` applied to the hypotheses for arguments behind the first `known` values.
 #[tactic(auto, using(crate::proofs::CallHeights::height_applied))]
-fn with_hypotheses(alloc: Global, recursor: &Term, values: &[Term], params: u32, args: &[Arg], known: usize, whole: Term) -> Result<Term, Stop>
+pub(crate) fn with_hypotheses(alloc: Global, recursor: &Term, values: &[Term], params: u32, args: &[Arg], known: usize, whole: Term) -> Result<Term, Stop>
     requires values { All (λ v. tree.free_of v ≤ 3221225472) (tele_of values.now) }
     requires recursor { tree.free_of (tree_of recursor.now) ≤ 3221225472 }
     requires known { known + length args.now ≤ length values.now }
