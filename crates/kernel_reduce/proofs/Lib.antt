@@ -2,6 +2,7 @@ pub mod Answers
 pub mod CallForms
 pub mod CallHeights
 pub mod ComparisonLaws
+pub mod Contractions
 pub mod Examples
 pub mod InstanceUnder
 pub mod IotaBounds

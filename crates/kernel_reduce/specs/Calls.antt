@@ -1,11 +1,13 @@
 -- Hypotheses of iota in the form in which the code makes them. The values stand for the variables of the family's record, the
 -- nearest one last, `p` of them for its parameters; `recursor` is the eliminator with parameters, motive and methods.
-use Rattle.std.specs.Prelude.{ℕ, ◌+◌, ◌-◌, nat_lt, nat_le, cond, min, List, [], ◌∷◌, ◌++◌, length, take, drop, get_or}
+use Rattle.std.specs.Prelude.{◌≡◌, ℕ, ◌<◌, ◌≤◌, ◌+◌, ◌-◌, nat_lt, nat_le, cond, min, List, [], ◌∷◌, ◌++◌, length, take, drop, get_or}
 use Rattle.theory.specs.Terms.{Term, Sort, Pi, Lam, App, Elim, lift}
 use Rattle.theory.specs.Telescopes.{applied, variables}
 use Rattle.theory.specs.Spines.{spine_of}
 use Rattle.core_terms.specs.Meanings.{tree_of}
 use Rattle.core_sig.specs.declared.family.Arg.{Arg}
+use Rattle.core_sig.specs.declared.family.Constructor.{Constructor}
+use Rattle.core_sig.specs.declared.family.Family.{Family}
 use Rattle.core_sig.specs.declared.family.ArgKind.{ArgKind}
 use Rattle.core_sig.specs.declared.family.ArgKind.TheVariants.{Plain, Recursive}
 use Rattle.kernel_reduce.specs.Making.{instance_of}
@@ -50,3 +52,11 @@ abbrev pub iota_made : ℕ → ℕ → ℕ → ℕ → ℕ → List Term → Lis
 iota_made n m p constructors number args us codes =
     applied (applied (get_or args (p + (1 + number)) (Sort 0)) (drop p us))
     (hypotheses_of (take p args ++ drop p us) p (applied (Elim n m) (take (p + (1 + constructors)) args)) p codes)
+
+-- The arguments of an eliminator before its scrutinee, and those of constructor `number` of its family, are all that these take,
+-- and few enough that their number is small.
+pub record HasAllArguments (f : Family) (c : Constructor) (number : ℕ) (args us : List Term) : Type 0 where
+  pub number_low : number < length f.cons
+  pub args_long : length f.params + (1 + length f.cons) ≤ length args
+  pub us_all : length us ≡ length f.params + length c.args
+  pub args_few : length args ≤ 2000

@@ -24,3 +24,12 @@ abbrev pub meets : Signature → Term → Term → ℕ → Bool
 meets S (Elim n m) (Con g number) count = (g == n) && family_takes number count (family_at S n)
 meets S (AxiomK i m) (Con g number) count = (g == equality i) && ((number == 0) && (count == 2))
 meets S _ _ count = false
+
+-- the numbers of a symbol, where it is an eliminator, or a constructor of a family
+abbrev pub eliminator_numbers : Term → Option (ℕ × ℕ)
+eliminator_numbers (Elim n m) = Some (n, m)
+eliminator_numbers _ = None
+
+abbrev pub constructor_number : Term → Option ℕ
+constructor_number (Con g number) = Some number
+constructor_number _ = None

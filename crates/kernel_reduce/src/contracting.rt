@@ -7,14 +7,16 @@ ghost use Rattle.theory.specs.Families as pure;
 ghost use Rattle.theory.specs.Spines.{head_of, spine_of};
 ghost use Rattle.theory.specs.Telescopes as spec;
 ghost use Rattle.theory.specs.Terms as tree;
-ghost use Rattle.kernel_reduce.specs.Calls.{iota_made};
+ghost use Rattle.kernel_reduce.specs.Calls.{HasAllArguments, iota_made};
 ghost use Rattle.kernel_reduce.specs.Making.{Makes};
-ghost use Rattle.kernel_reduce.specs.Steps.{awaits_scrutinee, contraction, fills, iota_at};
-ghost use Rattle.kernel_reduce.specs.Tests.{constructor_takes, meets};
+ghost use Rattle.kernel_reduce.specs.Steps.{awaits_scrutinee, contraction};
+ghost use Rattle.kernel_reduce.specs.Tests.{eliminator_numbers, meets};
 
 use crate::iota::with_hypotheses;
-use crate::making::applied;
-use core_sig::{Constructor, Family};
+use crate::lookup::{constructor, family};
+use crate::making::{applied, into_spine};
+use crate::spine::{constructor_at_head, eliminator_at_head};
+use core_sig::{Constructor, Family, Signature};
 use core_terms::{Stop, Term, copy, copy_tele};
 use std::alloc::Global;
 
@@ -83,10 +85,7 @@ fn values(alloc: Global, args: &[Term], us: &[Term], params: usize) -> Result<Ve
 /// its scrutinee, and `us` all arguments of the constructor.
 #[tactic(auto, using(crate::proofs::CallHeights::height_applied))]
 fn iota(alloc: Global, n: u32, m: u8, family: &Family, constructor: &Constructor, number: u32, args: &[Term], us: &[Term]) -> Result<Term, Stop>
-    requires number { number < length family.now.cons }
-    requires args { length family.now.params + (1 + length family.now.cons) ≤ length args.now }
-    requires us { length us.now ≡ length family.now.params + length constructor.now.args }
-    requires few { length args.now ≤ 2000 }
+    requires all { HasAllArguments family.now constructor.now number (tele_of args.now) (tele_of us.now) }
     requires args_free { All (λ v. tree.free_of v ≤ 3221225472) (tele_of args.now) }
     requires us_free { All (λ v. tree.free_of v ≤ 3221225472) (tele_of us.now) }
     ensures { Makes result (iota_made n m (length family.now.params) (length family.now.cons) number (tele_of args.now) (tele_of us.now) constructor.now.args) }
@@ -105,4 +104,53 @@ fn iota(alloc: Global, n: u32, m: u8, family: &Family, constructor: &Constructor
         params,
         whole,
     )
+}
+
+/// The contraction of `f`, an eliminator that awaits its scrutinee, at `u`, where these meet.
+fn eliminate(alloc: Global, sig: &Signature, n: u32, m: u8, f: Term, u: Term) -> Result<Term, Stop>
+    requires head { Some (n, m) ≡ eliminator_numbers (head_of (tree_of f)) }
+    requires awaits { awaits_scrutinee sig.now (head_of (tree_of f)) (spine_of (tree_of f)) ≡ true }
+    requires meets { meets sig.now (head_of (tree_of f)) (head_of (tree_of u)) (length (spine_of (tree_of u))) ≡ true }
+    requires low { tree.height (tree_of f) ≤ 2000 }
+    requires f_free { tree.free_of (tree_of f) ≤ 3221225472 }
+    requires u_free { tree.free_of (tree_of u) ≤ 3221225472 }
+    ensures { IfSome (contraction sig.now (head_of (tree_of f)) (spine_of (tree_of f)) (head_of (tree_of u)) (spine_of (tree_of u))) (Makes result) }
+{
+    let Some(number) = constructor_at_head(&u) else {
+        return Ok(u);
+    };
+    let Some(found) = family(sig, n) else {
+        return Ok(u);
+    };
+    let Some(constructor) = constructor(found, number) else {
+        return Ok(u);
+    };
+    let args = into_spine(alloc, f)?;
+    let us = into_spine(alloc, u)?;
+    iota(alloc, n, m, found, constructor, number, args.as_slice(), us.as_slice())
+}
+
+/// The last argument of an application.
+fn last_argument(f: Term) -> Term
+    ensures { (g a : tree.Term) → tree_of f ≡ tree.App g a → tree_of result ≡ a }
+{
+    match f {
+        Term::App(_, a) => Box::into_inner(a),
+        other => other,
+    }
+}
+
+/// The contraction of `f`, that awaits its scrutinee, at `u`, where these meet.
+pub(crate) fn contract(alloc: Global, sig: &Signature, f: Term, u: Term) -> Result<Term, Stop>
+    requires awaits { awaits_scrutinee sig.now (head_of (tree_of f)) (spine_of (tree_of f)) ≡ true }
+    requires meets { meets sig.now (head_of (tree_of f)) (head_of (tree_of u)) (length (spine_of (tree_of u))) ≡ true }
+    requires low { tree.height (tree_of f) ≤ 2000 }
+    requires f_free { tree.free_of (tree_of f) ≤ 3221225472 }
+    requires u_free { tree.free_of (tree_of u) ≤ 3221225472 }
+    ensures { IfSome (contraction sig.now (head_of (tree_of f)) (spine_of (tree_of f)) (head_of (tree_of u)) (spine_of (tree_of u))) (Makes result) }
+{
+    match eliminator_at_head(&f) {
+        Some((n, m)) => eliminate(alloc, sig, n, m, f, u),
+        None => Ok(last_argument(f)),
+    }
 }

@@ -1,4 +1,4 @@
-ghost use Rattle.std.specs.Prelude.{◌≡◌, ◌+◌, ◌==◌, length, option_map, IfSome};
+ghost use Rattle.std.specs.Prelude.{◌≡◌, ◌+◌, ◌==◌, length, option_map, slice_get, IfSome};
 ghost use Rattle.std.specs.Option.{option_copied};
 ghost use Rattle.core_terms.specs.Meanings.{tree_of};
 ghost use Rattle.core_sig.specs.Kinds.{HasKinds};
@@ -6,7 +6,7 @@ ghost use Rattle.core_sig.specs.Meanings.{family_of};
 ghost use Rattle.kernel_reduce.specs.Entries.{body_at, family_at};
 ghost use Rattle.kernel_reduce.specs.Tests.{family_takes};
 
-use core_sig::{Entry, Family, Signature};
+use core_sig::{Constructor, Entry, Family, Signature};
 use core_terms::Term;
 
 /// The body of a constant, unless it is provisional.
@@ -31,6 +31,13 @@ pub(crate) fn family(sig: &Signature, n: u32) -> Option<&Family>
         Some(Entry::Family(f)) => Some(f),
         _ => None,
     }
+}
+
+/// The constructor of the family with the number.
+pub(crate) fn constructor(f: &Family, number: u32) -> Option<&Constructor>
+    ensures { option_copied result ≡ slice_get f.now.cons number }
+{
+    f.cons.as_slice().get(number as usize)
 }
 
 /// How many arguments an eliminator of the family takes before its scrutinee.
