@@ -7,4 +7,5 @@ mod iota;
 mod lookup;
 mod making;
 mod spine;
+mod stepping;
 mod testing;
