@@ -12,3 +12,4 @@ pub mod ScopedReduction
 pub mod SpineLengths
 pub mod StepLaws
 pub mod StepTests
+pub mod WhnfForms

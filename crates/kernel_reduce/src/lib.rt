@@ -6,6 +6,7 @@ mod contracting;
 mod iota;
 mod lookup;
 mod making;
+mod reducing;
 mod spine;
 mod stepping;
 mod testing;
