@@ -7,6 +7,7 @@ pub mod Examples
 pub mod InstanceUnder
 pub mod IotaBounds
 pub mod IotaForms
+pub mod Meant
 pub mod ReductionLaws
 pub mod ScopedReduction
 pub mod SpineLengths

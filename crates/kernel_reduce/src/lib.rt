@@ -6,6 +6,7 @@ mod contracting;
 mod iota;
 mod lookup;
 mod making;
+mod normalising;
 mod reducing;
 mod spine;
 mod stepping;
