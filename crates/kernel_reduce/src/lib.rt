@@ -2,6 +2,7 @@
 #![tactic(auto)]
 
 pub mod laws;
+mod comparing;
 mod contracting;
 mod iota;
 mod lookup;

@@ -8,7 +8,7 @@ ghost use Rattle.kernel_reduce.specs.Reduction.{whnf_of};
 use crate::stepping::step;
 use crate::testing::has_step;
 use core_sig::Signature;
-use core_terms::{MAX_HEIGHT, Stop, Term, Units};
+use core_terms::{MAX_HEIGHT, Stop, Term, Units, copy};
 use std::alloc::Global;
 
 /// Spends one unit, or answers Fuel where none is left.
@@ -45,4 +45,16 @@ pub(crate) fn reduce(alloc: Global, sig: &Signature, t: Term, delta: bool, units
         spend(units)?;
         t = step(alloc, sig, t, delta)?;
     }
+}
+
+/// The head form of a term.
+pub(crate) fn head_form(alloc: Global, sig: &Signature, t: &Term, delta: bool, units: &mut Units) -> Result<Term, Stop>
+    requires signature { IsScopedSignature sig.now }
+    requires scoped { IsScoped sig.now 3221225472 (tree_of t.now) }
+    requires units { units.old.left + units.old.spent < 2 ^ 64 }
+    ensures answer { Runs tree_of result units.new.left (whnf_of sig.now delta units.old.left (tree_of t.now)) }
+    ensures sum { units.new.left + units.new.spent ≡ units.old.left + units.old.spent }
+{
+    let t = copy(alloc, t)?;
+    reduce(alloc, sig, t, delta, units)
 }
