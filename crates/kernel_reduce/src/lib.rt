@@ -8,6 +8,7 @@ mod iota;
 mod lookup;
 mod making;
 mod normalising;
+mod ordering;
 mod reducing;
 mod spine;
 mod stepping;
