@@ -1,6 +1,16 @@
 pub mod Answers
+pub mod CallForms
+pub mod CallHeights
 pub mod ComparisonLaws
+pub mod Contractions
 pub mod Examples
+pub mod InstanceUnder
+pub mod IotaBounds
+pub mod IotaForms
+pub mod Meant
 pub mod ReductionLaws
 pub mod ScopedReduction
+pub mod SpineLengths
 pub mod StepLaws
+pub mod StepTests
+pub mod WhnfForms

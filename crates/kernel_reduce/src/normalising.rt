@@ -1,0 +1,67 @@
+ghost use Rattle.std.specs.Prelude.{◌≡◌, ◌≤◌, ◌<◌, ◌+◌, ◌-◌, ◌^◌};
+ghost use Rattle.core_terms.specs.Answers.{Gives, Runs, bounded};
+ghost use Rattle.core_terms.specs.Meanings.{tree_of};
+ghost use Rattle.theory.specs.SignatureScopes.{IsScoped, IsScopedSignature};
+ghost use Rattle.kernel_reduce.specs.Reduction as pure;
+
+use crate::reducing::reduce;
+use core_sig::Signature;
+use core_terms::{MAX_HEIGHT, Stop, Term, Units};
+use std::alloc::Global;
+
+/// The term itself, or Deep.
+fn low(t: Term) -> Result<Term, Stop>
+    ensures { Gives tree_of result (bounded (tree_of t)) }
+{
+    if t.height() > MAX_HEIGHT {
+        return Err(Stop::Deep);
+    }
+    Ok(t)
+}
+
+/// The head form of a term, and then the normal forms of its children, where `room` calls more may be open.
+#[cycle(normal)]
+pub(crate) fn normalise(alloc: Global, sig: &Signature, t: Term, delta: bool, room: u32, units: &mut Units) -> Result<Term, Stop>
+    requires room { room ≤ 2000 }
+    requires signature { IsScopedSignature sig.now }
+    requires scoped { IsScoped sig.now (3221225472 - room) (tree_of t) }
+    requires units { units.old.left + units.old.spent < 2 ^ 64 }
+    ensures answer { Runs tree_of result units.new.left (pure.normal_of sig.now delta room (tree_of t) units.old.left) }
+    ensures sum { units.new.left + units.new.spent ≡ units.old.left + units.old.spent }
+{
+    if room == 0 {
+        return Err(Stop::Deep);
+    }
+    let t = reduce(alloc, sig, t, delta, units)?;
+    normal_children(alloc, sig, t, delta, room - 1, units)
+}
+
+/// The term with the normal forms of its children.
+#[cycle(normal)]
+fn normal_children(alloc: Global, sig: &Signature, t: Term, delta: bool, room: u32, units: &mut Units) -> Result<Term, Stop>
+    requires room { room < 2000 }
+    requires signature { IsScopedSignature sig.now }
+    requires scoped { IsScoped sig.now (3221225471 - room) (tree_of t) }
+    requires units { units.old.left + units.old.spent < 2 ^ 64 }
+    ensures answer { Runs tree_of result units.new.left (pure.normal_children (pure.normal_of sig.now delta room) (tree_of t) units.old.left) }
+    ensures sum { units.new.left + units.new.spent ≡ units.old.left + units.old.spent }
+{
+    match t {
+        Term::Pi(a, b) => {
+            let a = normalise(alloc, sig, Box::into_inner(a), delta, room, units)?;
+            let b = normalise(alloc, sig, Box::into_inner(b), delta, room, units)?;
+            low(Term::new_pi(alloc, a, b)?)
+        }
+        Term::Lam(a, b) => {
+            let a = normalise(alloc, sig, Box::into_inner(a), delta, room, units)?;
+            let b = normalise(alloc, sig, Box::into_inner(b), delta, room, units)?;
+            low(Term::new_lam(alloc, a, b)?)
+        }
+        Term::App(f, a) => {
+            let f = normalise(alloc, sig, Box::into_inner(f), delta, room, units)?;
+            let a = normalise(alloc, sig, Box::into_inner(a), delta, room, units)?;
+            low(Term::new_app(alloc, f, a)?)
+        }
+        other => Ok(other),
+    }
+}
