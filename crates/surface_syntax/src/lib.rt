@@ -6,6 +6,8 @@ mod lexeme;
 mod lexer;
 mod spans;
 mod stop;
+#[cfg(test)]
+mod tests;
 mod token;
 mod tree;
 
