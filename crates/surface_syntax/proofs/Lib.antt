@@ -1,2 +1,12 @@
+pub mod Complete
+pub mod Declarations_read
+pub mod Ends
+pub mod Finishing
+pub mod Pieces
+pub mod Positions
+pub mod Rest
+pub mod Runs
+pub mod Sound
 pub mod Splits
+pub mod Trees_read
 pub mod Unique

@@ -1,3 +1,10 @@
+pub mod Grammar
+pub mod Laws
+pub mod Machine
 pub mod Outcomes
+pub mod Parsing
 pub mod Spelling
 pub mod Splitting
+pub mod TreeMeanings
+pub mod Trees
+pub mod Viable

@@ -1,11 +1,21 @@
 //! The surface language: the tokens of a text, and the declarations that they spell.
 #![tactic(auto)]
 
+mod laws;
+mod lexeme;
 mod lexer;
 mod spans;
 mod stop;
+#[cfg(test)]
+mod tests;
 mod token;
+mod tree;
 
+pub use laws::{goes_wrong_with_the_grammar, has_one_reading, reads_the_grammar};
+pub use lexeme::Lexeme;
 pub use spans::tokens;
 pub use stop::SyntaxStop;
 pub use token::{Token, TokenKind};
+pub use tree::{
+    Binder, Decl, Surf, SurfClause, SurfCon, SurfMember, SurfParam, SurfPat, SurfRight, Word,
+};
