@@ -1,2 +1,1 @@
-pub mod Lifts
 pub mod SubstUnder

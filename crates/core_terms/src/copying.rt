@@ -19,32 +19,24 @@ pub fn copy(alloc: Global, t: &Term) -> Result<Term, Stop>
 pub(crate) fn copy_whole(alloc: Global, t: &Term) -> Result<Term, Stop>
     ensures { Gives tree_of result (Ok (tree_of t.now)) }
 {
-    Ok(match t {
-        Term::Var(n) => Term::Var(*n),
-        Term::Sort(i) => Term::Sort(*i),
-        Term::Pi(a, b) => Term::Pi(
-            Box::new(alloc, copy_whole(alloc, a)?)?,
-            Box::new(alloc, copy_whole(alloc, b)?)?,
+    match t {
+        Term::Var(n) => Ok(Term::Var(*n)),
+        Term::Sort(i) => Ok(Term::Sort(*i)),
+        Term::Pi(a, b) => Term::new_pi(alloc, copy_whole(alloc, a)?, copy_whole(alloc, b)?),
+        Term::Lam(a, b) => Term::new_lam(alloc, copy_whole(alloc, a)?, copy_whole(alloc, b)?),
+        Term::App(f, a) => Term::new_app(alloc, copy_whole(alloc, f)?, copy_whole(alloc, a)?),
+        Term::Let(a, v, b) => Term::new_let(
+            alloc,
+            copy_whole(alloc, a)?,
+            copy_whole(alloc, v)?,
+            copy_whole(alloc, b)?,
         ),
-        Term::Lam(a, b) => Term::Lam(
-            Box::new(alloc, copy_whole(alloc, a)?)?,
-            Box::new(alloc, copy_whole(alloc, b)?)?,
-        ),
-        Term::App(f, a) => Term::App(
-            Box::new(alloc, copy_whole(alloc, f)?)?,
-            Box::new(alloc, copy_whole(alloc, a)?)?,
-        ),
-        Term::Let(a, v, b) => Term::Let(
-            Box::new(alloc, copy_whole(alloc, a)?)?,
-            Box::new(alloc, copy_whole(alloc, v)?)?,
-            Box::new(alloc, copy_whole(alloc, b)?)?,
-        ),
-        Term::Const(c) => Term::Const(*c),
-        Term::Fam(f) => Term::Fam(*f),
-        Term::Con(f, c) => Term::Con(*f, *c),
-        Term::Elim(f, m) => Term::Elim(*f, *m),
-        Term::AxiomK(i, m) => Term::AxiomK(*i, *m),
-    })
+        Term::Const(c) => Ok(Term::Const(*c)),
+        Term::Fam(f) => Ok(Term::Fam(*f)),
+        Term::Con(f, c) => Ok(Term::Con(*f, *c)),
+        Term::Elim(f, m) => Ok(Term::Elim(*f, *m)),
+        Term::AxiomK(i, m) => Ok(Term::AxiomK(*i, *m)),
+    }
 }
 
 /// The same list of terms in memory of its own.

@@ -9,7 +9,7 @@ use crate::{MAX_HEIGHT, Stop, Term};
 use std::alloc::Global;
 
 /// Adds `by` to every variable numbered `from` or more, or answers Deep.
-#[tactic(auto, using(crate::proofs::Lifts::height_lift))]
+#[tactic(auto, using(crate::proofs::SubstUnder::lift_laws))]
 pub fn lift(alloc: Global, t: &Term, by: u32, from: u32) -> Result<Term, Stop>
     requires { tree.free_of (tree_of t.now) + by ≤ most_free }
     ensures { Gives tree_of result (bounded (tree.lift (tree_of t.now) by from)) }
@@ -26,32 +26,36 @@ pub(crate) fn lift_whole(alloc: Global, t: &Term, by: u32, from: u64) -> Result<
     requires binders { from + tree.height (tree_of t.now) < 2 ^ 64 }
     ensures { Gives tree_of result (Ok (tree.lift (tree_of t.now) by from)) }
 {
-    Ok(match t {
-        Term::Var(n) => Term::Var(lift_variable(*n, by, from)),
-        Term::Pi(a, b) => Term::Pi(
-            Box::new(alloc, lift_whole(alloc, a, by, from)?)?,
-            Box::new(alloc, lift_whole(alloc, b, by, from + 1)?)?,
+    match t {
+        Term::Var(n) => Ok(Term::Var(lift_variable(*n, by, from))),
+        Term::Pi(a, b) => Term::new_pi(
+            alloc,
+            lift_whole(alloc, a, by, from)?,
+            lift_whole(alloc, b, by, from + 1)?,
         ),
-        Term::Lam(a, b) => Term::Lam(
-            Box::new(alloc, lift_whole(alloc, a, by, from)?)?,
-            Box::new(alloc, lift_whole(alloc, b, by, from + 1)?)?,
+        Term::Lam(a, b) => Term::new_lam(
+            alloc,
+            lift_whole(alloc, a, by, from)?,
+            lift_whole(alloc, b, by, from + 1)?,
         ),
-        Term::App(f, a) => Term::App(
-            Box::new(alloc, lift_whole(alloc, f, by, from)?)?,
-            Box::new(alloc, lift_whole(alloc, a, by, from)?)?,
+        Term::App(f, a) => Term::new_app(
+            alloc,
+            lift_whole(alloc, f, by, from)?,
+            lift_whole(alloc, a, by, from)?,
         ),
-        Term::Let(a, v, b) => Term::Let(
-            Box::new(alloc, lift_whole(alloc, a, by, from)?)?,
-            Box::new(alloc, lift_whole(alloc, v, by, from)?)?,
-            Box::new(alloc, lift_whole(alloc, b, by, from + 1)?)?,
+        Term::Let(a, v, b) => Term::new_let(
+            alloc,
+            lift_whole(alloc, a, by, from)?,
+            lift_whole(alloc, v, by, from)?,
+            lift_whole(alloc, b, by, from + 1)?,
         ),
         Term::Sort(_)
         | Term::Const(_)
         | Term::Fam(_)
         | Term::Con(_, _)
         | Term::Elim(_, _)
-        | Term::AxiomK(_, _) => copy_whole(alloc, t)?,
-    })
+        | Term::AxiomK(_, _) => copy_whole(alloc, t),
+    }
 }
 
 fn lift_variable(n: u32, by: u32, from: u64) -> u32

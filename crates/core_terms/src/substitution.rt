@@ -12,7 +12,7 @@ use crate::{MAX_HEIGHT, Stop, Term};
 use std::alloc::Global;
 
 /// Puts `by` for variable `at` and lowers greater variables by one, or answers Deep.
-#[tactic(auto, using(crate::proofs::SubstUnder::subst_under_none, crate::proofs::SubstUnder::height_subst, crate::proofs::SubstUnder::height_with_least, crate::proofs::SubstUnder::height_subst_least))]
+#[tactic(auto, using(crate::proofs::SubstUnder::subst_laws))]
 pub fn subst(alloc: Global, t: &Term, at: u32, by: &Term) -> Result<Term, Stop>
     requires { tree.free_of (tree_of by.now) ≤ most_free }
     ensures { Gives tree_of result (bounded (tree.subst (tree_of t.now) at (tree_of by.now))) }
@@ -51,32 +51,36 @@ fn subst_whole(alloc: Global, t: &Term, at: u64, by: &Term, under: u32) -> Resul
     requires binders { at + tree.height (tree_of t.now) < 2 ^ 64 }
     ensures { Gives tree_of result (Ok (subst_under (tree_of t.now) at (tree_of by.now) under)) }
 {
-    Ok(match t {
-        Term::Var(n) => return subst_variable(alloc, *n, at, by, under),
-        Term::Pi(a, b) => Term::Pi(
-            Box::new(alloc, subst_whole(alloc, a, at, by, under)?)?,
-            Box::new(alloc, subst_whole(alloc, b, at + 1, by, under + 1)?)?,
+    match t {
+        Term::Var(n) => subst_variable(alloc, *n, at, by, under),
+        Term::Pi(a, b) => Term::new_pi(
+            alloc,
+            subst_whole(alloc, a, at, by, under)?,
+            subst_whole(alloc, b, at + 1, by, under + 1)?,
         ),
-        Term::Lam(a, b) => Term::Lam(
-            Box::new(alloc, subst_whole(alloc, a, at, by, under)?)?,
-            Box::new(alloc, subst_whole(alloc, b, at + 1, by, under + 1)?)?,
+        Term::Lam(a, b) => Term::new_lam(
+            alloc,
+            subst_whole(alloc, a, at, by, under)?,
+            subst_whole(alloc, b, at + 1, by, under + 1)?,
         ),
-        Term::App(f, a) => Term::App(
-            Box::new(alloc, subst_whole(alloc, f, at, by, under)?)?,
-            Box::new(alloc, subst_whole(alloc, a, at, by, under)?)?,
+        Term::App(f, a) => Term::new_app(
+            alloc,
+            subst_whole(alloc, f, at, by, under)?,
+            subst_whole(alloc, a, at, by, under)?,
         ),
-        Term::Let(a, v, b) => Term::Let(
-            Box::new(alloc, subst_whole(alloc, a, at, by, under)?)?,
-            Box::new(alloc, subst_whole(alloc, v, at, by, under)?)?,
-            Box::new(alloc, subst_whole(alloc, b, at + 1, by, under + 1)?)?,
+        Term::Let(a, v, b) => Term::new_let(
+            alloc,
+            subst_whole(alloc, a, at, by, under)?,
+            subst_whole(alloc, v, at, by, under)?,
+            subst_whole(alloc, b, at + 1, by, under + 1)?,
         ),
         Term::Sort(_)
         | Term::Const(_)
         | Term::Fam(_)
         | Term::Con(_, _)
         | Term::Elim(_, _)
-        | Term::AxiomK(_, _) => copy_whole(alloc, t)?,
-    })
+        | Term::AxiomK(_, _) => copy_whole(alloc, t),
+    }
 }
 
 fn subst_variable(alloc: Global, n: u32, at: u64, by: &Term, under: u32) -> Result<Term, Stop>

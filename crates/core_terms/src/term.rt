@@ -1,8 +1,10 @@
 ghost use Rattle.std.specs.Prelude.{◌≡◌, ◌≤◌, ◌+◌, ◌↔◌, min, IsTrue};
 ghost use Rattle.theory.specs.Terms as tree;
+ghost use Rattle.core_terms.specs.Answers.{Gives};
 ghost use Rattle.core_terms.specs.Meanings.{tree_of};
 
-use crate::Items;
+use crate::{Items, Stop};
+use std::alloc::Global;
 
 /// The greatest sort level: `Type TOP` is a term that has no type.
 pub const TOP: u8 = 15;
@@ -34,6 +36,38 @@ pub enum Term {
 pub type Tele = Items<Term>;
 
 impl Term {
+    /// A product, whose height nothing tests.
+    pub fn new_pi(alloc: Global, domain: Term, codomain: Term) -> Result<Term, Stop>
+        ensures { Gives tree_of result (Ok (tree.Pi (tree_of domain) (tree_of codomain))) }
+    {
+        Ok(Term::Pi(Box::new(alloc, domain)?, Box::new(alloc, codomain)?))
+    }
+
+    /// A function, whose height nothing tests.
+    pub fn new_lam(alloc: Global, domain: Term, body: Term) -> Result<Term, Stop>
+        ensures { Gives tree_of result (Ok (tree.Lam (tree_of domain) (tree_of body))) }
+    {
+        Ok(Term::Lam(Box::new(alloc, domain)?, Box::new(alloc, body)?))
+    }
+
+    /// An application, whose height nothing tests.
+    pub fn new_app(alloc: Global, function: Term, argument: Term) -> Result<Term, Stop>
+        ensures { Gives tree_of result (Ok (tree.App (tree_of function) (tree_of argument))) }
+    {
+        Ok(Term::App(Box::new(alloc, function)?, Box::new(alloc, argument)?))
+    }
+
+    /// A `let`, whose height nothing tests.
+    pub fn new_let(alloc: Global, ty: Term, value: Term, body: Term) -> Result<Term, Stop>
+        ensures { Gives tree_of result (Ok (tree.Let (tree_of ty) (tree_of value) (tree_of body))) }
+    {
+        Ok(Term::Let(
+            Box::new(alloc, ty)?,
+            Box::new(alloc, value)?,
+            Box::new(alloc, body)?,
+        ))
+    }
+
     /// The height, or `MAX_HEIGHT + 1` where it is greater. A leaf has height 1. Takes no memory.
     pub fn height(&self) -> u32
         ensures { result ≡ min (tree.height (tree_of self.now)) 2001 }

@@ -1,4 +1,4 @@
 pub mod Calls
 pub mod Errors
-pub mod Memory
+pub mod Ports
 pub mod Reading

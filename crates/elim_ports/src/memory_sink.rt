@@ -18,7 +18,7 @@ pub struct MemorySink {
 }
 
 impl Model for MemorySink {
-    ghost use Rattle.elim_ports.specs.Memory.{Output};
+    ghost use Rattle.elim_ports.specs.Ports.{Output};
 
     ghost Value = { Output };
 

@@ -21,7 +21,7 @@ pub struct MemorySource {
 
 impl Model for MemorySource {
     ghost use Rattle.std.specs.Prelude.{◌≤◌, length, drop};
-    ghost use Rattle.elim_ports.specs.Memory.{Input};
+    ghost use Rattle.elim_ports.specs.Ports.{Input};
 
     ghost Value = { Input };
 

@@ -9,24 +9,25 @@ use std::marker::Model;
 
 /// A sink over a writer of the standard library. It tells nothing of the bytes.
 #[derive(Debug, Drop)]
-pub struct StdSink<W> {
+pub struct StdSink<W: Write> {
     writer: W,
     faults: u64,
 }
 
-impl<W> Model for StdSink<W> {
-    ghost use Rattle.std.specs.Prelude.{ℕ, ◌^◌, ◌<◌};
+impl<W: Write> Model for StdSink<W> {
+    ghost use Rattle.std.specs.Prelude.{◌^◌, ◌<◌};
+    ghost use Rattle.elim_ports.specs.Ports.{OverWriter};
 
-    ghost Value = { ℕ };
+    ghost Value = { OverWriter };
 
-    ghost view = { λ s. s.faults };
+    ghost view = { λ s. record { contents = W.contents s.writer; faults = s.faults } };
 
     ghost invariant = { λ s. s.faults < 2 ^ 64 };
 }
 
 impl<W: Write + Drop> StdSink<W> {
     pub fn new(writer: W) -> StdSink<W>
-        ensures { result ≡ 0 }
+        ensures { result ≡ record { contents = W.contents writer; faults = 0 } }
     {
         StdSink { writer, faults: 0 }
     }
@@ -35,18 +36,20 @@ impl<W: Write + Drop> StdSink<W> {
 impl<W: Write + Drop> Sink for StdSink<W> {
     ghost written = { λ _. None };
 
-    ghost faults = { λ count. count };
+    ghost faults = { λ s. s.faults };
 
     fn write(&mut self, from: &[u8]) -> Result<usize, PortError>
         ensures bound { WritesAtMost result from.now }
         ensures bytes { WriteAppends None None result from.now }
         ensures some { 0 < length from.now → IfOk result (λ n. 0 < n) }
-        ensures fault { result ≡ Err PortError.Fault → Rose self.old self.new }
-        ensures never_falls { self.old ≤ self.new }
+        ensures fault { result ≡ Err PortError.Fault → Rose self.old.faults self.new.faults }
+        ensures never_falls { self.old.faults ≤ self.new.faults }
 
-        // The count is raised at each error of the writer and at each piece not taken, and no memory is taken.
-        ensures ok { OnOk result (self.new ≡ self.old) }
-        ensures err { OnErr result (self.new ≡ min (self.old + 1) (2 ^ 64 - 1)) }
+        // The bytes go to the writer; the count is raised at each error of it and at each piece not taken, and no
+        // memory is taken.
+        ensures given { WriteAppends self.old.contents self.new.contents result from.now }
+        ensures ok { OnOk result (self.new.faults ≡ self.old.faults) }
+        ensures err { OnErr result (self.new.faults ≡ min (self.old.faults + 1) (2 ^ 64 - 1)) }
         ensures no_memory { IsOkUnless result PortError.Fault }
     {
         match self.writer.write(from) {

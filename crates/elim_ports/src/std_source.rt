@@ -11,17 +11,18 @@ use std::marker::Model;
 
 /// A source over a reader of the standard library. It tells nothing of the bytes.
 #[derive(Debug, Drop)]
-pub struct StdSource<R> {
+pub struct StdSource<R: Read> {
     reader: R,
     faults: u64,
 }
 
-impl<R> Model for StdSource<R> {
-    ghost use Rattle.std.specs.Prelude.{ℕ, ◌^◌, ◌<◌};
+impl<R: Read> Model for StdSource<R> {
+    ghost use Rattle.std.specs.Prelude.{◌^◌, ◌<◌};
+    ghost use Rattle.elim_ports.specs.Ports.{OverReader};
 
-    ghost Value = { ℕ };
+    ghost Value = { OverReader };
 
-    ghost view = { λ s. s.faults };
+    ghost view = { λ s. record { remaining = R.remaining s.reader; faults = s.faults } };
 
     ghost invariant = { λ s. s.faults < 2 ^ 64 };
 }
@@ -31,7 +32,7 @@ const PIECE: usize = 4096;
 
 impl<R: Read + Drop> StdSource<R> {
     pub fn new(reader: R) -> StdSource<R>
-        ensures { result ≡ 0 }
+        ensures { result ≡ record { remaining = R.remaining reader; faults = 0 } }
     {
         StdSource { reader, faults: 0 }
     }
@@ -40,18 +41,19 @@ impl<R: Read + Drop> StdSource<R> {
 impl<R: Read + Drop> Source for StdSource<R> {
     ghost left = { λ _. None };
 
-    ghost faults = { λ count. count };
+    ghost faults = { λ s. s.faults };
 
     fn read(&mut self, into: &mut [u8]) -> Result<usize, PortError>
         ensures bound { ReadsAtMost result into.new }
         ensures bytes { ReadConsumes None None result into.new }
         ensures rest { FillsFront result into.old into.new }
-        ensures fault { result ≡ Err PortError.Fault → Rose self.old self.new }
-        ensures never_falls { self.old ≤ self.new }
+        ensures fault { result ≡ Err PortError.Fault → Rose self.old.faults self.new.faults }
+        ensures never_falls { self.old.faults ≤ self.new.faults }
 
-        // The count is raised at each error of the reader, and no memory is taken.
-        ensures ok { OnOk result (self.new ≡ self.old) }
-        ensures err { OnErr result (self.new ≡ min (self.old + 1) (2 ^ 64 - 1)) }
+        // The bytes are the reader's; the count is raised at each error of it, and no memory is taken.
+        ensures given { ReadConsumes self.old.remaining self.new.remaining result into.new }
+        ensures ok { OnOk result (self.new.faults ≡ self.old.faults) }
+        ensures err { OnErr result (self.new.faults ≡ min (self.old.faults + 1) (2 ^ 64 - 1)) }
         ensures no_memory { IsOkUnless result PortError.Fault }
     {
         // The reader may leave anything in its slice where it fails.

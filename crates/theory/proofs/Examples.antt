@@ -1,8 +1,10 @@
 mod Derivations
 mod Eliminators
 mod Families
+mod Forms
 mod Positivity
 mod Reduction
+mod Refused
 mod Sample
 mod Terms
 mod WellFormed

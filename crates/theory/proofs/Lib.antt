@@ -14,6 +14,7 @@ pub mod Lists
 pub mod PreludeFamilies
 pub mod PreludeNames
 pub mod PreludeWellFormed
+pub mod Products
 pub mod Pushing
 pub mod RecordScopes
 pub mod Renaming

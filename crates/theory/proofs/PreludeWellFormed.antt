@@ -11,7 +11,7 @@ use Rattle.theory.specs.Families.{Family}
 use Rattle.theory.specs.Signatures.{Signature, Entry, FamilyOf, names_of}
 use Rattle.theory.specs.WellFormed.{first_entries, IsFamily, IsEntry, family, IsWellFormed}
 use Rattle.theory.specs.Prelude.{empty_family, equality_family, unit_family, pair_family, prelude}
-use Rattle.theory.proofs.Lists.{slice_get-append, slice_get-append_right}
+use Rattle.theory.proofs.Lists.{slice_get-longer, slice_get-append_right}
 use Rattle.theory.proofs.PreludeFamilies.{empty_is_family, equality_is_family, unit_is_family, pair_is_family}
 use Rattle.theory.proofs.PreludeNames.{names_at, all_different}
 
@@ -68,8 +68,8 @@ levels_at : (f : ℕ → Family) (n i : ℕ) (rest : List Entry) → i < n → s
 levels_at f n i rest h =
     let long : length (levels f n) ≡ n = length-map-range_with_len (λ i. FamilyOf (f i)) 0 n in
     let d : Entry = FamilyOf empty_family in
-    slice_get-append (levels f n) rest i (omega arith)
-    ∙ (slice_get-get_or (levels f n) i d (omega arith) ∙ ap Some (get_or-map-range_with_len (λ i. FamilyOf (f i)) 0 n i i d h (omega arith)))
+    slice_get-longer (levels f n) rest i (FamilyOf (f i))
+    (slice_get-get_or (levels f n) i d (omega arith) ∙ ap Some (get_or-map-range_with_len (λ i. FamilyOf (f i)) 0 n i i d h (omega arith)))
 
 behind_levels : (f : ℕ → Family) (n i : ℕ) (rest : List Entry) → slice_get (levels f n ++ rest) (n + i) ≡ slice_get rest i
 behind_levels f n i rest =

@@ -3,12 +3,12 @@ use Rattle.std.proofs.Common.{◌≡◌, ℕ, suc, ◌+◌, ◌<◌, ◌≤◌, 
 use Rattle.std.proofs.lemmas.List.Elements.{All-head, All-tail, All-map, All-weaker}
 use Rattle.theory.specs.Terms.{Term, free_of}
 use Rattle.theory.specs.Substitutions.{weaken, inst, ups}
-use Rattle.theory.specs.Telescopes.{Telescope, products, applied, arrows, weaken_by}
+use Rattle.theory.specs.Telescopes.{Telescope, products, applied, arrows}
 use Rattle.theory.specs.Families.{Argument, Plain, Recursive, argument_type, argument_types, recursive_type}
 use Rattle.theory.specs.Scopes.{IsScopedTelescope, IsScopedArgument, IsScopedArguments}
 use Rattle.theory.specs.ScopeLaws.{FreeOfProducts, FreeOfApplied}
 use Rattle.theory.proofs.Bounds.{applied-kept, applied-parts}
-use Rattle.theory.proofs.FreeInstances.{free_of-weaken, free_of-weaken_by, free_of-ups, free_of-inst, free_of-map_inst}
+use Rattle.theory.proofs.FreeInstances.{free_of-weaken, free_of-ups, free_of-inst, free_of-map_inst}
 
 -- the terms have no variables but the nearest n
 abbrev pub Scoped : ℕ → Term → Type 0

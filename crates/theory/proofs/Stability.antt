@@ -1,5 +1,5 @@
 -- Renaming and instantiation keep steps, conversion and below, where bodies are closed.
-use Rattle.std.proofs.Common.{◌≡◌, ℕ, List, ◌∷◌, ◌++◌, map, option_map, ap, sym, ◌∙◌, refl, subst₂}
+use Rattle.std.proofs.Common.{◌≡◌, ℕ, List, ◌∷◌, ◌++◌, map, option_map, ap, sym, ◌∙◌, subst₂}
 use Rattle.std.proofs.lemmas.List.{map-append, length-map}
 use Rattle.std.proofs.lemmas.Option.{slice_get-map}
 use Rattle.theory.specs.Terms.{Term}

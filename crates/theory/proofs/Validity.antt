@@ -10,6 +10,7 @@ use Rattle.theory.specs.Typing.IsContext.{empty, bind}
 use Rattle.theory.specs.Typing.IsType.{is_sort, has_sort}
 use Rattle.theory.specs.Typing.Has.{variable, sort, product, function, application, local, symbol, below, below_sort}
 use Rattle.theory.specs.WellFormed.{IsTyped}
+use Rattle.theory.specs.TypingLaws.{Subsumption, FunctionTypes}
 use Rattle.theory.proofs.Generation.{parts}
 use Rattle.theory.proofs.Renaming.{ren-closed}
 use Rattle.theory.proofs.Lists.{some_is}
@@ -58,3 +59,15 @@ valid typed (symbol context type) =
     let (i, d) = typed.types type in has_sort i (has-anywhere typed (symbol_type_closed typed type) i context d)
 valid typed (below i dt le db) = has_sort i db
 valid typed (below_sort i dt le) = is_sort i
+
+-- a term has every greater type
+pub subsumption : Subsumption
+subsumption S G t a _ d le (is_sort i) = below_sort i d le
+subsumption S G t a _ d le (has_sort i type) = below i d le type
+
+-- the parts of a function's type
+pub function_types : FunctionTypes
+function_types S G f a b typed d =
+    let (i, product_type) = product_sort (valid typed d) in
+    let p = parts product_type in
+    ((p.domain_level, p.domain), (p.codomain_level, p.codomain))

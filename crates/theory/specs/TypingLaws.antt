@@ -1,9 +1,10 @@
 -- The laws of derivations.
 use Rattle.std.specs.Prelude.{Some, ◌≡◌, ℕ, ◌+◌, ◌≤◌, ◌∷◌, ◌++◌, length, slice_get}
-use Rattle.theory.specs.Terms.{Term, lift, subst, free_of}
+use Rattle.theory.specs.Terms.{Term, Pi, lift, subst, free_of}
 use Rattle.theory.specs.Substitutions.{ren, inst}
 use Rattle.theory.specs.Telescopes.{Context, Telescope, context_behind, products, lift_context}
 use Rattle.theory.specs.Signatures.{Signature, HasClosedBodies}
+use Rattle.theory.specs.Conversion.{Below}
 use Rattle.theory.specs.Generation.{Parts}
 use Rattle.theory.specs.Typing.{IsContext, Has, HasSort, IsType}
 use Rattle.theory.specs.WellFormed.{IsTyped}
@@ -85,3 +86,12 @@ TelescopeGeneration =
 -- validity: every derived type is a sort or has one
 abbrev pub Validity : Type 0
 Validity = (S : Signature) (G : Context) (t a : Term) → IsTyped S → Has S G t a → IsType S G a
+
+-- a term has every greater type
+abbrev pub Subsumption : Type 0
+Subsumption = (S : Signature) (G : Context) (t a b : Term) → Has S G t a → Below S a b → IsType S G b → Has S G t b
+
+-- where a term has a product as its type, the domain and the codomain have sorts
+abbrev pub FunctionTypes : Type 0
+FunctionTypes =
+    (S : Signature) (G : Context) (f a b : Term) → IsTyped S → Has S G f (Pi a b) → HasSort S G a × HasSort S (a ∷ G) b

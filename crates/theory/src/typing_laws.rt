@@ -1,5 +1,5 @@
 //! The laws of derivations, without confluence, normalisation or subject reduction.
-ghost use Rattle.theory.specs.TypingLaws.{ContextOfDerivation, TermScoped, TypeScoped, BodiesClosed, Renaming, Weakening, WeakeningOfContexts, Instantiation, Substitution, Generation, TelescopeFormation, TelescopeGeneration, Validity};
+ghost use Rattle.theory.specs.TypingLaws.{ContextOfDerivation, TermScoped, TypeScoped, BodiesClosed, Renaming, Weakening, WeakeningOfContexts, Instantiation, Substitution, Generation, TelescopeFormation, TelescopeGeneration, Validity, Subsumption, FunctionTypes};
 
 /// A derivation stands in a well-formed context.
 pub fn context_of_derivation()
@@ -64,4 +64,14 @@ pub fn telescope_generation()
 /// Validity: every derived type is a sort or has one.
 pub fn validity()
     ensures { Validity }
+{}
+
+/// A term has every greater type.
+pub fn subsumption()
+    ensures { Subsumption }
+{}
+
+/// The domain and the codomain of a function's type have sorts.
+pub fn function_types()
+    ensures { FunctionTypes }
 {}

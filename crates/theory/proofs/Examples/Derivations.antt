@@ -1,11 +1,12 @@
 -- Derivations: sorts, the identity function, `let`, cumulativity, symbols; what has no type.
-use Rattle.std.proofs.Common.{◌≡◌, ℕ, [], ◌∷◌, refl, arith, lit<, lit≤}
+use Rattle.std.proofs.Common.{◌≡◌, [], ◌∷◌, refl, arith, lit<, lit≤}
 use Rattle.theory.specs.Terms.{Term, Var, Sort, Pi, Lam, Let, Const, Con, Elim, AxiomK, top}
 use Rattle.theory.specs.Telescopes.{Context}
 use Rattle.theory.specs.Eliminators.{eliminator_type}
 use Rattle.theory.specs.Signatures.{Signature, TypeOf, constant, family, constructor, eliminator, axiom_k, axiom_k_type}
 use Rattle.theory.specs.Conversion.{Step, here, argument, delta, forwards, same, converts, sorts, products}
 use Rattle.theory.specs.Typing.{IsContext, Has, empty, bind, variable, sort, product, function, application, local, symbol, below, below_sort, IsType, is_sort, has_sort}
+use Rattle.theory.proofs.Examples.Forms.{sort_level}
 use Rattle.theory.proofs.Examples.Sample.{nat, vec, Nat, zero_term, suc_of, Vec, nat_family, vec_family, two, sample}
 
 -- Type 0 : Type 1
@@ -83,9 +84,6 @@ converted =
     let two_steps : Step sample (Const 8) two = here (delta 8 refl (λ e. grind arith)) in
     below 0 (variable 0 c refl) (converts (forwards (argument two_steps) same))
     (application (application (symbol c (family vec refl)) (nat_is_type c)) (application (suc_is_function c) (application (suc_is_function c) (zero_is_nat c))))
-
-sort_level : {i j : ℕ} → Sort i ≡ Sort j → i ≡ j
-sort_level e = cc
 
 no_symbol : (S : Signature) (t a : Term) → TypeOf S t a → t ≡ Sort top → ⊥
 no_symbol S t a (constant n at) e = grind arith

@@ -1,17 +1,13 @@
 -- The types of eliminators and of axiom K have sorts, by derivations; the families of the sample are well formed.
-use Rattle.std.proofs.Common.{ℕ, [], ◌∷◌, refl, lit<, max}
-use Rattle.theory.specs.Terms.{Term, Sort, Pi}
+use Rattle.std.proofs.Common.{[], refl, lit<}
+use Rattle.theory.specs.Terms.{Term, Sort}
 use Rattle.theory.specs.Telescopes.{Context}
 use Rattle.theory.specs.Eliminators.{eliminator_type}
 use Rattle.theory.specs.Signatures.{Signature, IsEntryAt, FamilyOf, family, constructor, axiom_k_type, equality}
-use Rattle.theory.specs.Typing.{IsContext, Has, empty, bind, variable, sort, product, application, symbol, HasSort}
+use Rattle.theory.specs.Typing.{IsContext, Has, empty, variable, sort, application, symbol, HasSort}
 use Rattle.theory.specs.Prelude.{equality_family}
+use Rattle.theory.proofs.Products.{pi}
 use Rattle.theory.proofs.Examples.Sample.{nat, vec, Nat, zero_term, suc_of, Vec, nat_family, vec_family}
-
--- a product whose codomain is derived in the context that its domain makes
-pub pi : {S : Signature} {G : Context} {a b : Term} (i j : ℕ) → IsContext S G → Has S G a (Sort i) → (IsContext S (a ∷ G) → Has S (a ∷ G) b (Sort j))
-    → Has S G (Pi a b) (Sort (max i j))
-pi i j c domain codomain = product i j domain (codomain (bind i c domain))
 
 -- Nat and its constructors, where it is entry `nat`
 module _ (S : Signature) (nat_at : IsEntryAt S nat (FamilyOf nat_family)) where

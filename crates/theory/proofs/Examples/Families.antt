@@ -1,10 +1,12 @@
 -- Types that families bring along, as a reader would write them.
-use Rattle.std.proofs.Common.{◌≡◌, ℕ, [], ◌∷◌, refl}
-use Rattle.theory.specs.Terms.{Var, Sort, Pi, App, Fam, Con}
+use Rattle.std.proofs.Common.{◌≡◌, ℕ, [], ◌∷◌, refl, ◌≤◌, lit≤}
+use Rattle.theory.specs.Terms.{Var, Sort, Pi, App, Fam, Con, free_of}
 use Rattle.theory.specs.Families.{index_types, family_type, family_head, constructor_type, constructor_telescope}
 use Rattle.theory.specs.Eliminators.{eliminator_type, motive_type}
 use Rattle.theory.specs.Signatures.{equality, equation, reflexivity, axiom_k_type}
 use Rattle.theory.specs.Prelude.{equality_family, pair_family, level_text}
+use Rattle.theory.specs.Scopes.{IsScopedConstructor, IsScopedFamily}
+use Rattle.theory.proofs.Lists.{only, both}
 use Rattle.theory.proofs.Examples.Sample.{nat, vec, tree, Nat, zero_term, suc_of, Vec, nil_of, cons_of, zero_constructor, suc_constructor, nil, cons, nat_family, vec_family, tree_family}
 
 -- Nat : Type 0
@@ -105,3 +107,16 @@ seven = refl
 
 twelve : level_text 12 ≡ 49 ∷ 50 ∷ []
 twelve = refl
+
+-- the record of Vec is scoped: parameters over nothing, indices over one variable, the targets of cons over four
+vec_is_scoped : IsScopedFamily vec_family
+vec_is_scoped = record {
+  parameters = (lit≤ tt, tt);
+  indices = (lit≤ tt, tt);
+  constructors = both (IsScopedConstructor 1) nil cons
+      (record { arguments = tt; targets = only (λ t. free_of t ≤ 1) zero_term (lit≤ tt) })
+      (record {
+        arguments = (lit≤ tt, (lit≤ tt, ((tt, only (λ t. free_of t ≤ 3) (Var 1) (lit≤ tt)), tt)));
+        targets = only (λ t. free_of t ≤ 4) (suc_of (Var 2)) (lit≤ tt);
+      });
+}

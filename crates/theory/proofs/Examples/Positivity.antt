@@ -5,6 +5,7 @@ use Rattle.theory.specs.Terms.{Term, Var, Pi, App, Fam}
 use Rattle.theory.specs.Substitutions.{inst}
 use Rattle.theory.specs.Telescopes.{products, applied, weaken_by}
 use Rattle.theory.specs.Families.{Family, Constructor, Argument, Plain, Recursive, IsPositive, IsPositiveArgument, IsPositiveConstructor, Lacks, mentions, constructor_type, argument_types}
+use Rattle.theory.proofs.Examples.Forms.{domain_same}
 use Rattle.theory.proofs.Examples.Sample.{nat, vec, tree, Nat, suc_of, zero_term, zero_constructor, suc_constructor, nil, cons, node, nat_family, vec_family, tree_family}
 use Rattle.theory.proofs.Instances.{inst-var}
 use Rattle.theory.proofs.Lists.{only, both}
@@ -46,9 +47,6 @@ no_family_product : (n : ℕ) (spine : List Term) (a b : Term) → applied (Fam 
 no_family_product n [] a b e = grind arith
 no_family_product n (v ∷ spine) a b e = no_product (Fam n) v spine a b e
 
-domain-same : {a a' b b' : Term} → Pi a b ≡ Pi a' b' → a ≡ a'
-domain-same e = cc
-
 mentioned : (t u : Term) → u ≡ t → mentions bad t ≡ true → Lacks bad u → ⊥
 mentioned t u e m h = true≢false (sym m ∙ (ap (mentions bad) (sym e) ∙ h))
 
@@ -58,10 +56,10 @@ bad_argument : (arguments : List Argument) (targets : List Term)
     → All (IsPositiveArgument bad) arguments → ⊥
 bad_argument [] targets e h = no_family_product bad targets _ _ e
 bad_argument (Plain type level ∷ arguments) targets e h =
-    mentioned (Pi (Fam bad) (Fam 0)) type (sym (inst-var type) ∙ domain-same e) refl (h 0 (Plain type level) (omega arith))
-bad_argument (Recursive [] js level ∷ arguments) targets e h = no_family_product bad (map (inst Var) js) _ _ (domain-same e)
+    mentioned (Pi (Fam bad) (Fam 0)) type (sym (inst-var type) ∙ domain_same e) refl (h 0 (Plain type level) (omega arith))
+bad_argument (Recursive [] js level ∷ arguments) targets e h = no_family_product bad (map (inst Var) js) _ _ (domain_same e)
 bad_argument (Recursive (a ∷ inner) js level ∷ arguments) targets e h =
-    mentioned (Fam bad) a (sym (inst-var a) ∙ domain-same (domain-same e)) refl ((h 0 (Recursive (a ∷ inner) js level) (omega arith)).0 0 a (omega arith))
+    mentioned (Fam bad) a (sym (inst-var a) ∙ domain_same (domain_same e)) refl ((h 0 (Recursive (a ∷ inner) js level) (omega arith)).0 0 a (omega arith))
 
 bad_is_refused : (c : Constructor) → constructor_type bad (bad_family c) c ≡ Pi (Pi (Fam bad) (Fam 0)) (Fam bad) → IsPositive bad (bad_family c) → ⊥
 bad_is_refused c e h = bad_argument c.arguments c.targets e (h 0 c (omega arith)).arguments

@@ -1,10 +1,13 @@
 -- The right side of iota, one step of each kind and at each place, conversion, cumulativity.
-use Rattle.std.proofs.Common.{◌≡◌, ◌≢◌, ℕ, List, [], ◌∷◌, refl, arith, Some, slice_get, ap, sym, ◌∙◌, lit≤}
+use Rattle.std.proofs.Common.{◌≡◌, ◌≢◌, ℕ, List, [], ◌∷◌, refl, arith, slice_get, ap, sym, ◌∙◌, lit≤, true≢false, false, ◌++◌}
 use Rattle.theory.specs.Terms.{Term, Var, Sort, Pi, Lam, App, Let, Const, Elim, AxiomK}
 use Rattle.theory.specs.Substitutions.{weaken}
+use Rattle.theory.specs.Telescopes.{applied}
 use Rattle.theory.specs.Eliminators.{iota_right}
 use Rattle.theory.specs.Signatures.{Signature, Definition, IsEntryAt, reflexivity}
-use Rattle.theory.specs.Conversion.{beta, zeta, delta, iota, axiom_k, Step, here, domain, codomain, annotation, body, function, argument, let_type, let_value, let_body, Converts, same, forwards, backwards, Below, converts, sorts, products, trans}
+use Rattle.theory.specs.Conversion.{Contracts, beta, zeta, delta, iota, axiom_k, Step, here, domain, codomain, annotation, body, function, argument, let_type, let_value, let_body, Converts, same, forwards, backwards, Below, converts, sorts, products, trans}
+use Rattle.theory.proofs.Lists.{some_is}
+use Rattle.theory.proofs.Examples.Forms.{const_number, body_same}
 use Rattle.theory.proofs.Examples.Sample.{nat, vec, tree, Nat, zero_term, suc_of, suc_constructor, cons, node, nat_family, two, sample}
 
 -- Nat!elim.m P z s (suc n) steps to s n (Nat!elim.m P z s n)
@@ -38,19 +41,13 @@ delta_step : Step sample (Const 8) (suc_of (suc_of zero_term))
 delta_step = here (delta 8 refl two_is_given)
 
 -- a provisional constant takes no step, in any signature
-same_body : {name name' : List ℕ} {type type' b b' : Term} → Some (Definition name type b) ≡ Some (Definition name' type' b') → b ≡ b'
-same_body e = cc
-
-const_number : {m n : ℕ} → Const m ≡ Const n → m ≡ n
-const_number e = cc
-
 provisional_is_stuck : (S : Signature) (n : ℕ) (name : List ℕ) (type : Term) → IsEntryAt S n (Definition name type (Const n))
     → (t u : Term) → t ≡ Const n → Step S t u → ⊥
 provisional_is_stuck S n name type at t u e (here beta) = grind arith
 provisional_is_stuck S n name type at t u e (here zeta) = grind arith
 provisional_is_stuck S n name type at t u e (here (delta m found given)) =
     let number : m ≡ n = const_number e in
-    given (same_body (sym found ∙ (ap (slice_get S.entries) number ∙ at)) ∙ ap Const (sym number))
+    given (body_same (some_is (sym found ∙ (ap (slice_get S.entries) number ∙ at))) ∙ ap Const (sym number))
 provisional_is_stuck S n name type at t u e (here (iota k m number f c ps P ms is qs us found constructor redex method)) = grind arith
 provisional_is_stuck S n name type at t u e (here (axiom_k i m on)) = grind arith
 provisional_is_stuck S n name type at t u e _ = grind arith
@@ -84,3 +81,24 @@ below_products a = products same (sorts (lit≤ tt))
 
 below_converted : (b : Term) → Below sample (Pi (App b (Const 8)) (Sort 0)) (Pi (App b two) (Sort 1))
 below_converted b = trans (converts (forwards (domain (argument two_step)) same)) (products same (sorts (lit≤ tt)))
+
+-- the head of a spine, and K at reflexivity, where K is off
+head_of : Term → Term
+head_of (App f a) = head_of f
+head_of t = t
+
+head_of-applied : (f : Term) (spine : List Term) → head_of (applied f spine) ≡ head_of f
+unfolding head_of
+head_of-applied f [] = refl
+head_of-applied f (a ∷ spine) = head_of-applied (App f a) spine
+
+no_k : (S : Signature) → S.has_k ≡ false → (i m : ℕ) (A a P d B b t u : Term)
+    → t ≡ App (App (App (App (App (AxiomK i m) A) a) P) d) (reflexivity i B b) → Contracts S t u → ⊥
+unfolding head_of
+no_k S off i m A a P d B b t u e (beta {a = c} {b = f}) = let head : Lam c f ≡ AxiomK i m = ap head_of e in grind arith
+no_k S off i m A a P d B b t u e zeta = grind arith
+no_k S off i m A a P d B b t u e (delta n found given) = grind arith
+no_k S off i m A a P d B b t u e (iota n m' number f c ps P' ms is qs us found constructor redex method) =
+    let head : Elim n m' ≡ AxiomK i m = sym (head_of-applied (Elim n m') (ps ++ P' ∷ (ms ++ is))) ∙ ap head_of e in
+    grind arith
+no_k S off i m A a P d B b t u e (axiom_k i' m' on) = true≢false (sym on ∙ off)

@@ -2,7 +2,7 @@
 use Rattle.std.proofs.Common.{◌≡◌, [], ◌∷◌, refl, lit<}
 use Rattle.theory.specs.Terms.{Term, Var, Sort, Pi, Lam, App, Let, Const, lift, subst, height, free_of, IsClosed, SortsBelow}
 use Rattle.theory.specs.Substitutions.{weaken, inst, extend, fill}
-use Rattle.theory.specs.Telescopes.{products, functions, applied, arrows, variables, weaken_by, context_behind, inst_telescope}
+use Rattle.theory.specs.Telescopes.{products, functions, applied, arrows, variables, weaken_by, context_behind, inst_telescope, lift_context}
 
 -- \x. x y0 y1 with y0 the nearest free variable: y0 and the bound variable stay, y1 goes up
 lifted : lift (Lam (Sort 0) (App (App (Var 0) (Var 1)) (Var 2))) 3 1 ≡ Lam (Sort 0) (App (App (Var 0) (Var 1)) (Var 5))
@@ -60,6 +60,10 @@ telescope_variables f = refl
 -- A -> B -> C over three variables
 three_arrows : arrows (Var 2 ∷ Var 1 ∷ []) (Var 0) ≡ Pi (Var 2) (Pi (Var 2) (Var 2))
 three_arrows = refl
+
+-- x : A and F : A -> Type 0 behind a variable A, where two types are put in between
+context_lifted : lift_context (Pi (Var 1) (Sort 0) ∷ Var 0 ∷ []) 2 ≡ Pi (Var 3) (Sort 0) ∷ Var 2 ∷ []
+context_lifted = refl
 
 -- A for the variable of (x : A) (y : F x)
 instantiated : (u : Term) → inst_telescope (extend Var (Const 7)) (Var 0 ∷ App (Var 1) (Var 0) ∷ []) ≡ Const 7 ∷ App (Const 7) (Var 0) ∷ []

@@ -7,16 +7,18 @@ use Rattle.std.proofs.lemmas.List.Elements.{All-cons, All-nil}
 use Rattle.std.proofs.lemmas.List.Kept.{AllPairs-cons}
 use Rattle.std.proofs.lemmas.Option.{none-some, same_Some}
 use Rattle.std.proofs.lemmas.Slice.Eq.{bytes_eq-Decides}
-use Rattle.theory.specs.Terms.{Var, Sort}
+use Rattle.theory.specs.Terms.{Const, Var, Sort}
 use Rattle.theory.specs.Families.{Family, Plain, Recursive}
-use Rattle.theory.specs.Signatures.{Signature, Entry, FamilyOf, EliminatorAt, AxiomKAt, Definition, IsEntryAt, names}
+use Rattle.theory.specs.Signatures.{Signature, Entry, FamilyOf, EliminatorAt, AxiomKAt, Definition, IsEntryAt, IsPrefix, names}
 use Rattle.theory.specs.Typing.{empty, bind, variable, sort}
-use Rattle.theory.specs.WellFormed.{pushed, first_entries, HasTargets, HasLevels, none, more, IsConstructor, IsFamily, IsEntry, family, eliminator, axiom_k, definition, IsWellFormed, IsWellFormedSoFar, with_provisional}
+use Rattle.theory.specs.WellFormed.{pushed, first_entries, HasTargets, HasLevels, none, more, IsConstructor, IsFamily, IsEntry, family, eliminator, axiom_k, definition, IsWellFormed, IsWellFormedSoFar, with_provisional, IsTyped}
 use Rattle.theory.proofs.Lists.{only, both}
+use Rattle.theory.proofs.Products.{pi}
+use Rattle.theory.proofs.Pushing.{so_far_typed}
 use Rattle.theory.proofs.PreludeFamilies.{empty_is_family, equality_is_family, new_family}
 use Rattle.theory.proofs.Examples.Sample.{nat, vec, tree, Nat, Vec, zero_constructor, suc_constructor, nil, cons, node, nat_family, vec_family, tree_family, two, defined, sample}
 use Rattle.theory.proofs.Examples.Positivity.{nat_is_positive, vec_is_positive, tree_is_positive}
-use Rattle.theory.proofs.Examples.Eliminators.{pi, nat_in, zero_in, suc_in, vec_in, nat_eliminator_sort, vec_eliminator_sort, k_sort}
+use Rattle.theory.proofs.Examples.Eliminators.{nat_in, zero_in, suc_in, vec_in, nat_eliminator_sort, vec_eliminator_sort, k_sort}
 
 nat_is_family : IsFamily (first_entries defined nat) nat_family
 nat_is_family =
@@ -187,3 +189,9 @@ defined_is_well_formed = record { distinct = all_distinct (names defined) refl; 
 sample_is_well_formed_so_far : IsWellFormedSoFar sample
 sample_is_well_formed_so_far =
     with_provisional defined (codes "open") Nat defined_is_well_formed (all_distinct (names sample) refl) (0, nat_in defined refl empty)
+
+defined_is_prefix : IsPrefix defined sample
+defined_is_prefix = record { more = Definition (codes "open") Nat (Const 9) ∷ []; entries = refl; has_k = refl }
+
+sample_is_typed : IsTyped sample
+sample_is_typed = so_far_typed sample sample_is_well_formed_so_far

@@ -1,0 +1,19 @@
+use Rattle.std.proofs.Common.{arith, ap, sym}
+use Rattle.std.proofs.lemmas.List.{take-map}
+use Rattle.core_sig.specs.Kinds.{HasEntryKinds}
+use Rattle.core_sig.specs.Meanings.{entry_of}
+use Rattle.core_sig.proofs.Keeping.{each-take}
+use Rattle.core_sig.proofs.NameLists.{take-named}
+use Rattle.core_sig.proofs.signature.Signature.truncate.Goals as goal
+
+pub invariant_of-self : goal.invariant_of-self
+invariant_of-self c =
+    let es = c.self.inside.entries.items in
+    record {
+      names = rw (c.truncate.ensures, c.names_before-names.ensures, c.as_slice.ensures.value, c.self.invariant.names, c.truncate-then-len.ensures.items) (take-named es c.args.len);
+      kinds = rw c.truncate-then-len.ensures.items (each-take HasEntryKinds c.args.len es c.self.invariant.kinds);
+      count = omega (arith, c.truncate-then-len.ensures.len);
+    }
+
+pub returns-then-len : goal.returns-then-len
+returns-then-len c = rw (← c.self.view_is, c.truncate-then-len.ensures.items) (ap (λ es. record { entries = es; has_k = c.self.inside.k }) (sym (take-map entry_of c.args.len c.self.inside.entries.items)))

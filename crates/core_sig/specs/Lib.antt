@@ -1,0 +1,5 @@
+pub mod Codes
+pub mod Invariants
+pub mod Kinds
+pub mod Meanings
+pub mod Names

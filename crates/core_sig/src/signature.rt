@@ -1,0 +1,114 @@
+ghost use Rattle.std.specs.Prelude.{◌≡◌, ◌≢◌, ◌≤◌, None, length, take, map, slice_get, option_map, All, AllPairs, IfOk, OnOk, OnErr, IfSome};
+ghost use Rattle.std.specs.Option.{option_copied};
+ghost use Rattle.theory.specs.Signatures.{names_of};
+ghost use Rattle.theory.specs.WellFormed.{pushed, first_entries};
+ghost use Rattle.core_terms.specs.declared.stop.Stop.TheVariants.{Memory};
+ghost use Rattle.core_sig.specs.Kinds.{HasEntryKinds};
+ghost use Rattle.core_sig.specs.Meanings.{entry_of};
+ghost use Rattle.core_sig.specs.Names.{find, named};
+
+use crate::name_index::NameIndex;
+use crate::naming::{add_names, name_count, number_of};
+use crate::{Entry, Found};
+use core_terms::Stop;
+use std::marker::Model;
+
+/// The entries that terms name by their numbers, and whether axiom K is on. Contracts see the two alone.
+#[derive(Drop)]
+pub struct Signature {
+    entries: Vec<Entry>,
+    k: bool,
+    names: NameIndex,
+}
+
+impl Model for Signature {
+    ghost use Rattle.std.specs.Prelude.{map};
+    ghost use Rattle.theory.specs.Signatures.{Signature};
+    ghost use Rattle.core_sig.specs.Codes.{signature_code};
+
+    ghost Value = { Signature };
+
+    ghost coded = { signature_code };
+
+    ghost use Rattle.core_sig.specs.Meanings.{entry_of};
+    ghost use Rattle.core_sig.specs.Invariants.{IsKept};
+
+    ghost view = { λ s. record { entries = map entry_of s.entries.items; has_k = s.k } };
+
+    ghost invariant = { IsKept };
+}
+
+impl Signature {
+    /// The number of entries.
+    pub fn len(&self) -> u32
+        ensures { result ≡ length self.now.entries }
+    {
+        self.entries.len() as u32
+    }
+
+    /// Whether axiom K is on.
+    pub fn k(&self) -> bool
+        ensures { result ≡ self.now.has_k }
+    {
+        self.k
+    }
+
+    /// The entry with the number.
+    pub fn entry(&self, at: u32) -> Option<&Entry>
+        ensures entry { option_map entry_of (option_copied result) ≡ slice_get self.now.entries at }
+        ensures kinds { IfSome result (λ e. HasEntryKinds at e.now) }
+    {
+        self.entries.as_slice().get(at as usize)
+    }
+
+    /// What the name stands for.
+    pub fn find(&self, name: &[u8]) -> Option<Found>
+        ensures { result ≡ find self.now name.now }
+    {
+        self.names.get(name)
+    }
+
+    /// Adds the entry at the end and answers its number. Memory is also answered where a number would not fit.
+    pub fn push(&mut self, entry: Entry) -> Result<u32, Stop>
+        requires unknown { All (λ name. find self.old name ≡ None) (names_of (entry_of entry)) }
+        requires distinct { AllPairs (λ x y. x ≢ y) (names_of (entry_of entry)) }
+        requires kinds { HasEntryKinds (length self.old.entries) entry }
+        ensures number { IfOk result (λ n. n ≡ length self.old.entries) }
+        ensures ok { OnOk result (self.new ≡ pushed self.old (entry_of entry)) }
+        ensures err { OnErr result (self.new ≡ self.old) }
+        ensures memory { OnErr result (result ≡ Err Memory) }
+    {
+        let number = number_of(self.entries.len() + 1)? - 1;
+        self.entries.reserve(1)?;
+        add_names(&mut self.names, number, &entry)?;
+        self.entries.push(entry).unwrap();
+        Ok(number)
+    }
+
+    /// Keeps the first `len` entries. Takes no memory.
+    pub fn truncate(&mut self, len: u32)
+        ensures { self.new ≡ first_entries self.old len }
+    {
+        let len = len as usize;
+        if len < self.entries.len() {
+            let names = names_before(self.entries.as_slice(), self.names.len(), len);
+            self.names.truncate(names);
+            self.entries.truncate(len);
+        }
+    }
+}
+
+/// How many names the first `len` entries bring, where all of them bring `all`.
+fn names_before(entries: &[Entry], all: usize, len: usize) -> usize
+    requires len { len ≤ length entries.now }
+    requires all { all ≡ length (named 0 (map entry_of entries.now)) }
+    ensures { result ≡ length (named 0 (map entry_of (take len entries.now))) }
+{
+    let mut names = all;
+    let mut at = entries.len();
+    while len < at {
+        at -= 1;
+        names -= name_count(&entries[at]);
+    }
+    names
+}
