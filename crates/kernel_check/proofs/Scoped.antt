@@ -19,7 +19,7 @@ use Rattle.kernel_reduce.specs.Comparison.{subtype_of}
 use Rattle.kernel_reduce.proofs.Answers.{Answers, and_then-has, charge-has, if_low-has, bounded-has}
 use Rattle.kernel_reduce.proofs.ScopedReduction.{whnf-scoped}
 use Rattle.kernel_check.specs.Symbols.{symbol_type}
-use Rattle.kernel_check.specs.Checking.{Asks, Checks, typed as of_type, denied, if_typed, behind, variable_type, infer_universe, greater_sort, infer_product, is_top, function_type, infer_function, reduced_product, product_of, apply_product, infer_application, infer_body, infer_local, infer_symbol, infer_form, sort_of, compared, infer_of, infer_sort_of, check_of}
+use Rattle.kernel_check.specs.Checking.{Asks, Checks, typed as of_type, denied, if_typed, behind, variable_type, universe_type, greater_sort, infer_product, is_top, function_type, infer_function, reduced_product, product_of, apply_product, infer_application, infer_body, infer_local, given_type, infer_form, sort_of, compared, infer_of, infer_sort_of, check_of}
 use Rattle.kernel_check.specs.Laws.{IsScopedReason, IsScopedDenial, IsScopedVerdict, InferScoped, InferSortScoped, CheckScoped}
 use Rattle.kernel_check.proofs.SymbolTypes.{symbol-type_of}
 use Rattle.kernel_check.proofs.Verdicts.{Splits, typed-splits, if_typed-splits, behind-splits, child-splits}
@@ -46,12 +46,15 @@ any-answer : (r : Result Bool Stop) → IfOk r (λ holds. Unit {0})
 any-answer (Ok holds) = tt
 any-answer (Err e) = tt
 
+abbrev ScopesOk : Signature → ℕ → Result Verdict Stop → Type 0
+ScopesOk S n r = IfOk r (Splits (IsScoped S n) (IsScopedDenial S))
+
 -- a scoped answer over n variables
 abbrev Scopes : Signature → ℕ → Spent Verdict → Type 0
 Scopes S n r = Answers (Splits (IsScoped S n) (IsScopedDenial S)) r
 
-of_type-scopes : (S : Signature) (n : ℕ) (made : Term) (left : ℕ) → IsScoped S n made → Scopes S n (of_type made left)
-of_type-scopes S n made left h = typed-splits (IsScoped S n) (IsScopedDenial S) made left h
+of_type-scopes : (S : Signature) (n : ℕ) (made : Term) → IsScoped S n made → ScopesOk S n (of_type made)
+of_type-scopes S n made h = typed-splits (IsScoped S n) (IsScopedDenial S) made h
 
 child-scopes : (S : Signature) (m n child : ℕ) (asked : Spent Verdict) (go : Term → ℕ → Spent Verdict) → Scopes S m asked
     → ((type : Term) (rest : ℕ) → IsScoped S m type → Scopes S n (go type rest)) → Scopes S n (if_typed (behind child asked) go)
@@ -76,19 +79,19 @@ declared-scoped S (b ∷ G) (suc n) a ctx e =
     let m = found.1 in
     (found.0, omega arith, found.2)
 
-variable-scopes : (S : Signature) (G : Context) (n left : ℕ) (o : Option Term) → slice_get G n ≡ o → IsScopedContext S G
-    → Scopes S (length G) (variable_type G n o left)
-variable-scopes S G n left (Some a) e ctx =
+variable-scopes : (S : Signature) (G : Context) (n : ℕ) (o : Option Term) → slice_get G n ≡ o → IsScopedContext S G
+    → ScopesOk S (length G) (variable_type G n o)
+variable-scopes S G n (Some a) e ctx =
     let found = declared-scoped S G n a ctx e in
-    of_type-scopes S (length G) (lift a (n + 1) 0) left
+    of_type-scopes S (length G) (lift a (n + 1) 0)
     (transport (λ k. IsScoped S k (lift a (n + 1) 0)) found.1 (lift-scoped S found.0 a (n + 1) 0 found.2))
-variable-scopes S G n left None e ctx = denied-scoped S G NoSuchInstance ctx tt
+variable-scopes S G n None e ctx = denied-scoped S G NoSuchInstance ctx tt
 
-universe-scopes : (S : Signature) (G : Context) (i left : ℕ) → IsScopedContext S G → Scopes S (length G) (infer_universe G i left)
-universe-scopes S G i left ctx = go (nat_lt i top)
+universe-scopes : (S : Signature) (G : Context) (i : ℕ) → IsScopedContext S G → ScopesOk S (length G) (universe_type G i)
+universe-scopes S G i ctx = go (nat_lt i top)
   where
-    go : (b : Bool) → Scopes S (length G) (cond b (of_type (Sort (i + 1)) left) (denied G LevelTooHigh left))
-    go true = of_type-scopes S (length G) (Sort (i + 1)) left (sort-scoped (i + 1))
+    go : (b : Bool) → ScopesOk S (length G) (cond b (of_type (Sort (i + 1))) (denied G LevelTooHigh))
+    go true = of_type-scopes S (length G) (Sort (i + 1)) (sort-scoped (i + 1))
     go false = denied-scoped S G LevelTooHigh ctx tt
 
 greater-scoped : (S : Signature) (n : ℕ) (i j : Term) → IsScoped S n i → IsScoped S n (greater_sort i j)
@@ -105,17 +108,17 @@ product-scopes S infer_sort h G a b left ctx ht =
     let p = scoped-pi ht in
     child-scopes S (length G) (length G) 0 (infer_sort G a left) _ (h G a left ctx p.0) (λ i rest hi.
     child-scopes S (length (a ∷ G)) (length G) 1 (infer_sort (a ∷ G) b rest) _ (h (a ∷ G) b rest (p.0, ctx) (under-binder G a p.1)) (λ j end hj.
-    of_type-scopes S (length G) (greater_sort i j) end (greater-scoped S (length G) i j hi)))
+    of_type-scopes S (length G) (greater_sort i j) (greater-scoped S (length G) i j hi)))
 
-function_type-scopes : (S : Signature) (G : Context) (a c : Term) (left : ℕ) → IsScopedContext S G → IsScoped S (length G) a
-    → IsScoped S (length (a ∷ G)) c → Scopes S (length G) (function_type G a c left)
-function_type-scopes S G a c left ctx ha hc = go (is_top c)
+function_type-scopes : (S : Signature) (G : Context) (a c : Term) → IsScopedContext S G → IsScoped S (length G) a
+    → IsScoped S (length (a ∷ G)) c → ScopesOk S (length G) (function_type G a c)
+function_type-scopes S G a c ctx ha hc = go (is_top c)
   where
-    go : (b : Bool) → Scopes S (length G) (cond b (denied G LevelTooHigh left) (of_type (Pi a c) left))
+    go : (b : Bool) → ScopesOk S (length G) (cond b (denied G LevelTooHigh) (of_type (Pi a c)))
     go true = denied-scoped S G LevelTooHigh ctx tt
     go false =
         let e : length (a ∷ G) ≡ length G + 1 = omega arith in
-        of_type-scopes S (length G) (Pi a c) left (pi-scoped ha (transport (λ n. IsScoped S n c) e hc))
+        of_type-scopes S (length G) (Pi a c) (pi-scoped ha (transport (λ n. IsScoped S n c) e hc))
 
 function-scopes : (S : Signature) (infer infer_sort : Asks) → AskScopes S infer → AskScopes S infer_sort → (G : Context) (a b : Term) (left : ℕ)
     → IsScopedContext S G → IsScoped S (length G) (Lam a b) → Scopes S (length G) (infer_function infer infer_sort G a b left)
@@ -124,7 +127,7 @@ function-scopes S infer infer_sort h k G a b left ctx ht =
     let p = scoped-lam ht in
     child-scopes S (length G) (length G) 0 (infer_sort G a left) _ (k G a left ctx p.0) (λ i rest hi.
     child-scopes S (length (a ∷ G)) (length G) 1 (infer (a ∷ G) b rest) _ (h (a ∷ G) b rest (p.0, ctx) (under-binder G a p.1)) (λ c end hc.
-    function_type-scopes S G a c end ctx p.0 hc))
+    function_type-scopes S G a c ctx p.0 hc))
 
 reduced-scopes : (S : Signature) (infer_sort : Asks) → AskScopes S infer_sort → (G : Context) (c : Term) (left : ℕ) → IsScopedContext S G
     → IsScoped S (length G) c → Scopes S (length G) (reduced_product infer_sort G c left)
@@ -152,7 +155,7 @@ unfolding CheckingScopes
 apply-scopes S check h G u (Pi a b) left ctx hu hc =
     let p = scoped-pi hc in
     child-scopes S (length G) (length G) 1 (check G u a left) _ (h G u a left ctx hu p.0) (λ found end hf.
-    of_type-scopes S (length G) (subst b 0 u) end (subst-scoped S (length G) 0 b u (omega arith) p.1 hu))
+    of_type-scopes S (length G) (subst b 0 u) (subst-scoped S (length G) 0 b u (omega arith) p.1 hu))
 apply-scopes S check h G u (Var n) left ctx hu hc = denied-scoped S G (NotAProduct (Var n)) ctx hc
 apply-scopes S check h G u c left ctx hu hc = denied-scoped S G (NotAProduct c) ctx hc
 
@@ -184,33 +187,33 @@ local-scopes S infer infer_sort check h k l G a t b left ctx ht =
     child-scopes S (length G) (length G) 1 (check G t a rest) _ (l G t a rest ctx p.1 p.0) (λ found end hf.
     body-scopes S infer h G (subst b 0 t) end ctx (subst-scoped S (length G) 0 b t (omega arith) p.2 p.1)))
 
-symbol-scopes : (S : Signature) → IsScopedSignature S → (G : Context) (s : Term) (left : ℕ) (o : Option Term) → IfSome o (TypeOf S s) → IsScopedContext S G
-    → Scopes S (length G) (infer_symbol G o left)
-symbol-scopes S scoped G s left (Some a) h ctx =
-    of_type-scopes S (length G) a left (scoped_over_more S 0 (length G) a (omega arith) (types-scoped S s a scoped h))
-symbol-scopes S scoped G s left None h ctx = denied-scoped S G NoSuchInstance ctx tt
+symbol-scopes : (S : Signature) → IsScopedSignature S → (G : Context) (s : Term) (o : Option Term) → IfSome o (TypeOf S s) → IsScopedContext S G
+    → ScopesOk S (length G) (given_type G o)
+symbol-scopes S scoped G s (Some a) h ctx =
+    of_type-scopes S (length G) a (scoped_over_more S 0 (length G) a (omega arith) (types-scoped S s a scoped h))
+symbol-scopes S scoped G s None h ctx = denied-scoped S G NoSuchInstance ctx tt
 
 form-scopes : (S : Signature) → IsScopedSignature S → (infer infer_sort : Asks) (check : Checks) → AskScopes S infer → AskScopes S infer_sort → CheckingScopes S check
     → AskScopes S (infer_form S infer infer_sort check)
 unfolding AskScopes
-form-scopes S scoped infer infer_sort check h k l G (Var n) left ctx ht = variable-scopes S G n left (slice_get G n) refl ctx
-form-scopes S scoped infer infer_sort check h k l G (Sort i) left ctx ht = universe-scopes S G i left ctx
+form-scopes S scoped infer infer_sort check h k l G (Var n) left ctx ht = variable-scopes S G n (slice_get G n) refl ctx
+form-scopes S scoped infer infer_sort check h k l G (Sort i) left ctx ht = universe-scopes S G i ctx
 form-scopes S scoped infer infer_sort check h k l G (Pi a b) left ctx ht = product-scopes S infer_sort k G a b left ctx ht
 form-scopes S scoped infer infer_sort check h k l G (Lam a b) left ctx ht = function-scopes S infer infer_sort h k G a b left ctx ht
 form-scopes S scoped infer infer_sort check h k l G (App f u) left ctx ht = application-scopes S scoped infer infer_sort check h k l G f u left ctx ht
 form-scopes S scoped infer infer_sort check h k l G (Let a t b) left ctx ht = local-scopes S infer infer_sort check h k l G a t b left ctx ht
-form-scopes S scoped infer infer_sort check h k l G (Const n) left ctx ht = symbol-scopes S scoped G (Const n) left (symbol_type S (Const n)) (symbol-type_of S (Const n)) ctx
-form-scopes S scoped infer infer_sort check h k l G s left ctx ht = symbol-scopes S scoped G s left (symbol_type S s) (symbol-type_of S s) ctx
+form-scopes S scoped infer infer_sort check h k l G (Const n) left ctx ht = symbol-scopes S scoped G (Const n) (symbol_type S (Const n)) (symbol-type_of S (Const n)) ctx
+form-scopes S scoped infer infer_sort check h k l G s left ctx ht = symbol-scopes S scoped G s (symbol_type S s) (symbol-type_of S s) ctx
 
-sort_of-scopes : (S : Signature) (G : Context) (c : Term) (left : ℕ) → IsScopedContext S G → IsScoped S (length G) c → Scopes S (length G) (sort_of G c left)
-sort_of-scopes S G (Sort i) left ctx hc = hc
-sort_of-scopes S G (Var n) left ctx hc = denied-scoped S G (NotASort (Var n)) ctx hc
-sort_of-scopes S G c left ctx hc = denied-scoped S G (NotASort c) ctx hc
+sort_of-scopes : (S : Signature) (G : Context) (c : Term) → IsScopedContext S G → IsScoped S (length G) c → ScopesOk S (length G) (sort_of G c)
+sort_of-scopes S G (Sort i) ctx hc = hc
+sort_of-scopes S G (Var n) ctx hc = denied-scoped S G (NotASort (Var n)) ctx hc
+sort_of-scopes S G c ctx hc = denied-scoped S G (NotASort c) ctx hc
 
-compared-scopes : (S : Signature) (G : Context) (found wanted : Term) (holds : Bool) (left : ℕ) → IsScopedContext S G → IsScoped S (length G) found
-    → IsScoped S (length G) wanted → Scopes S (length G) (compared G found wanted holds left)
-compared-scopes S G found wanted true left ctx hf hw = hf
-compared-scopes S G found wanted false left ctx hf hw = denied-scoped S G (Mismatch found wanted) ctx (hf, hw)
+compared-scopes : (S : Signature) (G : Context) (found wanted : Term) (holds : Bool) → IsScopedContext S G → IsScoped S (length G) found
+    → IsScoped S (length G) wanted → ScopesOk S (length G) (compared G found wanted holds)
+compared-scopes S G found wanted true ctx hf hw = hf
+compared-scopes S G found wanted false ctx hf hw = denied-scoped S G (Mismatch found wanted) ctx (hf, hw)
 
 mutual
   unfolding AskScopes CheckingScopes
@@ -228,16 +231,16 @@ mutual
   infer_sort-scopes S scoped (suc room) G t left ctx ht =
       if_typed-splits (IsScoped S (length G)) (IsScoped S (length G)) (IsScopedDenial S) (infer_of S room G t left) _
       (infer-scopes S scoped room G t left ctx ht) (λ c rest hc.
-      and_then-has (IsScoped S (length G)) (Splits (IsScoped S (length G)) (IsScopedDenial S)) (whnf_of S true rest c) (sort_of G)
-      (whnf-scoped S true rest (length G) c scoped hc) (λ d end hd. sort_of-scopes S G d end ctx hd))
+      and_then-has (IsScoped S (length G)) (Splits (IsScoped S (length G)) (IsScopedDenial S)) (whnf_of S true rest c) _
+      (whnf-scoped S true rest (length G) c scoped hc) (λ d end hd. sort_of-scopes S G d ctx hd))
 
   check-scopes : (S : Signature) → IsScopedSignature S → (room : ℕ) → CheckingScopes S (check_of S room)
   check-scopes S scoped zero G t wanted left ctx ht hw = tt
   check-scopes S scoped (suc room) G t wanted left ctx ht hw =
       if_typed-splits (IsScoped S (length G)) (IsScoped S (length G)) (IsScopedDenial S) (infer_of S room G t left) _
       (infer-scopes S scoped room G t left ctx ht) (λ found rest hf.
-      and_then-has (λ holds. Unit {0}) (Splits (IsScoped S (length G)) (IsScopedDenial S)) (subtype_of S room found wanted rest) (compared G found wanted)
-      (any-answer (subtype_of S room found wanted rest).0) (λ holds end hb. compared-scopes S G found wanted holds end ctx hf hw))
+      and_then-has (λ holds. Unit {0}) (Splits (IsScoped S (length G)) (IsScopedDenial S)) (subtype_of S room found wanted rest) _
+      (any-answer (subtype_of S room found wanted rest).0) (λ holds end hb. compared-scopes S G found wanted holds ctx hf hw))
 
 -- the words of the law
 verdict-scoped : (S : Signature) (n : ℕ) (r : Result Verdict Stop) → IfOk r (Splits (IsScoped S n) (IsScopedDenial S)) → IfOk r (IsScopedVerdict S n)

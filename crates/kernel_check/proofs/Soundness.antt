@@ -28,7 +28,7 @@ use Rattle.kernel_reduce.proofs.Answers.{Answers, and_then-has, charge-has, if_l
 use Rattle.kernel_reduce.proofs.ReductionLaws.{whnf-is_head_form}
 use Rattle.kernel_reduce.proofs.ComparisonLaws.{subtype-is_below}
 use Rattle.kernel_check.specs.Symbols.{symbol_type}
-use Rattle.kernel_check.specs.Checking.{Asks, Checks, typed as of_type, denied, if_typed, behind, variable_type, infer_universe, greater_sort, infer_product, is_top, function_type, infer_function, reduced_product, product_of, apply_product, infer_application, infer_body, infer_local, infer_symbol, infer_form, sort_of, compared, infer_of, infer_sort_of, check_of}
+use Rattle.kernel_check.specs.Checking.{Asks, Checks, typed as of_type, denied, if_typed, behind, variable_type, universe_type, greater_sort, infer_product, is_top, function_type, infer_function, reduced_product, product_of, apply_product, infer_application, infer_body, infer_local, given_type, infer_form, sort_of, compared, infer_of, infer_sort_of, check_of}
 use Rattle.kernel_check.specs.Laws.{IfYes, HasType, HasUniverse, HasWanted, InferIsSound, InferSortIsSound, CheckIsSound}
 use Rattle.kernel_check.proofs.Sorts.{whnf-sorts}
 use Rattle.kernel_check.proofs.SymbolTypes.{symbol-type_of}
@@ -70,22 +70,22 @@ has_type typed d levels = record { derivation = d; is_type = valid typed d; leve
 levels-of : {S : Signature} {G : Context} {t a : Term} → Has S G t a → SortsBelow (top + 1) t
 levels-of {t = t} d = sorts_raised t top (top + 1) (omega arith) (sorts_of_term d)
 
-variable-sound : (S : Signature) → IsTyped S → (G : Context) (n left : ℕ) (o : Option Term) → slice_get G n ≡ o → IsContext S G
-    → Says (HasType S G (Var n)) (variable_type G n o left)
+variable-sound : (S : Signature) → IsTyped S → (G : Context) (n : ℕ) (o : Option Term) → slice_get G n ≡ o → IsContext S G
+    → IfOk (variable_type G n o) (Splits (HasType S G (Var n)) NoClaim)
 unfolding NoClaim
-variable-sound S typed G n left (Some a) e ctx =
-    typed-splits (HasType S G (Var n)) NoClaim (lift a (n + 1) 0) left
+variable-sound S typed G n (Some a) e ctx =
+    typed-splits (HasType S G (Var n)) NoClaim (lift a (n + 1) 0)
     (has_type typed (variable n ctx e) (levels-of (variable_sort typed n a ctx e).1))
-variable-sound S typed G n left None e ctx = tt
+variable-sound S typed G n None e ctx = tt
 
-universe-sound : (S : Signature) → IsTyped S → (G : Context) (i left : ℕ) → IsContext S G → Says (HasType S G (Sort i)) (infer_universe G i left)
+universe-sound : (S : Signature) → IsTyped S → (G : Context) (i : ℕ) → IsContext S G → IfOk (universe_type G i) (Splits (HasType S G (Sort i)) NoClaim)
 unfolding NoClaim
-universe-sound S typed G i left ctx = go (nat_lt i top) refl
+universe-sound S typed G i ctx = go (nat_lt i top) refl
   where
-    go : (b : Bool) → nat_lt i top ≡ b → Says (HasType S G (Sort i)) (cond b (of_type (Sort (i + 1)) left) (denied G LevelTooHigh left))
+    go : (b : Bool) → nat_lt i top ≡ b → IfOk (cond b (of_type (Sort (i + 1))) (denied G LevelTooHigh)) (Splits (HasType S G (Sort i)) NoClaim)
     go true e =
         let low : i < top = grind (arith, nat_tests) in
-        typed-splits (HasType S G (Sort i)) NoClaim (Sort (i + 1)) left (has_type typed (sort i ctx low) (omega arith))
+        typed-splits (HasType S G (Sort i)) NoClaim (Sort (i + 1)) (has_type typed (sort i ctx low) (omega arith))
     go false e = tt
 
 -- the sort of a product, from those of its parts
@@ -105,7 +105,7 @@ product-sound S typed infer_sort h G a b left ctx =
     child-says (HasUniverse S G a) (HasType S G (Pi a b)) 0 (infer_sort G a left) _ (h G a left ctx) (λ i rest hi.
     child-says (HasUniverse S (a ∷ G) b) (HasType S G (Pi a b)) 1 (infer_sort (a ∷ G) b rest) _
     (h (a ∷ G) b rest (bind hi.level ctx hi.derivation)) (λ j end hj.
-    typed-splits (HasType S G (Pi a b)) NoClaim (greater_sort i j) end (product-type typed hi hj)))
+    typed-splits (HasType S G (Pi a b)) NoClaim (greater_sort i j) (product-type typed hi hj)))
 
 -- a type that is not Type top, and has no sort above top, has a sort
 codomain-sort : {S : Signature} {G : Context} {a : Term} → IsContext S G → IsType S G a → SortsBelow (top + 1) a → is_top a ≡ false → HasSort S G a
@@ -117,16 +117,16 @@ codomain-sort ctx (is_sort i) levels e =
     below_top n p q = grind (arith, nat_tests)
 codomain-sort ctx (has_sort i d) levels e = (i, d)
 
-function_type-sound : (S : Signature) → IsTyped S → (G : Context) (a b c : Term) (i left : ℕ) → IsContext S G → Has S G a (Sort i) → HasType S (a ∷ G) b c
-    → Says (HasType S G (Lam a b)) (function_type G a c left)
+function_type-sound : (S : Signature) → IsTyped S → (G : Context) (a b c : Term) (i : ℕ) → IsContext S G → Has S G a (Sort i) → HasType S (a ∷ G) b c
+    → IfOk (function_type G a c) (Splits (HasType S G (Lam a b)) NoClaim)
 unfolding NoClaim
-function_type-sound S typed G a b c i left ctx ha hb = go (is_top c) refl
+function_type-sound S typed G a b c i ctx ha hb = go (is_top c) refl
   where
-    go : (t : Bool) → is_top c ≡ t → Says (HasType S G (Lam a b)) (cond t (denied G LevelTooHigh left) (of_type (Pi a c) left))
+    go : (t : Bool) → is_top c ≡ t → IfOk (cond t (denied G LevelTooHigh) (of_type (Pi a c))) (Splits (HasType S G (Lam a b)) NoClaim)
     go true e = tt
     go false e =
         let s = codomain-sort (bind i ctx ha) hb.is_type hb.levels e in
-        typed-splits (HasType S G (Lam a b)) NoClaim (Pi a c) left
+        typed-splits (HasType S G (Lam a b)) NoClaim (Pi a c)
         (has_type typed (function i s.0 ha hb.derivation s.1) (levels-of ha, hb.levels))
 
 function-sound : (S : Signature) → IsTyped S → (infer infer_sort : Asks) → AskIsSound S infer → SortIsSound S infer_sort
@@ -135,7 +135,7 @@ function-sound S typed infer infer_sort h k G a b left ctx =
     child-says (HasUniverse S G a) (HasType S G (Lam a b)) 0 (infer_sort G a left) _ (k G a left ctx) (λ i rest hi.
     child-says (HasType S (a ∷ G) b) (HasType S G (Lam a b)) 1 (infer (a ∷ G) b rest) _
     (h (a ∷ G) b rest (bind hi.level ctx hi.derivation)) (λ c end hc.
-    function_type-sound S typed G a b c hi.level end ctx hi.derivation hc))
+    function_type-sound S typed G a b c hi.level ctx hi.derivation hc))
 
 -- f has the product, no sort of which is above top
 record HasProduct (S : Signature) (G : Context) (f c : Term) : Type 0 where
@@ -175,7 +175,7 @@ unfolding NoClaim
 apply-sound S typed check h G f u (Pi a b) left ctx hf =
     child-says (HasWanted S G u a) (HasType S G (App f u)) 1 (check G u a left) _
     (h G u a left ctx (domain-type (valid typed hf.derivation))) (λ found end hu.
-    typed-splits (HasType S G (App f u)) NoClaim (subst b 0 u) end
+    typed-splits (HasType S G (App f u)) NoClaim (subst b 0 u)
     (has_type typed (application hf.derivation hu.derivation) (sorts_of_subst b 0 u (top + 1) hf.levels.1 (levels-of hu.derivation))))
 apply-sound S typed check h G f u (Var n) left ctx hf = tt
 apply-sound S typed check h G f u _ left ctx hf = tt
@@ -205,31 +205,31 @@ local-sound S typed infer infer_sort check h k l G a t b left ctx =
     weaker (λ c hc. record { derivation = local hi.level hi.derivation ht.derivation hc.derivation; is_type = hc.is_type; levels = hc.levels })
     (infer_body infer G (subst b 0 t) end) (body-sound S infer h G (subst b 0 t) end ctx)))
 
-symbol-sound : (S : Signature) → IsTyped S → (G : Context) (s : Term) (left : ℕ) (o : Option Term) → IfSome o (TypeOf S s) → IsContext S G
-    → Says (HasType S G s) (infer_symbol G o left)
+symbol-sound : (S : Signature) → IsTyped S → (G : Context) (s : Term) (o : Option Term) → IfSome o (TypeOf S s) → IsContext S G
+    → IfOk (given_type G o) (Splits (HasType S G s) NoClaim)
 unfolding NoClaim
-symbol-sound S typed G s left (Some a) h ctx =
-    typed-splits (HasType S G s) NoClaim a left
+symbol-sound S typed G s (Some a) h ctx =
+    typed-splits (HasType S G s) NoClaim a
     (has_type typed (symbol ctx h) (sorts_raised a top (top + 1) (omega arith) (sorts_of_symbol_type S typed s a h)))
-symbol-sound S typed G s left None h ctx = tt
+symbol-sound S typed G s None h ctx = tt
 
 form-sound : (S : Signature) → IsTyped S → (infer infer_sort : Asks) (check : Checks) → AskIsSound S infer → SortIsSound S infer_sort → CheckingIsSound S check
     → AskIsSound S (infer_form S infer infer_sort check)
-form-sound S typed infer infer_sort check h k l G (Var n) left ctx = variable-sound S typed G n left (slice_get G n) refl ctx
-form-sound S typed infer infer_sort check h k l G (Sort i) left ctx = universe-sound S typed G i left ctx
+form-sound S typed infer infer_sort check h k l G (Var n) left ctx = variable-sound S typed G n (slice_get G n) refl ctx
+form-sound S typed infer infer_sort check h k l G (Sort i) left ctx = universe-sound S typed G i ctx
 form-sound S typed infer infer_sort check h k l G (Pi a b) left ctx = product-sound S typed infer_sort k G a b left ctx
 form-sound S typed infer infer_sort check h k l G (Lam a b) left ctx = function-sound S typed infer infer_sort h k G a b left ctx
 form-sound S typed infer infer_sort check h k l G (App f u) left ctx = application-sound S typed infer infer_sort check h k l G f u left ctx
 form-sound S typed infer infer_sort check h k l G (Let a t b) left ctx = local-sound S typed infer infer_sort check h k l G a t b left ctx
-form-sound S typed infer infer_sort check h k l G (Const n) left ctx = symbol-sound S typed G (Const n) left (symbol_type S (Const n)) (symbol-type_of S (Const n)) ctx
-form-sound S typed infer infer_sort check h k l G s left ctx = symbol-sound S typed G s left (symbol_type S s) (symbol-type_of S s) ctx
+form-sound S typed infer infer_sort check h k l G (Const n) left ctx = symbol-sound S typed G (Const n) (symbol_type S (Const n)) (symbol-type_of S (Const n)) ctx
+form-sound S typed infer infer_sort check h k l G s left ctx = symbol-sound S typed G s (symbol_type S s) (symbol-type_of S s) ctx
 
-sort_of-sound : (S : Signature) (G : Context) (t c d : Term) (left : ℕ) → Has S G t c → Converts S c d → SortsBelow (top + 1) d
-    → Says (HasUniverse S G t) (sort_of G d left)
+sort_of-sound : (S : Signature) (G : Context) (t c d : Term) → Has S G t c → Converts S c d → SortsBelow (top + 1) d
+    → IfOk (sort_of G d) (Splits (HasUniverse S G t) NoClaim)
 unfolding NoClaim
-sort_of-sound S G t c (Sort i) left ht hc levels = record { level = i; is_sort = refl; limit = omega arith; derivation = below_sort i ht (converts hc) }
-sort_of-sound S G t c (Var n) left ht hc levels = tt
-sort_of-sound S G t c _ left ht hc levels = tt
+sort_of-sound S G t c (Sort i) ht hc levels = record { level = i; is_sort = refl; limit = omega arith; derivation = below_sort i ht (converts hc) }
+sort_of-sound S G t c (Var n) ht hc levels = tt
+sort_of-sound S G t c _ ht hc levels = tt
 
 -- the head form of a type, with what its sorts are
 head-levels : (S : Signature) → IsTyped S → (c : Term) (left : ℕ) → SortsBelow (top + 1) c
@@ -241,15 +241,15 @@ head-levels S typed c left levels =
     join (Ok d) h k = (h.converts, k)
     join (Err e) h k = tt
 
-compared-sound : (S : Signature) → IsTyped S → (G : Context) (t found wanted : Term) (holds : Bool) (left : ℕ) → HasType S G t found → IsType S G wanted
-    → (IsTrue holds → Below S found wanted) → Says (HasWanted S G t wanted) (compared G found wanted holds left)
+compared-sound : (S : Signature) → IsTyped S → (G : Context) (t found wanted : Term) (holds : Bool) → HasType S G t found → IsType S G wanted
+    → (IsTrue holds → Below S found wanted) → IfOk (compared G found wanted holds) (Splits (HasWanted S G t wanted) NoClaim)
 unfolding NoClaim
-compared-sound S typed G t found wanted true left ht hw h = record { derivation = at_wanted hw (h refl); found_type = ht }
+compared-sound S typed G t found wanted true ht hw h = record { derivation = at_wanted hw (h refl); found_type = ht }
   where
     at_wanted : {w : Term} → IsType S G w → Below S found w → Has S G t w
     at_wanted (is_sort i) b = below_sort i ht.derivation b
     at_wanted (has_sort i d) b = below i ht.derivation b d
-compared-sound S typed G t found wanted false left ht hw h = tt
+compared-sound S typed G t found wanted false ht hw h = tt
 
 mutual
   infer-says : (S : Signature) → IsTyped S → (room : ℕ) → AskIsSound S (infer_of S room)
@@ -264,16 +264,16 @@ mutual
   infer_sort-says S typed zero G t left ctx = tt
   infer_sort-says S typed (suc room) G t left ctx =
       if_typed-splits (HasType S G t) (HasUniverse S G t) NoClaim (infer_of S room G t left) _ (infer-says S typed room G t left ctx) (λ c rest hc.
-      and_then-has (λ d. Converts S c d × SortsBelow (top + 1) d) (Splits (HasUniverse S G t) NoClaim) (whnf_of S true rest c) (sort_of G)
-      (head-levels S typed c rest hc.levels) (λ d end hd. sort_of-sound S G t c d end hc.derivation hd.0 hd.1))
+      and_then-has (λ d. Converts S c d × SortsBelow (top + 1) d) (Splits (HasUniverse S G t) NoClaim) (whnf_of S true rest c) _
+      (head-levels S typed c rest hc.levels) (λ d end hd. sort_of-sound S G t c d hc.derivation hd.0 hd.1))
 
   check-says : (S : Signature) → IsTyped S → (room : ℕ) → CheckingIsSound S (check_of S room)
   check-says S typed zero G t wanted left ctx hw = tt
   check-says S typed (suc room) G t wanted left ctx hw =
       if_typed-splits (HasType S G t) (HasWanted S G t wanted) NoClaim (infer_of S room G t left) _ (infer-says S typed room G t left ctx) (λ found rest hf.
       and_then-has (λ holds. IsTrue holds → Below S found wanted) (Splits (HasWanted S G t wanted) NoClaim)
-      (subtype_of S room found wanted rest) (compared G found wanted) (subtype-is_below S room found wanted rest) (λ holds end hb.
-      compared-sound S typed G t found wanted holds end hf hw hb))
+      (subtype_of S room found wanted rest) _ (subtype-is_below S room found wanted rest) (λ holds end hb.
+      compared-sound S typed G t found wanted holds hf hw hb))
 
 -- what is said of a Yes, in the words of the law
 yes-of : (P : Term → Type 0) (r : Result Verdict Stop) → IfOk r (Splits P NoClaim) → IfOk r (λ verdict. IfYes verdict P)

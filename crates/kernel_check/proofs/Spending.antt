@@ -1,22 +1,19 @@
 -- No call of the checker gives units back.
-use Rattle.std.proofs.Common.{ℕ, ◌+◌, ◌≤◌, zero, suc, Bool, true, false, cond, nat_lt, Option, Some, None, Ok, ◌∷◌, slice_get, arith}
-use Rattle.theory.specs.Terms.{Term, lift, subst, top}
+use Rattle.std.proofs.Common.{ℕ, ◌≤◌, zero, suc, true, Ok, ◌∷◌, arith}
+use Rattle.theory.specs.Terms.{Term, subst}
 use Rattle.theory.specs.Terms.Term.{Var, Sort, Pi, Lam, App, Let, Const}
 use Rattle.theory.specs.Telescopes.{Context}
 use Rattle.theory.specs.Signatures.{Signature}
-use Rattle.core_terms.specs.Answers.{Spent, bounded}
-use Rattle.core_terms.specs.Verdicts.{Verdict}
+use Rattle.core_terms.specs.Answers.{bounded}
 use Rattle.core_terms.specs.Verdicts.Verdict.{Yes}
-use Rattle.core_terms.specs.Verdicts.Reason.{LevelTooHigh}
 use Rattle.kernel_reduce.specs.Reduction.{answered, is_low, whnf_of}
 use Rattle.kernel_reduce.specs.Comparison.{subtype_of}
 use Rattle.kernel_reduce.proofs.Answers.{and_then-spends, charge-spends, if_low-spends}
 use Rattle.kernel_reduce.proofs.ReductionLaws.{whnf-spends}
 use Rattle.kernel_reduce.proofs.ComparisonLaws.{subtype-spends}
-use Rattle.kernel_check.specs.Symbols.{symbol_type}
-use Rattle.kernel_check.specs.Checking.{Asks, Checks, denied, variable_type, infer_universe, greater_sort, infer_product, is_top, function_type, infer_function, reduced_product, product_of, apply_product, infer_application, infer_body, infer_local, infer_symbol, infer_form, sort_of, compared, infer_of, infer_sort_of, check_of}
+use Rattle.kernel_check.specs.Checking.{Asks, Checks, infer_product, infer_function, reduced_product, product_of, apply_product, infer_application, infer_body, infer_local, infer_form, infer_of, infer_sort_of, check_of}
 use Rattle.kernel_check.specs.Laws.{InferSpends, InferSortSpends, CheckSpends}
-use Rattle.kernel_check.proofs.Verdicts.{typed-spends, if_typed-spends, behind-spends, child-spends}
+use Rattle.kernel_check.proofs.Verdicts.{if_typed-spends, behind-spends, child-spends}
 
 abbrev AskSpends : Asks → Type 0
 AskSpends ask = (G : Context) (t : Term) (left : ℕ) → (ask G t left).1 ≤ left
@@ -24,35 +21,16 @@ AskSpends ask = (G : Context) (t : Term) (left : ℕ) → (ask G t left).1 ≤ l
 abbrev CheckingSpends : Checks → Type 0
 CheckingSpends check = (G : Context) (t wanted : Term) (left : ℕ) → (check G t wanted left).1 ≤ left
 
-cond-spends : (test : Bool) (a b : Spent Verdict) (left : ℕ) → a.1 ≤ left → b.1 ≤ left → (cond test a b).1 ≤ left
-cond-spends true a b left h k = h
-cond-spends false a b left h k = k
-
-variable_type-spends : (G : Context) (n : ℕ) (o : Option Term) (left : ℕ) → (variable_type G n o left).1 ≤ left
-variable_type-spends G n (Some a) left = typed-spends (lift a (n + 1) 0) left
-variable_type-spends G n None left = omega arith
-
-symbol-spends : (G : Context) (o : Option Term) (left : ℕ) → (infer_symbol G o left).1 ≤ left
-symbol-spends G (Some a) left = typed-spends a left
-symbol-spends G None left = omega arith
-
-universe-spends : (G : Context) (i left : ℕ) → (infer_universe G i left).1 ≤ left
-universe-spends G i left = cond-spends (nat_lt i top) _ _ left (typed-spends (Sort (i + 1)) left) (omega arith)
-
 product-spends : (infer_sort : Asks) → AskSpends infer_sort → (G : Context) (a b : Term) (left : ℕ) → (infer_product infer_sort G a b left).1 ≤ left
 product-spends infer_sort h G a b left =
     child-spends 0 (infer_sort G a left) _ left (h G a left) (λ i rest.
-    child-spends 1 (infer_sort (a ∷ G) b rest) _ rest (h (a ∷ G) b rest) (λ j end. typed-spends (greater_sort i j) end))
-
-function_type-spends : (G : Context) (a c : Term) (left : ℕ) → (function_type G a c left).1 ≤ left
-function_type-spends G a c left =
-    cond-spends (is_top c) (denied G LevelTooHigh left) _ left (omega arith) (typed-spends (Pi a c) left)
+    child-spends 1 (infer_sort (a ∷ G) b rest) _ rest (h (a ∷ G) b rest) (λ j end. omega arith))
 
 function-spends : (infer infer_sort : Asks) → AskSpends infer → AskSpends infer_sort → (G : Context) (a b : Term) (left : ℕ)
     → (infer_function infer infer_sort G a b left).1 ≤ left
 function-spends infer infer_sort h k G a b left =
     child-spends 0 (infer_sort G a left) _ left (k G a left) (λ i rest.
-    child-spends 1 (infer (a ∷ G) b rest) _ rest (h (a ∷ G) b rest) (λ c end. function_type-spends G a c end))
+    child-spends 1 (infer (a ∷ G) b rest) _ rest (h (a ∷ G) b rest) (λ c end. omega arith))
 
 reduced-spends : (infer_sort : Asks) → AskSpends infer_sort → (G : Context) (c : Term) (left : ℕ) → (reduced_product infer_sort G c left).1 ≤ left
 reduced-spends infer_sort h G (Pi a b) left =
@@ -70,7 +48,7 @@ product_of-spends S infer_sort h G c left =
 
 apply-spends : (check : Checks) → CheckingSpends check → (G : Context) (u c : Term) (left : ℕ) → (apply_product check G u c left).1 ≤ left
 apply-spends check h G u (Pi a b) left =
-    child-spends 1 (check G u a left) _ left (h G u a left) (λ found end. typed-spends (subst b 0 u) end)
+    child-spends 1 (check G u a left) _ left (h G u a left) (λ found end. omega arith)
 apply-spends check h G u (Var n) left = omega arith
 apply-spends check h G u _ left = omega arith
 
@@ -92,23 +70,14 @@ local-spends infer infer_sort check h k l G a t b left =
 
 form-spends : (S : Signature) (infer infer_sort : Asks) (check : Checks) → AskSpends infer → AskSpends infer_sort → CheckingSpends check
     → AskSpends (infer_form S infer infer_sort check)
-form-spends S infer infer_sort check h k l G (Var n) left = variable_type-spends G n (slice_get G n) left
-form-spends S infer infer_sort check h k l G (Sort i) left = universe-spends G i left
+form-spends S infer infer_sort check h k l G (Var n) left = omega arith
+form-spends S infer infer_sort check h k l G (Sort i) left = omega arith
 form-spends S infer infer_sort check h k l G (Pi a b) left = product-spends infer_sort k G a b left
 form-spends S infer infer_sort check h k l G (Lam a b) left = function-spends infer infer_sort h k G a b left
 form-spends S infer infer_sort check h k l G (App f u) left = application-spends S infer infer_sort check h k l G f u left
 form-spends S infer infer_sort check h k l G (Let a t b) left = local-spends infer infer_sort check h k l G a t b left
-form-spends S infer infer_sort check h k l G (Const n) left = symbol-spends G (symbol_type S (Const n)) left
-form-spends S infer infer_sort check h k l G s left = symbol-spends G (symbol_type S s) left
-
-sort_of-spends : (G : Context) (c : Term) (left : ℕ) → (sort_of G c left).1 ≤ left
-sort_of-spends G (Sort i) left = omega arith
-sort_of-spends G (Var n) left = omega arith
-sort_of-spends G _ left = omega arith
-
-compared-spends : (G : Context) (found wanted : Term) (holds : Bool) (left : ℕ) → (compared G found wanted holds left).1 ≤ left
-compared-spends G found wanted true left = omega arith
-compared-spends G found wanted false left = omega arith
+form-spends S infer infer_sort check h k l G (Const n) left = omega arith
+form-spends S infer infer_sort check h k l G s left = omega arith
 
 mutual
   pub infer-spends : InferSpends
@@ -122,10 +91,10 @@ mutual
   infer_sort-spends S zero G t left = omega arith
   infer_sort-spends S (suc room) G t left =
       if_typed-spends (infer_of S room G t left) _ left (infer-spends S room G t left) (λ c rest.
-      and_then-spends (whnf_of S true rest c) _ rest (whnf-spends S true rest c) (sort_of-spends G))
+      and_then-spends (whnf_of S true rest c) _ rest (whnf-spends S true rest c) (λ u end. omega arith))
 
   pub check-spends : CheckSpends
   check-spends S zero G t wanted left = omega arith
   check-spends S (suc room) G t wanted left =
       if_typed-spends (infer_of S room G t left) _ left (infer-spends S room G t left) (λ found rest.
-      and_then-spends (subtype_of S room found wanted rest) _ rest (subtype-spends S room found wanted rest) (compared-spends G found wanted))
+      and_then-spends (subtype_of S room found wanted rest) _ rest (subtype-spends S room found wanted rest) (λ holds end. omega arith))

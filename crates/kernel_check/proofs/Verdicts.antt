@@ -1,21 +1,24 @@
 -- What holds of a verdict, from what holds of the verdicts that it is made of.
-use Rattle.std.proofs.Common.{ℕ, ◌≤◌, ◌∷◌, arith}
+use Rattle.std.proofs.Common.{Result, Ok, Err, IfOk, ℕ, ◌≤◌, ◌∷◌, arith}
 use Rattle.theory.specs.Terms.{Term}
 use Rattle.core_terms.specs.Answers.{Spent, bounded}
 use Rattle.core_terms.specs.Verdicts.{Denial, Verdict}
+use Rattle.core_terms.specs.declared.stop.Stop.{Stop}
 use Rattle.core_terms.specs.Verdicts.Verdict.{Yes, No}
-use Rattle.kernel_reduce.specs.Reduction.{answered}
 use Rattle.kernel_reduce.proofs.Answers.{Answers, and_then-has, bounded-has, and_then-spends}
-use Rattle.kernel_check.specs.Checking.{typed, on_verdict, if_typed, verdict_behind, behind}
+use Rattle.kernel_check.specs.Checking.{yes_of, typed, on_verdict, if_typed, verdict_behind, behind}
 
 -- the type is P, and what is denied is N
 abbrev pub Splits : (Term → Type 0) → (Denial → Type 0) → Verdict → Type 0
 Splits P N (Yes type) = P type
 Splits P N (No denial) = N denial
 
-pub typed-splits : (P : Term → Type 0) (N : Denial → Type 0) (made : Term) (left : ℕ) → P made → Answers (Splits P N) (typed made left)
-typed-splits P N made left h =
-    and_then-has P (Splits P N) (answered (bounded made) left) _ (bounded-has P made (λ low. h)) (λ type end k. k)
+pub typed-splits : (P : Term → Type 0) (N : Denial → Type 0) (made : Term) → P made → IfOk (typed made) (Splits P N)
+typed-splits P N made h = go (bounded made) (bounded-has P made (λ low. h))
+  where
+    go : (r : Result Term Stop) → IfOk r P → IfOk (yes_of r) (Splits P N)
+    go (Ok type) k = k
+    go (Err e) k = tt
 
 pub if_typed-splits : (P Q : Term → Type 0) (N : Denial → Type 0) (first : Spent Verdict) (go : Term → ℕ → Spent Verdict)
     → Answers (Splits P N) first → ((type : Term) (rest : ℕ) → P type → Answers (Splits Q N) (go type rest))
@@ -34,9 +37,6 @@ behind-splits P N M child asked f h = and_then-has (Splits P N) (Splits P M) ask
     on : (verdict : Verdict) (rest : ℕ) → Splits P N verdict → Splits P M (verdict_behind child verdict)
     on (Yes type) rest p = p
     on (No denial) rest n = f denial n
-
-pub typed-spends : (made : Term) (left : ℕ) → (typed made left).1 ≤ left
-typed-spends made left = and_then-spends (answered (bounded made) left) _ left (omega arith) (λ type end. omega arith)
 
 pub if_typed-spends : (first : Spent Verdict) (go : Term → ℕ → Spent Verdict) (left : ℕ) → first.1 ≤ left
     → ((type : Term) (rest : ℕ) → (go type rest).1 ≤ rest) → (if_typed first go).1 ≤ left

@@ -1,12 +1,13 @@
 -- The checker with units: each call of `infer` costs one, beside what reduction and comparison cost. Fuel comes where a
 -- unit is needed and none is left. Deep comes where a term higher than 2,000 is given or made, and where a call would be
 -- the 2,001st of those that are open at once.
-use Rattle.std.specs.Prelude.{ℕ, zero, suc, ◌+◌, Bool, true, false, cond, ◌==◌, nat_lt, Option, Some, None, Ok, Err, [], ◌∷◌, reverse, max, slice_get}
+use Rattle.std.specs.Prelude.{ℕ, zero, suc, ◌+◌, Bool, true, false, cond, ◌==◌, nat_lt, Option, Some, None, Result, Ok, Err, [], ◌∷◌, reverse, max, slice_get}
 use Rattle.theory.specs.Terms.{Term, Var, Sort, Pi, Lam, App, Let, lift, subst, top}
 use Rattle.theory.specs.Telescopes.{Context}
 use Rattle.theory.specs.Signatures.{Signature}
 use Rattle.core_terms.specs.Answers.{Spent, bounded}
 use Rattle.core_terms.specs.Verdicts.{Reason, Mismatch, NotAProduct, NotASort, NoSuchInstance, LevelTooHigh, Verdict, Yes, No}
+use Rattle.core_terms.specs.declared.stop.Stop.{Stop}
 use Rattle.core_terms.specs.declared.stop.Stop.TheVariants.{Deep}
 use Rattle.kernel_reduce.specs.Reduction.{answered, and_then, charge, if_low, is_low, whnf_of}
 use Rattle.kernel_reduce.specs.Comparison.{subtype_of}
@@ -20,13 +21,17 @@ Asks = Context → Term → ℕ → Spent Verdict
 abbrev pub Checks : Type 0
 Checks = Context → Term → Term → ℕ → Spent Verdict
 
--- the term has the type that was made for it
-abbrev pub typed : Term → ℕ → Spent Verdict
-typed made left = and_then (answered (bounded made) left) (λ type end. answered (Ok (Yes type)) end)
+-- a term that was made is the type, unless it is too high
+abbrev pub yes_of : Result Term Stop → Result Verdict Stop
+yes_of (Ok type) = Ok (Yes type)
+yes_of (Err e) = Err e
+
+abbrev pub typed : Term → Result Verdict Stop
+typed made = yes_of (bounded made)
 
 -- the term itself is denied
-abbrev pub denied : Context → Reason → ℕ → Spent Verdict
-denied G reason left = answered (Ok (No (record { place = []; ctx = reverse G; reason = reason }))) left
+abbrev pub denied : Context → Reason → Result Verdict Stop
+denied G reason = Ok (No (record { place = []; ctx = reverse G; reason = reason }))
 
 -- `go` on with the type, unless there is a denial
 abbrev pub on_verdict : Verdict → ℕ → (Term → ℕ → Spent Verdict) → Spent Verdict
@@ -45,13 +50,13 @@ abbrev pub behind : ℕ → Spent Verdict → Spent Verdict
 behind child asked = and_then asked (λ verdict left. answered (Ok (verdict_behind child verdict)) left)
 
 -- a variable has the type that the context gives it, lifted to the whole context
-abbrev pub variable_type : Context → ℕ → Option Term → ℕ → Spent Verdict
-variable_type G n (Some a) left = typed (lift a (n + 1) 0) left
-variable_type G n None left = denied G NoSuchInstance left
+abbrev pub variable_type : Context → ℕ → Option Term → Result Verdict Stop
+variable_type G n (Some a) = typed (lift a (n + 1) 0)
+variable_type G n None = denied G NoSuchInstance
 
 -- a sort below Type top has the next one
-abbrev pub infer_universe : Context → ℕ → ℕ → Spent Verdict
-infer_universe G i left = cond (nat_lt i top) (typed (Sort (i + 1)) left) (denied G LevelTooHigh left)
+abbrev pub universe_type : Context → ℕ → Result Verdict Stop
+universe_type G i = cond (nat_lt i top) (typed (Sort (i + 1))) (denied G LevelTooHigh)
 
 -- the greater one of two sorts
 abbrev pub greater_sort : Term → Term → Term
@@ -61,7 +66,7 @@ greater_sort a b = a
 abbrev pub infer_product : Asks → Context → Term → Term → ℕ → Spent Verdict
 infer_product infer_sort G a b left =
     if_typed (behind 0 (infer_sort G a left)) (λ i rest.
-    if_typed (behind 1 (infer_sort (a ∷ G) b rest)) (λ j end. typed (greater_sort i j) end))
+    if_typed (behind 1 (infer_sort (a ∷ G) b rest)) (λ j end. answered (typed (greater_sort i j)) end))
 
 -- the sort that has no type, letter for letter
 abbrev pub is_top : Term → Bool
@@ -69,19 +74,19 @@ is_top (Sort i) = i == top
 is_top _ = false
 
 -- a function whose body has the type b
-abbrev pub function_type : Context → Term → Term → ℕ → Spent Verdict
-function_type G a b left = cond (is_top b) (denied G LevelTooHigh left) (typed (Pi a b) left)
+abbrev pub function_type : Context → Term → Term → Result Verdict Stop
+function_type G a b = cond (is_top b) (denied G LevelTooHigh) (typed (Pi a b))
 
 abbrev pub infer_function : Asks → Asks → Context → Term → Term → ℕ → Spent Verdict
 infer_function infer infer_sort G a b left =
     if_typed (behind 0 (infer_sort G a left)) (λ i rest.
-    if_typed (behind 1 (infer (a ∷ G) b rest)) (λ c end. function_type G a c end))
+    if_typed (behind 1 (infer (a ∷ G) b rest)) (λ c end. answered (function_type G a c) end))
 
 -- the reduced type of a function: it must be a product, and must have a sort
 abbrev pub reduced_product : Asks → Context → Term → ℕ → Spent Verdict
 reduced_product infer_sort G (Pi a b) left =
     if_typed (behind 0 (infer_sort G (Pi a b) left)) (λ i end. answered (Ok (Yes (Pi a b))) end)
-reduced_product infer_sort G c left = denied G (NotAProduct c) left
+reduced_product infer_sort G c left = answered (denied G (NotAProduct c)) left
 
 -- the product that a function's type is, letter for letter or reduced at its head
 abbrev pub product_of : Signature → Asks → Context → Term → ℕ → Spent Verdict
@@ -90,8 +95,8 @@ product_of S infer_sort G c left = and_then (whnf_of S true left c) (reduced_pro
 
 -- the argument u of a function whose type is a product
 abbrev pub apply_product : Checks → Context → Term → Term → ℕ → Spent Verdict
-apply_product check G u (Pi a b) left = if_typed (behind 1 (check G u a left)) (λ found end. typed (subst b 0 u) end)
-apply_product check G u c left = denied G (NotAProduct c) left
+apply_product check G u (Pi a b) left = if_typed (behind 1 (check G u a left)) (λ found end. answered (typed (subst b 0 u)) end)
+apply_product check G u c left = answered (denied G (NotAProduct c)) left
 
 abbrev pub infer_application : Signature → Asks → Asks → Checks → Context → Term → Term → ℕ → Spent Verdict
 infer_application S infer infer_sort check G f u left =
@@ -108,29 +113,29 @@ infer_local infer infer_sort check G a t b left =
     if_typed (behind 1 (check G t a rest)) (λ found end. infer_body infer G (subst b 0 t) end))
 
 -- a symbol has the type that the signature gives it
-abbrev pub infer_symbol : Context → Option Term → ℕ → Spent Verdict
-infer_symbol G (Some type) left = typed type left
-infer_symbol G None left = denied G NoSuchInstance left
+abbrev pub given_type : Context → Option Term → Result Verdict Stop
+given_type G (Some type) = typed type
+given_type G None = denied G NoSuchInstance
 
 -- the type of a term by its form, once a unit is spent
 abbrev pub infer_form : Signature → Asks → Asks → Checks → Context → Term → ℕ → Spent Verdict
-infer_form S infer infer_sort check G (Var n) left = variable_type G n (slice_get G n) left
-infer_form S infer infer_sort check G (Sort i) left = infer_universe G i left
+infer_form S infer infer_sort check G (Var n) left = answered (variable_type G n (slice_get G n)) left
+infer_form S infer infer_sort check G (Sort i) left = answered (universe_type G i) left
 infer_form S infer infer_sort check G (Pi a b) left = infer_product infer_sort G a b left
 infer_form S infer infer_sort check G (Lam a b) left = infer_function infer infer_sort G a b left
 infer_form S infer infer_sort check G (App f u) left = infer_application S infer infer_sort check G f u left
 infer_form S infer infer_sort check G (Let a t b) left = infer_local infer infer_sort check G a t b left
-infer_form S infer infer_sort check G symbol left = infer_symbol G (symbol_type S symbol) left
+infer_form S infer infer_sort check G symbol left = answered (given_type G (symbol_type S symbol)) left
 
 -- the reduced type of a term that is to have a sort
-abbrev pub sort_of : Context → Term → ℕ → Spent Verdict
-sort_of G (Sort i) left = answered (Ok (Yes (Sort i))) left
-sort_of G c left = denied G (NotASort c) left
+abbrev pub sort_of : Context → Term → Result Verdict Stop
+sort_of G (Sort i) = Ok (Yes (Sort i))
+sort_of G c = denied G (NotASort c)
 
 -- the type that was found, where it is below the wanted one
-abbrev pub compared : Context → Term → Term → Bool → ℕ → Spent Verdict
-compared G found wanted true left = answered (Ok (Yes found)) left
-compared G found wanted false left = denied G (Mismatch found wanted) left
+abbrev pub compared : Context → Term → Term → Bool → Result Verdict Stop
+compared G found wanted true = Ok (Yes found)
+compared G found wanted false = denied G (Mismatch found wanted)
 
 abbrev mutual
   -- a type of a term, where `room` calls may be open
@@ -143,11 +148,11 @@ abbrev mutual
   pub infer_sort_of : Signature → ℕ → Asks
   infer_sort_of S zero G t left = answered (Err Deep) left
   infer_sort_of S (suc room) G t left =
-      if_typed (infer_of S room G t left) (λ c rest. and_then (whnf_of S true rest c) (sort_of G))
+      if_typed (infer_of S room G t left) (λ c rest. and_then (whnf_of S true rest c) (λ u end. answered (sort_of G u) end))
 
   -- the type of a term that is to have the type `wanted`: the one that is inferred, which must be below
   pub check_of : Signature → ℕ → Checks
   check_of S zero G t wanted left = answered (Err Deep) left
   check_of S (suc room) G t wanted left =
       if_typed (infer_of S room G t left) (λ found rest.
-      and_then (subtype_of S room found wanted rest) (compared G found wanted))
+      and_then (subtype_of S room found wanted rest) (λ holds end. answered (compared G found wanted holds) end))
