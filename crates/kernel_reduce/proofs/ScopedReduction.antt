@@ -1,5 +1,5 @@
 -- Reduction keeps terms scoped.
-use Rattle.std.proofs.Common.{◌≡◌, ℕ, ◌+◌, zero, suc, Bool, true, false, cond, ◌==◌, Option, Some, None, IfSome, List, [], ◌∷◌, length, take, drop, slice_get, refl, arith}
+use Rattle.std.proofs.Common.{◌≡◌, ℕ, ◌+◌, zero, suc, Bool, true, false, cond, ◌==◌, ◌&&◌, Option, Some, None, IfSome, List, [], ◌∷◌, length, take, drop, slice_get, refl, arith}
 use Rattle.std.proofs.lemmas.List.Elements.{All-head, All-tail, All-take, All-drop}
 use Rattle.std.specs.List.{All}
 use Rattle.theory.specs.Terms.{Term}
@@ -7,17 +7,17 @@ use Rattle.theory.specs.Terms.Term.{Var, Pi, Lam, App, Let, Const, Con, Elim, Ax
 use Rattle.theory.specs.Telescopes.{applied}
 use Rattle.theory.specs.Spines.{head_of, spine_of}
 use Rattle.theory.specs.Families.{Family, Constructor}
-use Rattle.theory.specs.Signatures.{Signature, FamilyOf, IsEntryAt}
+use Rattle.theory.specs.Signatures.{Signature, FamilyOf, IsEntryAt, equality}
 use Rattle.theory.specs.SignatureScopes.{IsScoped, IsScopedSignature}
 use Rattle.theory.proofs.ScopedTerms.{scoped-pi, scoped-lam, scoped-app, scoped-let, pi-scoped, lam-scoped, app-scoped, scoped_over_more, subst-scoped, applied-scoped, head-scoped, spine-scoped}
 use Rattle.theory.proofs.ScopedEntries.{All-at, bodies-scoped, iota-scoped}
 use Rattle.core_terms.specs.Answers.{Spent}
 use Rattle.kernel_reduce.specs.Entries.{body_at, family_at}
-use Rattle.kernel_reduce.specs.Steps.{method_applied, iota_of, scrutinee_first, k_contraction, redex_step, application_step, step_of}
+use Rattle.kernel_reduce.specs.Steps.{beta_step, awaits_scrutinee, method_applied, iota_at, iota_step, k_step, contraction, scrutinee_step, elimination_step, first_of, application_step, step_of}
 use Rattle.kernel_reduce.specs.Reduction.{is_low, with_unit, without_units, whnf_of, with_children, normal_children, normal_of}
 use Rattle.kernel_reduce.specs.Laws.{StepScoped, WhnfScoped, NormalScoped}
 use Rattle.kernel_reduce.proofs.Answers.{Answers, and_then-has, if_low-has, bounded-has}
-use Rattle.kernel_reduce.proofs.StepLaws.{some-next, some-map, some-cond, body-in, family-found}
+use Rattle.kernel_reduce.proofs.StepLaws.{some-next, some-map, some-cond, first-has, body-in, family-found}
 
 method-scoped : (S : Signature) (k n m number : ℕ) (f : Family) (c : Constructor) (us ps rest : List Term) → IsScopedSignature S → IsEntryAt S n (FamilyOf f)
     → slice_get f.constructors number ≡ Some c → All (IsScoped S k) us → All (IsScoped S k) ps → All (IsScoped S k) rest
@@ -29,49 +29,61 @@ method-scoped S k n m number f c us ps (P ∷ rest) scoped at con hu hp hr =
     some-map (IsScoped S k) _ (slice_get ms number) (λ method e.
     iota-scoped S k n m number f c ps P ms method us scoped at con hp (All-head (IsScoped S k) P rest hr) methods (All-at (IsScoped S k) ms number method e methods) hu)
 
-iota_of-scoped : (S : Signature) (k n m : ℕ) (f : Family) (args : List Term) (h : Term) (us : List Term) → IsScopedSignature S → IsEntryAt S n (FamilyOf f)
-    → All (IsScoped S k) args → All (IsScoped S k) us → IfSome (iota_of n m f args h us) (IsScoped S k)
-iota_of-scoped S k n m f args (Con g number) us scoped at ha hu =
+iota-step-scoped : (S : Signature) (k n m : ℕ) (f : Family) (args : List Term) (h : Term) (us : List Term) → IsScopedSignature S → IsEntryAt S n (FamilyOf f)
+    → All (IsScoped S k) args → All (IsScoped S k) us → IfSome (iota_step n m args h us f) (IsScoped S k)
+iota-step-scoped S k n m f args (Con g number) us scoped at ha hu =
     some-cond (IsScoped S k) (g == n) _ (λ same.
     some-next (IsScoped S k) _ (slice_get f.constructors number) (λ c con.
     some-cond (IsScoped S k) (length us == length f.parameters + length c.arguments) _ (λ full.
     method-scoped S k n m number f c (drop (length f.parameters) us) (take (length f.parameters) args) (drop (length f.parameters) args) scoped at con
     (All-drop (IsScoped S k) (length f.parameters) us hu) (All-take (IsScoped S k) (length f.parameters) args ha) (All-drop (IsScoped S k) (length f.parameters) args ha))))
-iota_of-scoped S k n m f args (Var x) us scoped at ha hu = tt
-iota_of-scoped S k n m f args _ us scoped at ha hu = tt
+iota-step-scoped S k n m f args (Var x) us scoped at ha hu = tt
+iota-step-scoped S k n m f args _ us scoped at ha hu = tt
 
-scrutinee-scoped : (S : Signature) (k : ℕ) (f : Term) (inner contraction : Option Term) → IsScoped S k f → IfSome inner (IsScoped S k) → IfSome contraction (IsScoped S k)
-    → IfSome (scrutinee_first f inner contraction) (IsScoped S k)
-scrutinee-scoped S k f (Some u) contraction h hi hc = app-scoped h hi
-scrutinee-scoped S k f None contraction h hi hc = hc
+found-scoped : (S : Signature) (k : ℕ) (us : List Term) (n : ℕ) → All (IsScoped S k) us → IfSome (slice_get us n) (IsScoped S k)
+found-scoped S k us n h = go (slice_get us n) refl
+  where
+    go : (o : Option Term) → slice_get us n ≡ o → IfSome o (IsScoped S k)
+    go None e = tt
+    go (Some u) e = All-at (IsScoped S k) us n u e h
 
-k-scoped : (S : Signature) (k i : ℕ) (d h : Term) (us : List Term) → IsScoped S k d → IfSome (k_contraction i d h us) (IsScoped S k)
-k-scoped S k i d (Con g number) (B ∷ b ∷ []) hd = some-cond (IsScoped S k) _ (Some d) (λ test. hd)
-k-scoped S k i d (Con g number) _ hd = tt
-k-scoped S k i d (Var x) us hd = tt
-k-scoped S k i d _ us hd = tt
+k_step-scoped : (S : Signature) (k i : ℕ) (args : List Term) (h : Term) (us : List Term) → All (IsScoped S k) args → IfSome (k_step i args h us) (IsScoped S k)
+k_step-scoped S k i args (Con g number) us ha =
+    some-cond (IsScoped S k) ((g == equality i) && ((number == 0) && (length us == 2))) _ (λ test. found-scoped S k args 3 ha)
+k_step-scoped S k i args (Var x) us ha = tt
+k_step-scoped S k i args _ us ha = tt
 
-redex-scoped : (S : Signature) (k : ℕ) (h : Term) (args : List Term) (u : Term) (inner : Option Term) → IsScopedSignature S → IsScoped S k h → All (IsScoped S k) args
-    → IsScoped S k u → IfSome inner (IsScoped S k) → IfSome (redex_step S h args u inner) (IsScoped S k)
-redex-scoped S k (Lam a b) [] u inner scoped hh ha hu hi = subst-scoped S k 0 b u (omega arith) (scoped-lam hh).1 hu
-redex-scoped S k (Elim n m) args u inner scoped hh ha hu hi =
+contraction-scoped : (S : Signature) (k : ℕ) (f : Term) (args : List Term) (h : Term) (us : List Term) → IsScopedSignature S
+    → All (IsScoped S k) args → All (IsScoped S k) us → IfSome (contraction S f args h us) (IsScoped S k)
+contraction-scoped S k (Elim n m) args h us scoped ha hu =
     some-next (IsScoped S k) _ (family_at S n) (λ f found.
-    some-cond (IsScoped S k) (length args == length f.parameters + (1 + (length f.constructors + length f.indices))) _ (λ full.
-    scrutinee-scoped S k (applied (Elim n m) args) inner _ (applied-scoped S k (Elim n m) args hh ha) hi
-    (iota_of-scoped S k n m f args (head_of u) (spine_of u) scoped (family-found S n f found) ha (spine-scoped S k u hu))))
-redex-scoped S k (AxiomK i m) (A ∷ a ∷ P ∷ d ∷ []) u inner scoped hh ha hu hi =
-    let hd : IsScoped S k d = All-at (IsScoped S k) (A ∷ a ∷ P ∷ d ∷ []) 3 d refl ha in
-    some-cond (IsScoped S k) S.has_k _ (λ on.
-    scrutinee-scoped S k (applied (AxiomK i m) (A ∷ a ∷ P ∷ d ∷ [])) inner _ (applied-scoped S k (AxiomK i m) (A ∷ a ∷ P ∷ d ∷ []) hh ha) hi
-    (k-scoped S k i d (head_of u) (spine_of u) hd))
-redex-scoped S k (Var x) args u inner scoped hh ha hu hi = tt
-redex-scoped S k _ args u inner scoped hh ha hu hi = tt
+    iota-step-scoped S k n m f args h us scoped (family-found S n f found) ha hu)
+contraction-scoped S k (AxiomK i m) args h us scoped ha hu = k_step-scoped S k i args h us ha
+contraction-scoped S k (Var x) args h us scoped ha hu = tt
+contraction-scoped S k _ args h us scoped ha hu = tt
+
+scrutinee-scoped : (S : Signature) (k : ℕ) (f : Term) (inner contracted : Option Term) → IsScoped S k f → IfSome inner (IsScoped S k) → IfSome contracted (IsScoped S k)
+    → IfSome (scrutinee_step f inner contracted) (IsScoped S k)
+scrutinee-scoped S k f (Some u) contracted h hi hc = app-scoped h hi
+scrutinee-scoped S k f None contracted h hi hc = hc
+
+elimination-scoped : (S : Signature) (k : ℕ) (f u : Term) (inner : Option Term) → IsScopedSignature S → IsScoped S k f → IsScoped S k u
+    → IfSome inner (IsScoped S k) → IfSome (elimination_step S f u inner) (IsScoped S k)
+elimination-scoped S k f u inner scoped hf hu hi =
+    some-cond (IsScoped S k) (awaits_scrutinee S (head_of f) (spine_of f)) _ (λ full.
+    scrutinee-scoped S k f inner _ hf hi
+    (contraction-scoped S k (head_of f) (spine_of f) (head_of u) (spine_of u) scoped (spine-scoped S k f hf) (spine-scoped S k u hu)))
+
+beta-scoped : (S : Signature) (k : ℕ) (f u : Term) → IsScoped S k f → IsScoped S k u → IfSome (beta_step f u) (IsScoped S k)
+beta-scoped S k (Lam a b) u hf hu = subst-scoped S k 0 b u (omega arith) (scoped-lam hf).1 hu
+beta-scoped S k (Var x) u hf hu = tt
+beta-scoped S k _ u hf hu = tt
 
 application-scoped : (S : Signature) (k : ℕ) (f u : Term) (outer inner : Option Term) → IsScopedSignature S → IsScoped S k f → IsScoped S k u
     → IfSome outer (IsScoped S k) → IfSome inner (IsScoped S k) → IfSome (application_step S f u outer inner) (IsScoped S k)
 application-scoped S k f u (Some g) inner scoped hf hu ho hi = app-scoped ho hu
 application-scoped S k f u None inner scoped hf hu ho hi =
-    redex-scoped S k (head_of f) (spine_of f) u inner scoped (head-scoped S k f hf) (spine-scoped S k f hf) hu hi
+    first-has (IsScoped S k) (beta_step f u) (elimination_step S f u inner) (beta-scoped S k f u hf hu) (elimination-scoped S k f u inner scoped hf hu hi)
 
 body-scoped : (S : Signature) (k n : ℕ) (allowed : Bool) → IsScopedSignature S → IfSome (cond allowed (body_at S n) None) (IsScoped S k)
 body-scoped S k n false scoped = tt

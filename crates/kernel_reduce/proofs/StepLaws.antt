@@ -1,5 +1,5 @@
 -- The step of a term at its head is a step of the theory.
-use Rattle.std.proofs.Common.{◌≡◌, ℕ, ◌+◌, Bool, true, false, cond, ◌&&◌, ◌==◌, Option, Some, None, IfSome, option_map, option_and_then, sym, List, [], ◌∷◌, ◌++◌, length, take, drop, slice_get, refl, ap, ◌∙◌, subst as transport, arith}
+use Rattle.std.proofs.Common.{◌≡◌, ℕ, ◌+◌, Bool, true, false, cond, ◌&&◌, ◌==◌, Option, Some, None, IfSome, option_map, option_and_then, sym, List, [], ◌∷◌, ◌++◌, length, take, drop, slice_get, refl, ap, ◌∙◌, subst as transport, subst₂, arith}
 use Rattle.std.proofs.lemmas.Bool.Decides.{Decides-eqb}
 use Rattle.std.proofs.lemmas.List.{take-append-drop, length-take, length-drop}
 use Rattle.theory.specs.Terms.{Term}
@@ -14,7 +14,7 @@ use Rattle.theory.specs.Conversion.Contracts.{beta, zeta, delta as delta_step, i
 use Rattle.theory.specs.Conversion.Step.{here, function, argument}
 use Rattle.theory.proofs.Spines.{applied-spine}
 use Rattle.kernel_reduce.specs.Entries.{is_constant, body_in, body_at, family_in, family_at}
-use Rattle.kernel_reduce.specs.Steps.{method_applied, iota_at, iota_of, scrutinee_first, eliminator_step, k_contraction, redex_step, application_step, step_of}
+use Rattle.kernel_reduce.specs.Steps.{beta_step, fills, awaits_scrutinee, method_applied, iota_at, iota_step, k_step, contraction, scrutinee_step, elimination_step, first_of, application_step, step_of}
 
 -- what an option leads to, where each value in it does
 pub some-next : {A B : Type 0} (P : B → Type 0) (next : A → Option B) (o : Option A) → ((x : A) → o ≡ Some x → IfSome (next x) P) → IfSome (option_and_then next o) P
@@ -124,7 +124,7 @@ constructor-steps S n m number f args us entry full =
 
 iota-steps : (S : Signature) (n m : ℕ) (f : Family) (args : List Term) (h : Term) (us : List Term)
     → IsEntryAt S n (FamilyOf f) → IsFull f args
-    → IfSome (iota_of n m f args h us) (Step S (App (applied (Elim n m) args) (applied h us)))
+    → IfSome (iota_step n m args h us f) (Step S (App (applied (Elim n m) args) (applied h us)))
 iota-steps S n m f args (Con g number) us entry full =
     some-cond _ (g == n) _ (λ test.
     transport (λ x. IfSome (option_and_then (iota_at n m f args number us) (slice_get f.constructors number)) (Step S (App (applied (Elim n m) args) (applied (Con x number) us))))
@@ -133,55 +133,87 @@ iota-steps S n m f args (Con g number) us entry full =
 iota-steps S n m f args (Var x) us entry full = tt
 iota-steps S n m f args _ us entry full = tt
 
-scrutinee-steps : (S : Signature) (f u : Term) (inner contraction : Option Term) → IfSome inner (Step S u) → IfSome contraction (Step S (App f u))
-    → IfSome (scrutinee_first f inner contraction) (Step S (App f u))
-scrutinee-steps S f u (Some v) contraction h k = argument h
-scrutinee-steps S f u None contraction h k = k
-
-eliminator-steps : (S : Signature) (n m : ℕ) (args : List Term) (u : Term) (inner : Option Term) → IfSome inner (Step S u)
-    → IfSome (option_and_then (eliminator_step n m args u inner) (family_at S n)) (Step S (App (applied (Elim n m) args) u))
-unfolding IsFull
-eliminator-steps S n m args u inner h =
-    some-next _ _ (family_at S n) (λ f found.
-    some-cond _ (length args == length f.parameters + (1 + (length f.constructors + length f.indices))) _ (λ full.
-    scrutinee-steps S (applied (Elim n m) args) u inner _ h
-    (transport (λ x. IfSome (iota_of n m f args (head_of u) (spine_of u)) (Step S (App (applied (Elim n m) args) x))) (applied-spine u)
-    (iota-steps S n m f args (head_of u) (spine_of u) (family-found S n f found) ((Decides-eqb _ _).0 full)))))
-
 pub both-true : (a b : Bool) → (a && b) ≡ true → (a ≡ true) × (b ≡ true)
 both-true true b h = (refl, h)
 both-true false b h = absurd (grind arith)
 
-k-steps : (S : Signature) (i m : ℕ) (A a P d h : Term) (us : List Term) → S.has_k ≡ true
-    → IfSome (k_contraction i d h us) (Step S (App (applied (AxiomK i m) (A ∷ a ∷ P ∷ d ∷ [])) (applied h us)))
-k-steps S i m A a P d (Con g number) (B ∷ b ∷ []) on = some-cond _ ((g == equality i) && (number == 0)) _ (λ test.
-    let parts = both-true (g == equality i) (number == 0) test in
-    transport (λ x. Step S (App (applied (AxiomK i m) (A ∷ a ∷ P ∷ d ∷ [])) (App (App (Con x number) B) b)) d) (sym ((Decides-eqb g (equality i)).0 parts.0))
-    (transport (λ x. Step S (App (applied (AxiomK i m) (A ∷ a ∷ P ∷ d ∷ [])) (App (App (Con (equality i) x) B) b)) d) (sym ((Decides-eqb number 0).0 parts.1))
-    (here (axiom_k i m on))))
-k-steps S i m A a P d (Con g number) _ on = tt
-k-steps S i m A a P d (Var x) us on = tt
-k-steps S i m A a P d _ us on = tt
+-- a list of a known length is its elements
+two-of : {A : Type 0} (P : List A → Type 0) (us : List A) → length us ≡ 2 → ((x y : A) → P (x ∷ y ∷ [])) → P us
+two-of P [] e h = absurd (grind arith)
+two-of P (x ∷ []) e h = absurd (grind arith)
+two-of P (x ∷ y ∷ []) e h = h x y
+two-of P (x ∷ y ∷ z ∷ us) e h = absurd (omega arith)
 
--- an application whose function takes no step, by the head and the spine of the function
-redex-steps : (S : Signature) (h : Term) (args : List Term) (u : Term) (inner : Option Term) → IfSome inner (Step S u)
-    → IfSome (redex_step S h args u inner) (Step S (App (applied h args) u))
-redex-steps S (Lam a b) [] u inner k = here beta
-redex-steps S (Elim n m) args u inner k = eliminator-steps S n m args u inner k
-redex-steps S (AxiomK i m) (A ∷ a ∷ P ∷ d ∷ []) u inner k =
-    some-cond _ S.has_k _ (λ on.
-    scrutinee-steps S (applied (AxiomK i m) (A ∷ a ∷ P ∷ d ∷ [])) u inner _ k
-    (transport (λ x. IfSome (k_contraction i d (head_of u) (spine_of u)) (Step S (App (applied (AxiomK i m) (A ∷ a ∷ P ∷ d ∷ [])) x))) (applied-spine u)
-    (k-steps S i m A a P d (head_of u) (spine_of u) on)))
-redex-steps S (Var n) args u inner k = tt
-redex-steps S _ args u inner k = tt
+four-of : {A : Type 0} (P : List A → Type 0) (us : List A) → length us ≡ 4 → ((w x y z : A) → P (w ∷ x ∷ y ∷ z ∷ [])) → P us
+four-of P [] e h = absurd (grind arith)
+four-of P (w ∷ []) e h = absurd (grind arith)
+four-of P (w ∷ x ∷ []) e h = absurd (grind arith)
+four-of P (w ∷ x ∷ y ∷ []) e h = absurd (grind arith)
+four-of P (w ∷ x ∷ y ∷ z ∷ []) e h = h w x y z
+four-of P (w ∷ x ∷ y ∷ z ∷ v ∷ us) e h = absurd (omega arith)
+
+k-here : (S : Signature) (i m g number : ℕ) (args us : List Term) → S.has_k ≡ true → length args ≡ 4 → length us ≡ 2 → g ≡ equality i → number ≡ 0
+    → IfSome (slice_get args 3) (Step S (App (applied (AxiomK i m) args) (applied (Con g number) us)))
+k-here S i m g number args us on four two eg en =
+    four-of (λ x. IfSome (slice_get x 3) (Step S (App (applied (AxiomK i m) x) (applied (Con g number) us)))) args four (λ A a P d.
+    two-of (λ x. Step S (App (applied (AxiomK i m) (A ∷ a ∷ P ∷ d ∷ [])) (applied (Con g number) x)) d) us two (λ B b.
+    transport (λ x. Step S (App (applied (AxiomK i m) (A ∷ a ∷ P ∷ d ∷ [])) (App (App (Con x number) B) b)) d) (sym eg)
+    (transport (λ x. Step S (App (applied (AxiomK i m) (A ∷ a ∷ P ∷ d ∷ [])) (App (App (Con (equality i) x) B) b)) d) (sym en)
+    (here (axiom_k i m on)))))
+
+k-steps : (S : Signature) (i m : ℕ) (args : List Term) (h : Term) (us : List Term) → S.has_k ≡ true → length args ≡ 4
+    → IfSome (k_step i args h us) (Step S (App (applied (AxiomK i m) args) (applied h us)))
+k-steps S i m args (Con g number) us on four =
+    some-cond _ ((g == equality i) && ((number == 0) && (length us == 2))) _ (λ test.
+    let parts = both-true (g == equality i) ((number == 0) && (length us == 2)) test in
+    let rest = both-true (number == 0) (length us == 2) parts.1 in
+    k-here S i m g number args us on four ((Decides-eqb (length us) 2).0 rest.1) ((Decides-eqb g (equality i)).0 parts.0) ((Decides-eqb number 0).0 rest.0))
+k-steps S i m args (Var x) us on four = tt
+k-steps S i m args _ us on four = tt
+
+fills-full : (args : List Term) (f : Family) → fills args (Some f) ≡ true → IsFull f args
+unfolding IsFull
+fills-full args f e = (Decides-eqb _ _).0 e
+
+-- iota and K, by heads and arguments
+contraction-steps : (S : Signature) (h : Term) (args : List Term) (k : Term) (us : List Term) → awaits_scrutinee S h args ≡ true
+    → IfSome (contraction S h args k us) (Step S (App (applied h args) (applied k us)))
+contraction-steps S (Elim n m) args k us full =
+    some-next _ _ (family_at S n) (λ f found.
+    iota-steps S n m f args k us (family-found S n f found)
+    (fills-full args f (transport (λ o. fills args o ≡ true) found full)))
+contraction-steps S (AxiomK i m) args k us full =
+    let parts = both-true S.has_k (length args == 4) full in
+    k-steps S i m args k us parts.0 ((Decides-eqb (length args) 4).0 parts.1)
+contraction-steps S (Var x) args k us full = tt
+contraction-steps S _ args k us full = tt
+
+scrutinee-steps : (S : Signature) (f u : Term) (inner contracted : Option Term) → IfSome inner (Step S u) → IfSome contracted (Step S (App f u))
+    → IfSome (scrutinee_step f inner contracted) (Step S (App f u))
+scrutinee-steps S f u (Some v) contracted h k = argument h
+scrutinee-steps S f u None contracted h k = k
+
+elimination-steps : (S : Signature) (f u : Term) (inner : Option Term) → IfSome inner (Step S u) → IfSome (elimination_step S f u inner) (Step S (App f u))
+elimination-steps S f u inner h =
+    some-cond _ (awaits_scrutinee S (head_of f) (spine_of f)) _ (λ full.
+    scrutinee-steps S f u inner _ h
+    (subst₂ (λ x y. IfSome (contraction S (head_of f) (spine_of f) (head_of u) (spine_of u)) (Step S (App x y))) (applied-spine f) (applied-spine u)
+    (contraction-steps S (head_of f) (spine_of f) (head_of u) (spine_of u) full)))
+
+beta-steps : (S : Signature) (f u : Term) → IfSome (beta_step f u) (Step S (App f u))
+beta-steps S (Lam a b) u = here beta
+beta-steps S (Var x) u = tt
+beta-steps S _ u = tt
+
+pub first-has : (P : Term → Type 0) (one other : Option Term) → IfSome one P → IfSome other P → IfSome (first_of one other) P
+first-has P (Some t) other h k = h
+first-has P None other h k = k
 
 application-steps : (S : Signature) (f u : Term) (outer inner : Option Term) → IfSome outer (Step S f) → IfSome inner (Step S u)
     → IfSome (application_step S f u outer inner) (Step S (App f u))
 application-steps S f u (Some g) inner h k = function h
 application-steps S f u None inner h k =
-    transport (λ x. IfSome (redex_step S (head_of f) (spine_of f) u inner) (Step S (App x u))) (applied-spine f)
-    (redex-steps S (head_of f) (spine_of f) u inner k)
+    first-has (Step S (App f u)) (beta_step f u) (elimination_step S f u inner) (beta-steps S f u) (elimination-steps S f u inner k)
 
 -- what a term steps to is one step further
 pub step-steps : (S : Signature) (delta : Bool) (t : Term) → IfSome (step_of S delta t) (Step S t)

@@ -3,3 +3,4 @@ pub mod Entries
 pub mod Laws
 pub mod Reduction
 pub mod Steps
+pub mod Tests

@@ -2,3 +2,6 @@
 #![tactic(auto)]
 
 pub mod laws;
+mod lookup;
+mod spine;
+mod testing;

@@ -1,0 +1,57 @@
+ghost use Rattle.std.specs.Prelude.{◌≡◌, ◌+◌, ◌==◌, length, option_map, IfSome};
+ghost use Rattle.std.specs.Option.{option_copied};
+ghost use Rattle.core_terms.specs.Meanings.{tree_of};
+ghost use Rattle.core_sig.specs.Kinds.{HasKinds};
+ghost use Rattle.core_sig.specs.Meanings.{family_of};
+ghost use Rattle.kernel_reduce.specs.Entries.{body_at, family_at};
+ghost use Rattle.kernel_reduce.specs.Tests.{family_takes};
+
+use core_sig::{Entry, Family, Signature};
+use core_terms::Term;
+
+/// The body of a constant, unless it is provisional.
+pub(crate) fn body(sig: &Signature, n: u32) -> Option<&Term>
+    ensures { option_map tree_of (option_copied result) ≡ body_at sig.now n }
+{
+    match sig.entry(n) {
+        Some(Entry::Def { body, .. }) => match body {
+            Term::Const(c) if *c == n => None,
+            _ => Some(body),
+        },
+        _ => None,
+    }
+}
+
+/// The family with the number.
+pub(crate) fn family(sig: &Signature, n: u32) -> Option<&Family>
+    ensures family { option_map family_of (option_copied result) ≡ family_at sig.now n }
+    ensures kinds { IfSome result (λ f. HasKinds n f.now) }
+{
+    match sig.entry(n) {
+        Some(Entry::Family(f)) => Some(f),
+        _ => None,
+    }
+}
+
+/// How many arguments an eliminator of the family takes before its scrutinee.
+pub(crate) fn eliminator_arity(f: &Family) -> u128
+    ensures { result ≡ length (family_of f.now).parameters + (1 + (length (family_of f.now).constructors + length (family_of f.now).indices)) }
+{
+    let params = f.params.as_slice().len() as u128;
+    let cons = f.cons.as_slice().len() as u128;
+    let indices = f.indices.as_slice().len() as u128;
+    params + (1 + (cons + indices))
+}
+
+/// Whether constructor `number` of the family takes exactly `count` arguments, the parameters among them.
+pub(crate) fn takes(f: &Family, number: u32, count: u32) -> bool
+    ensures { result ≡ family_takes number count (Some (family_of f.now)) }
+{
+    match f.cons.as_slice().get(number as usize) {
+        Some(c) => {
+            let params = f.params.as_slice().len() as u128;
+            count as u128 == params + c.args.as_slice().len() as u128
+        }
+        None => false,
+    }
+}
