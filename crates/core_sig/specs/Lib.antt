@@ -4,3 +4,4 @@ pub mod Invariants
 pub mod Kinds
 pub mod Meanings
 pub mod Names
+pub mod Raw

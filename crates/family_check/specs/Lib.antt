@@ -1,0 +1,5 @@
+pub mod Entering
+pub mod Families
+pub mod Laws
+pub mod Outcomes
+pub mod Shapes
