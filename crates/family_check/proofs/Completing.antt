@@ -1,12 +1,12 @@
 -- A family that gets its constructors: what holds over the signature that has it without them holds over the one that has
 -- it with them. A family without constructors takes part in no iota step, and no instance of its eliminator stands there.
-use Rattle.std.proofs.Common.{◌≡◌, ℕ, ◌<◌, List, [], ◌∷◌, length, Some, slice_get, sym, refl, ap, ◌∙◌, subst as transport, inl, inr, arith}
+use Rattle.std.proofs.Common.{◌≡◌, ℕ, List, [], ◌∷◌, length, Some, slice_get, sym, ap, ◌∙◌, subst as transport, inl, inr, arith}
 use Rattle.std.proofs.lemmas.Option.{none-some, slice_get_within}
 use Rattle.theory.specs.Terms.{Term}
 use Rattle.theory.specs.Terms.Term.{Fam}
 use Rattle.theory.specs.Telescopes.{Context, Telescope}
 use Rattle.theory.specs.Families.{Constructor, Family, family_type}
-use Rattle.theory.specs.Signatures.{Signature, Entry, FamilyOf, EliminatorAt, AxiomKAt, Definition, IsEntryAt, TypeOf}
+use Rattle.theory.specs.Signatures.{Signature, Entry, FamilyOf, EliminatorAt, IsEntryAt, TypeOf}
 use Rattle.theory.specs.Signatures.TypeOf.{constant, family, constructor, eliminator, axiom_k}
 use Rattle.theory.specs.Conversion.{Contracts, Step, Converts, Below}
 use Rattle.theory.specs.Conversion.Contracts.{beta, zeta, delta, iota}
@@ -18,7 +18,7 @@ use Rattle.theory.specs.Typing.{IsContext, Has, HasSort}
 use Rattle.theory.specs.Typing.IsContext.{empty, bind}
 use Rattle.theory.specs.Typing.Has.{variable, sort, product, application, local, symbol, below, below_sort}
 use Rattle.theory.specs.Typing.Has.{function as function_rule}
-use Rattle.theory.specs.WellFormed.{HasLevels, IsEntry, IsEliminator, IsWellFormed, pushed, first_entries}
+use Rattle.theory.specs.WellFormed.{HasLevels, IsEntry, IsWellFormed, pushed}
 use Rattle.theory.specs.WellFormed.HasLevels.{none, more}
 use Rattle.theory.specs.WellFormed.IsEntry.{eliminator as eliminator_entry}
 use Rattle.theory.proofs.Lists.{slice_get-last, slice_get-longer, slice_get-take}

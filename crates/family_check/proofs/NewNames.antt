@@ -1,8 +1,8 @@
 -- New names: the names of a signature stay all different where new ones are added.
-use Rattle.std.proofs.Common.{◌≡◌, ◌≢◌, ℕ, suc, ◌+◌, ◌<◌, Bool, true, false, not, ◌||◌, Option, None, Some, List, [], ◌∷◌, ◌++◌, map, length, get_or, flat_map, All, AllPairs, bytes_eq, refl, ap, ap₂, sym, ◌∙◌, arith}
+use Rattle.std.proofs.Common.{◌≡◌, ◌≢◌, ℕ, suc, ◌+◌, Bool, true, false, not, ◌||◌, List, [], ◌∷◌, ◌++◌, map, get_or, flat_map, All, AllPairs, bytes_eq, refl, ap, ap₂, sym, ◌∙◌, arith}
 use Rattle.std.specs.List.{list_any}
 use Rattle.std.specs.Option.{is_some}
-use Rattle.std.specs.Map.{lookup, keys_of}
+use Rattle.std.specs.Map.{keys_of}
 use Rattle.std.proofs.lemmas.Map.Made.{is_some-lookup}
 use Rattle.std.proofs.lemmas.Slice.Eq.{bytes_eq-Decides}
 use Rattle.std.proofs.lemmas.List.Elements.{All-cons, All-nil, All-append}
@@ -10,7 +10,6 @@ use Rattle.std.proofs.lemmas.List.Kept.{AllPairs-cons}
 use Rattle.theory.specs.Signatures.{Entry, FamilyOf, EliminatorAt, AxiomKAt, Definition, Signature, names, names_of}
 use Rattle.theory.proofs.Lists.{All-tail}
 use Rattle.core_sig.specs.Names.{find, named, named_by, named_constructors}
-use Rattle.core_sig.specs.declared.entry.Found.{Found}
 use Rattle.family_check.specs.Entering.{has_repeat, are_new}
 
 both-false : (a b : Bool) → (a || b) ≡ false → (a ≡ false) × (b ≡ false)

@@ -1,5 +1,5 @@
 -- What holds of an outcome and of the units that it leaves, from what holds of its parts.
-use Rattle.std.proofs.Common.{◌≡◌, ℕ, ◌≤◌, Bool, true, false, Result, Ok, Err, IfOk, refl, arith}
+use Rattle.std.proofs.Common.{◌≡◌, ℕ, ◌≤◌, Bool, true, false, Result, Ok, Err, IfOk, IfErr, refl, arith}
 use Rattle.theory.specs.Terms.{Term}
 use Rattle.core_terms.specs.Answers.{Spent}
 use Rattle.core_terms.specs.Verdicts.{Verdict}
@@ -29,6 +29,24 @@ granted-has P site asked h = go asked.0 h
     go (Ok (Yes type)) k = k
     go (Ok (No denial)) k = tt
     go (Err e) k = tt
+
+-- the answer has P, and the refusal N
+abbrev pub Splits : {A : Type 0} → (A → Type 0) → (FamilyStop → Type 0) → Result A FamilyStop → Type 0
+Splits P N (Ok a) = P a
+Splits P N (Err e) = N e
+
+on_result-splits : {A B : Type 0} (P : A → Type 0) (Q : B → Type 0) (N : FamilyStop → Type 0) (r : Result A FamilyStop) (left : ℕ) (go : A → ℕ → Outcome B)
+    → Splits P N r → ((a : A) (rest : ℕ) → P a → Splits Q N (go a rest).0) → Splits Q N (on_result r left go).0
+on_result-splits P Q N (Ok a) left go h k = k a left h
+on_result-splits P Q N (Err e) left go h k = h
+
+pub and_next-splits : {A B : Type 0} (P : A → Type 0) (Q : B → Type 0) (N : FamilyStop → Type 0) (first : Outcome A) (go : A → ℕ → Outcome B)
+    → Splits P N first.0 → ((a : A) (rest : ℕ) → P a → Splits Q N (go a rest).0) → Splits Q N (and_next first go).0
+and_next-splits P Q N first go h k = on_result-splits P Q N first.0 first.1 go h k
+
+pub split-parts : {A : Type 0} (P : A → Type 0) (N : FamilyStop → Type 0) (r : Result A FamilyStop) → Splits P N r → IfOk r P × IfErr r N
+split-parts P N (Ok a) h = (h, tt)
+split-parts P N (Err e) h = (tt, h)
 
 pub if_new-has : {A : Type 0} (P : A → Type 0) (test : Bool) (go : ℕ → Outcome A) (left : ℕ) → (test ≡ true → Ends P (go left)) → Ends P (if_new test go left)
 if_new-has P true go left h = h refl

@@ -1,15 +1,14 @@
 -- A constructor that was taken from its type has that type.
-use Rattle.std.proofs.Common.{◌≡◌, ℕ, zero, suc, ◌+◌, Bool, true, false, cond, not, ◌&&◌, ◌||◌, ◌==◌, Option, Some, None, IfSome, Result, Ok, Err, IfOk, List, [], ◌∷◌, map, length, drop, All, refl, ap, ap₂, sym, ◌∙◌, subst as transport, arith}
-use Rattle.std.specs.List.{list_all}
+use Rattle.std.proofs.Common.{◌≡◌, ℕ, suc, ◌+◌, Bool, true, false, cond, not, ◌&&◌, ◌||◌, ◌==◌, Option, Some, None, IfSome, IfOk, List, [], ◌∷◌, map, length, drop, All, refl, ap, ap₂, sym, ◌∙◌, subst as transport, arith}
 use Rattle.std.specs.Option.{is_some}
 use Rattle.std.proofs.lemmas.Bool.Decides.{Decides-eqb}
 use Rattle.std.proofs.lemmas.List.Elements.{All-cons, All-nil}
 use Rattle.theory.specs.Terms.{Term}
 use Rattle.theory.specs.Terms.Term.{Var, Pi}
-use Rattle.theory.specs.Substitutions.{weaken, ups, inst}
+use Rattle.theory.specs.Substitutions.{weaken}
 use Rattle.theory.specs.Spines.{spine_of}
 use Rattle.theory.specs.Telescopes.{Telescope, products, applied, weaken_by}
-use Rattle.theory.specs.Families.{Argument, Constructor, Family, family_head, recursive_type, argument_type, argument_types, constructor_type, constructor_telescope, level_of, mentions, Lacks, IsPositiveArgument}
+use Rattle.theory.specs.Families.{Argument, Family, family_head, recursive_type, argument_type, argument_types, constructor_type, constructor_telescope, level_of, mentions, Lacks, IsPositiveArgument}
 use Rattle.theory.specs.Families.Argument.{Plain, Recursive}
 use Rattle.theory.specs.WellFormed.{HasTargets}
 use Rattle.theory.proofs.Instances.{inst-var, ren-ren, ren-same}
@@ -63,7 +62,7 @@ pub weaken_by-none : (t : Term) → weaken_by 0 t ≡ t
 weaken_by-none t = ren-id (λ n. n + 0) t (λ n. omega arith)
 
 -- the type of a recursive argument is products into the family
-recursive_type-products : (head : Term) (inner : Telescope) (targets : List Term)
+pub recursive_type-products : (head : Term) (inner : Telescope) (targets : List Term)
     → recursive_type Var head inner targets ≡ products inner (applied (weaken_by (length inner) head) targets)
 recursive_type-products head [] targets = ap₂ applied (sym (weaken_by-none head)) (map-inst-var targets)
 recursive_type-products head (a ∷ inner) targets =
@@ -89,7 +88,7 @@ recursive-found n f k t =
     }))
 
 -- what holds of an argument that is taken from a type
-argument-by : (P : Argument → Type 0) (n : ℕ) (f : Family) (k : ℕ) (t : Term) (level : ℕ) → (recursive_parts n f k t ≡ None → P (Plain t level))
+pub argument-by : (P : Argument → Type 0) (n : ℕ) (f : Family) (k : ℕ) (t : Term) (level : ℕ) → (recursive_parts n f k t ≡ None → P (Plain t level))
     → ((inner : Telescope) (targets : List Term) → IsRecursiveType n f k inner targets t → P (Recursive inner targets level))
     → P (argument_of t level (recursive_parts n f k t))
 argument-by P n f k t level plain recursive = go (recursive_parts n f k t) refl (recursive-found n f k t)

@@ -1,14 +1,14 @@
 -- A well-formed signature stays well formed where an entry enters.
-use Rattle.std.proofs.Common.{◌≡◌, ◌≢◌, ℕ, zero, suc, ◌+◌, ◌≤◌, ◌<◌, Bool, true, false, cond, not, ◌&&◌, ◌==◌, nat_lt, nat_le, Option, Some, None, IfSome, Result, Ok, Err, IfOk, IsTrue, List, [], ◌∷◌, ◌++◌, map, length, get_or, zip, position, All, AllPairs, Contains, refl, ap, ap₂, sym, ◌∙◌, subst as transport, subst₂ as transport₂, arith}
+use Rattle.std.proofs.Common.{◌≡◌, ◌≢◌, ℕ, suc, ◌+◌, ◌≤◌, Bool, true, false, cond, not, ◌&&◌, ◌==◌, nat_lt, nat_le, Option, Some, None, Result, Ok, Err, IfOk, List, [], ◌∷◌, map, length, zip, position, All, AllPairs, Contains, refl, ap, ap₂, sym, ◌∙◌, subst as transport, subst₂ as transport₂, arith}
 use Rattle.std.specs.List.{position_or_len}
 use Rattle.std.proofs.lemmas.Bool.Decides.{Decides-eqb, nat_tests}
 use Rattle.std.proofs.lemmas.List.Elements.{All-cons, All-nil}
 use Rattle.theory.specs.Terms.{Term, top}
 use Rattle.theory.specs.Terms.Term.{Sort, Var}
 use Rattle.theory.specs.Telescopes.{Context, Telescope, context_behind, products}
-use Rattle.theory.specs.Families.{Constructor, Family, IsPositiveConstructor, family_type, index_types, constructor_type, constructor_telescope, level_of}
+use Rattle.theory.specs.Families.{Constructor, Family, IsPositiveConstructor, index_types}
 use Rattle.theory.specs.Eliminators.{eliminator_type}
-use Rattle.theory.specs.Signatures.{Entry, FamilyOf, EliminatorAt, AxiomKAt, Definition, Signature, IsEntryAt, names, names_of, axiom_k_type}
+use Rattle.theory.specs.Signatures.{Entry, FamilyOf, EliminatorAt, AxiomKAt, Definition, Signature, names_of, axiom_k_type}
 use Rattle.theory.specs.Typing.{IsContext, Has, HasSort}
 use Rattle.theory.specs.Typing.IsContext.{empty, bind}
 use Rattle.theory.specs.Typing.IsType.{has_sort}
@@ -26,11 +26,11 @@ use Rattle.kernel_check.specs.Symbols.{is_eliminator, is_axiom_k}
 use Rattle.kernel_check.specs.Checking.{infer_sort_of, check_of}
 use Rattle.kernel_check.specs.Laws.{HasUniverse, HasWanted}
 use Rattle.kernel_check.proofs.Soundness.{infer_sort-is_sound, check-is_sound}
-use Rattle.family_check.specs.Outcomes.{Site, OfType, OfBody, OfConstructor, FamilyStop, TooLarge, Outcome, ended, and_next, granted}
+use Rattle.family_check.specs.Outcomes.{Site, OfType, OfBody, OfConstructor, FamilyStop, TooLarge, Outcome, ended, granted}
 use Rattle.family_check.specs.Shapes.{domains_of, end_of, arguments, constructor_targets}
 use Rattle.family_check.specs.Families.{Role, site_of, fitting, sort_level, level_in, levels_of, family_level, family_without, declare_type, on_targets, declare_constructor, declare_constructors, with_constructors, declare_family}
 use Rattle.family_check.specs.Families.Role.{Parameter, Index, ArgumentOf}
-use Rattle.family_check.specs.Entering.{Entered, entered, are_new, enter_instance, unless_there, check_definition}
+use Rattle.family_check.specs.Entering.{Entered, are_new, enter_instance, unless_there}
 use Rattle.family_check.specs.Laws.{DeclareKeepsWellFormed, InstanceKeepsWellFormed, AxiomKKeepsWellFormed, DefineKeepsWellFormed}
 use Rattle.family_check.proofs.Outcomes.{Ends, and_next-has, granted-has, if_new-has}
 use Rattle.family_check.proofs.Shapes.{products-of_parts, IsShaped, constructor-shaped, arguments-leveled, arguments-targeted, telescope-of, constructor-typed}

@@ -1,5 +1,5 @@
 -- No call that enters an entry gives units back.
-use Rattle.std.proofs.Common.{ℕ, ◌+◌, ◌≤◌, Bool, true, false, ◌&&◌, nat_lt, position, Option, Some, None, Ok, Err, List, [], ◌∷◌, length, arith}
+use Rattle.std.proofs.Common.{ℕ, ◌+◌, ◌≤◌, Bool, true, false, ◌&&◌, nat_lt, position, Option, Some, None, Ok, List, [], ◌∷◌, length, arith}
 use Rattle.theory.specs.Terms.{Term, top}
 use Rattle.theory.specs.Eliminators.{eliminator_type}
 use Rattle.theory.specs.Telescopes.{Context, Telescope, context_behind}

@@ -1,12 +1,13 @@
 -- What entering keeps and costs.
-use Rattle.std.specs.Prelude.{◌≡◌, ℕ, ◌≤◌, IsTrue, IfOk}
-use Rattle.theory.specs.Terms.{Term}
+use Rattle.std.specs.Prelude.{ℕ, ◌≤◌, ◌<◌, IsTrue, IfOk, IfErr, List}
+use Rattle.theory.specs.Terms.{Term, top}
 use Rattle.theory.specs.Families.{Family}
-use Rattle.theory.specs.Signatures.{FamilyOf, Signature, IsEntryAt}
+use Rattle.theory.specs.Signatures.{FamilyOf, Signature, IsEntryAt, equality}
 use Rattle.theory.specs.WellFormed.{IsWellFormed}
+use Rattle.theory.specs.SignatureScopes.{IsScoped, IsConstructorNumber}
 use Rattle.core_sig.specs.Raw.{RawFamily}
+use Rattle.family_check.specs.Scopes.{IsSettled, IsScopedRaw, site_signature, IsScopedStop}
 use Rattle.family_check.specs.Entering.{declare_of, instance_of, axiom_k_of, define_of}
-use Rattle.std.specs.Prelude.{List}
 
 -- A well-formed signature stays well formed, whatever enters.
 
@@ -43,3 +44,26 @@ AxiomKSpends = (S : Signature) (i m left : ℕ) → (axiom_k_of S i m left).1 �
 
 abbrev pub DefineSpends : Type 0
 DefineSpends = (S : Signature) (name : List ℕ) (type body : Term) (left : ℕ) → (define_of S name type body left).1 ≤ left
+
+-- A settled signature stays settled where what is given is scoped, and what is denied is scoped.
+
+abbrev pub DeclareKeepsSettled : Type 0
+DeclareKeepsSettled =
+    (S : Signature) (raw : RawFamily) (left : ℕ) → IsSettled S → IsScopedRaw S raw →
+    IfOk (declare_of S raw left).0 (λ e. IsSettled e.signature) × IfErr (declare_of S raw left).0 (IsScopedStop (site_signature S raw))
+
+abbrev pub InstanceKeepsSettled : Type 0
+InstanceKeepsSettled =
+    (S : Signature) (n : ℕ) (f : Family) (m left : ℕ) → IsSettled S → IsEntryAt S n (FamilyOf f) →
+    IfOk (instance_of S n f m left).0 (λ e. IsSettled e.signature) × IfErr (instance_of S n f m left).0 (IsScopedStop (λ site. S))
+
+-- where the signature has the identity family at the level
+abbrev pub AxiomKKeepsSettled : Type 0
+AxiomKKeepsSettled =
+    (S : Signature) (i m left : ℕ) → IsSettled S → (i < top → IsConstructorNumber S (equality i) 0) →
+    IfOk (axiom_k_of S i m left).0 (λ e. IsSettled e.signature) × IfErr (axiom_k_of S i m left).0 (IsScopedStop (λ site. S))
+
+abbrev pub DefineKeepsSettled : Type 0
+DefineKeepsSettled =
+    (S : Signature) (name : List ℕ) (type body : Term) (left : ℕ) → IsSettled S → IsScoped S 0 type → IsScoped S 0 body →
+    IfOk (define_of S name type body left).0 (λ e. IsSettled e.signature) × IfErr (define_of S name type body left).0 (IsScopedStop (λ site. S))

@@ -1,5 +1,5 @@
 //! What entering keeps and costs.
-ghost use Rattle.family_check.specs.Laws.{DeclareKeepsWellFormed, InstanceKeepsWellFormed, AxiomKKeepsWellFormed, DefineKeepsWellFormed, DeclareSpends, InstanceSpends, AxiomKSpends, DefineSpends};
+ghost use Rattle.family_check.specs.Laws.{DeclareKeepsWellFormed, InstanceKeepsWellFormed, AxiomKKeepsWellFormed, DefineKeepsWellFormed, DeclareSpends, InstanceSpends, AxiomKSpends, DefineSpends, DeclareKeepsSettled, InstanceKeepsSettled, AxiomKKeepsSettled, DefineKeepsSettled};
 
 /// A signature stays well formed where a family enters.
 pub fn declare_keeps_well_formed()
@@ -39,4 +39,24 @@ pub fn axiom_k_spends()
 /// A definition gives no units back.
 pub fn define_spends()
     ensures { DefineSpends }
+{}
+
+/// What a declaration keeps and denies is scoped.
+pub fn declare_keeps_settled()
+    ensures { DeclareKeepsSettled }
+{}
+
+/// What an instance keeps and denies is scoped.
+pub fn instance_keeps_settled()
+    ensures { InstanceKeepsSettled }
+{}
+
+/// What axiom K keeps and denies is scoped.
+pub fn axiom_k_keeps_settled()
+    ensures { AxiomKKeepsSettled }
+{}
+
+/// What a definition keeps and denies is scoped.
+pub fn define_keeps_settled()
+    ensures { DefineKeepsSettled }
 {}
