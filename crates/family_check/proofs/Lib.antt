@@ -1,6 +1,7 @@
 pub mod Completing
 pub mod EndLevels
 mod Examples
+pub mod Given
 pub mod Moving
 pub mod NewNames
 pub mod Outcomes
@@ -11,3 +12,4 @@ pub mod Settling
 pub mod Shapes
 pub mod Soundness
 pub mod Spending
+pub mod Zips

@@ -1,5 +1,5 @@
 -- What enters a settled signature is scoped, and so is what is denied.
-use Rattle.std.proofs.Common.{◌≡◌, ℕ, suc, ◌+◌, ◌<◌, ◌≤◌, Bool, true, false, cond, nat_le, Some, None, Result, Ok, Err, IfOk, List, [], ◌∷◌, length, map, zip, All, refl, sym, ap, subst as transport, arith}
+use Rattle.std.proofs.Common.{◌≡◌, ℕ, suc, ◌+◌, ◌<◌, ◌≤◌, Bool, true, false, cond, nat_le, Some, None, Result, Ok, Err, IfOk, List, [], ◌∷◌, length, zip, All, refl, sym, ap, subst as transport, arith}
 use Rattle.std.proofs.lemmas.Bool.Decides.{nat_tests}
 use Rattle.std.proofs.lemmas.List.Elements.{All-nil, All-cons, All-head, All-tail}
 use Rattle.theory.specs.Terms.{Term, top}
@@ -28,6 +28,7 @@ use Rattle.family_check.proofs.EndLevels.{EndsBelow, sort-ends}
 use Rattle.family_check.proofs.Outcomes.{Splits, and_next-splits}
 use Rattle.family_check.proofs.ScopedShapes.{domains-scoped}
 use Rattle.family_check.proofs.Settling.{first-all}
+use Rattle.family_check.proofs.Zips.{zip-firsts}
 
 -- A granted part has P, and what is denied is scoped: over T, and also over the signature U that the refusal is read over.
 pub granted-splits : (P : Term → Type 0) (over : Site → Signature) (T : Signature) (site : Site) (n : ℕ) (asked : Spent Verdict)
@@ -102,11 +103,6 @@ seconds-low (t ∷ ts) [] limit low h = All-nil _
 seconds-low (t ∷ ts) (i ∷ is) limit low h =
     All-cons (λ i. i.1 < top) (t, i) (zip ts is) (let le = All-head (λ i. i ≤ limit) i is h in omega arith)
     (seconds-low ts is limit low (All-tail (λ i. i ≤ limit) i is h))
-
-zip-firsts : (ts : List Term) (is : List ℕ) → length is ≡ length ts → map (λ i. i.0) (zip ts is) ≡ ts
-zip-firsts [] is counted = refl
-zip-firsts (t ∷ ts) [] counted = absurd (grind arith)
-zip-firsts (t ∷ ts) (i ∷ is) counted = ap (λ xs. t ∷ xs) (zip-firsts ts is (omega arith))
 
 -- a family without constructors that is scoped at the end of the signature
 pub record IsBareScoped (S : Signature) (raw : RawFamily) (f : Family) : Type 0 where

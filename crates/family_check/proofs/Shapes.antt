@@ -1,5 +1,5 @@
 -- A constructor that was taken from its type has that type.
-use Rattle.std.proofs.Common.{◌≡◌, ℕ, suc, ◌+◌, Bool, true, false, cond, not, ◌&&◌, ◌||◌, ◌==◌, Option, Some, None, IfSome, IfOk, List, [], ◌∷◌, map, length, drop, All, refl, ap, ap₂, sym, ◌∙◌, subst as transport, arith}
+use Rattle.std.proofs.Common.{◌≡◌, ℕ, suc, ◌+◌, Bool, true, false, cond, not, ◌&&◌, ◌||◌, ◌==◌, Option, Some, None, IfSome, Result, Ok, Err, IfOk, List, [], ◌∷◌, map, length, drop, All, refl, ap, ap₂, sym, ◌∙◌, subst as transport, arith}
 use Rattle.std.specs.Option.{is_some}
 use Rattle.std.proofs.lemmas.Bool.Decides.{Decides-eqb}
 use Rattle.std.proofs.lemmas.List.Elements.{All-cons, All-nil}
@@ -18,6 +18,7 @@ use Rattle.core_sig.proofs.EntryInstances.{ren-id}
 use Rattle.kernel_reduce.specs.Comparison.{same}
 use Rattle.kernel_reduce.proofs.ComparisonLaws.{same-tells}
 use Rattle.kernel_reduce.proofs.StepLaws.{some-cond, some-map, both-true}
+use Rattle.family_check.specs.Families.{on_targets}
 use Rattle.family_check.specs.Shapes.{domains_of, end_of, all_lack, targets_of, recursive_parts, argument_of, arguments, is_positive, first_offender, unless_offender, constructor_targets}
 
 -- a term is products over its domains into its end
@@ -179,6 +180,13 @@ constructor-shaped n f t =
     go (Some k) e found h = tt
     go None e (Some targets) h = record { positive = λ levels. arguments-positive n f 0 (domains_of t) levels e; end = h }
     go None e None h = tt
+
+pub targets-shaped : (n : ℕ) (f : Family) (number : ℕ) (t : Term) → IfOk (on_targets number (constructor_targets n f t)) (IsShaped n f t)
+targets-shaped n f number t = go (constructor_targets n f t) (constructor-shaped n f t)
+  where
+    go : (r : Result (List Term) ℕ) → IfOk r (IsShaped n f t) → IfOk (on_targets number r) (IsShaped n f t)
+    go (Ok targets) h = h
+    go (Err k) h = tt
 
 -- the arguments stand for the domains of the type, in the context of the parameters
 pub telescope-of : (n : ℕ) (f : Family) (name : List ℕ) (types : Telescope) (levels : List ℕ) (targets : List Term) → length levels ≡ length types

@@ -33,7 +33,8 @@ use Rattle.family_check.specs.Families.Role.{Parameter, Index, ArgumentOf}
 use Rattle.family_check.specs.Entering.{Entered, are_new, enter_instance, unless_there}
 use Rattle.family_check.specs.Laws.{DeclareKeepsWellFormed, InstanceKeepsWellFormed, AxiomKKeepsWellFormed, DefineKeepsWellFormed}
 use Rattle.family_check.proofs.Outcomes.{Ends, and_next-has, granted-has, if_new-has}
-use Rattle.family_check.proofs.Shapes.{products-of_parts, IsShaped, constructor-shaped, arguments-leveled, arguments-targeted, telescope-of, constructor-typed}
+use Rattle.family_check.proofs.Shapes.{products-of_parts, IsShaped, targets-shaped, arguments-leveled, arguments-targeted, telescope-of, constructor-typed}
+use Rattle.family_check.proofs.Zips.{zip-firsts, zip-seconds}
 use Rattle.family_check.proofs.Completing.{completed, sort-carried, levels-carried}
 use Rattle.family_check.proofs.NewNames.{DifferFrom, new-differ, first-differs, all-distinct}
 
@@ -97,17 +98,6 @@ context-of_levels (more {i = i} d le rest) context = context-of_levels rest (bin
 levels-counted : {S : Signature} {limit : ℕ} {G : Context} {tele : Telescope} {levels : List ℕ} → HasLevels S limit G tele levels → length levels ≡ length tele
 levels-counted none = refl
 levels-counted (more d le rest) = ap suc (levels-counted rest)
-
-zip-firsts : (ts : List Term) (is : List ℕ) → length is ≡ length ts → map (λ i. i.0) (zip ts is) ≡ ts
-zip-firsts [] is counted = refl
-zip-firsts (t ∷ ts) [] counted = absurd (grind arith)
-zip-firsts (t ∷ ts) (i ∷ is) counted = ap (λ xs. t ∷ xs) (zip-firsts ts is (omega arith))
-
-zip-seconds : (ts : List Term) (is : List ℕ) → length is ≡ length ts → map (λ i. i.1) (zip ts is) ≡ is
-zip-seconds [] [] counted = refl
-zip-seconds [] (i ∷ is) counted = absurd (grind arith)
-zip-seconds (t ∷ ts) [] counted = absurd (grind arith)
-zip-seconds (t ∷ ts) (i ∷ is) counted = ap (λ xs. i ∷ xs) (zip-seconds ts is (omega arith))
 
 family-ends : (t : Term) → IfOk (family_level t) (λ level. t ≡ Sort level)
 family-ends (Sort level) = refl
@@ -175,13 +165,6 @@ record IsFormed (T : Signature) (n : ℕ) (f : Family) (given : List ℕ) (c : C
   pub name : c.name ≡ given
   pub formed : IsConstructor T n f c
   pub positive : IsPositiveConstructor n c
-
-targets-shaped : (n : ℕ) (f : Family) (number : ℕ) (t : Term) → IfOk (on_targets number (constructor_targets n f t)) (IsShaped n f t)
-targets-shaped n f number t = go (constructor_targets n f t) (constructor-shaped n f t)
-  where
-    go : (r : Result (List Term) ℕ) → IfOk r (IsShaped n f t) → IfOk (on_targets number r) (IsShaped n f t)
-    go (Ok targets) h = h
-    go (Err k) h = tt
 
 constructor-formed : (T : Signature) (n : ℕ) (f : Family) (raw : RawConstructor) (targets : List Term) (levels : List ℕ) {sort : Term}
     → IsContext T (context_behind [] f.parameters) → HasUniverse T (context_behind [] f.parameters) raw.type sort → IsShaped n f raw.type targets

@@ -1,13 +1,14 @@
 -- What entering keeps and costs.
-use Rattle.std.specs.Prelude.{ℕ, ◌≤◌, ◌<◌, IsTrue, IfOk, IfErr, List}
+use Rattle.std.specs.Prelude.{◌≡◌, ℕ, ◌≤◌, ◌<◌, IsTrue, IfOk, IfErr, List, length, map}
 use Rattle.theory.specs.Terms.{Term, top}
-use Rattle.theory.specs.Families.{Family}
-use Rattle.theory.specs.Signatures.{FamilyOf, Signature, IsEntryAt, equality}
+use Rattle.theory.specs.Telescopes.{products}
+use Rattle.theory.specs.Families.{Family, family_type, constructor_type}
+use Rattle.theory.specs.Signatures.{FamilyOf, Signature, IsEntryAt, names_of, equality}
 use Rattle.theory.specs.WellFormed.{IsWellFormed}
 use Rattle.theory.specs.SignatureScopes.{IsScoped, IsConstructorNumber}
-use Rattle.core_sig.specs.Raw.{RawFamily}
+use Rattle.core_sig.specs.Raw.{RawFamily, raw_names}
 use Rattle.family_check.specs.Scopes.{IsSettled, IsScopedRaw, site_signature, IsScopedStop}
-use Rattle.family_check.specs.Entering.{declare_of, instance_of, axiom_k_of, define_of}
+use Rattle.family_check.specs.Entering.{entered, declare_of, instance_of, axiom_k_of, define_of}
 
 -- A well-formed signature stays well formed, whatever enters.
 
@@ -67,3 +68,16 @@ abbrev pub DefineKeepsSettled : Type 0
 DefineKeepsSettled =
     (S : Signature) (name : List ℕ) (type body : Term) (left : ℕ) → IsSettled S → IsScoped S 0 type → IsScoped S 0 body →
     IfOk (define_of S name type body left).0 (λ e. IsSettled e.signature) × IfErr (define_of S name type body left).0 (IsScopedStop (λ site. S))
+
+-- A family enters as it is declared, without a condition: with the names, the parameters and the types that are given.
+pub record IsAsDeclared (n : ℕ) (raw : RawFamily) (f : Family) : Type 0 where
+  pub names : names_of (FamilyOf f) ≡ raw_names raw
+  pub parameters : f.parameters ≡ raw.parameters
+  pub type : family_type f ≡ products raw.parameters raw.type
+  pub constructor_types : map (constructor_type n f) f.constructors ≡ map (λ c. products raw.parameters c.type) raw.constructors
+
+abbrev pub DeclareEntersGiven : Type 0
+DeclareEntersGiven =
+    (S : Signature) (raw : RawFamily) (left : ℕ) →
+    IfOk (declare_of S raw left).0
+    (λ e. (f : Family) × (e ≡ entered S (FamilyOf f)) × IsAsDeclared (length S.entries) raw f)

@@ -1,5 +1,5 @@
 //! What entering keeps and costs.
-ghost use Rattle.family_check.specs.Laws.{DeclareKeepsWellFormed, InstanceKeepsWellFormed, AxiomKKeepsWellFormed, DefineKeepsWellFormed, DeclareSpends, InstanceSpends, AxiomKSpends, DefineSpends, DeclareKeepsSettled, InstanceKeepsSettled, AxiomKKeepsSettled, DefineKeepsSettled};
+ghost use Rattle.family_check.specs.Laws.{DeclareKeepsWellFormed, InstanceKeepsWellFormed, AxiomKKeepsWellFormed, DefineKeepsWellFormed, DeclareSpends, InstanceSpends, AxiomKSpends, DefineSpends, DeclareKeepsSettled, InstanceKeepsSettled, AxiomKKeepsSettled, DefineKeepsSettled, DeclareEntersGiven};
 
 /// A signature stays well formed where a family enters.
 pub fn declare_keeps_well_formed()
@@ -59,4 +59,9 @@ pub fn axiom_k_keeps_settled()
 /// What a definition keeps and denies is scoped.
 pub fn define_keeps_settled()
     ensures { DefineKeepsSettled }
+{}
+
+/// A family enters as it is declared.
+pub fn declare_enters_given()
+    ensures { DeclareEntersGiven }
 {}
