@@ -4,3 +4,4 @@ pub mod Laws
 pub mod Outcomes
 pub mod Scopes
 pub mod Shapes
+pub mod Meanings
