@@ -33,14 +33,14 @@ domains-recursive_type : (s : ℕ → Term) (head : Term) (inner : Telescope) (t
 domains-recursive_type s head [] targets = refl
 domains-recursive_type s head (a ∷ inner) targets = ap (λ tele. inst s a ∷ tele) (domains-recursive_type (ups s) (weaken head) inner targets)
 
-ups-same_var : ups Var ≡ Var
+pub ups-same_var : ups Var ≡ Var
 ups-same_var = fun_ext ups-var
 
 inst_telescope-var : (tele : Telescope) → inst_telescope Var tele ≡ tele
 inst_telescope-var [] = refl
 inst_telescope-var (a ∷ tele) = ap₂ ◌∷◌ (inst-var a) (ap (λ s. inst_telescope s tele) ups-same_var ∙ inst_telescope-var tele)
 
-map-inst-var : (ts : List Term) → map (inst Var) ts ≡ ts
+pub map-inst-var : (ts : List Term) → map (inst Var) ts ≡ ts
 map-inst-var [] = refl
 map-inst-var (t ∷ ts) = ap₂ ◌∷◌ (inst-var t) (map-inst-var ts)
 
@@ -102,7 +102,7 @@ ups-lifted by from = fun_ext at
     at zero = ap Var (omega (arith, lift_var-tells 0 by (from + 1)))
     at (suc n) = ap Var (omega (arith, lift_var-tells n by from, lift_var-tells (suc n) by (from + 1)))
 
-weaken-weaken_by : (at : ℕ) (t : Term) → weaken (weaken_by at t) ≡ weaken_by (at + 1) t
+pub weaken-weaken_by : (at : ℕ) (t : Term) → weaken (weaken_by at t) ≡ weaken_by (at + 1) t
 weaken-weaken_by at t = ren-ren suc (λ n. n + at) t ∙ ren-same t (λ n. omega arith)
 
 -- the telescope of arguments is that of their types, lifted

@@ -5,5 +5,6 @@ pub mod Kinds
 pub mod Meanings
 pub mod Names
 pub mod Offenders
+pub mod Raw
 pub mod Settling
 pub mod Stages

@@ -1,0 +1,34 @@
+-- Families as declared, over plain terms, and what those of the code stand for.
+use Rattle.std.specs.Prelude.{ℕ, List, ◌∷◌, map}
+use Rattle.theory.specs.Terms.{Term}
+use Rattle.theory.specs.Telescopes.{Telescope}
+use Rattle.core_terms.specs.Meanings.{tree_of, tele_of}
+use Rattle.core_sig.specs.declared.raw.RawCon.{RawCon}
+use Rattle.core_sig.specs.declared.raw.RawFamily.{RawFamily as RawFamilyOfCode}
+
+-- a constructor as declared: in its type the family has the number that it will have in the signature
+pub record RawConstructor : Type 0 where
+  pub name : List ℕ
+  pub type : Term
+
+-- a family as declared: its type and the types of its constructors stand under the parameters
+pub record RawFamily : Type 0 where
+  pub name : List ℕ
+  pub parameters : Telescope
+  pub type : Term
+  pub constructors : List RawConstructor
+
+-- the names that a family declares, its own first
+abbrev pub raw_names : RawFamily → List (List ℕ)
+raw_names raw = raw.name ∷ map (λ c. c.name) raw.constructors
+
+abbrev pub raw_constructor_of : RawCon → RawConstructor
+raw_constructor_of c = record { name = c.name; type = tree_of c.ty }
+
+abbrev pub raw_of : RawFamilyOfCode → RawFamily
+raw_of f = record {
+  name = f.name;
+  parameters = tele_of f.params;
+  type = tree_of f.ty;
+  constructors = map raw_constructor_of f.cons;
+}

@@ -1,0 +1,5 @@
+use Rattle.family_check.proofs.Given.{declare-gives}
+use Rattle.family_check.proofs.laws.declare_enters_given.Goals as goal
+
+pub returns : goal.returns
+returns c = declare-gives

@@ -1,0 +1,105 @@
+-- A family as declared is checked part by part, in the order of the text: the parameters from the left, the type, the
+-- levels of the index types, and for each constructor its type, positivity and the levels of its argument types. Levels
+-- come from calls of their own, and each is compared with the family's at once.
+use Rattle.std.specs.Prelude.{ℕ, ◌+◌, cond, nat_le, Some, None, Result, Ok, Err, List, [], ◌∷◌, length, zip}
+use Rattle.theory.specs.Terms.{Term, Sort}
+use Rattle.theory.specs.Telescopes.{Context, Telescope, context_behind}
+use Rattle.theory.specs.Families.{Constructor, Family}
+use Rattle.theory.specs.Signatures.{Signature, FamilyOf}
+use Rattle.theory.specs.WellFormed.{pushed}
+use Rattle.core_sig.specs.Raw.{RawConstructor, RawFamily}
+use Rattle.kernel_reduce.specs.Reduction.{nesting}
+use Rattle.kernel_check.specs.Checking.{infer_sort_of}
+use Rattle.family_check.specs.Outcomes.{Site, OfType, OfParameter, OfConstructor, FamilyStop, NotPositive, TooLarge, BadFamily, Outcome, ended, and_next, granted}
+use Rattle.family_check.specs.Shapes.{domains_of, end_of, arguments, constructor_targets}
+
+-- what the types of a telescope are: parameters, or indices or arguments of constructor `number`, whose levels have a limit
+pub data Role : Type 0 where
+  Parameter : Role
+  Index : (limit : ℕ) → Role
+  ArgumentOf : (number limit : ℕ) → Role
+
+-- the written part that type number k, counted from 1, belongs to
+abbrev pub site_of : Role → ℕ → Site
+site_of Parameter k = OfParameter k
+site_of (Index limit) k = OfType
+site_of (ArgumentOf number limit) k = OfConstructor number
+
+-- the level of type number k, unless it is above the limit
+abbrev pub fitting : Role → ℕ → ℕ → Result ℕ FamilyStop
+fitting Parameter k level = Ok level
+fitting (Index limit) k level = cond (nat_le level limit) (Ok level) (Err (TooLarge None k))
+fitting (ArgumentOf number limit) k level = cond (nat_le level limit) (Ok level) (Err (TooLarge (Some number) k))
+
+abbrev pub sort_level : Term → ℕ
+sort_level (Sort level) = level
+sort_level _ = 0
+
+abbrev pub level_in : Signature → Role → ℕ → Context → Term → ℕ → Outcome ℕ
+level_in S role k G a left =
+    and_next (granted (site_of role k) (infer_sort_of S nesting G a left)) (λ sort rest.
+    ended (fitting role k (sort_level sort)) rest)
+
+-- the levels of the types of a telescope from the left, where `count` types stand before them
+abbrev pub levels_of : Signature → Role → ℕ → Context → Telescope → ℕ → Outcome (List ℕ)
+levels_of S role count G [] left = ended (Ok []) left
+levels_of S role count G (a ∷ tele) left =
+    and_next (level_in S role (count + 1) G a left) (λ level rest.
+    and_next (levels_of S role (count + 1) (a ∷ G) tele rest) (λ levels end. ended (Ok (level ∷ levels)) end))
+
+-- the level of a family, where its type ends in a sort
+abbrev pub family_level : Term → Result ℕ FamilyStop
+family_level (Sort level) = Ok level
+family_level _ = Err BadFamily
+
+-- the family as declared, without its constructors
+abbrev pub family_without : RawFamily → List ℕ → ℕ → Family
+family_without raw levels level = record {
+  name = raw.name;
+  parameters = raw.parameters;
+  indices = zip (domains_of raw.type) levels;
+  level = level;
+  constructors = [];
+}
+
+abbrev pub declare_type : Signature → RawFamily → ℕ → Outcome Family
+declare_type S raw left =
+    let G = context_behind [] raw.parameters in
+    and_next (levels_of S Parameter 0 [] raw.parameters left) (λ parameter_levels left1.
+    and_next (granted OfType (infer_sort_of S nesting G raw.type left1)) (λ sort left2.
+    and_next (ended (family_level (end_of raw.type)) left2) (λ level left3.
+    and_next (levels_of S (Index level) 0 G (domains_of raw.type) left3) (λ levels end.
+    ended (Ok (family_without raw levels level)) end))))
+
+-- the targets of constructor `number`, or what offends
+abbrev pub on_targets : ℕ → Result (List Term) ℕ → Result (List Term) FamilyStop
+on_targets number (Ok targets) = Ok targets
+on_targets number (Err k) = Err (NotPositive number k)
+
+-- constructor `number` of family n with the record f, over a signature that has the family without constructors
+abbrev pub declare_constructor : Signature → ℕ → Family → ℕ → RawConstructor → ℕ → Outcome Constructor
+declare_constructor S n f number raw left =
+    let G = context_behind [] f.parameters in
+    let types = domains_of raw.type in
+    and_next (granted (OfConstructor number) (infer_sort_of S nesting G raw.type left)) (λ sort left1.
+    and_next (ended (on_targets number (constructor_targets n f raw.type)) left1) (λ targets left2.
+    and_next (levels_of S (ArgumentOf number f.level) 0 G types left2) (λ levels end.
+    ended (Ok (record { name = raw.name; arguments = arguments n f 0 types levels; targets = targets })) end)))
+
+-- all constructors, the first of them with the given number
+abbrev pub declare_constructors : Signature → ℕ → Family → ℕ → List RawConstructor → ℕ → Outcome (List Constructor)
+declare_constructors S n f number [] left = ended (Ok []) left
+declare_constructors S n f number (raw ∷ raws) left =
+    and_next (declare_constructor S n f number raw left) (λ c rest.
+    and_next (declare_constructors S n f (number + 1) raws rest) (λ constructors end.
+    ended (Ok (c ∷ constructors)) end))
+
+abbrev pub with_constructors : Family → List Constructor → Family
+with_constructors f constructors = record f { constructors = constructors }
+
+-- the whole family
+abbrev pub declare_family : Signature → RawFamily → ℕ → Outcome Family
+declare_family S raw left =
+    and_next (declare_type S raw left) (λ f rest.
+    and_next (declare_constructors (pushed S (FamilyOf f)) (length S.entries) f 0 raw.constructors rest) (λ constructors end.
+    ended (Ok (with_constructors f constructors)) end))

@@ -1,0 +1,83 @@
+-- What entering keeps and costs.
+use Rattle.std.specs.Prelude.{◌≡◌, ℕ, ◌≤◌, ◌<◌, IsTrue, IfOk, IfErr, List, length, map}
+use Rattle.theory.specs.Terms.{Term, top}
+use Rattle.theory.specs.Telescopes.{products}
+use Rattle.theory.specs.Families.{Family, family_type, constructor_type}
+use Rattle.theory.specs.Signatures.{FamilyOf, Signature, IsEntryAt, names_of, equality}
+use Rattle.theory.specs.WellFormed.{IsWellFormed}
+use Rattle.theory.specs.SignatureScopes.{IsScoped, IsConstructorNumber}
+use Rattle.core_sig.specs.Raw.{RawFamily, raw_names}
+use Rattle.family_check.specs.Scopes.{IsSettled, IsScopedRaw, site_signature, IsScopedStop}
+use Rattle.family_check.specs.Entering.{entered, declare_of, instance_of, axiom_k_of, define_of}
+
+-- A well-formed signature stays well formed, whatever enters.
+
+abbrev pub DeclareKeepsWellFormed : Type 0
+DeclareKeepsWellFormed =
+    (S : Signature) (raw : RawFamily) (left : ℕ) → IsWellFormed S →
+    IfOk (declare_of S raw left).0 (λ e. IsWellFormed e.signature)
+
+abbrev pub InstanceKeepsWellFormed : Type 0
+InstanceKeepsWellFormed =
+    (S : Signature) (n : ℕ) (f : Family) (m left : ℕ) → IsWellFormed S → IsEntryAt S n (FamilyOf f) →
+    IfOk (instance_of S n f m left).0 (λ e. IsWellFormed e.signature)
+
+abbrev pub AxiomKKeepsWellFormed : Type 0
+AxiomKKeepsWellFormed =
+    (S : Signature) (i m left : ℕ) → IsWellFormed S → IsTrue S.has_k →
+    IfOk (axiom_k_of S i m left).0 (λ e. IsWellFormed e.signature)
+
+abbrev pub DefineKeepsWellFormed : Type 0
+DefineKeepsWellFormed =
+    (S : Signature) (name : List ℕ) (type body : Term) (left : ℕ) → IsWellFormed S →
+    IfOk (define_of S name type body left).0 (λ e. IsWellFormed e.signature)
+
+-- what is left behind a call is at most what was left before it
+
+abbrev pub DeclareSpends : Type 0
+DeclareSpends = (S : Signature) (raw : RawFamily) (left : ℕ) → (declare_of S raw left).1 ≤ left
+
+abbrev pub InstanceSpends : Type 0
+InstanceSpends = (S : Signature) (n : ℕ) (f : Family) (m left : ℕ) → (instance_of S n f m left).1 ≤ left
+
+abbrev pub AxiomKSpends : Type 0
+AxiomKSpends = (S : Signature) (i m left : ℕ) → (axiom_k_of S i m left).1 ≤ left
+
+abbrev pub DefineSpends : Type 0
+DefineSpends = (S : Signature) (name : List ℕ) (type body : Term) (left : ℕ) → (define_of S name type body left).1 ≤ left
+
+-- A settled signature stays settled where what is given is scoped, and what is denied is scoped.
+
+abbrev pub DeclareKeepsSettled : Type 0
+DeclareKeepsSettled =
+    (S : Signature) (raw : RawFamily) (left : ℕ) → IsSettled S → IsScopedRaw S raw →
+    IfOk (declare_of S raw left).0 (λ e. IsSettled e.signature) × IfErr (declare_of S raw left).0 (IsScopedStop (site_signature S raw))
+
+abbrev pub InstanceKeepsSettled : Type 0
+InstanceKeepsSettled =
+    (S : Signature) (n : ℕ) (f : Family) (m left : ℕ) → IsSettled S → IsEntryAt S n (FamilyOf f) →
+    IfOk (instance_of S n f m left).0 (λ e. IsSettled e.signature) × IfErr (instance_of S n f m left).0 (IsScopedStop (λ site. S))
+
+-- where the signature has the identity family at the level
+abbrev pub AxiomKKeepsSettled : Type 0
+AxiomKKeepsSettled =
+    (S : Signature) (i m left : ℕ) → IsSettled S → (i < top → IsConstructorNumber S (equality i) 0) →
+    IfOk (axiom_k_of S i m left).0 (λ e. IsSettled e.signature) × IfErr (axiom_k_of S i m left).0 (IsScopedStop (λ site. S))
+
+abbrev pub DefineKeepsSettled : Type 0
+DefineKeepsSettled =
+    (S : Signature) (name : List ℕ) (type body : Term) (left : ℕ) → IsSettled S → IsScoped S 0 type → IsScoped S 0 body →
+    IfOk (define_of S name type body left).0 (λ e. IsSettled e.signature) × IfErr (define_of S name type body left).0 (IsScopedStop (λ site. S))
+
+-- A family enters as it is declared, without a condition: with the names, the parameters and the types that are given.
+pub record IsAsDeclared (n : ℕ) (raw : RawFamily) (f : Family) : Type 0 where
+  pub names : names_of (FamilyOf f) ≡ raw_names raw
+  pub parameters : f.parameters ≡ raw.parameters
+  pub type : family_type f ≡ products raw.parameters raw.type
+  pub constructor_types : map (constructor_type n f) f.constructors ≡ map (λ c. products raw.parameters c.type) raw.constructors
+
+abbrev pub DeclareEntersGiven : Type 0
+DeclareEntersGiven =
+    (S : Signature) (raw : RawFamily) (left : ℕ) →
+    IfOk (declare_of S raw left).0
+    (λ e. (f : Family) × (e ≡ entered S (FamilyOf f)) × IsAsDeclared (length S.entries) raw f)

@@ -1,0 +1,7 @@
+pub mod Entering
+pub mod Families
+pub mod Laws
+pub mod Outcomes
+pub mod Scopes
+pub mod Shapes
+pub mod Meanings

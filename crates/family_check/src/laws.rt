@@ -1,0 +1,67 @@
+//! What entering keeps and costs.
+ghost use Rattle.family_check.specs.Laws.{DeclareKeepsWellFormed, InstanceKeepsWellFormed, AxiomKKeepsWellFormed, DefineKeepsWellFormed, DeclareSpends, InstanceSpends, AxiomKSpends, DefineSpends, DeclareKeepsSettled, InstanceKeepsSettled, AxiomKKeepsSettled, DefineKeepsSettled, DeclareEntersGiven};
+
+/// A signature stays well formed where a family enters.
+pub fn declare_keeps_well_formed()
+    ensures { DeclareKeepsWellFormed }
+{}
+
+/// A signature stays well formed where an eliminator enters.
+pub fn instance_keeps_well_formed()
+    ensures { InstanceKeepsWellFormed }
+{}
+
+/// A signature stays well formed where axiom K enters.
+pub fn axiom_k_keeps_well_formed()
+    ensures { AxiomKKeepsWellFormed }
+{}
+
+/// A signature stays well formed where a definition enters.
+pub fn define_keeps_well_formed()
+    ensures { DefineKeepsWellFormed }
+{}
+
+/// A declaration gives no units back.
+pub fn declare_spends()
+    ensures { DeclareSpends }
+{}
+
+/// An instance gives no units back.
+pub fn instance_spends()
+    ensures { InstanceSpends }
+{}
+
+/// Axiom K gives no units back.
+pub fn axiom_k_spends()
+    ensures { AxiomKSpends }
+{}
+
+/// A definition gives no units back.
+pub fn define_spends()
+    ensures { DefineSpends }
+{}
+
+/// What a declaration keeps and denies is scoped.
+pub fn declare_keeps_settled()
+    ensures { DeclareKeepsSettled }
+{}
+
+/// What an instance keeps and denies is scoped.
+pub fn instance_keeps_settled()
+    ensures { InstanceKeepsSettled }
+{}
+
+/// What axiom K keeps and denies is scoped.
+pub fn axiom_k_keeps_settled()
+    ensures { AxiomKKeepsSettled }
+{}
+
+/// What a definition keeps and denies is scoped.
+pub fn define_keeps_settled()
+    ensures { DefineKeepsSettled }
+{}
+
+/// A family enters as it is declared.
+pub fn declare_enters_given()
+    ensures { DeclareEntersGiven }
+{}

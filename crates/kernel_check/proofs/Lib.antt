@@ -1,0 +1,7 @@
+mod Examples
+pub mod Soundness
+pub mod Scoped
+pub mod Sorts
+pub mod Spending
+pub mod SymbolTypes
+pub mod Verdicts

@@ -1,0 +1,4 @@
+//! The checker of terms, with units.
+#![tactic(auto)]
+
+pub mod laws;
