@@ -2,14 +2,18 @@
 //! bring along.
 #![tactic(auto)]
 
+mod building;
 mod entry;
 mod family;
+mod hypotheses;
 mod name_index;
 mod naming;
 mod raw;
 mod signature;
+mod types;
 
 pub use entry::{Draft, Entry, Found};
 pub use family::{Arg, ArgKind, Constructor, Family};
 pub use raw::{MutualRaw, RawCon, RawFamily, RawMember};
 pub use signature::Signature;
+pub use types::{con_type, family_type};

@@ -71,7 +71,8 @@ inst-inst p s (Let a t b) =
     ap₃ Let (inst-inst p s a) (inst-inst p s t) (inst-inst (ups p) (ups s) b ∙ inst-same b (ups-ups p s))
 inst-inst p s _ = refl
 
-ups-var : (n : ℕ) → ups Var n ≡ Var n
+-- each variable for itself, under a binder
+pub ups-var : (n : ℕ) → ups Var n ≡ Var n
 ups-var zero = refl
 ups-var (suc n) = refl
 

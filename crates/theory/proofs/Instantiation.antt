@@ -46,7 +46,8 @@ pub subst-ups : (s : ℕ → Term) (b u : Term) → subst (inst (ups s) b) 0 u �
 subst-ups s b u =
     subst-is_extend (inst (ups s) b) u ∙ (inst-inst (extend Var u) (ups s) b ∙ inst-same b (extend-ups s u))
 
-inst-extend : (p s : ℕ → Term) (u : Term) (n : ℕ) → inst p (extend s u n) ≡ extend (λ m. inst p (s m)) (inst p u) n
+-- an instantiation passes one term more
+pub inst-extend : (p s : ℕ → Term) (u : Term) (n : ℕ) → inst p (extend s u n) ≡ extend (λ m. inst p (s m)) (inst p u) n
 inst-extend p s u zero = refl
 inst-extend p s u (suc n) = refl
 

@@ -1,8 +1,7 @@
 use Rattle.std.proofs.Common.{arith, ap, sym}
 use Rattle.std.proofs.lemmas.List.{take-map}
-use Rattle.core_sig.specs.Kinds.{HasEntryKinds}
 use Rattle.core_sig.specs.Meanings.{entry_of}
-use Rattle.core_sig.proofs.Keeping.{each-take}
+use Rattle.theory.proofs.Lists.{slice_get-take}
 use Rattle.core_sig.proofs.NameLists.{take-named}
 use Rattle.core_sig.proofs.signature.Signature.truncate.Goals as goal
 
@@ -11,7 +10,7 @@ invariant_of-self c =
     let es = c.self.inside.entries.items in
     record {
       names = rw (c.truncate.ensures, c.names_before-names.ensures, c.as_slice.ensures.value, c.self.invariant.names, c.truncate-then-len.ensures.items) (take-named es c.args.len);
-      kinds = rw c.truncate-then-len.ensures.items (each-take HasEntryKinds c.args.len es c.self.invariant.kinds);
+      kinds = rw c.truncate-then-len.ensures.items (λ n e at. c.self.invariant.kinds n e (slice_get-take c.args.len es n e at));
       count = omega (arith, c.truncate-then-len.ensures.len);
     }
 
