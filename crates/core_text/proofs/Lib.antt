@@ -1,2 +1,5 @@
+pub mod ConstructorTexts
+pub mod Decimals
 mod Examples
-mod Decimals
+pub mod ProductTexts
+pub mod SpineTexts

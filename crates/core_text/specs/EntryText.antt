@@ -1,5 +1,5 @@
 -- Core text of entries: each entry is one line. Levels that a family keeps for its indices and arguments are not written.
-use Rattle.std.specs.Prelude.{ℕ, List, [], ◌∷◌, ◌++◌, length, slice_get, codes, decimal}
+use Rattle.std.specs.Prelude.{ℕ, List, [], ◌∷◌, ◌++◌, length, codes, decimal}
 use Rattle.theory.specs.Terms.{Term, Sort}
 use Rattle.theory.specs.Telescopes.{Telescope, products, applied, weaken_by}
 use Rattle.theory.specs.Families.{Constructor, Family, index_types, family_head, constructor_telescope}

@@ -20,7 +20,12 @@ pub fn print_term(alloc: Global, sig: &Signature, t: &Term) -> Result<Items<u8>,
 }
 
 /// Writes the text of a term; `is_function` where it is the function of an application.
-pub(crate) fn write_term(out: &mut Vec<u8>, sig: &Signature, t: &Term, is_function: bool) -> Result<(), Stop>
+pub(crate) fn write_term(
+    out: &mut Vec<u8>,
+    sig: &Signature,
+    t: &Term,
+    is_function: bool,
+) -> Result<(), Stop>
     ensures ok { OnOk result (out.new.items ≡ out.old.items ++ spelled sig.now is_function (tree_of t.now)) }
     ensures memory { OnErr result (result ≡ Err Memory) }
 {
