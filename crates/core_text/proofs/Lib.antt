@@ -1,0 +1,5 @@
+pub mod ConstructorTexts
+pub mod Decimals
+mod Examples
+pub mod ProductTexts
+pub mod SpineTexts

@@ -1,0 +1,4 @@
+pub mod EntryText
+pub mod ProductParts
+pub mod SymbolNames
+pub mod TermText
