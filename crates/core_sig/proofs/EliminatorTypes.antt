@@ -4,7 +4,7 @@ use Rattle.std.proofs.lemmas.List.Elements.{All-tail}
 use Rattle.std.proofs.lemmas.List.{length-map}
 use mathlib.Core.Path.{fun_ext}
 use Rattle.theory.specs.Terms.{Term, height, free_of}
-use Rattle.theory.specs.Scopes.{IsScopedTelescope, IsScopedConstructor, IsScopedFamily}
+use Rattle.theory.specs.Scopes.{IsTelescopeOver, IsConstructorOver, IsClosedFamily}
 use Rattle.theory.specs.Terms.Term.{Var, Sort, Pi, App, Fam, Con}
 use Rattle.theory.specs.Substitutions.{ren, up, inst, ups, weaken}
 use Rattle.theory.specs.Telescopes.{Telescope, products, applied, arrows, variables, weaken_by, inst_telescope}
@@ -141,7 +141,7 @@ height-eliminator params motive methods goal =
     (omega (arith, outer), omega (arith, outer, inner), omega (arith, outer, greatest-products methods goal), omega (arith, outer), omega (arith, outer, inner))
 
 -- a telescope of the code that is scoped
-pub scoped_types : (n : ℕ) (args : List Arg) → IsScopedTelescope n (map (λ a. tree_of a.ty) args) → All (λ a. free_of (tree_of a.ty) ≤ n + length args) args
+pub scoped_types : (n : ℕ) (args : List Arg) → IsTelescopeOver n (map (λ a. tree_of a.ty) args) → All (λ a. free_of (tree_of a.ty) ≤ n + length args) args
 scoped_types n [] scoped k d lt = absurd (omega arith)
 scoped_types n (a ∷ args) scoped zero d lt = let here = scoped.0 in omega arith
 scoped_types n (a ∷ args) scoped (suc k) d lt = let rest = scoped_types (n + 1) args scoped.1 k d (omega arith) in omega arith
@@ -153,31 +153,31 @@ All-unmap P f (x ∷ xs) all zero d lt = all 0 (f d) (omega arith)
 All-unmap P f (x ∷ xs) all (suc k) d lt = All-unmap P f xs (All-tail P (f x) (map f xs) all) k d (omega arith)
 
 -- the terms of a scoped constructor
-pub scoped_args : (n : ℕ) (f : pure.Family) (con : Constructor) → HaveKinds n f 0 con.args → IsScopedConstructor (length f.parameters) (constructor_of (length f.parameters) con) → All (λ a. free_of (tree_of a.ty) ≤ length f.parameters + length con.args) con.args
+pub scoped_args : (n : ℕ) (f : pure.Family) (con : Constructor) → HaveKinds n f 0 con.args → IsConstructorOver (length f.parameters) (constructor_of (length f.parameters) con) → All (λ a. free_of (tree_of a.ty) ≤ length f.parameters + length con.args) con.args
 scoped_args n f con kinds scoped =
     scoped_types (length f.parameters) con.args
-    (subst (IsScopedTelescope (length f.parameters)) (argument_types-of n f con.args kinds)
+    (subst (IsTelescopeOver (length f.parameters)) (argument_types-of n f con.args kinds)
     (scoped-arguments Var (family_head n f) (map (argument_of (length f.parameters)) con.args) (length f.parameters) (length f.parameters) (λ i lt. omega arith) (scoped-head n f) scoped.arguments))
 
-pub scoped_targets : (p : ℕ) (con : Constructor) → IsScopedConstructor p (constructor_of p con) → All (λ t. free_of (tree_of t) ≤ p + length con.args) con.targets
+pub scoped_targets : (p : ℕ) (con : Constructor) → IsConstructorOver p (constructor_of p con) → All (λ t. free_of (tree_of t) ≤ p + length con.args) con.targets
 scoped_targets p con scoped =
     All-unmap (λ t. free_of t ≤ p + length con.args) tree_of con.targets
     (subst (λ k. All (λ t. free_of t ≤ p + k) (tele_of con.targets)) (length-map con.args (argument_of p)) scoped.targets)
 
 -- the terms of a constructor of a scoped family
-pub scoped_con : (n : ℕ) (f : Family) (params number : ℕ) (con : Constructor) → HasKinds n f → IsScopedFamily (family_of f) → params ≡ length f.params → number < length f.cons → con ≡ get_or f.cons number con
+pub scoped_con : (n : ℕ) (f : Family) (params number : ℕ) (con : Constructor) → HasKinds n f → IsClosedFamily (family_of f) → params ≡ length f.params → number < length f.cons → con ≡ get_or f.cons number con
     → All (λ a. free_of (tree_of a.ty) ≤ params + length con.args) con.args × All (λ t. free_of (tree_of t) ≤ params + length con.args) con.targets
 scoped_con n f params number con kinds scoped counted lt is =
-    (subst (λ p. All (λ a. free_of (tree_of a.ty) ≤ p + length con.args) con.args) same (scoped_args n (family_of f) con (kinds_at n f number con kinds lt is) (subst (λ p. IsScopedConstructor (length (tele_of f.params)) (constructor_of p con)) (sym params_counted) here)),
-    subst (λ p. All (λ t. free_of (tree_of t) ≤ p + length con.args) con.targets) (sym counted) (scoped_targets (length f.params) con (subst (λ p. IsScopedConstructor p (constructor_of (length f.params) con)) params_counted here)))
+    (subst (λ p. All (λ a. free_of (tree_of a.ty) ≤ p + length con.args) con.args) same (scoped_args n (family_of f) con (kinds_at n f number con kinds lt is) (subst (λ p. IsConstructorOver (length (tele_of f.params)) (constructor_of p con)) (sym params_counted) here)),
+    subst (λ p. All (λ t. free_of (tree_of t) ≤ p + length con.args) con.targets) (sym counted) (scoped_targets (length f.params) con (subst (λ p. IsConstructorOver p (constructor_of (length f.params) con)) params_counted here)))
   where
     params_counted : length (tele_of f.params) ≡ length f.params
     params_counted = length-map f.params tree_of
     same : length (tele_of f.params) ≡ params
     same = params_counted ∙ sym counted
-    here : IsScopedConstructor (length (tele_of f.params)) (constructor_of (length f.params) con)
-    here = subst (λ k. IsScopedConstructor (length (tele_of f.params)) (constructor_of (length f.params) k)) (sym is)
-        (All-unmap (IsScopedConstructor (length (tele_of f.params))) (constructor_of (length f.params)) f.cons scoped.constructors number con lt)
+    here : IsConstructorOver (length (tele_of f.params)) (constructor_of (length f.params) con)
+    here = subst (λ k. IsConstructorOver (length (tele_of f.params)) (constructor_of (length f.params) k)) (sym is)
+        (All-unmap (IsConstructorOver (length (tele_of f.params))) (constructor_of (length f.params)) f.cons scoped.constructors number con lt)
 
 -- the type of an eliminator by the terms of the code
 abbrev pub elim_type_of : ℕ → Family → ℕ → Term
@@ -229,6 +229,6 @@ height-elim_type n f m =
     counted from (c ∷ cs) = ap suc (counted (from + 1) cs)
 
 -- the index types of a scoped family
-pub scoped_indices : (f : Family) → IsScopedFamily (family_of f) → All (λ a. free_of (tree_of a.ty) ≤ length f.params + length f.indices) f.indices
+pub scoped_indices : (f : Family) → IsClosedFamily (family_of f) → All (λ a. free_of (tree_of a.ty) ≤ length f.params + length f.indices) f.indices
 scoped_indices f scoped =
-    scoped_types (length f.params) f.indices (subst (IsScopedTelescope (length f.params)) (index_types-of f) (subst (λ k. IsScopedTelescope k (index_types (family_of f))) (length-map f.params tree_of) scoped.indices))
+    scoped_types (length f.params) f.indices (subst (IsTelescopeOver (length f.params)) (index_types-of f) (subst (λ k. IsTelescopeOver k (index_types (family_of f))) (length-map f.params tree_of) scoped.indices))

@@ -6,7 +6,7 @@ ghost use Rattle.theory.specs.Terms as tree;
 ghost use Rattle.theory.specs.Telescopes.{applied as applied_to};
 ghost use Rattle.theory.specs.Families as pure;
 ghost use Rattle.theory.specs.Eliminators as spec;
-ghost use Rattle.theory.specs.Scopes.{IsScopedFamily};
+ghost use Rattle.theory.specs.Scopes.{IsClosedFamily};
 ghost use Rattle.core_sig.specs.Building.{Builds, BuildsAll};
 ghost use Rattle.core_sig.specs.Kinds.{HasKinds, HaveKinds};
 ghost use Rattle.core_sig.specs.Meanings.{constructor_of, family_of};
@@ -23,7 +23,7 @@ use std::alloc::Global;
 /// The type of the eliminator of the family with number `fam` into `Type m`.
 pub fn elim_type(alloc: Global, fam: u32, f: &Family, m: u8) -> Result<Term, Stop>
     requires kinds { HasKinds fam f.now }
-    requires scoped { IsScopedFamily (family_of f.now) }
+    requires scoped { IsClosedFamily (family_of f.now) }
     ensures { Gives tree_of result (bounded (spec.eliminator_type fam (family_of f.now) m)) }
 {
     let params = few(f.params.as_slice().len())?;
@@ -87,7 +87,7 @@ fn goal_type(alloc: Global, fam: u32, indices: &[Arg], params: u32, outer: u32) 
 /// The types of the methods, each behind the parameters, the motive and the methods before it.
 fn method_types(alloc: Global, fam: u32, f: &Family, params: u32, indices: u32) -> Result<Vec<Term>, Stop>
     requires kinds { HasKinds fam f.now }
-    requires scoped { IsScopedFamily (family_of f.now) }
+    requires scoped { IsClosedFamily (family_of f.now) }
     requires params { params ≡ length f.now.params }
     requires few { params ≤ 2000 }
     requires indices { indices ≡ length f.now.indices }
