@@ -1,5 +1,5 @@
 -- The machine follows the grammar: where the grammar goes on with a lexeme, so does the machine.
-use Rattle.std.proofs.Common.{◌≡◌, ℕ, ◌+◌, zero, suc, Bool, true, false, cond, List, [], ◌∷◌, ◌++◌, length, refl, sym, ap, subst, ◌∙◌, arith, map}
+use Rattle.std.proofs.Common.{◌≡◌, ℕ, ◌+◌, Bool, true, false, cond, List, [], ◌∷◌, ◌++◌, length, refl, sym, ap, subst, map}
 use Rattle.std.specs.Prelude.{Option, Some, None}
 use Rattle.surface_syntax.specs.Trees as tree
 use Rattle.surface_syntax.specs.Grammar as g
@@ -24,7 +24,7 @@ module _ (allows : ℕ → ℕ → Bool) where
       data_ (r.name (w.params_rest allows v [] _ params (r.end ty (w.cons_rest allows (record { params = ps; members = [] }) v a _ cons (r.only file)))))
   begins (g.next {ds = ds} (g.families {w = v} {f = f} {t = t} {ps = ps} {cs = cs} {a = a} {ms = ms} params ty cons members tags) file) =
       data_ (r.name (w.params_rest allows v [] _ params (r.end ty (w.cons_rest allows (record { params = ps; members = [] }) v a _ cons
-        (w.first_rest allows ps (record { name = v; ty = a; cons = cs }) _ members (r.packed (w.tags_rest allows ps (record { name = v; ty = a; cons = cs } ∷ ms) f t [] ds tags file)))))))
+      (w.first_rest allows ps (record { name = v; ty = a; cons = cs }) _ members (r.packed (w.tags_rest allows ps (record { name = v; ty = a; cons = cs } ∷ ms) f t [] ds tags file)))))))
   begins (g.next (g.function {w = v} {a = a} {cs = cs} ty clauses) file) =
       fun (r.fun (r.fun_type (r.term ty (r.whole (r.fun (w.clauses_rest allows (m.Fun v a []) _ clauses (r.fun file)))))))
 
@@ -380,7 +380,7 @@ module _ (allows : ℕ → ℕ → Bool) where
       may_led may (r.goes (r.in_clause (r.pats (w.pats_rest allows false false (m.Behind (m.behind d f) k) ds ps refl (r.side t more)))))
   clause_due_led {d} {k} {ds = ds} (r.clause (g.inspect {f = f} {ps = qs} {t = u} may ps t cs) more) =
       may_led may (r.goes (r.in_clause (r.pats (w.pats_rest allows false false (m.Behind (m.behind d f) k) ds ps refl
-        (r.inspect t (w.clauses_rest allows (m.Inspect (record { depth = d; head = f; pats = qs }) u [] k) ds cs (r.inspect more)))))))
+      (r.inspect t (w.clauses_rest allows (m.Inspect (record { depth = d; head = f; pats = qs }) u [] k) ds cs (r.inspect more)))))))
   clause_due_led {d} {k} {ds = ds} (r.clause (g.absurd {f = f} may ps) more) =
       may_led may (r.goes (r.in_clause (r.pats (w.pats_rest allows false true (m.Behind (m.behind d f) k) ds ps refl (r.absurd more)))))
 

@@ -1,7 +1,6 @@
 -- What is left to read in a declaration, as whole declarations.
-use Rattle.std.proofs.Common.{◌≡◌, ℕ, ◌+◌, Bool, true, false, List, [], ◌∷◌, ◌++◌, length, refl, sym, ap, subst, ◌∙◌, append_assoc}
+use Rattle.std.proofs.Common.{◌≡◌, ℕ, Bool, List, [], ◌∷◌, ◌++◌, refl, sym, ap, subst, ◌∙◌, append_assoc}
 use Rattle.std.proofs.lemmas.List.{append-nil}
-use Rattle.std.specs.Prelude.{Option, Some, None}
 use Rattle.surface_syntax.specs.Trees as tree
 use Rattle.surface_syntax.specs.Grammar as g
 use Rattle.surface_syntax.specs.Machine as m
@@ -20,7 +19,7 @@ module _ (allows : ℕ → ℕ → Bool) where
       Params_read v acc (x.Open ∷ x.Plain q ∷ x.Colon ∷ ts) ds
   more_params v q a acc t (read_params {ps = ps} {a = b} {vs = vs} {ds = ds} params ty rest) =
       read_params (g.next t params) ty (subst (λ (l : List tree.Typed). r.RestFamily allows (record { params = l; members = [] }) (record { name = v; ty = b; cons = [] }) vs ds)
-        (append_assoc acc (record { name = q; ty = a } ∷ []) ps) rest)
+      (append_assoc acc (record { name = q; ty = a } ∷ []) ps) rest)
 
   params_read : {v : Word} {acc : List tree.Typed} {ts : List Lexeme} {ds : List tree.Decl} → r.RestParams allows v acc ts ds → Params_read v acc ts ds
   params_read {v} {acc} (r.param {p = q} {a = a} t rest) = more_params v q a acc t (params_read rest)
@@ -37,7 +36,7 @@ module _ (allows : ℕ → ℕ → Bool) where
       Listed_read f n (x.Plain c ∷ x.Colon ∷ ts) ds
   more_cons f n c a t (read_listed {cs = cs} {us = us} {ds = ds} listed rest) =
       read_listed (g.more t listed) (subst (λ (l : List tree.Typed). r.RestMember allows f.params f.members (record { name = n.name; ty = n.ty; cons = l }) us ds)
-        (append_assoc n.cons (record { name = c; ty = a } ∷ []) cs) rest)
+      (append_assoc n.cons (record { name = c; ty = a } ∷ []) cs) rest)
 
   listed_read : {f : m.Families} {n : tree.Member} {ts : List Lexeme} {ds : List tree.Decl} → r.RestCons allows f n ts ds → Listed_read f n ts ds
   listed_read (r.last t rest) = read_listed (g.last t) rest

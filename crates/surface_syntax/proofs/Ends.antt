@@ -1,11 +1,10 @@
 -- What is read at the end of the text.
-use Rattle.std.proofs.Common.{◌≡◌, ℕ, ◌+◌, Bool, true, false, cond, List, [], ◌∷◌, ◌++◌, length, refl, sym, ap, subst, ◌∙◌}
-use Rattle.std.specs.Prelude.{Option, Some, None}
+use Rattle.std.proofs.Common.{◌≡◌, ℕ, ◌+◌, Bool, true, false, cond, List, [], ◌∷◌, refl, subst}
+use Rattle.std.specs.Prelude.{Option}
 use Rattle.surface_syntax.specs.Trees as tree
 use Rattle.surface_syntax.specs.Grammar as g
 use Rattle.surface_syntax.specs.Machine as m
-use Rattle.surface_syntax.specs.Parsing.{Answer, Read, Wrong, Deep, behind, finish, run}
-use Rattle.surface_syntax.specs.declared.tree.Word.{Word}
+use Rattle.surface_syntax.specs.Parsing.{Read, Wrong, finish}
 use Rattle.surface_syntax.specs.declared.lexeme.Lexeme.{Lexeme}
 use Rattle.surface_syntax.specs.declared.lexeme.Lexeme.TheVariants as x
 use Rattle.surface_syntax.proofs.Rest as r

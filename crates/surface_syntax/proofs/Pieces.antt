@@ -1,5 +1,5 @@
 -- What is left to read in a state, as whole productions of the grammar and what stands behind them.
-use Rattle.std.proofs.Common.{◌≡◌, ℕ, ◌+◌, zero, suc, Bool, true, false, List, [], ◌∷◌, ◌++◌, length, refl, sym, ap, subst, ◌∙◌, append_assoc, arith}
+use Rattle.std.proofs.Common.{◌≡◌, ℕ, ◌+◌, Bool, true, false, List, [], ◌∷◌, ◌++◌, length, refl, sym, subst, ◌∙◌, append_assoc, arith}
 use Rattle.std.proofs.lemmas.List.{append-nil}
 use Rattle.std.specs.Prelude.{Option, Some, None}
 use Rattle.surface_syntax.specs.Trees as tree
@@ -66,13 +66,13 @@ module _ (allows : ℕ → ℕ → Bool) where
       Names_read d q acc (ns ++ Some v ∷ []) k ts ds → Names_read d q acc ns k (x.Plain v ∷ ts) ds
   plain_read d q acc ns k {v} (read {ms = ms} {a = a} {vs = vs} {ds = ds} names ne t behind) =
       read (some (and_plain names)) (λ e. ne (append_assoc ns (Some v ∷ []) ms ∙ e)) t
-        (subst (λ (l : List (Option Word)). Binders_read d q (acc ++ tree.Group l a ∷ []) k vs ds) (append_assoc ns (Some v ∷ []) ms) behind)
+      (subst (λ (l : List (Option Word)). Binders_read d q (acc ++ tree.Group l a ∷ []) k vs ds) (append_assoc ns (Some v ∷ []) ms) behind)
 
   blank_read : (d : ℕ) (q : m.Quantifier) (acc : List tree.Binder) (ns : List (Option Word)) (k : m.Term_in) {ts : List Lexeme} {ds : List tree.Decl} →
       Names_read d q acc (ns ++ None ∷ []) k ts ds → Names_read d q acc ns k (x.Underscore ∷ ts) ds
   blank_read d q acc ns k (read {ms = ms} {a = a} {vs = vs} {ds = ds} names ne t behind) =
       read (some (and_blank names)) (λ e. ne (append_assoc ns (None ∷ []) ms ∙ e)) t
-        (subst (λ (l : List (Option Word)). Binders_read d q (acc ++ tree.Group l a ∷ []) k vs ds) (append_assoc ns (None ∷ []) ms) behind)
+      (subst (λ (l : List (Option Word)). Binders_read d q (acc ++ tree.Group l a ∷ []) k vs ds) (append_assoc ns (None ∷ []) ms) behind)
 
   -- a whole binder with the binders behind it
   binder_read : (d : ℕ) (q : m.Quantifier) (acc : List tree.Binder) (b : tree.Binder) (k : m.Term_in) {ts us : List Lexeme} {ds : List tree.Decl} → g.Binder allows d ts us b → Binders_read d q (acc ++ b ∷ []) k us ds → Binders_read d q acc k ts ds

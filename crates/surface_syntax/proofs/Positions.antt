@@ -1,12 +1,12 @@
 -- Where a run goes wrong, no text of the language goes on, and before it one does.
-use Rattle.std.proofs.Common.{◌≡◌, ◌≢◌, ℕ, ◌+◌, Bool, true, false, cond, List, [], ◌∷◌, ◌++◌, length, nat_lt, refl, sym, ap, subst, ◌∙◌}
+use Rattle.std.proofs.Common.{◌≡◌, ℕ, ◌+◌, Bool, true, false, cond, List, [], ◌∷◌, ◌++◌, length, nat_lt, refl, sym, ap, subst}
 use Rattle.std.proofs.lemmas.List.{append-nil}
 use Rattle.std.specs.Prelude.{Option, Some, None}
 use Rattle.surface_syntax.specs.Trees as tree
 use Rattle.surface_syntax.specs.Grammar as g
 use Rattle.surface_syntax.specs.Machine as m
 use Rattle.surface_syntax.specs.Parsing.{Answer, Read, Wrong, Deep, behind, finish, onward, run}
-use Rattle.surface_syntax.specs.Viable.{NoEnd, every, IsViable, GoesNoFurther, GoesWrong}
+use Rattle.surface_syntax.specs.Viable.{NoEnd, every, GoesNoFurther, GoesWrong}
 use Rattle.surface_syntax.specs.declared.tree.Word.{Word}
 use Rattle.surface_syntax.specs.declared.lexeme.Lexeme.{Lexeme}
 use Rattle.surface_syntax.specs.declared.lexeme.Lexeme.TheVariants as x
@@ -14,7 +14,6 @@ use Rattle.surface_syntax.proofs.Rest as r
 use Rattle.surface_syntax.proofs.Complete as c
 use Rattle.surface_syntax.proofs.Sound as s
 use Rattle.surface_syntax.proofs.Ends as e
-use Rattle.surface_syntax.proofs.Runs as runs
 use Rattle.surface_syntax.proofs.Finishing as f
 
 -- two states that differ at most in where names began
@@ -132,7 +131,6 @@ record Wrongs (st : m.State) (ts : List Lexeme) (n : ℕ) : Type 0 where
   rest : r.Rest every st (front ++ more) decls
   stops : (zs : List Lexeme) → Next back zs → (ds : List tree.Decl) → r.Rest every st (front ++ zs) ds → ⊥
 
-
 -- at the end of the text
 finish_wrong : (st : m.State) {n : ℕ} {out out' : m.Outcome} → Matches out out' → finish out ≡ Wrong n → (ds : List tree.Decl) → finish out' ≡ Read ds → ⊥
 finish_wrong st (goes same') q ds q' = cc
@@ -150,7 +148,13 @@ finish_zero (m.Over i) q = cc
 
 at_end : (st : m.State) (n : ℕ) → f.Left st → finish (m.step m.limit 0 st x.End) ≡ Wrong n → Wrongs st [] n
 at_end st n (f.finished more ds rest) q = record {
-  front = []; back = []; parts = refl; left = finish_zero (m.step m.limit 0 st x.End) q; more = more; decls = ds; rest = rest;
+  front = [];
+  back = [];
+  parts = refl;
+  left = finish_zero (m.step m.limit 0 st x.End) q;
+  more = more;
+  decls = ds;
+  rest = rest;
   stops = λ zs next es r'. finish_wrong st (step_match 0 0 st x.End) q es (e.end_led every st (no_zs zs next es r'));
 }
   where
@@ -196,7 +200,13 @@ no_led over stays l = stays
 module _ (st : m.State) (y : Lexeme) (ts : List Lexeme) (n : ℕ) (ne : y ≡ x.End → ⊥) where
   here : (out : m.Outcome) → ((j : ℕ) → Matches out (m.step every j st y)) → IsEnd out → f.Left st → length (y ∷ ts) ≡ n → Wrongs st (y ∷ ts) n
   here out match stays (f.finished more ds rest) q = record {
-    front = []; back = y ∷ ts; parts = refl; left = q; more = more; decls = ds; rest = rest;
+    front = [];
+    back = y ∷ ts;
+    parts = refl;
+    left = q;
+    more = more;
+    decls = ds;
+    rest = rest;
     stops = λ zs next es r'. stopped zs next es r';
   }
     where
@@ -208,7 +218,12 @@ module _ (st : m.State) (y : Lexeme) (ts : List Lexeme) (n : ℕ) (ne : y ≡ x.
     where
       found : Led_some (m.step every (length (y ∷ (w.front ++ w.more))) st y) (w.front ++ w.more) → Wrongs st (y ∷ ts) n
       found (led_some {ds = ds} l) = record {
-        front = y ∷ w.front; back = w.back; parts = ap (λ (l' : List Lexeme). y ∷ l') w.parts; left = w.left; more = w.more; decls = ds;
+        front = y ∷ w.front;
+        back = w.back;
+        parts = ap (λ (l' : List Lexeme). y ∷ l') w.parts;
+        left = w.left;
+        more = w.more;
+        decls = ds;
         rest = s.sound every st y ne l;
         stops = λ zs next es r'. stopped zs next (match_led (match (length (y ∷ (w.front ++ zs)))) (c.led every r'));
       }
@@ -238,7 +253,10 @@ no_further front (y ∷ back) stops = λ more ds file. stops (y ∷ more) first 
 
 goes_wrong : {ts : List Lexeme} {n : ℕ} → Wrongs m.Start ts n → GoesWrong ts n
 goes_wrong w = record {
-  front = w.front; back = w.back; parts = w.parts; left = w.left;
+  front = w.front;
+  back = w.back;
+  parts = w.parts;
+  left = w.left;
   viable = record { more = w.more; decls = w.decls; file = file_of w.rest };
   stops = no_further w.front w.back w.stops;
 }

@@ -1,14 +1,12 @@
 -- A run of the machine, and the grammar.
-use Rattle.std.proofs.Common.{◌≡◌, ◌≢◌, ℕ, ◌+◌, Bool, true, false, cond, List, [], ◌∷◌, ◌++◌, length, refl, sym, ap, subst, ◌∙◌}
-use Rattle.std.specs.Prelude.{Option, Some, None}
+use Rattle.std.proofs.Common.{◌≡◌, ℕ, Bool, List, [], ◌∷◌, length, refl, sym, ap, subst, ◌∙◌}
+use Rattle.std.specs.Prelude.{Some, None}
 use Rattle.surface_syntax.specs.Trees as tree
 use Rattle.surface_syntax.specs.Grammar as g
 use Rattle.surface_syntax.specs.Machine as m
 use Rattle.surface_syntax.specs.Viable.{NoEnd}
-use Rattle.surface_syntax.specs.Parsing.{Answer, Read, Wrong, Deep, behind, finish, onward, run}
-use Rattle.surface_syntax.specs.declared.tree.Word.{Word}
+use Rattle.surface_syntax.specs.Parsing.{Answer, Read, Wrong, Deep, behind, onward, run}
 use Rattle.surface_syntax.specs.declared.lexeme.Lexeme.{Lexeme}
-use Rattle.surface_syntax.specs.declared.lexeme.Lexeme.TheVariants as x
 use Rattle.surface_syntax.proofs.Rest as r
 use Rattle.surface_syntax.proofs.Complete as c
 use Rattle.surface_syntax.proofs.Sound as s

@@ -1,5 +1,5 @@
 -- The grammar follows the machine: where the machine goes on with a lexeme, so does the grammar.
-use Rattle.std.proofs.Common.{◌≡◌, ℕ, ◌+◌, zero, suc, Bool, true, false, cond, List, [], ◌∷◌, ◌++◌, length, refl, sym, ap, subst, ◌∙◌, arith, map, ◌⊎◌, inl, inr}
+use Rattle.std.proofs.Common.{◌≡◌, ℕ, ◌+◌, Bool, true, false, cond, List, [], ◌∷◌, ◌++◌, length, refl, subst, arith, ◌⊎◌, inl, inr}
 use Rattle.std.specs.Prelude.{Option, Some, None}
 use Rattle.surface_syntax.specs.Trees as tree
 use Rattle.surface_syntax.specs.Grammar as g
@@ -87,7 +87,6 @@ module _ (allows : ℕ → ℕ → Bool) where
 
   param_type : (v q : Word) (ps : List tree.Typed) {ts : List Lexeme} {ds : List tree.Decl} → r.Due allows 0 (m.Whole (m.ParamType v ps q)) ts ds → r.RestParams allows v ps (x.Open ∷ x.Plain q ∷ x.Colon ∷ ts) ds
   param_type v q ps (r.term t (r.whole (r.param more))) = r.param t more
-
 
   data_sound : (s : m.Data_state) (y : Lexeme) {ts : List Lexeme} {ds : List tree.Decl} → (y ≡ x.End → ⊥) → r.Led allows (m.data_step s y) ts ds → r.RestData allows s (y ∷ ts) ds
   data_sound m.DataName (x.Plain v) ne (r.goes (r.in_data (r.params s))) = r.name s

@@ -1,5 +1,5 @@
 -- Whole productions of the grammar, as what is left to read in the states that read them.
-use Rattle.std.proofs.Common.{◌≡◌, ℕ, ◌+◌, ◌≤◌, zero, suc, Bool, true, false, List, [], ◌∷◌, ◌++◌, length, refl, sym, ap, subst, ◌∙◌, append_assoc, arith}
+use Rattle.std.proofs.Common.{◌≡◌, ℕ, ◌+◌, zero, suc, Bool, true, false, List, [], ◌∷◌, ◌++◌, refl, sym, ap, subst, append_assoc, arith}
 use Rattle.std.proofs.lemmas.List.{append-nil}
 use Rattle.std.specs.Prelude.{Option, Some, None}
 use Rattle.surface_syntax.specs.Trees as tree
@@ -18,7 +18,7 @@ module _ (allows : ℕ → ℕ → Bool) where
   atoms_rest {d} {ts} h acc k ds g.end more = subst (λ (l : List tree.Surf). r.RestAtoms allows d (record { head = h; args = l }) k ts ds) (append-nil acc) more
   atoms_rest {d} {ts} {us} h acc k ds (g.next {a = a} {args = args} atom atoms) more =
       r.atom atom (atoms_rest h (acc ++ a ∷ []) k ds atoms
-        (subst (λ (l : List tree.Surf). r.RestAtoms allows d (record { head = h; args = l }) k us ds) (sym (append_assoc acc (a ∷ []) args)) more))
+      (subst (λ (l : List tree.Surf). r.RestAtoms allows d (record { head = h; args = l }) k us ds) (sym (append_assoc acc (a ∷ []) args)) more))
 
   -- names of a binder
   pub names_rest : {ts us : List Lexeme} {ns : List (Option Word)} (b : m.Telescope) (acc : List (Option Word)) (k : m.Term_in) (ds : List tree.Decl) → g.Names allows ts us ns →
@@ -55,7 +55,7 @@ module _ (allows : ℕ → ℕ → Bool) where
   binders_rest d q acc k ds (g.one b) t more = binder_rest d q acc k ds b (r.into t more)
   binders_rest {ts} {us} {vs} {t = t'} d q acc k ds (g.more {b = b'} {bs = bs} b rest) t more =
       binder_rest d q acc k ds b (into_binders (binders_rest d q (acc ++ b' ∷ []) k ds rest t
-        (subst (λ (l : List tree.Binder). r.RestTerm allows k (m.quantified q l t') vs ds) (sym (append_assoc acc (b' ∷ []) bs)) more)))
+      (subst (λ (l : List tree.Binder). r.RestTerm allows k (m.quantified q l t') vs ds) (sym (append_assoc acc (b' ∷ []) bs)) more)))
 
   -- patterns
   abbrev pub with_pats : List tree.Pat → m.Pats_in → m.Pats_in
@@ -138,7 +138,7 @@ module _ (allows : ℕ → ℕ → Bool) where
   listed_cons_rest {ts} {us} f w a acc ds (g.more {c = c} {a = b} {cs = cs} t rest) more =
       let one : tree.Typed = record { name = c; ty = b } in
       r.more t (listed_cons_rest f w a (acc ++ one ∷ []) ds rest
-        (subst (λ (l : List tree.Typed). r.RestMember allows f.params f.members (record { name = w; ty = a; cons = l }) us ds) (sym (append_assoc acc (one ∷ []) cs)) more))
+      (subst (λ (l : List tree.Typed). r.RestMember allows f.params f.members (record { name = w; ty = a; cons = l }) us ds) (sym (append_assoc acc (one ∷ []) cs)) more))
 
   pub cons_rest : {ts us : List Lexeme} {cs : List tree.Typed} (f : m.Families) (w : Word) (a : tree.Surf) (ds : List tree.Decl) → g.Cons allows ts us cs →
       r.RestMember allows f.params f.members (record { name = w; ty = a; cons = cs }) us ds → r.RestFamily allows f (record { name = w; ty = a; cons = [] }) ts ds
@@ -162,4 +162,4 @@ module _ (allows : ℕ → ℕ → Bool) where
   tags_rest ps ms f t acc ds g.last file = r.last file
   tags_rest {ts} ps ms f t acc ds (g.more {w = w} {tags = tags} rest) file =
       subst (λ (l : List Word). r.RestTags allows ps ms f t acc ts (tree.Mutual ps ms f t l ∷ ds)) (append_assoc acc (w ∷ []) tags)
-        (r.more (tags_rest ps ms f t (acc ++ w ∷ []) ds rest file))
+      (r.more (tags_rest ps ms f t (acc ++ w ∷ []) ds rest file))

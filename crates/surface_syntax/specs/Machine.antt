@@ -1,5 +1,5 @@
 -- The parser as a machine that takes one lexeme at a time and never goes back.
-use Rattle.std.specs.Prelude.{ℕ, ◌+◌, Bool, true, false, cond, not, List, [], ◌∷◌, ◌++◌, Option, Some, None, map, nat_lt}
+use Rattle.std.specs.Prelude.{ℕ, ◌+◌, Bool, true, false, cond, List, [], ◌∷◌, ◌++◌, Option, Some, None, map, nat_lt}
 use Rattle.surface_syntax.specs.Trees as tree
 use Rattle.surface_syntax.specs.Grammar.{applied}
 use Rattle.surface_syntax.specs.declared.tree.Word.{Word}

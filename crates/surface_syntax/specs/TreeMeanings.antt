@@ -1,5 +1,5 @@
 -- What the trees of the code stand for.
-use Rattle.std.specs.Prelude.{List, map}
+use Rattle.std.specs.Prelude.{map}
 use Rattle.surface_syntax.specs.Trees as pure
 use Rattle.surface_syntax.specs.declared.tree.Binder.{Binder}
 use Rattle.surface_syntax.specs.declared.tree.Surf.{Surf}

@@ -46,10 +46,7 @@ fn goes_on_with_digits_behind_a_dot(rt: HostRuntime) {
 #[test]
 fn takes_letters_outside_ascii(rt: HostRuntime) {
     // An accent that combines with the letter before it, and a letter of two bytes.
-    let expected = [
-        token(TokenKind::Plain, 0, 3),
-        token(TokenKind::Plain, 4, 6),
-    ];
+    let expected = [token(TokenKind::Plain, 0, 3), token(TokenKind::Plain, 4, 6)];
     assert!(rt; is_split(rt.alloc(), b"e\xcc\x81 \xc3\xa9", &expected));
     assert!(rt; stop(rt.alloc(), b"x \xcc\x81") == Some(SyntaxStop::BadToken(2)));
 }
