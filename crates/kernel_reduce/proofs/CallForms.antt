@@ -167,12 +167,16 @@ hypotheses-are values p recursor known (a ∷ args) few fits =
   where
     low : known < length values
     low = omega arith
+
     one : known + 1 ≡ suc known
     one = omega arith
+
     v : Term
     v = get_or values known (Sort 0)
+
     more : extend (fill no_variable (take known values)) v ≡ fill no_variable (take (known + 1) values)
     more = fill-more no_variable values known (Sort 0) low ∙ ap (λ n. fill no_variable (take n values)) (sym one)
+
     by : (kind : ArgKind) → hypotheses_of values p recursor (known + 1) args ≡ hypotheses (fill no_variable (take (known + 1) values)) recursor (map (argument_of p) args) (drop (known + 1) values)
         → hypothesis_before values p recursor known (tree_of a.ty) kind (hypotheses_of values p recursor (known + 1) args)
         ≡ hypotheses (fill no_variable (take known values)) recursor (argument_with p (tree_of a.ty) a.level kind ∷ map (argument_of p) args) (v ∷ drop (suc known) values)

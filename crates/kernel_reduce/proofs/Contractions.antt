@@ -89,6 +89,7 @@ contraction-made S P h k n m number f c args us eh ek ef at all made =
   where
     params : length (family_of f).parameters ≡ length f.params
     params = length-map f.params tree_of
+
     cons : length (family_of f).constructors ≡ length f.cons
     cons = length-map f.cons (constructor_of (length f.params))
 

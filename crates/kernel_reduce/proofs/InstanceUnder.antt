@@ -135,4 +135,3 @@ answer-or d (Err e) = d
 
 pub ok_is : {A : Type 0} {x y : A} → ◌≡◌ {A = Result A Stop} (Ok x) (Ok y) → x ≡ y
 ok_is {x = x} e = ap (answer-or x) e
-

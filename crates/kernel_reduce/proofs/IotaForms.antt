@@ -33,18 +33,25 @@ method-is n m number f c vs args d low fits =
   where
     p : ℕ
     p = length f.parameters
+
     nc : ℕ
     nc = length f.constructors
+
     within : p < length args
     within = omega arith
+
     P : Term
     P = get_or args p d
+
     rest : List Term
     rest = drop (suc p) args
+
     there : number < length (take nc rest)
     there = omega (arith, length-take nc rest, length-drop (suc p) args)
+
     method : get_or (take nc rest) number d ≡ get_or args (p + (1 + number)) d
     method = get_or-take nc rest number d low ∙ (get_or-drop (suc p) args number d ∙ ap (λ k. get_or args k d) (omega arith))
+
     front : take p args ++ P ∷ take nc rest ≡ take (p + (1 + nc)) args
     front =
         let one : suc nc ≡ 1 + nc = omega arith in
@@ -66,20 +73,28 @@ iota-made n m number f c args us codes low fits full same few =
   where
     p : ℕ
     p = length f.parameters
+
     vs : List Term
     vs = drop p us
+
     method : Term
     method = get_or args (p + (1 + number)) (Sort 0)
+
     recursor : Term
     recursor = applied (Elim n m) (take (p + (1 + length f.constructors)) args)
+
     values : List Term
     values = take p args ++ vs
+
     front : length (take p args) ≡ p
     front = omega (arith, length-take p args)
+
     first : take p values ≡ take p args
     first = ap (λ k. take k values) (sym front) ∙ take-append_seam (take p args) vs
+
     last : drop p values ≡ vs
     last = ap (λ k. drop k values) (sym front) ∙ drop-append_seam (take p args) vs
+
     made : hypotheses_of values p recursor p codes ≡ hypotheses (fill no_variable (take p args)) recursor c.arguments vs
     made =
         hypotheses-are values p recursor p codes few

@@ -15,7 +15,7 @@ use Rattle.kernel_reduce.specs.Laws.{HeadStepIsStep, IsHeadForm, WhnfIsHeadForm,
 use Rattle.kernel_reduce.proofs.Answers.{Answers, low-is, and_then-has, charge-has, if_low-has, bounded-has, and_then-spends, charge-spends, if_low-spends}
 use Rattle.kernel_reduce.proofs.StepLaws.{step-steps}
 
-some_bounded-has : (P : Term → Type 0) (t : Term) → P t → IfOk (some_bounded t) (λ next. IfSome next P)
+pub some_bounded-has : (P : Term → Type 0) (t : Term) → P t → IfOk (some_bounded t) (λ next. IfSome next P)
 some_bounded-has P t h = go (is_low t)
   where
     go : (b : Bool) → IfOk {E = Stop} (cond b (Ok (Some t)) (Err Deep)) (λ next. IfSome next P)

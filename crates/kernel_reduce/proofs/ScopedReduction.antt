@@ -14,9 +14,10 @@ use Rattle.theory.proofs.ScopedEntries.{All-at, bodies-scoped, iota-scoped}
 use Rattle.core_terms.specs.Answers.{Spent}
 use Rattle.kernel_reduce.specs.Entries.{body_at, family_at}
 use Rattle.kernel_reduce.specs.Steps.{beta_step, awaits_scrutinee, method_applied, iota_at, iota_step, k_step, contraction, scrutinee_step, elimination_step, first_of, application_step, step_of}
-use Rattle.kernel_reduce.specs.Reduction.{is_low, with_unit, without_units, whnf_of, with_children, normal_children, normal_of}
-use Rattle.kernel_reduce.specs.Laws.{StepScoped, WhnfScoped, NormalScoped}
-use Rattle.kernel_reduce.proofs.Answers.{Answers, and_then-has, if_low-has, bounded-has}
+use Rattle.kernel_reduce.specs.Reduction.{is_low, step_taken, head_step_of, with_unit, without_units, whnf_of, with_children, normal_children, normal_of}
+use Rattle.kernel_reduce.specs.Laws.{StepScoped, HeadStepScoped, WhnfScoped, NormalScoped}
+use Rattle.kernel_reduce.proofs.Answers.{Answers, and_then-has, charge-has, if_low-has, bounded-has}
+use Rattle.kernel_reduce.proofs.ReductionLaws.{some_bounded-has}
 use Rattle.kernel_reduce.proofs.StepLaws.{some-next, some-map, some-cond, first-has, body-in, family-found}
 
 method-scoped : (S : Signature) (k n m number : ℕ) (f : Family) (c : Constructor) (us ps rest : List Term) → IsScopedSignature S → IsEntryAt S n (FamilyOf f)
@@ -150,3 +151,11 @@ normal-scoped S delta zero k t left scoped h = tt
 normal-scoped S delta (suc room) k t left scoped h =
     and_then-has (IsScoped S k) _ (whnf_of S delta left t) _ (whnf-scoped S delta left k t scoped h) (λ u rest hu.
     children-scoped S (normal_of S delta room) k u rest hu (λ i v end hv. normal-scoped S delta room i v end scoped hv))
+
+step_taken-scoped : (S : Signature) (k : ℕ) (step : Option Term) (left : ℕ) → IfSome step (IsScoped S k) → Answers (λ next. IfSome next (IsScoped S k)) (step_taken step left)
+step_taken-scoped S k None left h = tt
+step_taken-scoped S k (Some u) left h = charge-has _ _ left (λ rest. some_bounded-has (IsScoped S k) u h)
+
+pub head_step-scoped : HeadStepScoped
+head_step-scoped S delta k t left scoped h =
+    if_low-has _ (is_low t) _ left (λ low. step_taken-scoped S k (step_of S delta t) left (step-scoped S delta k t scoped h))

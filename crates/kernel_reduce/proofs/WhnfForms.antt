@@ -5,13 +5,13 @@ use Rattle.theory.specs.Terms.{Term, height}
 use Rattle.theory.specs.Signatures.{Signature}
 use Rattle.theory.specs.SignatureScopes.{IsScoped, IsScopedSignature}
 use Rattle.core_terms.specs.Meanings.{tree_of}
-use Rattle.core_terms.specs.Answers.{Spent}
+use Rattle.core_terms.specs.Answers.{Spent, bounded}
 use Rattle.core_terms.specs.declared.stop.Stop.{Stop}
 use Rattle.core_terms.specs.declared.stop.Stop.TheVariants.{Memory, Fuel, Deep}
 use Rattle.core_terms.specs.declared.term.Term as code
 use Rattle.kernel_reduce.specs.Making.{Makes}
 use Rattle.kernel_reduce.specs.Steps.{step_of}
-use Rattle.kernel_reduce.specs.Reduction.{is_low, answered, if_low, without_units, with_unit, whnf_of}
+use Rattle.kernel_reduce.specs.Reduction.{is_low, answered, if_low, without_units, with_unit, whnf_of, and_then, normal_children, normal_of}
 use Rattle.kernel_reduce.proofs.ScopedReduction.{step-scoped}
 
 low-true : (t : Term) → height t ≤ 2000 → is_low t ≡ true
@@ -95,3 +95,20 @@ stepped-scoped S delta n t made scoped ht some h = go (step_of S delta t) some h
     go : (o : Option Term) → true ≡ is_some o → IfSome o (Makes (Ok made)) → IfSome o (IsScoped S n) → IsScoped S n (tree_of made)
     go None some h k = absurd (grind arith)
     go (Some u) some h k = transport (IsScoped S n) (sym h) k
+
+-- a given term that is too high, whatever may be open
+pub normal-high : (S : Signature) (delta : Bool) (room : ℕ) (t : Term) (left : ℕ) → 2000 < height t → answered (Err Deep) left ≡ normal_of S delta room t left
+normal-high S delta zero t left h = refl
+normal-high S delta (suc room) t left h =
+    ap (λ r. and_then r (normal_children (normal_of S delta room))) (whnf-high S delta left t h)
+
+-- the same as a copy refuses it
+pub normal-refused : (S : Signature) (delta : Bool) (room : ℕ) (t : Term) (left : ℕ) (stop : Stop) → (stop ≢ Memory → ◌≡◌ {A = Result Term Stop} (Err stop) (bounded t)) → stop ≢ Memory
+    → answered (Err stop) left ≡ normal_of S delta room t left
+normal-refused S delta room t left stop h other = go (nat_le (height t) 2000) refl (h other)
+  where
+    go : (b : Bool) → nat_le (height t) 2000 ≡ b → ◌≡◌ {A = Result Term Stop} (Err stop) (cond b (Ok t) (Err Deep)) → answered (Err stop) left ≡ normal_of S delta room t left
+    go true e k = absurd (grind arith)
+    go false e k =
+        let deep : stop ≡ Deep = grind arith in
+        ap (λ s. answered (Err s) left) deep ∙ normal-high S delta room t left (grind (arith, nat_tests))

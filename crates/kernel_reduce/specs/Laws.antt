@@ -66,6 +66,11 @@ StepScoped =
     (S : Signature) (delta : Bool) (n : ℕ) (t : Term) → IsScopedSignature S → IsScoped S n t →
     IfSome (step_of S delta t) (IsScoped S n)
 
+abbrev pub HeadStepScoped : Type 0
+HeadStepScoped =
+    (S : Signature) (delta : Bool) (n : ℕ) (t : Term) (left : ℕ) → IsScopedSignature S → IsScoped S n t →
+    IfOk (head_step_of S delta t left).0 (λ next. IfSome next (IsScoped S n))
+
 abbrev pub WhnfScoped : Type 0
 WhnfScoped =
     (S : Signature) (delta : Bool) (left n : ℕ) (t : Term) → IsScopedSignature S → IsScoped S n t →

@@ -12,6 +12,11 @@ use Rattle.kernel_reduce.specs.Steps.{step_of}
 abbrev pub nesting : ℕ
 nesting = 2000
 
+-- 3 * 2 ^ 30 - 2000: the terms that calls are given have so many free variables at most, which is more than 2 ^ 31 and as many
+-- binders as calls may be open. No index of a term that is made passes 32 bits.
+abbrev pub most_variables : ℕ
+most_variables = 3221223472
+
 abbrev pub is_low : Term → Bool
 is_low t = nat_le (height t) 2000
 

@@ -11,7 +11,14 @@ use std::alloc::Global;
 
 /// Whether the terms are found convertible, where `room` calls may be open.
 #[cycle(compare)]
-pub(crate) fn compare(alloc: Global, sig: &Signature, a: &Term, b: &Term, room: u32, units: &mut Units) -> Result<bool, Stop>
+pub(crate) fn compare(
+    alloc: Global,
+    sig: &Signature,
+    a: &Term,
+    b: &Term,
+    room: u32,
+    units: &mut Units,
+) -> Result<bool, Stop>
     requires room { room ≤ 2000 }
     requires signature { IsScopedSignature sig.now }
     requires a { IsScoped sig.now (3221225472 - room) (tree_of a.now) }
@@ -32,7 +39,14 @@ pub(crate) fn compare(alloc: Global, sig: &Signature, a: &Term, b: &Term, room: 
 
 /// Whether the head forms of two terms are found convertible, where `room` calls more may be open.
 #[cycle(compare)]
-fn compare_forms(alloc: Global, sig: &Signature, a: &Term, b: &Term, room: u32, units: &mut Units) -> Result<bool, Stop>
+fn compare_forms(
+    alloc: Global,
+    sig: &Signature,
+    a: &Term,
+    b: &Term,
+    room: u32,
+    units: &mut Units,
+) -> Result<bool, Stop>
     requires room { room < 2000 }
     requires signature { IsScopedSignature sig.now }
     requires a { IsScoped sig.now (3221225471 - room) (tree_of a.now) }
@@ -48,7 +62,14 @@ fn compare_forms(alloc: Global, sig: &Signature, a: &Term, b: &Term, room: u32, 
 
 /// Whether two terms without a head step are found convertible, where `room` calls more may be open.
 #[cycle(compare)]
-fn compare_heads(alloc: Global, sig: &Signature, a: &Term, b: &Term, room: u32, units: &mut Units) -> Result<bool, Stop>
+fn compare_heads(
+    alloc: Global,
+    sig: &Signature,
+    a: &Term,
+    b: &Term,
+    room: u32,
+    units: &mut Units,
+) -> Result<bool, Stop>
     requires room { room < 2000 }
     requires signature { IsScopedSignature sig.now }
     requires a { IsScoped sig.now (3221225471 - room) (tree_of a.now) }
@@ -73,7 +94,16 @@ fn compare_heads(alloc: Global, sig: &Signature, a: &Term, b: &Term, room: u32, 
 
 /// Whether `a` is found convertible with `c`, and then `b` with `d`.
 #[cycle(compare)]
-fn compare_both(alloc: Global, sig: &Signature, a: &Term, b: &Term, c: &Term, d: &Term, room: u32, units: &mut Units) -> Result<bool, Stop>
+fn compare_both(
+    alloc: Global,
+    sig: &Signature,
+    a: &Term,
+    b: &Term,
+    c: &Term,
+    d: &Term,
+    room: u32,
+    units: &mut Units,
+) -> Result<bool, Stop>
     requires room { room < 2000 }
     requires signature { IsScopedSignature sig.now }
     requires a { IsScoped sig.now (3221225472 - room) (tree_of a.now) }

@@ -84,7 +84,16 @@ fn values(alloc: Global, args: &[Term], us: &[Term], params: usize) -> Result<Ve
 /// Iota at constructor `number` of the family with the number n, where `args` are all arguments of the eliminator before
 /// its scrutinee, and `us` all arguments of the constructor.
 #[tactic(auto, using(crate::proofs::CallHeights::height_applied))]
-fn iota(alloc: Global, n: u32, m: u8, family: &Family, constructor: &Constructor, number: u32, args: &[Term], us: &[Term]) -> Result<Term, Stop>
+fn iota(
+    alloc: Global,
+    n: u32,
+    m: u8,
+    family: &Family,
+    constructor: &Constructor,
+    number: u32,
+    args: &[Term],
+    us: &[Term],
+) -> Result<Term, Stop>
     requires all { HasAllArguments family.now constructor.now number (tele_of args.now) (tele_of us.now) }
     requires args_free { All (λ v. tree.free_of v ≤ 3221225472) (tele_of args.now) }
     requires us_free { All (λ v. tree.free_of v ≤ 3221225472) (tele_of us.now) }
@@ -127,7 +136,16 @@ fn eliminate(alloc: Global, sig: &Signature, n: u32, m: u8, f: Term, u: Term) ->
     };
     let args = into_spine(alloc, f)?;
     let us = into_spine(alloc, u)?;
-    iota(alloc, n, m, found, constructor, number, args.as_slice(), us.as_slice())
+    iota(
+        alloc,
+        n,
+        m,
+        found,
+        constructor,
+        number,
+        args.as_slice(),
+        us.as_slice(),
+    )
 }
 
 /// The last argument of an application.

@@ -17,7 +17,14 @@ use core_terms::{MAX_HEIGHT, Stop, Term, copy, copy_tele, lift};
 use std::alloc::Global;
 
 /// The recursor at the targets that stand in `ty`, which ends in a family at `params` parameters and these targets.
-fn call(alloc: Global, recursor: &Term, values: &[Term], params: u32, ty: &Term, under: u32) -> Result<Term, Stop>
+fn call(
+    alloc: Global,
+    recursor: &Term,
+    values: &[Term],
+    params: u32,
+    ty: &Term,
+    under: u32,
+) -> Result<Term, Stop>
     requires values { All (λ v. tree.free_of v ≤ 3221225472) (tele_of values.now) }
     requires recursor { tree.free_of (tree_of recursor.now) ≤ 3221225472 }
     requires under { under ≤ 2000 }
@@ -34,7 +41,15 @@ fn call(alloc: Global, recursor: &Term, values: &[Term], params: u32, ty: &Term,
 
 /// The recursive call on `r` under so many of its inner binders.
 #[tactic(auto, using(crate::proofs::CallHeights::height_applied))]
-fn recursive_call(alloc: Global, recursor: &Term, values: &[Term], params: u32, r: &Term, ty: &Term, under: u32) -> Result<Term, Stop>
+fn recursive_call(
+    alloc: Global,
+    recursor: &Term,
+    values: &[Term],
+    params: u32,
+    r: &Term,
+    ty: &Term,
+    under: u32,
+) -> Result<Term, Stop>
     requires values { All (λ v. tree.free_of v ≤ 3221225472) (tele_of values.now) }
     requires recursor { tree.free_of (tree_of recursor.now) ≤ 3221225472 }
     requires r { tree.free_of (tree_of r.now) ≤ 3221225472 }
@@ -48,7 +63,16 @@ fn recursive_call(alloc: Global, recursor: &Term, values: &[Term], params: u32, 
 }
 
 /// The hypothesis for the recursive argument `r`: the recursive call on it, behind functions over its inner arguments.
-fn hypothesis(alloc: Global, recursor: &Term, values: &[Term], params: u32, r: &Term, ty: &Term, inner: u32, under: u32) -> Result<Term, Stop>
+fn hypothesis(
+    alloc: Global,
+    recursor: &Term,
+    values: &[Term],
+    params: u32,
+    r: &Term,
+    ty: &Term,
+    inner: u32,
+    under: u32,
+) -> Result<Term, Stop>
     requires values { All (λ v. tree.free_of v ≤ 3221225472) (tele_of values.now) }
     requires recursor { tree.free_of (tree_of recursor.now) ≤ 3221225472 }
     requires r { tree.free_of (tree_of r.now) ≤ 3221225472 }
@@ -70,7 +94,15 @@ fn hypothesis(alloc: Global, recursor: &Term, values: &[Term], params: u32, r: &
 /// The hypothesis for a recursive argument with the type `ty`.
 ///
 /// The first `known` values stand for the variables of that type, and the next one is the argument.
-fn hypothesis_at(alloc: Global, recursor: &Term, values: &[Term], params: u32, ty: &Term, known: usize, inner: u32) -> Result<Term, Stop>
+fn hypothesis_at(
+    alloc: Global,
+    recursor: &Term,
+    values: &[Term],
+    params: u32,
+    ty: &Term,
+    known: usize,
+    inner: u32,
+) -> Result<Term, Stop>
     requires values { All (λ v. tree.free_of v ≤ 3221225472) (tele_of values.now) }
     requires recursor { tree.free_of (tree_of recursor.now) ≤ 3221225472 }
     requires known { known < length values.now }
@@ -82,7 +114,15 @@ fn hypothesis_at(alloc: Global, recursor: &Term, values: &[Term], params: u32, t
 
 /// `whole` applied to the hypothesis for an argument, where it is recursive.
 #[tactic(auto, using(crate::proofs::CallHeights::height_applied))]
-fn with_hypothesis(alloc: Global, recursor: &Term, values: &[Term], params: u32, arg: &Arg, known: usize, whole: Term) -> Result<Term, Stop>
+fn with_hypothesis(
+    alloc: Global,
+    recursor: &Term,
+    values: &[Term],
+    params: u32,
+    arg: &Arg,
+    known: usize,
+    whole: Term,
+) -> Result<Term, Stop>
     requires values { All (λ v. tree.free_of v ≤ 3221225472) (tele_of values.now) }
     requires recursor { tree.free_of (tree_of recursor.now) ≤ 3221225472 }
     requires known { known < length values.now }
@@ -99,7 +139,15 @@ fn with_hypothesis(alloc: Global, recursor: &Term, values: &[Term], params: u32,
 
 /// `whole` applied to the hypotheses for arguments behind the first `known` values.
 #[tactic(auto, using(crate::proofs::CallHeights::height_applied))]
-pub(crate) fn with_hypotheses(alloc: Global, recursor: &Term, values: &[Term], params: u32, args: &[Arg], known: usize, whole: Term) -> Result<Term, Stop>
+pub(crate) fn with_hypotheses(
+    alloc: Global,
+    recursor: &Term,
+    values: &[Term],
+    params: u32,
+    args: &[Arg],
+    known: usize,
+    whole: Term,
+) -> Result<Term, Stop>
     requires values { All (λ v. tree.free_of v ≤ 3221225472) (tele_of values.now) }
     requires recursor { tree.free_of (tree_of recursor.now) ≤ 3221225472 }
     requires known { known + length args.now ≤ length values.now }

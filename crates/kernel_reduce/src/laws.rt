@@ -1,5 +1,5 @@
 //! What reduction and comparison mean in the theory.
-ghost use Rattle.kernel_reduce.specs.Laws.{HeadStepIsStep, WhnfIsHeadForm, NormalConverts, ConvertibleConverts, SubtypeIsBelow, HeadStepSpends, WhnfSpends, NormalSpends, ConvertibleSpends, SubtypeSpends, StepScoped, WhnfScoped, NormalScoped};
+ghost use Rattle.kernel_reduce.specs.Laws.{HeadStepIsStep, WhnfIsHeadForm, NormalConverts, ConvertibleConverts, SubtypeIsBelow, HeadStepSpends, WhnfSpends, NormalSpends, ConvertibleSpends, SubtypeSpends, StepScoped, HeadStepScoped, WhnfScoped, NormalScoped};
 
 /// A head step is a step of the theory.
 pub fn head_step_is_step()
@@ -54,6 +54,11 @@ pub fn subtype_spends()
 /// A head step keeps terms scoped.
 pub fn step_scoped()
     ensures { StepScoped }
+{}
+
+/// So does the call for one head step.
+pub fn head_step_scoped()
+    ensures { HeadStepScoped }
 {}
 
 /// Head reduction keeps terms scoped.

@@ -1,10 +1,12 @@
 //! Reduction and comparison of terms, with units.
 #![tactic(auto)]
 
-pub mod laws;
+mod calls;
 mod comparing;
 mod contracting;
+mod head_steps;
 mod iota;
+pub mod laws;
 mod lookup;
 mod making;
 mod normalising;
@@ -13,3 +15,5 @@ mod reducing;
 mod spine;
 mod stepping;
 mod testing;
+
+pub use calls::{convertible, head_step, normal, subtype, whnf};

@@ -6,11 +6,11 @@ ghost use Rattle.kernel_reduce.specs.Reduction as pure;
 
 use crate::reducing::reduce;
 use core_sig::Signature;
-use core_terms::{MAX_HEIGHT, Stop, Term, Units};
+use core_terms::{MAX_HEIGHT, Stop, Term, Units, copy};
 use std::alloc::Global;
 
 /// The term itself, or Deep.
-fn low(t: Term) -> Result<Term, Stop>
+pub(crate) fn low(t: Term) -> Result<Term, Stop>
     ensures { Gives tree_of result (bounded (tree_of t)) }
 {
     if t.height() > MAX_HEIGHT {
@@ -21,7 +21,14 @@ fn low(t: Term) -> Result<Term, Stop>
 
 /// The head form of a term, and then the normal forms of its children, where `room` calls more may be open.
 #[cycle(normal)]
-pub(crate) fn normalise(alloc: Global, sig: &Signature, t: Term, delta: bool, room: u32, units: &mut Units) -> Result<Term, Stop>
+pub(crate) fn normalise(
+    alloc: Global,
+    sig: &Signature,
+    t: Term,
+    delta: bool,
+    room: u32,
+    units: &mut Units,
+) -> Result<Term, Stop>
     requires room { room ≤ 2000 }
     requires signature { IsScopedSignature sig.now }
     requires scoped { IsScoped sig.now (3221225472 - room) (tree_of t) }
@@ -38,7 +45,14 @@ pub(crate) fn normalise(alloc: Global, sig: &Signature, t: Term, delta: bool, ro
 
 /// The term with the normal forms of its children.
 #[cycle(normal)]
-fn normal_children(alloc: Global, sig: &Signature, t: Term, delta: bool, room: u32, units: &mut Units) -> Result<Term, Stop>
+fn normal_children(
+    alloc: Global,
+    sig: &Signature,
+    t: Term,
+    delta: bool,
+    room: u32,
+    units: &mut Units,
+) -> Result<Term, Stop>
     requires room { room < 2000 }
     requires signature { IsScopedSignature sig.now }
     requires scoped { IsScoped sig.now (3221225471 - room) (tree_of t) }
@@ -64,4 +78,24 @@ fn normal_children(alloc: Global, sig: &Signature, t: Term, delta: bool, room: u
         }
         other => Ok(other),
     }
+}
+
+/// The normal form of a term, where `room` calls may be open.
+pub(crate) fn normal_form(
+    alloc: Global,
+    sig: &Signature,
+    t: &Term,
+    delta: bool,
+    room: u32,
+    units: &mut Units,
+) -> Result<Term, Stop>
+    requires room { room ≤ 2000 }
+    requires signature { IsScopedSignature sig.now }
+    requires scoped { IsScoped sig.now (3221225472 - room) (tree_of t.now) }
+    requires units { units.old.left + units.old.spent < 2 ^ 64 }
+    ensures answer { Runs tree_of result units.new.left (pure.normal_of sig.now delta room (tree_of t.now) units.old.left) }
+    ensures sum { units.new.left + units.new.spent ≡ units.old.left + units.old.spent }
+{
+    let t = copy(alloc, t)?;
+    normalise(alloc, sig, t, delta, room, units)
 }

@@ -12,7 +12,14 @@ use std::alloc::Global;
 
 /// Whether the first term is found below the second one, where `room` calls may be open.
 #[cycle(order)]
-pub(crate) fn order(alloc: Global, sig: &Signature, a: &Term, b: &Term, room: u32, units: &mut Units) -> Result<bool, Stop>
+pub(crate) fn order(
+    alloc: Global,
+    sig: &Signature,
+    a: &Term,
+    b: &Term,
+    room: u32,
+    units: &mut Units,
+) -> Result<bool, Stop>
     requires room { room ≤ 2000 }
     requires signature { IsScopedSignature sig.now }
     requires a { IsScoped sig.now (3221225472 - room) (tree_of a.now) }
@@ -30,7 +37,14 @@ pub(crate) fn order(alloc: Global, sig: &Signature, a: &Term, b: &Term, room: u3
 
 /// Whether the head form of the first term is found below that of the second one, where `room` calls more may be open.
 #[cycle(order)]
-fn order_forms(alloc: Global, sig: &Signature, a: &Term, b: &Term, room: u32, units: &mut Units) -> Result<bool, Stop>
+fn order_forms(
+    alloc: Global,
+    sig: &Signature,
+    a: &Term,
+    b: &Term,
+    room: u32,
+    units: &mut Units,
+) -> Result<bool, Stop>
     requires room { room < 2000 }
     requires signature { IsScopedSignature sig.now }
     requires a { IsScoped sig.now (3221225471 - room) (tree_of a.now) }
@@ -46,7 +60,14 @@ fn order_forms(alloc: Global, sig: &Signature, a: &Term, b: &Term, room: u32, un
 
 /// Whether the first of two terms without a head step is found below the second one, where `room` calls more may be open.
 #[cycle(order)]
-fn order_heads(alloc: Global, sig: &Signature, a: &Term, b: &Term, room: u32, units: &mut Units) -> Result<bool, Stop>
+fn order_heads(
+    alloc: Global,
+    sig: &Signature,
+    a: &Term,
+    b: &Term,
+    room: u32,
+    units: &mut Units,
+) -> Result<bool, Stop>
     requires room { room < 2000 }
     requires signature { IsScopedSignature sig.now }
     requires a { IsScoped sig.now (3221225471 - room) (tree_of a.now) }
@@ -64,7 +85,16 @@ fn order_heads(alloc: Global, sig: &Signature, a: &Term, b: &Term, room: u32, un
 
 /// Whether the domain `a` is found convertible with `c`, and then the codomain `b` below `d`.
 #[cycle(order)]
-fn order_products(alloc: Global, sig: &Signature, a: &Term, b: &Term, c: &Term, d: &Term, room: u32, units: &mut Units) -> Result<bool, Stop>
+fn order_products(
+    alloc: Global,
+    sig: &Signature,
+    a: &Term,
+    b: &Term,
+    c: &Term,
+    d: &Term,
+    room: u32,
+    units: &mut Units,
+) -> Result<bool, Stop>
     requires room { room < 2000 }
     requires signature { IsScopedSignature sig.now }
     requires a { IsScoped sig.now (3221225472 - room) (tree_of a.now) }

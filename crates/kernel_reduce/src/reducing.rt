@@ -27,7 +27,13 @@ pub(crate) fn spend(units: &mut Units) -> Result<(), Stop>
 }
 
 /// Takes head steps until there is none.
-pub(crate) fn reduce(alloc: Global, sig: &Signature, t: Term, delta: bool, units: &mut Units) -> Result<Term, Stop>
+pub(crate) fn reduce(
+    alloc: Global,
+    sig: &Signature,
+    t: Term,
+    delta: bool,
+    units: &mut Units,
+) -> Result<Term, Stop>
     requires signature { IsScopedSignature sig.now }
     requires scoped { IsScoped sig.now 3221225472 (tree_of t) }
     requires units { units.old.left + units.old.spent < 2 ^ 64 }
@@ -48,7 +54,13 @@ pub(crate) fn reduce(alloc: Global, sig: &Signature, t: Term, delta: bool, units
 }
 
 /// The head form of a term.
-pub(crate) fn head_form(alloc: Global, sig: &Signature, t: &Term, delta: bool, units: &mut Units) -> Result<Term, Stop>
+pub(crate) fn head_form(
+    alloc: Global,
+    sig: &Signature,
+    t: &Term,
+    delta: bool,
+    units: &mut Units,
+) -> Result<Term, Stop>
     requires signature { IsScopedSignature sig.now }
     requires scoped { IsScoped sig.now 3221225472 (tree_of t.now) }
     requires units { units.old.left + units.old.spent < 2 ^ 64 }

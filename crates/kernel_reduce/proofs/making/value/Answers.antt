@@ -11,8 +11,8 @@ lift-requires c =
     let at = length values - 1 - (c.args.n - c.args.under) in
     let count = length-map values tree_of in
     let bound : free_of (tree_of c.index-values-values.result) ≤ 3221225472 =
-        subst (λ t. free_of t ≤ 3221225472) (value-at values at c.index-values-values.result (omega arith) c.index-values-values.is)
-        (c.requires.values at (tree_of c.index-values-values.result) (omega arith)) in
+    subst (λ t. free_of t ≤ 3221225472) (value-at values at c.index-values-values.result (omega arith) c.index-values-values.is)
+    (c.requires.values at (tree_of c.index-values-values.result) (omega arith)) in
     omega arith
 
 pub returns-then-place-values : goal.returns-then-place-values

@@ -9,9 +9,9 @@ pub order_forms-order_heads-requires : goal.order_forms-order_heads-requires
 order_forms-order_heads-requires t c =
     let n = 3221225471 - c.args.room in
     let a =
-        meant-has (IsScoped c.args.sig.now n) (tree_of c.in_ok-a.a) _ _ c.in_ok-a.ensures.answer
-        (whnf-scoped c.args.sig.now true _ n (tree_of c.args.a.now) c.requires.signature c.requires.a) in
+    meant-has (IsScoped c.args.sig.now n) (tree_of c.in_ok-a.a) _ _ c.in_ok-a.ensures.answer
+    (whnf-scoped c.args.sig.now true _ n (tree_of c.args.a.now) c.requires.signature c.requires.a) in
     let b =
-        meant-has (IsScoped c.args.sig.now n) (tree_of c.in_ok-b.b) _ _ c.in_ok-b.ensures.answer
-        (whnf-scoped c.args.sig.now true _ n (tree_of c.args.b.now) c.requires.signature c.requires.b) in
+    meant-has (IsScoped c.args.sig.now n) (tree_of c.in_ok-b.b) _ _ c.in_ok-b.ensures.answer
+    (whnf-scoped c.args.sig.now true _ n (tree_of c.args.b.now) c.requires.signature c.requires.b) in
     (omega arith, (c.requires.room, (c.requires.signature, (a, (b, omega (arith, c.in_ok-a.ensures.sum, c.in_ok-b.ensures.sum))))))

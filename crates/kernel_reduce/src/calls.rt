@@ -1,0 +1,122 @@
+//! The public calls: reduction and comparison over a signature, with units.
+//!
+//! Each unit that a call spends moves from `left` to `spent`. A call answers Fuel where it needs a unit and none is left, and
+//! Deep where it is given or makes a term higher than 2,000, or where more than 2,000 calls would be open at once, whichever
+//! comes first. The answers and the units are those of the definitions, unless memory ran out.
+ghost use Rattle.std.specs.Prelude.{◌≡◌, ◌≤◌, ◌<◌, ◌+◌, ◌^◌, ℕ, IfOk, IfSome, IsTrue, option_map};
+ghost use Rattle.core_terms.specs.Answers.{Runs};
+ghost use Rattle.core_terms.specs.Meanings.{tree_of};
+ghost use Rattle.theory.specs.Conversion.{Step, Converts, Below};
+ghost use Rattle.theory.specs.SignatureScopes.{IsScoped, IsScopedSignature};
+ghost use Rattle.theory.specs.Terms as tree;
+ghost use Rattle.kernel_reduce.specs.Comparison.{convertible_of, subtype_of};
+ghost use Rattle.kernel_reduce.specs.Laws.{IsHeadForm};
+ghost use Rattle.kernel_reduce.specs.Reduction.{head_step_of, most_variables, nesting, normal_of, whnf_of};
+
+use crate::comparing::compare;
+use crate::head_steps::next_step;
+use crate::normalising::normal_form;
+use crate::ordering::order;
+use crate::reducing::head_form;
+use core_sig::Signature;
+use core_terms::{Stop, Term, Units};
+use std::alloc::Global;
+
+/// How many calls may be open at once.
+const NESTING: u32 = 2000;
+
+/// The next head step of a term, or None where it takes none. Without `delta` constants take no step.
+pub fn head_step(
+    alloc: Global,
+    sig: &Signature,
+    t: &Term,
+    delta: bool,
+    units: &mut Units,
+) -> Result<Option<Term>, Stop>
+    requires signature { IsScopedSignature sig.now }
+    requires scoped { IsScoped sig.now most_variables (tree_of t.now) }
+    requires units { units.old.left + units.old.spent < 2 ^ 64 }
+    ensures answer { Runs (option_map tree_of) result units.new.left (head_step_of sig.now delta (tree_of t.now) units.old.left) }
+    ensures sum { units.new.left + units.new.spent ≡ units.old.left + units.old.spent }
+    ensures step { IfOk result (λ next. IfSome next (λ u. Step sig.now (tree_of t.now) (tree_of u))) }
+    ensures scoped { (n : ℕ) → IsScoped sig.now n (tree_of t.now) → IfOk result (λ next. IfSome next (λ u. IsScoped sig.now n (tree_of u))) }
+{
+    next_step(alloc, sig, t, delta, units)
+}
+
+/// The head form of a term: head steps until there is none.
+pub fn whnf(
+    alloc: Global,
+    sig: &Signature,
+    t: &Term,
+    delta: bool,
+    units: &mut Units,
+) -> Result<Term, Stop>
+    requires signature { IsScopedSignature sig.now }
+    requires scoped { IsScoped sig.now most_variables (tree_of t.now) }
+    requires units { units.old.left + units.old.spent < 2 ^ 64 }
+    ensures answer { Runs tree_of result units.new.left (whnf_of sig.now delta units.old.left (tree_of t.now)) }
+    ensures sum { units.new.left + units.new.spent ≡ units.old.left + units.old.spent }
+    ensures form { IfOk result (λ u. IsHeadForm sig.now delta (tree_of t.now) (tree_of u)) }
+    ensures scoped { (n : ℕ) → IsScoped sig.now n (tree_of t.now) → IfOk result (λ u. IsScoped sig.now n (tree_of u)) }
+{
+    head_form(alloc, sig, t, delta, units)
+}
+
+/// The normal form of a term: its head form, with the normal forms of the children from the left.
+pub fn normal(
+    alloc: Global,
+    sig: &Signature,
+    t: &Term,
+    delta: bool,
+    units: &mut Units,
+) -> Result<Term, Stop>
+    requires signature { IsScopedSignature sig.now }
+    requires scoped { IsScoped sig.now most_variables (tree_of t.now) }
+    requires units { units.old.left + units.old.spent < 2 ^ 64 }
+    ensures answer { Runs tree_of result units.new.left (normal_of sig.now delta nesting (tree_of t.now) units.old.left) }
+    ensures sum { units.new.left + units.new.spent ≡ units.old.left + units.old.spent }
+    ensures converts { IfOk result (λ u. Converts sig.now (tree_of t.now) (tree_of u)) }
+    ensures low { IfOk result (λ u. tree.height (tree_of u) ≤ 2000) }
+    ensures scoped { (n : ℕ) → IsScoped sig.now n (tree_of t.now) → IfOk result (λ u. IsScoped sig.now n (tree_of u)) }
+{
+    normal_form(alloc, sig, t, delta, NESTING, units)
+}
+
+/// Whether two terms are found convertible: equal letter for letter, or of head forms with convertible children.
+pub fn convertible(
+    alloc: Global,
+    sig: &Signature,
+    a: &Term,
+    b: &Term,
+    units: &mut Units,
+) -> Result<bool, Stop>
+    requires signature { IsScopedSignature sig.now }
+    requires a { IsScoped sig.now most_variables (tree_of a.now) }
+    requires b { IsScoped sig.now most_variables (tree_of b.now) }
+    requires units { units.old.left + units.old.spent < 2 ^ 64 }
+    ensures answer { Runs (λ holds. holds) result units.new.left (convertible_of sig.now nesting (tree_of a.now) (tree_of b.now) units.old.left) }
+    ensures sum { units.new.left + units.new.spent ≡ units.old.left + units.old.spent }
+    ensures sound { IfOk result (λ holds. IsTrue holds → Converts sig.now (tree_of a.now) (tree_of b.now)) }
+{
+    compare(alloc, sig, a, b, NESTING, units)
+}
+
+/// Whether the first term is found below the second one in the order of sorts and of products.
+pub fn subtype(
+    alloc: Global,
+    sig: &Signature,
+    a: &Term,
+    b: &Term,
+    units: &mut Units,
+) -> Result<bool, Stop>
+    requires signature { IsScopedSignature sig.now }
+    requires a { IsScoped sig.now most_variables (tree_of a.now) }
+    requires b { IsScoped sig.now most_variables (tree_of b.now) }
+    requires units { units.old.left + units.old.spent < 2 ^ 64 }
+    ensures answer { Runs (λ holds. holds) result units.new.left (subtype_of sig.now nesting (tree_of a.now) (tree_of b.now) units.old.left) }
+    ensures sum { units.new.left + units.new.spent ≡ units.old.left + units.old.spent }
+    ensures sound { IfOk result (λ holds. IsTrue holds → Below sig.now (tree_of a.now) (tree_of b.now)) }
+{
+    order(alloc, sig, a, b, NESTING, units)
+}
