@@ -5,7 +5,6 @@ pub mod Given
 pub mod Moving
 pub mod NewNames
 pub mod Outcomes
-pub mod Repeats
 pub mod Scoped
 pub mod ScopedEntering
 pub mod ScopedShapes

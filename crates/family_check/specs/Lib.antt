@@ -4,4 +4,3 @@ pub mod Laws
 pub mod Outcomes
 pub mod Scopes
 pub mod Shapes
-pub mod Meanings
