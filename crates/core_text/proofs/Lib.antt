@@ -1,5 +1,7 @@
 pub mod ConstructorTexts
 pub mod Decimals
 mod Examples
+pub mod Feeds
 pub mod ProductTexts
+pub mod Sharing
 pub mod SpineTexts

@@ -1,4 +1,6 @@
 pub mod EntryText
+pub mod Heads
+pub mod Lines
 pub mod ProductParts
 pub mod SymbolNames
 pub mod TermText

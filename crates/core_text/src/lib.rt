@@ -2,11 +2,17 @@
 #![tactic(auto)]
 
 mod entry_printer;
+mod head;
+mod laws;
 mod names;
 mod numbers;
 mod spines;
+mod stop;
 mod telescopes;
 mod term_printer;
 
 pub use entry_printer::print_entry;
+pub use head::read_head;
+pub use laws::lines_are_apart;
+pub use stop::CoreTextStop;
 pub use term_printer::print_term;
