@@ -10,6 +10,7 @@ mod hypotheses;
 mod name_index;
 mod naming;
 mod positivity;
+mod prelude;
 mod raw;
 mod settling;
 mod signature;
