@@ -21,5 +21,6 @@ pub use entry::{Draft, Entry, Found};
 pub use family::{Arg, ArgKind, Constructor, Family};
 pub use positivity::strictly_positive;
 pub use raw::{MutualRaw, RawCon, RawFamily, RawMember};
+pub use settling::settle;
 pub use signature::Signature;
 pub use types::{con_type, family_type};
