@@ -7,5 +7,7 @@ pub mod Keeping
 pub mod Lookups
 pub mod MethodTypes
 pub mod NameLists
+pub mod NewNames
 pub mod PositiveFamilies
+pub mod PreludeEntries
 pub mod Telescoping

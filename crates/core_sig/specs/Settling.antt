@@ -2,9 +2,10 @@
 use Rattle.std.specs.Prelude.{ℕ, ◌-◌, nat_lt, if◌then◌else◌, List, map, Option, Some, None, option_and_then, slice_get}
 use Rattle.std.specs.Option.{option_map_or}
 use Rattle.theory.specs.Terms.{Term, Var, Sort, Pi, Lam, App, Let, Const, Fam, Con, Elim, AxiomK}
-use Rattle.theory.specs.Families as pure
 use Rattle.theory.specs.Signatures as signature
 use Rattle.core_sig.specs.Names.{find}
+use Rattle.core_sig.specs.declared.entry.Entry.{Entry as CodeEntry}
+use Rattle.core_sig.specs.declared.entry.Entry.TheVariants.{Family as FamilyEntry}
 use Rattle.core_sig.specs.declared.entry.Found.{Found}
 use Rattle.core_sig.specs.declared.entry.Found.TheVariants.{Entry, Con as FoundCon}
 
@@ -27,3 +28,13 @@ abbrev pub settled_number : signature.Signature → ℕ → List (List ℕ) → 
 settled_number S base names c =
     if nat_lt c base then c else
     option_map_or (λ n. n) (option_and_then entry_found (option_and_then (find S) (slice_get names (c - base)))) c
+
+-- an entry that is no family with its constants numbered anew
+abbrev pub renumbered_entry : (ℕ → ℕ) → signature.Entry → signature.Entry
+renumbered_entry r (signature.Definition name type body) = signature.Definition name (renumbered r type) (renumbered r body)
+renumbered_entry r e = e
+
+-- a draft is never that of a family
+abbrev pub IsNoFamily : CodeEntry → Type 0
+IsNoFamily (FamilyEntry f) = ⊥
+IsNoFamily e = Unit {0}

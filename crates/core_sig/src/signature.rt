@@ -1,4 +1,4 @@
-ghost use Rattle.std.specs.Prelude.{◌≡◌, ◌≢◌, ◌≤◌, None, length, take, map, slice_get, option_map, All, AllPairs, IfOk, OnOk, OnErr, IfSome};
+ghost use Rattle.std.specs.Prelude.{◌≡◌, ◌≢◌, ◌≤◌, None, [], length, take, map, slice_get, option_map, All, AllPairs, IfOk, OnOk, OnErr, IfSome};
 ghost use Rattle.std.specs.Option.{option_copied};
 ghost use Rattle.theory.specs.Signatures.{names_of};
 ghost use Rattle.theory.specs.WellFormed.{pushed, first_entries};
@@ -11,6 +11,7 @@ use crate::name_index::NameIndex;
 use crate::naming::{add_names, name_count, number_of};
 use crate::{Entry, Found};
 use core_terms::Stop;
+use std::alloc::Global;
 use std::marker::Model;
 
 /// The entries that terms name by their numbers, and whether axiom K is on. Contracts see the two alone.
@@ -39,6 +40,18 @@ impl Model for Signature {
 }
 
 impl Signature {
+    /// No entries; takes no memory.
+    pub(crate) fn new(alloc: Global, k: bool) -> Signature
+        ensures entries { result.entries ≡ [] }
+        ensures k { result.has_k ≡ k }
+    {
+        Signature {
+            entries: Vec::new(alloc),
+            k,
+            names: NameIndex::new(alloc),
+        }
+    }
+
     /// The number of entries.
     pub fn len(&self) -> u32
         ensures { result ≡ length self.now.entries }

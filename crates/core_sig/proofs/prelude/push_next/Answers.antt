@@ -1,0 +1,28 @@
+use Rattle.std.proofs.Common.{◌≡◌, ap, sym, ◌∙◌, length, get_or}
+use Rattle.theory.specs.Signatures.{FamilyOf, names_of}
+use Rattle.theory.specs.Prelude.{prelude}
+use Rattle.theory.specs.WellFormed.{pushed, first_entries}
+use Rattle.theory.proofs.PreludeWellFormed.{prelude_is_well_formed}
+use Rattle.core_sig.specs.Meanings.{family_of}
+use Rattle.core_sig.specs.Names.{find}
+use Rattle.core_sig.proofs.NewNames.{new-entry}
+use Rattle.core_sig.proofs.PreludeEntries.{first_entries-push}
+use Rattle.core_sig.proofs.prelude.push_next.Goals as goal
+
+pub push-requires-clause-unknown : goal.push-requires-clause-unknown
+push-requires-clause-unknown c = λ k d lt.
+    let S = c.args.sig.now in
+    let new = new-entry (prelude S.has_k) (length S.entries) (FamilyOf (family_of c.args.family)) (prelude_is_well_formed S.has_k).distinct c.requires.next in
+    ap (λ old. find old (get_or (names_of (FamilyOf (family_of c.args.family))) k d)) c.requires.so_far ∙ new.unknown k d lt
+
+pub push-requires-clause-distinct : goal.push-requires-clause-distinct
+push-requires-clause-distinct c =
+    let S = c.args.sig.now in
+    (new-entry (prelude S.has_k) (length S.entries) (FamilyOf (family_of c.args.family)) (prelude_is_well_formed S.has_k).distinct c.requires.next).distinct
+
+pub returns-clause-ok : goal.returns-clause-ok
+returns-clause-ok c =
+    let S = c.args.sig.now in
+    c.in_ok-push.ensures.ok
+    ∙ (ap (λ old. pushed old (FamilyOf (family_of c.args.family))) c.requires.so_far
+    ∙ first_entries-push (prelude S.has_k) (length S.entries) (FamilyOf (family_of c.args.family)) c.requires.next)
