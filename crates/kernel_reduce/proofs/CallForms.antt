@@ -1,19 +1,17 @@
 -- The hypotheses and the right side of iota in the form in which the code makes them.
-use Rattle.std.proofs.Common.{◌≡◌, ℕ, zero, suc, ◌+◌, ◌-◌, ◌<◌, ◌≤◌, min, Bool, true, false, cond, nat_lt, nat_le, Some, None, option_map, List, [], ◌∷◌, ◌++◌, length, get_or, take, drop, map, slice_get, refl, sym, ap, ap₂, ◌∙◌, subst as transport, arith}
+use Rattle.std.proofs.Common.{◌≡◌, ℕ, zero, suc, ◌+◌, ◌-◌, ◌<◌, ◌≤◌, min, Bool, true, false, cond, nat_lt, nat_le, List, [], ◌∷◌, ◌++◌, length, get_or, take, drop, map, refl, sym, ap, ap₂, ◌∙◌, subst as transport, arith}
 use mathlib.Core.Path.{fun_ext}
 use Rattle.std.proofs.lemmas.Bool.Decides.{nat_tests}
-use Rattle.std.proofs.lemmas.List.{length-append, length-take, length-drop, get_or-take, get_or-drop, map-append, length-map}
+use Rattle.std.proofs.lemmas.List.{length-append, length-drop, map-append, length-map}
 use Rattle.std.proofs.lemmas.List.Elements.{All-take}
 use Rattle.std.specs.List.{All}
-use Rattle.std.proofs.lemmas.Option.{slice_get-get_or}
-use Rattle.std.proofs.Math.Seq.{take-suc, drop-cons, take-add}
+use Rattle.std.proofs.Math.Seq.{take-suc, drop-cons}
 use Rattle.theory.specs.Terms.{Term, lift}
 use Rattle.theory.specs.Terms.Term.{Var, Sort, Pi, Lam, App, Let, Const, Fam, Con, Elim, AxiomK}
 use Rattle.theory.specs.Substitutions.{weaken, ups, inst, extend, fill}
 use Rattle.theory.specs.Telescopes.{applied, variables}
 use Rattle.theory.specs.Spines.{spine_of}
-use Rattle.theory.specs.Families.{Argument, Plain, Recursive, Constructor, Family}
-use Rattle.theory.specs.Eliminators.{hypothesis, hypotheses, no_variable, iota_right}
+use Rattle.theory.specs.Eliminators.{hypothesis, hypotheses, no_variable}
 use Rattle.theory.proofs.Commuting.{lift_by_none}
 use Rattle.core_terms.specs.Meanings.{tree_of, tele_of}
 use Rattle.core_terms.specs.declared.term.Term as code
@@ -23,7 +21,6 @@ use Rattle.core_sig.specs.declared.family.ArgKind.{ArgKind}
 use Rattle.core_sig.specs.declared.family.ArgKind.TheVariants as kind
 use Rattle.kernel_reduce.specs.Making.{under_binders, instance_of}
 use Rattle.kernel_reduce.specs.Calls.{call_of, recursive_call_of, hypothesis_of, hypothesis_before, hypotheses_of}
-use Rattle.kernel_reduce.specs.Steps.{method_applied}
 use Rattle.kernel_reduce.proofs.InstanceUnder.{weaken-lifted, ups-under, instance-is_inst, applied_snoc, value-at}
 
 drop-all : {A : Type 0} (xs : List A) (n : ℕ) → length xs ≤ n → drop n xs ≡ []

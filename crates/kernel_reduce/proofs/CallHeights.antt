@@ -1,5 +1,5 @@
 -- A spine is as high as its head.
-use Rattle.std.proofs.Common.{ℕ, ◌+◌, ◌≤◌, List, [], ◌∷◌, arith}
+use Rattle.std.proofs.Common.{◌≤◌, List, [], ◌∷◌, arith}
 use Rattle.theory.specs.Terms.{Term, height}
 use Rattle.theory.specs.Terms.Term.{App}
 use Rattle.theory.specs.Telescopes.{applied}

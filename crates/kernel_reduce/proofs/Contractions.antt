@@ -1,5 +1,5 @@
 -- What the code makes is the contraction.
-use Rattle.std.proofs.Common.{◌≡◌, ℕ, zero, suc, ◌+◌, ◌<◌, ◌≤◌, Bool, true, false, cond, ◌==◌, ◌&&◌, Option, Some, None, IfSome, option_and_then, option_map, Result, Ok, Err, List, [], ◌∷◌, ◌++◌, length, map, slice_get, refl, sym, ap, ap₂, ◌∙◌, subst as transport, arith}
+use Rattle.std.proofs.Common.{◌≡◌, ℕ, zero, suc, ◌+◌, ◌≤◌, true, false, ◌==◌, ◌&&◌, Some, None, IfSome, option_and_then, option_map, List, [], ◌∷◌, ◌++◌, length, map, slice_get, refl, sym, ap, ap₂, ◌∙◌, subst as transport, arith}
 use Rattle.std.proofs.lemmas.Bool.Decides.{Decides-eqb}
 use Rattle.std.proofs.lemmas.List.{length-append, length-map}
 use Rattle.std.proofs.lemmas.Option.{slice_get_within, slice_get-map, some_pair_parts, same_Some}
@@ -7,19 +7,15 @@ use Rattle.std.specs.List.{All}
 use Rattle.theory.proofs.Scopes.{free_of-applied}
 use Rattle.theory.proofs.Spines.{applied-spine}
 use Rattle.theory.specs.Terms.{Term, height, free_of}
-use Rattle.theory.specs.Terms.Term.{Var, Sort, Pi, Lam, App, Let, Const, Fam, Con, Elim, AxiomK}
+use Rattle.theory.specs.Terms.Term.{Var, App, Con, Elim, AxiomK}
 use Rattle.theory.specs.Spines.{head_of, spine_of}
-use Rattle.theory.specs.Families as pure
 use Rattle.theory.specs.Signatures.{Signature, equality}
 use Rattle.core_terms.specs.Meanings.{tree_of}
-use Rattle.core_terms.specs.declared.stop.Stop.{Stop}
-use Rattle.core_terms.specs.declared.term.Term as code
 use Rattle.core_sig.specs.Meanings.{argument_of, constructor_of, family_of}
 use Rattle.core_sig.specs.declared.family.Constructor.{Constructor}
 use Rattle.core_sig.specs.declared.family.Family.{Family}
 use Rattle.kernel_reduce.specs.Calls.{iota_made, HasAllArguments}
 use Rattle.kernel_reduce.specs.Entries.{family_at}
-use Rattle.kernel_reduce.specs.Making.{Makes}
 use Rattle.kernel_reduce.specs.Steps.{awaits_scrutinee, fills, iota_at, iota_step, k_step, contraction}
 use Rattle.kernel_reduce.specs.Tests.{constructor_takes, family_takes, meets, eliminator_numbers, constructor_number}
 use Rattle.kernel_reduce.proofs.IotaForms.{iota-made}

@@ -1,9 +1,9 @@
 -- Instantiation under binders, and spines with one argument more.
-use Rattle.std.proofs.Common.{◌≡◌, ◌≢◌, ℕ, zero, suc, ◌+◌, ◌-◌, ◌<◌, ◌≤◌, max, Bool, true, false, cond, nat_lt, nat_le, Result, Ok, Err, List, [], ◌∷◌, ◌++◌, length, get_or, map, refl, sym, ap, ap₂, ◌∙◌, subst as transport, arith}
+use Rattle.std.proofs.Common.{◌≡◌, ℕ, zero, suc, ◌+◌, ◌-◌, ◌<◌, ◌≤◌, Bool, true, false, cond, nat_lt, nat_le, Result, Ok, Err, List, [], ◌∷◌, ◌++◌, length, get_or, refl, sym, ap, ap₂, ◌∙◌, subst as transport, arith}
 use Rattle.std.proofs.lemmas.Bool.Decides.{nat_tests}
 use Rattle.std.proofs.lemmas.List.{length-map}
 use Rattle.theory.specs.Terms.{Term, lift, height}
-use Rattle.theory.specs.Terms.Term.{Var, Sort, Pi, Lam, App, Let, Const, Fam, Con, Elim, AxiomK}
+use Rattle.theory.specs.Terms.Term.{Var, Sort, Pi, Lam, App, Let}
 use Rattle.theory.specs.Substitutions.{weaken, ups, inst, extend, fill}
 use Rattle.theory.specs.Telescopes.{applied, variables}
 use Rattle.theory.specs.Eliminators.{no_variable}
@@ -14,9 +14,9 @@ use Rattle.theory.proofs.Spines.{applied-append}
 use Rattle.core_terms.specs.Answers.{Gives, bounded}
 use Rattle.core_terms.specs.Meanings.{tree_of, tele_of}
 use Rattle.core_terms.specs.declared.stop.Stop.{Stop}
-use Rattle.core_terms.specs.declared.stop.Stop.TheVariants.{Memory, Deep}
+use Rattle.core_terms.specs.declared.stop.Stop.TheVariants.{Deep}
 use Rattle.core_terms.specs.declared.term.Term as code
-use Rattle.kernel_reduce.specs.Making.{MakesUnder, Makes, under_binders, instance_of}
+use Rattle.kernel_reduce.specs.Making.{MakesUnder, under_binders, instance_of}
 
 pub weaken-lifted : (t : Term) (k : ℕ) → weaken (lift t k 0) ≡ lift t (k + 1) 0
 weaken-lifted t k = sym (lift-one (lift t k 0)) ∙ lift_merge t k 0 1 0 (omega arith) (omega arith)

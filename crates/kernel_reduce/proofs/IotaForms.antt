@@ -1,11 +1,11 @@
 -- The right side of iota in the form in which the code makes it.
-use Rattle.std.proofs.Common.{◌≡◌, ℕ, zero, suc, ◌+◌, ◌-◌, ◌<◌, ◌≤◌, Bool, true, false, cond, ◌==◌, ◌&&◌, Option, Some, None, IfSome, option_map, option_and_then, List, [], ◌∷◌, ◌++◌, length, get_or, take, drop, map, slice_get, refl, sym, ap, ap₂, ◌∙◌, subst as transport, arith}
+use Rattle.std.proofs.Common.{◌≡◌, ℕ, suc, ◌+◌, ◌<◌, ◌≤◌, cond, Some, None, option_map, List, ◌∷◌, ◌++◌, length, get_or, take, drop, map, sym, ap, ap₂, ◌∙◌, arith}
 use Rattle.std.proofs.lemmas.Bool.Decides.{Decides-eqb}
 use Rattle.std.proofs.lemmas.List.{length-append, length-take, length-drop, length-map, get_or-take, get_or-drop}
-use Rattle.std.proofs.lemmas.Option.{slice_get-get_or, slice_get-map, slice_get_within}
+use Rattle.std.proofs.lemmas.Option.{slice_get-get_or}
 use Rattle.std.proofs.Math.Seq.{drop-cons, take-add, take-append_seam, drop-append_seam}
 use Rattle.theory.specs.Terms.{Term}
-use Rattle.theory.specs.Terms.Term.{Sort, Elim, Con}
+use Rattle.theory.specs.Terms.Term.{Sort, Elim}
 use Rattle.theory.specs.Substitutions.{fill}
 use Rattle.theory.specs.Telescopes.{applied}
 use Rattle.theory.specs.Families.{Family, Constructor}

@@ -10,6 +10,7 @@ pub mod IotaForms
 pub mod Meant
 pub mod ReductionLaws
 pub mod ScopedReduction
+pub mod ScopedSignatures
 pub mod SpineLengths
 pub mod StepLaws
 pub mod StepTests

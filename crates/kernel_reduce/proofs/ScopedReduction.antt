@@ -4,17 +4,16 @@ use Rattle.std.proofs.lemmas.List.Elements.{All-head, All-tail, All-take, All-dr
 use Rattle.std.specs.List.{All}
 use Rattle.theory.specs.Terms.{Term}
 use Rattle.theory.specs.Terms.Term.{Var, Pi, Lam, App, Let, Const, Con, Elim, AxiomK}
-use Rattle.theory.specs.Telescopes.{applied}
 use Rattle.theory.specs.Spines.{head_of, spine_of}
 use Rattle.theory.specs.Families.{Family, Constructor}
 use Rattle.theory.specs.Signatures.{Signature, FamilyOf, IsEntryAt, equality}
 use Rattle.theory.specs.SignatureScopes.{IsScoped, IsScopedSignature}
-use Rattle.theory.proofs.ScopedTerms.{scoped-pi, scoped-lam, scoped-app, scoped-let, pi-scoped, lam-scoped, app-scoped, scoped_over_more, subst-scoped, applied-scoped, head-scoped, spine-scoped}
+use Rattle.theory.proofs.ScopedTerms.{scoped-pi, scoped-lam, scoped-app, scoped-let, pi-scoped, lam-scoped, app-scoped, scoped_over_more, subst-scoped, spine-scoped}
 use Rattle.theory.proofs.ScopedEntries.{All-at, bodies-scoped, iota-scoped}
 use Rattle.core_terms.specs.Answers.{Spent}
 use Rattle.kernel_reduce.specs.Entries.{body_at, family_at}
-use Rattle.kernel_reduce.specs.Steps.{beta_step, awaits_scrutinee, method_applied, iota_at, iota_step, k_step, contraction, scrutinee_step, elimination_step, first_of, application_step, step_of}
-use Rattle.kernel_reduce.specs.Reduction.{is_low, step_taken, head_step_of, with_unit, without_units, whnf_of, with_children, normal_children, normal_of}
+use Rattle.kernel_reduce.specs.Steps.{beta_step, awaits_scrutinee, method_applied, iota_step, k_step, contraction, scrutinee_step, elimination_step, application_step, step_of}
+use Rattle.kernel_reduce.specs.Reduction.{is_low, step_taken, with_unit, without_units, whnf_of, with_children, normal_children, normal_of}
 use Rattle.kernel_reduce.specs.Laws.{StepScoped, HeadStepScoped, WhnfScoped, NormalScoped}
 use Rattle.kernel_reduce.proofs.Answers.{Answers, and_then-has, charge-has, if_low-has, bounded-has}
 use Rattle.kernel_reduce.proofs.ReductionLaws.{some_bounded-has}

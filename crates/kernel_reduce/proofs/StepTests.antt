@@ -1,10 +1,10 @@
 -- Whether there is a step, told by tests on heads and on numbers of arguments.
-use Rattle.std.proofs.Common.{◌≡◌, ℕ, ◌+◌, ◌<◌, ◌≤◌, min, Bool, true, false, cond, ◌&&◌, ◌||◌, ◌==◌, nat_eq, Option, Some, None, is_some, IfSome, option_map, option_and_then, List, [], ◌∷◌, length, take, drop, slice_get, refl, sym, ap, ap₂, ◌∙◌, subst as transport, arith}
+use Rattle.std.proofs.Common.{◌≡◌, ℕ, ◌+◌, ◌<◌, ◌≤◌, min, Bool, true, false, cond, ◌&&◌, ◌||◌, ◌==◌, nat_eq, Option, Some, None, is_some, IfSome, option_and_then, List, [], ◌∷◌, length, take, drop, slice_get, refl, sym, ap, ap₂, ◌∙◌, subst as transport, arith}
 use Rattle.std.proofs.lemmas.Bool.Decides.{Decides-eqb}
 use Rattle.std.proofs.lemmas.List.{length-take, length-drop}
 use Rattle.std.proofs.lemmas.Option.{slice_get_within, slice_get-get_or}
 use Rattle.theory.specs.Terms.{Term, height}
-use Rattle.theory.specs.Terms.Term.{Var, Sort, Pi, Lam, App, Let, Const, Fam, Con, Elim, AxiomK}
+use Rattle.theory.specs.Terms.Term.{Var, Sort, Lam, App, Con, Elim, AxiomK}
 use Rattle.theory.specs.Spines.{head_of, spine_of}
 use Rattle.theory.specs.Families.{Family, Constructor}
 use Rattle.theory.specs.Signatures.{Signature, equality}

@@ -4,5 +4,6 @@ pub mod Entries
 pub mod Laws
 pub mod Making
 pub mod Reduction
+pub mod SignatureLaws
 pub mod Steps
 pub mod Tests

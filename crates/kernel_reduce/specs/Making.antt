@@ -1,5 +1,5 @@
 -- How a term that is made is tied to the one that is meant, and instantiation in the form in which the code makes it.
-use Rattle.std.specs.Prelude.{◌≡◌, ◌≢◌, ℕ, ◌+◌, ◌-◌, ◌<◌, nat_lt, cond, List, length, Result, Ok, Err}
+use Rattle.std.specs.Prelude.{◌≡◌, ◌≢◌, ℕ, ◌+◌, ◌-◌, ◌<◌, nat_lt, cond, List, Result, Ok, Err}
 use Rattle.theory.specs.Terms.{Term, Var, Sort, Pi, Lam, App, Let, Const, Fam, Con, Elim, AxiomK, lift, height}
 use Rattle.theory.specs.Substitutions.{fill}
 use Rattle.theory.specs.Eliminators.{no_variable}

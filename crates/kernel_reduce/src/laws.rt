@@ -1,4 +1,5 @@
 //! What reduction and comparison mean in the theory.
+ghost use Rattle.kernel_reduce.specs.SignatureLaws.{PreludeScoped, PushedScoped, FirstEntriesScoped};
 ghost use Rattle.kernel_reduce.specs.Laws.{HeadStepIsStep, WhnfIsHeadForm, NormalConverts, ConvertibleConverts, SubtypeIsBelow, HeadStepSpends, WhnfSpends, NormalSpends, ConvertibleSpends, SubtypeSpends, StepScoped, HeadStepScoped, WhnfScoped, NormalScoped};
 
 /// A head step is a step of the theory.
@@ -69,4 +70,19 @@ pub fn whnf_scoped()
 /// Normalisation keeps terms scoped.
 pub fn normal_scoped()
     ensures { NormalScoped }
+{}
+
+/// The prelude is scoped.
+pub fn prelude_scoped()
+    ensures { PreludeScoped }
+{}
+
+/// A scoped signature without a provisional entry is scoped with one scoped entry more.
+pub fn pushed_scoped()
+    ensures { PushedScoped }
+{}
+
+/// The first entries of a scoped signature are scoped.
+pub fn first_entries_scoped()
+    ensures { FirstEntriesScoped }
 {}

@@ -1,5 +1,4 @@
 use Rattle.core_terms.specs.Meanings.{tree_of}
-use Rattle.kernel_reduce.specs.Making.{Makes}
 use Rattle.kernel_reduce.proofs.Contractions.{contraction-last}
 use Rattle.kernel_reduce.proofs.contracting.contract.Goals as goal
 

@@ -1,4 +1,3 @@
-use Rattle.core_terms.specs.Meanings.{tree_of}
 use Rattle.theory.specs.Terms.{Sort}
 use Rattle.kernel_reduce.proofs.CallForms.{value-there}
 use Rattle.kernel_reduce.proofs.InstanceUnder.{makes-bounded}

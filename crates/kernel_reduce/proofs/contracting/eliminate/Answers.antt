@@ -1,4 +1,4 @@
-use Rattle.std.proofs.Common.{◌≡◌, sym, ap, ◌∙◌, subst₂}
+use Rattle.std.proofs.Common.{sym, ap, ◌∙◌}
 use Rattle.core_terms.specs.Meanings.{tree_of, tele_of}
 use Rattle.kernel_reduce.specs.Making.{Makes}
 use Rattle.kernel_reduce.proofs.Contractions.{has-all, contraction-of_spines, spine-free}

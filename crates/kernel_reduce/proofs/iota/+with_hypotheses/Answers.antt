@@ -1,4 +1,4 @@
-use Rattle.std.proofs.Common.{length, take, drop, ◌-◌, ◌≤◌, ◌+◌, ◌≡◌, ◌<◌, arith}
+use Rattle.std.proofs.Common.{length, drop, ◌-◌, arith}
 use Rattle.std.proofs.lemmas.List.{length-take, length-drop}
 use Rattle.kernel_reduce.proofs.iota.+with_hypotheses.Goals as goal
 

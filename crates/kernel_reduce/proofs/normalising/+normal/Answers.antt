@@ -1,4 +1,4 @@
-use Rattle.std.proofs.Common.{◌≡◌, ◌≤◌, ◌<◌, ◌+◌, ◌-◌, arith}
+use Rattle.std.proofs.Common.{◌-◌, arith}
 use Rattle.core_terms.specs.Meanings.{tree_of}
 use Rattle.theory.specs.SignatureScopes.{IsScoped}
 use Rattle.theory.proofs.ScopedTerms.{scoped_over_more}

@@ -1,4 +1,4 @@
-use Rattle.std.proofs.Common.{◌≡◌, ◌≤◌, ◌<◌, ◌+◌, ◌-◌, true, arith}
+use Rattle.std.proofs.Common.{◌-◌, true, arith}
 use Rattle.core_terms.specs.Meanings.{tree_of}
 use Rattle.theory.specs.SignatureScopes.{IsScoped}
 use Rattle.kernel_reduce.proofs.Meant.{meant-has}
