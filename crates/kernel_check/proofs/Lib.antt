@@ -1,7 +1,11 @@
+pub mod Conditions
+pub mod Contexts
 mod Examples
 pub mod Soundness
 pub mod Scoped
 pub mod Sorts
 pub mod Spending
 pub mod SymbolTypes
-pub mod Verdicts
+pub mod FamilyScopes
+pub mod Instances
+pub mod Parts

@@ -1,9 +1,9 @@
 -- What the checker answers is scoped.
-use Rattle.std.proofs.Common.{◌≡◌, ℕ, ◌+◌, zero, suc, Bool, true, false, cond, nat_lt, Option, Some, None, IfSome, Ok, Err, Result, IfOk, [], ◌∷◌, ◌++◌, length, reverse, slice_get, refl, sym, ap, ◌∙◌, append_assoc, append-nil, max, subst as transport, arith}
-use Rattle.std.proofs.lemmas.List.{reverse-reverse, length-reverse, reverse-append}
+use Rattle.std.proofs.Common.{◌≡◌, ℕ, ◌+◌, zero, suc, Bool, true, false, cond, nat_lt, Option, Some, None, IfSome, Ok, Err, Result, IfOk, [], ◌∷◌, length, reverse, slice_get, refl, sym, max, subst as transport, arith}
+use Rattle.std.proofs.lemmas.List.{length-reverse}
 use Rattle.theory.specs.Terms.{Term, lift, subst, top}
 use Rattle.theory.specs.Terms.Term.{Var, Sort, Pi, Lam, App, Let, Const}
-use Rattle.theory.specs.Telescopes.{Context, Telescope, context_behind}
+use Rattle.theory.specs.Telescopes.{Context}
 use Rattle.theory.specs.Signatures.{Signature, TypeOf}
 use Rattle.theory.specs.SignatureScopes.{IsScoped, IsScopedContext, IsScopedSignature}
 use Rattle.theory.proofs.Lists.{some_is}
@@ -19,27 +19,20 @@ use Rattle.kernel_reduce.specs.Comparison.{subtype_of}
 use Rattle.kernel_reduce.proofs.Answers.{Answers, and_then-has, charge-has, if_low-has, bounded-has}
 use Rattle.kernel_reduce.proofs.ScopedReduction.{whnf-scoped}
 use Rattle.kernel_check.specs.Symbols.{symbol_type}
-use Rattle.kernel_check.specs.Checking.{Asks, Checks, typed as of_type, denied, if_typed, behind, variable_type, universe_type, greater_sort, infer_product, is_top, function_type, infer_function, reduced_product, product_of, apply_product, infer_application, infer_body, infer_local, given_type, infer_form, sort_of, compared, infer_of, infer_sort_of, check_of}
+use Rattle.kernel_check.specs.Checking.{Asks, Checks, typed as of_type, denied, if_typed, behind, variable_type, universe_type, greater_sort, infer_product, is_top, function_type, infer_function, reduced_product, product_of, apply_product, infer_application, infer_body, infer_local, given_type, leaf_type, infer_form, sort_of, compared, infer_of, infer_sort_of, check_of}
 use Rattle.kernel_check.specs.Laws.{IsScopedReason, IsScopedDenial, IsScopedVerdict, InferScoped, InferSortScoped, CheckScoped}
+use Rattle.kernel_check.proofs.Contexts.{context_back}
 use Rattle.kernel_check.proofs.SymbolTypes.{symbol-type_of}
-use Rattle.kernel_check.proofs.Verdicts.{Splits, typed-splits, if_typed-splits, behind-splits, child-splits}
-
-context-behind : (G : Context) (tele : Telescope) → context_behind G tele ≡ reverse tele ++ G
-context-behind G [] = refl
-context-behind G (a ∷ tele) =
-    context-behind (a ∷ G) tele ∙ (sym (append_assoc (reverse tele) (a ∷ []) G) ∙ ap (λ xs. xs ++ G) (sym (reverse-append (a ∷ []) tele)))
-
-context-back : (G : Context) → context_behind [] (reverse G) ≡ G
-context-back G = context-behind [] (reverse G) ∙ (append-nil (reverse (reverse G)) ∙ reverse-reverse G)
+use Rattle.kernel_check.proofs.Parts.{Splits, typed-splits, if_typed-splits, behind-splits, child-splits}
 
 denied-scoped : (S : Signature) (G : Context) (reason : Reason) → IsScopedContext S G → IsScopedReason S (length G) reason
     → IsScopedDenial S (record { place = []; ctx = reverse G; reason = reason })
 denied-scoped S G reason ctx h = (
-  (context-scoped S (reverse G)).1 (transport (IsScopedContext S) (sym (context-back G)) ctx),
+  (context-scoped S (reverse G)).1 (transport (IsScopedContext S) (sym (context_back G)) ctx),
   transport (λ n. IsScopedReason S n reason) (sym (length-reverse G)) h,
 )
 
-under-binder : {S : Signature} (G : Context) (a : Term) {b : Term} → IsScoped S (length G + 1) b → IsScoped S (length (a ∷ G)) b
+pub under-binder : {S : Signature} (G : Context) (a : Term) {b : Term} → IsScoped S (length G + 1) b → IsScoped S (length (a ∷ G)) b
 under-binder {S} G a {b} h = let e : length G + 1 ≡ length (a ∷ G) = omega arith in transport (λ n. IsScoped S n b) e h
 
 any-answer : (r : Result Bool Stop) → IfOk r (λ holds. Unit {0})
@@ -70,7 +63,7 @@ CheckingScopes S check =
     → Scopes S (length G) (check G t wanted left)
 
 -- a type of a scoped context is scoped over the variables behind it
-declared-scoped : (S : Signature) (G : Context) (n : ℕ) (a : Term) → IsScopedContext S G → slice_get G n ≡ Some a
+pub declared-scoped : (S : Signature) (G : Context) (n : ℕ) (a : Term) → IsScopedContext S G → slice_get G n ≡ Some a
     → (k : ℕ) × (k + (n + 1) ≡ length G) × IsScoped S k a
 declared-scoped S [] n a ctx e = absurd (grind arith)
 declared-scoped S (b ∷ G) zero a ctx e = (length G, omega arith, transport (IsScoped S (length G)) (some_is e) ctx.0)
@@ -193,17 +186,21 @@ symbol-scopes S scoped G s (Some a) h ctx =
     of_type-scopes S (length G) a (scoped_over_more S 0 (length G) a (omega arith) (types-scoped S s a scoped h))
 symbol-scopes S scoped G s None h ctx = denied-scoped S G NoSuchInstance ctx tt
 
+leaf-scopes : (S : Signature) → IsScopedSignature S → (G : Context) (t : Term) → IsScopedContext S G → ScopesOk S (length G) (leaf_type S G t)
+leaf-scopes S scoped G (Var n) ctx = variable-scopes S G n (slice_get G n) refl ctx
+leaf-scopes S scoped G (Sort i) ctx = universe-scopes S G i ctx
+leaf-scopes S scoped G (Const n) ctx = symbol-scopes S scoped G (Const n) (symbol_type S (Const n)) (symbol-type_of S (Const n)) ctx
+leaf-scopes S scoped G s ctx = symbol-scopes S scoped G s (symbol_type S s) (symbol-type_of S s) ctx
+
 form-scopes : (S : Signature) → IsScopedSignature S → (infer infer_sort : Asks) (check : Checks) → AskScopes S infer → AskScopes S infer_sort → CheckingScopes S check
     → AskScopes S (infer_form S infer infer_sort check)
 unfolding AskScopes
-form-scopes S scoped infer infer_sort check h k l G (Var n) left ctx ht = variable-scopes S G n (slice_get G n) refl ctx
-form-scopes S scoped infer infer_sort check h k l G (Sort i) left ctx ht = universe-scopes S G i ctx
 form-scopes S scoped infer infer_sort check h k l G (Pi a b) left ctx ht = product-scopes S infer_sort k G a b left ctx ht
 form-scopes S scoped infer infer_sort check h k l G (Lam a b) left ctx ht = function-scopes S infer infer_sort h k G a b left ctx ht
 form-scopes S scoped infer infer_sort check h k l G (App f u) left ctx ht = application-scopes S scoped infer infer_sort check h k l G f u left ctx ht
 form-scopes S scoped infer infer_sort check h k l G (Let a t b) left ctx ht = local-scopes S infer infer_sort check h k l G a t b left ctx ht
-form-scopes S scoped infer infer_sort check h k l G (Const n) left ctx ht = symbol-scopes S scoped G (Const n) (symbol_type S (Const n)) (symbol-type_of S (Const n)) ctx
-form-scopes S scoped infer infer_sort check h k l G s left ctx ht = symbol-scopes S scoped G s (symbol_type S s) (symbol-type_of S s) ctx
+form-scopes S scoped infer infer_sort check h k l G (Var n) left ctx ht = leaf-scopes S scoped G (Var n) ctx
+form-scopes S scoped infer infer_sort check h k l G t left ctx ht = leaf-scopes S scoped G t ctx
 
 sort_of-scopes : (S : Signature) (G : Context) (c : Term) → IsScopedContext S G → IsScoped S (length G) c → ScopesOk S (length G) (sort_of G c)
 sort_of-scopes S G (Sort i) ctx hc = hc
@@ -262,3 +259,9 @@ pub check-scoped : CheckScoped
 unfolding CheckingScopes
 check-scoped S room G t wanted left scoped ctx ht hw =
     verdict-scoped S (length G) (check_of S room G t wanted left).0 (check-scopes S scoped room G t wanted left ctx ht hw)
+
+pub product_of-scoped : (S : Signature) (room : ℕ) (G : Context) (c : Term) (left : ℕ) → IsScopedSignature S → IsScopedContext S G → IsScoped S (length G) c
+    → IfOk (product_of S (infer_sort_of S room) G c left).0 (IsScopedVerdict S (length G))
+product_of-scoped S room G c left scoped ctx hc =
+    verdict-scoped S (length G) (product_of S (infer_sort_of S room) G c left).0
+    (product_of-scopes S scoped (infer_sort_of S room) (infer_sort-scopes S scoped room) G c left ctx hc)

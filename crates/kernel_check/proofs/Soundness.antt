@@ -28,11 +28,11 @@ use Rattle.kernel_reduce.proofs.Answers.{Answers, and_then-has, charge-has, if_l
 use Rattle.kernel_reduce.proofs.ReductionLaws.{whnf-is_head_form}
 use Rattle.kernel_reduce.proofs.ComparisonLaws.{subtype-is_below}
 use Rattle.kernel_check.specs.Symbols.{symbol_type}
-use Rattle.kernel_check.specs.Checking.{Asks, Checks, typed as of_type, denied, if_typed, behind, variable_type, universe_type, greater_sort, infer_product, is_top, function_type, infer_function, reduced_product, product_of, apply_product, infer_application, infer_body, infer_local, given_type, infer_form, sort_of, compared, infer_of, infer_sort_of, check_of}
+use Rattle.kernel_check.specs.Checking.{Asks, Checks, typed as of_type, denied, if_typed, behind, variable_type, universe_type, greater_sort, infer_product, is_top, function_type, infer_function, reduced_product, product_of, apply_product, infer_application, infer_body, infer_local, given_type, leaf_type, infer_form, sort_of, compared, infer_of, infer_sort_of, check_of}
 use Rattle.kernel_check.specs.Laws.{IfYes, HasType, HasUniverse, HasWanted, InferIsSound, InferSortIsSound, CheckIsSound}
 use Rattle.kernel_check.proofs.Sorts.{whnf-sorts}
 use Rattle.kernel_check.proofs.SymbolTypes.{symbol-type_of}
-use Rattle.kernel_check.proofs.Verdicts.{Splits, typed-splits, if_typed-splits, behind-splits, child-splits}
+use Rattle.kernel_check.proofs.Parts.{Splits, typed-splits, if_typed-splits, behind-splits, child-splits}
 
 NoClaim : Denial → Type 0
 NoClaim denial = Unit {0}
@@ -213,16 +213,20 @@ symbol-sound S typed G s (Some a) h ctx =
     (has_type typed (symbol ctx h) (sorts_raised a top (top + 1) (omega arith) (sorts_of_symbol_type S typed s a h)))
 symbol-sound S typed G s None h ctx = tt
 
+leaf-sound : (S : Signature) → IsTyped S → (G : Context) (t : Term) → IsContext S G → IfOk (leaf_type S G t) (Splits (HasType S G t) NoClaim)
+leaf-sound S typed G (Var n) ctx = variable-sound S typed G n (slice_get G n) refl ctx
+leaf-sound S typed G (Sort i) ctx = universe-sound S typed G i ctx
+leaf-sound S typed G (Const n) ctx = symbol-sound S typed G (Const n) (symbol_type S (Const n)) (symbol-type_of S (Const n)) ctx
+leaf-sound S typed G s ctx = symbol-sound S typed G s (symbol_type S s) (symbol-type_of S s) ctx
+
 form-sound : (S : Signature) → IsTyped S → (infer infer_sort : Asks) (check : Checks) → AskIsSound S infer → SortIsSound S infer_sort → CheckingIsSound S check
     → AskIsSound S (infer_form S infer infer_sort check)
-form-sound S typed infer infer_sort check h k l G (Var n) left ctx = variable-sound S typed G n (slice_get G n) refl ctx
-form-sound S typed infer infer_sort check h k l G (Sort i) left ctx = universe-sound S typed G i ctx
 form-sound S typed infer infer_sort check h k l G (Pi a b) left ctx = product-sound S typed infer_sort k G a b left ctx
 form-sound S typed infer infer_sort check h k l G (Lam a b) left ctx = function-sound S typed infer infer_sort h k G a b left ctx
 form-sound S typed infer infer_sort check h k l G (App f u) left ctx = application-sound S typed infer infer_sort check h k l G f u left ctx
 form-sound S typed infer infer_sort check h k l G (Let a t b) left ctx = local-sound S typed infer infer_sort check h k l G a t b left ctx
-form-sound S typed infer infer_sort check h k l G (Const n) left ctx = symbol-sound S typed G (Const n) (symbol_type S (Const n)) (symbol-type_of S (Const n)) ctx
-form-sound S typed infer infer_sort check h k l G s left ctx = symbol-sound S typed G s (symbol_type S s) (symbol-type_of S s) ctx
+form-sound S typed infer infer_sort check h k l G (Var n) left ctx = leaf-sound S typed G (Var n) ctx
+form-sound S typed infer infer_sort check h k l G t left ctx = leaf-sound S typed G t ctx
 
 sort_of-sound : (S : Signature) (G : Context) (t c d : Term) → Has S G t c → Converts S c d → SortsBelow (top + 1) d
     → IfOk (sort_of G d) (Splits (HasUniverse S G t) NoClaim)

@@ -13,7 +13,7 @@ use Rattle.kernel_reduce.proofs.ReductionLaws.{whnf-spends}
 use Rattle.kernel_reduce.proofs.ComparisonLaws.{subtype-spends}
 use Rattle.kernel_check.specs.Checking.{Asks, Checks, infer_product, infer_function, reduced_product, product_of, apply_product, infer_application, infer_body, infer_local, infer_form, infer_of, infer_sort_of, check_of}
 use Rattle.kernel_check.specs.Laws.{InferSpends, InferSortSpends, CheckSpends}
-use Rattle.kernel_check.proofs.Verdicts.{if_typed-spends, behind-spends, child-spends}
+use Rattle.kernel_check.proofs.Parts.{if_typed-spends, behind-spends, child-spends}
 
 abbrev AskSpends : Asks → Type 0
 AskSpends ask = (G : Context) (t : Term) (left : ℕ) → (ask G t left).1 ≤ left

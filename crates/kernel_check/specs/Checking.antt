@@ -6,7 +6,7 @@ use Rattle.theory.specs.Terms.{Term, Var, Sort, Pi, Lam, App, Let, lift, subst, 
 use Rattle.theory.specs.Telescopes.{Context}
 use Rattle.theory.specs.Signatures.{Signature}
 use Rattle.core_terms.specs.Answers.{Spent, bounded}
-use Rattle.core_terms.specs.Verdicts.{Reason, Mismatch, NotAProduct, NotASort, NoSuchInstance, LevelTooHigh, Verdict, Yes, No}
+use Rattle.core_terms.specs.Verdicts.{Denial, Reason, Mismatch, NotAProduct, NotASort, NoSuchInstance, LevelTooHigh, Verdict, Yes, No}
 use Rattle.core_terms.specs.declared.stop.Stop.{Stop}
 use Rattle.core_terms.specs.declared.stop.Stop.TheVariants.{Deep}
 use Rattle.kernel_reduce.specs.Reduction.{answered, and_then, charge, if_low, is_low, whnf_of}
@@ -42,9 +42,12 @@ abbrev pub if_typed : Spent Verdict → (Term → ℕ → Spent Verdict) → Spe
 if_typed first go = and_then first (λ verdict left. on_verdict verdict left go)
 
 -- what is denied in a child has its place behind the number of the child
+abbrev pub denial_behind : ℕ → Denial → Denial
+denial_behind child denial = record denial { place = child ∷ denial.place }
+
 abbrev pub verdict_behind : ℕ → Verdict → Verdict
 verdict_behind child (Yes type) = Yes type
-verdict_behind child (No denial) = No (record denial { place = child ∷ denial.place })
+verdict_behind child (No denial) = No (denial_behind child denial)
 
 abbrev pub behind : ℕ → Spent Verdict → Spent Verdict
 behind child asked = and_then asked (λ verdict left. answered (Ok (verdict_behind child verdict)) left)
@@ -117,15 +120,19 @@ abbrev pub given_type : Context → Option Term → Result Verdict Stop
 given_type G (Some type) = typed type
 given_type G None = denied G NoSuchInstance
 
+-- the type of a variable, a sort or a symbol
+abbrev pub leaf_type : Signature → Context → Term → Result Verdict Stop
+leaf_type S G (Var n) = variable_type G n (slice_get G n)
+leaf_type S G (Sort i) = universe_type G i
+leaf_type S G symbol = given_type G (symbol_type S symbol)
+
 -- the type of a term by its form, once a unit is spent
 abbrev pub infer_form : Signature → Asks → Asks → Checks → Context → Term → ℕ → Spent Verdict
-infer_form S infer infer_sort check G (Var n) left = answered (variable_type G n (slice_get G n)) left
-infer_form S infer infer_sort check G (Sort i) left = answered (universe_type G i) left
 infer_form S infer infer_sort check G (Pi a b) left = infer_product infer_sort G a b left
 infer_form S infer infer_sort check G (Lam a b) left = infer_function infer infer_sort G a b left
 infer_form S infer infer_sort check G (App f u) left = infer_application S infer infer_sort check G f u left
 infer_form S infer infer_sort check G (Let a t b) left = infer_local infer infer_sort check G a t b left
-infer_form S infer infer_sort check G symbol left = answered (given_type G (symbol_type S symbol)) left
+infer_form S infer infer_sort check G leaf left = answered (leaf_type S G leaf) left
 
 -- the reduced type of a term that is to have a sort
 abbrev pub sort_of : Context → Term → Result Verdict Stop

@@ -21,6 +21,11 @@ abbrev pub is_axiom_k : ℕ → ℕ → Entry → Bool
 is_axiom_k i m (AxiomKAt j l) = (j == i) && (l == m)
 is_axiom_k i m _ = false
 
+-- an entry is there and passes the test
+abbrev pub passes : (Entry → Bool) → Option Entry → Bool
+passes test (Some e) = test e
+passes test None = false
+
 -- the type of a constant, family, constructor, eliminator or K, or None where the signature lacks it
 abbrev pub symbol_type : Signature → Term → Option Term
 symbol_type S (Const n) = option_and_then type_in (slice_get S.entries n)

@@ -1,4 +1,13 @@
 //! The checker of terms, with units.
 #![tactic(auto)]
 
+mod axiom_k;
+mod checking;
 pub mod laws;
+mod leaf;
+mod scope;
+mod symbols;
+mod typing;
+mod verdicts;
+
+pub use typing::{check, infer, infer_sort};

@@ -120,3 +120,24 @@ pub fn subtype(
 {
     order(alloc, sig, a, b, NESTING, units)
 }
+
+/// As `subtype`, where only `room` calls may be open, for a caller whose own open calls count.
+pub fn subtype_within(
+    alloc: Global,
+    sig: &Signature,
+    a: &Term,
+    b: &Term,
+    room: u32,
+    units: &mut Units,
+) -> Result<bool, Stop>
+    requires room { room ≤ 2000 }
+    requires signature { IsScopedSignature sig.now }
+    requires a { IsScoped sig.now most_variables (tree_of a.now) }
+    requires b { IsScoped sig.now most_variables (tree_of b.now) }
+    requires units { units.old.left + units.old.spent < 2 ^ 64 }
+    ensures answer { Runs (λ holds. holds) result units.new.left (subtype_of sig.now room (tree_of a.now) (tree_of b.now) units.old.left) }
+    ensures sum { units.new.left + units.new.spent ≡ units.old.left + units.old.spent }
+    ensures sound { IfOk result (λ holds. IsTrue holds → Below sig.now (tree_of a.now) (tree_of b.now)) }
+{
+    order(alloc, sig, a, b, room, units)
+}

@@ -16,4 +16,4 @@ mod spine;
 mod stepping;
 mod testing;
 
-pub use calls::{convertible, head_step, normal, subtype, whnf};
+pub use calls::{convertible, head_step, normal, subtype, subtype_within, whnf};

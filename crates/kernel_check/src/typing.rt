@@ -1,0 +1,89 @@
+ghost use Rattle.std.specs.Prelude.{◌≡◌, ◌<◌, ◌+◌, [], length, IfOk};
+ghost use Rattle.theory.specs.Telescopes.{context_behind};
+ghost use Rattle.theory.specs.SignatureScopes.{IsScoped, IsScopedSignature, IsScopedTelescope};
+ghost use Rattle.theory.specs.Typing.{IsContext, IsType};
+ghost use Rattle.theory.specs.WellFormed.{IsTyped};
+ghost use Rattle.core_terms.specs.Answers.{Runs};
+ghost use Rattle.core_terms.specs.Meanings.{tree_of, tele_of, verdict_of};
+ghost use Rattle.kernel_reduce.specs.Reduction.{nesting};
+ghost use Rattle.kernel_check.specs.Checking.{infer_of, infer_sort_of, check_of};
+ghost use Rattle.kernel_check.specs.Laws.{HasType, HasUniverse, HasWanted, IfYes, IsScopedVerdict};
+
+use crate::checking::{check_in, infer_in, infer_sort_in};
+use crate::scope::Scope;
+use core_sig::Signature;
+use core_terms::{Stop, Tele, Term, Units, Verdict};
+use std::alloc::Global;
+
+/// How many calls may be open at once.
+const NESTING: u32 = 2000;
+
+/// A type of the term in the context, which lists its types from the outermost on.
+pub fn infer(
+    alloc: Global,
+    sig: &Signature,
+    ctx: &Tele,
+    t: &Term,
+    units: &mut Units,
+) -> Result<Verdict, Stop>
+    requires signature { IsScopedSignature sig.now }
+    requires context { IsScopedTelescope sig.now 0 (tele_of ctx.now) }
+    requires term { IsScoped sig.now (length ctx.now) (tree_of t.now) }
+    requires few { length ctx.now < 2147483648 }
+    ensures answer { Runs verdict_of result units.new.left (infer_of sig.now nesting (context_behind [] (tele_of ctx.now)) (tree_of t.now) units.old.left) }
+    ensures sum { units.new.left + units.new.spent ≡ units.old.left + units.old.spent }
+    ensures sound { IsTyped sig.now → IsContext sig.now (context_behind [] (tele_of ctx.now)) → IfOk result (λ v. IfYes (verdict_of v) (HasType sig.now (context_behind [] (tele_of ctx.now)) (tree_of t.now))) }
+    ensures scoped { IfOk result (λ v. IsScopedVerdict sig.now (length ctx.now) (verdict_of v)) }
+{
+    infer_in(alloc, sig, &Scope::Given(ctx.as_slice()), t, NESTING, units)
+}
+
+/// The sort of the type `t` in the context. A Yes holds a sort.
+pub fn infer_sort(
+    alloc: Global,
+    sig: &Signature,
+    ctx: &Tele,
+    t: &Term,
+    units: &mut Units,
+) -> Result<Verdict, Stop>
+    requires signature { IsScopedSignature sig.now }
+    requires context { IsScopedTelescope sig.now 0 (tele_of ctx.now) }
+    requires term { IsScoped sig.now (length ctx.now) (tree_of t.now) }
+    requires few { length ctx.now < 2147483648 }
+    ensures answer { Runs verdict_of result units.new.left (infer_sort_of sig.now nesting (context_behind [] (tele_of ctx.now)) (tree_of t.now) units.old.left) }
+    ensures sum { units.new.left + units.new.spent ≡ units.old.left + units.old.spent }
+    ensures sound { IsTyped sig.now → IsContext sig.now (context_behind [] (tele_of ctx.now)) → IfOk result (λ v. IfYes (verdict_of v) (HasUniverse sig.now (context_behind [] (tele_of ctx.now)) (tree_of t.now))) }
+    ensures scoped { IfOk result (λ v. IsScopedVerdict sig.now (length ctx.now) (verdict_of v)) }
+{
+    infer_sort_in(alloc, sig, &Scope::Given(ctx.as_slice()), t, NESTING, units)
+}
+
+/// Whether the term has the type `wanted` in the context. A Yes holds the type that was inferred.
+pub fn check(
+    alloc: Global,
+    sig: &Signature,
+    ctx: &Tele,
+    t: &Term,
+    wanted: &Term,
+    units: &mut Units,
+) -> Result<Verdict, Stop>
+    requires signature { IsScopedSignature sig.now }
+    requires context { IsScopedTelescope sig.now 0 (tele_of ctx.now) }
+    requires term { IsScoped sig.now (length ctx.now) (tree_of t.now) }
+    requires wanted { IsScoped sig.now (length ctx.now) (tree_of wanted.now) }
+    requires few { length ctx.now < 2147483648 }
+    ensures answer { Runs verdict_of result units.new.left (check_of sig.now nesting (context_behind [] (tele_of ctx.now)) (tree_of t.now) (tree_of wanted.now) units.old.left) }
+    ensures sum { units.new.left + units.new.spent ≡ units.old.left + units.old.spent }
+    ensures sound { IsTyped sig.now → IsContext sig.now (context_behind [] (tele_of ctx.now)) → IsType sig.now (context_behind [] (tele_of ctx.now)) (tree_of wanted.now) → IfOk result (λ v. IfYes (verdict_of v) (HasWanted sig.now (context_behind [] (tele_of ctx.now)) (tree_of t.now) (tree_of wanted.now))) }
+    ensures scoped { IfOk result (λ v. IsScopedVerdict sig.now (length ctx.now) (verdict_of v)) }
+{
+    check_in(
+        alloc,
+        sig,
+        &Scope::Given(ctx.as_slice()),
+        t,
+        wanted,
+        NESTING,
+        units,
+    )
+}
