@@ -1,5 +1,5 @@
 -- Core text of terms and entries holds no line feed but the one that ends a line.
-use Rattle.std.proofs.Common.{◌≡◌, ◌≢◌, ℕ, zero, suc, ◌+◌, ◌<◌, ◌/◌, ◌%◌, Bool, true, false, not, ◌&&◌, cond, List, [], ◌∷◌, ◌++◌, map, append_assoc, refl, sym, ap, ap₂, subst, ◌∙◌, arith}
+use Rattle.std.proofs.Common.{◌≡◌, ℕ, zero, suc, ◌+◌, ◌<◌, ◌/◌, ◌%◌, Bool, true, false, not, cond, List, [], ◌∷◌, ◌++◌, map, append_assoc, refl, sym, ap, ap₂, subst, ◌∙◌, arith}
 use Rattle.std.specs.Prelude.{codes, decimal, nat_lt, ◌==◌, if◌then◌else◌}
 use Rattle.std.specs.Fmt.{digits, digits_onto, digit_glyph}
 use Rattle.std.proofs.lemmas.Bool.{and_from, and_parts, false≢true}
@@ -8,11 +8,10 @@ use Rattle.theory.specs.Terms.{Term, Var, Sort, Pi, Lam, App, Let, Const, Fam, C
 use Rattle.theory.specs.Families.{Constructor, Family}
 use Rattle.theory.specs.Telescopes.{Telescope}
 use Rattle.theory.specs.Signatures.{Entry, FamilyOf, EliminatorAt, AxiomKAt, Definition, Signature, names_of}
-use Rattle.core_text.specs.EntryText.{entry_line, entry_text, parameters_text, constructors_text, constructor_type_shown, type_shown}
+use Rattle.core_text.specs.EntryText.{entry_text, parameters_text, constructors_text, constructor_type_shown, type_shown}
 use Rattle.core_text.specs.Lines.{is_in_line, AreInLine, HasNamesInLine, LinesAreApart}
-use Rattle.core_text.specs.SymbolNames.{name_at, constructor_name_at}
+use Rattle.core_text.specs.SymbolNames.{name_at}
 use Rattle.core_text.specs.TermText.{spelled, term_text}
-
 
 -- texts without line feeds, one behind the other
 both : (xs ys : List ℕ) → is_in_line xs ≡ true → is_in_line ys ≡ true → is_in_line (xs ++ ys) ≡ true
@@ -26,8 +25,9 @@ apart k d high = grind (arith, nat_tests)
 glyph-in : (d : ℕ) → not (digit_glyph false d == 10) ≡ true
 glyph-in d =
     elim (nat_lt d 10) as (λ small. not ((if small then 48 + d else (if false then 55 + d else 87 + d)) == 10) ≡ true) [
-      true ↦ apart 48 d (omega arith)
-    | false ↦ apart 87 d (omega arith) ]
+      | true ↦ apart 48 d (omega arith)
+      | false ↦ apart 87 d (omega arith)
+    ]
 
 either : (b : Bool) (xs ys : List ℕ) → is_in_line xs ≡ true → is_in_line ys ≡ true → is_in_line (if b then xs else ys) ≡ true
 either true xs ys p q = p

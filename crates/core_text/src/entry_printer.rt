@@ -10,11 +10,11 @@ ghost use Rattle.core_sig.specs.Meanings.{constructor_of, entry_of, family_of};
 ghost use Rattle.core_text.specs.EntryText.{constructor_type_shown, constructors_text, entry_line, entry_text, family_text, type_shown};
 ghost use Rattle.core_text.specs.TermText.{term_text};
 
+use crate::bytes::{number_of, write, write_numbered};
 use crate::names::name_at;
-use crate::numbers::{number_of, write_number};
 use crate::spines::{write_spaced, write_variables};
 use crate::telescopes::{close_products, open_products, write_parameters};
-use crate::term_printer::{write, write_term};
+use crate::term_printer::write_term;
 use core_sig::{Constructor, Entry, Family, Signature};
 use core_terms::{Items, Stop};
 use std::alloc::Global;
@@ -42,14 +42,11 @@ fn write_entry(out: &mut Vec<u8>, sig: &Signature, at: u32, entry: &Entry) -> Re
         Entry::Elim(family, level) => {
             write(out, b"elim ")?;
             write(out, name_at(sig, *family))?;
-            write(out, b" ")?;
-            write_number(out, u64::from(*level))
+            write_numbered(out, b" ", u64::from(*level))
         }
         Entry::AxiomK(i, level) => {
-            write(out, b"axiomk ")?;
-            write_number(out, u64::from(*i))?;
-            write(out, b" ")?;
-            write_number(out, u64::from(*level))
+            write_numbered(out, b"axiomk ", u64::from(*i))?;
+            write_numbered(out, b" ", u64::from(*level))
         }
         Entry::Def { name, ty, body } => {
             write(out, b"def ")?;
@@ -89,8 +86,7 @@ fn write_family_type(out: &mut Vec<u8>, sig: &Signature, family: &Family) -> Res
 {
     let indices = family.indices.as_slice();
     open_products(out, sig, indices)?;
-    write(out, b"Type ")?;
-    write_number(out, u64::from(family.level))?;
+    write_numbered(out, b"Type ", u64::from(family.level))?;
     close_products(out, indices.len())
 }
 

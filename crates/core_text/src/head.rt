@@ -4,6 +4,7 @@ ghost use Rattle.core_text.specs.Heads.{head_of, shared};
 use crate::CoreTextStop;
 
 const HEAD: &[u8] = b"elim 1\nprelude\n";
+
 const HEAD_WITH_K: &[u8] = b"elim 1\nprelude k\n";
 
 /// Reads the two head lines: whether K is on, and the offset behind them. Without `k` a head with K is refused. Takes

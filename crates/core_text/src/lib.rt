@@ -1,13 +1,14 @@
 //! Core text: one spelling for each term and one line for each entry of a signature.
 #![tactic(auto)]
 
+mod bytes;
 mod entry_printer;
 mod head;
 mod laws;
 mod names;
-mod numbers;
 mod spines;
 mod stop;
+mod symbols;
 mod telescopes;
 mod term_printer;
 

@@ -4,8 +4,8 @@ ghost use Rattle.core_terms.specs.declared.stop.Stop.TheVariants.{Memory};
 ghost use Rattle.theory.specs.Telescopes.{variables, weaken_by};
 ghost use Rattle.core_text.specs.TermText.{spaced};
 
-use crate::numbers::write_number;
-use crate::term_printer::{write, write_term};
+use crate::bytes::{write, write_numbered};
+use crate::term_printer::write_term;
 use core_sig::Signature;
 use core_terms::{Stop, Term};
 
@@ -32,8 +32,7 @@ pub(crate) fn write_variables(
     ensures memory { OnErr result (result ≡ Err Memory) }
 {
     for at in (0..count).rev() {
-        write(out, b" %")?;
-        write_number(out, u64::from(at) + u64::from(from))?;
+        write_numbered(out, b" %", u64::from(at) + u64::from(from))?;
     }
     Ok(())
 }

@@ -4,7 +4,8 @@ ghost use Rattle.core_terms.specs.declared.stop.Stop.TheVariants.{Memory};
 ghost use Rattle.core_text.specs.EntryText.{parameters_text};
 ghost use Rattle.core_text.specs.ProductParts.{opened, closed};
 
-use crate::term_printer::{write, write_term};
+use crate::bytes::write;
+use crate::term_printer::write_term;
 use core_sig::{Arg, Signature};
 use core_terms::{Stop, Term};
 

@@ -1,11 +1,12 @@
-ghost use Rattle.std.specs.Prelude.{◌≡◌, ◌++◌, codes, OnOk, OnErr};
+ghost use Rattle.std.specs.Prelude.{◌≡◌, ◌++◌, OnOk, OnErr};
 ghost use Rattle.core_terms.specs.Answers.{Gives};
 ghost use Rattle.core_terms.specs.Meanings.{tree_of};
 ghost use Rattle.core_terms.specs.declared.stop.Stop.TheVariants.{Memory};
 ghost use Rattle.core_text.specs.TermText.{spelled, term_text};
 
+use crate::bytes::{write, write_numbered};
 use crate::names::{constructor_name_at, name_at};
-use crate::numbers::write_number;
+use crate::symbols::{write_axiom_k, write_eliminator};
 use core_sig::Signature;
 use core_terms::{Items, Stop, Term};
 use std::alloc::Global;
@@ -30,74 +31,47 @@ pub(crate) fn write_term(
     ensures memory { OnErr result (result ≡ Err Memory) }
 {
     match t {
-        Term::Var(n) => {
-            out.push(b'%')?;
-            write_number(out, u64::from(*n))
-        }
-        Term::Sort(i) => {
-            out.extend_from_slice(b"Type ")?;
-            write_number(out, u64::from(*i))
-        }
+        Term::Var(n) => write_numbered(out, b"%", u64::from(*n)),
+        Term::Sort(i) => write_numbered(out, b"Type ", u64::from(*i)),
         Term::Pi(domain, codomain) => {
-            out.push(b'(')?;
+            write(out, b"(")?;
             write_term(out, sig, domain, false)?;
-            out.extend_from_slice(b" -> ")?;
+            write(out, b" -> ")?;
             write_term(out, sig, codomain, false)?;
-            close(out)
+            write(out, b")")
         }
         Term::Lam(domain, body) => {
-            out.extend_from_slice(b"(\\")?;
+            write(out, b"(\\")?;
             write_term(out, sig, domain, false)?;
-            out.extend_from_slice(b" . ")?;
+            write(out, b" . ")?;
             write_term(out, sig, body, false)?;
-            close(out)
+            write(out, b")")
         }
         Term::App(function, argument) => {
             if !is_function {
-                out.push(b'(')?;
+                write(out, b"(")?;
             }
             write_term(out, sig, function, true)?;
-            out.push(b' ')?;
+            write(out, b" ")?;
             write_term(out, sig, argument, false)?;
-            if !is_function { close(out) } else { Ok(()) }
+            if is_function {
+                Ok(())
+            } else {
+                write(out, b")")
+            }
         }
         Term::Let(ty, value, rest) => {
-            out.extend_from_slice(b"(let ")?;
+            write(out, b"(let ")?;
             write_term(out, sig, ty, false)?;
-            out.extend_from_slice(b" = ")?;
+            write(out, b" = ")?;
             write_term(out, sig, value, false)?;
-            out.extend_from_slice(b" . ")?;
+            write(out, b" . ")?;
             write_term(out, sig, rest, false)?;
-            close(out)
+            write(out, b")")
         }
         Term::Const(at) | Term::Fam(at) => write(out, name_at(sig, *at)),
         Term::Con(family, con) => write(out, constructor_name_at(sig, *family, *con)),
-        Term::Elim(family, level) => {
-            write(out, name_at(sig, *family))?;
-            write(out, b"!elim.")?;
-            write_number(out, u64::from(*level))
-        }
-        Term::AxiomK(i, level) => {
-            write(out, b"Eq.")?;
-            write_number(out, u64::from(*i))?;
-            write(out, b"!k.")?;
-            write_number(out, u64::from(*level))
-        }
+        Term::Elim(family, level) => write_eliminator(out, name_at(sig, *family), *level),
+        Term::AxiomK(i, level) => write_axiom_k(out, *i, *level),
     }
-}
-
-/// Writes bytes.
-pub(crate) fn write(out: &mut Vec<u8>, bytes: &[u8]) -> Result<(), Stop>
-    ensures ok { OnOk result (out.new.items ≡ out.old.items ++ bytes.now) }
-    ensures memory { OnErr result (result ≡ Err Memory) }
-{
-    out.extend_from_slice(bytes)?;
-    Ok(())
-}
-
-fn close(out: &mut Vec<u8>) -> Result<(), Stop>
-    ensures ok { OnOk result (out.new.items ≡ out.old.items ++ codes ")") }
-    ensures memory { OnErr result (result ≡ Err Memory) }
-{
-    write(out, b")")
 }

@@ -1,4 +1,4 @@
-use Rattle.core_text.proofs.numbers.+write_number.Given as goal
+use Rattle.core_text.proofs.bytes.+write_number.Given as goal
 
 abbrev pub decreases-write_number : goal.decreases-write_number
 decreases-write_number l = l.n

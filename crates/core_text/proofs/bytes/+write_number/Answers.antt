@@ -1,7 +1,7 @@
 use Rattle.std.proofs.Common.{◌∙◌, ap, ◌++◌, ◌+◌, ◌%◌, ◌∷◌, [], arith}
 use Rattle.core_text.proofs.Decimals.{decimal_one, decimal_more}
-use Rattle.core_text.proofs.numbers.+write_number.Goals as goal
-use Rattle.core_text.proofs.numbers.+write_number.Goals.{then-n-ge10+in_ok-write_number, else-n-ge10}
+use Rattle.core_text.proofs.bytes.+write_number.Goals as goal
+use Rattle.core_text.proofs.bytes.+write_number.Goals.{then-n-ge10+in_ok-write_number, else-n-ge10}
 
 pub returns-clause-ok : goal.returns-clause-ok
 returns-clause-ok t c =
