@@ -1,5 +1,5 @@
 -- Where a run finds something too deep, no text within the limit goes on.
-use Rattle.std.proofs.Common.{◌≡◌, ◌≢◌, ℕ, ◌+◌, ◌≤◌, Bool, true, false, cond, List, [], ◌∷◌, ◌++◌, length, nat_lt, refl, sym, ap, subst, ◌∙◌, arith}
+use Rattle.std.proofs.Common.{◌≡◌, ℕ, ◌+◌, Bool, true, false, cond, List, [], ◌∷◌, ◌++◌, length, nat_lt, refl, sym, ap, subst}
 use Rattle.std.proofs.lemmas.List.{append-nil}
 use Rattle.std.specs.Prelude.{Option, Some, None}
 use Rattle.surface_syntax.specs.Trees as tree
@@ -7,7 +7,6 @@ use Rattle.surface_syntax.specs.Grammar as g
 use Rattle.surface_syntax.specs.Machine as m
 use Rattle.surface_syntax.specs.Parsing.{Answer, Read, Wrong, Deep, behind, finish, onward, run}
 use Rattle.surface_syntax.specs.Viable.{NoEnd, every, GoesNoFurtherWithin, GoesTooDeep}
-use Rattle.surface_syntax.specs.declared.tree.Word.{Word}
 use Rattle.surface_syntax.specs.declared.lexeme.Lexeme.{Lexeme}
 use Rattle.surface_syntax.specs.declared.lexeme.Lexeme.TheVariants as x
 use Rattle.surface_syntax.proofs.Rest as r
@@ -116,7 +115,13 @@ record Deeps (st : m.State) (ts : List Lexeme) : Type 0 where
 
 deep_end : (st : m.State) (n : ℕ) → f.Left st → finish (m.step m.limit 0 st x.End) ≡ Deep n → Deeps st []
 deep_end st n (f.finished more ds rest) q = record {
-  front = []; back = []; parts = refl; more = more; decls = ds; rest = rest; stops = λ zs next es r'. stopped zs next es r';
+  front = [];
+  back = [];
+  parts = refl;
+  more = more;
+  decls = ds;
+  rest = rest;
+  stops = λ zs next es r'. stopped zs next es r';
 }
   where
     stopped : (zs : List Lexeme) → Next [] zs → (es : List tree.Decl) → r.Rest m.limit st zs es → ⊥
@@ -140,7 +145,13 @@ behind_deep d (Deep i) q = cc
 module _ (st : m.State) (y : Lexeme) (ts : List Lexeme) (ne : y ≡ x.End → ⊥) where
   here : {i : ℕ} → ((j : ℕ) → Alike (m.Over i) (m.step m.limit j st y)) → f.Left st → Deeps st (y ∷ ts)
   here match (f.finished more ds rest) = record {
-    front = []; back = y ∷ ts; parts = refl; more = more; decls = ds; rest = rest; stops = λ zs next es r'. stopped zs next es r';
+    front = [];
+    back = y ∷ ts;
+    parts = refl;
+    more = more;
+    decls = ds;
+    rest = rest;
+    stops = λ zs next es r'. stopped zs next es r';
   }
     where
       stopped : (zs : List Lexeme) → Next (y ∷ ts) zs → (es : List tree.Decl) → r.Rest m.limit st zs es → ⊥
@@ -151,7 +162,11 @@ module _ (st : m.State) (y : Lexeme) (ts : List Lexeme) (ne : y ≡ x.End → �
     where
       found : Led_some (m.step every (length (y ∷ (w.front ++ w.more))) st y) (w.front ++ w.more) → Deeps st (y ∷ ts)
       found (led_some {ds = ds} l) = record {
-        front = y ∷ w.front; back = w.back; parts = ap (λ (l' : List Lexeme). y ∷ l') w.parts; more = w.more; decls = ds;
+        front = y ∷ w.front;
+        back = w.back;
+        parts = ap (λ (l' : List Lexeme). y ∷ l') w.parts;
+        more = w.more;
+        decls = ds;
         rest = s.sound every st y ne l;
         stops = λ zs next es r'. stopped zs next (match_limit (alike (length (y ∷ (w.front ++ zs)))) (c.led m.limit r'));
       }
@@ -181,7 +196,9 @@ no_further front (y ∷ back) stops = λ more ds file. stops (y ∷ more) first 
 
 too_deep : {ts : List Lexeme} → Deeps m.Start ts → GoesTooDeep m.limit ts
 too_deep w = record {
-  front = w.front; back = w.back; parts = w.parts;
+  front = w.front;
+  back = w.back;
+  parts = w.parts;
   viable = record { more = w.more; decls = w.decls; file = file_of w.rest };
   stops = no_further w.front w.back w.stops;
 }
