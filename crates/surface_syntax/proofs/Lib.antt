@@ -1,5 +1,6 @@
 pub mod Complete
 pub mod Declarations_read
+pub mod Depths
 pub mod Ends
 pub mod Finishing
 pub mod Pieces

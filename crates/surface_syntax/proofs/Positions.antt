@@ -17,7 +17,7 @@ use Rattle.surface_syntax.proofs.Ends as e
 use Rattle.surface_syntax.proofs.Finishing as f
 
 -- two states that differ at most in where names began
-data Same : m.State → m.State → Type 0 where
+pub data Same : m.State → m.State → Type 0 where
   same : {st : m.State} → Same st st
   names : {d at at' : ℕ} {v : Word} {vs : List Word} {k : m.Term_in} → Same (m.In_term (m.Names d at v vs k)) (m.In_term (m.Names d at' v vs k))
 
@@ -26,12 +26,12 @@ same_rest same rest = rest
 same_rest names (r.in_term (r.names_binder more)) = r.in_term (r.names_binder more)
 same_rest names (r.in_term (r.names_term may more)) = r.in_term (r.names_term refl more)
 
-same_back : {st st' : m.State} → Same st st' → Same st' st
+pub same_back : {st st' : m.State} → Same st st' → Same st' st
 same_back same = same
 same_back names = names
 
 -- what a lexeme leads to within the limit, and with no limit
-data Matches : m.Outcome → m.Outcome → Type 0 where
+pub data Matches : m.Outcome → m.Outcome → Type 0 where
   goes : {o : Option tree.Decl} {st st' : m.State} → Same st st' → Matches (m.Goes o st) (m.Goes o st')
   ends : {o : Option tree.Decl} → Matches (m.Ends o) (m.Ends o)
   stuck : Matches m.Stuck m.Stuck
@@ -107,7 +107,7 @@ term_match i j (m.LetName d k) y = matches_refl (m.naming (λ w. m.In_term (m.Le
 term_match i j (m.LetColon d v k) y = matches_refl (m.colon (m.term (d + 1) (m.LetType d v k)) y)
 term_match i j (m.Atoms d st k) y = matches_refl (m.atoms d st k y)
 
-step_match : (i j : ℕ) (st : m.State) (y : Lexeme) → Matches (m.step m.limit i st y) (m.step every j st y)
+pub step_match : (i j : ℕ) (st : m.State) (y : Lexeme) → Matches (m.step m.limit i st y) (m.step every j st y)
 step_match i j m.Start y = matches_refl (m.start None y)
 step_match i j (m.In_def st) y = matches_refl (m.def_step st y)
 step_match i j (m.In_data st) y = matches_refl (m.data_step st y)
@@ -116,7 +116,7 @@ step_match i j (m.In_term st) y = term_match i j st y
 step_match i j (m.In_clause st) y = clause_match i j st y
 
 -- lexemes that begin as these do, or none where these are none
-data Next : List Lexeme → List Lexeme → Type 0 where
+pub data Next : List Lexeme → List Lexeme → Type 0 where
   nothing : Next [] []
   first : {y : Lexeme} {back more : List Lexeme} → Next (y ∷ back) (y ∷ more)
 
@@ -161,10 +161,10 @@ at_end st n (f.finished more ds rest) q = record {
     no_zs : (zs : List Lexeme) → Next [] zs → (es : List tree.Decl) → r.Rest every st zs es → r.Rest every st [] es
     no_zs zs nothing es rest' = rest'
 
-data Led_some (out : m.Outcome) (ts : List Lexeme) : Type 0 where
+pub data Led_some (out : m.Outcome) (ts : List Lexeme) : Type 0 where
   led_some : {ds : List tree.Decl} → r.Led every out ts ds → Led_some out ts
 
-data Rest_some (st : m.State) (ts : List Lexeme) : Type 0 where
+pub data Rest_some (st : m.State) (ts : List Lexeme) : Type 0 where
   rest_some : {ds : List tree.Decl} → r.Rest every st ts ds → Rest_some st ts
 
 -- no lexeme goes on from there
@@ -182,7 +182,7 @@ behind_wrong d (Deep i) q = cc
 wrong_only : {i n : ℕ} → Wrong i ≡ Wrong n → i ≡ n
 wrong_only q = cc
 
-led_match : {o : Option tree.Decl} {st : m.State} {out : m.Outcome} {ts : List Lexeme} {ds : List tree.Decl} → Matches (m.Goes o st) out → r.Rest every st ts ds → Led_some out ts
+pub led_match : {o : Option tree.Decl} {st : m.State} {out : m.Outcome} {ts : List Lexeme} {ds : List tree.Decl} → Matches (m.Goes o st) out → r.Rest every st ts ds → Led_some out ts
 led_match {o = None} (goes sm) rest = led_some (r.goes (same_rest sm rest))
 led_match {o = Some d} (goes sm) rest = led_some (r.gives (same_rest sm rest))
 

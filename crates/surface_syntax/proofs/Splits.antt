@@ -8,7 +8,7 @@ use Rattle.surface_syntax.specs.declared.token.Token.{Token}
 use Rattle.surface_syntax.specs.declared.token.TokenKind.{TokenKind}
 use Rattle.surface_syntax.specs.declared.token.Piece.TheVariants.{Gap, Found, Bad}
 use Rattle.surface_syntax.specs.Spelling.{piece, byte_len}
-use Rattle.surface_syntax.specs.Splitting.{Reads, stop, gap, token, Splits, StopsAt}
+use Rattle.surface_syntax.specs.Splitting.{Reads, stop, gap, token, Splits, StopsAt, AreInOrder}
 
 -- what was read so far: whatever the rest reads as, the whole reads as these tokens and then those
 pub record Goes (cs : List ℕ) (tokens : List Token) (at : ℕ) (rest : List ℕ) : Type 0 where
@@ -75,3 +75,12 @@ splits_at cs tokens at from g t h =
     let z : byte_len (drop from cs) ≡ 0 = rw e refl in
     let whole : at ≡ byte_len cs = omega arith in
     subst (λ (n : ℕ). Reads 0 cs tokens n []) whole (subst (λ (r : List ℕ). Reads 0 cs tokens at r) e (goes-end g))
+
+from_before : (n from : ℕ) (ts : List Token) (to : ℕ) → n ≤ from → AreInOrder from ts to → AreInOrder n ts to
+from_before n from [] to h o = omega arith
+from_before n from (t ∷ ts) to h o = (omega (arith, o.0), o.1, o.2)
+
+pub in_order : {at end : ℕ} {cs rest : List ℕ} {tokens : List Token} → Reads at cs tokens end rest → AreInOrder at tokens end
+in_order stop = omega arith
+in_order {at} {end} {cs} {tokens = tokens} (gap {n = n} p r) = from_before at (at + byte_len (take n cs)) tokens end (omega arith) (in_order r)
+in_order {at} {end} {cs} (token {n = n} p r) = (omega arith, omega arith, in_order r)

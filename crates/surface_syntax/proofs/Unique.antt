@@ -12,7 +12,9 @@ use Rattle.surface_syntax.specs.declared.token.Piece.TheVariants.{Bad}
 use Rattle.surface_syntax.specs.declared.stop.SyntaxStop.{SyntaxStop}
 use Rattle.surface_syntax.specs.declared.stop.SyntaxStop.TheVariants.{Memory, NotUtf8, BadToken, Nested, Syntax}
 use Rattle.surface_syntax.specs.Spelling.{piece, byte_len}
-use Rattle.surface_syntax.specs.Splitting.{Reads, stop, gap, token, Splits, StopsAt, AreTokens}
+use Rattle.surface_syntax.specs.Splitting.{Reads, stop, gap, token, Splits, StopsAt, AreTokens, AreInOrder}
+use Rattle.surface_syntax.proofs.Splits.{in_order}
+use Rattle.std.specs.Prelude.{IfOk}
 use Rattle.surface_syntax.specs.Outcomes.{SplitSays, TokensSay, GivesOnly}
 
 empty_is_bad : {cs : List ℕ} {p : Piece} → cs ≡ [] → piece cs ≡ p → Bad ≡ p
@@ -72,3 +74,8 @@ encodes_len (c ∷ cs) = rw (sum_by-cons len_utf8 c cs) (omega (arith, length-ap
 
 pub chars_len : (bytes cs : List ℕ) → IsUtf8 bytes → cs ≡ chars bytes → byte_len cs ≡ length bytes
 chars_len bytes cs u e = ap byte_len e ∙ sym (encodes_len (chars bytes)) ∙ ap length (encodes-chars bytes u)
+
+pub tokens_in_order : (bytes : List ℕ) (r : Result (List Token) SyntaxStop) → TokensSay bytes r → IfOk r (λ ts. AreInOrder 0 ts (length bytes))
+tokens_in_order bytes (Ok tokens) said =
+    subst (λ (to : ℕ). AreInOrder 0 tokens to) (chars_len bytes (chars bytes) said.utf8 refl) (in_order said.whole)
+tokens_in_order bytes (Err e) said = tt

@@ -1,5 +1,5 @@
 -- How a text splits into tokens, blanks and comments.
-use Rattle.std.specs.Prelude.{◌≡◌, ◌≢◌, ℕ, ◌+◌, List, [], ◌∷◌, take, drop}
+use Rattle.std.specs.Prelude.{◌≡◌, ◌≢◌, ℕ, ◌+◌, List, [], ◌∷◌, take, drop, ◌≤◌}
 use Rattle.std.specs.Str.{IsUtf8, chars}
 use Rattle.surface_syntax.specs.declared.token.Token.{Token}
 use Rattle.surface_syntax.specs.declared.token.TokenKind.{TokenKind}
@@ -35,3 +35,8 @@ pub record AreTokens (bytes : List ℕ) (tokens : List Token) : Type 0 where
 pub record IsBadToken (bytes : List ℕ) (offset : ℕ) : Type 0 where
   pub utf8 : IsUtf8 bytes
   pub stops : StopsAt (chars bytes) offset
+
+-- the tokens stand one behind the other between the two offsets
+abbrev pub AreInOrder : ℕ → List Token → ℕ → Type 0
+AreInOrder from [] to = from ≤ to
+AreInOrder from (t ∷ ts) to = (from ≤ t.start) × (t.start ≤ t.end) × AreInOrder t.end ts to

@@ -33,3 +33,16 @@ pub record GoesWrong (ts : List Lexeme) (n : ℕ) : Type 0 where
   pub left : length back ≡ n
   pub viable : IsViable front
   pub stops : GoesNoFurther front back
+
+-- the same, within the limit
+abbrev pub GoesNoFurtherWithin : (ℕ → ℕ → Bool) → List Lexeme → List Lexeme → Type 0
+GoesNoFurtherWithin allows front [] = (ds : List tree.Decl) → File allows front ds → ⊥
+GoesNoFurtherWithin allows front (y ∷ back) = (more : List Lexeme) (ds : List tree.Decl) → File allows (front ++ y ∷ more) ds → ⊥
+
+-- the front begins a text of the language, and no text within the limit goes on with what is behind it
+pub record GoesTooDeep (allows : ℕ → ℕ → Bool) (ts : List Lexeme) : Type 0 where
+  pub front : List Lexeme
+  pub back : List Lexeme
+  pub parts : ts ≡ front ++ back
+  pub viable : IsViable front
+  pub stops : GoesNoFurtherWithin allows front back

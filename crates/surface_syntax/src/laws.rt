@@ -1,4 +1,4 @@
-ghost use Rattle.surface_syntax.specs.Laws.{ReadsTheGrammar, GoesWrongWithTheGrammar, HasOneReading};
+ghost use Rattle.surface_syntax.specs.Laws.{ReadsTheGrammar, GoesTooDeepWithTheGrammar, GoesWrongWithTheGrammar, HasOneReading};
 
 /// The machine of the parser reads exactly what the grammar has.
 pub fn reads_the_grammar()
@@ -13,4 +13,9 @@ pub fn goes_wrong_with_the_grammar()
 /// The grammar has one reading of a text at most.
 pub fn has_one_reading()
     ensures { HasOneReading }
+{}
+
+/// Where the machine finds something too deep, no text within the limit goes on.
+pub fn goes_too_deep_with_the_grammar()
+    ensures { GoesTooDeepWithTheGrammar }
 {}

@@ -11,7 +11,9 @@ mod tests;
 mod token;
 mod tree;
 
-pub use laws::{goes_wrong_with_the_grammar, has_one_reading, reads_the_grammar};
+pub use laws::{
+    goes_too_deep_with_the_grammar, goes_wrong_with_the_grammar, has_one_reading, reads_the_grammar,
+};
 pub use lexeme::Lexeme;
 pub use spans::tokens;
 pub use stop::SyntaxStop;

@@ -2,7 +2,7 @@ ghost use Rattle.std.specs.Prelude.{◌≡◌, ◌≢◌, ◌≤◌, ◌<◌, �
 ghost use Rattle.std.specs.Str.{chars};
 ghost use Rattle.surface_syntax.specs.Spelling.{byte_len};
 ghost use Rattle.surface_syntax.specs.Outcomes.{SplitSays, TokensSay, GivesOnly};
-ghost use Rattle.surface_syntax.specs.Splitting.{AreTokens};
+ghost use Rattle.surface_syntax.specs.Splitting.{AreTokens, AreInOrder};
 ghost use Rattle.surface_syntax.specs.declared.token.Token.{Token};
 ghost use Rattle.surface_syntax.specs.declared.stop.SyntaxStop.TheVariants.{Memory};
 
@@ -61,6 +61,8 @@ fn characters(alloc: Global, text: &str) -> Result<Vec<char>, SyntaxStop>
 /// separate tokens, and `--` begins a comment that goes on to the next line feed.
 pub fn tokens(alloc: Global, bytes: &[u8]) -> Result<Items<Token>, SyntaxStop>
     ensures says { TokensSay bytes.now result }
+    ensures ordered { IfOk result (λ found. AreInOrder 0 found (length bytes.now)) }
+
     // What splits into tokens is answered, unless memory runs out.
     ensures only { (expected : List Token) → AreTokens bytes.now expected → GivesOnly result expected }
 {

@@ -1,6 +1,6 @@
 use Rattle.std.proofs.Common.{◌≡◌, ap, ◌∙◌, arith}
 use Rattle.std.specs.Str.{chars}
-use Rattle.surface_syntax.proofs.Unique.{tokens_only, tokens_from_split, chars_len}
+use Rattle.surface_syntax.proofs.Unique.{tokens_only, tokens_from_split, tokens_in_order, chars_len}
 use Rattle.surface_syntax.proofs.spans.tokens.Goals as goal
 use Rattle.surface_syntax.proofs.spans.tokens.Goals.{After-as_slice}
 
@@ -15,3 +15,6 @@ returns-clause-says c = tokens_from_split _ _ _ c.in-Ok.ensures.cases.1 (are_cha
 
 pub returns-clause-only : goal.returns-clause-only
 returns-clause-only c = λ expected are. tokens_only _ _ _ (returns-clause-says c) are
+
+pub returns-clause-ordered : goal.returns-clause-ordered
+returns-clause-ordered c = tokens_in_order _ _ (returns-clause-says c)
