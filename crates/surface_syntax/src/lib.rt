@@ -8,4 +8,5 @@ mod token;
 
 pub use spans::tokens;
 pub use stop::SyntaxStop;
-pub use token::{Token, TokenKind};
+pub use lexer::piece;
+pub use token::{Piece, Token, TokenKind};
