@@ -6,6 +6,9 @@ pub value_or : {A : Type 0} → A → Result A Halt → A
 value_or a (Ok b) = b
 value_or a (Err e) = a
 
+abbrev pub ErrOf : (A : Type 0) → Halt → Result A Halt
+ErrOf A h = Err h
+
 abbrev pub OkOf : (A : Type 0) → A → Result A Halt
 OkOf A a = Ok a
 

@@ -1,6 +1,7 @@
 pub mod Answers
 pub mod Blocks
 pub mod Checking
+pub mod Headline
 pub mod Lexing
 pub mod Lines
 pub mod Meanings

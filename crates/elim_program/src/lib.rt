@@ -5,6 +5,7 @@ mod block;
 mod checking;
 mod context;
 mod halt;
+pub mod laws;
 mod lexing;
 mod parsing;
 mod printing;
