@@ -11,12 +11,12 @@ use Rattle.theory.proofs.WellFormedness.{well_formed_typed}
 use Rattle.theory.proofs.Scoping.{term_scoped}
 use Rattle.core_terms.specs.Verdicts.{Verdict, Yes, No}
 use Rattle.elim_program.specs.declared.halt.Halt.{Halt}
-use Rattle.elim_program.specs.declared.halt.Halt.TheVariants.{Memory, NotYet, Syntax, UnknownName, Deep}
+use Rattle.elim_program.specs.declared.halt.Halt.TheVariants.{Memory, NotYet, Syntax, UnknownName, Deep, IllTyped}
 use Rattle.elim_program.specs.Answers.{and_then}
 use Rattle.elim_program.specs.Checking.{infer_sort, check}
 use Rattle.elim_program.specs.Headline.{IsShown, Headline}
 use Rattle.elim_program.specs.Outputs.{Block, accepted_line, refusal_line, definition_block, text_block, block_of, limited, usage, head_lines, compiled, defined_output}
-use Rattle.elim_program.specs.Printing.{definition_line}
+use Rattle.elim_program.specs.Printing.{definition_line, denial_text}
 use Rattle.elim_program.specs.Resolving.{resolve_closed}
 use Rattle.elim_program.specs.Texts.{Written, Definition, on_verdict, typed, accept, written_in}
 use Rattle.elim_program.specs.Words.{is_accepted}
@@ -65,6 +65,7 @@ refusal_other front (NotYet offset) e = omega (arith, e)
 refusal_other front (Syntax offset) e = omega (arith, e)
 refusal_other front (UnknownName offset word) e = omega (arith, e)
 refusal_other front Deep e = omega (arith, e)
+refusal_other front (IllTyped text) e = omega (arith, e)
 
 prelude_typed : IsTyped (prelude false)
 prelude_typed = well_formed_typed (prelude false) (prelude_is_well_formed false)
@@ -86,13 +87,13 @@ typed_is w type body d et eb e =
     (check-has (prelude false) prelude_typed [] body type empty) e
   where
     go : (v1 v2 : Verdict) → IfYes v1 (HasUniverse (prelude false) [] type) → IfYes v2 (λ _. Has (prelude false) [] body type)
-        → on_verdict v1 (on_verdict v2 (OkOf Definition (record { type = type; body = body }))) ≡ OkOf Definition d → IsAccepted w d
+        → on_verdict (codes "type") v1 (on_verdict (codes "body") v2 (OkOf Definition (record { type = type; body = body }))) ≡ OkOf Definition d → IsAccepted w d
     go (Yes s) (Yes t) h k e =
         let same : record { type = type; body = body } ≡ d = ok-injective e in
         let P : Definition → Type 0 = λ x. IsAccepted w x in
         subst P same (record { type_written = et; body_written = eb; sort = (h.0, h.2); has = k })
-    go (Yes s) (No denial) h k e = absurd (err_ok (NotYet 0) d e)
-    go (No denial) v2 h k e = absurd (err_ok (NotYet 0) d e)
+    go (Yes s) (No denial) h k e = absurd (err_ok (IllTyped (denial_text (codes "body") denial)) d e)
+    go (No denial) v2 h k e = absurd (err_ok (IllTyped (denial_text (codes "type") denial)) d e)
 
 accept_is : (w : Written) (d : Definition) → accept w ≡ Ok d → IsAccepted w d
 accept_is w d e = go (resolve_closed w.type) (resolve_closed w.body) refl refl e

@@ -1,7 +1,7 @@
 -- The output that is defined for the words and the bytes of a source, and the status.
 use Rattle.std.specs.Prelude.{ℕ, Bool, true, false, nat_lt, if◌then◌else◌, List, [], ◌∷◌, ◌++◌, length, codes, decimal, Option, Some, None, Result, Ok, Err}
 use Rattle.elim_program.specs.declared.halt.Halt.{Halt}
-use Rattle.elim_program.specs.declared.halt.Halt.TheVariants.{Memory, NotYet, Syntax, UnknownName, Deep}
+use Rattle.elim_program.specs.declared.halt.Halt.TheVariants.{Memory, NotYet, Syntax, UnknownName, Deep, IllTyped}
 use Rattle.elim_program.specs.declared.status.Status.{Status}
 use Rattle.elim_program.specs.declared.status.Status.TheVariants as status
 use Rattle.elim_program.specs.Printing.{definition_line}
@@ -23,6 +23,7 @@ refusal_line front (Syntax offset) = codes "# refused Syntax " ++ decimal offset
 refusal_line front (UnknownName offset word) =
     codes "# refused " ++ front ++ codes "UnknownName " ++ decimal offset ++ codes " " ++ word
 refusal_line front Deep = codes "# refused " ++ front ++ codes "Deep"
+refusal_line front (IllTyped text) = codes "# refused " ++ front ++ text
 refusal_line front Memory = []
 
 abbrev pub refusal_block : List ℕ → Halt → Block

@@ -4,7 +4,7 @@ use Rattle.surface_syntax.specs.Spelling.{is_text}
 use Rattle.theory.specs.Terms as tree
 use Rattle.core_terms.specs.Verdicts.{Verdict, Yes, No}
 use Rattle.elim_program.specs.declared.halt.Halt.{Halt}
-use Rattle.elim_program.specs.declared.halt.Halt.TheVariants.{NotYet, Syntax}
+use Rattle.elim_program.specs.declared.halt.Halt.TheVariants.{NotYet, Syntax, IllTyped}
 use Rattle.elim_program.specs.declared.token.Token.{Token}
 use Rattle.elim_program.specs.Answers.{Reading, and_then, then_read}
 use Rattle.elim_program.specs.Surface.{Surf, Sort, Named, Pi, Lam, App}
@@ -12,6 +12,7 @@ use Rattle.elim_program.specs.Lexing.{tokens_of}
 use Rattle.elim_program.specs.Parsing.{begins, expect, is_plain, is_spelled, stuck, offset_of, term}
 use Rattle.elim_program.specs.Resolving.{resolve_closed}
 use Rattle.elim_program.specs.Checking.{infer_sort, check}
+use Rattle.elim_program.specs.Printing.{denial_text}
 
 -- a definition as it is written, and where a further one begins
 pub record Written : Type 0 where
@@ -110,15 +111,16 @@ pub record Definition : Type 0 where
   pub type : tree.Term
   pub body : tree.Term
 
--- a denial is not shown yet
-abbrev pub on_verdict : {A : Type 0} → Verdict → Result A Halt → Result A Halt
-on_verdict (Yes type) next = next
-on_verdict (No denial) next = Err (NotYet 0)
+-- goes on where the checker says Yes of a part
+abbrev pub on_verdict : {A : Type 0} → List ℕ → Verdict → Result A Halt → Result A Halt
+on_verdict part (Yes type) next = next
+on_verdict part (No denial) next = Err (IllTyped (denial_text part denial))
 
 -- the type must have a sort, and the body that type
 abbrev pub typed : tree.Term → tree.Term → Result Definition Halt
 typed type body =
-    on_verdict (infer_sort [] type) (on_verdict (check [] body type) (Ok (record { type = type; body = body })))
+    on_verdict (codes "type") (infer_sort [] type)
+    (on_verdict (codes "body") (check [] body type) (Ok (record { type = type; body = body })))
 
 -- the phases of a definition: resolution, then its type and its body
 abbrev pub accept : Written → Result Definition Halt

@@ -56,6 +56,17 @@ fn deep(alloc: Global, front: &[u8]) -> Result<Block, Halt>
     Ok(Block { text, refused: true })
 }
 
+fn ill_typed(alloc: Global, front: &[u8], denial: &Name) -> Result<Block, Halt>
+    ensures { Gives shown_of result (Ok (shown (spec.refusal_line front.now (Halt.IllTyped denial.now) ∷ []) true)) }
+{
+    let mut text = Vec::new(alloc);
+    text.extend_from_slice(b"# refused ")?;
+    text.extend_from_slice(front)?;
+    text.extend_from_slice(denial.as_slice())?;
+    text.extend_from_slice(b"\n")?;
+    Ok(Block { text, refused: true })
+}
+
 /// The line of a refusal; `front` is the declaration's name and a space where one is being worked on.
 fn refusal(alloc: Global, front: &[u8], halt: Halt) -> Result<Block, Halt>
     ensures { Gives shown_of result (Ok (shown (spec.refusal_line front.now halt ∷ []) true)) }
@@ -66,6 +77,7 @@ fn refusal(alloc: Global, front: &[u8], halt: Halt) -> Result<Block, Halt>
         Halt::Syntax(offset) => numbered(alloc, b"Syntax", offset),
         Halt::UnknownName(offset, word) => unknown(alloc, front, offset, &word),
         Halt::Deep => deep(alloc, front),
+        Halt::IllTyped(denial) => ill_typed(alloc, front, &denial),
     }
 }
 

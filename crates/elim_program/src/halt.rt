@@ -6,7 +6,8 @@ use std::alloc::{AllocError, AllocFailed};
 /// Why no definition is read from a text; each offset is one in bytes.
 ///
 /// `Memory` is want of memory, `NotYet` is what is not built yet, `Syntax` a token with which no text goes on,
-/// `UnknownName` a name that nothing binds, and `Deep` a term that is higher than 2,000.
+/// `UnknownName` a name that nothing binds, `Deep` a term that is higher than 2,000, and `IllTyped` has the text of what the
+/// checker denies.
 #[derive(Debug, Drop)]
 pub(crate) enum Halt {
     Memory,
@@ -14,6 +15,7 @@ pub(crate) enum Halt {
     Syntax(u32),
     UnknownName(u32, Name),
     Deep,
+    IllTyped(Name),
 }
 
 impl From<AllocError> for Halt {

@@ -10,6 +10,7 @@ use crate::checking::{check, infer_sort};
 use crate::context::Context;
 use crate::lexing::tokens_of;
 use crate::parsing::{Cursor, is_plain, is_spelled, term};
+use crate::printing::denial_text;
 use crate::resolving::resolve_closed;
 use crate::surf::copy_name;
 use crate::{Halt, Surf, Token};
@@ -183,12 +184,12 @@ fn typed(alloc: Global, ty: Term, body: Term) -> Result<Definition, Halt>
     requires body { IsClosedLow (tree_of body) }
     ensures { Gives definition_of result (spec.typed (tree_of ty) (tree_of body)) }
 {
-    if let Verdict::No(_) = infer_sort(alloc, &Context::Empty, &ty)? {
-        return Err(Halt::NotYet(0));
+    if let Verdict::No(denial) = infer_sort(alloc, &Context::Empty, &ty)? {
+        return Err(Halt::IllTyped(denial_text(alloc, b"type", &denial)?));
     }
     match check(alloc, &Context::Empty, &body, &ty)? {
         Verdict::Yes(_) => Ok(Definition { ty, body }),
-        Verdict::No(_) => Err(Halt::NotYet(0)),
+        Verdict::No(denial) => Err(Halt::IllTyped(denial_text(alloc, b"body", &denial)?)),
     }
 }
 
