@@ -16,7 +16,7 @@ pub fn copy(alloc: Global, t: &Term) -> Result<Term, Stop>
 }
 
 /// Copies a term of any height.
-pub(crate) fn copy_whole(alloc: Global, t: &Term) -> Result<Term, Stop>
+pub fn copy_whole(alloc: Global, t: &Term) -> Result<Term, Stop>
     ensures { Gives tree_of result (Ok (tree_of t.now)) }
 {
     match t {

@@ -14,7 +14,7 @@ mod units;
 mod verdict;
 
 pub use case_tree::{Branch, Origin, Rule, Step, Tree, Walk};
-pub use copying::{copy, copy_pat, copy_tele};
+pub use copying::{copy, copy_pat, copy_tele, copy_whole};
 pub use items::Items;
 pub use lifting::lift;
 pub use name::Name;

@@ -20,4 +20,5 @@ pub use stop::SyntaxStop;
 pub use token::{Token, TokenKind};
 pub use tree::{
     Binder, Decl, Surf, SurfClause, SurfCon, SurfMember, SurfParam, SurfPat, SurfRight, Word,
-};
+pub use lexer::piece;
+pub use token::{Piece, Token, TokenKind};

@@ -1,0 +1,16 @@
+pub mod Answers
+pub mod Blocks
+pub mod Checking
+pub mod Headline
+pub mod Lexing
+pub mod Lines
+pub mod Meanings
+pub mod Outputs
+pub mod Parsing
+pub mod Printing
+pub mod Resolving
+pub mod Runs
+pub mod Statuses
+pub mod Surface
+pub mod Texts
+pub mod Words
