@@ -15,10 +15,10 @@ pub use laws::{
     goes_too_deep_with_the_grammar, goes_wrong_with_the_grammar, has_one_reading, reads_the_grammar,
 };
 pub use lexeme::Lexeme;
+pub use lexer::piece;
 pub use spans::tokens;
 pub use stop::SyntaxStop;
-pub use token::{Token, TokenKind};
+pub use token::{Piece, Token, TokenKind};
 pub use tree::{
     Binder, Decl, Surf, SurfClause, SurfCon, SurfMember, SurfParam, SurfPat, SurfRight, Word,
-pub use lexer::piece;
-pub use token::{Piece, Token, TokenKind};
+};
