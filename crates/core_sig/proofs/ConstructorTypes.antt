@@ -60,7 +60,9 @@ height-constructor n f con =
   where
     types : Telescope
     types = map (λ a. tree_of a.ty) con.args
+
     end : Term
     end = applied (applied (Fam n) (map (weaken_by (length con.args)) (variables (length f.params)))) (tele_of con.targets)
+
     behind : Term
     behind = products types end

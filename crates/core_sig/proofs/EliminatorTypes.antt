@@ -82,18 +82,25 @@ end-behind n f methods =
   where
     k : ℕ
     k = length f.indices
+
     q : ℕ → Term
     q v = Var (v + methods)
+
     tele : Telescope
     tele = inst_telescope (λ v. Var (suc v)) (index_types f)
+
     p : ℕ
     p = length f.parameters
+
     counted : length tele ≡ k
     counted = length-inst_telescope (λ v. Var (suc v)) (index_types f) ∙ length-map f.indices (λ i. i.0)
+
     shifted : ◌≡◌ {A = ℕ → Term} (λ v. Var (suc v + methods)) (λ v. Var (v + (methods + 1)))
     shifted = fun_ext (λ v. ap Var (omega arith))
+
     head : Term
     head = applied (Fam n) (map weaken (variables p))
+
     head_behind : weaken_by k (inst q head) ≡ applied (Fam n) (parameters_behind (methods + 1 + k) p)
     head_behind =
         ap (weaken_by k)
@@ -102,16 +109,20 @@ end-behind n f methods =
         ∙ ap (applied (Fam n)) (ap (map (weaken_by methods)) (parameters-weaken p) ∙ parameters-further methods 1 p)))
         ∙ (ren-applied (λ v. v + k) (Fam n) (parameters_behind (1 + methods) p)
         ∙ ap (applied (Fam n)) (parameters-further k (1 + methods) p ∙ ap (λ j. parameters_behind j p) (omega arith)))
+
     domain : inst (ups_by k q) (domain_of n f) ≡ family_at n p (methods + 1 + k) k
     domain =
         inst-applied (ups_by k q) (weaken_by k head) (variables k)
         ∙ ap₂ applied (inst-weaken_by k q head ∙ head_behind) (inst-variables k q ∙ sym (variables-here k))
+
     one_more : k + 1 ≡ suc (0 + k)
     one_more = omega arith
+
     motive : inst (ups (ups_by k q)) (Var (k + 1)) ≡ Var (methods + 1 + k)
     motive =
         ap (λ j. inst (ups (ups_by k q)) (Var j)) one_more
         ∙ (inst-weaken (ups_by k q) (weaken_by k (Var 0)) ∙ (ap weaken (inst-weaken_by k q (Var 0)) ∙ ap Var (omega arith)))
+
     goal : inst (ups (ups_by k q)) (goal_of k) ≡ App (applied (Var (methods + 1 + k)) (parameters_behind 1 k)) (Var 0)
     goal =
         ap (λ t. App t (Var 0))
@@ -127,8 +138,10 @@ eliminator_type-of n f m =
   where
     ps : List Term
     ps = map weaken (variables (length f.parameters))
+
     methods : List Term
     methods = method_types (λ v. Var (suc v)) n ps (Var 0) 0 f.constructors
+
     length-method_types : (number : ℕ) (cs : List pure.Constructor) → length (method_types (λ v. Var (suc v)) n ps (Var 0) number cs) ≡ length cs
     length-method_types number [] = refl
     length-method_types number (c ∷ cs) = ap suc (length-method_types (number + 1) cs)
@@ -167,14 +180,17 @@ scoped_targets p con scoped =
 -- the terms of a constructor of a scoped family
 pub scoped_con : (n : ℕ) (f : Family) (params number : ℕ) (con : Constructor) → HasKinds n f → IsClosedFamily (family_of f) → params ≡ length f.params → number < length f.cons → con ≡ get_or f.cons number con
     → All (λ a. free_of (tree_of a.ty) ≤ params + length con.args) con.args × All (λ t. free_of (tree_of t) ≤ params + length con.args) con.targets
-scoped_con n f params number con kinds scoped counted lt is =
-    (subst (λ p. All (λ a. free_of (tree_of a.ty) ≤ p + length con.args) con.args) same (scoped_args n (family_of f) con (kinds_at n f number con kinds lt is) (subst (λ p. IsConstructorOver (length (tele_of f.params)) (constructor_of p con)) (sym params_counted) here)),
-    subst (λ p. All (λ t. free_of (tree_of t) ≤ p + length con.args) con.targets) (sym counted) (scoped_targets (length f.params) con (subst (λ p. IsConstructorOver p (constructor_of (length f.params) con)) params_counted here)))
+scoped_con n f params number con kinds scoped counted lt is = (
+  subst (λ p. All (λ a. free_of (tree_of a.ty) ≤ p + length con.args) con.args) same (scoped_args n (family_of f) con (kinds_at n f number con kinds lt is) (subst (λ p. IsConstructorOver (length (tele_of f.params)) (constructor_of p con)) (sym params_counted) here)),
+  subst (λ p. All (λ t. free_of (tree_of t) ≤ p + length con.args) con.targets) (sym counted) (scoped_targets (length f.params) con (subst (λ p. IsConstructorOver p (constructor_of (length f.params) con)) params_counted here)),
+)
   where
     params_counted : length (tele_of f.params) ≡ length f.params
     params_counted = length-map f.params tree_of
+
     same : length (tele_of f.params) ≡ params
     same = params_counted ∙ sym counted
+
     here : IsConstructorOver (length (tele_of f.params)) (constructor_of (length f.params) con)
     here = subst (λ k. IsConstructorOver (length (tele_of f.params)) (constructor_of (length f.params) k)) (sym is)
         (All-unmap (IsConstructorOver (length (tele_of f.params))) (constructor_of (length f.params)) f.cons scoped.constructors number con lt)
@@ -216,14 +232,19 @@ height-elim_type n f m =
   where
     p : ℕ
     p = length f.params
+
     indices : Telescope
     indices = map (λ a. tree_of a.ty) f.indices
+
     motive : Term
     motive = motive_over n p indices m
+
     methods : Telescope
     methods = staged_methods n p 0 (map (constructor_of p) f.cons)
+
     goal : Term
     goal = goal_over n p indices (length f.cons + 1)
+
     counted : (from : ℕ) (cs : List pure.Constructor) → length (staged_methods n p from cs) ≡ length cs
     counted from [] = refl
     counted from (c ∷ cs) = ap suc (counted (from + 1) cs)

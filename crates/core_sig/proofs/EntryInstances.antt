@@ -112,27 +112,36 @@ inst-method_type q s head con P c =
   where
     k : ℕ
     k = length c.arguments
+
     Q : ℕ → Term
     Q = ups_by k q
+
     inside : ℕ → Term
     inside n = weaken_by k (s n)
+
     hypotheses : List Term
     hypotheses = hypothesis_types inside (weaken_by k P) c.arguments (variables k)
+
     conclusion : Term
     conclusion = App (applied (weaken_by k P) (map (inst (fill inside (variables k))) c.targets)) (applied (weaken_by k con) (variables k))
+
     same_inside : ◌≡◌ {A = ℕ → Term} (λ n. inst Q (inside n)) (λ n. weaken_by k (inst q (s n)))
     same_inside = fun_ext (λ n. inst-weaken_by k q (s n))
+
     ap₃-hypothesis_types : {p p' : ℕ → Term} {e e' : Term} {us us' : List Term} → p ≡ p' → e ≡ e' → us ≡ us'
         → hypothesis_types p e c.arguments us ≡ hypothesis_types p' e' c.arguments us'
     ap₃-hypothesis_types same_p same_e same_us = cc
+
     same_hypotheses : map (inst Q) hypotheses ≡ hypothesis_types (λ n. weaken_by k (inst q (s n))) (weaken_by k (inst q P)) c.arguments (variables k)
     same_hypotheses =
         inst-hypothesis_types Q inside (weaken_by k P) c.arguments (variables k)
         ∙ ap₃-hypothesis_types same_inside (inst-weaken_by k q P) (inst-variables k q)
+
     same_targets : map (inst Q) (map (inst (fill inside (variables k))) c.targets) ≡ map (inst (fill (λ n. weaken_by k (inst q (s n))) (variables k))) c.targets
     same_targets =
         map-inst-inst Q (fill inside (variables k)) c.targets
         ∙ ap (λ p. map (inst p) c.targets) (fun_ext (inst-fill Q inside (variables k)) ∙ ap₂ fill same_inside (inst-variables k q))
+
     same_conclusion : inst Q conclusion ≡ App (applied (weaken_by k (inst q P)) (map (inst (fill (λ n. weaken_by k (inst q (s n))) (variables k))) c.targets)) (applied (weaken_by k (inst q con)) (variables k))
     same_conclusion =
         ap₂ App

@@ -88,8 +88,10 @@ hypothesis_type-of n f P by before at rest count inner targets t counted is =
   where
     head : Term
     head = weaken_by at (family_head n f)
+
     shifted : ◌≡◌ {A = ℕ → Term} (λ v. inst (λ k. Var (k + before)) (spot by at (suc rest) v)) (spot by at (suc rest + before))
     shifted = weaken-spot by at (suc rest) before
+
     lifted : lift (lift t by at) (suc rest + before) 0 ≡ recursive_type (spot by at (suc rest + before)) (inst (spot by at (suc rest + before)) head) inner targets
     lifted =
         lift-lift-by_var t by at (suc rest + before) 0
@@ -115,6 +117,7 @@ hypotheses-recursive n f P by before at count a args is kind =
   where
     rest : List pure.Argument
     rest = map (argument_of (length f.parameters)) args
+
     whole : (parts : HasKind n f at (Recursive count) (tree_of a.ty)) → argument_of (length f.parameters) a ≡ pure.Recursive parts.0 parts.1 a.level
     whole parts =
         ap (argument_with (length f.parameters) (tree_of a.ty) a.level) is
@@ -141,10 +144,12 @@ hypotheses-step n f P by before at count args a lt is recursive kinds =
     let rest = drop (at + 1) args in
     let counted : length rest ≡ length args - (at + 1) = length-drop (at + 1) args in
     let argument : length rest + before ≡ length args - at + before - 1 = omega arith in
-    let behind : suc (length rest) + before ≡ length args - at + before = omega arith in
-    (parts.1, ap (hypotheses_from (length f.parameters) P by before at) split
-    ∙ (hypotheses-recursive n f P by before at count a rest recursive parts.0
-    ∙ ap₂ (λ r k. hypothesis_from count (length f.indices) (P + before) r 0 (lift (lift (tree_of a.ty) by at) k 0) ∷ hypotheses_from (length f.parameters) P by (before + 1) (at + 1) rest) argument behind))
+    let behind : suc (length rest) + before ≡ length args - at + before = omega arith in (
+      parts.1,
+      ap (hypotheses_from (length f.parameters) P by before at) split
+          ∙ (hypotheses-recursive n f P by before at count a rest recursive parts.0
+          ∙ ap₂ (λ r k. hypothesis_from count (length f.indices) (P + before) r 0 (lift (lift (tree_of a.ty) by at) k 0) ∷ hypotheses_from (length f.parameters) P by (before + 1) (at + 1) rest) argument behind),
+    )
 
 -- one hypothesis more
 pub hypotheses-joined : (ts : List Code) (u : Code) (x : Term) (H : ℕ → Telescope) (before whole : Telescope) → tree_of u ≡ x → tele_of ts ++ before ≡ whole → before ≡ x ∷ H (length ts + 1) → tele_of (ts ++ u ∷ []) ++ H (length (ts ++ u ∷ [])) ≡ whole

@@ -60,10 +60,13 @@ staged_method-behind n p number c =
   where
     ps : List Term
     ps = map weaken (variables p)
+
     q : ℕ → Term
     q v = Var (v + number)
+
     shifted : ◌≡◌ {A = ℕ → Term} (λ v. Var (suc v + number)) (λ v. Var (v + (number + 1)))
     shifted = fun_ext (λ v. ap Var (omega arith))
+
     at_parameters : (head : Term) → weaken_by number head ≡ head → inst q (applied head ps) ≡ applied head (parameters_behind (number + 1) p)
     at_parameters head stays =
         sym (ren-is_inst (λ v. v + number) (applied head ps))
@@ -134,18 +137,24 @@ staged_method-of n f number con kinds =
   where
     p : ℕ
     p = length f.parameters
+
     k : ℕ
     k = length con.args
+
     targets : List Term
     targets = tele_of con.targets
+
     hypotheses : ℕ → List Term
     hypotheses j = hypothesis_types (λ v. weaken_by j (Var (v + (number + 1)))) (weaken_by j (Var number)) (map (argument_of p) con.args) (variables j)
+
     types : argument_types (λ v. Var (v + (number + 1))) (applied (Fam n) (parameters_behind (number + 1) p)) (map (argument_of p) con.args) ≡ lift_telescope (map (λ a. tree_of a.ty) con.args) (number + 1) 0
     types =
         ap₂ (λ s h. argument_types s h (map (argument_of p) con.args)) (sym (lifted-all (number + 1))) (sym (head-lifted n f (number + 1)))
         ∙ argument_types-lifted n f (number + 1) 0 con.args kinds
+
     same_hypotheses : staged 0 (hypotheses k) ≡ hypotheses_from p (number + k) (number + 1) 0 0 con.args
     same_hypotheses = ap (λ s. staged 0 (hypothesis_types s (Var (number + k)) (map (argument_of p) con.args) (variables k))) (inside-spot (number + 1) k)
+
     counted : length (hypotheses k) ≡ length (staged 0 (hypotheses k))
     counted = sym (length-staged 0 (hypotheses k))
 
@@ -162,10 +171,13 @@ height-method n p number con =
   where
     types : Telescope
     types = lift_telescope (map (λ a. tree_of a.ty) con.args) (number + 1) 0
+
     hypotheses : Telescope
     hypotheses = hypotheses_from p (number + length con.args) (number + 1) 0 0 con.args
+
     end : Term
     end = method_end n p number (length hypotheses) con
+
     counted : (tele : Telescope) (at : ℕ) → length (lift_telescope tele (number + 1) at) ≡ length tele
     counted [] at = refl
     counted (t ∷ tele) at = ap suc (counted tele (at + 1))

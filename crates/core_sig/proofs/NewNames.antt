@@ -63,14 +63,18 @@ new-entry S n e distinct at = record {
   where
     Differ : List ℕ → List ℕ → Type 0
     Differ x y = x ≢ y
+
     before : List (List ℕ)
     before = flat_map names_of (take n S.entries)
+
     known : keys_of (named 0 (take n S.entries)) ≡ before
     known = keys-named 0 (take n S.entries)
+
     split : names S ≡ (before ++ names_of e) ++ flat_map names_of (drop (suc n) S.entries)
     split =
         ap (flat_map names_of) (split_at S.entries n e at)
         ∙ (flat_map-append names_of (take n S.entries ++ e ∷ []) (drop (suc n) S.entries)
         ∙ ap (λ ns. ns ++ flat_map names_of (drop (suc n) S.entries)) (flat_map-append names_of (take n S.entries) (e ∷ []) ∙ ap (λ ns. before ++ ns) (append-nil (names_of e))))
+
     pairs : AllPairs Differ (before ++ names_of e)
     pairs = pairs_left Differ (before ++ names_of e) (flat_map names_of (drop (suc n) S.entries)) (subst (AllPairs Differ) split distinct)

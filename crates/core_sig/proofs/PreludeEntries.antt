@@ -73,5 +73,6 @@ pair_kinds n f con a b v w i j indices cons args is_a is_b = record {
   where
     Kinds : Constructor → Type 0
     Kinds c = HaveKinds n (family_of f) 0 c.args
+
     plain : (x : Arg) (u l at : ℕ) → x ≡ record { ty = Code.Var u; level = l; kind = Plain } → HasKind n (family_of f) at x.kind (tree_of x.ty)
     plain x u l at is = subst (λ (y : Arg). HasKind n (family_of f) at y.kind (tree_of y.ty)) (sym is) (variable_plain n (family_of f) at u)

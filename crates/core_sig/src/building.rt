@@ -55,7 +55,12 @@ pub(crate) fn applied(alloc: Global, head: Term, spine: Vec<Term>) -> Result<Ter
 }
 
 /// `head` applied to `count` variables, the last of which is numbered `from`.
-pub(crate) fn applied_to_variables(alloc: Global, head: Term, from: u32, count: u32) -> Result<Term, Stop>
+pub(crate) fn applied_to_variables(
+    alloc: Global,
+    head: Term,
+    from: u32,
+    count: u32,
+) -> Result<Term, Stop>
     requires { from + count < 2 ^ 32 }
     ensures { Gives tree_of result (Ok (spec.applied (tree_of head) (map (spec.weaken_by from) (spec.variables count)))) }
 {
@@ -94,7 +99,13 @@ pub(crate) fn lift_types(alloc: Global, args: &[Arg], by: u32) -> Result<Vec<Ter
 }
 
 /// The term with `by` added to each variable numbered `from` or more, and then `more` to every variable.
-pub(crate) fn lift_twice(alloc: Global, t: &Term, by: u32, from: u32, more: u32) -> Result<Term, Stop>
+pub(crate) fn lift_twice(
+    alloc: Global,
+    t: &Term,
+    by: u32,
+    from: u32,
+    more: u32,
+) -> Result<Term, Stop>
     requires { tree.free_of (tree_of t.now) + by + more ≤ most_free }
     ensures { Gives tree_of result (bounded (tree.lift (tree.lift (tree_of t.now) by from) more 0)) }
 {
@@ -103,7 +114,13 @@ pub(crate) fn lift_twice(alloc: Global, t: &Term, by: u32, from: u32, more: u32)
 }
 
 /// Each term lifted twice.
-pub(crate) fn lift_all_twice(alloc: Global, terms: &[Term], by: u32, from: u32, more: u32) -> Result<Vec<Term>, Stop>
+pub(crate) fn lift_all_twice(
+    alloc: Global,
+    terms: &[Term],
+    by: u32,
+    from: u32,
+    more: u32,
+) -> Result<Vec<Term>, Stop>
     requires { All (λ t. tree.free_of (tree_of t) + by + more ≤ most_free) terms.now }
     ensures { BuildsAll result (map (λ t. tree.lift (tree.lift t by from) more 0) (tele_of terms.now)) }
 {

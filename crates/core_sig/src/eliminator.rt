@@ -56,15 +56,18 @@ fn motive_type(alloc: Global, fam: u32, indices: &[Arg], params: u32, m: u8) -> 
     let count = indices.len() as u32;
     let types = copy_types(alloc, indices)?;
     let domain = family_at(alloc, fam, params, count, count)?;
-    let end = Term::Pi(
-        Box::new(alloc, domain)?,
-        Box::new(alloc, Term::Sort(m))?,
-    );
+    let end = Term::Pi(Box::new(alloc, domain)?, Box::new(alloc, Term::Sort(m))?);
     products(alloc, types, end)
 }
 
 /// (I) -> (x : D p I) -> P I x, behind the parameters and `outer` binders, of which P is the first.
-fn goal_type(alloc: Global, fam: u32, indices: &[Arg], params: u32, outer: u32) -> Result<Term, Stop>
+fn goal_type(
+    alloc: Global,
+    fam: u32,
+    indices: &[Arg],
+    params: u32,
+    outer: u32,
+) -> Result<Term, Stop>
     requires few { length indices.now ≤ 2000 }
     requires params { params ≤ 2000 }
     requires outer { outer ≤ 2001 }
@@ -76,16 +79,19 @@ fn goal_type(alloc: Global, fam: u32, indices: &[Arg], params: u32, outer: u32) 
     let types = lift_types(alloc, indices, outer)?;
     let domain = family_at(alloc, fam, params, outer + count, count)?;
     let motive = applied_to_variables(alloc, Term::Var(outer + count), 1, count)?;
-    let goal = Term::App(
-        Box::new(alloc, motive)?,
-        Box::new(alloc, Term::Var(0))?,
-    );
+    let goal = Term::App(Box::new(alloc, motive)?, Box::new(alloc, Term::Var(0))?);
     let end = Term::Pi(Box::new(alloc, domain)?, Box::new(alloc, goal)?);
     products(alloc, types, end)
 }
 
 /// The types of the methods, each behind the parameters, the motive and the methods before it.
-fn method_types(alloc: Global, fam: u32, f: &Family, params: u32, indices: u32) -> Result<Vec<Term>, Stop>
+fn method_types(
+    alloc: Global,
+    fam: u32,
+    f: &Family,
+    params: u32,
+    indices: u32,
+) -> Result<Vec<Term>, Stop>
     requires kinds { HasKinds fam f.now }
     requires scoped { IsClosedFamily (family_of f.now) }
     requires params { params ≡ length f.now.params }
@@ -102,7 +108,14 @@ fn method_types(alloc: Global, fam: u32, f: &Family, params: u32, indices: u32) 
 }
 
 /// The type of the method for constructor `number`, behind the parameters, the motive and the methods before it.
-fn method_type(alloc: Global, fam: u32, con: &Constructor, params: u32, indices: u32, number: u32) -> Result<Term, Stop>
+fn method_type(
+    alloc: Global,
+    fam: u32,
+    con: &Constructor,
+    params: u32,
+    indices: u32,
+    number: u32,
+) -> Result<Term, Stop>
     requires params { params ≤ 2000 }
     requires number { number < 2000 }
     requires args { All (λ a. tree.free_of (tree_of a.ty) ≤ params + length con.now.args) con.now.args }
@@ -118,7 +131,14 @@ fn method_type(alloc: Global, fam: u32, con: &Constructor, params: u32, indices:
 }
 
 /// The motive at the targets and at the constructor with its arguments, behind `before` hypotheses.
-fn method_end(alloc: Global, fam: u32, con: &Constructor, params: u32, number: u32, before: u32) -> Result<Term, Stop>
+fn method_end(
+    alloc: Global,
+    fam: u32,
+    con: &Constructor,
+    params: u32,
+    number: u32,
+    before: u32,
+) -> Result<Term, Stop>
     requires params { params ≤ 2000 }
     requires number { number < 2000 }
     requires few { length con.now.args ≤ 2000 }
@@ -132,8 +152,5 @@ fn method_end(alloc: Global, fam: u32, con: &Constructor, params: u32, number: u
     let head = Term::Con(fam, number);
     let head = applied_to_variables(alloc, head, number + 1 + count + before, params)?;
     let scrutinee = applied_to_variables(alloc, head, before, count)?;
-    Ok(Term::App(
-        Box::new(alloc, motive)?,
-        Box::new(alloc, scrutinee)?,
-    ))
+    Ok(Term::App(Box::new(alloc, motive)?, Box::new(alloc, scrutinee)?))
 }

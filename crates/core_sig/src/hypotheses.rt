@@ -16,7 +16,12 @@ use core_terms::{Stop, Term};
 use std::alloc::Global;
 
 /// The types of the hypotheses for the arguments of constructor `number`, behind the arguments and the hypotheses before.
-pub(crate) fn hypotheses(alloc: Global, args: &[Arg], indices: u32, number: u32) -> Result<Vec<Term>, Stop>
+pub(crate) fn hypotheses(
+    alloc: Global,
+    args: &[Arg],
+    indices: u32,
+    number: u32,
+) -> Result<Vec<Term>, Stop>
     requires few { length args.now ≤ 2000 }
     requires number { number < 2000 }
     requires free { All (λ a. tree.free_of (tree_of a.ty) ≤ 4000) args.now }
@@ -77,10 +82,7 @@ fn conclusion(alloc: Global, end: Term, indices: u32, at: Places) -> Result<Term
 {
     let motive = reheaded(alloc, Term::Var(at.motive), indices, end)?;
     let argument = applied_to_variables(alloc, Term::Var(at.argument), 0, at.depth)?;
-    Ok(Term::App(
-        Box::new(alloc, motive)?,
-        Box::new(alloc, argument)?,
-    ))
+    Ok(Term::App(Box::new(alloc, motive)?, Box::new(alloc, argument)?))
 }
 
 /// `head` applied to the last `count` arguments of `t`.

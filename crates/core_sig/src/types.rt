@@ -5,8 +5,8 @@ ghost use Rattle.theory.specs.Families as pure;
 ghost use Rattle.core_sig.specs.Kinds.{HasKinds, HaveKinds};
 ghost use Rattle.core_sig.specs.Meanings.{constructor_of, family_of};
 
-use crate::{Constructor, Family};
 use crate::building::{applied, applied_to_variables, checked, copy_types, few, products};
+use crate::{Constructor, Family};
 use core_terms::{Stop, Term, copy_tele};
 use std::alloc::Global;
 

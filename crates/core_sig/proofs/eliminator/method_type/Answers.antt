@@ -37,9 +37,9 @@ returns-in_err-end c = λ f kinds params indices.
     let q = err_from_is_err_and c.from_residual-in_err-end.result c.from_residual-in_err-end.ensures.1 in
     let parts = height-method c.args.fam c.args.params c.args.number c.args.con.now in
     let made = hypotheses_made c.args.params c.args.number (length c.args.con.now.args) f c.args.con.now.args c.in_ok-hypotheses.hypotheses.items params
-        (rw c.as_slice-3.ensures at c.in_ok-hypotheses.ensures.ok c.args.fam f kinds indices) in
+    (rw c.as_slice-3.ensures at c.in_ok-hypotheses.ensures.ok c.args.fam f kinds indices) in
     let count : c.len.result ≡ length (hypotheses_from c.args.params (c.args.number + length c.args.con.now.args) (c.args.number + 1) 0 0 c.args.con.now.args) =
-        omega (arith, ap length made, length-map c.in_ok-hypotheses.hypotheses.items tree_of) in
+    omega (arith, ap length made, length-map c.in_ok-hypotheses.hypotheses.items tree_of) in
     rw (q.1, q.2, staged_method-is c.args.fam f c.args.params c.args.number c.args.con.now kinds params)
     (λ other.
     let deep = c.in_err-end.ensures other in
@@ -49,9 +49,9 @@ returns-in_err-end c = λ f kinds params indices.
 pub returns : goal.returns
 returns c = λ f kinds params indices.
     let made = hypotheses_made c.args.params c.args.number (length c.args.con.now.args) f c.args.con.now.args c.in_ok-hypotheses.hypotheses.items params
-        (rw c.as_slice-3.ensures at c.in_ok-hypotheses.ensures.ok c.args.fam f kinds indices) in
+    (rw c.as_slice-3.ensures at c.in_ok-hypotheses.ensures.ok c.args.fam f kinds indices) in
     let count : c.len.result ≡ length (hypotheses_from c.args.params (c.args.number + length c.args.con.now.args) (c.args.number + 1) 0 0 c.args.con.now.args) =
-        omega (arith, ap length made, length-map c.in_ok-hypotheses.hypotheses.items tree_of) in
+    omega (arith, ap length made, length-map c.in_ok-hypotheses.hypotheses.items tree_of) in
     gives-builds c.products-2.result _ _ c.products-2.ensures
     (ap₂ products (rw c.as_slice-2.ensures at c.in_ok-types.ensures)
     (ok_is c.in_ok-end-2.ensures ∙ ap₂ products made (c.in_ok-end.ensures ∙ ap (λ h. method_end c.args.fam c.args.params c.args.number h c.args.con.now) count))

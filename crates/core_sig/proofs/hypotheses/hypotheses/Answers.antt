@@ -33,7 +33,7 @@ loop-at-preserved c =
           let at = length c.args.args.now - c.loop-at.at + length c.loop-at.types.items in
           let behind : length c.args.args.now - c.loop-at.at + c.len.result ≡ at = omega arith in
           let made : tree_of c.in_ok-hypothesis.field-0 ≡ hypothesis_from c.in-Recursive.inner (length f.indices) (P + length c.loop-at.types.items) (at - 1) 0 (lift (lift (tree_of c.index-args-at.result.ty) (c.args.number + 1) c.loop-at.at) at 0) =
-              ok_is c.in_ok-hypothesis.ensures ∙ hypothesis_from-same c.in-Recursive.inner (sym indices) (omega arith) (omega arith) (ty.0 ∙ ap (λ k. lift (lift (tree_of c.index-args-at.result.ty) (c.args.number + 1) c.loop-at.at) k 0) behind) in
+          ok_is c.in_ok-hypothesis.ensures ∙ hypothesis_from-same c.in-Recursive.inner (sym indices) (omega arith) (omega arith) (ty.0 ∙ ap (λ k. lift (lift (tree_of c.index-args-at.result.ty) (c.args.number + 1) c.loop-at.at) k 0) behind) in
           (step.0, rw items (hypotheses-joined c.loop-at.types.items c.in_ok-hypothesis.field-0 _ H _ _ made before.1 step.1));
     }
 

@@ -11,5 +11,5 @@ invariant-loop-at l = record {
   types : (n : ℕ) (f : pure.Family) → HaveKinds n f 0 l.args → length f.indices ≡ l.indices →
       HaveKinds n f l.at (drop l.at l.args)
       × (tele_of l.types.items ++ hypotheses_from (length f.parameters) (l.number + length l.args) (l.number + 1) (length l.types.items) l.at (drop l.at l.args)
-      ≡ hypotheses_from (length f.parameters) (l.number + length l.args) (l.number + 1) 0 0 l.args)
+      ≡ hypotheses_from (length f.parameters) (l.number + length l.args) (l.number + 1) 0 0 l.args);
 }

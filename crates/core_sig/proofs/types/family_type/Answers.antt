@@ -11,7 +11,7 @@ use Rattle.core_sig.proofs.Telescoping.{gives_deep, greatest-products, height-pr
 use Rattle.core_sig.proofs.types.family_type.Goals as goal
 
 pub returns-in_err-indices : goal.returns-in_err-indices
-returns-in_err-indices c = 
+returns-in_err-indices c =
     let q = err_from_is_err_and c.from_residual.result c.from_residual.ensures.1 in
     let f = family_of c.args.f.now in
     rw (q.1, q.2)
