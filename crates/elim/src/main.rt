@@ -8,6 +8,7 @@ use std::process::ExitCode;
 
 /// The statuses where the runtime does not give the words: for want of memory, and for another cause.
 const NO_MEMORY: u8 = 5;
+
 const NO_WORDS: u8 = 6;
 
 /// The words behind the program's name, or the status.

@@ -45,6 +45,7 @@ sent_part before after n r e bytes status appended ok within failed s =
   where
     no_ok : IsOk r → ⊥
     no_ok h = let R : Result (Unit {0}) PortError → Type 0 = λ x. IsOk x in let k : R (Err e) = subst R failed h in cc
+
     not_whole : take n bytes ≡ bytes → ⊥
     not_whole whole =
         let lengths : length (take n bytes) ≡ length bytes = ap length whole in
@@ -89,16 +90,22 @@ status-of b s r e h = ap (λ x. if x then Refused else Done) (sym (shown-refused
 pub head_part : (b : Block) (before after : Option (List ℕ)) (status : Status) →
     ((text : List ℕ) × Appends before after text × Sent (Err status) text (text_of head_lines)) → Follows (compiled b) before after status
 head_part b before after status sent =
-    follows_part (compiled b) before after status (sent.0, sent.1, (
+    follows_part (compiled b) before after status (
+      sent.0,
+      sent.1,
+      (
         (sent.2.0.0 ++ text_of b.lines, ap (λ l. l ++ text_of b.lines) sent.2.0.1 ∙ append_assoc sent.0 sent.2.0.0 (text_of b.lines)),
-        not_whole, sent.2.2))
+        not_whole,
+        sent.2.2,
+      ),
+    )
   where
     not_whole : sent.0 ≡ text_of (compiled b).lines → ⊥
     not_whole whole =
         let l1 : length sent.0 ≡ length (text_of head_lines) + length (text_of b.lines) =
-            ap length whole ∙ length-append (text_of head_lines) (text_of b.lines) in
+        ap length whole ∙ length-append (text_of head_lines) (text_of b.lines) in
         let l2 : length (text_of head_lines) ≡ length sent.0 + length sent.2.0.0 =
-            ap length sent.2.0.1 ∙ length-append sent.0 sent.2.0.0 in
+        ap length sent.2.0.1 ∙ length-append sent.0 sent.2.0.0 in
         let none : sent.2.0.0 ≡ [] = no_items sent.2.0.0 (omega (arith, l1, l2)) in
         sent.2.1 (sym (sent.2.0.1 ∙ ap (λ l. sent.0 ++ l) none ∙ append-nil sent.0))
 
@@ -115,10 +122,15 @@ block_front : (b : Block) (before middle after : Option (List ℕ)) (status : St
     ((text : List ℕ) × Appends before middle text × (text ≡ text_of head_lines)) →
     ((text : List ℕ) × Appends middle after text × Sent (Err status) text (text_of b.lines)) → Follows (compiled b) before after status
 block_front b before middle after status head sent =
-    follows_part (compiled b) before after status (text_of head_lines ++ sent.0,
-        appends-both before middle after (text_of head_lines) sent.0 (subst (λ x. Appends before middle x) head.2 head.1) sent.1, (
+    follows_part (compiled b) before after status (
+      text_of head_lines ++ sent.0,
+      appends-both before middle after (text_of head_lines) sent.0 (subst (λ x. Appends before middle x) head.2 head.1) sent.1,
+      (
         (sent.2.0.0, ap (λ l. text_of head_lines ++ l) sent.2.0.1),
-        (λ whole. sent.2.1 (same_end (text_of head_lines) whole)), sent.2.2))
+        (λ whole. sent.2.1 (same_end (text_of head_lines) whole)),
+        sent.2.2,
+      ),
+    )
   where
     same_end : (front : List ℕ) → front ++ sent.0 ≡ front ++ text_of b.lines → sent.0 ≡ text_of b.lines
     same_end front e = append_cancel_left front sent.0 (text_of b.lines) e

@@ -15,7 +15,7 @@ after_head (suc n) end end' tokens behind rest head r some h e reads =
     let less : suc n - 1 ≡ n = omega arith in
     let M : ℕ → Type 0 = λ k. (Ok (head, behind) ≡ atom k end tokens) → Reads pure.surf_of r rest (head_part (arguments k) (term k) head end' behind) → Reads pure.surf_of r rest (spine (suc n) end tokens) in
     let at_n : M n = λ h1 reads1.
-        let N : ℕ → Type 0 = λ k. Reads pure.surf_of r rest (head_part (arguments n) (term n) head k behind) in
-        let K : Reading pure.Surf → Type 0 = λ read. Reads pure.surf_of r rest (then_read read (λ head' rest'. head_part (arguments n) (term n) head' end rest')) in
-        subst K h1 (subst N e reads1) in
+    let N : ℕ → Type 0 = λ k. Reads pure.surf_of r rest (head_part (arguments n) (term n) head k behind) in
+    let K : Reading pure.Surf → Type 0 = λ read. Reads pure.surf_of r rest (then_read read (λ head' rest'. head_part (arguments n) (term n) head' end rest')) in
+    subst K h1 (subst N e reads1) in
     subst M (sym less) at_n h reads

@@ -81,17 +81,17 @@ infer-has S typed G (Sort i) ctx = universe-has S G i ctx
 infer-has S typed G (Pi a b) ctx =
     if_typed-has (HasUniverse S G a) (Has S G (Pi a b)) (behind 0 (infer_sort G a)) (λ i. product_behind i (infer_sort (a ∷ G) b))
     (behind-has (HasUniverse S G a) 0 (infer_sort G a)
-        (if_typed-has (Has S G a) (HasUniverse S G a) (infer G a) (sort_of G) (infer-has S typed G a ctx) (sort_of-has S G a)))
+    (if_typed-has (Has S G a) (HasUniverse S G a) (infer G a) (sort_of G) (infer-has S typed G a ctx) (sort_of-has S G a)))
     (λ s h.
     if_typed-has (HasUniverse S (a ∷ G) b) (Has S G (Pi a b)) (behind 1 (infer_sort (a ∷ G) b)) (λ j. Yes (greater_sort s j))
     (behind-has (HasUniverse S (a ∷ G) b) 1 (infer_sort (a ∷ G) b)
-        (if_typed-has (Has S (a ∷ G) b) (HasUniverse S (a ∷ G) b) (infer (a ∷ G) b) (sort_of (a ∷ G))
-            (infer-has S typed (a ∷ G) b (bind h.0 ctx h.2)) (sort_of-has S (a ∷ G) b)))
+    (if_typed-has (Has S (a ∷ G) b) (HasUniverse S (a ∷ G) b) (infer (a ∷ G) b) (sort_of (a ∷ G))
+    (infer-has S typed (a ∷ G) b (bind h.0 ctx h.2)) (sort_of-has S (a ∷ G) b)))
     (λ t k. product-has S G a b s t h k))
 infer-has S typed G (Lam a b) ctx =
     if_typed-has (HasUniverse S G a) (Has S G (Lam a b)) (behind 0 (infer_sort G a)) (λ i. function_behind G a (infer (a ∷ G) b))
     (behind-has (HasUniverse S G a) 0 (infer_sort G a)
-        (if_typed-has (Has S G a) (HasUniverse S G a) (infer G a) (sort_of G) (infer-has S typed G a ctx) (sort_of-has S G a)))
+    (if_typed-has (Has S G a) (HasUniverse S G a) (infer G a) (sort_of G) (infer-has S typed G a ctx) (sort_of-has S G a)))
     (λ s h.
     if_typed-has (Has S (a ∷ G) b) (Has S G (Lam a b)) (behind 1 (infer (a ∷ G) b)) (λ c. function_type G a c)
     (behind-has (Has S (a ∷ G) b) 1 (infer (a ∷ G) b) (infer-has S typed (a ∷ G) b (bind h.0 ctx h.2)))

@@ -29,7 +29,10 @@ fn numbered(alloc: Global, kind: &[u8], offset: u32) -> Result<Block, Halt>
     text.extend_from_slice(b" ")?;
     push_number(&mut text, offset)?;
     text.extend_from_slice(b"\n")?;
-    Ok(Block { text, refused: true })
+    Ok(Block {
+        text,
+        refused: true,
+    })
 }
 
 fn unknown(alloc: Global, front: &[u8], offset: u32, word: &Name) -> Result<Block, Halt>
@@ -43,7 +46,10 @@ fn unknown(alloc: Global, front: &[u8], offset: u32, word: &Name) -> Result<Bloc
     text.extend_from_slice(b" ")?;
     text.extend_from_slice(word.as_slice())?;
     text.extend_from_slice(b"\n")?;
-    Ok(Block { text, refused: true })
+    Ok(Block {
+        text,
+        refused: true,
+    })
 }
 
 fn deep(alloc: Global, front: &[u8]) -> Result<Block, Halt>
@@ -53,7 +59,10 @@ fn deep(alloc: Global, front: &[u8]) -> Result<Block, Halt>
     text.extend_from_slice(b"# refused ")?;
     text.extend_from_slice(front)?;
     text.extend_from_slice(b"Deep\n")?;
-    Ok(Block { text, refused: true })
+    Ok(Block {
+        text,
+        refused: true,
+    })
 }
 
 fn ill_typed(alloc: Global, front: &[u8], denial: &Name) -> Result<Block, Halt>
@@ -64,7 +73,10 @@ fn ill_typed(alloc: Global, front: &[u8], denial: &Name) -> Result<Block, Halt>
     text.extend_from_slice(front)?;
     text.extend_from_slice(denial.as_slice())?;
     text.extend_from_slice(b"\n")?;
-    Ok(Block { text, refused: true })
+    Ok(Block {
+        text,
+        refused: true,
+    })
 }
 
 /// The line of a refusal; `front` is the declaration's name and a space where one is being worked on.
@@ -107,7 +119,10 @@ fn accepted(alloc: Global, name: &Name, d: &Definition) -> Result<Block, Halt>
     text.extend_from_slice(b"\n")?;
     push_accepted(&mut text, name)?;
     text.extend_from_slice(b"\n")?;
-    Ok(Block { text, refused: false })
+    Ok(Block {
+        text,
+        refused: false,
+    })
 }
 
 fn front_of(alloc: Global, name: &Name) -> Result<Vec<u8>, Halt>
@@ -136,7 +151,10 @@ fn text_block(alloc: Global, bytes: &[u8]) -> Result<Block, Halt>
     ensures { Gives shown_of result (Ok (shown_block (spec.text_block (written_in bytes.now)))) }
 {
     match crate::texts::written_in(alloc, bytes) {
-        Ok(None) => Ok(Block { text: Vec::new(alloc), refused: false }),
+        Ok(None) => Ok(Block {
+            text: Vec::new(alloc),
+            refused: false,
+        }),
         Ok(Some(w)) => definition_block(alloc, &w),
         Err(Halt::Memory) => Err(Halt::Memory),
         Err(halt) => refusal(alloc, b"", halt),

@@ -102,7 +102,12 @@ fn is_top(ty: &Term) -> bool
 }
 
 /// The type of a function with this domain, whose body has the type `codomain`.
-fn function_type(alloc: Global, ctx: &Context, domain: &Term, codomain: Term) -> Result<Verdict, Stop>
+fn function_type(
+    alloc: Global,
+    ctx: &Context,
+    domain: &Term,
+    codomain: Term,
+) -> Result<Verdict, Stop>
     ensures { Gives verdict_of result (Ok (spec.function_type (spec.context_of ctx.now) (tree_of domain.now) (tree_of codomain))) }
 {
     if is_top(&codomain) {

@@ -17,9 +17,8 @@ mod surf;
 mod texts;
 mod token;
 
+use halt::Halt;
 pub use running::run;
 pub use status::Status;
-
-use halt::Halt;
 use surf::{Form, Surf};
 use token::Token;

@@ -74,9 +74,7 @@ fn begins_atom(tokens: &[Token]) -> bool
 {
     match tokens {
         [first, ..] => {
-            is_plain(first.kind)
-                || is_spelled(first, b"Type")
-                || is_spelled(first, b"(")
+            is_plain(first.kind) || is_spelled(first, b"Type") || is_spelled(first, b"(")
         }
         [] => false,
     }
@@ -89,7 +87,11 @@ fn level_of(text: &[u8]) -> Option<u8>
         [d] => Some(d.saturating_sub(b'0')),
         [c, d] => {
             let level = 10 * (c.saturating_sub(b'0') as u16) + d.saturating_sub(b'0') as u16;
-            if level <= TOP as u16 { Some(level as u8) } else { None }
+            if level <= TOP as u16 {
+                Some(level as u8)
+            } else {
+                None
+            }
         }
         _ => None,
     }
