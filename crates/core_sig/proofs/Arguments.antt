@@ -1,18 +1,18 @@
 -- Arguments of the code and those that they stand for, where their kinds are those of their types.
-use Rattle.std.proofs.Common.{◌≡◌, ℕ, zero, suc, ◌+◌, ◌<◌, ◌≤◌, List, [], ◌∷◌, ◌++◌, map, take, drop, length, get_or, refl, ap, ap₂, sym, ◌∙◌, arith, append-nil, append_assoc, add-one}
+use Rattle.std.proofs.Common.{◌≡◌, ℕ, zero, suc, ◌+◌, ◌<◌, List, [], ◌∷◌, ◌++◌, map, take, drop, length, get_or, refl, ap, ap₂, sym, ◌∙◌, arith, append-nil, append_assoc, add-one}
 use Rattle.std.proofs.lemmas.List.{length-map, length-append, length-take-le, map-append}
 use Rattle.std.proofs.lemmas.Simd.{map-map}
 use Rattle.std.proofs.Math.Seq.{drop-append_seam, take-suc}
 use mathlib.Core.Path.{fun_ext}
 use Rattle.theory.specs.Terms.{Term, lift, lift_var}
-use Rattle.theory.specs.Terms.Term.{Var, Pi, Lam, App, Let, Fam}
+use Rattle.theory.specs.Terms.Term.{Var, App, Fam}
 use Rattle.theory.specs.Substitutions.{ren, inst, ups, weaken}
 use Rattle.theory.specs.Spines.{spine_of}
 use Rattle.theory.specs.Telescopes.{Telescope, applied, variables, weaken_by, inst_telescope}
 use Rattle.theory.specs.Families as pure
 use Rattle.theory.specs.Families.{recursive_type, argument_type, argument_types, family_head, index_types}
-use Rattle.theory.proofs.Instances.{inst-same, inst-var, ups-var, ren-ren, ren-same, ren-is_inst}
-use Rattle.theory.proofs.Instantiation.{inst-weaken, inst-applied, ups_by}
+use Rattle.theory.proofs.Instances.{inst-var, ups-var, ren-ren, ren-same}
+use Rattle.theory.proofs.Instantiation.{inst-weaken, ups_by}
 use Rattle.theory.proofs.Shifts.{lift-is_inst, lift_var-tells}
 use Rattle.theory.proofs.Commuting.{lift_by_none}
 use Rattle.theory.proofs.ScopedTypes.{length-variables}

@@ -1,5 +1,5 @@
 -- The types of hypotheses, made from the lifted types of their arguments.
-use Rattle.std.proofs.Common.{◌≡◌, ℕ, zero, suc, ◌+◌, ◌<◌, ◌≤◌, List, [], ◌∷◌, ◌++◌, ◌-◌, map, drop, length, get_or, refl, ap, ap₂, sym, ◌∙◌, subst, arith, add-one, append_assoc}
+use Rattle.std.proofs.Common.{◌≡◌, ℕ, zero, suc, ◌+◌, ◌<◌, List, [], ◌∷◌, ◌++◌, ◌-◌, map, drop, length, get_or, refl, ap, ap₂, sym, ◌∙◌, subst, arith, add-one, append_assoc}
 use Rattle.std.proofs.lemmas.List.{length-map, length-drop, length-append, map-append}
 use Rattle.std.proofs.Math.Seq.{drop-cons}
 use mathlib.Core.Path.{fun_ext}

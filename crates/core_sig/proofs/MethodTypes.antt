@@ -6,7 +6,7 @@ use Rattle.std.proofs.lemmas.Simd.{map-map}
 use mathlib.Core.Path.{fun_ext}
 use Rattle.theory.specs.Terms.{Term, height, lift, lift_var}
 use Rattle.theory.specs.Terms.Term.{Var, Pi, App, Fam, Con}
-use Rattle.theory.specs.Substitutions.{ren, up, inst, weaken, fill}
+use Rattle.theory.specs.Substitutions.{up, inst, weaken, fill}
 use Rattle.theory.specs.Telescopes.{Telescope, products, applied, arrows, variables, weaken_by}
 use Rattle.theory.specs.Families as pure
 use Rattle.theory.specs.Families.{argument_types, family_head}

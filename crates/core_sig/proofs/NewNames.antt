@@ -1,5 +1,5 @@
 -- The names of an entry are new to the entries before it, where all names of a signature are different.
-use Rattle.std.proofs.Common.{◌≡◌, ◌≢◌, ℕ, zero, suc, ◌+◌, ◌<◌, Bool, true, false, cond, List, [], ◌∷◌, ◌++◌, map, take, drop, length, get_or, flat_map, None, Some, All, AllPairs, bytes_eq, refl, ap, ap₂, sym, ◌∙◌, subst, subst₂, arith, append-nil}
+use Rattle.std.proofs.Common.{◌≡◌, ◌≢◌, ℕ, zero, suc, ◌+◌, ◌<◌, cond, List, [], ◌∷◌, ◌++◌, map, take, drop, length, get_or, flat_map, None, Some, AllPairs, bytes_eq, refl, ap, ap₂, sym, ◌∙◌, subst, subst₂, arith, append-nil}
 use Rattle.std.specs.Map.{lookup, keys_of}
 use Rattle.std.proofs.lemmas.Grind.{flat_map-append}
 use Rattle.std.proofs.lemmas.List.{map-append, length-append, get_or_append_left, get_or-append-add}

@@ -1,10 +1,10 @@
 -- The prelude, entry by entry.
-use Rattle.std.proofs.Common.{◌≡◌, ℕ, zero, suc, ◌+◌, ◌<◌, ◌≤◌, List, [], ◌∷◌, ◌++◌, map, take, length, Some, slice_get, All, refl, ap, ap₂, sym, ◌∙◌, subst, subst₂, Bool, arith, add-one}
+use Rattle.std.proofs.Common.{◌≡◌, ℕ, ◌+◌, ◌≤◌, List, [], ◌∷◌, ◌++◌, map, take, length, Some, slice_get, All, refl, ap, ap₂, sym, ◌∙◌, subst, subst₂, Bool, add-one}
 use Rattle.std.proofs.lemmas.List.{length-take-le}
 use Rattle.std.proofs.lemmas.Option.{slice_get_within, get_or_from_slice_get}
 use Rattle.std.proofs.Math.Seq.{take-suc}
 use Rattle.theory.specs.Terms.{Term}
-use Rattle.theory.specs.Terms.Term.{Var, Pi, App, Fam}
+use Rattle.theory.specs.Terms.Term.{Var, App, Fam}
 use Rattle.theory.specs.Substitutions.{ren, inst}
 use Rattle.theory.specs.Spines.{head_of}
 use Rattle.theory.specs.Telescopes.{Telescope, applied, weaken_by, variables}

@@ -1,7 +1,7 @@
 -- Drafts with the numbers that their names have in a signature.
-use Rattle.std.specs.Prelude.{ℕ, ◌-◌, nat_lt, if◌then◌else◌, List, map, Option, Some, None, option_and_then, slice_get}
+use Rattle.std.specs.Prelude.{ℕ, ◌-◌, nat_lt, if◌then◌else◌, List, Option, Some, None, option_and_then, slice_get}
 use Rattle.std.specs.Option.{option_map_or}
-use Rattle.theory.specs.Terms.{Term, Var, Sort, Pi, Lam, App, Let, Const, Fam, Con, Elim, AxiomK}
+use Rattle.theory.specs.Terms.{Term, Pi, Lam, App, Let, Const}
 use Rattle.theory.specs.Signatures as signature
 use Rattle.core_sig.specs.Names.{find}
 use Rattle.core_sig.specs.declared.entry.Entry.{Entry as CodeEntry}

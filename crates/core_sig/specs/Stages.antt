@@ -1,5 +1,5 @@
 -- The type of an eliminator, each part where it stands: behind the parameters, the motive and the methods before it.
-use Rattle.std.specs.Prelude.{ℕ, zero, suc, ◌+◌, List, [], ◌∷◌, map, length}
+use Rattle.std.specs.Prelude.{ℕ, suc, ◌+◌, List, [], ◌∷◌, map, length}
 use Rattle.theory.specs.Terms.{Term, Var, Sort, Pi, App, Fam, Con, lift, lift_var}
 use Rattle.theory.specs.Telescopes.{Telescope, products, applied, variables, weaken_by}
 use Rattle.theory.specs.Families.{Constructor}

@@ -1,4 +1,4 @@
-use Rattle.std.proofs.Common.{sym, ◌∙◌, ap, ap₂, map, ◌∷◌, []}
+use Rattle.std.proofs.Common.{sym, ◌∙◌, ap, ◌∷◌, []}
 use Rattle.std.proofs.lemmas.List.{map-append}
 use Rattle.theory.specs.Terms.Term.{App}
 use Rattle.theory.specs.Telescopes.{applied}

@@ -1,9 +1,8 @@
-use Rattle.std.proofs.Common.{◌≡◌, map, arith, ap, sym, ◌∙◌}
+use Rattle.std.proofs.Common.{arith}
 use Rattle.std.proofs.lemmas.Result.{err_from_is_err_and}
 use Rattle.std.proofs.lemmas.Simd.{map-map}
 use Rattle.theory.specs.Terms.{Term, lift}
-use Rattle.theory.proofs.Heights.{height-lift}
-use Rattle.core_terms.specs.Meanings.{tree_of, tele_of}
+use Rattle.core_terms.specs.Meanings.{tree_of}
 use Rattle.core_sig.proofs.Telescoping.{greatest-map, deep-bounded}
 use Rattle.core_sig.proofs.building.lift_all_twice.Goals as goal
 

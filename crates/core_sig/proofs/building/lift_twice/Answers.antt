@@ -1,7 +1,6 @@
-use Rattle.std.proofs.Common.{arith, ap, ◌+◌, ◌≤◌, subst, sym}
+use Rattle.std.proofs.Common.{arith}
 use Rattle.std.proofs.lemmas.Result.{err_from_is_err_and}
-use Rattle.theory.specs.Terms.{lift, free_of}
-use Rattle.theory.proofs.FreeVariables.{free_of-lift}
+use Rattle.theory.specs.Terms.{lift}
 use Rattle.core_terms.specs.Meanings.{tree_of}
 use Rattle.core_sig.proofs.Telescoping.{bounded-lift, ok-bounded, free_of-lift_most}
 use Rattle.core_sig.proofs.building.lift_twice.Goals as goal

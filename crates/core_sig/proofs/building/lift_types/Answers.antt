@@ -1,11 +1,9 @@
-use Rattle.std.proofs.Common.{◌≡◌, ◌+◌, ◌∷◌, [], ◌++◌, map, take, length, ap, ap₂, sym, ◌∙◌, arith, add-one}
+use Rattle.std.proofs.Common.{◌≡◌, ◌∷◌, [], ◌++◌, map, ap₂, sym, ◌∙◌, arith}
 use Rattle.std.proofs.lemmas.Result.{err_from_is_err_and}
 use Rattle.std.proofs.lemmas.Grind.{common_steps}
-use Rattle.std.proofs.lemmas.List.{map-append, length-map, length-take-le}
-use Rattle.std.proofs.Math.Seq.{take-suc}
+use Rattle.std.proofs.lemmas.List.{map-append}
 use Rattle.theory.proofs.Heights.{height-lift}
-use Rattle.core_terms.specs.Meanings.{tree_of, tele_of}
-use Rattle.core_sig.specs.Building.{lift_telescope}
+use Rattle.core_terms.specs.Meanings.{tree_of}
 use Rattle.core_sig.proofs.Telescoping.{greatest-map, greatest-lift, deep-bounded, ok-bounded}
 use Rattle.core_sig.proofs.Arguments.{lift_types-more}
 use Rattle.core_sig.proofs.building.lift_types.Goals as goal

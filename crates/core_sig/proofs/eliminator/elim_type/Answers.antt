@@ -1,11 +1,10 @@
-use Rattle.std.proofs.Common.{◌≡◌, ◌+◌, map, length, arith, ap, ap₂, sym, ◌∙◌, subst}
-use Rattle.std.proofs.lemmas.List.{length-map}
+use Rattle.std.proofs.Common.{◌+◌, map, length, arith, ap, ap₂, sym, ◌∙◌, subst}
 use Rattle.std.proofs.lemmas.Result.{err_from_is_err_and}
 use Rattle.theory.specs.Terms.Term.{Pi}
 use Rattle.theory.specs.Telescopes.{products}
 use Rattle.core_terms.specs.Answers.{Gives, bounded}
 use Rattle.core_terms.specs.Meanings.{tree_of, tele_of}
-use Rattle.core_sig.specs.Meanings.{constructor_of, family_of}
+use Rattle.core_sig.specs.Meanings.{constructor_of}
 use Rattle.core_sig.specs.Stages.{motive_over, goal_over, staged_methods}
 use Rattle.core_sig.proofs.EliminatorTypes.{elim_type_of, elim_type-is, height-elim_type, scoped_indices}
 use Rattle.core_sig.proofs.Telescoping.{gives_deep, ok_is}

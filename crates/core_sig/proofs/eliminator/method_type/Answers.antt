@@ -3,8 +3,7 @@ use Rattle.std.proofs.lemmas.List.{length-map}
 use Rattle.std.proofs.lemmas.Result.{err_from_is_err_and}
 use Rattle.theory.specs.Terms.{height}
 use Rattle.theory.specs.Telescopes.{products}
-use Rattle.core_terms.specs.Meanings.{tree_of, tele_of}
-use Rattle.core_sig.specs.Building.{lift_telescope}
+use Rattle.core_terms.specs.Meanings.{tree_of}
 use Rattle.core_sig.specs.Stages.{hypotheses_from, method_end}
 use Rattle.core_sig.proofs.MethodTypes.{staged_method-is, hypotheses_made, height-method}
 use Rattle.core_sig.proofs.Telescoping.{greatest-lift, gives-builds, ok_is}

@@ -1,9 +1,9 @@
-use Rattle.std.proofs.Common.{◌≡◌, ◌+◌, ◌++◌, ◌∷◌, [], map, length, take, arith, ap, ap₂, sym, ◌∙◌, zero-add}
+use Rattle.std.proofs.Common.{◌≡◌, ◌++◌, ◌∷◌, [], arith, ap, ap₂, sym, ◌∙◌, zero-add}
 use Rattle.std.proofs.lemmas.Grind.{common_steps}
 use Rattle.std.proofs.lemmas.List.{length-map, map-append}
 use Rattle.std.proofs.lemmas.Result.{err_from_is_err_and}
 use Rattle.theory.specs.Terms.{height}
-use Rattle.core_terms.specs.Meanings.{tree_of, tele_of}
+use Rattle.core_terms.specs.Meanings.{tree_of}
 use Rattle.core_sig.specs.Meanings.{constructor_of, family_of}
 use Rattle.core_sig.specs.Stages.{staged_method}
 use Rattle.core_sig.proofs.ConstructorTypes.{kinds_at}

@@ -1,4 +1,4 @@
-use Rattle.std.proofs.Common.{◌≡◌, ◌+◌, ℕ, map, drop, length}
+use Rattle.std.proofs.Common.{◌≡◌, ◌+◌, map, drop, length}
 use Rattle.theory.specs.Families as pure
 use Rattle.core_sig.specs.Kinds.{HaveKinds}
 use Rattle.core_sig.specs.Meanings.{argument_of, constructor_of}

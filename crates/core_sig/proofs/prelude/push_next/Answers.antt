@@ -1,7 +1,7 @@
-use Rattle.std.proofs.Common.{◌≡◌, ap, sym, ◌∙◌, length, get_or}
+use Rattle.std.proofs.Common.{ap, ◌∙◌, length, get_or}
 use Rattle.theory.specs.Signatures.{FamilyOf, names_of}
 use Rattle.theory.specs.Prelude.{prelude}
-use Rattle.theory.specs.WellFormed.{pushed, first_entries}
+use Rattle.theory.specs.WellFormed.{pushed}
 use Rattle.theory.proofs.PreludeWellFormed.{prelude_is_well_formed}
 use Rattle.core_sig.specs.Meanings.{family_of}
 use Rattle.core_sig.specs.Names.{find}

@@ -1,4 +1,4 @@
-use Rattle.std.proofs.Common.{sym, ap, ◌∙◌, subst}
+use Rattle.std.proofs.Common.{subst}
 use Rattle.theory.specs.Families as pure
 use Rattle.core_terms.specs.Answers.{Gives, bounded}
 use Rattle.core_terms.specs.Meanings.{tree_of}

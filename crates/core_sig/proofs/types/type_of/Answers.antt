@@ -1,4 +1,4 @@
-use Rattle.std.proofs.Common.{◌≡◌, arith, ap, ap₂, sym, ◌∙◌, subst, length, map}
+use Rattle.std.proofs.Common.{ap, ap₂, sym, ◌∙◌, subst, length, map}
 use Rattle.std.proofs.lemmas.Result.{err_from_is_err_and}
 use Rattle.theory.specs.Terms.Term.{Fam}
 use Rattle.theory.specs.Telescopes.{products, applied, variables, weaken_by}

@@ -1,9 +1,8 @@
-use Rattle.std.proofs.Common.{◌≡◌, ◌+◌, ◌*◌, ◌≤◌, Bool, ℕ, Some, length, slice_get, ap, sym, ◌∙◌, subst, arith}
+use Rattle.std.proofs.Common.{◌+◌, ◌*◌, ◌≤◌, Bool, ℕ, Some, length, ap, sym, ◌∙◌, subst, arith}
 use Rattle.theory.specs.Terms.{top}
-use Rattle.theory.specs.Signatures.{FamilyOf, IsEntryAt}
+use Rattle.theory.specs.Signatures.{FamilyOf}
 use Rattle.theory.specs.Prelude.{prelude}
-use Rattle.theory.proofs.PreludeWellFormed.{equality_at, unit_at, pair_at, length_to}
-use Rattle.core_sig.specs.Meanings.{family_of}
+use Rattle.theory.proofs.PreludeWellFormed.{unit_at, pair_at, length_to}
 use Rattle.core_sig.proofs.PreludeEntries.{so_far-at, next-at}
 use Rattle.core_sig.proofs.signature.Signature.prelude.Goals as goal
 
