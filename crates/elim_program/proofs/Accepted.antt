@@ -1,7 +1,7 @@
 -- Where a line says that a definition is accepted, the lines above show it.
-use Rattle.std.proofs.Common.{◌≡◌, ◌≢◌, ℕ, ◌≤◌, Bool, true, false, nat_lt, List, [], ◌∷◌, ◌++◌, length, drop, codes, decimal, Option, Some, None, Result, Ok, Err, refl, sym, ap, subst, ◌∙◌, arith}
+use Rattle.std.proofs.Common.{◌≡◌, ◌≢◌, ℕ, Bool, true, false, nat_lt, List, [], ◌∷◌, ◌++◌, length, drop, codes, Option, Some, None, Result, Ok, Err, refl, sym, ap, subst, ◌∙◌, arith}
 use Rattle.std.specs.Prelude.{if◌then◌else◌}
-use Rattle.theory.specs.Terms.{Term, IsClosed}
+use Rattle.theory.specs.Terms.{Term}
 use Rattle.theory.specs.Prelude.{prelude}
 use Rattle.theory.specs.Typing.{Has, HasSort}
 use Rattle.theory.specs.Typing.IsContext.{empty}
@@ -15,7 +15,7 @@ use Rattle.elim_program.specs.declared.halt.Halt.TheVariants.{Memory, NotYet, Sy
 use Rattle.elim_program.specs.Answers.{and_then}
 use Rattle.elim_program.specs.Checking.{infer_sort, check}
 use Rattle.elim_program.specs.Headline.{IsShown, Headline}
-use Rattle.elim_program.specs.Outputs.{Block, accepted_line, refusal_line, definition_block, text_block, block_of, limited, usage, head_lines, compiled, defined_output}
+use Rattle.elim_program.specs.Outputs.{accepted_line, refusal_line, definition_block, text_block, block_of, limited, usage, head_lines, compiled}
 use Rattle.elim_program.specs.Printing.{definition_line, denial_text}
 use Rattle.elim_program.specs.Resolving.{resolve_closed}
 use Rattle.elim_program.specs.Texts.{Written, Definition, on_verdict, typed, accept, written_in}

@@ -1,5 +1,5 @@
 -- What is written part by part follows the whole output.
-use Rattle.std.proofs.Common.{◌≡◌, ◌≢◌, ℕ, ◌+◌, ◌<◌, ◌≤◌, ◌↔◌, ◌⊎◌, inl, inr, Bool, true, false, nat_lt, List, [], ◌∷◌, ◌++◌, length, take, drop, Option, Some, None, Result, Ok, Err, IfSome, IsOk, refl, sym, ap, subst, ◌∙◌, arith, append_assoc, append-nil}
+use Rattle.std.proofs.Common.{◌≡◌, ◌≢◌, ℕ, ◌+◌, ◌<◌, ◌≤◌, ◌↔◌, ◌⊎◌, inl, inr, Bool, true, false, nat_lt, List, [], ◌∷◌, ◌++◌, length, take, drop, Option, Some, None, Result, Err, IfSome, IsOk, refl, sym, ap, subst, ◌∙◌, arith, append_assoc, append-nil}
 use Rattle.std.specs.Prelude.{if◌then◌else◌}
 use Rattle.std.specs.Io.KnownBytes.{Appends}
 use Rattle.std.proofs.lemmas.Bool.Decides.{nat_tests}
@@ -9,12 +9,12 @@ use Rattle.elim_ports.specs.declared.reading.ReadError.{ReadError}
 use Rattle.elim_ports.specs.declared.reading.ReadError.TheVariants.{TooLong}
 use Rattle.elim_ports.specs.Reading.{ReadsAll}
 use Rattle.elim_program.specs.declared.status.Status.{Status}
-use Rattle.elim_program.specs.declared.status.Status.TheVariants.{Done, Refused, Usage, ReadFault, WriteFault, NoMemory}
+use Rattle.elim_program.specs.declared.status.Status.TheVariants.{Done, Refused, WriteFault, NoMemory}
 use Rattle.elim_program.specs.Lines.{text_of}
 use Rattle.elim_program.specs.Outputs.{Block, Output, block_of, compiled, head_lines, limited, usage}
 use Rattle.elim_program.specs.Blocks.{Shown, shown_block}
 use Rattle.elim_program.proofs.Answering.{OkOf, ok-injective}
-use Rattle.elim_program.specs.Runs.{Follows, IsFront, Runs, Says, Sent}
+use Rattle.elim_program.specs.Runs.{Follows, Runs, Says, Sent}
 use Rattle.elim_program.specs.Words.{is_accepted}
 
 -- The bytes of a source.

@@ -1,5 +1,5 @@
 -- How a part that is read goes on with the next one.
-use Rattle.std.proofs.Common.{◌≡◌, ◌≢◌, ℕ, zero, suc, ◌-◌, List, Result, Ok, Err, refl, sym, subst, arith}
+use Rattle.std.proofs.Common.{◌≡◌, ℕ, zero, suc, ◌-◌, List, Result, Ok, refl, sym, subst, arith}
 use Rattle.elim_program.specs.declared.token.Token.{Token}
 use Rattle.elim_program.specs.declared.halt.Halt.{Halt}
 use Rattle.elim_program.specs.declared.surf.Surf.{Surf}

@@ -1,9 +1,9 @@
 -- What is ready for the checker, and what of its parts.
-use Rattle.std.proofs.Common.{◌≡◌, ℕ, zero, suc, ◌+◌, ◌-◌, ◌≤◌, ◌<◌, List, [], ◌∷◌, length, max, Option, Some, None, arith, refl, subst, ap, sym, true, Ok, Err}
+use Rattle.std.proofs.Common.{◌≡◌, ℕ, zero, suc, ◌+◌, ◌≤◌, [], ◌∷◌, length, Some, arith, subst, ap, sym, true, Ok, Err}
 use Rattle.std.specs.Prelude.{slice_get}
 use Rattle.std.proofs.lemmas.Bool.{le-leb}
 use Rattle.std.specs.Prelude.{nat_le, if◌then◌else◌}
-use Rattle.theory.specs.Terms.{Term, Var, Pi, Lam, height, free_of, lift}
+use Rattle.theory.specs.Terms.{Term, Pi, Lam, height, free_of, lift}
 use Rattle.theory.proofs.Heights.{height-lift}
 use Rattle.core_terms.specs.Answers.{bounded}
 use Rattle.core_terms.specs.declared.stop.Stop.TheVariants.{Deep}

@@ -1,12 +1,11 @@
 -- How the tokens of a text go on behind what it begins with.
-use Rattle.std.proofs.Common.{◌≡◌, ℕ, zero, suc, ◌+◌, ◌-◌, ◌<◌, ◌≤◌, List, [], ◌∷◌, ◌++◌, length, take, drop, Result, Ok, Err, true, false, refl, sym, ap, ap₂, ◌∙◌, arith, subst, add-zero, append_assoc, append-nil, zero-add}
+use Rattle.std.proofs.Common.{◌≡◌, ℕ, zero, suc, ◌+◌, ◌-◌, ◌<◌, ◌≤◌, List, [], ◌∷◌, ◌++◌, length, take, drop, Result, Ok, Err, true, false, refl, sym, ap, ◌∙◌, arith, subst, add-zero, append_assoc, append-nil}
 use Rattle.elim_program.specs.declared.token.Token.{Token}
 use Rattle.elim_program.specs.declared.halt.Halt.{Halt}
 use Rattle.elim_program.specs.declared.halt.Halt.TheVariants.{NotYet}
 use Rattle.std.specs.Prelude.{if◌then◌else◌}
 use Rattle.std.proofs.lemmas.List.{drop-drop, drop_all, length-drop}
-use Rattle.surface_syntax.specs.Spelling.{piece, IsFront}
-use Rattle.surface_syntax.specs.declared.token.Piece.{Piece}
+use Rattle.surface_syntax.specs.Spelling.{piece}
 use Rattle.surface_syntax.specs.declared.token.Piece.TheVariants.{Gap, Found, Bad}
 use Rattle.surface_syntax.specs.declared.token.TokenKind.{TokenKind}
 use Rattle.elim_program.specs.Lexing.{tokens_from, tokens_behind, more, is_read}

@@ -1,10 +1,10 @@
 -- The checker on variables, sorts, products and functions; types are compared letter for letter. All other forms are
 -- denied.
-use Rattle.std.specs.Prelude.{◌≡◌, ℕ, zero, suc, ◌+◌, ◌≤◌, Bool, true, false, cond, ◌==◌, nat_lt, nat_le, Option, Some, None, List, [], ◌∷◌, reverse, length, max, slice_get}
+use Rattle.std.specs.Prelude.{ℕ, ◌+◌, ◌≤◌, Bool, true, false, cond, nat_lt, nat_le, Option, Some, None, [], ◌∷◌, reverse, length, max, slice_get}
 use native.Mathlib.Decide.{ℕ_discrete}
 use Rattle.theory.specs.Terms.{Term, Var, Sort, Pi, Lam, lift, top, height, free_of, Term-discrete}
 use Rattle.theory.specs.Telescopes.{Context}
-use Rattle.core_terms.specs.Verdicts.{Reason, Mismatch, NotASort, NoSuchInstance, LevelTooHigh, Denial, Verdict, Yes, No}
+use Rattle.core_terms.specs.Verdicts.{Reason, Mismatch, NotASort, NoSuchInstance, LevelTooHigh, Verdict, Yes, No}
 use Rattle.core_terms.specs.Meanings.{tree_of}
 use Rattle.elim_program.specs.declared.context.Context as code
 

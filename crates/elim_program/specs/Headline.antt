@@ -1,5 +1,5 @@
 -- What an accepted definition is.
-use Rattle.std.specs.Prelude.{◌≡◌, ℕ, false, List, [], ◌∷◌, ◌++◌, Option, Some, Ok}
+use Rattle.std.specs.Prelude.{◌≡◌, ℕ, false, List, [], ◌∷◌, ◌++◌, Some, Ok}
 use Rattle.theory.specs.Terms.{Term, IsClosed}
 use Rattle.theory.specs.Prelude.{prelude}
 use Rattle.theory.specs.Typing.{Has, HasSort}

@@ -1,6 +1,6 @@
 -- The tokens of a text, as far as they are read yet. Characters are bytes, and the text is read up to the first one
 -- that is not ASCII.
-use Rattle.std.specs.Prelude.{ℕ, zero, suc, ◌+◌, ◌-◌, ◌==◌, Bool, true, false, not, ◌&&◌, ◌||◌, if◌then◌else◌, List, [], ◌∷◌, length, take, drop, codes, nat_lt, Result, Ok, Err}
+use Rattle.std.specs.Prelude.{ℕ, zero, suc, ◌+◌, ◌-◌, ◌==◌, Bool, true, false, not, ◌||◌, if◌then◌else◌, List, [], ◌∷◌, length, take, codes, nat_lt, Result, Ok, Err}
 use Rattle.std.specs.List.{prefix_len}
 use Rattle.surface_syntax.specs.Spelling.{piece, is_text}
 use Rattle.surface_syntax.specs.declared.token.Piece.{Piece}

@@ -1,5 +1,5 @@
 -- Texts as lists of lines.
-use Rattle.std.specs.Prelude.{◌≡◌, ℕ, ◌==◌, if◌then◌else◌, List, [], ◌∷◌, ◌++◌}
+use Rattle.std.specs.Prelude.{ℕ, ◌==◌, if◌then◌else◌, List, [], ◌∷◌, ◌++◌}
 
 -- one more character at the front of the first line
 abbrev pub longer : ℕ → List (List ℕ) → List (List ℕ)

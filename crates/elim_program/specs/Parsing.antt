@@ -1,15 +1,14 @@
 -- The grammar of one definition, read from left to right. Each function answers what it read and the tokens behind
 -- it, or the offset of the token with which the text does not go on; `end` is the length of the text.
-use Rattle.std.specs.Prelude.{ℕ, zero, suc, ◌+◌, ◌-◌, ◌*◌, ◌==◌, Bool, true, false, ◌&&◌, ◌||◌, if◌then◌else◌, cond, List, [], ◌∷◌, length, take, drop, codes, nat_lt, nat_le, Option, Some, None, Result, Ok, Err}
+use Rattle.std.specs.Prelude.{ℕ, zero, suc, ◌+◌, ◌-◌, ◌*◌, Bool, true, false, ◌&&◌, ◌||◌, if◌then◌else◌, cond, List, [], ◌∷◌, take, drop, codes, nat_lt, nat_le, Option, Some, None, Ok, Err}
 use Rattle.std.specs.List.{prefix_len}
 use Rattle.theory.specs.Terms.{top}
 use Rattle.surface_syntax.specs.Spelling.{is_text}
 use Rattle.surface_syntax.specs.declared.token.TokenKind.{TokenKind}
-use Rattle.surface_syntax.specs.declared.token.TokenKind.TheVariants.{Plain, Dotted, Number, Keyword, Mark}
+use Rattle.surface_syntax.specs.declared.token.TokenKind.TheVariants.{Plain, Number}
 use Rattle.elim_program.specs.declared.token.Token.{Token}
 use Rattle.elim_program.specs.declared.surf.Form.{Form}
 use Rattle.elim_program.specs.declared.surf.Form.TheVariants as form
-use Rattle.elim_program.specs.declared.halt.Halt.{Halt}
 use Rattle.elim_program.specs.declared.halt.Halt.TheVariants.{Syntax}
 use Rattle.elim_program.specs.Answers.{Reading, then_read}
 use Rattle.elim_program.specs.Surface.{Surf, Sort, Named, Pi, App, bind}

@@ -2,7 +2,7 @@
 use Rattle.std.specs.Prelude.{◌≡◌, ◌≢◌, ℕ, List, [], ◌++◌, Option, Result, Ok, Err, IfSome, ◌⊎◌}
 use Rattle.std.specs.Io.KnownBytes.{Appends}
 use Rattle.elim_program.specs.declared.status.Status.{Status}
-use Rattle.elim_program.specs.declared.status.Status.TheVariants.{Done, Refused, Usage, ReadFault, WriteFault, NoMemory}
+use Rattle.elim_program.specs.declared.status.Status.TheVariants.{ReadFault, WriteFault, NoMemory}
 use Rattle.elim_program.specs.Lines.{text_of}
 use Rattle.elim_program.specs.Outputs.{Output, defined_output}
 

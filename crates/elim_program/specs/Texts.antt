@@ -1,6 +1,5 @@
 -- What a text defines: nothing, one definition, or the first refusal.
 use Rattle.std.specs.Prelude.{ℕ, zero, suc, min, if◌then◌else◌, ◌&&◌, List, [], ◌∷◌, length, codes, Option, Some, None, Result, Ok, Err}
-use Rattle.surface_syntax.specs.Spelling.{is_text}
 use Rattle.theory.specs.Terms as tree
 use Rattle.core_terms.specs.Verdicts.{Verdict, Yes, No}
 use Rattle.elim_program.specs.declared.halt.Halt.{Halt}
@@ -9,7 +8,7 @@ use Rattle.elim_program.specs.declared.token.Token.{Token}
 use Rattle.elim_program.specs.Answers.{Reading, and_then, then_read}
 use Rattle.elim_program.specs.Surface.{Surf, Sort, Named, Pi, Lam, App}
 use Rattle.elim_program.specs.Lexing.{tokens_of}
-use Rattle.elim_program.specs.Parsing.{begins, expect, is_plain, is_spelled, stuck, offset_of, term}
+use Rattle.elim_program.specs.Parsing.{expect, is_plain, is_spelled, stuck, offset_of, term}
 use Rattle.elim_program.specs.Resolving.{resolve_closed}
 use Rattle.elim_program.specs.Checking.{infer_sort, check}
 use Rattle.elim_program.specs.Printing.{denial_text}

@@ -1,5 +1,5 @@
 -- The words behind the program's name.
-use Rattle.std.specs.Prelude.{Bool, true, false, List, [], ◌∷◌, ℕ, codes}
+use Rattle.std.specs.Prelude.{Bool, false, List, [], ◌∷◌, ℕ, codes}
 use Rattle.surface_syntax.specs.Spelling.{is_text}
 
 -- the words are one of the accepted lists; no flags and no other modes are built yet

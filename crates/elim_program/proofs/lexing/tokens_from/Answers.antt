@@ -1,7 +1,7 @@
 use Rattle.std.proofs.Common.{ap, sym, ◌∙◌, drop}
 use Rattle.elim_program.proofs.Answering.{ok-injective}
-use Rattle.elim_program.specs.Lexing.{tokens_from, is_read}
-use Rattle.elim_program.proofs.Tokens.{behind, after_gap, after_push, at_unread, within_more}
+use Rattle.elim_program.specs.Lexing.{is_read}
+use Rattle.elim_program.proofs.Tokens.{after_gap, after_push, at_unread, within_more}
 use Rattle.elim_program.proofs.lexing.tokens_from.Goals as goal
 
 pub pieces-preserved-in-Gap : goal.pieces-preserved-in-Gap
