@@ -11,6 +11,8 @@ mod stop;
 mod symbols;
 mod telescopes;
 mod term_printer;
+#[cfg(test)]
+mod tests;
 
 pub use entry_printer::print_entry;
 pub use head::read_head;
