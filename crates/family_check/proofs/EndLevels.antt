@@ -14,7 +14,7 @@ use Rattle.kernel_reduce.specs.Reduction.{is_low, whnf_of}
 use Rattle.kernel_reduce.proofs.Answers.{Answers, and_then-has, charge-has, if_low-has}
 use Rattle.kernel_check.specs.Checking.{typed, denied, universe_type, greater_sort, sort_of, infer_form, infer_of, infer_sort_of, check_of}
 use Rattle.kernel_check.specs.Laws.{IfYes}
-use Rattle.kernel_check.proofs.Verdicts.{Splits, if_typed-splits, child-splits}
+use Rattle.kernel_check.proofs.Parts.{Splits, if_typed-splits, child-splits}
 use Rattle.family_check.specs.Shapes.{end_of}
 use Rattle.family_check.specs.Families.{sort_level}
 
