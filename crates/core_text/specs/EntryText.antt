@@ -27,7 +27,7 @@ constructors_text S n f before [] = []
 constructors_text S n f before (c ∷ constructors) =
     before ++ c.name ++ codes " : " ++ term_text S (constructor_type_shown n f c) ++ constructors_text S n f (codes " ; ") constructors
 
--- data D (P1) (P2) : T { c1 : T1 ; c2 : T2 }
+-- data D (P) (Q) : T { c : A ; d : B }
 abbrev pub family_text : Signature → ℕ → Family → List ℕ
 family_text S n f =
     codes "data " ++ f.name ++ parameters_text S f.parameters ++ codes " : " ++ term_text S (type_shown f)
