@@ -4,7 +4,6 @@ use Rattle.std.specs.Prelude.{Some, None}
 use Rattle.surface_syntax.specs.Trees as tree
 use Rattle.surface_syntax.specs.Grammar as g
 use Rattle.surface_syntax.specs.Machine as m
-use Rattle.surface_syntax.specs.Viable.{NoEnd}
 use Rattle.surface_syntax.specs.Parsing.{Answer, Read, Wrong, Deep, behind, onward, run}
 use Rattle.surface_syntax.specs.declared.lexeme.Lexeme.{Lexeme}
 use Rattle.surface_syntax.proofs.Rest as r
@@ -44,10 +43,10 @@ module _ (allows : ℕ → ℕ → Bool) where
   onward_led n ts (m.Over i) ds ih q = cc
 
   -- what the machine reads, the grammar reads
-  pub sound : (ts : List Lexeme) (st : m.State) (ds : List tree.Decl) → NoEnd ts → run allows st ts ≡ Read ds → r.Rest allows st ts ds
-  sound [] st ds free q = e.end_sound allows st q
-  sound (y ∷ ts) st ds free q =
-      s.sound allows st y free.0 (onward_led (length (y ∷ ts)) ts (m.step allows (length (y ∷ ts)) st y) ds (λ st' es. sound ts st' es free.1) q)
+  pub sound : (ts : List Lexeme) (st : m.State) (ds : List tree.Decl) → run allows st ts ≡ Read ds → r.Rest allows st ts ds
+  sound [] st ds q = e.end_sound allows st q
+  sound (y ∷ ts) st ds q =
+      s.sound allows st y (onward_led (length (y ∷ ts)) ts (m.step allows (length (y ∷ ts)) st y) ds (λ st' es. sound ts st' es) q)
 
   start_file : {ts : List Lexeme} {ds : List tree.Decl} → r.Rest allows m.Start ts ds → g.File allows ts ds
   start_file (r.start file) = file
@@ -55,8 +54,8 @@ module _ (allows : ℕ → ℕ → Bool) where
   pub file_run : (ts : List Lexeme) (ds : List tree.Decl) → g.File allows ts ds → run allows m.Start ts ≡ Read ds
   file_run ts ds file = complete ts m.Start ds (r.start file)
 
-  pub run_file : (ts : List Lexeme) (ds : List tree.Decl) → NoEnd ts → run allows m.Start ts ≡ Read ds → g.File allows ts ds
-  run_file ts ds free q = start_file (sound ts m.Start ds free q)
+  pub run_file : (ts : List Lexeme) (ds : List tree.Decl) → run allows m.Start ts ≡ Read ds → g.File allows ts ds
+  run_file ts ds q = start_file (sound ts m.Start ds q)
 
   -- lexemes are the declarations of one list at most
   pub one_file : (ts : List Lexeme) (ds es : List tree.Decl) → g.File allows ts ds → g.File allows ts es → ds ≡ es

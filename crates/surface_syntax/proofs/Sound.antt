@@ -1,5 +1,5 @@
 -- The grammar follows the machine: where the machine goes on with a lexeme, so does the grammar.
-use Rattle.std.proofs.Common.{◌≡◌, ℕ, ◌+◌, Bool, true, false, cond, List, [], ◌∷◌, ◌++◌, length, refl, subst, arith, ◌⊎◌, inl, inr}
+use Rattle.std.proofs.Common.{◌≡◌, ℕ, ◌+◌, Bool, true, false, cond, List, [], ◌∷◌, ◌++◌, length, refl, subst, arith}
 use Rattle.std.specs.Prelude.{Option, Some, None}
 use Rattle.surface_syntax.specs.Trees as tree
 use Rattle.surface_syntax.specs.Grammar as g
@@ -26,20 +26,20 @@ module _ (allows : ℕ → ℕ → Bool) where
   may_sound n left out l = by_test (allows n left) n left out refl l
 
   -- in a definition
-  start_sound : (y : Lexeme) {ts : List Lexeme} {ds : List tree.Decl} → r.Led allows (m.start None y) ts ds → y ≡ x.End ⊎ g.File allows (y ∷ ts) ds
-  start_sound x.Def (r.goes (r.in_def s)) = inr (d.def_file allows s)
-  start_sound x.Data (r.goes (r.in_data s)) = inr (d.data_file allows s)
-  start_sound x.Fun (r.goes (r.in_def s)) = inr (d.fun_file allows s)
+  start_sound : (y : Lexeme) {ts : List Lexeme} {ds : List tree.Decl} → r.Led allows (m.start None y) ts ds → g.File allows (y ∷ ts) ds
+  start_sound x.Def (r.goes (r.in_def s)) = d.def_file allows s
+  start_sound x.Data (r.goes (r.in_data s)) = d.data_file allows s
+  start_sound x.Fun (r.goes (r.in_def s)) = d.fun_file allows s
   start_sound _ l = elim l [ ]
 
   data Started (o : tree.Decl) (y : Lexeme) (ts : List Lexeme) : List tree.Decl → Type 0 where
     started : {ds : List tree.Decl} → g.File allows (y ∷ ts) ds → Started o y ts (o ∷ ds)
 
-  starts_sound : (o : tree.Decl) (y : Lexeme) {ts : List Lexeme} {ds : List tree.Decl} → (y ≡ x.End → ⊥) → r.Led allows (m.start (Some o) y) ts ds → Started o y ts ds
-  starts_sound o x.Def ne (r.gives (r.in_def s)) = started (d.def_file allows s)
-  starts_sound o x.Data ne (r.gives (r.in_data s)) = started (d.data_file allows s)
-  starts_sound o x.Fun ne (r.gives (r.in_def s)) = started (d.fun_file allows s)
-  starts_sound o _ ne l = elim l [ ]
+  starts_sound : (o : tree.Decl) (y : Lexeme) {ts : List Lexeme} {ds : List tree.Decl} → r.Led allows (m.start (Some o) y) ts ds → Started o y ts ds
+  starts_sound o x.Def (r.gives (r.in_def s)) = started (d.def_file allows s)
+  starts_sound o x.Data (r.gives (r.in_data s)) = started (d.data_file allows s)
+  starts_sound o x.Fun (r.gives (r.in_def s)) = started (d.fun_file allows s)
+  starts_sound o _ l = elim l [ ]
 
   def_sound : (s : m.Def_state) (y : Lexeme) {ts : List Lexeme} {ds : List tree.Decl} → r.Led allows (m.def_step s y) ts ds → r.RestDef allows s (y ∷ ts) ds
   def_sound m.DefName (x.Plain v) (r.goes (r.in_def s)) = r.name s
@@ -88,25 +88,25 @@ module _ (allows : ℕ → ℕ → Bool) where
   param_type : (v q : Word) (ps : List tree.Typed) {ts : List Lexeme} {ds : List tree.Decl} → r.Due allows 0 (m.Whole (m.ParamType v ps q)) ts ds → r.RestParams allows v ps (x.Open ∷ x.Plain q ∷ x.Colon ∷ ts) ds
   param_type v q ps (r.term t (r.whole (r.param more))) = r.param t more
 
-  data_sound : (s : m.Data_state) (y : Lexeme) {ts : List Lexeme} {ds : List tree.Decl} → (y ≡ x.End → ⊥) → r.Led allows (m.data_step s y) ts ds → r.RestData allows s (y ∷ ts) ds
-  data_sound m.DataName (x.Plain v) ne (r.goes (r.in_data (r.params s))) = r.name s
-  data_sound m.DataName _ ne l = elim l [ ]
-  data_sound (m.Params v ps) x.Open ne (r.goes (r.in_data (r.param s))) = r.params (param_type v _ ps s)
-  data_sound (m.Params v ps) x.Colon ne (r.goes (r.in_term (r.due (r.term t (r.whole (r.member more)))))) = r.params (r.end t more)
-  data_sound (m.Params v ps) _ ne l = elim l [ ]
-  data_sound (m.ParamName v ps) (x.Plain q) ne (r.goes (r.in_data (r.param_type s))) = r.param s
-  data_sound (m.ParamName v ps) _ ne l = elim l [ ]
-  data_sound (m.ParamColon v ps q) x.Colon ne (r.goes (r.in_term (r.due s))) = r.param_type s
-  data_sound (m.ParamColon v ps q) _ ne l = elim l [ ]
-  data_sound (m.FirstCon f n) x.CloseBrace ne l = r.first (r.none (member_sound f.params f.members n l))
-  data_sound (m.FirstCon f n) (x.Plain v) ne (r.goes (r.in_data s)) = r.first (r.some (con_type_cons f n v s))
-  data_sound (m.FirstCon f n) _ ne l = elim l [ ]
-  data_sound (m.ConName f n) (x.Plain v) ne (r.goes (r.in_data s)) = r.con (con_type_cons f n v s)
-  data_sound (m.ConName f n) _ ne l = elim l [ ]
-  data_sound (m.ConColon f n v) x.Colon ne (r.goes (r.in_term (r.due s))) = r.con_type s
-  data_sound (m.ConColon f n v) _ ne l = elim l [ ]
-  data_sound (m.FamilyEnd ps n) x.With ne (r.goes (r.in_mutual s)) = r.end (family_with ps n s)
-  data_sound (m.FamilyEnd ps n) y ne l = r.end (family_end ps n (starts_sound (tree.Data n.name ps n.ty n.cons) y ne l))
+  data_sound : (s : m.Data_state) (y : Lexeme) {ts : List Lexeme} {ds : List tree.Decl} → r.Led allows (m.data_step s y) ts ds → r.RestData allows s (y ∷ ts) ds
+  data_sound m.DataName (x.Plain v) (r.goes (r.in_data (r.params s))) = r.name s
+  data_sound m.DataName _ l = elim l [ ]
+  data_sound (m.Params v ps) x.Open (r.goes (r.in_data (r.param s))) = r.params (param_type v _ ps s)
+  data_sound (m.Params v ps) x.Colon (r.goes (r.in_term (r.due (r.term t (r.whole (r.member more)))))) = r.params (r.end t more)
+  data_sound (m.Params v ps) _ l = elim l [ ]
+  data_sound (m.ParamName v ps) (x.Plain q) (r.goes (r.in_data (r.param_type s))) = r.param s
+  data_sound (m.ParamName v ps) _ l = elim l [ ]
+  data_sound (m.ParamColon v ps q) x.Colon (r.goes (r.in_term (r.due s))) = r.param_type s
+  data_sound (m.ParamColon v ps q) _ l = elim l [ ]
+  data_sound (m.FirstCon f n) x.CloseBrace l = r.first (r.none (member_sound f.params f.members n l))
+  data_sound (m.FirstCon f n) (x.Plain v) (r.goes (r.in_data s)) = r.first (r.some (con_type_cons f n v s))
+  data_sound (m.FirstCon f n) _ l = elim l [ ]
+  data_sound (m.ConName f n) (x.Plain v) (r.goes (r.in_data s)) = r.con (con_type_cons f n v s)
+  data_sound (m.ConName f n) _ l = elim l [ ]
+  data_sound (m.ConColon f n v) x.Colon (r.goes (r.in_term (r.due s))) = r.con_type s
+  data_sound (m.ConColon f n v) _ l = elim l [ ]
+  data_sound (m.FamilyEnd ps n) x.With (r.goes (r.in_mutual s)) = r.end (family_with ps n s)
+  data_sound (m.FamilyEnd ps n) y l = r.end (family_end ps n (starts_sound (tree.Data n.name ps n.ty n.cons) y l))
 
   tag_next : (f : m.Families) (v t u : Word) (us : List Word) {ts : List Lexeme} {ds : List tree.Decl} → r.RestMutual allows (m.TagNext f v t (us ++ u ∷ [])) ts ds → r.RestTags allows f.params f.members v t us (x.Plain u ∷ ts) ds
   tag_next f v t u us (r.next more) = r.more more
@@ -153,17 +153,17 @@ module _ (allows : ℕ → ℕ → Bool) where
   con_end_sound f n v a x.CloseBrace l = r.last_con (member_sound f.params f.members (m.with_con n v a) l)
   con_end_sound f n v a _ l = elim l [ ]
 
-  part_sound : (t : tree.Surf) (q : m.Part) (y : Lexeme) {ts : List Lexeme} {ds : List tree.Decl} → (y ≡ x.End → ⊥) → r.Led allows (m.part_end t q y) ts ds → r.RestPart allows q t (y ∷ ts) ds
-  part_sound t (m.DefType v) x.Equals ne (r.goes (r.in_term (r.due s))) = def_type_sound v t s
-  part_sound t (m.DefType v) _ ne l = elim l [ ]
-  part_sound t (m.DefBody v a) y ne l = def_body_sound v a t (starts_sound (tree.Def v a t) y ne l)
-  part_sound t (m.ParamType v ps q) x.Close ne (r.goes (r.in_data (r.params s))) = r.param s
-  part_sound t (m.ParamType v ps q) _ ne l = elim l [ ]
-  part_sound t (m.MemberType f v) x.OpenBrace ne (r.goes (r.in_data (r.first s))) = r.member s
-  part_sound t (m.MemberType f v) _ ne l = elim l [ ]
-  part_sound t (m.ConType f n v) y ne l = con_end_sound f n v t y l
-  part_sound t (m.FunType v) x.OpenBrace ne (r.goes (r.in_clause (r.first s))) = r.fun s
-  part_sound t (m.FunType v) _ ne l = elim l [ ]
+  part_sound : (t : tree.Surf) (q : m.Part) (y : Lexeme) {ts : List Lexeme} {ds : List tree.Decl} → r.Led allows (m.part_end t q y) ts ds → r.RestPart allows q t (y ∷ ts) ds
+  part_sound t (m.DefType v) x.Equals (r.goes (r.in_term (r.due s))) = def_type_sound v t s
+  part_sound t (m.DefType v) _ l = elim l [ ]
+  part_sound t (m.DefBody v a) y l = def_body_sound v a t (starts_sound (tree.Def v a t) y l)
+  part_sound t (m.ParamType v ps q) x.Close (r.goes (r.in_data (r.params s))) = r.param s
+  part_sound t (m.ParamType v ps q) _ l = elim l [ ]
+  part_sound t (m.MemberType f v) x.OpenBrace (r.goes (r.in_data (r.first s))) = r.member s
+  part_sound t (m.MemberType f v) _ l = elim l [ ]
+  part_sound t (m.ConType f n v) y l = con_end_sound f n v t y l
+  part_sound t (m.FunType v) x.OpenBrace (r.goes (r.in_clause (r.first s))) = r.fun s
+  part_sound t (m.FunType v) _ l = elim l [ ]
 
   let_type_sound : (n : ℕ) (v : Word) (a : tree.Surf) (k : m.Term_in) {ts : List Lexeme} {ds : List tree.Decl} → r.Due allows (n + 1) (m.LetValue n v a k) ts ds → r.RestTerm allows (m.LetType n v k) a (x.Equals ∷ ts) ds
   let_type_sound n v a k (r.term t (r.let_value b more)) = r.let_type t b more
@@ -171,24 +171,24 @@ module _ (allows : ℕ → ℕ → Bool) where
   let_value_sound : (n : ℕ) (v : Word) (a t : tree.Surf) (k : m.Term_in) {ts : List Lexeme} {ds : List tree.Decl} → r.Due allows (n + 1) (m.LetBody v a t k) ts ds → r.RestTerm allows (m.LetValue n v a k) t (x.In ∷ ts) ds
   let_value_sound n v a t k (r.term b (r.let_body more)) = r.let_value b more
 
-  term_end_sound : (t : tree.Surf) (k : m.Term_in) (y : Lexeme) {ts : List Lexeme} {ds : List tree.Decl} → (y ≡ x.End → ⊥) → r.Led allows (m.term_end t k y) ts ds → r.RestTerm allows k t (y ∷ ts) ds
-  term_end_sound t (m.Whole q) y ne l = r.whole (part_sound t q y ne l)
-  term_end_sound t (m.Parens n s k) x.Close ne (r.goes (r.in_term (r.atoms more))) = r.parens more
-  term_end_sound t (m.Parens n s k) _ ne l = elim l [ ]
-  term_end_sound t (m.Codomain a k) y ne l = r.codomain (term_end_sound (tree.Arrow a t) k y ne l)
-  term_end_sound t (m.Domain b ns k) x.Close ne (r.goes (r.in_term (r.binders more))) = r.domain more
-  term_end_sound t (m.Domain b ns k) _ ne l = elim l [ ]
-  term_end_sound t (m.Body b k) y ne l = r.body (term_end_sound (m.quantified b.quantifier b.binders t) k y ne l)
-  term_end_sound t (m.LetType n v k) x.Equals ne (r.goes (r.in_term (r.due s))) = let_type_sound n v t k s
-  term_end_sound t (m.LetType n v k) _ ne l = elim l [ ]
-  term_end_sound t (m.LetValue n v a k) x.In ne (r.goes (r.in_term (r.due s))) = let_value_sound n v a t k s
-  term_end_sound t (m.LetValue n v a k) _ ne l = elim l [ ]
-  term_end_sound t (m.LetBody v a u k) y ne l = r.let_body (term_end_sound (tree.Let v a u t) k y ne l)
-  term_end_sound t (m.Dot n void k) x.Close ne (r.goes (r.in_clause (r.pats more))) = r.dot more
-  term_end_sound t (m.Dot n void k) _ ne l = elim l [ ]
-  term_end_sound t (m.Side h k) y ne l = r.side (clause_sound h.depth (m.clause h (tree.Side t)) k y l)
-  term_end_sound t (m.Scrutinee h k) x.OpenBrace ne (r.goes (r.in_clause (r.first more))) = r.scrutinee more
-  term_end_sound t (m.Scrutinee h k) _ ne l = elim l [ ]
+  term_end_sound : (t : tree.Surf) (k : m.Term_in) (y : Lexeme) {ts : List Lexeme} {ds : List tree.Decl} → r.Led allows (m.term_end t k y) ts ds → r.RestTerm allows k t (y ∷ ts) ds
+  term_end_sound t (m.Whole q) y l = r.whole (part_sound t q y l)
+  term_end_sound t (m.Parens n s k) x.Close (r.goes (r.in_term (r.atoms more))) = r.parens more
+  term_end_sound t (m.Parens n s k) _ l = elim l [ ]
+  term_end_sound t (m.Codomain a k) y l = r.codomain (term_end_sound (tree.Arrow a t) k y l)
+  term_end_sound t (m.Domain b ns k) x.Close (r.goes (r.in_term (r.binders more))) = r.domain more
+  term_end_sound t (m.Domain b ns k) _ l = elim l [ ]
+  term_end_sound t (m.Body b k) y l = r.body (term_end_sound (m.quantified b.quantifier b.binders t) k y l)
+  term_end_sound t (m.LetType n v k) x.Equals (r.goes (r.in_term (r.due s))) = let_type_sound n v t k s
+  term_end_sound t (m.LetType n v k) _ l = elim l [ ]
+  term_end_sound t (m.LetValue n v a k) x.In (r.goes (r.in_term (r.due s))) = let_value_sound n v a t k s
+  term_end_sound t (m.LetValue n v a k) _ l = elim l [ ]
+  term_end_sound t (m.LetBody v a u k) y l = r.let_body (term_end_sound (tree.Let v a u t) k y l)
+  term_end_sound t (m.Dot n void k) x.Close (r.goes (r.in_clause (r.pats more))) = r.dot more
+  term_end_sound t (m.Dot n void k) _ l = elim l [ ]
+  term_end_sound t (m.Side h k) y l = r.side (clause_sound h.depth (m.clause h (tree.Side t)) k y l)
+  term_end_sound t (m.Scrutinee h k) x.OpenBrace (r.goes (r.in_clause (r.first more))) = r.scrutinee more
+  term_end_sound t (m.Scrutinee h k) _ l = elim l [ ]
 
   -- in terms
   parens_atom : (n : ℕ) (s : m.Spine) (k : m.Term_in) {ts : List Lexeme} {ds : List tree.Decl} → r.Due allows (n + 1) (m.Parens n (Some s) k) ts ds → r.RestAtoms allows n s k (x.Open ∷ ts) ds
@@ -200,13 +200,13 @@ module _ (allows : ℕ → ℕ → Bool) where
   level_atom : (n : ℕ) (s : m.Spine) (k : m.Term_in) {ts : List Lexeme} {ds : List tree.Decl} → r.RestIn allows (m.Level n (Some s) k) ts ds → r.RestAtoms allows n s k (x.Type ∷ ts) ds
   level_atom n s k (r.level more) = r.atom g.sort more
 
-  atoms_sound : (n : ℕ) (s : m.Spine) (k : m.Term_in) (y : Lexeme) {ts : List Lexeme} {ds : List tree.Decl} → (y ≡ x.End → ⊥) → r.Led allows (m.atoms n s k y) ts ds → r.RestAtoms allows n s k (y ∷ ts) ds
-  atoms_sound n s k (x.Plain v) ne (r.goes (r.in_term (r.atoms more))) = r.atom g.plain more
-  atoms_sound n s k (x.Dotted v) ne (r.goes (r.in_term (r.atoms more))) = r.atom g.dotted more
-  atoms_sound n s k x.Type ne (r.goes (r.in_term l)) = level_atom n s k l
-  atoms_sound n s k x.Open ne (r.goes (r.in_term (r.due l))) = parens_atom n s k l
-  atoms_sound n s k x.Arrow ne (r.goes (r.in_term (r.due l))) = arrow_atom n s k l
-  atoms_sound n s k y ne l = r.end (term_end_sound (m.spine s) k y ne l)
+  atoms_sound : (n : ℕ) (s : m.Spine) (k : m.Term_in) (y : Lexeme) {ts : List Lexeme} {ds : List tree.Decl} → r.Led allows (m.atoms n s k y) ts ds → r.RestAtoms allows n s k (y ∷ ts) ds
+  atoms_sound n s k (x.Plain v) (r.goes (r.in_term (r.atoms more))) = r.atom g.plain more
+  atoms_sound n s k (x.Dotted v) (r.goes (r.in_term (r.atoms more))) = r.atom g.dotted more
+  atoms_sound n s k x.Type (r.goes (r.in_term l)) = level_atom n s k l
+  atoms_sound n s k x.Open (r.goes (r.in_term (r.due l))) = parens_atom n s k l
+  atoms_sound n s k x.Arrow (r.goes (r.in_term (r.due l))) = arrow_atom n s k l
+  atoms_sound n s k y l = r.end (term_end_sound (m.spine s) k y l)
 
   -- where a term begins
   lam_due : (n : ℕ) (k : m.Term_in) {ts : List Lexeme} {ds : List tree.Decl} → allows n (length (x.Backslash ∷ ts)) ≡ true → r.RestIn allows (m.BinderOpen (record { depth = n; quantifier = m.Function; binders = [] }) k) ts ds → r.Due allows n k (x.Backslash ∷ ts) ds
@@ -252,14 +252,14 @@ module _ (allows : ℕ → ℕ → Bool) where
   domain_names : (n at : ℕ) (v : Word) (vs : List Word) (k : m.Term_in) {ts : List Lexeme} {ds : List tree.Decl} → r.Due allows (n + 1) (m.Domain (m.product allows n) (m.some_names (v ∷ vs)) k) ts ds → r.RestIn allows (m.Names n at v vs k) (x.Colon ∷ ts) ds
   domain_names n at v vs k (r.term t (r.domain more)) = r.names_binder (r.colon t more)
 
-  names_application : (n at : ℕ) (v : Word) (vs : List Word) (k : m.Term_in) (y : Lexeme) {ts : List Lexeme} {ds : List tree.Decl} → (y ≡ x.End → ⊥) → Allowed (n + 1) at (m.atoms (n + 1) (m.named v vs) (m.Parens n None k) y) ts ds → r.RestIn allows (m.Names n at v vs k) (y ∷ ts) ds
-  names_application n at v vs k y ne (allowed e l) = r.names_term e (atoms_sound (n + 1) (m.named v vs) (m.Parens n None k) y ne l)
+  names_application : (n at : ℕ) (v : Word) (vs : List Word) (k : m.Term_in) (y : Lexeme) {ts : List Lexeme} {ds : List tree.Decl} → Allowed (n + 1) at (m.atoms (n + 1) (m.named v vs) (m.Parens n None k) y) ts ds → r.RestIn allows (m.Names n at v vs k) (y ∷ ts) ds
+  names_application n at v vs k y (allowed e l) = r.names_term e (atoms_sound (n + 1) (m.named v vs) (m.Parens n None k) y l)
 
-  names_sound : (n at : ℕ) (v : Word) (vs : List Word) (k : m.Term_in) (y : Lexeme) {ts : List Lexeme} {ds : List tree.Decl} → (y ≡ x.End → ⊥) → r.Led allows (m.names allows n at v vs k y) ts ds → r.RestIn allows (m.Names n at v vs k) (y ∷ ts) ds
-  names_sound n at v vs k (x.Plain u) ne (r.goes (r.in_term s)) = plain_names n at v u vs k s
-  names_sound n at v vs k x.Underscore ne (r.goes (r.in_term (r.names s))) = r.names_binder (r.blank s)
-  names_sound n at v vs k x.Colon ne (r.goes (r.in_term (r.due s))) = domain_names n at v vs k s
-  names_sound n at v vs k y ne l = names_application n at v vs k y ne (may_sound (n + 1) at (m.atoms (n + 1) (m.named v vs) (m.Parens n None k) y) l)
+  names_sound : (n at : ℕ) (v : Word) (vs : List Word) (k : m.Term_in) (y : Lexeme) {ts : List Lexeme} {ds : List tree.Decl} → r.Led allows (m.names allows n at v vs k y) ts ds → r.RestIn allows (m.Names n at v vs k) (y ∷ ts) ds
+  names_sound n at v vs k (x.Plain u) (r.goes (r.in_term s)) = plain_names n at v u vs k s
+  names_sound n at v vs k x.Underscore (r.goes (r.in_term (r.names s))) = r.names_binder (r.blank s)
+  names_sound n at v vs k x.Colon (r.goes (r.in_term (r.due s))) = domain_names n at v vs k s
+  names_sound n at v vs k y l = names_application n at v vs k y (may_sound (n + 1) at (m.atoms (n + 1) (m.named v vs) (m.Parens n None k) y) l)
 
   domain_sound : (b : m.Telescope) (ns : List (Option Word)) (k : m.Term_in) {ts : List Lexeme} {ds : List tree.Decl} → r.Led allows (m.domain b ns k) ts ds → r.RestNames allows b ns k (x.Colon ∷ ts) ds
   domain_sound b [] k l = elim l [ ]
@@ -279,21 +279,21 @@ module _ (allows : ℕ → ℕ → Bool) where
   binder_next_sound b k x.Arrow (r.goes (r.in_term (r.due s))) = body_due b k s
   binder_next_sound b k _ l = elim l [ ]
 
-  term_sound : (s : m.Term_state) (y : Lexeme) {ts : List Lexeme} {ds : List tree.Decl} → (y ≡ x.End → ⊥) → r.Led allows (m.term_step allows (length (y ∷ ts)) s y) ts ds → r.RestIn allows s (y ∷ ts) ds
-  term_sound (m.Term n k) y {ts} ne l = r.due (due_sound n k y (may_sound n (length (y ∷ ts)) (m.term_start n k y) l))
-  term_sound (m.Level n s k) (x.Level i) ne (r.goes (r.in_term (r.atoms more))) = r.level more
-  term_sound (m.Level n s k) _ ne l = elim l [ ]
-  term_sound (m.Opened n k) y ne l = opened_sound n k y l
-  term_sound (m.Names n at v vs k) y ne l = names_sound n at v vs k y ne l
-  term_sound (m.BinderOpen b k) x.Open ne (r.goes (r.in_term (r.names s))) = r.binder s
-  term_sound (m.BinderOpen b k) _ ne l = elim l [ ]
-  term_sound (m.BinderNames b ns k) y ne l = r.names (binder_names_sound b ns k y l)
-  term_sound (m.BinderNext b k) y ne l = r.binders (binder_next_sound b k y l)
-  term_sound (m.LetName n k) (x.Plain v) ne (r.goes (r.in_term (r.let_colon s))) = r.let_name s
-  term_sound (m.LetName n k) _ ne l = elim l [ ]
-  term_sound (m.LetColon n v k) x.Colon ne (r.goes (r.in_term (r.due s))) = r.let_colon s
-  term_sound (m.LetColon n v k) _ ne l = elim l [ ]
-  term_sound (m.Atoms n s k) y ne l = r.atoms (atoms_sound n s k y ne l)
+  term_sound : (s : m.Term_state) (y : Lexeme) {ts : List Lexeme} {ds : List tree.Decl} → r.Led allows (m.term_step allows (length (y ∷ ts)) s y) ts ds → r.RestIn allows s (y ∷ ts) ds
+  term_sound (m.Term n k) y {ts} l = r.due (due_sound n k y (may_sound n (length (y ∷ ts)) (m.term_start n k y) l))
+  term_sound (m.Level n s k) (x.Level i) (r.goes (r.in_term (r.atoms more))) = r.level more
+  term_sound (m.Level n s k) _ l = elim l [ ]
+  term_sound (m.Opened n k) y l = opened_sound n k y l
+  term_sound (m.Names n at v vs k) y l = names_sound n at v vs k y l
+  term_sound (m.BinderOpen b k) x.Open (r.goes (r.in_term (r.names s))) = r.binder s
+  term_sound (m.BinderOpen b k) _ l = elim l [ ]
+  term_sound (m.BinderNames b ns k) y l = r.names (binder_names_sound b ns k y l)
+  term_sound (m.BinderNext b k) y l = r.binders (binder_next_sound b k y l)
+  term_sound (m.LetName n k) (x.Plain v) (r.goes (r.in_term (r.let_colon s))) = r.let_name s
+  term_sound (m.LetName n k) _ l = elim l [ ]
+  term_sound (m.LetColon n v k) x.Colon (r.goes (r.in_term (r.due s))) = r.let_colon s
+  term_sound (m.LetColon n v k) _ l = elim l [ ]
+  term_sound (m.Atoms n s k) y l = r.atoms (atoms_sound n s k y l)
 
   -- in patterns
   zero_more : (v : Bool) (n : ℕ) → w.count allows v + n ≡ w.count allows v → n ≡ 0
@@ -430,15 +430,11 @@ module _ (allows : ℕ → ℕ → Bool) where
   clause_state_sound (m.ClauseName n k) y l = r.due (clause_name_sound n k y l)
   clause_state_sound (m.ClauseEnd n b k) y l = r.end (clause_sound n b k y l)
 
-  start_state : (y : Lexeme) {ts : List Lexeme} {ds : List tree.Decl} → (y ≡ x.End → ⊥) → y ≡ x.End ⊎ g.File allows (y ∷ ts) ds → r.Rest allows m.Start (y ∷ ts) ds
-  start_state y ne (inl e) = absurd (ne e)
-  start_state y ne (inr file) = r.start file
-
   -- in every state
-  pub sound : (s : m.State) (y : Lexeme) {ts : List Lexeme} {ds : List tree.Decl} → (y ≡ x.End → ⊥) → r.Led allows (m.step allows (length (y ∷ ts)) s y) ts ds → r.Rest allows s (y ∷ ts) ds
-  sound m.Start y ne l = start_state y ne (start_sound y l)
-  sound (m.In_def s) y ne l = r.in_def (def_sound s y l)
-  sound (m.In_data s) y ne l = r.in_data (data_sound s y ne l)
-  sound (m.In_mutual s) y ne l = r.in_mutual (mutual_sound s y l)
-  sound (m.In_term s) y ne l = r.in_term (term_sound s y ne l)
-  sound (m.In_clause s) y ne l = r.in_clause (clause_state_sound s y l)
+  pub sound : (s : m.State) (y : Lexeme) {ts : List Lexeme} {ds : List tree.Decl} → r.Led allows (m.step allows (length (y ∷ ts)) s y) ts ds → r.Rest allows s (y ∷ ts) ds
+  sound m.Start y l = r.start (start_sound y l)
+  sound (m.In_def s) y l = r.in_def (def_sound s y l)
+  sound (m.In_data s) y l = r.in_data (data_sound s y l)
+  sound (m.In_mutual s) y l = r.in_mutual (mutual_sound s y l)
+  sound (m.In_term s) y l = r.in_term (term_sound s y l)
+  sound (m.In_clause s) y l = r.in_clause (clause_state_sound s y l)

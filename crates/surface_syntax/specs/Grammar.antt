@@ -1,5 +1,5 @@
 -- The grammar, as relations between the lexemes that are read, those that are left behind them, and a tree.
-use Rattle.std.specs.Prelude.{◌≡◌, ℕ, ◌+◌, Bool, true, List, [], ◌∷◌, length, Option, Some, None}
+use Rattle.std.specs.Prelude.{◌≡◌, ℕ, ◌+◌, Bool, true, List, [], ◌∷◌, length, Option, Some, None, nat_lt}
 use Rattle.surface_syntax.specs.Trees as tree
 use Rattle.surface_syntax.specs.declared.tree.Word.{Word}
 use Rattle.surface_syntax.specs.declared.lexeme.Lexeme.{Lexeme}
@@ -9,6 +9,10 @@ use Rattle.surface_syntax.specs.declared.lexeme.Lexeme.TheVariants as x
 abbrev pub applied : tree.Surf → List tree.Surf → tree.Surf
 applied h [] = h
 applied h (a ∷ args) = tree.App h (tree.surfs (a ∷ args))
+
+-- nothing stands inside 2,000 other terms, patterns and clauses
+abbrev pub limit : ℕ → ℕ → Bool
+limit d n = nat_lt d 2000
 
 -- `allows d n` says whether a term, pattern or clause may begin inside `d` others where `n` lexemes are left.
 module _ (allows : ℕ → ℕ → Bool) where

@@ -1,6 +1,7 @@
 pub mod Grammar
 pub mod Laws
 pub mod Machine
+pub mod Nesting
 pub mod Outcomes
 pub mod Parsing
 pub mod Spelling

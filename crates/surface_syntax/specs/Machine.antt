@@ -1,7 +1,8 @@
 -- The parser as a machine that takes one lexeme at a time and never goes back.
-use Rattle.std.specs.Prelude.{ℕ, ◌+◌, Bool, true, false, cond, List, [], ◌∷◌, ◌++◌, Option, Some, None, map, nat_lt}
+use Rattle.std.specs.Prelude.{ℕ, ◌+◌, Bool, true, false, cond, List, [], ◌∷◌, ◌++◌, Option, Some, None, map}
 use Rattle.surface_syntax.specs.Trees as tree
 use Rattle.surface_syntax.specs.Grammar.{applied}
+pub use Rattle.surface_syntax.specs.Grammar.{limit}
 use Rattle.surface_syntax.specs.declared.tree.Word.{Word}
 use Rattle.surface_syntax.specs.declared.lexeme.Lexeme.{Lexeme}
 use Rattle.surface_syntax.specs.declared.lexeme.Lexeme.TheVariants as x
@@ -377,10 +378,6 @@ mutual_step (TagName g f t tags) x = naming (λ w. In_mutual (TagNext g f t (tag
 mutual_step (TagNext g f t tags) x.Semicolon = to (In_mutual (TagName g f t tags))
 mutual_step (TagNext g f t tags) x.CloseBrace = Goes (Some (tree.Mutual g.params g.members f t tags)) Start
 mutual_step (TagNext g f t tags) _ = Stuck
-
--- nothing stands inside 2,000 other terms, patterns and clauses
-abbrev pub limit : ℕ → ℕ → Bool
-limit d i = nat_lt d 2000
 
 -- `allows d i` says whether a term, pattern or clause may begin inside `d` others where `i` lexemes are left.
 module _ (allows : ℕ → ℕ → Bool) where

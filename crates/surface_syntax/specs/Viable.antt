@@ -3,12 +3,6 @@ use Rattle.std.specs.Prelude.{◌≡◌, ℕ, Bool, true, List, [], ◌∷◌, �
 use Rattle.surface_syntax.specs.Trees as tree
 use Rattle.surface_syntax.specs.Grammar.{File}
 use Rattle.surface_syntax.specs.declared.lexeme.Lexeme.{Lexeme}
-use Rattle.surface_syntax.specs.declared.lexeme.Lexeme.TheVariants.{End}
-
--- none of the lexemes is the one behind the last token
-abbrev pub NoEnd : List Lexeme → Type 0
-NoEnd [] = Unit {0}
-NoEnd (y ∷ ts) = (y ≡ End → ⊥) × NoEnd ts
 
 -- a term, pattern or clause may begin everywhere
 abbrev pub every : ℕ → ℕ → Bool
@@ -20,10 +14,21 @@ pub record IsViable (front : List Lexeme) : Type 0 where
   pub decls : List tree.Decl
   pub file : File every (front ++ more) decls
 
--- with the first of these lexemes behind the front, or at the end with nothing, there is no text of the language
+-- `Next back more`: `more` begins with the lexeme with which `back` begins, or both are at the end of the text
+pub data Next : List Lexeme → List Lexeme → Type 0 where
+  nothing : Next [] []
+  first : {y : Lexeme} {back more : List Lexeme} → Next (y ∷ back) (y ∷ more)
+
+-- a text of the language goes on behind the front with the first of these lexemes, or ends there where these are none
+pub record GoesOn (front back : List Lexeme) : Type 0 where
+  pub more : List Lexeme
+  pub next : Next back more
+  pub decls : List tree.Decl
+  pub file : File every (front ++ more) decls
+
+-- no text of the language does
 abbrev pub GoesNoFurther : List Lexeme → List Lexeme → Type 0
-GoesNoFurther front [] = (ds : List tree.Decl) → File every front ds → ⊥
-GoesNoFurther front (y ∷ back) = (more : List Lexeme) (ds : List tree.Decl) → File every (front ++ y ∷ more) ds → ⊥
+GoesNoFurther front back = (more : List Lexeme) → Next back more → (ds : List tree.Decl) → File every (front ++ more) ds → ⊥
 
 -- the lexemes go wrong where `n` of them are left
 pub record GoesWrong (ts : List Lexeme) (n : ℕ) : Type 0 where
@@ -33,16 +38,3 @@ pub record GoesWrong (ts : List Lexeme) (n : ℕ) : Type 0 where
   pub left : length back ≡ n
   pub viable : IsViable front
   pub stops : GoesNoFurther front back
-
--- the same, within the limit
-abbrev pub GoesNoFurtherWithin : (ℕ → ℕ → Bool) → List Lexeme → List Lexeme → Type 0
-GoesNoFurtherWithin allows front [] = (ds : List tree.Decl) → File allows front ds → ⊥
-GoesNoFurtherWithin allows front (y ∷ back) = (more : List Lexeme) (ds : List tree.Decl) → File allows (front ++ y ∷ more) ds → ⊥
-
--- the front begins a text of the language, and no text within the limit goes on with what is behind it
-pub record GoesTooDeep (allows : ℕ → ℕ → Bool) (ts : List Lexeme) : Type 0 where
-  pub front : List Lexeme
-  pub back : List Lexeme
-  pub parts : ts ≡ front ++ back
-  pub viable : IsViable front
-  pub stops : GoesNoFurtherWithin allows front back

@@ -12,7 +12,8 @@ mod token;
 mod tree;
 
 pub use laws::{
-    goes_too_deep_with_the_grammar, goes_wrong_with_the_grammar, has_one_reading, reads_the_grammar,
+    goes_too_deep_with_the_grammar, goes_wrong_with_the_grammar, has_one_reading,
+    nested_comes_first, nested_in_a_text, reads_the_grammar,
 };
 pub use lexeme::Lexeme;
 pub use lexer::piece;
