@@ -3,6 +3,7 @@ pub mod CallForms
 pub mod CallHeights
 pub mod ComparisonLaws
 pub mod Contractions
+pub mod DerivationScopes
 pub mod Examples
 pub mod InstanceUnder
 pub mod IotaBounds
@@ -14,4 +15,5 @@ pub mod ScopedSignatures
 pub mod SpineLengths
 pub mod StepLaws
 pub mod StepTests
+pub mod WellFormedScopes
 pub mod WhnfForms

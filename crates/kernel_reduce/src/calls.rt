@@ -3,7 +3,7 @@
 //! Each unit that a call spends moves from `left` to `spent`. A call answers Fuel where it needs a unit and none is left, and
 //! Deep where it is given or makes a term higher than 2,000, or where more than 2,000 calls would be open at once, whichever
 //! comes first. The answers and the units are those of the definitions, unless memory ran out.
-ghost use Rattle.std.specs.Prelude.{◌≡◌, ◌≤◌, ◌<◌, ◌+◌, ◌^◌, ℕ, IfOk, IfSome, IsTrue, option_map};
+ghost use Rattle.std.specs.Prelude.{◌≡◌, ◌≤◌, ◌<◌, ◌+◌, ℕ, IfOk, IfSome, IsTrue, option_map};
 ghost use Rattle.core_terms.specs.Answers.{Runs};
 ghost use Rattle.core_terms.specs.Meanings.{tree_of};
 ghost use Rattle.theory.specs.Conversion.{Step, Converts, Below};
@@ -35,7 +35,6 @@ pub fn head_step(
 ) -> Result<Option<Term>, Stop>
     requires signature { IsScopedSignature sig.now }
     requires scoped { IsScoped sig.now most_variables (tree_of t.now) }
-    requires units { units.old.left + units.old.spent < 2 ^ 64 }
     ensures answer { Runs (option_map tree_of) result units.new.left (head_step_of sig.now delta (tree_of t.now) units.old.left) }
     ensures sum { units.new.left + units.new.spent ≡ units.old.left + units.old.spent }
     ensures step { IfOk result (λ next. IfSome next (λ u. Step sig.now (tree_of t.now) (tree_of u))) }
@@ -54,7 +53,6 @@ pub fn whnf(
 ) -> Result<Term, Stop>
     requires signature { IsScopedSignature sig.now }
     requires scoped { IsScoped sig.now most_variables (tree_of t.now) }
-    requires units { units.old.left + units.old.spent < 2 ^ 64 }
     ensures answer { Runs tree_of result units.new.left (whnf_of sig.now delta units.old.left (tree_of t.now)) }
     ensures sum { units.new.left + units.new.spent ≡ units.old.left + units.old.spent }
     ensures form { IfOk result (λ u. IsHeadForm sig.now delta (tree_of t.now) (tree_of u)) }
@@ -73,7 +71,6 @@ pub fn normal(
 ) -> Result<Term, Stop>
     requires signature { IsScopedSignature sig.now }
     requires scoped { IsScoped sig.now most_variables (tree_of t.now) }
-    requires units { units.old.left + units.old.spent < 2 ^ 64 }
     ensures answer { Runs tree_of result units.new.left (normal_of sig.now delta nesting (tree_of t.now) units.old.left) }
     ensures sum { units.new.left + units.new.spent ≡ units.old.left + units.old.spent }
     ensures converts { IfOk result (λ u. Converts sig.now (tree_of t.now) (tree_of u)) }
@@ -94,7 +91,6 @@ pub fn convertible(
     requires signature { IsScopedSignature sig.now }
     requires a { IsScoped sig.now most_variables (tree_of a.now) }
     requires b { IsScoped sig.now most_variables (tree_of b.now) }
-    requires units { units.old.left + units.old.spent < 2 ^ 64 }
     ensures answer { Runs (λ holds. holds) result units.new.left (convertible_of sig.now nesting (tree_of a.now) (tree_of b.now) units.old.left) }
     ensures sum { units.new.left + units.new.spent ≡ units.old.left + units.old.spent }
     ensures sound { IfOk result (λ holds. IsTrue holds → Converts sig.now (tree_of a.now) (tree_of b.now)) }
@@ -113,7 +109,6 @@ pub fn subtype(
     requires signature { IsScopedSignature sig.now }
     requires a { IsScoped sig.now most_variables (tree_of a.now) }
     requires b { IsScoped sig.now most_variables (tree_of b.now) }
-    requires units { units.old.left + units.old.spent < 2 ^ 64 }
     ensures answer { Runs (λ holds. holds) result units.new.left (subtype_of sig.now nesting (tree_of a.now) (tree_of b.now) units.old.left) }
     ensures sum { units.new.left + units.new.spent ≡ units.old.left + units.old.spent }
     ensures sound { IfOk result (λ holds. IsTrue holds → Below sig.now (tree_of a.now) (tree_of b.now)) }
@@ -134,7 +129,6 @@ pub fn subtype_within(
     requires signature { IsScopedSignature sig.now }
     requires a { IsScoped sig.now most_variables (tree_of a.now) }
     requires b { IsScoped sig.now most_variables (tree_of b.now) }
-    requires units { units.old.left + units.old.spent < 2 ^ 64 }
     ensures answer { Runs (λ holds. holds) result units.new.left (subtype_of sig.now room (tree_of a.now) (tree_of b.now) units.old.left) }
     ensures sum { units.new.left + units.new.spent ≡ units.old.left + units.old.spent }
     ensures sound { IfOk result (λ holds. IsTrue holds → Below sig.now (tree_of a.now) (tree_of b.now)) }

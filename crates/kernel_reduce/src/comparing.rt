@@ -1,10 +1,10 @@
-ghost use Rattle.std.specs.Prelude.{◌≡◌, ◌≤◌, ◌<◌, ◌+◌, ◌-◌, ◌^◌};
+ghost use Rattle.std.specs.Prelude.{◌≡◌, ◌≤◌, ◌<◌, ◌+◌, ◌-◌};
 ghost use Rattle.core_terms.specs.Answers.{Runs};
 ghost use Rattle.core_terms.specs.Meanings.{tree_of};
 ghost use Rattle.theory.specs.SignatureScopes.{IsScoped, IsScopedSignature};
 ghost use Rattle.kernel_reduce.specs.Comparison as pure;
 
-use crate::reducing::{head_form, spend};
+use crate::reducing::head_form;
 use core_sig::Signature;
 use core_terms::{MAX_HEIGHT, Stop, Term, Units};
 use std::alloc::Global;
@@ -23,14 +23,13 @@ pub(crate) fn compare(
     requires signature { IsScopedSignature sig.now }
     requires a { IsScoped sig.now (3221225472 - room) (tree_of a.now) }
     requires b { IsScoped sig.now (3221225472 - room) (tree_of b.now) }
-    requires units { units.old.left + units.old.spent < 2 ^ 64 }
     ensures answer { Runs (λ holds. holds) result units.new.left (pure.convertible_of sig.now room (tree_of a.now) (tree_of b.now) units.old.left) }
     ensures sum { units.new.left + units.new.spent ≡ units.old.left + units.old.spent }
 {
     if room == 0 || a.height() > MAX_HEIGHT || b.height() > MAX_HEIGHT {
         return Err(Stop::Deep);
     }
-    spend(units)?;
+    units.spend()?;
     if a.same(b) {
         return Ok(true);
     }
@@ -51,7 +50,6 @@ fn compare_forms(
     requires signature { IsScopedSignature sig.now }
     requires a { IsScoped sig.now (3221225471 - room) (tree_of a.now) }
     requires b { IsScoped sig.now (3221225471 - room) (tree_of b.now) }
-    requires units { units.old.left + units.old.spent < 2 ^ 64 }
     ensures answer { Runs (λ holds. holds) result units.new.left (pure.on_heads sig.now (tree_of a.now) (tree_of b.now) (pure.heads_convertible (pure.convertible_of sig.now room)) units.old.left) }
     ensures sum { units.new.left + units.new.spent ≡ units.old.left + units.old.spent }
 {
@@ -74,7 +72,6 @@ fn compare_heads(
     requires signature { IsScopedSignature sig.now }
     requires a { IsScoped sig.now (3221225471 - room) (tree_of a.now) }
     requires b { IsScoped sig.now (3221225471 - room) (tree_of b.now) }
-    requires units { units.old.left + units.old.spent < 2 ^ 64 }
     ensures answer { Runs (λ holds. holds) result units.new.left (pure.heads_convertible (pure.convertible_of sig.now room) (tree_of a.now) (tree_of b.now) units.old.left) }
     ensures sum { units.new.left + units.new.spent ≡ units.old.left + units.old.spent }
 {
@@ -110,7 +107,6 @@ fn compare_both(
     requires b { IsScoped sig.now (3221225472 - room) (tree_of b.now) }
     requires c { IsScoped sig.now (3221225472 - room) (tree_of c.now) }
     requires d { IsScoped sig.now (3221225472 - room) (tree_of d.now) }
-    requires units { units.old.left + units.old.spent < 2 ^ 64 }
     ensures answer { Runs (λ holds. holds) result units.new.left (pure.both (pure.convertible_of sig.now room (tree_of a.now) (tree_of c.now)) (pure.convertible_of sig.now room (tree_of b.now) (tree_of d.now)) units.old.left) }
     ensures sum { units.new.left + units.new.spent ≡ units.old.left + units.old.spent }
 {

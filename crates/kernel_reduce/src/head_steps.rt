@@ -1,4 +1,4 @@
-ghost use Rattle.std.specs.Prelude.{◌≡◌, ◌≤◌, ◌<◌, ◌+◌, ◌^◌, IfSome, is_some, option_map, true};
+ghost use Rattle.std.specs.Prelude.{◌≡◌, ◌≤◌, ◌<◌, ◌+◌, IfSome, is_some, option_map, true};
 ghost use Rattle.core_terms.specs.Answers.{Gives, Runs, bounded};
 ghost use Rattle.core_terms.specs.Meanings.{tree_of};
 ghost use Rattle.theory.specs.Terms as tree;
@@ -6,7 +6,6 @@ ghost use Rattle.kernel_reduce.specs.Reduction.{head_step_of};
 ghost use Rattle.kernel_reduce.specs.Steps.{step_of};
 
 use crate::normalising::low;
-use crate::reducing::spend;
 use crate::stepping::step;
 use crate::testing::has_step;
 use core_sig::Signature;
@@ -33,7 +32,6 @@ pub(crate) fn next_step(
     units: &mut Units,
 ) -> Result<Option<Term>, Stop>
     requires free { tree.free_of (tree_of t.now) ≤ 3221225472 }
-    requires units { units.old.left + units.old.spent < 2 ^ 64 }
     ensures answer { Runs (option_map tree_of) result units.new.left (head_step_of sig.now delta (tree_of t.now) units.old.left) }
     ensures sum { units.new.left + units.new.spent ≡ units.old.left + units.old.spent }
 {
@@ -43,6 +41,6 @@ pub(crate) fn next_step(
     if !has_step(sig, t, delta) {
         return Ok(None);
     }
-    spend(units)?;
+    units.spend()?;
     Ok(Some(take_step(alloc, sig, t, delta)?))
 }

@@ -1,5 +1,5 @@
 //! What reduction and comparison mean in the theory.
-ghost use Rattle.kernel_reduce.specs.SignatureLaws.{PreludeScoped, PushedScoped, FirstEntriesScoped};
+ghost use Rattle.kernel_reduce.specs.SignatureLaws.{PreludeScoped, PushedScoped, FirstEntriesScoped, WellFormedScoped, WellFormedWhole, SoFarScoped, TypedTermScoped, TypedContextScoped};
 ghost use Rattle.kernel_reduce.specs.Laws.{HeadStepIsStep, WhnfIsHeadForm, NormalConverts, ConvertibleConverts, SubtypeIsBelow, HeadStepSpends, WhnfSpends, NormalSpends, ConvertibleSpends, SubtypeSpends, StepScoped, HeadStepScoped, WhnfScoped, NormalScoped};
 
 /// A head step is a step of the theory.
@@ -85,4 +85,29 @@ pub fn pushed_scoped()
 /// The first entries of a scoped signature are scoped.
 pub fn first_entries_scoped()
     ensures { FirstEntriesScoped }
+{}
+
+/// A well-formed signature is scoped.
+pub fn well_formed_scoped()
+    ensures { WellFormedScoped }
+{}
+
+/// A well-formed signature has no provisional entry.
+pub fn well_formed_whole()
+    ensures { WellFormedWhole }
+{}
+
+/// A signature that is well formed up to a provisional entry at its end is scoped.
+pub fn so_far_scoped()
+    ensures { SoFarScoped }
+{}
+
+/// A term that has a type is scoped.
+pub fn typed_term_scoped()
+    ensures { TypedTermScoped }
+{}
+
+/// A well-formed context is scoped.
+pub fn typed_context_scoped()
+    ensures { TypedContextScoped }
 {}

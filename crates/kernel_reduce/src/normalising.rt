@@ -1,4 +1,4 @@
-ghost use Rattle.std.specs.Prelude.{◌≡◌, ◌≤◌, ◌<◌, ◌+◌, ◌-◌, ◌^◌};
+ghost use Rattle.std.specs.Prelude.{◌≡◌, ◌≤◌, ◌<◌, ◌+◌, ◌-◌};
 ghost use Rattle.core_terms.specs.Answers.{Gives, Runs, bounded};
 ghost use Rattle.core_terms.specs.Meanings.{tree_of};
 ghost use Rattle.theory.specs.SignatureScopes.{IsScoped, IsScopedSignature};
@@ -32,7 +32,6 @@ pub(crate) fn normalise(
     requires room { room ≤ 2000 }
     requires signature { IsScopedSignature sig.now }
     requires scoped { IsScoped sig.now (3221225472 - room) (tree_of t) }
-    requires units { units.old.left + units.old.spent < 2 ^ 64 }
     ensures answer { Runs tree_of result units.new.left (pure.normal_of sig.now delta room (tree_of t) units.old.left) }
     ensures sum { units.new.left + units.new.spent ≡ units.old.left + units.old.spent }
 {
@@ -56,7 +55,6 @@ fn normal_children(
     requires room { room < 2000 }
     requires signature { IsScopedSignature sig.now }
     requires scoped { IsScoped sig.now (3221225471 - room) (tree_of t) }
-    requires units { units.old.left + units.old.spent < 2 ^ 64 }
     ensures answer { Runs tree_of result units.new.left (pure.normal_children (pure.normal_of sig.now delta room) (tree_of t) units.old.left) }
     ensures sum { units.new.left + units.new.spent ≡ units.old.left + units.old.spent }
 {
@@ -92,7 +90,6 @@ pub(crate) fn normal_form(
     requires room { room ≤ 2000 }
     requires signature { IsScopedSignature sig.now }
     requires scoped { IsScoped sig.now (3221225472 - room) (tree_of t.now) }
-    requires units { units.old.left + units.old.spent < 2 ^ 64 }
     ensures answer { Runs tree_of result units.new.left (pure.normal_of sig.now delta room (tree_of t.now) units.old.left) }
     ensures sum { units.new.left + units.new.spent ≡ units.old.left + units.old.spent }
 {

@@ -1,7 +1,6 @@
-ghost use Rattle.std.specs.Prelude.{◌≡◌, ◌≤◌, ◌<◌, ◌+◌, ◌^◌, OnOk, OnErr};
+ghost use Rattle.std.specs.Prelude.{◌≡◌, ◌+◌};
 ghost use Rattle.core_terms.specs.Answers.{Runs};
 ghost use Rattle.core_terms.specs.Meanings.{tree_of};
-ghost use Rattle.core_terms.specs.declared.stop.Stop.TheVariants.{Fuel};
 ghost use Rattle.theory.specs.SignatureScopes.{IsScoped, IsScopedSignature};
 ghost use Rattle.kernel_reduce.specs.Reduction.{whnf_of};
 
@@ -10,21 +9,6 @@ use crate::testing::has_step;
 use core_sig::Signature;
 use core_terms::{MAX_HEIGHT, Stop, Term, Units, copy};
 use std::alloc::Global;
-
-/// Spends one unit, or answers Fuel where none is left.
-pub(crate) fn spend(units: &mut Units) -> Result<(), Stop>
-    requires { units.old.left + units.old.spent < 2 ^ 64 }
-    ensures ok { OnOk result (units.old.left ≡ units.new.left + 1) }
-    ensures err { OnErr result ((result ≡ Err Fuel) × (units.old.left ≡ 0) × (units.new.left ≡ 0)) }
-    ensures sum { units.new.left + units.new.spent ≡ units.old.left + units.old.spent }
-{
-    if units.left == 0 {
-        return Err(Stop::Fuel);
-    }
-    units.left -= 1;
-    units.spent += 1;
-    Ok(())
-}
 
 /// Takes head steps until there is none.
 pub(crate) fn reduce(
@@ -36,7 +20,6 @@ pub(crate) fn reduce(
 ) -> Result<Term, Stop>
     requires signature { IsScopedSignature sig.now }
     requires scoped { IsScoped sig.now 3221225472 (tree_of t) }
-    requires units { units.old.left + units.old.spent < 2 ^ 64 }
     ensures answer { Runs tree_of result units.new.left (whnf_of sig.now delta units.old.left (tree_of t)) }
     ensures sum { units.new.left + units.new.spent ≡ units.old.left + units.old.spent }
 {
@@ -48,7 +31,7 @@ pub(crate) fn reduce(
         if !has_step(sig, &t, delta) {
             return Ok(t);
         }
-        spend(units)?;
+        units.spend()?;
         t = step(alloc, sig, t, delta)?;
     }
 }
@@ -63,7 +46,6 @@ pub(crate) fn head_form(
 ) -> Result<Term, Stop>
     requires signature { IsScopedSignature sig.now }
     requires scoped { IsScoped sig.now 3221225472 (tree_of t.now) }
-    requires units { units.old.left + units.old.spent < 2 ^ 64 }
     ensures answer { Runs tree_of result units.new.left (whnf_of sig.now delta units.old.left (tree_of t.now)) }
     ensures sum { units.new.left + units.new.spent ≡ units.old.left + units.old.spent }
 {

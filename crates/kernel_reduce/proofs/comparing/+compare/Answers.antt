@@ -14,4 +14,4 @@ compare_forms-compare_heads-requires t c =
     let b =
     meant-has (IsScoped c.args.sig.now n) (tree_of c.in_ok-b.b) _ _ c.in_ok-b.ensures.answer
     (whnf-scoped c.args.sig.now true _ n (tree_of c.args.b.now) c.requires.signature c.requires.b) in
-    (omega arith, (c.requires.room, (c.requires.signature, (a, (b, omega (arith, c.in_ok-a.ensures.sum, c.in_ok-b.ensures.sum))))))
+    (omega arith, (c.requires.room, (c.requires.signature, (a, b))))

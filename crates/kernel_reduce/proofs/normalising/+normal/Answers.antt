@@ -12,5 +12,5 @@ normalise-normal_children-requires t c =
     meant-has (IsScoped c.args.sig.now (3221225472 - c.args.room)) (tree_of c.in_ok-t.t) _ _ c.in_ok-t.ensures.answer
     (whnf-scoped c.args.sig.now c.args.delta c.args.units.now.left (3221225472 - c.args.room) (tree_of c.args.t) c.requires.signature c.requires.scoped) in (
       omega arith,
-      (omega arith, (c.requires.signature, (scoped_over_more c.args.sig.now _ _ (tree_of c.in_ok-t.t) (omega arith) head, omega (arith, c.in_ok-t.ensures.sum)))),
+      (omega arith, (c.requires.signature, scoped_over_more c.args.sig.now _ _ (tree_of c.in_ok-t.t) (omega arith) head)),
     )

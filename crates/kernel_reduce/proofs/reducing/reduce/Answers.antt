@@ -16,7 +16,7 @@ returns-in_err-t-clause-answer c =
     let q = err_from_is_err_and c.from_residual-in_err-t.result c.from_residual-in_err-t.ensures.1 in
     rw (q.1, q.2)
     (λ other.
-    whnf-deep c.args.sig.now c.args.delta c.spend.new.units.left c.steps.units.left (tree_of c.steps.t) _ c.in_ok-spend.ensures.ok low c.if-not-has_step.ensures
+    whnf-deep c.args.sig.now c.args.delta c.spend.new.self.left c.steps.units.left (tree_of c.steps.t) _ c.in_ok-spend.ensures.ok low c.if-not-has_step.ensures
     c.in_err-t.ensures other
     ∙ c.steps.invariant.meant)
 
@@ -25,10 +25,10 @@ steps-preserved c =
     let low : height (tree_of c.steps.t) ≤ 2000 = omega arith in
     record {
       meant =
-          whnf-stepped c.args.sig.now c.args.delta c.spend.new.units.left c.steps.units.left (tree_of c.steps.t) c.in_ok-t.t c.in_ok-spend.ensures.ok low c.if-not-has_step.ensures
+          whnf-stepped c.args.sig.now c.args.delta c.spend.new.self.left c.steps.units.left (tree_of c.steps.t) c.in_ok-t.t c.in_ok-spend.ensures.ok low c.if-not-has_step.ensures
           c.in_ok-t.ensures
           ∙ c.steps.invariant.meant;
-      sum = omega (arith, c.in_ok-spend.ensures.sum);
+      sum = omega (arith, c.in_ok-spend.ensures.total);
       scoped =
           stepped-scoped c.args.sig.now c.args.delta 3221225472 (tree_of c.steps.t) c.in_ok-t.t c.requires.signature c.steps.invariant.scoped c.if-not-has_step.ensures
           c.in_ok-t.ensures;
