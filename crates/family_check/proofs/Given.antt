@@ -10,6 +10,7 @@ use Rattle.core_sig.specs.Raw.{RawConstructor, RawFamily, raw_names}
 use Rattle.kernel_reduce.specs.Reduction.{nesting}
 use Rattle.kernel_check.specs.Checking.{infer_sort_of}
 use Rattle.family_check.specs.Outcomes.{OfType, OfConstructor, FamilyStop, ended, granted}
+use Rattle.family_check.specs.Asking.{sort_in}
 use Rattle.family_check.specs.Shapes.{domains_of, end_of, constructor_targets}
 use Rattle.family_check.specs.Families.{Role, level_in, levels_of, family_level, declare_type, on_targets, declare_constructor, declare_constructors, declare_family}
 use Rattle.family_check.specs.Families.Role.{Parameter, Index, ArgumentOf}
@@ -35,7 +36,7 @@ levels-counted S role count G (a ∷ tele) left =
     (levels-counted S role (count + 1) (a ∷ G) tele rest) (λ levels end counted. ap suc counted))
 
 -- the parts of a family without constructors that are given
-record IsGiven (raw : RawFamily) (f : Family) : Type 0 where
+pub record IsGiven (raw : RawFamily) (f : Family) : Type 0 where
   pub bare : f.constructors ≡ []
   pub name : f.name ≡ raw.name
   pub parameters : f.parameters ≡ raw.parameters
@@ -46,7 +47,8 @@ ends (Sort level) = refl
 ends (Const n) = tt
 ends _ = tt
 
-type-given : (S : Signature) (raw : RawFamily) (left : ℕ) → Ends (IsGiven raw) (declare_type S raw left)
+pub type-given : (S : Signature) (raw : RawFamily) (left : ℕ) → Ends (IsGiven raw) (declare_type S raw left)
+unfolding sort_in
 type-given S raw left =
     let G = context_behind [] raw.parameters in
     and_next-has Any (IsGiven raw) (levels_of S Parameter 0 [] raw.parameters left) _ (any-answer (levels_of S Parameter 0 [] raw.parameters left).0) (λ ls left1 any1.
@@ -69,6 +71,7 @@ record IsGivenConstructor (n : ℕ) (f : Family) (raw : RawConstructor) (c : Con
 
 constructor-given : (S : Signature) (n : ℕ) (f : Family) (number : ℕ) (raw : RawConstructor) (left : ℕ)
     → Ends (IsGivenConstructor n f raw) (declare_constructor S n f number raw left)
+unfolding sort_in
 constructor-given S n f number raw left =
     let G = context_behind [] f.parameters in
     and_next-has Any (IsGivenConstructor n f raw) (granted (OfConstructor number) (infer_sort_of S nesting G raw.type left)) _
@@ -95,7 +98,7 @@ constructors-given S n f number (raw ∷ raws) left =
     (constructors-given S n f (number + 1) raws rest) (λ cs end k.
     record { names = ap₂ ◌∷◌ h.name k.names; types = ap₂ ◌∷◌ h.type k.types }))
 
-family-given : (S : Signature) (raw : RawFamily) (left : ℕ) → Ends (IsAsDeclared (length S.entries) raw) (declare_family S raw left)
+pub family-given : (S : Signature) (raw : RawFamily) (left : ℕ) → Ends (IsAsDeclared (length S.entries) raw) (declare_family S raw left)
 family-given S raw left =
     let n = length S.entries in
     and_next-has (IsGiven raw) (IsAsDeclared n raw) (declare_type S raw left) _ (type-given S raw left) (λ f rest h.

@@ -1,15 +1,23 @@
+pub mod Answered
 pub mod Completing
 pub mod EndLevels
 mod Examples
+pub mod Extending
 pub mod Given
+pub mod Instances
+pub mod Lowness
 pub mod Moving
 pub mod NewNames
 pub mod Outcomes
+pub mod Places
+pub mod PreludeEntries
 pub mod Scoped
 pub mod ScopedEntering
 pub mod ScopedShapes
+pub mod ScopedTelescopes
 pub mod Settling
 pub mod Shapes
+pub mod SoFar
 pub mod Soundness
 pub mod Spending
 pub mod Zips

@@ -20,6 +20,7 @@ use Rattle.kernel_check.specs.Checking.{infer_sort_of}
 use Rattle.kernel_check.specs.Laws.{IfYes, IsScopedDenial, IsScopedVerdict}
 use Rattle.kernel_check.proofs.Scoped.{infer_sort-scoped}
 use Rattle.family_check.specs.Outcomes.{Site, OfType, FamilyStop, TooLarge, ended, on_part, granted}
+use Rattle.family_check.specs.Asking.{sort_in}
 use Rattle.family_check.specs.Shapes.{domains_of, end_of}
 use Rattle.family_check.specs.Families.{Role, site_of, fitting, sort_level, level_in, levels_of, family_level, family_without, declare_type}
 use Rattle.family_check.specs.Families.Role.{Parameter, Index, ArgumentOf}
@@ -80,6 +81,7 @@ Reads over T role = (k : ℕ) (denial : Denial) → IsScopedDenial T denial → 
 pub levels-within : (over : Site → Signature) (T : Signature) (role : Role) → IsScopedSignature T → Reads over T role
     → (count : ℕ) (G : Context) (tele : Telescope) (left : ℕ) → IsScopedContext T G → IsScopedTelescope T (length G) tele
     → Splits (AreWithin role tele) (IsScopedStop over) (levels_of T role count G tele left).0
+unfolding sort_in
 levels-within over T role scoped reads count G [] left ctx h = record { counted = refl; within = All-nil (IsWithin role) }
 levels-within over T role scoped reads count G (a ∷ tele) left ctx h =
     and_next-splits (IsWithin role) (AreWithin role (a ∷ tele)) (IsScopedStop over) (level_in T role (count + 1) G a left) _
@@ -140,6 +142,7 @@ bare-scoped S raw levels level h low within = record { bare = refl; parameters =
 
 pub type-scoped : (S : Signature) → IsSettled S → (raw : RawFamily) (left : ℕ) → IsScopedRaw S raw
     → Splits (IsBareScoped S raw) (IsScopedStop (site_signature S raw)) (declare_type S raw left).0
+unfolding sort_in
 type-scoped S settled raw left h =
     and_next-splits (AreWithin Parameter raw.parameters) (IsBareScoped S raw) (IsScopedStop over) (levels_of S Parameter 0 [] raw.parameters left) _
     (levels-within over S Parameter settled.scoped (λ k denial d. d) 0 [] raw.parameters left tt h.parameters) (λ parameter_levels left1 w.

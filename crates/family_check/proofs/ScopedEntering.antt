@@ -8,7 +8,7 @@ use Rattle.theory.specs.Terms.Term.{Const, Elim, AxiomK}
 use Rattle.theory.specs.Telescopes.{Context, context_behind}
 use Rattle.theory.specs.Families.{Constructor, Family, index_types}
 use Rattle.theory.specs.Eliminators.{eliminator_type}
-use Rattle.theory.specs.Signatures.{Entry, FamilyOf, EliminatorAt, AxiomKAt, Definition, Signature, equality, axiom_k_type}
+use Rattle.theory.specs.Signatures.{Entry, FamilyOf, EliminatorAt, AxiomKAt, Definition, Signature, IsEntryAt, equality, axiom_k_type}
 use Rattle.theory.specs.Signatures.TypeOf.{eliminator, axiom_k}
 use Rattle.theory.specs.WellFormed.{pushed}
 use Rattle.theory.specs.SignatureScopes.{IsConstantNumber, IsFamilyNumber, IsConstructorNumber, IsScoped, IsScopedTelescope, IsScopedContext, IsScopedConstructor, IsScopedFamily, IsScopedSignature}
@@ -24,13 +24,14 @@ use Rattle.kernel_check.specs.Checking.{infer_sort_of, check_of}
 use Rattle.kernel_check.specs.Laws.{IsScopedDenial}
 use Rattle.kernel_check.proofs.Scoped.{infer_sort-scoped, check-scoped}
 use Rattle.family_check.specs.Outcomes.{Site, OfType, OfBody, OfConstructor, FamilyStop, Duplicate, Outcome, ended, granted}
+use Rattle.family_check.specs.Asking.{sort_in, type_in}
 use Rattle.family_check.specs.Shapes.{domains_of, end_of, constructor_targets}
 use Rattle.family_check.specs.Families.{levels_of, family_without, declare_type, on_targets, declare_constructor, declare_constructors, with_constructors, declare_family}
 use Rattle.family_check.specs.Families.Role.{ArgumentOf}
 use Rattle.family_check.specs.Scopes.{IsSettled, IsScopedRaw, site_signature, IsScopedStop}
 use Rattle.family_check.specs.Entering.{Entered, if_new, are_new, enter_instance, unless_there, check_definition}
 use Rattle.family_check.specs.Laws.{DeclareKeepsSettled, InstanceKeepsSettled, AxiomKKeepsSettled, DefineKeepsSettled}
-use Rattle.family_check.proofs.Moving.{Moves, scoped-moved, context-moved, denial-moved, longer-moves, eliminator-moves, axiom_k-moves, family-moves, arguments-moved}
+use Rattle.family_check.proofs.Moving.{Moves, scoped-moved, telescope-moved, denial-moved, longer-moves, eliminator-moves, axiom_k-moves, family-moves, arguments-moved}
 use Rattle.family_check.proofs.Outcomes.{Splits, and_next-splits, split-parts}
 use Rattle.family_check.proofs.Scoped.{Any, any-type, granted-splits, AreWithin, levels-within, length-behind, IsBareScoped, type-scoped}
 use Rattle.family_check.proofs.ScopedShapes.{domains-scoped, targets-scoped, arguments-scoped}
@@ -55,6 +56,7 @@ record Stands (over : Site → Signature) (T : Signature) (f : Family) : Type 0 
 constructor-splits : (over : Site → Signature) (T : Signature) (n : ℕ) (f : Family) (number : ℕ) (raw : RawConstructor) (left : ℕ)
     → Stands over T f → IsScoped T (length f.parameters) raw.type
     → Splits (IsScopedConstructor T (length f.parameters) (length f.indices)) (IsScopedStop over) (declare_constructor T n f number raw left).0
+unfolding sort_in
 constructor-splits over T n f number raw left h type =
     and_next-splits Any Made (IsScopedStop over) (granted (OfConstructor number) (infer_sort_of T nesting G raw.type left)) _
     (granted-splits Any over T (OfConstructor number) (length G) (infer_sort_of T nesting G raw.type left) (h.reads number)
@@ -113,6 +115,22 @@ bare-settled : (S : Signature) (raw : RawFamily) (f : Family) → IsSettled S �
 bare-settled S raw f settled b =
     push-settled S (FamilyOf f) settled b.scoped (λ name type. no-definition f name type (Const (length S.entries)))
 
+-- what holds over a signature that has a family without constructors at its end, of its parameters and its constructors' types
+pub record OverBare (S : Signature) (raw : RawFamily) (f : Family) : Type 0 where
+  pub settled : IsSettled (pushed S (FamilyOf f))
+  pub parameters : IsScopedTelescope (pushed S (FamilyOf f)) 0 f.parameters
+  pub types : All (λ c. IsScoped (pushed S (FamilyOf f)) (length f.parameters) c.type) raw.constructors
+
+pub over-bare : (S : Signature) → IsSettled S → (raw : RawFamily) (f : Family) → IsScopedRaw S raw → IsBareScoped S raw f → OverBare S raw f
+over-bare S settled raw f h b = record {
+  settled = bare-settled S raw f settled b;
+  parameters = transport (IsScopedTelescope (pushed S (FamilyOf f)) 0) (sym b.parameters)
+      (telescope-moved (longer-moves S (FamilyOf f)) 0 raw.parameters h.parameters);
+  types = λ k d w.
+      transport (λ ps. IsScoped (pushed S (FamilyOf f)) (length ps) (get_or raw.constructors k d).type) (sym b.parameters)
+      (scoped-moved (family-moves S (family_without raw [] 0) f refl) (h.constructors k d w));
+}
+
 whole-scoped : (S : Signature) (raw : RawFamily) (f : Family) (cs : List Constructor) → IsBareScoped S raw f
     → All (IsScopedConstructor (pushed S (FamilyOf f)) (length f.parameters) (length f.indices)) cs
     → IsScopedFamily (pushed S (FamilyOf (with_constructors f cs))) (length S.entries) (with_constructors f cs)
@@ -144,8 +162,9 @@ family-settles S settled raw left h =
     (type-scoped S settled raw left h) (λ f rest b.
     let T = pushed S (FamilyOf f) in
     let Made = IsScopedConstructor T (length f.parameters) (length f.indices) in
+    let o = over-bare S settled raw f h b in
     and_next-splits (All Made) (Settles S) (IsScopedStop over) (declare_constructors T (length S.entries) f 0 raw.constructors rest) _
-    (constructors-split over T (length S.entries) f 0 raw.constructors rest (stands f b) (types f b)) (λ cs end all.
+    (constructors-split over T (length S.entries) f 0 raw.constructors rest (stands f b o) o.types) (λ cs end all.
     push-settled S (FamilyOf (with_constructors f cs)) settled (whole-scoped S raw f cs b all)
     (λ name type. no-definition (with_constructors f cs) name type (Const (length S.entries)))))
   where
@@ -155,19 +174,13 @@ family-settles S settled raw left h =
     bare : Family
     bare = family_without raw [] 0
 
-    stands : (f : Family) → IsBareScoped S raw f → Stands over (pushed S (FamilyOf f)) f
-    stands f b = record {
-      scoped = (bare-settled S raw f settled b).scoped;
+    stands : (f : Family) → IsBareScoped S raw f → OverBare S raw f → Stands over (pushed S (FamilyOf f)) f
+    stands f b o = record {
+      scoped = o.settled.scoped;
       low = b.scoped.level;
-      context = transport (λ ps. IsScopedContext (pushed S (FamilyOf f)) (context_behind [] ps)) (sym b.parameters)
-          (context-moved (longer-moves S (FamilyOf f)) (context_behind [] raw.parameters) ((context-scoped S raw.parameters).0 h.parameters));
+      context = (context-scoped (pushed S (FamilyOf f)) f.parameters).0 o.parameters;
       reads = λ number denial. denial-moved (family-moves S f bare b.bare) denial;
     }
-
-    types : (f : Family) → IsBareScoped S raw f → All (λ c. IsScoped (pushed S (FamilyOf f)) (length f.parameters) c.type) raw.constructors
-    types f b k d w =
-        transport (λ ps. IsScoped (pushed S (FamilyOf f)) (length ps) (get_or raw.constructors k d).type) (sym b.parameters)
-        (scoped-moved (family-moves S bare f refl) (h.constructors k d w))
 
 if_new-splits : {A : Type 0} (P : A → Type 0) (N : FamilyStop → Type 0) (test : Bool) (go : ℕ → Outcome A) (left : ℕ)
     → N Duplicate → Splits P N (go left).0 → Splits P N (if_new test go left).0
@@ -205,6 +218,7 @@ definition-settles S name type body settled ht hb =
         not-beyond S (transport (IsScoped S 0) (ap body_of e) hb).entries
 
 pub define-settles : DefineKeepsSettled
+unfolding sort_in type_in
 define-settles S name type body left settled ht hb =
     split-parts StaysSettled N _
     (if_new-splits StaysSettled N (are_new S (name ∷ [])) (check_definition S name type body) left tt
@@ -227,6 +241,7 @@ there-splits N S None enter left settled h = h
 -- an instance whose type is scoped where its levels fit
 instance-splits : (S : Signature) (e : Entry) (fits : Bool) (type : Term) (left : ℕ) → IsSettled S → (fits ≡ true → IsScoped S 0 type)
     → (fits ≡ true → IsSettled (pushed S e)) → Splits StaysSettled (IsScopedStop (λ site. S)) (enter_instance S e fits type left).0
+unfolding sort_in
 instance-splits S e false type left settled ht he = (tt, tt)
 instance-splits S e true type left settled ht he =
     and_next-splits Any StaysSettled (IsScopedStop (λ site. S)) (granted OfType (infer_sort_of S nesting [] type left)) _
@@ -234,37 +249,54 @@ instance-splits S e true type left settled ht he =
     (infer_sort-scoped S nesting [] type left settled.scoped tt (ht refl)) (any-type (infer_sort_of S nesting [] type left).0)) (λ sort end u.
     he refl)
 
+-- a signature with an eliminator, whose level fits
+eliminator-settled : (S : Signature) (n m : ℕ) (f : Family) → IsSettled S → IsEntryAt S n (FamilyOf f) → m < top → IsSettled (pushed S (EliminatorAt n m))
+eliminator-settled S n m f settled at low =
+    push-settled S (EliminatorAt n m) settled (transport (λ T. IsFamilyNumber T n) (first-all S (EliminatorAt n m)) (f, at), low)
+    (λ name type e. absurd (grind arith))
+
+-- the type of an eliminator is scoped
+pub eliminator-scoped : (S : Signature) (n m : ℕ) (f : Family) → IsSettled S → IsEntryAt S n (FamilyOf f) → m < top → IsScoped S 0 (eliminator_type n f m)
+eliminator-scoped S n m f settled at low =
+    scoped-moved (eliminator-moves S n m) (types-scoped (pushed S (EliminatorAt n m)) (Elim n m) (eliminator_type n f m) (eliminator-settled S n m f settled at low).scoped
+    (eliminator n m (length S.entries) (slice_get-longer S.entries (EliminatorAt n m ∷ []) n (FamilyOf f) at) (slice_get-last S.entries (EliminatorAt n m))))
+
 pub instance-settles : InstanceKeepsSettled
 instance-settles S n f m left settled at =
     split-parts StaysSettled (IsScopedStop (λ site. S)) _
     (there-splits (IsScopedStop (λ site. S)) S (position (is_eliminator n m) S.entries) _ left settled
     (instance-splits S (EliminatorAt n m) (nat_lt m top) (eliminator_type n f m) left settled
-    (λ fits. scoped-moved (eliminator-moves S n m) (types-scoped (pushed S (EliminatorAt n m)) (Elim n m) (eliminator_type n f m) (longer fits).scoped
-    (eliminator n m (length S.entries) (slice_get-longer S.entries (EliminatorAt n m ∷ []) n (FamilyOf f) at) (slice_get-last S.entries (EliminatorAt n m)))))
-    longer))
+    (λ fits. eliminator-scoped S n m f settled at (low fits)) (λ fits. eliminator-settled S n m f settled at (low fits))))
   where
-    longer : nat_lt m top ≡ true → IsSettled (pushed S (EliminatorAt n m))
-    longer fits =
-        let low : m < top = grind (arith, nat_tests) in
-        push-settled S (EliminatorAt n m) settled (transport (λ T. IsFamilyNumber T n) (first-all S (EliminatorAt n m)) (f, at), low)
-        (λ name type e. absurd (grind arith))
+    low : nat_lt m top ≡ true → m < top
+    low fits = grind (arith, nat_tests)
+
+-- the identity family of a level, where the signature has it
+abbrev HasEquality : Signature → ℕ → Type 0
+HasEquality S i = i < top → IsConstructorNumber S (equality i) 0
+
+axiom_k-settled : (S : Signature) (i m : ℕ) → IsSettled S → HasEquality S i → i < top → m < top → IsSettled (pushed S (AxiomKAt i m))
+axiom_k-settled S i m settled identity low motive_low =
+    push-settled S (AxiomKAt i m) settled
+    (low, motive_low, transport (λ T. IsConstructorNumber T (equality i) 0) (first-all S (AxiomKAt i m)) (identity low))
+    (λ name type e. absurd (grind arith))
+
+-- the type of axiom K is scoped
+pub axiom_k-scoped : (S : Signature) (i m : ℕ) → IsSettled S → HasEquality S i → i < top → m < top → IsScoped S 0 (axiom_k_type i m)
+axiom_k-scoped S i m settled identity low motive_low =
+    scoped-moved (axiom_k-moves S i m) (types-scoped (pushed S (AxiomKAt i m)) (AxiomK i m) (axiom_k_type i m) (axiom_k-settled S i m settled identity low motive_low).scoped
+    (axiom_k i m (length S.entries) (slice_get-last S.entries (AxiomKAt i m))))
 
 pub axiom_k-settles : AxiomKKeepsSettled
 axiom_k-settles S i m left settled identity =
     split-parts StaysSettled (IsScopedStop (λ site. S)) _
     (there-splits (IsScopedStop (λ site. S)) S (position (is_axiom_k i m) S.entries) _ left settled
     (instance-splits S (AxiomKAt i m) (nat_lt i top && nat_lt m top) (axiom_k_type i m) left settled
-    (λ fits. scoped-moved (axiom_k-moves S i m) (types-scoped (pushed S (AxiomKAt i m)) (AxiomK i m) (axiom_k_type i m) (longer fits).scoped
-    (axiom_k i m (length S.entries) (slice_get-last S.entries (AxiomKAt i m)))))
-    longer))
+    (λ fits. axiom_k-scoped S i m settled identity (low fits).0 (low fits).1) (λ fits. axiom_k-settled S i m settled identity (low fits).0 (low fits).1)))
   where
-    longer : (nat_lt i top && nat_lt m top) ≡ true → IsSettled (pushed S (AxiomKAt i m))
-    longer fits =
+    low : (nat_lt i top && nat_lt m top) ≡ true → (i < top) × (m < top)
+    low fits =
         let levels = both-true (nat_lt i top) (nat_lt m top) fits in
         let identity_fits = levels.0 in
         let motive_fits = levels.1 in
-        let identity_low : i < top = grind (arith, nat_tests) in
-        let motive_low : m < top = grind (arith, nat_tests) in
-        push-settled S (AxiomKAt i m) settled
-        (identity_low, motive_low, transport (λ T. IsConstructorNumber T (equality i) 0) (first-all S (AxiomKAt i m)) (identity identity_low))
-        (λ name type e. absurd (grind arith))
+        (grind (arith, nat_tests), grind (arith, nat_tests))

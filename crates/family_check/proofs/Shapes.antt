@@ -56,7 +56,7 @@ targets-found n f k t =
     targets : List Term
     targets = drop (length f.parameters) (spine_of t)
 
-weaken_by-more : (k j : ℕ) (t : Term) → weaken_by j (weaken_by k t) ≡ weaken_by (k + j) t
+pub weaken_by-more : (k j : ℕ) (t : Term) → weaken_by j (weaken_by k t) ≡ weaken_by (k + j) t
 weaken_by-more k j t = ren-ren (λ n. n + j) (λ n. n + k) t ∙ ren-same t (λ n. omega arith)
 
 pub weaken_by-none : (t : Term) → weaken_by 0 t ≡ t

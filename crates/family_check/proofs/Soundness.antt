@@ -27,6 +27,7 @@ use Rattle.kernel_check.specs.Checking.{infer_sort_of, check_of}
 use Rattle.kernel_check.specs.Laws.{HasUniverse, HasWanted}
 use Rattle.kernel_check.proofs.Soundness.{infer_sort-is_sound, check-is_sound}
 use Rattle.family_check.specs.Outcomes.{Site, OfType, OfBody, OfConstructor, FamilyStop, TooLarge, Outcome, ended, granted}
+use Rattle.family_check.specs.Asking.{sort_in, type_in}
 use Rattle.family_check.specs.Shapes.{domains_of, end_of, arguments, constructor_targets}
 use Rattle.family_check.specs.Families.{Role, site_of, fitting, sort_level, level_in, levels_of, family_level, family_without, declare_type, on_targets, declare_constructor, declare_constructors, with_constructors, declare_family}
 use Rattle.family_check.specs.Families.Role.{Parameter, Index, ArgumentOf}
@@ -69,6 +70,7 @@ record IsLevel (S : Signature) (role : Role) (G : Context) (a : Term) (level : �
 
 level-sound : (S : Signature) → IsTyped S → (role : Role) (k : ℕ) (G : Context) (a : Term) (left : ℕ) → IsContext S G
     → Ends (IsLevel S role G a) (level_in S role k G a left)
+unfolding sort_in
 level-sound S typed role k G a left context =
     and_next-has (HasUniverse S G a) (IsLevel S role G a) (granted (site_of role k) (infer_sort_of S nesting G a left)) _
     (sort-granted S typed (site_of role k) G a left context) (λ sort rest u.
@@ -147,6 +149,7 @@ bare-family S typed raw parameter_levels levels level params u ends indices =
     }
 
 type-sound : (S : Signature) → IsTyped S → (raw : RawFamily) (left : ℕ) → Ends (IsBare S raw) (declare_type S raw left)
+unfolding sort_in
 type-sound S typed raw left =
     let G = context_behind [] raw.parameters in
     and_next-has (HasLevels S top [] raw.parameters) (IsBare S raw) (levels_of S Parameter 0 [] raw.parameters left) _
@@ -190,6 +193,7 @@ constructor-formed T n f raw targets levels context u shaped leveled =
 
 constructor-sound : (T : Signature) → IsTyped T → (n : ℕ) (f : Family) (number : ℕ) (raw : RawConstructor) (left : ℕ)
     → IsContext T (context_behind [] f.parameters) → Ends (IsFormed T n f raw.name) (declare_constructor T n f number raw left)
+unfolding sort_in
 constructor-sound T typed n f number raw left context =
     let G = context_behind [] f.parameters in
     and_next-has (HasUniverse T G raw.type) (IsFormed T n f raw.name) (granted (OfConstructor number) (infer_sort_of T nesting G raw.type left)) _
@@ -282,6 +286,7 @@ declare-keeps S raw left h =
 
 -- a definition
 pub define-keeps : DefineKeepsWellFormed
+unfolding sort_in type_in
 define-keeps S name type body left h =
     let typed = well_formed_typed S h in
     if_new-has (λ e. IsWellFormed e.signature) (are_new S (name ∷ [])) _ left (λ test.
@@ -323,6 +328,7 @@ there-keeps S None enter left h k = k refl
 -- an instance, which brings no names
 instance-enters : (S : Signature) (e : Entry) (fits : Bool) (type : Term) (left : ℕ) → IsWellFormed S → names_of e ≡ []
     → (fits ≡ true → HasSort S [] type → IsEntry S e) → Ends (λ x. IsWellFormed x.signature) (enter_instance S e fits type left)
+unfolding sort_in
 instance-enters S e false type left h nameless made = tt
 instance-enters S e true type left h nameless made =
     and_next-has (HasUniverse S [] type) (λ x. IsWellFormed x.signature) (granted OfType (infer_sort_of S nesting [] type left)) _

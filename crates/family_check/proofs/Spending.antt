@@ -12,6 +12,7 @@ use Rattle.kernel_check.specs.Symbols.{is_eliminator, is_axiom_k}
 use Rattle.kernel_check.specs.Checking.{infer_sort_of, check_of}
 use Rattle.kernel_check.proofs.Spending.{infer_sort-spends, check-spends}
 use Rattle.family_check.specs.Outcomes.{OfType, OfBody, OfConstructor, Outcome, ended, and_next, granted}
+use Rattle.family_check.specs.Asking.{sort_in, type_in}
 use Rattle.family_check.specs.Shapes.{domains_of, end_of, constructor_targets}
 use Rattle.family_check.specs.Families.{Role, Parameter, Index, ArgumentOf, site_of, level_in, levels_of, family_level, declare_type, on_targets, declare_constructor, declare_constructors, declare_family}
 use Rattle.family_check.specs.Entering.{Entered, entered, are_new, enter_instance, unless_there, check_definition}
@@ -19,6 +20,7 @@ use Rattle.family_check.specs.Laws.{DeclareSpends, InstanceSpends, AxiomKSpends,
 use Rattle.family_check.proofs.Outcomes.{and_next-spends, if_new-spends}
 
 level-spends : (S : Signature) (role : Role) (k : ℕ) (G : Context) (a : Term) (left : ℕ) → (level_in S role k G a left).1 ≤ left
+unfolding sort_in
 level-spends S role k G a left =
     and_next-spends (granted (site_of role k) (infer_sort_of S nesting G a left)) _ left (infer_sort-spends S nesting G a left) (λ sort rest. omega arith)
 
@@ -30,6 +32,7 @@ levels-spends S role count G (a ∷ tele) left =
     omega arith))
 
 type-spends : (S : Signature) (raw : RawFamily) (left : ℕ) → (declare_type S raw left).1 ≤ left
+unfolding sort_in
 type-spends S raw left =
     let G = context_behind [] raw.parameters in
     and_next-spends (levels_of S Parameter 0 [] raw.parameters left) _ left (levels-spends S Parameter 0 [] raw.parameters left) (λ ls left1.
@@ -39,6 +42,7 @@ type-spends S raw left =
     omega arith))))
 
 constructor-spends : (S : Signature) (n : ℕ) (f : Family) (number : ℕ) (raw : RawConstructor) (left : ℕ) → (declare_constructor S n f number raw left).1 ≤ left
+unfolding sort_in
 constructor-spends S n f number raw left =
     let G = context_behind [] f.parameters in
     and_next-spends (granted (OfConstructor number) (infer_sort_of S nesting G raw.type left)) _ left (infer_sort-spends S nesting G raw.type left) (λ sort left1.
@@ -66,6 +70,7 @@ declare-spends S raw left =
     (and_next-spends (declare_family S raw left) _ left (family-spends S raw left) (λ f end. omega arith))
 
 enter-spends : (S : Signature) (e : Entry) (fits : Bool) (type : Term) (left : ℕ) → (enter_instance S e fits type left).1 ≤ left
+unfolding sort_in
 enter-spends S e true type left =
     and_next-spends (granted OfType (infer_sort_of S nesting [] type left)) _ left (infer_sort-spends S nesting [] type left) (λ sort end. omega arith)
 enter-spends S e false type left = omega arith
@@ -85,6 +90,7 @@ axiom_k-spends S i m left =
     (enter-spends S (AxiomKAt i m) (nat_lt i top && nat_lt m top) (axiom_k_type i m) left)
 
 definition-spends : (S : Signature) (name : List ℕ) (type body : Term) (left : ℕ) → (check_definition S name type body left).1 ≤ left
+unfolding sort_in type_in
 definition-spends S name type body left =
     and_next-spends (granted OfType (infer_sort_of S nesting [] type left)) _ left (infer_sort-spends S nesting [] type left) (λ sort rest.
     and_next-spends (granted OfBody (check_of S nesting [] body type rest)) _ rest (check-spends S nesting [] body type rest) (λ found end. omega arith))

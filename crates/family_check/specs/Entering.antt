@@ -10,10 +10,9 @@ use Rattle.theory.specs.WellFormed.{pushed}
 use Rattle.core_terms.specs.Verdicts.{LevelTooHigh}
 use Rattle.core_sig.specs.Names.{find}
 use Rattle.core_sig.specs.Raw.{RawFamily, raw_names}
-use Rattle.kernel_reduce.specs.Reduction.{nesting}
 use Rattle.kernel_check.specs.Symbols.{is_eliminator, is_axiom_k}
-use Rattle.kernel_check.specs.Checking.{infer_sort_of, check_of}
-use Rattle.family_check.specs.Outcomes.{OfType, OfBody, Denied, Duplicate, Outcome, ended, and_next, granted}
+use Rattle.family_check.specs.Outcomes.{OfType, OfBody, Denied, Duplicate, Outcome, ended, and_next}
+use Rattle.family_check.specs.Asking.{sort_in, type_in}
 use Rattle.family_check.specs.Families.{declare_family}
 
 -- the number of an entry, and the signature that has it
@@ -21,9 +20,13 @@ pub record Entered : Type 0 where
   pub number : ℕ
   pub signature : Signature
 
+-- an entry of the signature
+abbrev pub entered_at : Signature → ℕ → Entered
+entered_at S n = record { number = n; signature = S }
+
 -- the entry goes to the end of the signature
 abbrev pub entered : Signature → Entry → Entered
-entered S e = record { number = length S.entries; signature = pushed S e }
+entered S e = entered_at (pushed S e) (length S.entries)
 
 -- a name stands twice in the list
 abbrev pub has_repeat : List (List ℕ) → Bool
@@ -49,13 +52,13 @@ declare_of S raw left =
 -- an instance with the given type, where its levels fit
 abbrev pub enter_instance : Signature → Entry → Bool → Term → ℕ → Outcome Entered
 enter_instance S e true type left =
-    and_next (granted OfType (infer_sort_of S nesting [] type left)) (λ sort end. ended (Ok (entered S e)) end)
+    and_next (sort_in S OfType [] type left) (λ sort end. ended (Ok (entered S e)) end)
 enter_instance S e false type left =
     ended (Err (Denied OfType (record { place = []; ctx = []; reason = LevelTooHigh }))) left
 
 -- an instance that is there already gives its number
 abbrev pub unless_there : Signature → Option ℕ → (ℕ → Outcome Entered) → ℕ → Outcome Entered
-unless_there S (Some n) enter left = ended (Ok (record { number = n; signature = S })) left
+unless_there S (Some n) enter left = ended (Ok (entered_at S n)) left
 unless_there S None enter left = enter left
 
 -- the eliminator of family n, which has the record f, into Type m
@@ -75,8 +78,8 @@ axiom_k_of S i m left =
 -- a definition: its type, and then its body against the type
 abbrev pub check_definition : Signature → List ℕ → Term → Term → ℕ → Outcome Entered
 check_definition S name type body left =
-    and_next (granted OfType (infer_sort_of S nesting [] type left)) (λ sort rest.
-    and_next (granted OfBody (check_of S nesting [] body type rest)) (λ found end.
+    and_next (sort_in S OfType [] type left) (λ sort rest.
+    and_next (type_in S OfBody [] body type rest) (λ found end.
     ended (Ok (entered S (Definition name type body))) end))
 
 abbrev pub define_of : Signature → List ℕ → Term → Term → ℕ → Outcome Entered

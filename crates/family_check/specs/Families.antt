@@ -8,9 +8,8 @@ use Rattle.theory.specs.Families.{Constructor, Family}
 use Rattle.theory.specs.Signatures.{Signature, FamilyOf}
 use Rattle.theory.specs.WellFormed.{pushed}
 use Rattle.core_sig.specs.Raw.{RawConstructor, RawFamily}
-use Rattle.kernel_reduce.specs.Reduction.{nesting}
-use Rattle.kernel_check.specs.Checking.{infer_sort_of}
-use Rattle.family_check.specs.Outcomes.{Site, OfType, OfParameter, OfConstructor, FamilyStop, NotPositive, TooLarge, BadFamily, Outcome, ended, and_next, granted}
+use Rattle.family_check.specs.Outcomes.{Site, OfType, OfParameter, OfConstructor, FamilyStop, NotPositive, TooLarge, BadFamily, Outcome, ended, and_next}
+use Rattle.family_check.specs.Asking.{sort_in}
 use Rattle.family_check.specs.Shapes.{domains_of, end_of, arguments, constructor_targets}
 
 -- what the types of a telescope are: parameters, or indices or arguments of constructor `number`, whose levels have a limit
@@ -37,7 +36,7 @@ sort_level _ = 0
 
 abbrev pub level_in : Signature → Role → ℕ → Context → Term → ℕ → Outcome ℕ
 level_in S role k G a left =
-    and_next (granted (site_of role k) (infer_sort_of S nesting G a left)) (λ sort rest.
+    and_next (sort_in S (site_of role k) G a left) (λ sort rest.
     ended (fitting role k (sort_level sort)) rest)
 
 -- the levels of the types of a telescope from the left, where `count` types stand before them
@@ -62,29 +61,40 @@ family_without raw levels level = record {
   constructors = [];
 }
 
+-- the family without constructors, whose type has a sort: the level that its type ends in, and those of the indices
+abbrev pub bare_family : Signature → RawFamily → ℕ → Outcome Family
+bare_family S raw left =
+    and_next (ended (family_level (end_of raw.type)) left) (λ level rest.
+    and_next (levels_of S (Index level) 0 (context_behind [] raw.parameters) (domains_of raw.type) rest) (λ levels end.
+    ended (Ok (family_without raw levels level)) end))
+
 abbrev pub declare_type : Signature → RawFamily → ℕ → Outcome Family
 declare_type S raw left =
-    let G = context_behind [] raw.parameters in
-    and_next (levels_of S Parameter 0 [] raw.parameters left) (λ parameter_levels left1.
-    and_next (granted OfType (infer_sort_of S nesting G raw.type left1)) (λ sort left2.
-    and_next (ended (family_level (end_of raw.type)) left2) (λ level left3.
-    and_next (levels_of S (Index level) 0 G (domains_of raw.type) left3) (λ levels end.
-    ended (Ok (family_without raw levels level)) end))))
+    and_next (levels_of S Parameter 0 [] raw.parameters left) (λ parameter_levels rest.
+    and_next (sort_in S OfType (context_behind [] raw.parameters) raw.type rest) (λ sort end. bare_family S raw end))
 
 -- the targets of constructor `number`, or what offends
 abbrev pub on_targets : ℕ → Result (List Term) ℕ → Result (List Term) FamilyStop
 on_targets number (Ok targets) = Ok targets
 on_targets number (Err k) = Err (NotPositive number k)
 
--- constructor `number` of family n with the record f, over a signature that has the family without constructors
+-- constructor `number` of family n with the record f, with the given argument types and targets: the levels of the types
+abbrev pub leveled_constructor : Signature → ℕ → Family → ℕ → List ℕ → Telescope → List Term → ℕ → Outcome Constructor
+leveled_constructor S n f number name types targets left =
+    and_next (levels_of S (ArgumentOf number f.level) 0 (context_behind [] f.parameters) types left) (λ levels end.
+    ended (Ok (record { name = name; arguments = arguments n f 0 types levels; targets = targets })) end)
+
+-- the constructor whose type has a sort: positivity, and then levels
+abbrev pub shaped_constructor : Signature → ℕ → Family → ℕ → RawConstructor → ℕ → Outcome Constructor
+shaped_constructor S n f number raw left =
+    and_next (ended (on_targets number (constructor_targets n f raw.type)) left) (λ targets rest.
+    leveled_constructor S n f number raw.name (domains_of raw.type) targets rest)
+
+-- a constructor, over a signature that has the family without constructors
 abbrev pub declare_constructor : Signature → ℕ → Family → ℕ → RawConstructor → ℕ → Outcome Constructor
 declare_constructor S n f number raw left =
-    let G = context_behind [] f.parameters in
-    let types = domains_of raw.type in
-    and_next (granted (OfConstructor number) (infer_sort_of S nesting G raw.type left)) (λ sort left1.
-    and_next (ended (on_targets number (constructor_targets n f raw.type)) left1) (λ targets left2.
-    and_next (levels_of S (ArgumentOf number f.level) 0 G types left2) (λ levels end.
-    ended (Ok (record { name = raw.name; arguments = arguments n f 0 types levels; targets = targets })) end)))
+    and_next (sort_in S (OfConstructor number) (context_behind [] f.parameters) raw.type left) (λ sort rest.
+    shaped_constructor S n f number raw rest)
 
 -- all constructors, the first of them with the given number
 abbrev pub declare_constructors : Signature → ℕ → Family → ℕ → List RawConstructor → ℕ → Outcome (List Constructor)

@@ -8,7 +8,7 @@ use Rattle.theory.specs.WellFormed.{IsWellFormed}
 use Rattle.theory.specs.SignatureScopes.{IsScoped, IsConstructorNumber}
 use Rattle.core_sig.specs.Raw.{RawFamily, raw_names}
 use Rattle.family_check.specs.Scopes.{IsSettled, IsScopedRaw, site_signature, IsScopedStop}
-use Rattle.family_check.specs.Entering.{entered, declare_of, instance_of, axiom_k_of, define_of}
+use Rattle.family_check.specs.Entering.{Entered, entered, declare_of, instance_of, axiom_k_of, define_of}
 
 -- A well-formed signature stays well formed, whatever enters.
 
@@ -76,8 +76,8 @@ pub record IsAsDeclared (n : ℕ) (raw : RawFamily) (f : Family) : Type 0 where
   pub type : family_type f ≡ products raw.parameters raw.type
   pub constructor_types : map (constructor_type n f) f.constructors ≡ map (λ c. products raw.parameters c.type) raw.constructors
 
+abbrev pub EntersAsDeclared : Signature → RawFamily → Entered → Type 0
+EntersAsDeclared S raw e = (f : Family) × (e ≡ entered S (FamilyOf f)) × IsAsDeclared (length S.entries) raw f
+
 abbrev pub DeclareEntersGiven : Type 0
-DeclareEntersGiven =
-    (S : Signature) (raw : RawFamily) (left : ℕ) →
-    IfOk (declare_of S raw left).0
-    (λ e. (f : Family) × (e ≡ entered S (FamilyOf f)) × IsAsDeclared (length S.entries) raw f)
+DeclareEntersGiven = (S : Signature) (raw : RawFamily) (left : ℕ) → IfOk (declare_of S raw left).0 (EntersAsDeclared S raw)

@@ -1,7 +1,8 @@
 -- What entering asks of numbers: each stands for something, and no entry is provisional.
 use Rattle.std.specs.Prelude.{ℕ, List, [], length, All}
 use Rattle.theory.specs.Terms.{Term, Const}
-use Rattle.theory.specs.Signatures.{FamilyOf, Definition, Signature, IsEntryAt}
+use Rattle.theory.specs.Prelude.{prelude}
+use Rattle.theory.specs.Signatures.{FamilyOf, Definition, Signature, IsEntryAt, IsPrefix}
 use Rattle.theory.specs.WellFormed.{pushed}
 use Rattle.theory.specs.SignatureScopes.{IsScoped, IsScopedTelescope, IsScopedSignature}
 use Rattle.core_sig.specs.Raw.{RawFamily}
@@ -13,6 +14,10 @@ use Rattle.family_check.specs.Families.{family_without}
 pub record IsSettled (S : Signature) : Type 0 where
   pub scoped : IsScopedSignature S
   pub bodies : (n : ℕ) (name : List ℕ) (type : Term) → ¬ IsEntryAt S n (Definition name type (Const n))
+
+-- the signature begins with the prelude
+abbrev pub HasPrelude : Signature → Type 0
+HasPrelude S = IsPrefix (prelude S.has_k) S
 
 -- the signature that constructors as declared are read over: it has the family at its end, without constructors
 abbrev pub with_raw : Signature → RawFamily → Signature

@@ -37,7 +37,7 @@ fn reflexivity(alloc: Global, i: u8, ty: u32, x: u32) -> Result<Term, Stop>
 }
 
 /// The type of the axiom K of `Eq.i` at level `m` (Streicher, "Investigations into intensional type theory", 1993).
-pub(crate) fn axiom_k_type(alloc: Global, i: u8, m: u8) -> Result<Term, Stop>
+pub fn axiom_k_type(alloc: Global, i: u8, m: u8) -> Result<Term, Stop>
     ensures { Gives tree_of result (Ok (spec.axiom_k_type i m)) }
 {
     let conclusion = applied(alloc, Term::Var(2), Term::Var(0))?;

@@ -16,7 +16,7 @@ use core_terms::{Reason, Stop, Term, Verdict, copy};
 use std::alloc::Global;
 
 /// Whether entry `at` is the eliminator of family `n` at level `m`.
-fn is_eliminator(sig: &Signature, at: u32, n: u32, m: u8) -> bool
+pub fn is_eliminator(sig: &Signature, at: u32, n: u32, m: u8) -> bool
     ensures { result ≡ spec.passes (spec.is_eliminator n m) (slice_get sig.now.entries at) }
 {
     match sig.entry(at) {
@@ -26,7 +26,7 @@ fn is_eliminator(sig: &Signature, at: u32, n: u32, m: u8) -> bool
 }
 
 /// Whether entry `at` is the axiom K of `Eq.i` at level `m`.
-fn is_axiom_k(sig: &Signature, at: u32, i: u8, m: u8) -> bool
+pub fn is_axiom_k(sig: &Signature, at: u32, i: u8, m: u8) -> bool
     ensures { result ≡ spec.passes (spec.is_axiom_k i m) (slice_get sig.now.entries at) }
 {
     match sig.entry(at) {

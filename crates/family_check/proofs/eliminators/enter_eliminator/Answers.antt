@@ -1,0 +1,23 @@
+use Rattle.std.proofs.Common.{◌≡◌, true, nat_lt, sym, subst as transport, arith}
+use Rattle.std.proofs.lemmas.Bool.Decides.{nat_tests}
+use Rattle.theory.specs.Eliminators.{eliminator_type}
+use Rattle.theory.specs.Signatures.{EliminatorAt}
+use Rattle.theory.specs.SignatureScopes.{IsScoped}
+use Rattle.theory.specs.Terms.{top}
+use Rattle.core_terms.specs.Meanings.{tree_of}
+use Rattle.family_check.proofs.Instances.{high_yields, made-is}
+use Rattle.family_check.proofs.ScopedEntering.{eliminator-scoped}
+use Rattle.family_check.proofs.eliminators.enter_eliminator.Goals as goal
+
+pub returns-in_err-ty-clause-answer : goal.returns-in_err-ty-clause-answer
+returns-in_err-ty-clause-answer c = λ f at.
+    let fits : nat_lt c.args.m top ≡ true = grind (arith, nat_tests) in
+    high_yields c.args.sig.now c.args.sig.now (EliminatorAt c.args.fam c.args.m) (nat_lt c.args.m top) (eliminator_type c.args.fam f c.args.m)
+    c.in_err-ty.field-0.0 c.from_residual.result c.args.units.now.left fits c.from_residual.ensures.1 (c.in_err-ty.ensures f at)
+
+pub enter-requires-clause-ty : goal.enter-requires-clause-ty
+enter-requires-clause-ty c =
+    let f = c.requires.family.0 in
+    let at = c.requires.family.1 in
+    transport (IsScoped c.args.sig.now 0) (sym (made-is (tree_of c.in_ok-ty.ty) (eliminator_type c.args.fam f c.args.m) (c.in_ok-ty.ensures f at)))
+    (eliminator-scoped c.args.sig.now c.args.fam c.args.m f c.requires.signature at (omega arith))

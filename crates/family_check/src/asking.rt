@@ -1,0 +1,67 @@
+ghost use Rattle.std.specs.Prelude.{◌≡◌, ◌<◌, ◌+◌, Ok, [], length};
+ghost use Rattle.theory.specs.Telescopes.{context_behind};
+ghost use Rattle.theory.specs.SignatureScopes.{IsScoped, IsScopedSignature, IsScopedTelescope};
+ghost use Rattle.core_terms.specs.Meanings.{tree_of, tele_of, verdict_of};
+ghost use Rattle.family_check.specs.Asking as spec;
+ghost use Rattle.family_check.specs.Meanings.{Yields, answer_of, site_of};
+ghost use Rattle.family_check.specs.Outcomes.{on_part};
+
+use crate::{FamilyStop, Site};
+use core_sig::Signature;
+use core_terms::{Tele, Term, Units, Verdict};
+use kernel_check::{check, infer_sort};
+use std::alloc::Global;
+
+/// The type that a verdict on a written part holds.
+fn granted(part: Site, verdict: Verdict) -> Result<Term, FamilyStop>
+    ensures { answer_of tree_of result ≡ on_part (site_of part) (Ok (verdict_of verdict)) }
+{
+    match verdict {
+        Verdict::Yes(ty) => Ok(ty),
+        Verdict::No(denial) => Err(FamilyStop::Denied { part, denial }),
+    }
+}
+
+/// The sort of a type that is written in a part.
+#[tactic(auto, unfolding(crate::specs::Asking::sort_in))]
+pub(crate) fn sort_in(
+    alloc: Global,
+    sig: &Signature,
+    ctx: &Tele,
+    ty: &Term,
+    part: Site,
+    units: &mut Units,
+) -> Result<Term, FamilyStop>
+    requires signature { IsScopedSignature sig.now }
+    requires context { IsScopedTelescope sig.now 0 (tele_of ctx.now) }
+    requires ty { IsScoped sig.now (length ctx.now) (tree_of ty.now) }
+    requires few { length ctx.now < 2147483648 }
+    ensures answer { Yields tree_of result units.new.left (spec.sort_in sig.now (site_of part) (context_behind [] (tele_of ctx.now)) (tree_of ty.now) units.old.left) }
+    ensures sum { units.new.left + units.new.spent ≡ units.old.left + units.old.spent }
+{
+    let verdict = infer_sort(alloc, sig, ctx, ty, units)?;
+    granted(part, verdict)
+}
+
+/// The type of a term that is written in a part and is to have the type `wanted`.
+#[tactic(auto, unfolding(crate::specs::Asking::type_in))]
+pub(crate) fn type_in(
+    alloc: Global,
+    sig: &Signature,
+    ctx: &Tele,
+    t: &Term,
+    wanted: &Term,
+    part: Site,
+    units: &mut Units,
+) -> Result<Term, FamilyStop>
+    requires signature { IsScopedSignature sig.now }
+    requires context { IsScopedTelescope sig.now 0 (tele_of ctx.now) }
+    requires term { IsScoped sig.now (length ctx.now) (tree_of t.now) }
+    requires wanted { IsScoped sig.now (length ctx.now) (tree_of wanted.now) }
+    requires few { length ctx.now < 2147483648 }
+    ensures answer { Yields tree_of result units.new.left (spec.type_in sig.now (site_of part) (context_behind [] (tele_of ctx.now)) (tree_of t.now) (tree_of wanted.now) units.old.left) }
+    ensures sum { units.new.left + units.new.spent ≡ units.old.left + units.old.spent }
+{
+    let verdict = check(alloc, sig, ctx, t, wanted, units)?;
+    granted(part, verdict)
+}

@@ -1,0 +1,36 @@
+use core_terms::{Denial, Stop};
+
+/// The written part that a denial is about. Parameters are counted from 1, constructors have their numbers.
+#[derive(Clone, Copy, Debug, PartialEq, Eq)]
+pub enum Site {
+    Ty,
+    Body,
+    Param(u32),
+    Con(u32),
+}
+
+/// Why an entry does not enter.
+///
+/// `NotPositive` has a constructor and its argument, counted from 1, or 0 for its result. `TooLarge` has a constructor and
+/// its argument, or an index where there is no constructor, counted from 1. `BadFamily` is a type that is no products
+/// ending in a sort, `Duplicate` a name that is known or stands twice.
+#[derive(Debug, Drop)]
+pub enum FamilyStop {
+    Stop(Stop),
+    Denied { part: Site, denial: Denial },
+    NotPositive(u32, u32),
+    TooLarge(Option<u32>, u32),
+    BadFamily,
+    Duplicate,
+}
+
+impl From<Stop> for FamilyStop {
+    ghost use Rattle.std.specs.Prelude.{◌≡◌};
+    ghost use Rattle.family_check.specs.declared.stop.FamilyStop.TheVariants as stop;
+
+    ghost from_gives = { λ e s. s ≡ stop.Stop e };
+
+    fn from(stop: Stop) -> FamilyStop {
+        FamilyStop::Stop(stop)
+    }
+}
