@@ -1,0 +1,4 @@
+pub mod Collecting
+pub mod Sizes
+pub mod Spines
+pub mod Variables

@@ -1,0 +1,45 @@
+-- The sizes of written terms, which fall from a term to its parts.
+use Rattle.std.proofs.Common.{◌≡◌, ℕ, ◌+◌, ◌*◌, ◌<◌, ◌≤◌, List, [], ◌∷◌, map, length, get_or, suc, zero, refl, ap, arith}
+use Rattle.surface_syntax.specs.Trees as surf
+use Rattle.surface_syntax.specs.TreeMeanings.{surf_of}
+use Rattle.surface_syntax.specs.declared.tree.Surf.{Surf}
+
+abbrev mutual
+  pub size : surf.Surf → ℕ
+  size (surf.Lam bs b) = 1 + size_binders bs + size b
+  size (surf.Pi bs b) = 1 + size_binders bs + size b
+  size (surf.Arrow a b) = 1 + size a + size b
+  size (surf.App f args) = 1 + size f + size_args args
+  size (surf.Let x a t b) = 1 + size a + size t + size b
+  size (surf.Sort i) = 1
+  size (surf.Named x) = 1
+
+  pub size_args : surf.Surfs → ℕ
+  size_args surf.nil = 0
+  size_args (surf.cons t ts) = size t + size_args ts
+
+  pub size_binders : surf.Binders → ℕ
+  size_binders surf.no_binder = 0
+  size_binders (surf.bind b bs) = size_binder b + size_binders bs
+
+  pub size_binder : surf.Binder → ℕ
+  size_binder (surf.Group names a) = 1 + length names + size a
+
+pub size_positive : (t : surf.Surf) → 0 < size t
+size_positive (surf.Lam bs b) = omega arith
+size_positive (surf.Pi bs b) = omega arith
+size_positive (surf.Arrow a b) = omega arith
+size_positive (surf.App f args) = omega arith
+size_positive (surf.Let x a t b) = omega arith
+size_positive (surf.Sort i) = omega arith
+size_positive (surf.Named x) = omega arith
+
+-- an argument is no larger than all of them
+pub size_at : (args : List Surf) (k : ℕ) (d : Surf) → k < length args → size (surf_of (get_or args k d)) ≤ size_args (surf.surfs (map surf_of args))
+size_at [] k d lt = absurd (omega arith)
+size_at (a ∷ args) zero d lt = omega arith
+size_at (a ∷ args) (suc k) d lt = omega (arith, size_at args k d (omega arith))
+
+-- an item of a list of arguments is no larger than all of them
+pub size_item : (args : List Surf) (k : ℕ) (a : Surf) → k < length args → a ≡ get_or args k a → size (surf_of a) ≤ size_args (surf.surfs (map surf_of args))
+size_item args k a lt is = let at = size_at args k a lt in let e : size (surf_of a) ≡ size (surf_of (get_or args k a)) = ap (λ t. size (surf_of t)) is in omega arith

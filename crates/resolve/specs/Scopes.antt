@@ -1,0 +1,22 @@
+-- What scopes and known names of the code stand for.
+use Rattle.std.specs.Prelude.{ℕ, ◌∷◌, length, Some, None}
+use Rattle.std.specs.Option.{option_copied}
+use Rattle.theory.specs.Terms as tree
+use Rattle.resolve.specs.declared.scope.Scope as code
+use Rattle.resolve.specs.declared.symbols.Own.{Own}
+use Rattle.resolve.specs.declared.symbols.Own.TheVariants.{Unnamed, Family, Function}
+use Rattle.resolve.specs.declared.symbols.Symbols.{Symbols}
+use Rattle.resolve.specs.Names.{Known, Scope, scope_of, known_in, with_name}
+
+abbrev pub names_of : code.Scope → Scope
+names_of (code.Given names) = scope_of names.now
+names_of (code.Under' x p outer) = option_copied x ∷ names_of outer
+
+-- the name of the declaration that is resolved stands for entry n
+abbrev pub known_with : Own → ℕ → Known → Known
+known_with Unnamed n known = known
+known_with (Family name) n known = with_name name.now (tree.Fam n) known
+known_with (Function name) n known = with_name name.now (tree.Const n) known
+
+abbrev pub known_of : Symbols → Known
+known_of s = known_with s.own (length s.sig.now.entries) (known_in s.sig.now)

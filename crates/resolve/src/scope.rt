@@ -1,0 +1,76 @@
+ghost use Rattle.std.specs.Prelude.{◌≡◌, ◌+◌, Ok, option_map, bytes_eq, position, reverse};
+ghost use Rattle.std.specs.Option.{option_copied};
+ghost use Rattle.resolve.specs.Answers.{Gives};
+ghost use Rattle.resolve.specs.Names.{variable_of, has_name, scope_of};
+ghost use Rattle.resolve.specs.Scopes.{names_of};
+
+use crate::ResolveStop;
+use core_terms::Name;
+
+/// The names of the binders around a term.
+#[derive(Drop)]
+pub(crate) enum Scope<'a> {
+    /// The names that were given, from the outermost on.
+    Given(&'a [Name]),
+    /// A binder more, where `None` stands for `_`.
+    Under(Option<&'a Name>, &'a Scope<'a>),
+}
+
+impl<'a> Scope<'a> {
+    /// The number of the nearest variable that has the name.
+    pub(crate) fn variable(&self, name: &[u8]) -> Result<Option<u32>, ResolveStop>
+        ensures { Gives (λ found. found) result (Ok (variable_of name.now (names_of self.now))) }
+    {
+        match self {
+            Scope::Given(names) => variable_among(names, name),
+            Scope::Under(x, outer) => {
+                if has_name(*x, name) {
+                    return Ok(Some(0));
+                }
+                next(outer.variable(name)?)
+            }
+        }
+    }
+}
+
+/// Whether the binder has the name.
+fn has_name(x: Option<&Name>, name: &[u8]) -> bool
+    ensures { result ≡ has_name name.now (option_copied x.entry) }
+{
+    x.is_some_and(|other| other.as_slice() == name)
+}
+
+/// The place of the last of the names that is `name`, counted from the end.
+fn place_among(names: &[Name], name: &[u8]) -> Option<usize>
+    ensures { result ≡ position (λ other. bytes_eq other name.now) (reverse names.now) }
+{
+    names
+        .iter()
+        .rev()
+        .position(|other| other.as_slice() == name)
+}
+
+/// The number of the variable that has the name, where the names are listed from the outermost on.
+#[tactic(auto, using(crate::proofs::Variables::variable_position))]
+fn variable_among(names: &[Name], name: &[u8]) -> Result<Option<u32>, ResolveStop>
+    ensures { Gives (λ found. found) result (Ok (variable_of name.now (scope_of names.now))) }
+{
+    match place_among(names, name) {
+        Some(at) => match u32::try_from(at) {
+            Ok(number) => Ok(Some(number)),
+            Err(_) => Err(ResolveStop::Memory),
+        },
+        None => Ok(None),
+    }
+}
+
+/// The number one further out.
+fn next(found: Option<u32>) -> Result<Option<u32>, ResolveStop>
+    ensures { Gives (λ found. found) result (Ok (option_map (λ n. n + 1) found)) }
+{
+    match found {
+        Some(n) if n < u32::MAX => Ok(Some(n + 1)),
+        Some(_) => Err(ResolveStop::Memory),
+        None => Ok(None),
+    }
+}

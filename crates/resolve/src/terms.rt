@@ -1,0 +1,177 @@
+ghost use Rattle.std.specs.Prelude.{◌≡◌, Ok, map};
+ghost use Rattle.std.specs.Option.{option_copied};
+ghost use Rattle.theory.specs.Terms as tree;
+ghost use Rattle.core_terms.specs.Meanings.{tree_of};
+ghost use Rattle.surface_syntax.specs.Trees as surf;
+ghost use Rattle.surface_syntax.specs.TreeMeanings.{surf_of, binder_of};
+ghost use Rattle.resolve.specs.Answers.{Gives};
+ghost use Rattle.resolve.specs.Low.{low_of, former};
+ghost use Rattle.resolve.specs.Names.{named, name_of};
+ghost use Rattle.resolve.specs.Resolving as spec;
+ghost use Rattle.resolve.specs.Scopes.{names_of, known_of};
+
+use crate::ResolveStop;
+use crate::low::{Form, Low};
+use crate::names::copy_name;
+use crate::scope::Scope;
+use crate::symbols::{Own, Symbols};
+use core_sig::Signature;
+use core_terms::{Items, Name, Term};
+use std::alloc::Global;
+use surface_syntax::{Binder, Surf, Word};
+
+/// The term that a written term stands for, under names that are listed from the outermost on.
+pub fn resolve_term(
+    alloc: Global,
+    sig: &Signature,
+    scope: &Items<Name>,
+    t: &Surf,
+) -> Result<Term, ResolveStop>
+    ensures { Gives tree_of result (spec.resolve_term sig.now scope.now (surf_of t.now)) }
+{
+    let known = Symbols {
+        sig,
+        own: Own::Unnamed,
+    };
+    let low = resolve(alloc, &known, t, &Scope::Given(scope.as_slice()))?;
+    Ok(low.term)
+}
+
+/// The term that a written term stands for.
+#[cycle(resolve)]
+pub(crate) fn resolve(
+    alloc: Global,
+    known: &Symbols,
+    t: &Surf,
+    scope: &Scope,
+) -> Result<Low, ResolveStop>
+    ensures { Gives low_of result (spec.resolve (known_of known.now) (surf_of t.now) (names_of scope.now)) }
+{
+    match t {
+        Surf::Lam(binders, body) => telescope(
+            alloc,
+            known,
+            Form::Lam,
+            binders.as_slice(),
+            body,
+            scope,
+        ),
+        Surf::Pi(binders, body) => telescope(
+            alloc,
+            known,
+            Form::Pi,
+            binders.as_slice(),
+            body,
+            scope,
+        ),
+        Surf::Arrow(a, b) => {
+            let domain = resolve(alloc, known, a, scope)?;
+            let codomain = resolve(alloc, known, b, &Scope::Under(None, &*scope))?;
+            Low::binding(alloc, Form::Pi, domain, codomain)
+        }
+        Surf::App(f, args) => {
+            let f = resolve(alloc, known, f, scope)?;
+            applied(alloc, known, f, args.as_slice(), &*scope)
+        }
+        Surf::Let(x, ty, value, body) => {
+            let ty = resolve(alloc, known, ty, scope)?;
+            let value = resolve(alloc, known, value, scope)?;
+            let body = resolve(alloc, known, body, &Scope::Under(Some(&x.text), &*scope))?;
+            Low::local(alloc, ty, value, body)
+        }
+        Surf::Sort(i) => Ok(Low::leaf(Term::Sort(*i))),
+        Surf::Named(x) => named(alloc, known, x, scope),
+    }
+}
+
+/// `f` applied to the arguments one by one.
+#[cycle(resolve)]
+fn applied(
+    alloc: Global,
+    known: &Symbols,
+    f: Low,
+    args: &[Surf],
+    scope: &Scope,
+) -> Result<Low, ResolveStop>
+    ensures { Gives low_of result (spec.applied (known_of known.now) (surf.surfs (map surf_of args.now)) (names_of scope.now) (low_of f)) }
+{
+    let mut made = f;
+    for arg in args {
+        made = Low::app(alloc, made, resolve(alloc, known, arg, scope)?)?;
+    }
+    Ok(made)
+}
+
+/// What binds the names of the binders around the body.
+#[cycle(resolve)]
+fn telescope(
+    alloc: Global,
+    known: &Symbols,
+    form: Form,
+    binders: &[Binder],
+    body: &Surf,
+    scope: &Scope,
+) -> Result<Low, ResolveStop>
+    ensures { Gives low_of result (spec.telescope (known_of known.now) (former form) (surf.binders (map binder_of binders.now)) (spec.resolve (known_of known.now) (surf_of body.now)) (names_of scope.now)) }
+{
+    match binders.split_first() {
+        None => resolve(alloc, known, body, scope),
+        Some((binder, rest)) => group(
+            alloc,
+            known,
+            form,
+            binder.names.as_slice(),
+            &binder.ty,
+            rest,
+            body,
+            scope,
+        ),
+    }
+}
+
+/// What binds the names, all of the type `ty`, and then those of the binders around the body.
+#[cycle(resolve)]
+fn group(
+    alloc: Global,
+    known: &Symbols,
+    form: Form,
+    names: &[Option<Word>],
+    ty: &Surf,
+    binders: &[Binder],
+    body: &Surf,
+    scope: &Scope,
+) -> Result<Low, ResolveStop>
+    ensures { Gives low_of result (spec.group (former form) names.now (spec.resolve (known_of known.now) (surf_of ty.now)) (spec.telescope (known_of known.now) (former form) (surf.binders (map binder_of binders.now)) (spec.resolve (known_of known.now) (surf_of body.now))) (names_of scope.now)) }
+{
+    match names.split_first() {
+        None => telescope(alloc, known, form, binders, body, scope),
+        Some((x, rest)) => {
+            let domain = resolve(alloc, known, ty, scope)?;
+            let under = Scope::Under(name_of(x), &*scope);
+            let codomain = group(alloc, known, form, rest, ty, binders, body, &under)?;
+            Low::binding(alloc, form, domain, codomain)
+        }
+    }
+}
+
+fn name_of(x: &Option<Word>) -> Option<&Name>
+    ensures { option_copied result ≡ name_of x.now }
+{
+    match x {
+        Some(word) => Some(&word.text),
+        None => None,
+    }
+}
+
+/// The variable that has the name, or what else it stands for.
+fn named(alloc: Global, known: &Symbols, x: &Word, scope: &Scope) -> Result<Low, ResolveStop>
+    ensures { Gives low_of result (named (known_of known.now) (names_of scope.now) x.now) }
+{
+    if let Some(n) = scope.variable(x.text.as_slice())? {
+        return Ok(Low::leaf(Term::Var(n)));
+    }
+    match known.find(x.text.as_slice()) {
+        Some(symbol) => Ok(Low::leaf(symbol)),
+        None => Err(ResolveStop::UnknownName(x.start, copy_name(alloc, &x.text)?)),
+    }
+}
