@@ -14,7 +14,7 @@ use Rattle.core_text.specs.SymbolNames.{name_at}
 use Rattle.core_text.specs.TermText.{spelled, term_text}
 
 -- texts without line feeds, one behind the other
-both : (xs ys : List ℕ) → is_in_line xs ≡ true → is_in_line ys ≡ true → is_in_line (xs ++ ys) ≡ true
+pub both : (xs ys : List ℕ) → is_in_line xs ≡ true → is_in_line ys ≡ true → is_in_line (xs ++ ys) ≡ true
 both [] ys p q = q
 both (x ∷ xs) ys p q =
     let parts = and_parts (not (x == 10)) (is_in_line xs) p in and_from (not (x == 10)) (is_in_line (xs ++ ys)) parts.0 (both xs ys parts.1 q)
@@ -39,7 +39,7 @@ digits-in (suc k) n acc p =
     let more = and_from (not (digit_glyph false (n % 10) == 10)) (is_in_line acc) (glyph-in (n % 10)) p in
     either (n / 10 == 0) (digit_glyph false (n % 10) ∷ acc) (digits_onto k 10 false (n / 10) (digit_glyph false (n % 10) ∷ acc)) more (digits-in k (n / 10) (digit_glyph false (n % 10) ∷ acc) more)
 
-decimal-in : (n : ℕ) → is_in_line (decimal n) ≡ true
+pub decimal-in : (n : ℕ) → is_in_line (decimal n) ≡ true
 unfolding digits
 decimal-in n = digits-in 64 n [] refl
 

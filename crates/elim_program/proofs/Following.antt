@@ -9,13 +9,14 @@ use Rattle.elim_ports.specs.declared.reading.ReadError.{ReadError}
 use Rattle.elim_ports.specs.declared.reading.ReadError.TheVariants.{TooLong}
 use Rattle.elim_ports.specs.Reading.{ReadsAll}
 use Rattle.elim_program.specs.declared.status.Status.{Status}
-use Rattle.elim_program.specs.declared.status.Status.TheVariants.{Done, Refused, WriteFault, NoMemory}
+use Rattle.elim_program.specs.declared.status.Status.TheVariants.{Done, Refused, ReadFault, WriteFault, NoMemory}
 use Rattle.elim_program.specs.Lines.{text_of}
-use Rattle.elim_program.specs.Outputs.{Block, Output, block_of, compiled, head_lines, limited, usage}
+use Rattle.elim_program.specs.Outputs.{Block, Output, block_of, compiled, defined_output, head_lines, limited, usage}
 use Rattle.elim_program.specs.Blocks.{Shown, shown_block}
 use Rattle.elim_program.proofs.Answering.{OkOf, ok-injective}
 use Rattle.elim_program.specs.Runs.{Follows, Runs, Says, Sent}
 use Rattle.elim_program.specs.Words.{is_accepted}
+use Rattle.elim_program.proofs.Whole.{ran}
 
 -- The bytes of a source.
 
@@ -162,4 +163,42 @@ pub usage_runs : (words : List (List ℕ)) (left before after : Option (List ℕ
 usage_runs words left before after status refused follows =
     let b = no_bytes left in
     let P : Bool → Type 0 = λ a. Follows (if a then compiled (block_of (limited b.0)) else usage) before after status in
-    record { bytes = b.0; told = b.1; follows = subst P (sym refused) follows }
+    ran words left before after status b.0 b.1 (subst P (sym refused) follows)
+
+pub compiled_runs : (words : List (List ℕ)) (left before after : Option (List ℕ)) (status : Status) (text : Option (List ℕ)) → is_accepted words ≡ true
+    → ((bytes : List ℕ) × IfSome left (λ known. bytes ≡ known) × (text ≡ limited bytes)) → Follows (compiled (block_of text)) before after status
+    → Runs words left before after status
+compiled_runs words left before after status text accepted b follows =
+    let P : Option (List ℕ) → Type 0 = λ t. Follows (compiled (block_of t)) before after status in
+    let Q : Bool → Type 0 = λ a. Follows (if a then compiled (block_of (limited b.0)) else usage) before after status in
+    ran words left before after status b.0 b.1 (subst Q (sym accepted) (subst P b.2 follows))
+
+appends-nothing : (known : Option (List ℕ)) → Appends known known []
+appends-nothing None = tt
+appends-nothing (Some text) = sym (append-nil text)
+
+-- where the source is not read whole nothing is written
+pub stopped_runs : (words : List (List ℕ)) (left before : Option (List ℕ)) (status : Status) (bytes : List ℕ) → IfSome left (λ known. bytes ≡ known)
+    → (status ≡ ReadFault) ⊎ (status ≡ NoMemory) → Runs words left before before status
+stopped_runs words left before status bytes told s = ran words left before before status bytes told (record {
+  text = [];
+  appended = appends-nothing before;
+  front = (text_of (defined_output words bytes).lines, refl);
+  says = nothing s;
+})
+  where
+    nothing : (status ≡ ReadFault) ⊎ (status ≡ NoMemory) → Says status (defined_output words bytes) []
+    nothing (inl e) = subst (λ x. Says x (defined_output words bytes) []) (sym e) refl
+    nothing (inr e) = subst (λ x. Says x (defined_output words bytes) []) (sym e) tt
+
+abbrev pub ErrStatus : (A : Type 0) → Status → Result A Status
+ErrStatus A status = Err status
+
+pub stop_of : {A : Type 0} (status : Status) → (ErrStatus A status ≡ ErrStatus A ReadFault) ⊎ (ErrStatus A status ≡ ErrStatus A NoMemory)
+    → (status ≡ ReadFault) ⊎ (status ≡ NoMemory)
+stop_of {A} status (inl e) = inl (cc)
+stop_of {A} status (inr e) = inr (cc)
+
+pub not_write_fault : (status : Status) → (status ≡ ReadFault) ⊎ (status ≡ NoMemory) → status ≢ WriteFault
+not_write_fault status (inl e) w = cc
+not_write_fault status (inr e) w = cc

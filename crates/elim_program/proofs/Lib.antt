@@ -1,8 +1,13 @@
 pub mod Accepted
 pub mod Answering
 pub mod Following
+pub mod LinesInLine
+pub mod NamesInLine
 pub mod Parts
 pub mod Ready
 pub mod Resolved
 pub mod Soundness
+pub mod SpelledInLine
+pub mod TextLines
 pub mod Tokens
+pub mod Whole

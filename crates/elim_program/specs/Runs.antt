@@ -1,10 +1,11 @@
 -- What a run did.
-use Rattle.std.specs.Prelude.{◌≡◌, ◌≢◌, ℕ, List, [], ◌++◌, Option, Result, Ok, Err, IfSome, ◌⊎◌}
+use Rattle.std.specs.Prelude.{◌≡◌, ◌≢◌, ℕ, List, [], ◌∷◌, ◌++◌, Option, Result, Ok, Err, IfSome, ◌⊎◌}
 use Rattle.std.specs.Io.KnownBytes.{Appends}
 use Rattle.elim_program.specs.declared.status.Status.{Status}
 use Rattle.elim_program.specs.declared.status.Status.TheVariants.{ReadFault, WriteFault, NoMemory}
-use Rattle.elim_program.specs.Lines.{text_of}
-use Rattle.elim_program.specs.Outputs.{Output, defined_output}
+use Rattle.elim_program.specs.Headline.{IsShown}
+use Rattle.elim_program.specs.Lines.{lines_of, text_of}
+use Rattle.elim_program.specs.Outputs.{Output, accepted_line, defined_output}
 
 abbrev pub IsFront : List ℕ → List ℕ → Type 0
 IsFront front text = (rest : List ℕ) × (text ≡ front ++ rest)
@@ -25,11 +26,22 @@ pub record Follows (out : Output) (before after : Option (List ℕ)) (status : S
   pub front : IsFront text (text_of out.lines)
   pub says : Says status out text
 
--- a run follows the output that is defined for its words and the bytes that the source had left, where it tells them
+-- A run follows the output that is defined for its words and the bytes that the source had left, where it tells them.
+-- The headline: where a whole line of what was written says that a definition is accepted, the lines above it show the
+-- definition.
 pub record Runs (words : List (List ℕ)) (left before after : Option (List ℕ)) (status : Status) : Type 0 where
   pub bytes : List ℕ
   pub told : IfSome left (λ known. bytes ≡ known)
   pub follows : Follows (defined_output words bytes) before after status
+  pub headline : (above below : List (List ℕ)) (name : List ℕ)
+      → lines_of follows.text ≡ above ++ accepted_line name ∷ below → IsShown bytes above name
+
+-- the whole output was written, and the status is its own
+pub record IsWhole (words : List (List ℕ)) (left before after : Option (List ℕ)) (status : Status) : Type 0 where
+  pub bytes : List ℕ
+  pub told : IfSome left (λ known. bytes ≡ known)
+  pub appended : Appends before after (text_of (defined_output words bytes).lines)
+  pub status_is : (defined_output words bytes).status ≡ status
 
 -- a text went out whole, or a front of it that is not all
 abbrev pub Sent : Result (Unit {0}) Status → List ℕ → List ℕ → Type 0

@@ -1,10 +1,9 @@
 ghost use Rattle.std.specs.Prelude.{◌≡◌, ◌≢◌, ℕ, ◌≤◌, ◌↔◌, ◌∷◌, ◌++◌, List, map, length, IfSome, IfOk, OnErr, IsTrue, not, Some, Err, ◌⊎◌, string_bytes};
 ghost use Rattle.std.specs.Io.KnownBytes.{Appends};
 ghost use Rattle.core_terms.specs.Count.{Rose};
-ghost use Rattle.elim_program.specs.Headline.{IsShown};
 ghost use Rattle.elim_program.specs.Lines.{text_of};
-ghost use Rattle.elim_program.specs.Outputs.{accepted_line, block_of, compiled, defined_output, head_lines, limited, usage};
-ghost use Rattle.elim_program.specs.Runs.{Follows, Runs, Sent};
+ghost use Rattle.elim_program.specs.Outputs.{block_of, compiled, head_lines, limited, usage};
+ghost use Rattle.elim_program.specs.Runs.{Follows, IsWhole, Runs, Sent};
 ghost use Rattle.elim_program.specs.Words.{is_accepted};
 
 use crate::Status;
@@ -98,13 +97,13 @@ pub fn run<S: Source, K: Sink>(
     source: &mut S,
     sink: &mut K,
 ) -> Status
+    // What was written follows the defined output. Its field `headline` says of each whole line `# accepted NAME` that the
+    // lines above it show a closed term that has its written type.
     ensures runs { Runs (map string_bytes words.now) (S.left source.old) (K.written sink.old) (K.written sink.new) result }
-    // Where a line of that output says that a definition is accepted, the line above shows a closed term that has its
-    // written type.
-    ensures headline { (bytes name : List ℕ) (above below : List (List ℕ)) → S.left source.old ≡ Some bytes
-        → (defined_output (map string_bytes words.now) bytes).lines ≡ above ++ accepted_line name ∷ below → IsShown bytes above name }
     ensures read_fault { result ≡ Status.ReadFault → Rose (S.faults source.old) (S.faults source.new) }
     ensures write_fault { result ≡ Status.WriteFault → Rose (K.faults sink.old) (K.faults sink.new) }
+    ensures complete { (Rose (S.faults source.old) (S.faults source.new) → ⊥) → (Rose (K.faults sink.old) (K.faults sink.new) → ⊥) → result ≢ Status.NoMemory
+        → IsWhole (map string_bytes words.now) (S.left source.old) (K.written sink.old) (K.written sink.new) result }
     ensures unread { IsTrue (not (is_accepted (map string_bytes words.now))) → source.new ≡ source.old }
 {
     if !is_accepted(words) {

@@ -1,17 +1,29 @@
-use Rattle.std.proofs.Common.{sym, ◌∙◌, map, string_bytes}
-use Rattle.elim_program.proofs.Accepted.{headline}
-use Rattle.elim_program.proofs.Following.{usage_runs}
+use Rattle.std.proofs.Common.{sym, ap, Err, ◌∙◌}
+use Rattle.elim_program.proofs.Following.{usage_runs, compiled_runs, stopped_runs, stop_of, not_write_fault}
+use Rattle.elim_program.proofs.Whole.{complete}
 use Rattle.elim_program.proofs.running.run.Goals as goal
 
 pub returns-then-not-is_accepted-clause-runs : goal.returns-then-not-is_accepted-clause-runs
 returns-then-not-is_accepted-clause-runs g c =
     usage_runs _ _ _ _ _ (sym c.is_accepted.ensures ∙ c.if-not-is_accepted.true) c.refuse_words.ensures.follows
 
-pub returns-then-not-is_accepted-clause-headline : goal.returns-then-not-is_accepted-clause-headline
-returns-then-not-is_accepted-clause-headline g c = λ bytes name above below told line. headline (map string_bytes c.args.words.now) bytes above below name line
+pub returns-then-not-is_accepted-clause-complete : goal.returns-then-not-is_accepted-clause-complete
+returns-then-not-is_accepted-clause-complete g c = λ source sink memory.
+    complete _ _ _ _ _ (returns-then-not-is_accepted-clause-runs g c) c.refuse_words.ensures.read (λ e. sink (c.refuse_words.ensures.fault e)) memory
 
-pub returns-in-Ok-clause-headline : goal.returns-in-Ok-clause-headline
-returns-in-Ok-clause-headline g c = λ bytes name above below told line. headline (map string_bytes c.args.words.now) bytes above below name line
+pub returns-in-Ok-clause-runs : goal.returns-in-Ok-clause-runs
+returns-in-Ok-clause-runs g c =
+    compiled_runs _ _ _ _ _ _ (sym c.is_accepted.ensures ∙ c.if-not-is_accepted.false) c.in-Ok.ensures.bytes c.compile.ensures.follows
 
-pub returns-in-Err-clause-headline : goal.returns-in-Err-clause-headline
-returns-in-Err-clause-headline g c = λ bytes name above below told line. headline (map string_bytes c.args.words.now) bytes above below name line
+pub returns-in-Ok-clause-complete : goal.returns-in-Ok-clause-complete
+returns-in-Ok-clause-complete g c = λ source sink memory.
+    complete _ _ _ _ _ (returns-in-Ok-clause-runs g c) c.compile.ensures.read (λ e. sink (c.compile.ensures.fault e)) memory
+
+pub returns-in-Err-clause-runs : goal.returns-in-Err-clause-runs
+returns-in-Err-clause-runs g c =
+    stopped_runs _ _ _ _ c.in-Err.ensures.bytes.0 c.in-Err.ensures.bytes.1 (stop_of c.in-Err.status c.in-Err.ensures.errors)
+
+pub returns-in-Err-clause-complete : goal.returns-in-Err-clause-complete
+returns-in-Err-clause-complete g c = λ source sink memory.
+    complete _ _ _ _ _ (returns-in-Err-clause-runs g c) (λ e. source (c.in-Err.ensures.fault (ap Err e)))
+    (not_write_fault c.in-Err.status (stop_of c.in-Err.status c.in-Err.ensures.errors)) memory
