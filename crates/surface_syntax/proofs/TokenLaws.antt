@@ -9,10 +9,12 @@ use Rattle.std.proofs.lemmas.List.Elements.{All-cons}
 use Rattle.std.specs.Char.{len_utf8}
 use Rattle.unicode_ident.specs.Ident.{is_xid_start}
 use Rattle.surface_syntax.specs.Spelling.{is_blank, is_digit, is_continuing, is_mark, byte_len, name_len, number_len, tail_len, mark_len, comment_len, found_within, name_piece, other_piece, piece}
-use Rattle.surface_syntax.specs.Splitting.{Reads, stop, gap, token}
+use Rattle.surface_syntax.specs.Splitting.{Reads, stop, gap, token, Splits}
+use Rattle.std.proofs.Math.Seq.{take-append_seam, drop-append_seam}
 use Rattle.surface_syntax.specs.Tokens as t
 use Rattle.surface_syntax.specs.Tokens.{IsName, IsNumber, Spells, IsFirstToken, IsGap, EndsLine}
-use Rattle.surface_syntax.specs.TokenLaws.{IsTokenOf}
+use Rattle.surface_syntax.specs.TokenLaws.{IsTokenOf, AreSpelled}
+use Rattle.surface_syntax.specs.TokenLaws as laws
 use Rattle.surface_syntax.specs.declared.token.Token.{Token}
 use Rattle.surface_syntax.specs.declared.token.Piece.{Piece}
 use Rattle.surface_syntax.specs.declared.token.Piece.TheVariants.{Gap, Found, Bad}
@@ -223,3 +225,37 @@ slices {at} {cs = cs} whole before p q (token {n = n} {tokens = tokens} {kind = 
     })
     (slices whole (before ++ take n cs) (p ∙ ap (λ (l : List ℕ). before ++ l) (sym (take-append-drop n cs)) ∙ sym (append_assoc before (take n cs) (drop n cs)))
     (sum_by-append len_utf8 before (take n cs) ∙ ap (λ (i : ℕ). i + byte_len (take n cs)) q) r)
+
+-- a text splits as it is spelled
+gap_within : {cs : List ℕ} {n : ℕ} → IsGap cs n → n ≤ length cs
+gap_within (t.blank e) = omega arith
+gap_within (t.comment line rest h e) = let a = length-append line rest in omega arith
+
+gap_parts : (cs : List ℕ) (n : ℕ) → IsGap cs n → IsGap (take n cs ++ drop n cs) (length (take n cs))
+gap_parts cs n w = subst₂ (λ (l : List ℕ) (i : ℕ). IsGap l i) (sym (take-append-drop n cs)) (sym (length-take-le n cs (gap_within w))) w
+
+pub reads_spelled : {at end : ℕ} {cs rest : List ℕ} {tokens : List Token} → Reads at cs tokens end rest → rest ≡ [] → AreSpelled at cs tokens
+reads_spelled {at} {tokens = tokens} stop e = subst (λ (l : List ℕ). AreSpelled at l []) (sym e) laws.end
+reads_spelled {at} {cs = cs} {tokens = tokens} (gap {n = n} p r) e =
+    subst (λ (l : List ℕ). AreSpelled at l tokens) (take-append-drop n cs) (laws.gap (take n cs) (drop n cs) (gap_parts cs n (gap_is cs n p)) (reads_spelled r e))
+reads_spelled {at} {cs = cs} (token {n = n} {tokens = tokens} {kind = of} p r) e =
+    subst (λ (l : List ℕ). AreSpelled at l (record { kind = of; start = at; end = at + byte_len (take n cs) } ∷ tokens)) (take-append-drop n cs)
+    (laws.token (take n cs) (drop n cs) (take_parts cs of n (found_first cs of n p)) (reads_spelled r e))
+
+further : (at : ℕ) (text rest : List ℕ) (tokens : List Token) → Reads (at + byte_len text) rest tokens (at + byte_len text + byte_len rest) [] →
+    Reads (at + byte_len (take (length text) (text ++ rest))) (drop (length text) (text ++ rest)) tokens (at + byte_len (text ++ rest)) []
+further at text rest tokens r =
+    let a = sum_by-append len_utf8 text rest in
+    let q : at + byte_len text + byte_len rest ≡ at + byte_len (text ++ rest) = omega arith in
+    let s = subst (λ (end : ℕ). Reads (at + byte_len text) rest tokens end []) q r in
+    subst₂ (λ (l k : List ℕ). Reads (at + byte_len l) k tokens (at + byte_len (text ++ rest)) []) (sym (take-append_seam text rest)) (sym (drop-append_seam text rest)) s
+
+pub spelled_reads : {at : ℕ} {cs : List ℕ} {tokens : List Token} → AreSpelled at cs tokens → Reads at cs tokens (at + byte_len cs) []
+spelled_reads {at} laws.end = subst (λ (end : ℕ). Reads at [] [] end []) (let e : at ≡ at + 0 = omega arith in e) stop
+spelled_reads {at} {tokens = tokens} (laws.gap text rest w more) = gap (is_gap (text ++ rest) (length text) w) (further at text rest tokens (spelled_reads more))
+spelled_reads {at} (laws.token {of = of} {tokens = tokens} text rest w more) =
+    subst (λ (l : List ℕ). Reads at (text ++ rest) (record { kind = of; start = at; end = at + byte_len l } ∷ tokens) (at + byte_len (text ++ rest)) []) (take-append_seam text rest)
+    (token (first_found (text ++ rest) of (length text) w) (further at text rest tokens (spelled_reads more)))
+
+pub spelled_splits : (cs : List ℕ) (tokens : List Token) → AreSpelled 0 cs tokens → Splits cs tokens
+spelled_splits cs tokens s = subst (λ (end : ℕ). Reads 0 cs tokens end []) (let e : 0 + byte_len cs ≡ byte_len cs = omega arith in e) (spelled_reads s)

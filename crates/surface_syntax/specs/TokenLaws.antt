@@ -1,5 +1,5 @@
 -- The laws on what a text begins with, and on how it splits.
-use Rattle.std.specs.Prelude.{◌≡◌, ◌↔◌, ℕ, ◌+◌, List, ◌++◌, length, All}
+use Rattle.std.specs.Prelude.{◌≡◌, ◌↔◌, ℕ, ◌+◌, List, [], ◌∷◌, ◌++◌, length, All}
 use Rattle.surface_syntax.specs.Spelling.{piece, byte_len}
 use Rattle.surface_syntax.specs.Splitting.{Splits}
 use Rattle.surface_syntax.specs.Tokens.{IsFirstToken, IsGap}
@@ -33,5 +33,17 @@ pub record IsTokenOf (cs : List ℕ) (t : Token) : Type 0 where
   pub ends : t.start + byte_len text ≡ t.end
   pub begins : IsFirstToken (text ++ after) t.kind (length text)
 
+-- each token is a slice of the text, and the longest spelling there
 abbrev pub TokensAreSlices : Type 0
 TokensAreSlices = (cs : List ℕ) (tokens : List Token) → Splits cs tokens → All (IsTokenOf cs) tokens
+
+-- From the offset on, the characters are these tokens, each the longest at its place, and blanks and comments, and nothing
+-- else up to the end.
+pub data AreSpelled : (at : ℕ) (cs : List ℕ) (tokens : List Token) → Type 0 where
+  end : {at : ℕ} → AreSpelled at [] []
+  gap : {at : ℕ} {tokens : List Token} (text rest : List ℕ) → IsGap (text ++ rest) (length text) → AreSpelled (at + byte_len text) rest tokens → AreSpelled at (text ++ rest) tokens
+  token : {at : ℕ} {of : TokenKind} {tokens : List Token} (text rest : List ℕ) → IsFirstToken (text ++ rest) of (length text) → AreSpelled (at + byte_len text) rest tokens →
+      AreSpelled at (text ++ rest) (record { kind = of; start = at; end = at + byte_len text } ∷ tokens)
+
+abbrev pub SplitsBySpellings : Type 0
+SplitsBySpellings = (cs : List ℕ) (tokens : List Token) → Splits cs tokens ↔ AreSpelled 0 cs tokens

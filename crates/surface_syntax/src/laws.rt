@@ -1,5 +1,5 @@
 ghost use Rattle.surface_syntax.specs.Laws.{ReadsTheGrammar, GoesTooDeepWithTheGrammar, GoesWrongWithTheGrammar, HasOneReading, NestedComesFirst, NestedInAText};
-ghost use Rattle.surface_syntax.specs.TokenLaws.{FindsTheLongest, PassesOverGaps, FindsNothingElse, SplitsInOneWay, TokensAreSlices};
+ghost use Rattle.surface_syntax.specs.TokenLaws.{FindsTheLongest, PassesOverGaps, FindsNothingElse, SplitsBySpellings, SplitsInOneWay, TokensAreSlices};
 
 /// The machine of the parser reads exactly what the grammar has.
 pub fn reads_the_grammar()
@@ -54,4 +54,9 @@ pub fn splits_in_one_way()
 /// A token is the characters between its offsets.
 pub fn tokens_are_slices()
     ensures { TokensAreSlices }
+{}
+
+/// A text splits as it is spelled: tokens, each the longest at its place, and blanks and comments.
+pub fn splits_by_spellings()
+    ensures { SplitsBySpellings }
 {}
