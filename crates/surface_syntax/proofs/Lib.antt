@@ -1,7 +1,9 @@
 pub mod Complete
 pub mod Declarations_read
 pub mod Ends
+pub mod Examples
 pub mod Finishing
+pub mod FirstTokens
 pub mod Found
 pub mod Looks
 pub mod Nested
@@ -11,7 +13,10 @@ pub mod Rest
 pub mod Results
 pub mod Runs
 pub mod Sound
+pub mod Prefixes
 pub mod Splits
+pub mod TokenLaws
+pub mod TokenViews
 pub mod Trees_read
 pub mod Unique
 pub mod Ways

@@ -6,6 +6,8 @@ pub mod Outcomes
 pub mod Parsing
 pub mod Spelling
 pub mod Splitting
+pub mod TokenLaws
+pub mod Tokens
 pub mod TreeMeanings
 pub mod Trees
 pub mod Viable

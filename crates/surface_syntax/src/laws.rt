@@ -1,4 +1,5 @@
 ghost use Rattle.surface_syntax.specs.Laws.{ReadsTheGrammar, GoesTooDeepWithTheGrammar, GoesWrongWithTheGrammar, HasOneReading, NestedComesFirst, NestedInAText};
+ghost use Rattle.surface_syntax.specs.TokenLaws.{FindsTheLongest, PassesOverGaps, FindsNothingElse, SplitsBySpellings, SplitsInOneWay, TokensAreSlices};
 
 /// The machine of the parser reads exactly what the grammar has.
 pub fn reads_the_grammar()
@@ -28,4 +29,34 @@ pub fn nested_comes_first()
 /// In a text of the language, what is too deep is where the first that stands inside 2,000 others begins.
 pub fn nested_in_a_text()
     ensures { NestedInAText }
+{}
+
+/// A token is the longest spelling with which the text begins, within its limit.
+pub fn finds_the_longest()
+    ensures { FindsTheLongest }
+{}
+
+/// What is passed over is a blank or a whole comment.
+pub fn passes_over_gaps()
+    ensures { PassesOverGaps }
+{}
+
+/// Where a text begins with no token, no blank and no comment, nothing is found, and nowhere else.
+pub fn finds_nothing_else()
+    ensures { FindsNothingElse }
+{}
+
+/// A text splits in one way at most.
+pub fn splits_in_one_way()
+    ensures { SplitsInOneWay }
+{}
+
+/// A token is the characters between its offsets.
+pub fn tokens_are_slices()
+    ensures { TokensAreSlices }
+{}
+
+/// A text splits as it is spelled: tokens, each the longest at its place, and blanks and comments.
+pub fn splits_by_spellings()
+    ensures { SplitsBySpellings }
 {}

@@ -12,8 +12,9 @@ mod token;
 mod tree;
 
 pub use laws::{
-    goes_too_deep_with_the_grammar, goes_wrong_with_the_grammar, has_one_reading,
-    nested_comes_first, nested_in_a_text, reads_the_grammar,
+    finds_nothing_else, finds_the_longest, goes_too_deep_with_the_grammar,
+    goes_wrong_with_the_grammar, has_one_reading, nested_comes_first, nested_in_a_text,
+    passes_over_gaps, reads_the_grammar, splits_by_spellings, splits_in_one_way, tokens_are_slices,
 };
 pub use lexeme::Lexeme;
 pub use lexer::piece;
