@@ -1,13 +1,13 @@
 -- The type of an eliminator by the terms of the code.
-use Rattle.std.proofs.Common.{◌≡◌, ℕ, zero, suc, ◌+◌, ◌<◌, ◌≤◌, List, [], ◌∷◌, ◌++◌, map, length, get_or, All, refl, ap, ap₂, sym, ◌∙◌, subst, arith, add-one}
+use Rattle.std.proofs.Common.{◌≡◌, ℕ, zero, suc, ◌+◌, ◌<◌, ◌≤◌, List, [], ◌∷◌, map, length, get_or, All, refl, ap, ap₂, sym, ◌∙◌, subst, arith}
 use Rattle.std.proofs.lemmas.List.Elements.{All-tail}
 use Rattle.std.proofs.lemmas.List.{length-map}
 use mathlib.Core.Path.{fun_ext}
 use Rattle.theory.specs.Terms.{Term, height, free_of}
 use Rattle.theory.specs.Scopes.{IsTelescopeOver, IsConstructorOver, IsClosedFamily}
-use Rattle.theory.specs.Terms.Term.{Var, Sort, Pi, App, Fam, Con}
-use Rattle.theory.specs.Substitutions.{ren, up, inst, ups, weaken}
-use Rattle.theory.specs.Telescopes.{Telescope, products, applied, arrows, variables, weaken_by, inst_telescope}
+use Rattle.theory.specs.Terms.Term.{Var, Sort, Pi, App, Fam}
+use Rattle.theory.specs.Substitutions.{inst, ups, weaken}
+use Rattle.theory.specs.Telescopes.{Telescope, products, applied, variables, weaken_by, inst_telescope}
 use Rattle.theory.specs.Families as pure
 use Rattle.theory.specs.Families.{family_head, index_types}
 use Rattle.theory.specs.Eliminators.{motive_type, method_types, eliminator_type}
@@ -23,7 +23,7 @@ use Rattle.core_sig.specs.Meanings.{argument_of, constructor_of, family_of}
 use Rattle.core_sig.specs.declared.family.Family.{Family}
 use Rattle.core_sig.specs.declared.family.Arg.{Arg}
 use Rattle.core_sig.specs.declared.family.Constructor.{Constructor}
-use Rattle.core_sig.specs.Stages.{staged, parameters_behind, staged_methods, family_at, motive_over, goal_over}
+use Rattle.core_sig.specs.Stages.{parameters_behind, staged_methods, family_at, motive_over, goal_over}
 use Rattle.core_sig.proofs.Arguments.{lifted, ups-lifted, argument_types-of, index_types-of}
 use Rattle.core_sig.proofs.ConstructorTypes.{ren-applied, kinds_at}
 use Rattle.core_sig.proofs.EntryInstances.{inst-weaken_by, inst-variables, variables-here}

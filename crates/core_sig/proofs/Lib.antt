@@ -4,10 +4,14 @@ pub mod EliminatorTypes
 pub mod EntryInstances
 pub mod HypothesisTypes
 pub mod Keeping
+pub mod KindLists
 pub mod Lookups
 pub mod MethodTypes
 pub mod NameLists
 pub mod NewNames
 pub mod PositiveFamilies
 pub mod PreludeEntries
+pub mod RecursiveForms
+pub mod Renumbering
+pub mod SettledFamilies
 pub mod Telescoping

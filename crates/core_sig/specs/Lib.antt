@@ -1,10 +1,12 @@
 pub mod Building
 pub mod Codes
 pub mod Invariants
+pub mod KindTests
 pub mod Kinds
 pub mod Meanings
 pub mod Names
 pub mod Offenders
 pub mod Raw
+pub mod SettledParts
 pub mod Settling
 pub mod Stages

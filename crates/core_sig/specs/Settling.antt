@@ -1,11 +1,10 @@
 -- Drafts with the numbers that their names have in a signature.
-use Rattle.std.specs.Prelude.{ℕ, ◌-◌, nat_lt, if◌then◌else◌, List, Option, Some, None, option_and_then, slice_get}
+use Rattle.std.specs.Prelude.{ℕ, ◌-◌, nat_lt, if◌then◌else◌, List, map, Option, Some, None, option_and_then, slice_get}
 use Rattle.std.specs.Option.{option_map_or}
 use Rattle.theory.specs.Terms.{Term, Pi, Lam, App, Let, Const}
+use Rattle.theory.specs.Families.{Argument, Plain, Recursive, Constructor, Family}
 use Rattle.theory.specs.Signatures as signature
 use Rattle.core_sig.specs.Names.{find}
-use Rattle.core_sig.specs.declared.entry.Entry.{Entry as CodeEntry}
-use Rattle.core_sig.specs.declared.entry.Entry.TheVariants.{Family as FamilyEntry}
 use Rattle.core_sig.specs.declared.entry.Found.{Found}
 use Rattle.core_sig.specs.declared.entry.Found.TheVariants.{Entry, Con as FoundCon}
 
@@ -29,12 +28,28 @@ settled_number S base names c =
     if nat_lt c base then c else
     option_map_or (λ n. n) (option_and_then entry_found (option_and_then (find S) (slice_get names (c - base)))) c
 
--- an entry that is no family with its constants numbered anew
+abbrev pub renumbered_argument : (ℕ → ℕ) → Argument → Argument
+renumbered_argument r (Plain type level) = Plain (renumbered r type) level
+renumbered_argument r (Recursive inner targets level) = Recursive (map (renumbered r) inner) (map (renumbered r) targets) level
+
+abbrev pub renumbered_constructor : (ℕ → ℕ) → Constructor → Constructor
+renumbered_constructor r c = record {
+  name = c.name;
+  arguments = map (renumbered_argument r) c.arguments;
+  targets = map (renumbered r) c.targets;
+}
+
+abbrev pub renumbered_family : (ℕ → ℕ) → Family → Family
+renumbered_family r f = record {
+  name = f.name;
+  parameters = map (renumbered r) f.parameters;
+  indices = map (λ i. (renumbered r i.0, i.1)) f.indices;
+  level = f.level;
+  constructors = map (renumbered_constructor r) f.constructors;
+}
+
+-- an entry with its constants numbered anew
 abbrev pub renumbered_entry : (ℕ → ℕ) → signature.Entry → signature.Entry
+renumbered_entry r (signature.FamilyOf f) = signature.FamilyOf (renumbered_family r f)
 renumbered_entry r (signature.Definition name type body) = signature.Definition name (renumbered r type) (renumbered r body)
 renumbered_entry r e = e
-
--- a draft is never that of a family
-abbrev pub IsNoFamily : CodeEntry → Type 0
-IsNoFamily (FamilyEntry f) = ⊥
-IsNoFamily e = Unit {0}

@@ -73,7 +73,7 @@ fn any_mentions(terms: &[Term], fam: u32) -> bool
 }
 
 /// Whether a symbol of the family stands in the term.
-fn mentions(t: &Term, fam: u32) -> bool
+pub(crate) fn mentions(t: &Term, fam: u32) -> bool
     ensures { result ≡ pure.mentions fam (tree_of t.now) }
 {
     match t {

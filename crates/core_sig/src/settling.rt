@@ -1,29 +1,105 @@
-ghost use Rattle.std.specs.Prelude.{◌≡◌};
+ghost use Rattle.std.specs.Prelude.{◌≡◌, ℕ, map, IfOk};
 ghost use Rattle.core_terms.specs.Answers.{Gives};
-ghost use Rattle.core_terms.specs.Meanings.{tree_of};
+ghost use Rattle.core_terms.specs.Meanings.{tree_of, tele_of};
+ghost use Rattle.core_sig.specs.Kinds.{HasEntryKinds};
 ghost use Rattle.core_sig.specs.Meanings.{entry_of};
-ghost use Rattle.core_sig.specs.Settling.{IsNoFamily, renumbered, renumbered_entry, settled_number};
+ghost use Rattle.core_sig.specs.SettledParts.{argument_parts, constructor_parts, family_parts, settled_argument, settled_constructor, settled_family, settled_terms};
+ghost use Rattle.core_sig.specs.Settling.{renumbered, renumbered_entry, settled_number};
 
-use crate::{Draft, Entry, Found, Signature};
-use core_terms::{Name, Stop, Term};
+use crate::{Arg, Constructor, Draft, Entry, Family, Found, Signature};
+use core_terms::{Items, Name, Stop, Tele, Term};
 use std::alloc::Global;
 
 /// The draft's entry with the numbers that its names have in the signature. A name that is no entry's, and a constant
 /// behind the names, keeps its number.
 pub fn settle(alloc: Global, sig: &Signature, draft: &Draft) -> Result<Entry, Stop>
-    requires { IsNoFamily draft.now.entry }
-    ensures { Gives entry_of result (Ok (renumbered_entry (settled_number sig.now draft.now.base draft.now.names) (entry_of draft.now.entry))) }
+    ensures answer { Gives entry_of result (Ok (renumbered_entry (settled_number sig.now draft.now.base draft.now.names) (entry_of draft.now.entry))) }
+    ensures kinds { (n : ℕ) → HasEntryKinds n draft.now.entry → IfOk result (HasEntryKinds n) }
 {
-    Ok(match &draft.entry {
-        Entry::Family(_) => unreachable!(),
-        Entry::Elim(family, level) => Entry::Elim(*family, *level),
-        Entry::AxiomK(level, motive) => Entry::AxiomK(*level, *motive),
-        Entry::Def { name, ty, body } => Entry::Def {
+    match &draft.entry {
+        Entry::Family(family) => Ok(Entry::Family(settle_family(alloc, sig, draft, family)?)),
+        Entry::Elim(family, level) => Ok(Entry::Elim(*family, *level)),
+        Entry::AxiomK(level, motive) => Ok(Entry::AxiomK(*level, *motive)),
+        Entry::Def { name, ty, body } => Ok(Entry::Def {
             name: copy_name(alloc, name)?,
             ty: settle_term(alloc, sig, draft, ty)?,
             body: settle_term(alloc, sig, draft, body)?,
-        },
+        }),
+    }
+}
+
+fn settle_family(
+    alloc: Global,
+    sig: &Signature,
+    draft: &Draft,
+    family: &Family,
+) -> Result<Family, Stop>
+    ensures { Gives family_parts result (Ok (settled_family (settled_number sig.now draft.now.base draft.now.names) family.now)) }
+{
+    let name = copy_name(alloc, &family.name)?;
+    let params = settle_terms(alloc, sig, draft, family.params.as_slice())?;
+    let indices = settle_arguments(alloc, sig, draft, family.indices.as_slice())?;
+    let mut cons = Items::new(alloc);
+    for con in family.cons.as_slice() {
+        cons.push(settle_constructor(alloc, sig, draft, con)?)?;
+    }
+    Ok(Family {
+        name,
+        params,
+        indices,
+        level: family.level,
+        cons,
     })
+}
+
+fn settle_constructor(
+    alloc: Global,
+    sig: &Signature,
+    draft: &Draft,
+    con: &Constructor,
+) -> Result<Constructor, Stop>
+    ensures { Gives constructor_parts result (Ok (settled_constructor (settled_number sig.now draft.now.base draft.now.names) con.now)) }
+{
+    Ok(Constructor {
+        name: copy_name(alloc, &con.name)?,
+        args: settle_arguments(alloc, sig, draft, con.args.as_slice())?,
+        targets: settle_terms(alloc, sig, draft, con.targets.as_slice())?,
+    })
+}
+
+fn settle_arguments(
+    alloc: Global,
+    sig: &Signature,
+    draft: &Draft,
+    args: &[Arg],
+) -> Result<Items<Arg>, Stop>
+    ensures { Gives (map argument_parts) result (Ok (map (settled_argument (settled_number sig.now draft.now.base draft.now.names)) args.now)) }
+{
+    let mut settled = Items::new(alloc);
+    for arg in args {
+        settled.push(settle_argument(alloc, sig, draft, arg)?)?;
+    }
+    Ok(settled)
+}
+
+fn settle_argument(alloc: Global, sig: &Signature, draft: &Draft, arg: &Arg) -> Result<Arg, Stop>
+    ensures { Gives argument_parts result (Ok (settled_argument (settled_number sig.now draft.now.base draft.now.names) arg.now)) }
+{
+    Ok(Arg {
+        ty: settle_term(alloc, sig, draft, &arg.ty)?,
+        level: arg.level,
+        kind: arg.kind,
+    })
+}
+
+fn settle_terms(alloc: Global, sig: &Signature, draft: &Draft, terms: &[Term]) -> Result<Tele, Stop>
+    ensures { Gives tele_of result (Ok (settled_terms (settled_number sig.now draft.now.base draft.now.names) terms.now)) }
+{
+    let mut settled = Items::new(alloc);
+    for t in terms {
+        settled.push(settle_term(alloc, sig, draft, t)?)?;
+    }
+    Ok(settled)
 }
 
 fn copy_name(alloc: Global, name: &Name) -> Result<Name, Stop>
