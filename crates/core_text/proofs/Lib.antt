@@ -3,5 +3,7 @@ pub mod Decimals
 mod Examples
 pub mod Feeds
 pub mod ProductTexts
+pub mod RunSteps
 pub mod Sharing
 pub mod SpineTexts
+pub mod TermSteps

@@ -1,6 +1,11 @@
 pub mod EntryText
 pub mod Heads
 pub mod Lines
+pub mod NameRuns
 pub mod ProductParts
+pub mod Reading
+pub mod Scopes
+pub mod SymbolLookup
 pub mod SymbolNames
+pub mod TermReading
 pub mod TermText

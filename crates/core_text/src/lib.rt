@@ -3,14 +3,21 @@
 
 mod bytes;
 mod entry_printer;
+mod halt;
 mod head;
 mod laws;
+mod lookup;
+mod measured;
 mod names;
+mod runs;
+mod scanning;
+mod scope;
 mod spines;
 mod stop;
 mod symbols;
 mod telescopes;
 mod term_printer;
+mod term_reader;
 #[cfg(test)]
 mod tests;
 

@@ -1,0 +1,36 @@
+-- Runs of the characters of names, one character at a time.
+use Rattle.std.proofs.Common.{◌≡◌, ℕ, zero, suc, ◌+◌, ◌-◌, ◌<◌, ◌≤◌, Bool, true, false, ◌&&◌, List, [], ◌∷◌, drop, length, refl, sym, ap, ◌∙◌, arith}
+use Rattle.std.specs.Prelude.{◌==◌, if◌then◌else◌}
+use Rattle.std.specs.Str.{IsUtf8, is_utf8}
+use Rattle.std.proofs.lemmas.Str.{IsUtf8-from_is_utf8}
+use Rattle.std.proofs.lemmas.Bool.Decides.{nat_tests}
+use Rattle.std.proofs.lemmas.List.{drop_all}
+use Rattle.core_text.specs.NameRuns.{run_behind, run_len, name_char_len}
+
+pub no_utf8 : (bytes : List ℕ) → ¬ IsUtf8 bytes → is_utf8 bytes ≡ false
+no_utf8 bytes not_so =
+    elim (is_utf8 bytes) as (λ b. is_utf8 bytes ≡ b → b ≡ false) [ true ↦ λ e. absurd (not_so (IsUtf8-from_is_utf8 bytes e)) | false ↦ λ e. refl ] refl
+
+-- what is passed over may be dropped
+run_skip : (k : ℕ) (bytes : List ℕ) → run_behind k bytes ≡ run_behind 0 (drop k bytes)
+run_skip zero bytes = refl
+run_skip (suc k) [] = refl
+run_skip (suc k) (b ∷ bytes) = run_skip k bytes
+
+zero-test : (n : ℕ) → 0 < n → (n == 0) ≡ false
+zero-test n some = grind (arith, nat_tests)
+
+-- one character more
+pub run_more : (bytes : List ℕ) (n : ℕ) → name_char_len bytes ≡ n → 0 < n → run_len bytes ≡ n + run_len (drop n bytes)
+run_more [] n is some = absurd (omega (arith, is))
+run_more (b ∷ bytes) zero is some = absurd (omega arith)
+run_more (b ∷ bytes) (suc k) is some =
+    let less : suc k - 1 ≡ k = omega arith in rw (is, zero-test (suc k) some, less) (ap (λ r. suc k + r) (run_skip k bytes))
+
+-- where no character of a name stands the run is over
+pub run_end : (bytes : List ℕ) → name_char_len bytes ≡ 0 → run_len bytes ≡ 0
+run_end [] is = refl
+run_end (b ∷ bytes) is = rw is refl
+
+pub run_past : (bytes : List ℕ) (n : ℕ) → length bytes ≤ n → run_len (drop n bytes) ≡ 0
+run_past bytes n past = ap run_len (drop_all n bytes past)
