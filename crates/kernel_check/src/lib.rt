@@ -7,6 +7,8 @@ pub mod laws;
 mod leaf;
 mod scope;
 mod symbols;
+#[cfg(test)]
+mod tests;
 mod typing;
 mod verdicts;
 

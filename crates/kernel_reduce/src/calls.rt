@@ -3,7 +3,7 @@
 //! Each unit that a call spends moves from `left` to `spent`. A call answers Fuel where it needs a unit and none is left, and
 //! Deep where it is given or makes a term higher than 2,000, or where more than 2,000 calls would be open at once, whichever
 //! comes first. The answers and the units are those of the definitions, unless memory ran out.
-ghost use Rattle.std.specs.Prelude.{◌≡◌, ◌≤◌, ◌<◌, ◌+◌, ℕ, IfOk, IfSome, IsTrue, option_map};
+ghost use Rattle.std.specs.Prelude.{◌≡◌, ◌≤◌, ◌+◌, ℕ, IfOk, IfSome, IsTrue, option_map};
 ghost use Rattle.core_terms.specs.Answers.{Runs};
 ghost use Rattle.core_terms.specs.Meanings.{tree_of};
 ghost use Rattle.theory.specs.Conversion.{Step, Converts, Below};

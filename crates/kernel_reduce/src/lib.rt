@@ -15,5 +15,7 @@ mod reducing;
 mod spine;
 mod stepping;
 mod testing;
+#[cfg(test)]
+mod tests;
 
 pub use calls::{convertible, head_step, normal, subtype, subtype_within, whnf};
