@@ -1,4 +1,5 @@
 pub mod Arguments
+pub mod ClosedFamilies
 pub mod ConstructorTypes
 pub mod EliminatorTypes
 pub mod EntryInstances
