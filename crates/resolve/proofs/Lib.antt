@@ -1,4 +1,15 @@
+pub mod ClauseSizes
 pub mod Collecting
+pub mod Counts
+mod Examples
+pub mod KnownNames
+pub mod LawProofs
+pub mod ScopedFamilies
+pub mod ScopedFunctions
+pub mod ScopedPatterns
+pub mod ScopedTerms
 pub mod Sizes
 pub mod Spines
 pub mod Variables
+pub mod Vectors
+pub mod Walking

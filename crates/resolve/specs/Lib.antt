@@ -1,8 +1,11 @@
 pub mod Answers
 pub mod Families
 pub mod Functions
+pub mod Laws
 pub mod Low
 pub mod Names
+pub mod PatternMeanings
 pub mod Patterns
 pub mod Resolving
 pub mod Scopes
+pub mod Scoping

@@ -1,9 +1,12 @@
-ghost use Rattle.std.specs.Prelude.{◌≡◌, ◌++◌, map, OnOk};
+ghost use Rattle.std.specs.Prelude.{◌≡◌, ◌++◌, map, length, IfOk, OnOk};
+ghost use Rattle.theory.specs.Signatures.{Signature, IsPrefix};
+ghost use Rattle.theory.specs.SignatureScopes.{IsFamilyNumber};
 ghost use Rattle.core_terms.specs.Meanings.{tele_of};
 ghost use Rattle.core_sig.specs.Raw.{raw_of, raw_constructor_of};
 ghost use Rattle.surface_syntax.specs.TreeMeanings.{surf_of, param_of, con_of, decl_of};
 ghost use Rattle.resolve.specs.Answers.{Gives};
 ghost use Rattle.resolve.specs.Families as spec;
+ghost use Rattle.resolve.specs.Scoping.{IsResolvedFamily};
 ghost use Rattle.resolve.specs.Scopes.{names_of, known_of};
 
 use crate::ResolveStop;
@@ -20,7 +23,8 @@ use surface_syntax::{Decl, Surf, SurfCon, SurfParam, Word};
 /// next entry.
 pub fn resolve_data(alloc: Global, sig: &Signature, d: &Decl) -> Result<RawFamily, ResolveStop>
     requires { spec.IsData (decl_of d.now) }
-    ensures { Gives raw_of result (spec.resolve_data sig.now (decl_of d.now)) }
+    ensures answer { Gives raw_of result (spec.resolve_data sig.now (decl_of d.now)) }
+    ensures scoped { (T : Signature) → IsPrefix sig.now T → IsFamilyNumber T (length sig.now.entries) → IfOk result (λ raw. IsResolvedFamily sig.now T (raw_of raw)) }
 {
     match d {
         Decl::Data {

@@ -1,15 +1,23 @@
 //! Names: the core terms, families and functions that written declarations stand for.
 #![tactic(auto)]
 
+mod constructors;
 mod families;
+mod fun_core;
+mod functions;
+mod laws;
 mod low;
 mod name_set;
 mod names;
+mod patterns;
 mod scope;
 mod stop;
 mod symbols;
 mod terms;
 
 pub use families::resolve_data;
+pub use fun_core::FunCore;
+pub use functions::resolve_fun;
+pub use laws::{families_resolve, functions_resolve, terms_resolve};
 pub use stop::ResolveStop;
 pub use terms::resolve_term;

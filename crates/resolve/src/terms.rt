@@ -1,4 +1,4 @@
-ghost use Rattle.std.specs.Prelude.{◌≡◌, Ok, map};
+ghost use Rattle.std.specs.Prelude.{◌≡◌, Ok, map, length, IfOk};
 ghost use Rattle.std.specs.Option.{option_copied};
 ghost use Rattle.theory.specs.Terms as tree;
 ghost use Rattle.core_terms.specs.Meanings.{tree_of};
@@ -8,6 +8,7 @@ ghost use Rattle.resolve.specs.Answers.{Gives};
 ghost use Rattle.resolve.specs.Low.{low_of, former};
 ghost use Rattle.resolve.specs.Names.{named, name_of};
 ghost use Rattle.resolve.specs.Resolving as spec;
+ghost use Rattle.resolve.specs.Scoping.{IsResolved};
 ghost use Rattle.resolve.specs.Scopes.{names_of, known_of};
 
 use crate::ResolveStop;
@@ -27,7 +28,8 @@ pub fn resolve_term(
     scope: &Items<Name>,
     t: &Surf,
 ) -> Result<Term, ResolveStop>
-    ensures { Gives tree_of result (spec.resolve_term sig.now scope.now (surf_of t.now)) }
+    ensures answer { Gives tree_of result (spec.resolve_term sig.now scope.now (surf_of t.now)) }
+    ensures scoped { IfOk result (λ t. IsResolved sig.now (length scope.now) (tree_of t)) }
 {
     let known = Symbols {
         sig,

@@ -1,0 +1,3 @@
+mod Declarations
+mod Sample
+mod Terms
