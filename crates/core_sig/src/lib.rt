@@ -23,7 +23,7 @@ pub use eliminator::elim_type;
 pub use entry::{Draft, Entry, Found};
 pub use family::{Arg, ArgKind, Constructor, Family};
 pub use kinds::kind_of;
-pub use positivity::strictly_positive;
+pub use positivity::{mentions, strictly_positive};
 pub use raw::{MutualRaw, RawCon, RawFamily, RawMember};
 pub use settling::settle;
 pub use signature::Signature;

@@ -72,8 +72,8 @@ fn any_mentions(terms: &[Term], fam: u32) -> bool
     false
 }
 
-/// Whether a symbol of the family stands in the term.
-pub(crate) fn mentions(t: &Term, fam: u32) -> bool
+/// Whether a symbol of the family stands in the term. Takes no memory.
+pub fn mentions(t: &Term, fam: u32) -> bool
     ensures { result ≡ pure.mentions fam (tree_of t.now) }
 {
     match t {

@@ -19,3 +19,4 @@ mod testing;
 mod tests;
 
 pub use calls::{convertible, head_step, normal, subtype, subtype_within, whnf};
+pub use making::into_spine;

@@ -13,7 +13,7 @@ use core_terms::{MAX_HEIGHT, Stop, Term, copy, lift};
 use std::alloc::Global;
 
 /// The arguments of a term's head, the first one first.
-pub(crate) fn into_spine(alloc: Global, t: Term) -> Result<Vec<Term>, Stop>
+pub fn into_spine(alloc: Global, t: Term) -> Result<Vec<Term>, Stop>
     ensures { Gives (λ v. tele_of v.items) result (Ok (spine_of (tree_of t))) }
 {
     match t {
