@@ -1,5 +1,5 @@
 -- How many patterns are written.
-use Rattle.std.proofs.Common.{◌≡◌, ℕ, ◌+◌, List, [], ◌∷◌, map, length, refl, arith}
+use Rattle.std.proofs.Common.{◌≡◌, List, [], ◌∷◌, map, length, refl, arith}
 use Rattle.surface_syntax.specs.Trees as surf
 use Rattle.surface_syntax.specs.TreeMeanings as written
 use Rattle.surface_syntax.specs.declared.tree.SurfPat.{SurfPat}

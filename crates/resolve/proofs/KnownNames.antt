@@ -1,11 +1,10 @@
 -- What names of a signature stand for has its entry.
-use Rattle.std.proofs.Common.{◌≡◌, ℕ, suc, ◌+◌, ◌<◌, ◌≤◌, Bool, true, false, cond, List, [], ◌∷◌, ◌++◌, map, length, Option, Some, None, option_map, IfSome, bytes_eq, slice_get, refl, ap, sym, ◌∙◌, subst, subst₂, arith, append_assoc}
+use Rattle.std.proofs.Common.{◌≡◌, ℕ, ◌+◌, ◌<◌, ◌≤◌, Bool, true, false, cond, List, [], ◌∷◌, ◌++◌, map, length, Option, Some, None, option_map, IfSome, bytes_eq, slice_get, ap, sym, ◌∙◌, subst, subst₂, arith, append_assoc}
 use Rattle.std.proofs.lemmas.List.{length-append, length-map}
 use Rattle.std.specs.Map.{lookup}
 use Rattle.theory.specs.Families.{Family}
-use Rattle.theory.specs.Terms.{Term, height}
+use Rattle.theory.specs.Terms.{Term}
 use Rattle.theory.specs.Signatures.{Entry, FamilyOf, EliminatorAt, AxiomKAt, Definition, Signature, IsPrefix}
-use Rattle.theory.specs.SignatureScopes.{IsScoped}
 use Rattle.theory.proofs.Lists.{slice_get-last, slice_get-longer}
 use Rattle.core_sig.specs.Names.{named, named_by, named_constructors, find}
 use Rattle.core_sig.specs.declared.entry.Found.{Found}

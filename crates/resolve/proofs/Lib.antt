@@ -1,9 +1,12 @@
+pub mod Bound
 pub mod ClauseSizes
 pub mod Collecting
 pub mod Counts
 mod Examples
 pub mod KnownNames
 pub mod LawProofs
+pub mod NamesShown
+pub mod Nearest
 pub mod ScopedFamilies
 pub mod ScopedFunctions
 pub mod ScopedPatterns

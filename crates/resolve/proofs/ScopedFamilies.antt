@@ -1,16 +1,14 @@
 -- Resolved families are scoped.
-use Rattle.std.proofs.Common.{◌≡◌, ℕ, suc, ◌+◌, ◌≤◌, List, [], ◌∷◌, ◌++◌, map, reverse, length, Some, Option, Result, Ok, Err, IfOk, refl, ap, sym, ◌∙◌, subst, arith}
+use Rattle.std.proofs.Common.{◌≡◌, ℕ, suc, ◌+◌, ◌≤◌, List, [], ◌∷◌, ◌++◌, reverse, length, Some, Result, Ok, Err, IfOk, refl, ap, sym, ◌∙◌, subst, arith}
 use Rattle.std.specs.List.{All}
 use Rattle.std.proofs.lemmas.List.{append-nil, length-append, length-map, length-reverse}
 use Rattle.std.proofs.lemmas.List.Elements.{All-cons, All-nil}
 use Rattle.theory.specs.Terms.{Term, Fam, height}
 use Rattle.theory.specs.Signatures.{Signature, IsPrefix}
-use Rattle.theory.specs.SignatureScopes.{IsScoped, IsScopedTelescope, IsFamilyNumber}
-use Rattle.core_sig.specs.Raw.{RawFamily, RawConstructor}
+use Rattle.theory.specs.SignatureScopes.{IsScopedTelescope, IsFamilyNumber}
 use Rattle.surface_syntax.specs.Trees as surf
 use Rattle.surface_syntax.specs.declared.tree.Word.{Word}
 use Rattle.resolve.specs.declared.stop.ResolveStop.{ResolveStop}
-use Rattle.resolve.specs.Answers.{and_then}
 use Rattle.resolve.specs.Names.{Known, Scope, scope_of, known_in, with_name}
 use Rattle.resolve.specs.Resolving.{resolve}
 use Rattle.resolve.specs.Families.{declared, names_of, parameters, constructors, family}

@@ -1,5 +1,5 @@
 -- Resolved functions are scoped, and their clauses have as many patterns as the arity says.
-use Rattle.std.proofs.Common.{◌≡◌, ℕ, suc, ◌+◌, ◌≤◌, ◌==◌, nat_le, Bool, true, false, List, [], ◌∷◌, length, Option, Some, None, Result, Ok, Err, IfOk, bytes_eq, refl, ap, sym, ◌∙◌, subst, arith}
+use Rattle.std.proofs.Common.{◌≡◌, ℕ, ◌+◌, ◌≤◌, nat_le, Bool, true, false, List, [], ◌∷◌, length, Option, Some, None, Result, Ok, Err, IfOk, bytes_eq, refl, ◌∙◌, subst, arith}
 use Rattle.std.specs.Prelude.{if◌then◌else◌}
 use Rattle.std.proofs.lemmas.Bool.Decides.{nat_tests}
 use Rattle.theory.specs.Terms.{Term, Const}
@@ -10,12 +10,11 @@ use Rattle.surface_syntax.specs.Trees as surf
 use Rattle.surface_syntax.specs.declared.tree.Word.{Word}
 use Rattle.resolve.specs.declared.stop.ResolveStop.{ResolveStop}
 use Rattle.resolve.specs.declared.stop.ResolveStop.TheVariants.{UnknownName, WrongArity}
-use Rattle.resolve.specs.Answers.{and_then}
 use Rattle.resolve.specs.Names.{Known, Scope, scope_of, known_in, with_name}
 use Rattle.resolve.specs.Resolving.{resolve}
 use Rattle.resolve.specs.Families.{declared}
 use Rattle.resolve.specs.Patterns as pattern
-use Rattle.resolve.specs.Functions.{Function, is_allowed, clause_head, clause, right_side, clauses, product_count, arity_of, allowed_by, function}
+use Rattle.resolve.specs.Functions.{is_allowed, clause_head, clause, right_side, clauses, product_count, arity_of, allowed_by, function}
 use Rattle.resolve.specs.Scoping.{IsResolved, IsClause, IsRight, AreClauses, ArePatterns, binds_all, count, IsResolvedFunction}
 use Rattle.resolve.proofs.KnownNames.{IsKnown, known_resolved, with_resolved}
 use Rattle.resolve.proofs.ScopedTerms.{then_has, term_resolved}

@@ -1,5 +1,5 @@
 -- Resolved patterns are scoped, bind the variables that are written, and have all arguments of their constructors.
-use Rattle.std.proofs.Common.{◌≡◌, ℕ, suc, ◌+◌, ◌<◌, ◌==◌, Bool, true, false, List, [], ◌∷◌, ◌++◌, length, Option, Some, None, option_and_then, Result, Ok, Err, IfOk, IfSome, slice_get, get_or, bytes_eq, refl, ap, sym, ◌∙◌, subst, arith}
+use Rattle.std.proofs.Common.{◌≡◌, ℕ, ◌==◌, Bool, true, false, List, [], ◌∷◌, ◌++◌, length, Option, Some, None, option_and_then, Ok, Err, IfOk, IfSome, slice_get, get_or, bytes_eq, refl, ap, sym, ◌∙◌, subst, arith}
 use Rattle.std.specs.Prelude.{if◌then◌else◌}
 use Rattle.std.specs.List.{list_any}
 use Rattle.std.specs.Option.{option_map_or}
@@ -15,9 +15,7 @@ use Rattle.core_sig.specs.declared.entry.Found.{Found}
 use Rattle.core_sig.specs.declared.entry.Found.TheVariants.{Entry, Con}
 use Rattle.surface_syntax.specs.Trees as surf
 use Rattle.surface_syntax.specs.declared.tree.Word.{Word}
-use Rattle.resolve.specs.declared.stop.ResolveStop.{ResolveStop}
 use Rattle.resolve.specs.declared.stop.ResolveStop.TheVariants.{UnknownName, WrongArity, NotLinear}
-use Rattle.resolve.specs.Answers.{and_then}
 use Rattle.resolve.specs.Names.{Known, Scope}
 use Rattle.resolve.specs.Resolving.{resolve}
 use Rattle.resolve.specs.Patterns as spec

@@ -11,7 +11,7 @@ use Rattle.surface_syntax.specs.declared.tree.Word.{Word}
 use Rattle.resolve.specs.declared.stop.ResolveStop.{ResolveStop}
 use Rattle.resolve.specs.declared.stop.ResolveStop.TheVariants.{Deep}
 use Rattle.resolve.specs.Answers.{and_then}
-use Rattle.resolve.specs.Names.{Known, Scope, has_name, name_of, variable_of, named_term, named}
+use Rattle.resolve.specs.Names.{Known, Scope, has_name, name_of, variable_of, named_term}
 use Rattle.resolve.specs.Resolving.{Answer, low, binding, group, resolve, telescope, applied}
 use Rattle.resolve.specs.Scoping.{IsResolved}
 use Rattle.resolve.proofs.KnownNames.{IsKnown}

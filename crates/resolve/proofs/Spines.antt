@@ -1,5 +1,6 @@
 -- Lists of arguments and binders behind a place.
-use Rattle.std.proofs.Common.{◌≡◌, ℕ, suc, ◌+◌, ◌<◌, ◌≤◌, List, ◌∷◌, map, drop, length, get_or, refl, ap, ap₂, sym, ◌∙◌, add-one, arith, rules}
+use Rattle.std.proofs.Common.{◌≡◌, ℕ, ◌+◌, ◌<◌, ◌≤◌, List, ◌∷◌, map, drop, length, get_or, ap, ap₂, sym, ◌∙◌, add-one, rules}
+use Rattle.std.proofs.Math.ListN.{drop_of_length-le}
 use Rattle.std.proofs.Math.Seq.{drop-cons}
 use Rattle.surface_syntax.specs.Trees as surf
 use Rattle.surface_syntax.specs.TreeMeanings.{surf_of, binder_of}
@@ -19,10 +20,15 @@ arguments_behind args k a lt is =
 pub binder_parts : (b : Binder) → binder_of b ≡ surf.Group b.names (surf_of b.ty)
 binder_parts b = search (rules, the_lemmas)
 
--- the telescope of binders with a first one
-pub telescope_first : (known : Known) (make : Term → Term → Term) (bs : List Binder) (b : Binder) (rest : List Binder) (inner : Scope → Answer) (scope : Scope) → bs ≡ b ∷ rest
-    → telescope known make (surf.binders (map binder_of bs)) inner scope
-    ≡ group make b.names (resolve known (surf_of b.ty)) (telescope known make (surf.binders (map binder_of rest)) inner) scope
-telescope_first known make bs b rest inner scope is =
-    ap (λ bs. telescope known make (surf.binders (map binder_of bs)) inner scope) is
-    ∙ ap (λ b. telescope known make (surf.bind b (surf.binders (map binder_of rest))) inner scope) (binder_parts b)
+-- what is behind place k begins with the group that stands there
+pub telescope_behind : (known : Known) (make : Term → Term → Term) (bs : List Binder) (k : ℕ) (b : Binder) (inner : Scope → Answer) (scope : Scope) → k < length bs → b ≡ get_or bs k b
+    → telescope known make (surf.binders (map binder_of (drop k bs))) inner scope
+    ≡ group make b.names (resolve known (surf_of b.ty)) (telescope known make (surf.binders (map binder_of (drop (k + 1) bs))) inner) scope
+telescope_behind known make bs k b inner scope lt is =
+    ap (λ bs. telescope known make (surf.binders (map binder_of bs)) inner scope) (drop-cons bs k b lt ∙ ap₂ ◌∷◌ (sym is) (ap (λ n. drop n bs) (sym (add-one k))))
+    ∙ ap (λ b. telescope known make (surf.bind b (surf.binders (map binder_of (drop (k + 1) bs)))) inner scope) (binder_parts b)
+
+-- nothing is behind the last group
+pub telescope_done : (known : Known) (make : Term → Term → Term) (bs : List Binder) (k : ℕ) (inner : Scope → Answer) (scope : Scope) → length bs ≤ k
+    → telescope known make (surf.binders (map binder_of (drop k bs))) inner scope ≡ inner scope
+telescope_done known make bs k inner scope end = ap (λ bs. telescope known make (surf.binders (map binder_of bs)) inner scope) (drop_of_length-le bs end)

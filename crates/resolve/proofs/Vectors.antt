@@ -1,5 +1,5 @@
 -- Patterns and clauses that are resolved one after the other, where the first ones stand already.
-use Rattle.std.proofs.Common.{◌≡◌, ℕ, List, [], ◌∷◌, ◌++◌, Option, Result, Ok, Err, refl, ap, ap₂, sym, ◌∙◌, append_assoc}
+use Rattle.std.proofs.Common.{◌≡◌, ℕ, List, [], ◌∷◌, ◌++◌, Option, Result, Ok, Err, refl, ap, sym, ◌∙◌}
 use Rattle.theory.specs.Signatures.{Signature}
 use Rattle.core_terms.specs.Patterns as pattern
 use Rattle.core_terms.specs.Clauses as clause

@@ -1,5 +1,5 @@
 -- One pattern or one clause more of a list.
-use Rattle.std.proofs.Common.{◌≡◌, ℕ, ◌+◌, ◌<◌, ◌≤◌, List, [], ◌∷◌, ◌++◌, map, drop, length, get_or, Option, Result, Ok, refl, ap, sym, ◌∙◌, append_assoc}
+use Rattle.std.proofs.Common.{◌≡◌, ℕ, ◌+◌, ◌<◌, ◌≤◌, List, [], ◌∷◌, ◌++◌, map, drop, length, get_or, Option, Ok, ap, sym, ◌∙◌, append_assoc}
 use Rattle.std.proofs.Math.ListN.{drop_of_length-le}
 use Rattle.std.proofs.lemmas.List.{map-append}
 use Rattle.theory.specs.Signatures.{Signature}
@@ -10,7 +10,6 @@ use Rattle.surface_syntax.specs.Trees as surf
 use Rattle.surface_syntax.specs.TreeMeanings as written
 use Rattle.surface_syntax.specs.declared.tree.SurfPat.{SurfPat}
 use Rattle.surface_syntax.specs.declared.tree.SurfClause.{SurfClause}
-use Rattle.resolve.specs.declared.stop.ResolveStop.{ResolveStop}
 use Rattle.resolve.specs.Names.{Known, Scope}
 use Rattle.resolve.specs.Functions as function
 use Rattle.resolve.specs.Patterns as spec

@@ -1,9 +1,11 @@
 pub mod Answers
+pub mod Binding
 pub mod Families
 pub mod Functions
 pub mod Laws
 pub mod Low
 pub mod Names
+pub mod Nearest
 pub mod PatternMeanings
 pub mod Patterns
 pub mod Resolving

@@ -1,5 +1,5 @@
 -- The core terms that written terms stand for, or the first refusal in the order of the text.
-use Rattle.std.specs.Prelude.{ℕ, ◌≤◌, nat_le, if◌then◌else◌, List, [], ◌∷◌, Option, Some, None, Result, Ok, Err}
+use Rattle.std.specs.Prelude.{ℕ, nat_le, if◌then◌else◌, List, [], ◌∷◌, Option, Some, None, Result, Ok, Err}
 use Rattle.theory.specs.Terms as tree
 use Rattle.theory.specs.Signatures.{Signature}
 use Rattle.surface_syntax.specs.declared.tree.Word.{Word}

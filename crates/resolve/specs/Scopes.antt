@@ -1,5 +1,5 @@
 -- What scopes and known names of the code stand for.
-use Rattle.std.specs.Prelude.{ℕ, ◌∷◌, length, Some, None}
+use Rattle.std.specs.Prelude.{ℕ, ◌∷◌, ◌++◌, length}
 use Rattle.std.specs.Option.{option_copied}
 use Rattle.theory.specs.Terms as tree
 use Rattle.resolve.specs.declared.scope.Scope as code
@@ -11,6 +11,7 @@ use Rattle.resolve.specs.Names.{Known, Scope, scope_of, known_in, with_name}
 abbrev pub names_of : code.Scope → Scope
 names_of (code.Given names) = scope_of names.now
 names_of (code.Under' x p outer) = option_copied x ∷ names_of outer
+names_of (code.Behind' binders p outer) = binders.now ++ names_of outer
 
 -- the name of the declaration that is resolved stands for entry n
 abbrev pub known_with : Own → ℕ → Known → Known

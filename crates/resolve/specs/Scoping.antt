@@ -1,5 +1,5 @@
 -- What is said of resolved terms, families and clauses, as calls on them ask for it.
-use Rattle.std.specs.Prelude.{◌≡◌, ℕ, suc, ◌+◌, ◌≤◌, List, length, Some, slice_get}
+use Rattle.std.specs.Prelude.{◌≡◌, ℕ, ◌+◌, ◌≤◌, length, Some, slice_get}
 use Rattle.std.specs.List.{All}
 use Rattle.theory.specs.Terms.{Term, height}
 use Rattle.theory.specs.Families.{Family, Constructor}

@@ -10,6 +10,7 @@ ghost use Rattle.resolve.specs.Scoping.{IsResolvedFamily};
 ghost use Rattle.resolve.specs.Scopes.{names_of, known_of};
 
 use crate::ResolveStop;
+use crate::name_set::NameSet;
 use crate::names::{copy_name, declare};
 use crate::scope::Scope;
 use crate::symbols::{Own, Symbols};
@@ -47,7 +48,7 @@ fn family<'a>(
 ) -> Result<RawFamily, ResolveStop>
     ensures { Gives raw_of result (spec.family sig.now x.now (map param_of params.now) (surf_of ty.now) (map con_of cons.now)) }
 {
-    let mut declared = Items::new(alloc);
+    let mut declared = NameSet::new(alloc);
     let name = declare(alloc, sig, &mut declared, x)?;
     let unnamed = Symbols {
         sig,
@@ -95,7 +96,7 @@ fn constructors(
     known: &Symbols,
     cons: &[SurfCon],
     scope: &Scope,
-    declared: &mut Items<Name>,
+    declared: &mut NameSet,
 ) -> Result<Items<RawCon>, ResolveStop>
     ensures { Gives (map raw_constructor_of) result (spec.constructors known.now.sig.now (known_of known.now) (names_of scope.now) declared.old (map con_of cons.now)) }
 {

@@ -14,6 +14,7 @@ ghost use Rattle.resolve.specs.Scoping.{IsResolvedFunction};
 ghost use Rattle.resolve.specs.Scopes.{names_of, known_of};
 ghost use Rattle.resolve.specs.declared.stop.ResolveStop.TheVariants.{Memory};
 
+use crate::name_set::NameSet;
 use crate::names::{copy_name, declare};
 use crate::patterns::{add_variables, patterns};
 use crate::scope::Scope;
@@ -46,7 +47,7 @@ fn function<'a>(
 ) -> Result<FunCore, ResolveStop>
     ensures { Gives fun_of result (spec.function sig.now x.now (surf_of ty.now) (surf.clauses (map written.clause_of list.now))) }
 {
-    let mut declared = Items::new(alloc);
+    let mut declared = NameSet::new(alloc);
     let name = declare(alloc, sig, &mut declared, x)?;
     let unnamed = Symbols {
         sig,
@@ -148,7 +149,7 @@ fn clause(
     add_variables(alloc, known.sig, pats, &mut names)?;
     let binds = number_of(names.as_slice().len())?;
     let scope = Scope::Given(names.as_slice());
-    let mut before = Items::new(alloc);
+    let mut before = NameSet::new(alloc);
     let pats = patterns(alloc, known, &scope, &mut before, pats)?;
     let right = right_side(alloc, known, own, &scope, count, &given.right)?;
     Ok(Clause { pats, binds, right })

@@ -1,6 +1,7 @@
 //! Names: the core terms, families and functions that written declarations stand for.
 #![tactic(auto)]
 
+mod binders;
 mod constructors;
 mod families;
 mod fun_core;
@@ -21,3 +22,6 @@ pub use functions::resolve_fun;
 pub use laws::{families_resolve, functions_resolve, terms_resolve};
 pub use stop::ResolveStop;
 pub use terms::resolve_term;
+
+#[cfg(test)]
+mod tests;

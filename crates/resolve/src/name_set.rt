@@ -1,32 +1,44 @@
-ghost use Rattle.std.specs.Prelude.{◌≡◌, [], ◌∷◌, ◌++◌, not, bytes_eq, Ok, OnOk, IfOk, IsTrue};
+ghost use Rattle.std.specs.Prelude.{◌≡◌, [], ◌∷◌, ◌++◌, not, bytes_eq, Ok, IfOk, IsTrue};
 ghost use Rattle.std.specs.List.{list_any};
 ghost use Rattle.resolve.specs.Answers.{Gives};
 
 use crate::ResolveStop;
-use crate::names::copy_name;
-use core_terms::{Items, Name};
+use core_terms::Name;
+use indexmap::IndexSet;
 use std::alloc::Global;
+use std::marker::Model;
 
-/// Whether the name stands among those of the list, and then the list with the name behind it.
-pub(crate) fn insert(
+/// Distinct names in the order in which they came. They are found by hashes.
+#[derive(Drop)]
+pub(crate) struct NameSet {
+    names: IndexSet<Vec<u8>>,
     alloc: Global,
-    names: &mut Items<Name>,
-    name: &Name,
-) -> Result<bool, ResolveStop>
-    ensures added { Gives (λ added. added) result (Ok (not (list_any (bytes_eq name.now) names.old))) }
-    ensures names { IfOk result (λ added. IsTrue added → names.new ≡ names.old ++ name.now ∷ []) }
-{
-    if contains(names.as_slice(), name) {
-        return Ok(false);
-    }
-    names.push(copy_name(alloc, name)?)?;
-    Ok(true)
 }
 
-fn contains(names: &[Name], name: &Name) -> bool
-    ensures { result ≡ list_any (bytes_eq name.now) names.now }
-{
-    names
-        .iter()
-        .any(|other| name.as_slice() == other.as_slice())
+impl Model for NameSet {
+    ghost use Rattle.std.specs.Prelude.{List, ℕ, map};
+
+    ghost Value = { List (List ℕ) };
+
+    ghost view = { λ s. map (λ name. name.items) s.names.keys };
+}
+
+impl NameSet {
+    pub(crate) fn new(alloc: Global) -> NameSet
+        ensures { result ≡ [] }
+    {
+        NameSet {
+            names: IndexSet::new(alloc),
+            alloc,
+        }
+    }
+
+    /// Adds the name behind the others where it is new, and says whether it is.
+    pub(crate) fn insert(&mut self, name: &Name) -> Result<bool, ResolveStop>
+        ensures added { Gives (λ added. added) result (Ok (not (list_any (bytes_eq name.now) self.old))) }
+        ensures names { IfOk result (λ added. IsTrue added → self.new ≡ self.old ++ name.now ∷ []) }
+    {
+        let key = Vec::from_slice(self.alloc, name.as_slice())?;
+        Ok(self.names.insert(key)?)
+    }
 }

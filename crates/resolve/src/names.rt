@@ -3,9 +3,9 @@ ghost use Rattle.resolve.specs.Answers.{Gives};
 ghost use Rattle.resolve.specs.Families.{declared};
 
 use crate::ResolveStop;
-use crate::name_set::insert;
+use crate::name_set::NameSet;
 use core_sig::Signature;
-use core_terms::{Items, Name};
+use core_terms::Name;
 use std::alloc::Global;
 use surface_syntax::Word;
 
@@ -19,13 +19,13 @@ pub(crate) fn copy_name(alloc: Global, name: &Name) -> Result<Name, ResolveStop>
 pub(crate) fn declare(
     alloc: Global,
     sig: &Signature,
-    before: &mut Items<Name>,
+    before: &mut NameSet,
     x: &Word,
 ) -> Result<Name, ResolveStop>
     ensures name { Gives (λ name. name) result (declared sig.now before.old x.now) }
     ensures before { OnOk result (before.new ≡ before.old ++ x.now.text ∷ []) }
 {
-    if sig.find(x.text.as_slice()).is_some() || !insert(alloc, before, &x.text)? {
+    if sig.find(x.text.as_slice()).is_some() || !before.insert(&x.text)? {
         return Err(ResolveStop::Duplicate(x.start, copy_name(alloc, &x.text)?));
     }
     copy_name(alloc, &x.text)

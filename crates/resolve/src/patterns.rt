@@ -10,7 +10,7 @@ ghost use Rattle.resolve.specs.declared.stop.ResolveStop.TheVariants.{Memory};
 
 use crate::ResolveStop;
 use crate::constructors::{Constructor, find_constructor};
-use crate::name_set::insert;
+use crate::name_set::NameSet;
 use crate::names::copy_name;
 use crate::scope::Scope;
 use crate::symbols::Symbols;
@@ -91,7 +91,7 @@ fn head(
     alloc: Global,
     sig: &Signature,
     arguments: usize,
-    before: &mut Items<Name>,
+    before: &mut NameSet,
     x: &Word,
 ) -> Result<Option<Constructor>, ResolveStop>
     ensures head { Gives (option_map constructor_of) result (spec.head arguments before.old x.now (spec.constructor sig.now x.now.text)) }
@@ -106,7 +106,7 @@ fn head(
     if arguments > 0 {
         return Err(ResolveStop::UnknownName(x.start, copy_name(alloc, &x.text)?));
     }
-    if insert(alloc, before, &x.text)? {
+    if before.insert(&x.text)? {
         Ok(None)
     } else {
         Err(ResolveStop::NotLinear(x.start, copy_name(alloc, &x.text)?))
@@ -130,7 +130,7 @@ fn pattern(
     alloc: Global,
     known: &Symbols,
     scope: &Scope,
-    before: &mut Items<Name>,
+    before: &mut NameSet,
     pat: &SurfPat,
 ) -> Result<Pat, ResolveStop>
     ensures pattern { Gives pat_of result (spec.pattern known.now.sig.now (known_of known.now) (names_of scope.now) before.old (written.pat_of pat.now)) }
@@ -158,7 +158,7 @@ pub(crate) fn patterns(
     alloc: Global,
     known: &Symbols,
     scope: &Scope,
-    before: &mut Items<Name>,
+    before: &mut NameSet,
     pats: &[SurfPat],
 ) -> Result<Items<Pat>, ResolveStop>
     ensures patterns { Gives pats_of result (spec.patterns known.now.sig.now (known_of known.now) (names_of scope.now) before.old (surf.pats (map written.pat_of pats.now))) }

@@ -1,10 +1,11 @@
-ghost use Rattle.std.specs.Prelude.{◌≡◌, ◌+◌, Ok, option_map, bytes_eq, position, reverse};
+ghost use Rattle.std.specs.Prelude.{◌≡◌, ◌+◌, Ok, Some, option_map, bytes_eq, position, reverse};
 ghost use Rattle.std.specs.Option.{option_copied};
 ghost use Rattle.resolve.specs.Answers.{Gives};
 ghost use Rattle.resolve.specs.Names.{variable_of, has_name, scope_of};
 ghost use Rattle.resolve.specs.Scopes.{names_of};
 
 use crate::ResolveStop;
+use crate::binders::Binders;
 use core_terms::Name;
 
 /// The names of the binders around a term.
@@ -14,6 +15,8 @@ pub(crate) enum Scope<'a> {
     Given(&'a [Name]),
     /// A binder more, where `None` stands for `_`.
     Under(Option<&'a Name>, &'a Scope<'a>),
+    /// The binders of a telescope more.
+    Behind(&'a Binders, &'a Scope<'a>),
 }
 
 impl<'a> Scope<'a> {
@@ -27,8 +30,12 @@ impl<'a> Scope<'a> {
                 if has_name(*x, name) {
                     return Ok(Some(0));
                 }
-                next(outer.variable(name)?)
+                further(outer.variable(name)?, 1)
             }
+            Scope::Behind(binders, outer) => match binders.variable(name) {
+                Some(n) => number_of(n),
+                None => further(outer.variable(name)?, binders.len()),
+            },
         }
     }
 }
@@ -56,21 +63,30 @@ fn variable_among(names: &[Name], name: &[u8]) -> Result<Option<u32>, ResolveSto
     ensures { Gives (λ found. found) result (Ok (variable_of name.now (scope_of names.now))) }
 {
     match place_among(names, name) {
-        Some(at) => match u32::try_from(at) {
-            Ok(number) => Ok(Some(number)),
-            Err(_) => Err(ResolveStop::Memory),
+        Some(at) => number_of(at),
+        None => Ok(None),
+    }
+}
+
+/// The number of a variable that so many binders stand before.
+fn further(found: Option<u32>, binders: usize) -> Result<Option<u32>, ResolveStop>
+    ensures { Gives (λ found. found) result (Ok (option_map (λ n. n + binders) found)) }
+{
+    match found {
+        Some(n) => match binders.checked_add(n as usize) {
+            Some(at) => number_of(at),
+            None => Err(ResolveStop::Memory),
         },
         None => Ok(None),
     }
 }
 
-/// The number one further out.
-fn next(found: Option<u32>) -> Result<Option<u32>, ResolveStop>
-    ensures { Gives (λ found. found) result (Ok (option_map (λ n. n + 1) found)) }
+/// The number of a variable that is there.
+fn number_of(at: usize) -> Result<Option<u32>, ResolveStop>
+    ensures { Gives (λ found. found) result (Ok (Some at)) }
 {
-    match found {
-        Some(n) if n < u32::MAX => Ok(Some(n + 1)),
-        Some(_) => Err(ResolveStop::Memory),
-        None => Ok(None),
+    match u32::try_from(at) {
+        Ok(number) => Ok(Some(number)),
+        Err(_) => Err(ResolveStop::Memory),
     }
 }

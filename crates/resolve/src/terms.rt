@@ -1,17 +1,18 @@
 ghost use Rattle.std.specs.Prelude.{◌≡◌, Ok, map, length, IfOk};
-ghost use Rattle.std.specs.Option.{option_copied};
 ghost use Rattle.theory.specs.Terms as tree;
 ghost use Rattle.core_terms.specs.Meanings.{tree_of};
 ghost use Rattle.surface_syntax.specs.Trees as surf;
 ghost use Rattle.surface_syntax.specs.TreeMeanings.{surf_of, binder_of};
 ghost use Rattle.resolve.specs.Answers.{Gives};
+ghost use Rattle.resolve.specs.Binding.{IsBound, closed};
 ghost use Rattle.resolve.specs.Low.{low_of, former};
-ghost use Rattle.resolve.specs.Names.{named, name_of};
+ghost use Rattle.resolve.specs.Names.{named};
 ghost use Rattle.resolve.specs.Resolving as spec;
 ghost use Rattle.resolve.specs.Scoping.{IsResolved};
 ghost use Rattle.resolve.specs.Scopes.{names_of, known_of};
 
 use crate::ResolveStop;
+use crate::binders::Binders;
 use crate::low::{Form, Low};
 use crate::names::copy_name;
 use crate::scope::Scope;
@@ -116,53 +117,46 @@ fn telescope(
 ) -> Result<Low, ResolveStop>
     ensures { Gives low_of result (spec.telescope (known_of known.now) (former form) (surf.binders (map binder_of binders.now)) (spec.resolve (known_of known.now) (surf_of body.now)) (names_of scope.now)) }
 {
-    match binders.split_first() {
-        None => resolve(alloc, known, body, scope),
-        Some((binder, rest)) => group(
-            alloc,
-            known,
-            form,
-            binder.names.as_slice(),
-            &binder.ty,
-            rest,
-            body,
-            scope,
-        ),
+    let mut under = Binders::new(alloc);
+    let mut types = Vec::new(alloc);
+    for binder in binders {
+        group(alloc, known, form, binder, scope, &mut under, &mut types)?;
     }
+    let inner = resolve(alloc, known, body, &Scope::Behind(&under, &*scope))?;
+    bind(alloc, form, types, inner)
 }
 
-/// What binds the names, all of the type `ty`, and then those of the binders around the body.
+/// Adds the names of a binder to those before it, and for each of them its type.
 #[cycle(resolve)]
 fn group(
     alloc: Global,
     known: &Symbols,
     form: Form,
-    names: &[Option<Word>],
-    ty: &Surf,
-    binders: &[Binder],
-    body: &Surf,
+    binder: &Binder,
     scope: &Scope,
-) -> Result<Low, ResolveStop>
-    ensures { Gives low_of result (spec.group (former form) names.now (spec.resolve (known_of known.now) (surf_of ty.now)) (spec.telescope (known_of known.now) (former form) (surf.binders (map binder_of binders.now)) (spec.resolve (known_of known.now) (surf_of body.now))) (names_of scope.now)) }
+    under: &mut Binders,
+    types: &mut Vec<Low>,
+) -> Result<(), ResolveStop>
+    ensures { IsBound (former form) (spec.group (former form) binder.now.names (spec.resolve (known_of known.now) (surf_of binder.now.ty))) (names_of scope.now) (map low_of types.old.items) under.old (map low_of types.new.items) under.new result }
 {
-    match names.split_first() {
-        None => telescope(alloc, known, form, binders, body, scope),
-        Some((x, rest)) => {
-            let domain = resolve(alloc, known, ty, scope)?;
-            let under = Scope::Under(name_of(x), &*scope);
-            let codomain = group(alloc, known, form, rest, ty, binders, body, &under)?;
-            Low::binding(alloc, form, domain, codomain)
-        }
+    for x in binder.names.as_slice() {
+        let ty = resolve(alloc, known, &binder.ty, &Scope::Behind(&*under, &*scope))?;
+        types.push(ty)?;
+        under.push(x)?;
     }
+    Ok(())
 }
 
-fn name_of(x: &Option<Word>) -> Option<&Name>
-    ensures { option_copied result ≡ name_of x.now }
+/// The products or the functions of the types, the last of which is bound nearest to what stands under them.
+fn bind(alloc: Global, form: Form, types: Vec<Low>, inner: Low) -> Result<Low, ResolveStop>
+    ensures { Gives low_of result (closed (former form) (map low_of types.items) (Ok (low_of inner))) }
 {
-    match x {
-        Some(word) => Some(&word.text),
-        None => None,
+    let mut types = types;
+    let mut made = inner;
+    while let Some(ty) = types.pop() {
+        made = Low::binding(alloc, form, ty, made)?;
     }
+    Ok(made)
 }
 
 /// The variable that has the name, or what else it stands for.

@@ -1,16 +1,14 @@
 -- Families and functions as they resolve, by computation.
 use native.Mathlib.Decide.{ℕ_discrete}
-use Rattle.std.proofs.Common.{◌≡◌, ℕ, List, [], ◌∷◌, Result, Ok, Err, refl}
+use Rattle.std.proofs.Common.{◌≡◌, ℕ, List, [], ◌∷◌, Ok, Err, refl}
 use Rattle.std.specs.Prelude.{codes}
 use Rattle.theory.specs.Terms as tree
-use Rattle.core_sig.specs.Raw.{RawFamily}
 use Rattle.core_terms.specs.Patterns as pattern
 use Rattle.core_terms.specs.Clauses as clause
-use Rattle.surface_syntax.specs.Trees.{Surf, Arrow, App, Sort, Named, nil, cons, Typed, Decl, Data, Fun, Pat, Name, Wild, Dot, Void, Con, Pats, no_pat, arg, Right, Side, With, Absurd, Clause, Is, Clauses, no_clause, also}
-use Rattle.resolve.specs.declared.stop.ResolveStop.{ResolveStop}
+use Rattle.surface_syntax.specs.Trees.{Surf, Arrow, App, Sort, Named, nil, cons, Typed, Decl, Data, Fun, Name, Wild, Dot, Void, Con, no_pat, arg, Side, With, Absurd, Clause, Is, Clauses, no_clause, also}
 use Rattle.resolve.specs.declared.stop.ResolveStop.TheVariants.{UnknownName, Duplicate, WrongArity, NotLinear}
 use Rattle.resolve.specs.Families.{resolve_data}
-use Rattle.resolve.specs.Functions.{Function, resolve_fun}
+use Rattle.resolve.specs.Functions.{resolve_fun}
 use Rattle.resolve.proofs.Examples.Sample.{sample, numbers, word}
 
 unfoldable named : List ℕ → ℕ → Surf

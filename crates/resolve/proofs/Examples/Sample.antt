@@ -1,7 +1,7 @@
 -- A small signature, and the words of written trees.
 use Rattle.std.proofs.Common.{ℕ, false, List, [], ◌∷◌}
 use Rattle.std.specs.Prelude.{codes}
-use Rattle.theory.specs.Terms.{Term, Sort, App, Fam, Con}
+use Rattle.theory.specs.Terms.{App, Fam, Con}
 use Rattle.theory.specs.Families.{Family, Recursive}
 use Rattle.theory.specs.Signatures.{Signature, FamilyOf, Definition}
 use Rattle.surface_syntax.specs.declared.tree.Word.{Word}

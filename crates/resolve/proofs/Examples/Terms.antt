@@ -1,13 +1,12 @@
 -- Terms as they resolve, by computation.
 use native.Mathlib.Decide.{ℕ_discrete}
-use Rattle.std.proofs.Common.{◌≡◌, ℕ, List, [], ◌∷◌, Option, Some, None, Result, Ok, Err, refl}
+use Rattle.std.proofs.Common.{◌≡◌, ℕ, List, [], ◌∷◌, Option, Some, Ok, Err, refl}
 use Rattle.std.specs.Prelude.{codes}
 use Rattle.theory.specs.Terms as tree
 use Rattle.surface_syntax.specs.Trees.{Surf, Binders, Lam, Pi, Arrow, App, Let, Sort, Named, nil, cons, Group, bind, no_binder}
 use Rattle.surface_syntax.specs.declared.tree.Word.{Word}
-use Rattle.resolve.specs.declared.stop.ResolveStop.{ResolveStop}
 use Rattle.resolve.specs.declared.stop.ResolveStop.TheVariants.{UnknownName}
-use Rattle.resolve.specs.Resolving.{Answer, resolve_term}
+use Rattle.resolve.specs.Resolving.{resolve_term}
 use Rattle.resolve.proofs.Examples.Sample.{sample, numbers, word}
 
 named : List ℕ → ℕ → Surf

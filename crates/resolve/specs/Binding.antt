@@ -1,0 +1,20 @@
+-- What binds a list of types, and how a part of a telescope goes on it.
+use Rattle.std.specs.Prelude.{◌≡◌, ◌≢◌, List, [], ◌∷◌, ◌++◌, Result, Ok, Err}
+use Rattle.theory.specs.Terms as tree
+use Rattle.resolve.specs.declared.stop.ResolveStop.{ResolveStop}
+use Rattle.resolve.specs.declared.stop.ResolveStop.TheVariants.{Memory}
+use Rattle.resolve.specs.Names.{Scope}
+use Rattle.resolve.specs.Resolving.{Answer, binding}
+
+-- the types, the first of which is bound outermost, around an answer
+abbrev pub closed : (tree.Term → tree.Term → tree.Term) → List tree.Term → Answer → Answer
+closed make [] inner = inner
+closed make (a ∷ types) inner = binding make (Ok a) (closed make types inner)
+
+-- A part of a telescope, which wraps what stands under it, goes on from the types and the names before it to those
+-- behind it: whatever stands under it, it answers the same as what stands under those behind it.
+abbrev pub IsBound : (tree.Term → tree.Term → tree.Term) → ((Scope → Answer) → Scope → Answer) → Scope → List tree.Term → Scope → List tree.Term → Scope → Result (Unit {0}) ResolveStop → Type 0
+IsBound make wraps outer types names more further (Ok _) =
+    (inner : Scope → Answer) → closed make types (wraps inner (names ++ outer)) ≡ closed make more (inner (further ++ outer))
+IsBound make wraps outer types names more further (Err e) =
+    e ≢ Memory → (inner : Scope → Answer) → closed make types (wraps inner (names ++ outer)) ≡ Err e
