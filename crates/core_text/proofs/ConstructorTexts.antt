@@ -15,12 +15,8 @@ use Rattle.core_sig.specs.declared.family.Family.{Family}
 use Rattle.core_sig.proofs.Arguments.{argument_types-of}
 use Rattle.core_sig.proofs.ConstructorTypes.{ren-applied}
 use Rattle.core_text.specs.EntryText.{constructor_type_shown, constructors_text}
+use Rattle.core_text.specs.Records.{type_of_constructor as shown}
 use Rattle.core_text.specs.TermText.{term_text}
-
-abbrev pub shown : ℕ → ℕ → Constructor → Term
-shown n p con =
-    products (map (λ a. tree_of a.ty) con.args)
-    (applied (applied (Fam n) (map (weaken_by (length con.args)) (variables p))) (tele_of con.targets))
 
 pub shown-is : (n : ℕ) (f : Family) (con : Constructor) → HaveKinds n (family_of f) 0 con.args → constructor_type_shown n (family_of f) (constructor_of (length f.params) con) ≡ shown n (length f.params) con
 shown-is n f con kinds =

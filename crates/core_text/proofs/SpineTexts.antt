@@ -10,7 +10,7 @@ use Rattle.core_terms.specs.Meanings.{tree_of, tele_of}
 use Rattle.core_text.specs.SymbolNames.{name_at}
 use Rattle.core_text.specs.TermText.{spelled, term_text, spaced}
 
-spelled-applied : (S : Signature) (head : Term) (ts : List Term) → spelled S true (applied head ts) ≡ spelled S true head ++ spaced S ts
+pub spelled-applied : (S : Signature) (head : Term) (ts : List Term) → spelled S true (applied head ts) ≡ spelled S true head ++ spaced S ts
 spelled-applied S head [] = sym (append-nil (spelled S true head))
 spelled-applied S head (t ∷ ts) = spelled-applied S (App head t) ts ∙ simp append_assoc
 

@@ -1,9 +1,16 @@
+pub mod DeclaredNames
+pub mod EntryReading
 pub mod EntryText
 pub mod Heads
+pub mod LineReading
 pub mod Lines
 pub mod NameRuns
 pub mod ProductParts
+pub mod RawEntries
+pub mod ReadBack
 pub mod Reading
+pub mod ReadLaws
+pub mod Records
 pub mod Scopes
 pub mod SymbolLookup
 pub mod SymbolNames

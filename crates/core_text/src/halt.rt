@@ -1,5 +1,6 @@
 ghost use Rattle.core_text.specs.declared.halt.Halt.TheVariants.{Memory};
 
+use core_terms::Stop;
 use std::alloc::{AllocError, AllocFailed};
 
 /// Where reading stops, by the number of bytes that are left from there on.
@@ -29,6 +30,16 @@ impl<T: Drop> From<AllocFailed<T>> for Halt {
     ghost from_gives = { λ _ e. e ≡ Memory };
 
     fn from(_failed: AllocFailed<T>) -> Halt {
+        Halt::Memory
+    }
+}
+
+impl From<Stop> for Halt {
+    ghost use Rattle.std.specs.Prelude.{◌≡◌};
+
+    ghost from_gives = { λ _ e. e ≡ Memory };
+
+    fn from(_stop: Stop) -> Halt {
         Halt::Memory
     }
 }

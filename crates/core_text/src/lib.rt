@@ -2,13 +2,20 @@
 #![tactic(auto)]
 
 mod bytes;
+mod data_reader;
+mod declared_names;
 mod entry_printer;
+mod entry_reader;
 mod halt;
 mod head;
+mod instances;
 mod laws;
+mod line;
+mod line_reader;
 mod lookup;
 mod measured;
 mod names;
+mod records;
 mod runs;
 mod scanning;
 mod scope;
@@ -20,9 +27,11 @@ mod term_printer;
 mod term_reader;
 #[cfg(test)]
 mod tests;
+mod whole_terms;
 
 pub use entry_printer::print_entry;
+pub use entry_reader::read_entry;
 pub use head::read_head;
-pub use laws::lines_are_apart;
+pub use laws::{lines_are_apart, terms_are_read_back, what_is_read};
 pub use stop::CoreTextStop;
 pub use term_printer::print_term;

@@ -34,7 +34,7 @@ pub(crate) fn before_end<'t>(word: &[u8], bytes: &'t [u8]) -> Option<&'t [u8]>
 }
 
 /// The entry or constructor of that name.
-fn found_symbol(sig: &Signature, name: &[u8]) -> Option<Term>
+pub(crate) fn found_symbol(sig: &Signature, name: &[u8]) -> Option<Term>
     ensures leaf { IfSome result (λ t. tree.height (tree_of t) ≡ 1) }
     ensures value { option_map tree_of result ≡ spec.found_symbol sig.now (find sig.now name.now) }
 {

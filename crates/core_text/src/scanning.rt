@@ -92,7 +92,7 @@ fn is_left(levels: &[bool], level: usize) -> bool
 }
 
 /// Whether one of the levels from the given one on is left, among as many as `count` says.
-fn some_left(levels: &[bool], from: usize, count: u8) -> bool
+pub(crate) fn some_left(levels: &[bool], from: usize, count: u8) -> bool
     requires { from + count < 1000 }
     ensures { result ≡ spec.some_left levels.now from count }
 {

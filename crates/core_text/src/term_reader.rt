@@ -100,7 +100,7 @@ pub(crate) fn read_term<'t>(
 
 /// A term behind a word.
 #[cycle(read_term)]
-fn read_after<'t>(
+pub(crate) fn read_after<'t>(
     scope: &Scope,
     word: &[u8],
     under: u32,

@@ -1,4 +1,6 @@
 // Heads of core files, with the offsets at which others stop.
+mod reading;
+
 use crate::{CoreTextStop, read_head};
 use std::test::Fail;
 

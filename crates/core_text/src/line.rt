@@ -1,0 +1,11 @@
+use core_sig::RawFamily;
+use core_terms::{Name, Term};
+
+/// What a line says, before a record is made of a family.
+#[derive(Drop)]
+pub(crate) enum Line {
+    Family(RawFamily),
+    Elim(u32, u8),
+    AxiomK(u8, u8),
+    Def { name: Name, ty: Term, body: Term },
+}
