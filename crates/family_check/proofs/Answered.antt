@@ -1,7 +1,9 @@
 -- What the answer of a call says, from what holds of its outcome.
-use Rattle.std.proofs.Common.{◌≡◌, ◌≢◌, ℕ, Bool, true, false, not, ◌||◌, List, [], ◌∷◌, length, Result, Ok, Err, IfOk, IfErr, OnErr, refl, sym, ap, ap₂, subst as transport, arith}
+use Rattle.std.proofs.Common.{◌≡◌, ◌≢◌, ℕ, Bool, true, false, not, ◌||◌, List, [], ◌∷◌, length, Result, Ok, Err, IfOk, IfErr, IsErrAnd, OnErr, refl, sym, ap, ap₂, ◌∙◌, subst as transport, arith}
 use Rattle.std.specs.Option.{is_some}
+use Rattle.core_terms.specs.declared.stop.Stop as stop
 use Rattle.core_terms.specs.declared.stop.Stop.TheVariants.{Memory}
+use Rattle.theory.specs.Terms.{Term}
 use Rattle.theory.specs.Signatures.{Entry, Signature}
 use Rattle.theory.specs.WellFormed.{pushed}
 use Rattle.core_sig.specs.Names.{find}
@@ -70,3 +72,16 @@ entered_is S T e n at is = ap₂ entered_at is at
 pub split_said : {A B : Type 0} (f : A → B) (P : B → Type 0) (N : pure.FamilyStop → Type 0) (r : Result A FamilyStop) (left : ℕ) (meant : Outcome B) → Yields f r left meant
     → Splits P N meant.0 → IfOk r (λ a. P (f a))
 split_said f P N r left meant e h = said f P r left meant e (split-parts P N meant.0 h).0
+
+-- a refusal that is passed on
+pub passes_on : {A B : Type 0} (f : A → B) (r : Result A FamilyStop) (e : FamilyStop) (l : ℕ) (whole : Outcome B) → IsErrAnd r (λ s. s ≡ e)
+    → (e ≢ Stop Memory → ended (Err (stop_of e)) l ≡ whole) → Yields f r l whole
+passes_on f (Ok a) e l whole is h = absurd is
+passes_on f (Err s) e l whole is h = λ q. ap (λ x. ended (Err (stop_of x)) l) is ∙ h (λ m. q (is ∙ m))
+
+abbrev same_lists : Result (List Term) stop.Stop → Result (List Term) stop.Stop → Type 0
+same_lists r s = r ≡ s
+
+-- the list that was made is the one that is meant
+pub given_list : (xs ys : List Term) → same_lists (Ok xs) (Ok ys) → xs ≡ ys
+given_list xs ys e = cc

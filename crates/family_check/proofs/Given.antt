@@ -27,7 +27,7 @@ any-answer : {A : Type 0} (r : Result A FamilyStop) → IfOk r Any
 any-answer (Ok a) = tt
 any-answer (Err e) = tt
 
-levels-counted : (S : Signature) (role : Role) (count : ℕ) (G : Context) (tele : Telescope) (left : ℕ)
+pub levels-counted : (S : Signature) (role : Role) (count : ℕ) (G : Context) (tele : Telescope) (left : ℕ)
     → Ends (λ levels. length levels ≡ length tele) (levels_of S role count G tele left)
 levels-counted S role count G [] left = refl
 levels-counted S role count G (a ∷ tele) left =

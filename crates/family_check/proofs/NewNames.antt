@@ -12,15 +12,15 @@ use Rattle.theory.proofs.Lists.{All-tail}
 use Rattle.core_sig.specs.Names.{find, named, named_by, named_constructors}
 use Rattle.family_check.specs.Entering.{has_repeat, are_new}
 
-both-false : (a b : Bool) → (a || b) ≡ false → (a ≡ false) × (b ≡ false)
+pub both-false : (a b : Bool) → (a || b) ≡ false → (a ≡ false) × (b ≡ false)
 both-false true b h = absurd (grind arith)
 both-false false b h = (refl, h)
 
-not-true : (b : Bool) → not b ≡ true → b ≡ false
+pub not-true : (b : Bool) → not b ≡ true → b ≡ false
 not-true true h = sym h
 not-true false h = refl
 
-none-passes : {X : Type 0} (p : X → Bool) (xs : List X) → list_any p xs ≡ false → All (λ x. p x ≡ false) xs
+pub none-passes : {X : Type 0} (p : X → Bool) (xs : List X) → list_any p xs ≡ false → All (λ x. p x ≡ false) xs
 none-passes p [] h = All-nil (λ x. p x ≡ false)
 none-passes p (x ∷ xs) h =
     let parts = both-false (p x) (list_any p xs) h in

@@ -1,5 +1,6 @@
 -- Parts of scoped telescopes, as far as a loop along the types of one has come.
-use Rattle.std.proofs.Common.{◌≡◌, ℕ, zero, suc, ◌+◌, ◌<◌, [], ◌∷◌, ◌++◌, length, take, get_or, refl, subst as transport, arith}
+use Rattle.std.proofs.Common.{ap, ◌≡◌, ℕ, zero, suc, ◌+◌, ◌<◌, [], ◌∷◌, ◌++◌, length, take, get_or, refl, subst as transport, arith}
+use Rattle.std.proofs.lemmas.List.{length-append, length-take-le}
 use Rattle.theory.specs.Terms.{Term}
 use Rattle.theory.specs.Telescopes.{Context, Telescope, context_behind}
 use Rattle.theory.specs.Signatures.{Signature}
@@ -33,3 +34,9 @@ type-so_far S ps ts k d h lt = telescope-at S (length ps) k ts d lt h
 pub behind-one_more : (G : Context) (tele : Telescope) (a : Term) → context_behind G (tele ++ a ∷ []) ≡ a ∷ context_behind G tele
 behind-one_more G [] a = refl
 behind-one_more G (t ∷ tele) a = behind-one_more (t ∷ G) tele a
+
+pub length-so_far : (ctx ps ts : Telescope) (k : ℕ) → ctx ≡ ps ++ take k ts → k < length ts → length ps + k ≡ length ctx
+length-so_far ctx ps ts k is lt =
+    let count = ap length is in
+    let part : length (take k ts) ≡ k = length-take-le k ts (omega arith) in
+    omega (arith, length-append ps (take k ts))

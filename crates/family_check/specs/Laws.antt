@@ -1,13 +1,14 @@
 -- What entering keeps and costs.
-use Rattle.std.specs.Prelude.{◌≡◌, ℕ, ◌≤◌, ◌<◌, IsTrue, IfOk, IfErr, List, length, map}
+use Rattle.std.specs.Prelude.{◌≡◌, ℕ, Bool, ◌≤◌, ◌<◌, IsTrue, IfOk, IfErr, List, length, map}
 use Rattle.theory.specs.Terms.{Term, top}
 use Rattle.theory.specs.Telescopes.{products}
 use Rattle.theory.specs.Families.{Family, family_type, constructor_type}
+use Rattle.theory.specs.Prelude.{prelude}
 use Rattle.theory.specs.Signatures.{FamilyOf, Signature, IsEntryAt, names_of, equality}
 use Rattle.theory.specs.WellFormed.{IsWellFormed}
 use Rattle.theory.specs.SignatureScopes.{IsScoped, IsConstructorNumber}
 use Rattle.core_sig.specs.Raw.{RawFamily, raw_names}
-use Rattle.family_check.specs.Scopes.{IsSettled, IsScopedRaw, site_signature, IsScopedStop}
+use Rattle.family_check.specs.Scopes.{HasPrelude, IsSettled, IsScopedRaw, site_signature, IsScopedStop}
 use Rattle.family_check.specs.Entering.{Entered, entered, declare_of, instance_of, axiom_k_of, define_of}
 
 -- A well-formed signature stays well formed, whatever enters.
@@ -31,6 +32,10 @@ abbrev pub DefineKeepsWellFormed : Type 0
 DefineKeepsWellFormed =
     (S : Signature) (name : List ℕ) (type body : Term) (left : ℕ) → IsWellFormed S →
     IfOk (define_of S name type body left).0 (λ e. IsWellFormed e.signature)
+
+-- The prelude is a signature that entries may enter, and begins with itself.
+abbrev pub PreludeIsSettled : Type 0
+PreludeIsSettled = (k : Bool) → IsSettled (prelude k) × HasPrelude (prelude k)
 
 -- what is left behind a call is at most what was left before it
 

@@ -1,8 +1,10 @@
 pub mod Asking
 pub mod Entering
 pub mod Families
+pub mod Kinds
 pub mod Laws
 pub mod Meanings
 pub mod Outcomes
+pub mod Roles
 pub mod Scopes
 pub mod Shapes

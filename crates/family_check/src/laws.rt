@@ -1,5 +1,5 @@
 //! What entering keeps and costs.
-ghost use Rattle.family_check.specs.Laws.{DeclareKeepsWellFormed, InstanceKeepsWellFormed, AxiomKKeepsWellFormed, DefineKeepsWellFormed, DeclareSpends, InstanceSpends, AxiomKSpends, DefineSpends, DeclareKeepsSettled, InstanceKeepsSettled, AxiomKKeepsSettled, DefineKeepsSettled, DeclareEntersGiven};
+ghost use Rattle.family_check.specs.Laws.{DeclareKeepsWellFormed, InstanceKeepsWellFormed, AxiomKKeepsWellFormed, DefineKeepsWellFormed, DeclareSpends, InstanceSpends, AxiomKSpends, DefineSpends, DeclareKeepsSettled, InstanceKeepsSettled, AxiomKKeepsSettled, DefineKeepsSettled, DeclareEntersGiven, PreludeIsSettled};
 
 /// A signature stays well formed where a family enters.
 pub fn declare_keeps_well_formed()
@@ -64,4 +64,9 @@ pub fn define_keeps_settled()
 /// A family enters as it is declared.
 pub fn declare_enters_given()
     ensures { DeclareEntersGiven }
+{}
+
+/// Entries may enter the prelude.
+pub fn prelude_is_settled()
+    ensures { PreludeIsSettled }
 {}

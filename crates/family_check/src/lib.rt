@@ -3,13 +3,23 @@
 
 mod asking;
 mod axioms;
+mod bare;
+mod constructors;
 mod definitions;
 mod eliminators;
 mod entering;
+mod families;
 pub mod laws;
+mod levels;
+mod names;
+mod products;
 mod stop;
+#[cfg(test)]
+mod tests;
 
 pub use axioms::axiom_k;
+pub use bare::push_bare;
 pub use definitions::define;
 pub use eliminators::instance;
+pub use families::declare;
 pub use stop::{FamilyStop, Site};

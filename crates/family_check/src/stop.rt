@@ -1,4 +1,8 @@
+ghost use Rattle.core_terms.specs.declared.stop.Stop.TheVariants.{Memory};
+ghost use Rattle.family_check.specs.declared.stop.FamilyStop.TheVariants as stop;
+
 use core_terms::{Denial, Stop};
+use std::alloc::{AllocError, AllocFailed};
 
 /// The written part that a denial is about. Parameters are counted from 1, constructors have their numbers.
 #[derive(Clone, Copy, Debug, PartialEq, Eq)]
@@ -26,11 +30,30 @@ pub enum FamilyStop {
 
 impl From<Stop> for FamilyStop {
     ghost use Rattle.std.specs.Prelude.{◌≡◌};
-    ghost use Rattle.family_check.specs.declared.stop.FamilyStop.TheVariants as stop;
 
     ghost from_gives = { λ e s. s ≡ stop.Stop e };
 
     fn from(stop: Stop) -> FamilyStop {
         FamilyStop::Stop(stop)
+    }
+}
+
+impl From<AllocError> for FamilyStop {
+    ghost use Rattle.std.specs.Prelude.{◌≡◌};
+
+    ghost from_gives = { λ _ s. s ≡ stop.Stop Memory };
+
+    fn from(_error: AllocError) -> FamilyStop {
+        FamilyStop::Stop(Stop::Memory)
+    }
+}
+
+impl<T: Drop> From<AllocFailed<T>> for FamilyStop {
+    ghost use Rattle.std.specs.Prelude.{◌≡◌};
+
+    ghost from_gives = { λ _ s. s ≡ stop.Stop Memory };
+
+    fn from(_failed: AllocFailed<T>) -> FamilyStop {
+        FamilyStop::Stop(Stop::Memory)
     }
 }

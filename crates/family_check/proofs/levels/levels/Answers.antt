@@ -1,0 +1,66 @@
+use Rattle.std.proofs.Common.{◌≡◌, ◌+◌, ◌<◌, ◌++◌, [], ◌∷◌, length, sym, ap, ◌∙◌, subst as transport, arith}
+use Rattle.std.proofs.lemmas.List.{length-map, map-append}
+use Rattle.theory.specs.SignatureScopes.{IsScoped, IsScopedTelescope}
+use Rattle.core_terms.specs.Meanings.{tree_of, tele_of}
+use Rattle.family_check.specs.Meanings.{stop_of}
+use Rattle.family_check.specs.Roles.{role_of}
+use Rattle.family_check.proofs.Answered.{passes_on}
+use Rattle.family_check.proofs.Instances.{given-is}
+use Rattle.family_check.proofs.LevelLoops.{map-item, context-more, levels-on, levels-stop}
+use Rattle.family_check.proofs.ScopedTelescopes.{context-so_far, type-so_far, length-so_far}
+use Rattle.family_check.proofs.levels.levels.Goals as goal
+
+pub level_in-requires-clause-context : goal.level_in-requires-clause-context
+level_in-requires-clause-context c =
+    let ps = tele_of c.args.params.now in
+    let ts = tele_of c.args.types.now in
+    transport (IsScopedTelescope c.args.sig.now 0) (sym c.loop-at.invariant.context)
+    (context-so_far c.args.sig.now ps ts c.loop-at.at c.requires.params
+    (transport (λ n. IsScopedTelescope c.args.sig.now n ts) (sym (length-map c.args.params.now tree_of)) c.requires.types))
+
+pub level_in-requires-clause-ty : goal.level_in-requires-clause-ty
+level_in-requires-clause-ty c =
+    let ps = tele_of c.args.params.now in
+    let ts = tele_of c.args.types.now in
+    let lt : c.loop-at.at < length ts = omega (arith, length-map c.args.types.now tree_of) in
+    let item = map-item tree_of c.args.types.now c.loop-at.at c.index-types-at.result c.index-types-at.is in
+    let count : length ps + c.loop-at.at ≡ length c.loop-at.ctx =
+    length-so_far (tele_of c.loop-at.ctx) ps ts c.loop-at.at c.loop-at.invariant.context lt ∙ length-map c.loop-at.ctx tree_of in
+    transport (λ n. IsScoped c.args.sig.now n (tree_of c.index-types-at.result)) count
+    (transport (IsScoped c.args.sig.now (length ps + c.loop-at.at)) (sym item)
+    (type-so_far c.args.sig.now ps ts c.loop-at.at (tree_of c.index-types-at.result)
+    (transport (λ n. IsScopedTelescope c.args.sig.now n ts) (sym (length-map c.args.params.now tree_of)) c.requires.types) lt))
+
+pub level_in-requires-clause-few : goal.level_in-requires-clause-few
+level_in-requires-clause-few c =
+    let ps = tele_of c.args.params.now in
+    let ts = tele_of c.args.types.now in
+    let lt : c.loop-at.at < length ts = omega (arith, length-map c.args.types.now tree_of) in
+    let count : length ps + c.loop-at.at ≡ length c.loop-at.ctx =
+    length-so_far (tele_of c.loop-at.ctx) ps ts c.loop-at.at c.loop-at.invariant.context lt ∙ length-map c.loop-at.ctx tree_of in
+    omega (arith, length-map c.args.params.now tree_of)
+
+pub returns-in_err-level-clause-answer : goal.returns-in_err-level-clause-answer
+returns-in_err-level-clause-answer c =
+    let ts = tele_of c.args.types.now in
+    let lt : c.loop-at.at < length ts = omega (arith, length-map c.args.types.now tree_of) in
+    let item = map-item tree_of c.args.types.now c.loop-at.at c.index-types-at.result c.index-types-at.is in
+    passes_on _ c.from_residual-in_err-level.result c.in_err-level.field-0.0 _ _ c.from_residual-in_err-level.ensures.1 (λ q.
+    levels-stop c.args.sig.now (role_of c.args.role) ts c.loop-at.at (tree_of c.index-types-at.result) c.loop-at.levels.items (tele_of c.loop-at.ctx) _ c.loop-at.units.left
+    (stop_of c.in_err-level.field-0.0) _ c.loop-at.invariant.answer lt item (c.in_err-level.ensures.answer q))
+
+pub loop-at-preserved : goal.loop-at-preserved
+loop-at-preserved c =
+    let ps = tele_of c.args.params.now in
+    let ts = tele_of c.args.types.now in
+    let lt : c.loop-at.at < length ts = omega (arith, length-map c.args.types.now tree_of) in
+    let item = map-item tree_of c.args.types.now c.loop-at.at c.index-types-at.result c.index-types-at.is in
+    let pushed : tele_of c.push.new.self ≡ tele_of c.loop-at.ctx ++ tree_of c.index-types-at.result ∷ [] =
+    ap tele_of c.in_ok-push.ensures.ok ∙ (map-append tree_of c.loop-at.ctx (_ ∷ [])
+    ∙ ap (λ t. tele_of c.loop-at.ctx ++ t ∷ []) (given-is _ _ c.in_ok-copy_whole.ensures)) in
+    record {
+      context = context-more (tele_of c.loop-at.ctx) (tele_of c.push.new.self) ps ts c.loop-at.at (tree_of c.index-types-at.result) c.loop-at.invariant.context pushed lt item;
+      answer = levels-on c.args.sig.now (role_of c.args.role) ts c.loop-at.at (tree_of c.index-types-at.result) c.loop-at.levels.items _ (tele_of c.loop-at.ctx) (tele_of c.push.new.self) _
+          c.loop-at.units.left c.in_ok-level.level _ c.loop-at.invariant.answer pushed c.in_ok-push-2.ensures.items lt item c.in_ok-level.ensures.answer;
+      sum = omega arith;
+    }

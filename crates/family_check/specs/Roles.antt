@@ -1,0 +1,9 @@
+-- What the types of a telescope are, in the code.
+use Rattle.family_check.specs.Families as families
+use Rattle.family_check.specs.declared.levels.Role.{Role}
+use Rattle.family_check.specs.declared.levels.Role.TheVariants.{Parameter, Index, Argument}
+
+abbrev pub role_of : Role → families.Role
+role_of Parameter = families.Parameter
+role_of (Index limit) = families.Index limit
+role_of (Argument con limit) = families.ArgumentOf con limit
