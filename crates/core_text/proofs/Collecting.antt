@@ -1,5 +1,5 @@
 -- What stands one behind the other, one turn at a time.
-use Rattle.std.proofs.Common.{◌≡◌, ℕ, zero, suc, ◌-◌, ◌<◌, List, [], ◌∷◌, ◌++◌, length, refl, sym, ap, ◌∙◌, arith}
+use Rattle.std.proofs.Common.{◌≡◌, ℕ, zero, suc, ◌-◌, ◌<◌, List, [], ◌∷◌, ◌++◌, length, refl, ap, ◌∙◌, arith}
 use Rattle.std.specs.Prelude.{Ok, Err, Option, Some, None}
 use Rattle.core_text.specs.Reading.{Reading, and_then}
 use Rattle.core_text.specs.LineReading.{behind_item, collected}

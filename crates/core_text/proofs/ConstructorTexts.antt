@@ -3,7 +3,7 @@ use Rattle.std.proofs.Common.{◌≡◌, ℕ, ◌+◌, ◌<◌, List, ◌∷◌,
 use Rattle.std.specs.Prelude.{codes}
 use Rattle.std.proofs.Math.Seq.{drop-cons}
 use Rattle.std.proofs.lemmas.List.{length-map}
-use Rattle.theory.specs.Terms.{Term, Var, Fam}
+use Rattle.theory.specs.Terms.{Var, Fam}
 use Rattle.theory.specs.Telescopes.{products, applied, variables, weaken_by}
 use Rattle.theory.specs.Signatures.{Signature}
 use Rattle.theory.specs.Families.{argument_types, family_head}

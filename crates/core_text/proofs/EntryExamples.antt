@@ -1,5 +1,5 @@
 -- Reading entries, computed: what lines show, and the offsets at which others are wrong.
-use Rattle.std.proofs.Common.{◌≡◌, ℕ, false, List, [], ◌∷◌, refl}
+use Rattle.std.proofs.Common.{◌≡◌, false, [], ◌∷◌, refl}
 use Rattle.std.specs.Prelude.{codes, Some, None, Ok, Err}
 use Rattle.std.specs.Str.{is_utf8, chars}
 use Rattle.unicode_ident.proofs.Computing.{unicode_ident}

@@ -1,9 +1,9 @@
 -- What holds of an entry that is read.
-use Rattle.std.proofs.Common.{◌≡◌, ℕ, zero, suc, ◌+◌, ◌-◌, ◌<◌, ◌≤◌, Bool, true, false, List, [], ◌∷◌, length, drop, refl, sym, ap, ◌∙◌, subst, arith}
+use Rattle.std.proofs.Common.{◌≡◌, ℕ, ◌-◌, ◌<◌, ◌≤◌, Bool, true, false, List, [], ◌∷◌, length, drop, refl, ap, subst, arith}
 use Rattle.std.specs.Prelude.{◌==◌, not, if◌then◌else◌, Result, Ok, Err, Option, Some, None}
 use Rattle.std.proofs.lemmas.List.{length-drop}
 use Rattle.theory.specs.Signatures.{Signature}
-use Rattle.core_text.specs.EntryReading.{behind_notes, shows_entry, shown_by, entry_at, next_entry, with_offset, entry_from}
+use Rattle.core_text.specs.EntryReading.{behind_notes, shows_entry, shown_by, entry_at, next_entry, with_offset}
 use Rattle.core_text.specs.LineReading.{line_at}
 use Rattle.core_text.specs.RawEntries.{RawEntry}
 use Rattle.core_text.specs.ReadLaws.{IsReadEntry, WhatIsRead}

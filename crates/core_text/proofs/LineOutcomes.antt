@@ -1,37 +1,37 @@
 -- What holds of lines that are read.
-use Rattle.std.proofs.Common.{◌≡◌, ◌≢◌, ℕ, zero, suc, ◌+◌, ◌-◌, ◌<◌, ◌≤◌, Bool, true, false, List, [], ◌∷◌, ◌++◌, map, length, drop, take, get_or, refl, sym, ap, ◌∙◌, subst, arith}
-use Rattle.std.specs.Prelude.{◌==◌, ◌&&◌, ◌||◌, not, nat_le, nat_lt, if◌then◌else◌, Result, Ok, Err, Option, Some, None, codes, bytes_eq, slice_get, unwrap_or, All, AllPairs}
+use Rattle.std.proofs.Common.{◌≡◌, ◌≢◌, ℕ, zero, suc, ◌+◌, ◌<◌, ◌≤◌, Bool, true, false, List, [], ◌∷◌, ◌++◌, map, length, drop, take, get_or, refl, sym, ◌∙◌, subst, arith}
+use Rattle.std.specs.Prelude.{◌==◌, ◌&&◌, ◌||◌, not, Ok, Err, Option, Some, None, codes, bytes_eq, All}
 use Rattle.std.specs.List.{list_any}
 use Rattle.std.specs.Option.{is_some}
 use Rattle.std.proofs.lemmas.Bool.{false≢true}
-use Rattle.std.proofs.lemmas.List.{length-drop, length-append, map-append}
+use Rattle.std.proofs.lemmas.List.{map-append}
 use Rattle.std.proofs.lemmas.List.Elements.{All-nil, All-cons, All-push}
 use Rattle.std.proofs.lemmas.List.Quantifiers.{all_pairs_push}
 use Rattle.std.proofs.lemmas.Slice.Eq.{bytes_eq-Decides}
 use Rattle.theory.specs.Terms.{Term, Fam, top}
 use Rattle.theory.specs.Telescopes.{Telescope}
 use Rattle.theory.specs.Families.{Family}
-use Rattle.theory.specs.Signatures.{Signature, Entry, FamilyOf, IsEntryAt}
+use Rattle.theory.specs.Signatures.{Signature, FamilyOf}
 use Rattle.theory.specs.SignatureScopes.{IsFamilyNumber}
 use Rattle.theory.specs.WellFormed.{pushed}
 use Rattle.theory.proofs.Lists.{slice_get-last, slice_get-longer}
 use Rattle.core_sig.specs.Names.{find}
-use Rattle.core_sig.specs.Raw.{RawConstructor, RawFamily, raw_names}
-use Rattle.core_text.specs.DeclaredNames.{is_new, may_declare, is_eliminator_name, is_axiom_k_name, by_shape, new_name, shape_of}
+use Rattle.core_sig.specs.Raw.{RawConstructor}
+use Rattle.core_text.specs.DeclaredNames.{may_declare, is_eliminator_name, is_axiom_k_name, by_shape, new_name, shape_of}
 use Rattle.core_text.specs.declared.declared_names.Shape.{Shape}
 use Rattle.core_text.specs.declared.declared_names.Shape.TheVariants.{Declarable, Underscore, Malformed}
 use Rattle.core_text.specs.LineReading.{nested, whole_term, is_instance, some_level_left, ended, definition_at, family_found, family_name, level_list, levels_left, identities_left, eliminator_at, axiom_k_line, behind_item, collected, parameter_at, no_parameter, next_parameter, parameters_at, constructor_at, separated, next_constructor, constructors_at, family_behind, family_at, line_at}
 use Rattle.core_text.specs.NameRuns.{run_len}
 use Rattle.core_text.specs.RawEntries.{RawEntry, RawFamilyOf, RawEliminator, RawAxiomK, RawDefinition}
-use Rattle.core_text.specs.ReadLaws.{IsSymbol, IsReadTerm, AreReadTypes, AreFresh, IsReadFamily, IsReadEntry}
-use Rattle.core_text.specs.Reading.{Reading, wrong, first, and_then, after, behind, begins, read_level, is_left, some_left}
+use Rattle.core_text.specs.ReadLaws.{IsSymbol, IsReadTerm, AreReadTypes, AreFresh, IsReadEntry}
+use Rattle.core_text.specs.Reading.{Reading, wrong, first, after, behind, begins, read_level, is_left}
 use Rattle.core_text.specs.SymbolLookup.{symbol, found_symbol}
-use Rattle.core_text.specs.TermReading.{read_term, term_after}
+use Rattle.core_text.specs.TermReading.{term_after}
 use Rattle.core_text.specs.declared.instances.Series.{Series}
 use Rattle.core_text.specs.declared.instances.Series.TheVariants.{Elim, AxiomK}
-use Rattle.core_text.proofs.Outcomes.{Ensures, ensures-then, ensures-if, ensures-behind, ensures-after, ensures-weaker}
-use Rattle.core_text.proofs.SymbolOutcomes.{Has, symbol-is, found_symbol-is}
-use Rattle.core_text.proofs.TermOutcomes.{Fits, IsLevel, drop-within, lt-told, read_level-within, term-fits}
+use Rattle.core_text.proofs.Outcomes.{Ensures, ensures-then, ensures-if, ensures-behind, ensures-after}
+use Rattle.core_text.proofs.SymbolOutcomes.{symbol-is, found_symbol-is}
+use Rattle.core_text.proofs.TermOutcomes.{Fits, IsLevel, drop-within, read_level-within, term-fits}
 
 both : (a b : Bool) → (a && b) ≡ true → (a ≡ true) × (b ≡ true)
 both true b e = (refl, e)

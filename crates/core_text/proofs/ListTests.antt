@@ -1,5 +1,5 @@
 -- Tests over the entries from a place on.
-use Rattle.std.proofs.Common.{◌≡◌, ℕ, zero, suc, ◌+◌, Bool, List, [], ◌∷◌, drop, refl, ap, ◌∙◌, arith}
+use Rattle.std.proofs.Common.{◌≡◌, ℕ, zero, suc, ◌+◌, Bool, List, [], ◌∷◌, drop, ap, ◌∙◌, arith}
 use Rattle.std.specs.Prelude.{◌||◌, Option, Some, slice_get}
 use Rattle.std.specs.List.{list_any}
 

@@ -1,13 +1,10 @@
 -- Words and numbers that are written are read back, whatever follows that goes on with neither.
-use Rattle.std.proofs.Common.{◌≡◌, ℕ, zero, suc, ◌+◌, ◌-◌, ◌*◌, ◌/◌, ◌%◌, ◌^◌, ◌<◌, ◌≤◌, Bool, true, false, List, [], ◌∷◌, ◌++◌, length, drop, refl, sym, ap, ap₂, ◌∙◌, append_assoc, arith}
-use Rattle.std.specs.Prelude.{◌==◌, ◌&&◌, ◌||◌, nat_le, nat_lt, if◌then◌else◌, Result, Ok, Err, codes, decimal, unwrap_or, slice_get}
-use Rattle.std.specs.List.{list_all}
-use Rattle.std.proofs.lemmas.Bool.{false≢true}
+use Rattle.std.proofs.Common.{◌≡◌, ℕ, zero, suc, ◌+◌, ◌-◌, ◌*◌, ◌/◌, ◌%◌, ◌^◌, ◌<◌, ◌≤◌, Bool, true, false, List, [], ◌∷◌, ◌++◌, length, drop, refl, ap, ap₂, ◌∙◌, append_assoc, arith}
+use Rattle.std.specs.Prelude.{◌==◌, ◌&&◌, ◌||◌, nat_le, nat_lt, if◌then◌else◌, Ok, Err, decimal}
 use Rattle.std.proofs.lemmas.Bool.Decides.{nat_tests}
 use Rattle.std.proofs.lemmas.Fmt.{decimal_digit, decimal_step}
 use Rattle.core_text.specs.Heads.{shared}
-use Rattle.core_text.specs.Reading.{Reading, first, behind, begins, wrong, is_digit, with_digit, index_from, read_index, is_left, begins_level, some_left, one_digit, level_from, read_level}
-use Rattle.core_text.specs.declared.halt.Halt.{Halt}
+use Rattle.core_text.specs.Reading.{first, behind, begins, wrong, is_digit, with_digit, index_from, read_index, is_left, begins_level, some_left, one_digit, level_from, read_level}
 use Rattle.core_text.specs.declared.halt.Halt.TheVariants.{Wrong}
 
 -- ---- words

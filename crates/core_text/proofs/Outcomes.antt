@@ -1,10 +1,9 @@
 -- What holds of what is read, if anything is.
-use Rattle.std.proofs.Common.{◌≡◌, ℕ, ◌-◌, ◌≤◌, Bool, true, false, List, length, drop, refl, sym, subst, arith}
-use Rattle.std.specs.Prelude.{◌==◌, if◌then◌else◌, Result, Ok, Err}
+use Rattle.std.proofs.Common.{◌≡◌, ℕ, ◌-◌, ◌≤◌, Bool, true, false, List, length, drop, refl, arith}
+use Rattle.std.specs.Prelude.{◌==◌, if◌then◌else◌, Ok, Err}
 use Rattle.std.proofs.lemmas.List.{length-drop}
 use Rattle.core_text.specs.Heads.{shared}
 use Rattle.core_text.specs.Reading.{Reading, and_then, after, behind}
-use Rattle.core_text.specs.declared.halt.Halt.{Halt}
 use Rattle.core_text.specs.declared.halt.Halt.TheVariants.{Wrong}
 
 abbrev pub Ensures : {A : Type 0} → (A → List ℕ → Type 0) → Reading A → Type 0

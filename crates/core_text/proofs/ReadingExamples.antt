@@ -2,7 +2,7 @@
 use Rattle.std.proofs.Common.{◌≡◌, ℕ, true, false, Bool, List, [], ◌∷◌, refl}
 use Rattle.std.specs.Prelude.{codes, Option, None, Ok, Err}
 use Rattle.theory.specs.Terms.{Term, Var, Pi, Lam, App, Let}
-use Rattle.core_text.specs.Reading.{read_index, read_level}
+use Rattle.core_text.specs.Reading.{read_level}
 use Rattle.core_text.specs.TermReading.{read_term}
 use Rattle.core_text.specs.declared.halt.Halt.TheVariants.{Nested, Wrong}
 

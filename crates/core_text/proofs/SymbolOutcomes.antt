@@ -1,11 +1,10 @@
 -- What a name stands for is a symbol over the signature.
-use Rattle.std.proofs.Common.{◌≡◌, ℕ, zero, suc, ◌+◌, ◌<◌, ◌≤◌, Bool, true, false, List, [], ◌∷◌, ◌++◌, map, length, refl, sym, ap, ◌∙◌, subst, arith}
+use Rattle.std.proofs.Common.{◌≡◌, ℕ, suc, ◌+◌, ◌≤◌, Bool, true, false, List, [], ◌∷◌, map, length, refl, subst, arith}
 use Rattle.std.specs.Prelude.{cond, ◌&&◌, nat_lt, if◌then◌else◌, Option, Some, None, option_and_then, slice_get, All, bytes_eq, codes}
 use Rattle.std.specs.Map.{lookup}
-use Rattle.std.proofs.lemmas.Bool.{false≢true}
 use Rattle.std.proofs.lemmas.List.{length-map}
 use Rattle.std.proofs.lemmas.List.Elements.{All-nil, All-cons, All-append, All-head, All-tail}
-use Rattle.theory.specs.Terms.{Term, Fam, Const, Con, Elim, AxiomK, top}
+use Rattle.theory.specs.Terms.{Term, Fam, Elim, AxiomK, top}
 use Rattle.theory.specs.Families.{Family}
 use Rattle.theory.specs.Signatures.{Entry, FamilyOf, EliminatorAt, AxiomKAt, Definition, Signature, IsEntryAt}
 use Rattle.theory.specs.SignatureScopes.{IsFamilyNumber, IsConstructorNumber}

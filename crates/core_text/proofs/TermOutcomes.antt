@@ -1,15 +1,15 @@
 -- What holds of terms that are read: they are scoped and low, and no byte is read twice.
-use Rattle.std.proofs.Common.{◌≡◌, ℕ, zero, suc, ◌+◌, ◌-◌, ◌<◌, ◌≤◌, Bool, true, false, List, [], ◌∷◌, length, drop, take, refl, sym, ap, ◌∙◌, subst, arith}
-use Rattle.std.specs.Prelude.{◌==◌, ◌&&◌, nat_le, nat_lt, if◌then◌else◌, Result, Ok, Err, Option, Some, None, codes, bytes_eq}
+use Rattle.std.proofs.Common.{◌≡◌, ℕ, zero, suc, ◌+◌, ◌-◌, ◌<◌, ◌≤◌, Bool, true, false, List, [], ◌∷◌, length, drop, take, refl, arith}
+use Rattle.std.specs.Prelude.{◌==◌, ◌&&◌, nat_le, nat_lt, if◌then◌else◌, Ok, Err, Option, Some, None, codes, bytes_eq}
 use Rattle.std.proofs.lemmas.Bool.{false≢true}
 use Rattle.std.proofs.lemmas.Bool.Decides.{nat_tests}
 use Rattle.std.proofs.lemmas.List.{length-drop}
-use Rattle.theory.specs.Terms.{Term, Var, Sort, Pi, Lam, App, Let, height, free_of}
+use Rattle.theory.specs.Terms.{Term, Var, Sort, Pi, Lam, App, Let, height}
 use Rattle.theory.specs.Signatures.{Signature}
-use Rattle.theory.specs.SignatureScopes.{IsScoped, HasEntries}
+use Rattle.theory.specs.SignatureScopes.{IsScoped}
 use Rattle.core_text.specs.NameRuns.{run_len}
-use Rattle.core_text.specs.Reading.{Reading, wrong, first, and_then, after, behind, begins, is_digit, with_digit, index_from, read_index, read_level, level_from, one_digit, begins_level, is_left}
-use Rattle.core_text.specs.TermReading.{most, sort_levels, limited, closed_by, as_term, known, variable_at, sort_at, named, is_application, read_term, term_after, function_at, let_at, product_from, argument_of, behind_argument, arguments_from, spine_from, behind_first, enclosed_at, term_at}
+use Rattle.core_text.specs.Reading.{Reading, wrong, first, and_then, begins, is_digit, with_digit, index_from, read_index, read_level, level_from, one_digit, begins_level, is_left}
+use Rattle.core_text.specs.TermReading.{most, sort_levels, limited, closed_by, as_term, known, variable_at, sort_at, named, is_application, read_term, term_after, function_at, let_at, product_from, argument_of, behind_argument, arguments_from, spine_from, behind_first, enclosed_at}
 use Rattle.core_text.specs.ReadLaws.{IsSymbol}
 use Rattle.core_text.specs.declared.halt.Halt.TheVariants.{Nested}
 use Rattle.core_text.proofs.Outcomes.{Ensures, ensures-then, ensures-if, ensures-after}

@@ -1,7 +1,7 @@
 -- Reading a term step by step.
-use Rattle.std.proofs.Common.{◌≡◌, ℕ, zero, suc, ◌-◌, ◌<◌, Bool, true, false, List, drop, length, refl, sym, ap, ◌∙◌, arith}
+use Rattle.std.proofs.Common.{◌≡◌, ℕ, zero, suc, ◌-◌, ◌<◌, true, false, List, drop, length, refl, sym, ap, ◌∙◌, arith}
 use Rattle.std.specs.Prelude.{◌==◌, if◌then◌else◌, Ok, Err, Option, codes}
-use Rattle.theory.specs.Terms.{Term, Var}
+use Rattle.theory.specs.Terms.{Term}
 use Rattle.core_text.specs.NameRuns.{run_len}
 use Rattle.core_text.specs.Reading.{Reading, wrong, first, and_then, after, behind}
 use Rattle.core_text.specs.declared.halt.Halt.TheVariants.{Nested, Wrong}

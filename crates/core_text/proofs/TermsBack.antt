@@ -1,12 +1,11 @@
 -- A term that is written is read back.
-use Rattle.std.proofs.Common.{◌≡◌, ℕ, zero, suc, ◌+◌, ◌-◌, ◌<◌, ◌≤◌, ◌^◌, Bool, true, false, List, [], ◌∷◌, ◌++◌, length, drop, take, refl, sym, ap, ap₂, ◌∙◌, subst, append_assoc, arith}
-use Rattle.std.specs.Prelude.{◌==◌, ◌&&◌, nat_le, nat_lt, if◌then◌else◌, Result, Ok, Err, Option, Some, None, codes, decimal, bytes_eq, All}
+use Rattle.std.proofs.Common.{◌≡◌, ℕ, zero, suc, ◌+◌, ◌<◌, ◌≤◌, ◌^◌, Bool, true, false, List, [], ◌∷◌, ◌++◌, length, drop, take, refl, sym, ap, ap₂, ◌∙◌, subst, append_assoc, arith}
+use Rattle.std.specs.Prelude.{◌==◌, ◌&&◌, nat_le, if◌then◌else◌, Ok, Err, Option, codes, decimal, bytes_eq, All}
 use Rattle.std.specs.Str.{is_utf8, chars}
 use Rattle.std.proofs.lemmas.Bool.Decides.{nat_tests}
-use Rattle.std.proofs.lemmas.List.{length-append}
-use Rattle.std.proofs.lemmas.List.Elements.{All-nil, All-cons, All-head, All-tail, All-push}
+use Rattle.std.proofs.lemmas.List.Elements.{All-head, All-tail, All-push}
 use Rattle.unicode_ident.proofs.Computing.{unicode_ident}
-use Rattle.theory.specs.Terms.{Term, Var, Sort, Pi, Lam, App, Let, Const, Fam, Con, Elim, AxiomK, free_of, height, top}
+use Rattle.theory.specs.Terms.{Term, Var, Sort, Pi, Lam, App, Let, Const, Fam, Con, Elim, AxiomK, free_of, height}
 use Rattle.theory.specs.Telescopes.{applied}
 use Rattle.theory.specs.Spines.{head_of, spine_of}
 use Rattle.theory.specs.Signatures.{Signature}
@@ -14,9 +13,9 @@ use Rattle.theory.proofs.Bounds.{applied-parts}
 use Rattle.theory.proofs.Spines.{applied-spine}
 use Rattle.core_text.specs.NameRuns.{width, are_name_chars, name_char_len, run_len}
 use Rattle.core_text.specs.ReadBack.{Stops, IsSpelled, AreSpelled, TermsAreReadBack}
-use Rattle.core_text.specs.Reading.{Reading, wrong, first, and_then, after, behind, begins, is_digit, is_left, read_index, read_level}
+use Rattle.core_text.specs.Reading.{Reading, wrong, first, and_then, after, begins, is_left, read_index, read_level}
 use Rattle.core_text.specs.SymbolNames.{name_at, constructor_name_at, eliminator_name, axiom_k_name}
-use Rattle.core_text.specs.TermReading.{most, sort_levels, limited, closed_by, as_term, known, sort_at, named, is_application, read_term, term_after, function_at, let_at, product_from, argument_of, behind_argument, arguments_from, spine_from, behind_first, enclosed_at}
+use Rattle.core_text.specs.TermReading.{most, sort_levels, limited, closed_by, as_term, known, sort_at, named, is_application, read_term, term_after, function_at, let_at, product_from, behind_argument, arguments_from, spine_from, behind_first, enclosed_at}
 use Rattle.core_text.specs.TermText.{spelled, term_text, spaced}
 use Rattle.core_text.specs.declared.halt.Halt.TheVariants.{Nested}
 use Rattle.core_text.proofs.NumbersBack.{drop-word, begins-word, behind-word, index-back, level-back}

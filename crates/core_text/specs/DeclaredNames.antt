@@ -1,5 +1,5 @@
 -- The names that a core file may declare.
-use Rattle.std.specs.Prelude.{ℕ, ◌==◌, nat_lt, Bool, not, ◌&&◌, ◌||◌, if◌then◌else◌, List, length, take, drop, codes, bytes_eq, Option, Some, None, option_and_then, Ok}
+use Rattle.std.specs.Prelude.{ℕ, ◌==◌, nat_lt, Bool, not, ◌&&◌, ◌||◌, if◌then◌else◌, List, length, take, drop, codes, bytes_eq, Some, None, option_and_then, Ok}
 use Rattle.std.specs.List.{list_any}
 use Rattle.std.specs.Option.{is_some}
 use Rattle.std.specs.Str.{chars, is_utf8}

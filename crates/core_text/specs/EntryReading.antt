@@ -4,7 +4,7 @@ use Rattle.theory.specs.Signatures.{Signature}
 use Rattle.core_sig.specs.Meanings.{entry_of}
 use Rattle.core_sig.specs.declared.entry.Entry.{Entry}
 use Rattle.core_text.specs.LineReading.{line_at}
-use Rattle.core_text.specs.RawEntries.{RawEntry, RawFamilyOf, RawEliminator, RawAxiomK, RawDefinition, entry_shown, shows_record}
+use Rattle.core_text.specs.RawEntries.{RawEntry, RawFamilyOf, entry_shown, shows_record}
 use Rattle.core_text.specs.Reading.{Reading, wrong, after}
 use Rattle.core_text.specs.declared.halt.Halt.{Halt}
 use Rattle.core_text.specs.declared.halt.Halt.TheVariants.{Memory as Exhausted, Nested as TooDeep, Wrong}

@@ -1,11 +1,11 @@
 -- Reading a line: its first word tells which entry it is. `own` is the name of the family that is being declared, and
 -- nothing at the beginning of a line.
-use Rattle.std.specs.Prelude.{ℕ, zero, suc, ◌+◌, ◌==◌, Bool, false, not, ◌&&◌, if◌then◌else◌, List, [], ◌∷◌, ◌++◌, length, take, drop, codes, Option, Some, None, Result, Ok, Err}
+use Rattle.std.specs.Prelude.{ℕ, zero, suc, ◌+◌, ◌==◌, Bool, false, not, ◌&&◌, if◌then◌else◌, List, [], ◌∷◌, ◌++◌, length, take, drop, codes, Option, Some, None, Result, Ok}
 use Rattle.std.specs.List.{list_any}
 use Rattle.theory.specs.Terms.{Term, Fam, top}
 use Rattle.theory.specs.Signatures.{Entry, EliminatorAt, AxiomKAt, Signature}
 use Rattle.core_sig.specs.Names.{find}
-use Rattle.core_sig.specs.Raw.{RawConstructor, RawFamily}
+use Rattle.core_sig.specs.Raw.{RawConstructor}
 use Rattle.core_text.specs.DeclaredNames.{new_name}
 use Rattle.core_text.specs.NameRuns.{run_len}
 use Rattle.core_text.specs.RawEntries.{RawEntry, RawFamilyOf, RawEliminator, RawAxiomK, RawDefinition}

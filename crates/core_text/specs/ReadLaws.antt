@@ -1,5 +1,5 @@
 -- What holds of each entry that is read: its names are new, its terms are scoped and low, and reading goes forward.
-use Rattle.std.specs.Prelude.{◌≡◌, ◌≢◌, ℕ, ◌+◌, ◌<◌, ◌≤◌, true, List, [], ◌∷◌, length, map, None, Some, Ok, All, AllPairs}
+use Rattle.std.specs.Prelude.{◌≡◌, ◌≢◌, ℕ, ◌+◌, ◌<◌, ◌≤◌, true, List, [], ◌∷◌, length, None, Some, Ok, All, AllPairs}
 use Rattle.theory.specs.Terms.{Term, height, free_of, top}
 use Rattle.theory.specs.Telescopes.{Telescope}
 use Rattle.theory.specs.Families.{Family}

@@ -1,5 +1,5 @@
 -- Records that are read from a line: what of them the line shows, and what it leaves open.
-use Rattle.std.specs.Prelude.{◌≡◌, ℕ, List, map, length, All}
+use Rattle.std.specs.Prelude.{◌≡◌, ℕ, map, length, All}
 use Rattle.theory.specs.Terms.{Term, Fam}
 use Rattle.theory.specs.Telescopes.{products, applied, variables, weaken_by}
 use Rattle.theory.specs.Families as pure

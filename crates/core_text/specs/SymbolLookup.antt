@@ -1,5 +1,5 @@
 -- What a name in a term stands for: an entry or a constructor, else an eliminator or axiom K by its spelling.
-use Rattle.std.specs.Prelude.{ℕ, ◌-◌, ◌*◌, ◌+◌, ◌==◌, nat_le, nat_lt, Bool, not, ◌&&◌, if◌then◌else◌, List, [], ◌∷◌, take, drop, length, codes, bytes_eq, slice_index, slice_get, Option, Some, None, option_and_then}
+use Rattle.std.specs.Prelude.{ℕ, ◌-◌, ◌==◌, nat_le, nat_lt, not, ◌&&◌, if◌then◌else◌, List, take, drop, length, codes, bytes_eq, slice_index, slice_get, Option, Some, None, option_and_then}
 use Rattle.theory.specs.Terms.{Term, Const, Fam, Con, Elim, AxiomK, top}
 use Rattle.theory.specs.Signatures.{Entry, FamilyOf, Definition, Signature}
 use Rattle.core_sig.specs.Names.{find}

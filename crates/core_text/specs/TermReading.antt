@@ -1,9 +1,8 @@
 -- Reading a term: one byte, or the word behind a parenthesis, tells its form.
-use Rattle.std.specs.Prelude.{ℕ, zero, suc, ◌+◌, ◌==◌, nat_le, Bool, true, false, if◌then◌else◌, List, [], ◌∷◌, length, take, drop, codes, bytes_eq, Result, Ok, Err, Option, Some, None}
+use Rattle.std.specs.Prelude.{ℕ, zero, suc, ◌+◌, ◌==◌, nat_le, Bool, true, false, if◌then◌else◌, List, [], ◌∷◌, length, take, drop, codes, bytes_eq, Ok, Err, Option, Some, None}
 use Rattle.theory.specs.Terms.{Term, Var, Sort, Pi, Lam, App, Let, height}
 use Rattle.core_text.specs.NameRuns.{run_len}
 use Rattle.core_text.specs.Reading.{Reading, wrong, and_then, after, begins, behind, first, read_index, read_level}
-use Rattle.core_text.specs.declared.halt.Halt.{Halt}
 use Rattle.core_text.specs.declared.halt.Halt.TheVariants.{Nested}
 
 -- the greatest height of a term, and the number of terms that may be nested

@@ -1,9 +1,8 @@
-use Rattle.std.proofs.Common.{rules, ◌≡◌, ◌<◌, ◌-◌, ℕ, true, false, List, ap, sym, subst, ◌∙◌, arith}
+use Rattle.std.proofs.Common.{rules, ◌≡◌, ◌-◌, true, false, ap, sym, subst, ◌∙◌, arith}
 use Rattle.std.specs.Prelude.{◌==◌}
 use Rattle.std.proofs.lemmas.Bool.Decides.{nat_tests}
 use Rattle.core_terms.specs.Meanings.{tree_of}
-use Rattle.theory.specs.Terms.{Term}
-use Rattle.core_text.specs.Reading.{Reads, Reading, first}
+use Rattle.core_text.specs.Reading.{Reads, first}
 use Rattle.core_text.specs.Scopes.{look_of, measured_of}
 use Rattle.core_text.specs.TermReading.{is_application, read_term, arguments_from, enclosed_at}
 use Rattle.core_text.proofs.TermSteps.{term_open, term_named, arguments_step, arguments_more, arguments_end, arguments_none, behind_arrow, behind_application, behind_head}
