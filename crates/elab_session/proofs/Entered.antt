@@ -1,0 +1,69 @@
+-- What the entry of a core file keeps.
+use Rattle.std.proofs.Common.{◌≡◌, ◌≢◌, ℕ, Option, Some, None, List, [], map, length, slice_get, Result, Ok, Err, IfOk, OnErr, refl, sym, ap, ap₂, ◌∙◌, subst as transport}
+use Rattle.theory.specs.Families.{Family}
+use Rattle.theory.specs.Signatures.{Entry, FamilyOf, EliminatorAt, AxiomKAt, Definition, Signature, IsEntryAt, IsPrefix}
+use Rattle.theory.specs.WellFormed.{IsWellFormed}
+use Rattle.family_check.specs.Entering.{Entered, axiom_k_of, declare_of, define_of, instance_of}
+use Rattle.family_check.specs.Outcomes.{FamilyStop, Outcome}
+use Rattle.family_check.specs.Scopes.{IsSettled}
+use Rattle.family_check.proofs.Extending.{axiom_k-extends, declare-extends, define-extends, instance-extends}
+use Rattle.family_check.proofs.Outcomes.{Ends}
+use Rattle.family_check.proofs.PreludeEntries.{equality-there}
+use Rattle.family_check.proofs.ScopedEntering.{axiom_k-settles, declare-settles, define-settles, instance-settles}
+use Rattle.family_check.proofs.Soundness.{axiom_k-keeps, declare-keeps, define-keeps, instance-keeps}
+use Rattle.elab_session.specs.Entering.{CanEnter, Enters, answered, checked_entry, eliminator_in, enter_of, family_shown}
+use Rattle.elab_session.specs.Laws.{EnterExtends, EnterKeepsReady}
+use Rattle.elab_session.specs.Sessions.{IsReady}
+use Rattle.elab_session.specs.declared.refusal.Refusal.{Refusal}
+use Rattle.elab_session.specs.declared.refusal.Refusal.TheVariants.{Memory}
+use Rattle.elab_session.proofs.Resolved.{prelude-stays, together}
+
+answered-has : (P : Entered → Type 0) (refusal : FamilyStop → Refusal) (r : Result Entered FamilyStop) → IfOk r P → IfOk (answered refusal r) P
+answered-has P refusal (Ok e) h = h
+answered-has P refusal (Err e) h = tt
+
+eliminator-has : (P : Entered → Type 0) (S : Signature) (n m : ℕ) (o : Option Entry) (left : ℕ)
+    → ((f : Family) → o ≡ Some (FamilyOf f) → Ends P (instance_of S n f m left)) → Ends P (eliminator_in S n m o left)
+eliminator-has P S n m (Some (FamilyOf f)) left h = h f refl
+eliminator-has P S n m (Some (EliminatorAt g k)) left h = tt
+eliminator-has P S n m (Some (AxiomKAt i k)) left h = tt
+eliminator-has P S n m (Some (Definition name type body)) left h = tt
+eliminator-has P S n m None left h = tt
+
+entry-extends : (S : Signature) (e : Entry) (left : ℕ) → Ends (λ x. IsPrefix S x.signature) (checked_entry S e left)
+entry-extends S (FamilyOf f) left = declare-extends S (family_shown (length S.entries) f) left
+entry-extends S (EliminatorAt n m) left =
+    eliminator-has (λ x. IsPrefix S x.signature) S n m (slice_get S.entries n) left (λ f is. instance-extends S n f m left)
+entry-extends S (AxiomKAt i m) left = axiom_k-extends S i m left
+entry-extends S (Definition name type body) left = define-extends S name type body left
+
+pub enter-extends : EnterExtends
+enter-extends S fuel e = answered-has (λ x. IsPrefix S x.signature) _ (checked_entry S e fuel).0 (entry-extends S e fuel)
+
+entry-keeps : (S : Signature) (e : Entry) (left : ℕ) → IsReady S → CanEnter S e → Ends (λ x. IsWellFormed x.signature) (checked_entry S e left)
+entry-keeps S (FamilyOf f) left ready can = declare-keeps S (family_shown (length S.entries) f) left ready.well_formed
+entry-keeps S (EliminatorAt n m) left ready can =
+    eliminator-has (λ x. IsWellFormed x.signature) S n m (slice_get S.entries n) left (λ f is. instance-keeps S n f m left ready.well_formed is)
+entry-keeps S (AxiomKAt i m) left ready can = axiom_k-keeps S i m left ready.well_formed can
+entry-keeps S (Definition name type body) left ready can = define-keeps S name type body left ready.well_formed
+
+entry-settles : (S : Signature) (e : Entry) (left : ℕ) → IsReady S → CanEnter S e → Ends (λ x. IsSettled x.signature) (checked_entry S e left)
+entry-settles S (FamilyOf f) left ready can = (declare-settles S (family_shown (length S.entries) f) left ready.settled can.0).0
+entry-settles S (EliminatorAt n m) left ready can =
+    eliminator-has (λ x. IsSettled x.signature) S n m (slice_get S.entries n) left (λ f is. (instance-settles S n f m left ready.settled is).0)
+entry-settles S (AxiomKAt i m) left ready can =
+    (axiom_k-settles S i m left ready.settled (λ low. equality-there S i ready.prelude low)).0
+entry-settles S (Definition name type body) left ready can = (define-settles S name type body left ready.settled can.0 can.1).0
+
+pub enter-ready : EnterKeepsReady
+enter-ready S fuel e ready can =
+    answered-has (λ x. IsReady x.signature) _ (checked_entry S e fuel).0
+    (together (λ x. IsWellFormed x.signature) (λ x. IsSettled x.signature) (λ x. IsPrefix S x.signature) (λ x. IsReady x.signature)
+    (checked_entry S e fuel).0 (entry-keeps S e fuel ready can) (entry-settles S e fuel ready can) (entry-extends S e fuel)
+    (λ x well settled longer. record { well_formed = well; settled = settled; prelude = prelude-stays S x.signature ready.prelude longer }))
+
+-- the signature that a call leaves
+pub entry-stays : (P : Signature → Type 0) (S T : Signature) (r : Result ℕ Refusal) (meant : Result Entered Refusal)
+    → Enters T r meant → OnErr r (T ≡ S) → IfOk meant (λ x. P x.signature) → P S → P T
+entry-stays P S T (Ok n) meant is same h p = transport (λ m. IfOk m (λ x. P x.signature)) (sym is) h
+entry-stays P S T (Err e) meant is same h p = transport P (sym same) p

@@ -1,0 +1,33 @@
+use Rattle.std.proofs.Common.{sym, subst as transport}
+use Rattle.theory.specs.Signatures.{IsPrefix}
+use Rattle.core_sig.specs.Meanings.{entry_of}
+use Rattle.family_check.proofs.Extending.{itself}
+use Rattle.elab_session.specs.Entering.{CanEnter, Enters, enter_of}
+use Rattle.elab_session.specs.Sessions.{IsReady, Session}
+use Rattle.elab_session.proofs.Entered.{enter-extends, enter-ready, entry-stays}
+use Rattle.elab_session.proofs.session.Session.enter.Goals as goal
+
+pub invariant_of-self : goal.invariant_of-self
+invariant_of-self c =
+    entry-stays IsReady _ _ _ _ c.enter.ensures.answer c.enter.ensures.err
+    (enter-ready c.self.inside.sig c.self.inside.fuel (entry_of c.args.entry) c.self.invariant
+    (transport (λ (s : Session). CanEnter s.signature (entry_of c.args.entry)) (sym c.self.view_is) c.requires.entry))
+    c.self.invariant
+
+pub returns-clause-ready : goal.returns-clause-ready
+returns-clause-ready c =
+    entry-stays IsReady _ _ _ _ c.enter.ensures.answer c.enter.ensures.err
+    (enter-ready c.self.inside.sig c.self.inside.fuel (entry_of c.args.entry) c.self.invariant
+    (transport (λ (s : Session). CanEnter s.signature (entry_of c.args.entry)) (sym c.self.view_is) c.requires.entry))
+    c.self.invariant
+
+pub returns-clause-answer : goal.returns-clause-answer
+returns-clause-answer c =
+    transport (λ (s : Session). Enters c.enter.new.sig c.enter.result (enter_of s.signature s.fuel (entry_of c.args.entry))) c.self.view_is
+    c.enter.ensures.answer
+
+pub returns-clause-longer : goal.returns-clause-longer
+returns-clause-longer c =
+    transport (λ (s : Session). IsPrefix s.signature c.enter.new.sig) c.self.view_is
+    (entry-stays (IsPrefix c.self.inside.sig) _ _ _ _ c.enter.ensures.answer c.enter.ensures.err
+    (enter-extends c.self.inside.sig c.self.inside.fuel (entry_of c.args.entry)) (itself c.self.inside.sig))

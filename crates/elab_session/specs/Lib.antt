@@ -1,0 +1,8 @@
+pub mod Declaring
+pub mod Entering
+pub mod Laws
+pub mod Meanings
+pub mod Refusals
+pub mod Sessions
+pub mod Shown
+pub mod Texts

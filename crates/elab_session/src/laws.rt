@@ -1,0 +1,27 @@
+//! What a declaration keeps, and what is accepted.
+ghost use Rattle.elab_session.specs.Laws.{DeclareExtends, DeclareKeepsReady, DeclaresAsWritten, EnterExtends, EnterKeepsReady};
+
+/// Earlier entries stay.
+pub fn declare_extends()
+    ensures { DeclareExtends }
+{}
+
+/// The signature of a session stays well formed, settled, and begins with the prelude.
+pub fn declare_keeps_ready()
+    ensures { DeclareKeepsReady }
+{}
+
+/// What is accepted is what is written, and has its type by the typing rules over the entries before it.
+pub fn declares_as_written()
+    ensures { DeclaresAsWritten }
+{}
+
+/// Earlier entries stay where an entry of a core file enters.
+pub fn enter_extends()
+    ensures { EnterExtends }
+{}
+
+/// The signature of a session stays well formed, settled, and begins with the prelude.
+pub fn enter_keeps_ready()
+    ensures { EnterKeepsReady }
+{}

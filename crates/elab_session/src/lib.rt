@@ -1,0 +1,24 @@
+//! One declaration at a time: it is resolved and checked phase by phase, and its entries are accepted, or it is refused with
+//! the first reason in the written order.
+//!
+//! A `Session` holds the prelude and the entries that were accepted. Each declaration may spend the same number of units. A
+//! refusal leaves the session as it was, and holds its terms as texts. Definitions and families are built so far; every other
+//! declaration is `NotYet`.
+#![tactic(auto)]
+
+mod accepted;
+mod definitions;
+mod entering;
+mod families;
+pub mod laws;
+mod refusal;
+mod refusing;
+mod session;
+mod shown;
+#[cfg(test)]
+mod tests;
+mod texts;
+
+pub use accepted::Accepted;
+pub use refusal::{PartName, Refusal, Text};
+pub use session::Session;

@@ -1,0 +1,129 @@
+ghost use Rattle.std.specs.Prelude.{◌≡◌, ◌≢◌, Ok, IfOk};
+ghost use Rattle.core_terms.specs.Answers.{Gives};
+ghost use Rattle.core_terms.specs.Meanings.{denial_of};
+ghost use Rattle.family_check.specs.Meanings.{site_of, stop_of};
+ghost use Rattle.elab_session.specs.Refusals as spec;
+ghost use Rattle.elab_session.specs.declared.refusal.Refusal.TheVariants.{Memory};
+
+use crate::texts::{context_text, reason_text};
+use crate::{PartName, Refusal};
+use core_sig::Signature;
+use core_terms::{Denial, Name, Stop};
+use family_check::{FamilyStop, Site};
+use std::alloc::{AllocError, Global};
+use surface_syntax::Word;
+
+pub(crate) fn copy_name(alloc: Global, name: &Name) -> Result<Name, AllocError>
+    ensures { IfOk result (λ copied. copied ≡ name.now) }
+{
+    Ok(Name::from_vec(name.as_slice().to_vec(alloc)?))
+}
+
+/// What stops a declaration that may spend `fuel` units.
+fn stopped(fuel: u64, stop: Stop) -> Refusal
+    ensures { result ≡ spec.stopped fuel stop }
+{
+    match stop {
+        Stop::Memory | Stop::PoolFull => Refusal::Memory,
+        Stop::Fuel => Refusal::Fuel(fuel),
+        Stop::Deep => Refusal::Deep,
+    }
+}
+
+/// The name of a constructor among those that are declared.
+fn name_in(alloc: Global, names: &[Name], number: u32) -> Result<Name, Stop>
+    ensures { Gives (λ name. name) result (Ok (spec.name_in names.now number)) }
+{
+    match names.get(number as usize) {
+        Some(name) => Ok(copy_name(alloc, name)?),
+        None => Ok(Name::from_vec(Vec::new(alloc))),
+    }
+}
+
+fn part_of(alloc: Global, names: &[Name], site: Site) -> Result<PartName, Stop>
+    ensures { Gives (λ part. part) result (Ok (spec.part_of names.now (site_of site))) }
+{
+    match site {
+        Site::Ty => Ok(PartName::Ty),
+        Site::Body => Ok(PartName::Body),
+        Site::Param(k) => Ok(PartName::Param(k)),
+        Site::Con(number) => Ok(PartName::Con(name_in(alloc, names, number)?)),
+    }
+}
+
+/// The checker denies a part.
+fn ill_typed(
+    alloc: Global,
+    sig: &Signature,
+    part: PartName,
+    denial: Denial,
+) -> Result<Refusal, Stop>
+    ensures { Gives (λ refusal. refusal) result (Ok (spec.ill_typed sig.now part (denial_of denial))) }
+{
+    let ctx = context_text(alloc, sig, denial.ctx.as_slice())?;
+    let reason = reason_text(alloc, sig, &denial.reason)?;
+    Ok(Refusal::IllTyped {
+        part,
+        place: denial.place,
+        ctx,
+        reason,
+    })
+}
+
+/// The checker denies what is written at the site.
+pub(crate) fn denied_part(
+    alloc: Global,
+    sig: &Signature,
+    names: &[Name],
+    site: Site,
+    denial: Denial,
+) -> Result<Refusal, Stop>
+    ensures { Gives (λ refusal. refusal) result (Ok (spec.ill_typed sig.now (spec.part_of names.now (site_of site)) (denial_of denial))) }
+{
+    let part = part_of(alloc, names, site)?;
+    ill_typed(alloc, sig, part, denial)
+}
+
+/// A refusal of entering, with texts over one signature.
+fn unentered(
+    alloc: Global,
+    sig: &Signature,
+    names: &[Name],
+    x: &Word,
+    fuel: u64,
+    stop: FamilyStop,
+) -> Result<Refusal, Stop>
+    ensures { Gives (λ refusal. refusal) result (Ok (spec.unentered (λ site. sig.now) names.now x.now fuel (stop_of stop))) }
+{
+    match stop {
+        FamilyStop::Stop(stop) => Ok(stopped(fuel, stop)),
+        FamilyStop::Denied { part, denial } => denied_part(alloc, sig, names, part, denial),
+        FamilyStop::NotPositive(number, k) => {
+            Ok(Refusal::NotPositive(name_in(alloc, names, number)?, k))
+        }
+        FamilyStop::TooLarge(None, k) => Ok(Refusal::IndexTooLarge(None, k)),
+        FamilyStop::TooLarge(Some(number), k) => {
+            let name = name_in(alloc, names, number)?;
+            Ok(Refusal::IndexTooLarge(Some(name), k))
+        }
+        FamilyStop::BadFamily => Ok(Refusal::BadFamily),
+        FamilyStop::Duplicate => Ok(Refusal::Duplicate(x.start, copy_name(alloc, &x.text)?)),
+    }
+}
+
+/// A refusal of entering, with texts over one signature, or Memory where there is none for these.
+pub(crate) fn refusal(
+    alloc: Global,
+    sig: &Signature,
+    names: &[Name],
+    x: &Word,
+    fuel: u64,
+    stop: FamilyStop,
+) -> Refusal
+    ensures { result ≢ Memory → result ≡ spec.unentered (λ site. sig.now) names.now x.now fuel (stop_of stop) }
+{
+    match unentered(alloc, sig, names, x, fuel, stop) {
+        Ok(refusal) => refusal,
+        Err(_) => Refusal::Memory,
+    }
+}
