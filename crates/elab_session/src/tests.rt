@@ -110,6 +110,16 @@ fn assert_accepts_identity(
     assert_accepts(rt, alloc, session, &d, line.as_slice())
 }
 
+/// What refuses the declaration in a new session, which accepts the identity behind it.
+fn refusal_of(rt: &impl Abort, alloc: Global, fuel: u64, d: &Decl) -> Result<Refusal, Fail> {
+    let mut session = Session::new(alloc, false, fuel)?;
+    let Err(refusal) = session.declare(d) else {
+        panic!(rt; "accepted");
+    };
+    assert_accepts_identity(rt, alloc, &mut session)?;
+    Ok(refusal)
+}
+
 /// The checker denies a part, with these texts.
 fn assert_denies(rt: &impl Abort, refusal: &Refusal, place: &[u8], ctx: &[u8], reason: &[u8]) {
     let Refusal::IllTyped {
@@ -129,8 +139,7 @@ fn assert_denies(rt: &impl Abort, refusal: &Refusal, place: &[u8], ctx: &[u8], r
 #[test]
 fn definitions_are_accepted(rt: HostRuntime) -> Result<(), Fail> {
     let alloc = rt.alloc();
-    let mut session = Session::new(alloc, false, FUEL)?;
-    assert_eq!(rt; session.signature().len(), 46);
+    let mut session = Session::new(alloc, true, FUEL)?;
     assert_accepts_identity(&rt, alloc, &mut session)?;
     let sort = def(alloc, b"t", Surf::Sort(2), Surf::Sort(0))?;
     let line = b"def t : Type 2 = Type 0\n";
@@ -140,11 +149,8 @@ fn definitions_are_accepted(rt: HostRuntime) -> Result<(), Fail> {
 #[test]
 fn bodies_have_their_types(rt: HostRuntime) -> Result<(), Fail> {
     let alloc = rt.alloc();
-    let mut session = Session::new(alloc, true, FUEL)?;
     let d = def(alloc, b"t", Surf::Sort(0), Surf::Sort(0))?;
-    let Err(refusal) = session.declare(&d) else {
-        panic!(rt; "accepted");
-    };
+    let refusal = refusal_of(&rt, alloc, FUEL, &d)?;
     assert!(rt;
         matches!(
             refusal,
@@ -155,17 +161,14 @@ fn bodies_have_their_types(rt: HostRuntime) -> Result<(), Fail> {
         )
     );
     assert_denies(&rt, &refusal, b"", b"[]", b"found Type 1 wanted Type 0");
-    assert_accepts_identity(&rt, alloc, &mut session)
+    Ok(())
 }
 
 #[test]
 fn types_have_sorts(rt: HostRuntime) -> Result<(), Fail> {
     let alloc = rt.alloc();
-    let mut session = Session::new(alloc, false, FUEL)?;
     let d = def(alloc, b"t", Surf::Sort(15), Surf::Sort(14))?;
-    let Err(refusal) = session.declare(&d) else {
-        panic!(rt; "accepted");
-    };
+    let refusal = refusal_of(&rt, alloc, FUEL, &d)?;
     assert!(rt;
         matches!(
             refusal,
@@ -176,59 +179,55 @@ fn types_have_sorts(rt: HostRuntime) -> Result<(), Fail> {
         )
     );
     assert_denies(&rt, &refusal, b"", b"[]", b"LevelTooHigh");
-    assert_accepts_identity(&rt, alloc, &mut session)
-}
-
-#[test]
-fn names_are_known_and_new(rt: HostRuntime) -> Result<(), Fail> {
-    let alloc = rt.alloc();
-    let mut session = Session::new(alloc, false, FUEL)?;
-    let body = Surf::Named(word(alloc, b"x", 17)?);
-    let unknown = def(alloc, b"t", Surf::Sort(0), body)?;
-    assert!(rt; matches!(session.declare(&unknown), Err(Refusal::UnknownName(17, _))));
-    assert_accepts_identity(&rt, alloc, &mut session)?;
-    let again = identity(alloc)?;
-    assert!(rt; matches!(session.declare(&again), Err(Refusal::Duplicate(4, _))));
     Ok(())
 }
 
-/// The declaration is refused as Deep.
-fn assert_is_deep(rt: &impl Abort, alloc: Global, count: u32) -> Result<(), Fail> {
-    let mut session = Session::new(alloc, false, FUEL)?;
-    let d = wide(alloc, count)?;
-    assert!(rt; matches!(session.declare(&d), Err(Refusal::Deep)));
-    assert_accepts_identity(rt, alloc, &mut session)
+#[test]
+fn names_are_known(rt: HostRuntime) -> Result<(), Fail> {
+    let alloc = rt.alloc();
+    let body = Surf::Named(word(alloc, b"x", 17)?);
+    let d = def(alloc, b"t", Surf::Sort(0), body)?;
+    let refusal = refusal_of(&rt, alloc, FUEL, &d)?;
+    assert!(rt; matches!(refusal, Refusal::UnknownName(17, _)));
+    Ok(())
+}
+
+#[test]
+fn names_are_new(rt: HostRuntime) -> Result<(), Fail> {
+    let alloc = rt.alloc();
+    let d = def(alloc, b"Empty", Surf::Sort(1), Surf::Sort(0))?;
+    let refusal = refusal_of(&rt, alloc, FUEL, &d)?;
+    assert!(rt; matches!(refusal, Refusal::Duplicate(4, _)));
+    Ok(())
 }
 
 /// With 1,000 binders the innermost call of the checker is the 2,002nd open one, with 2,000 the term is too high.
 #[test]
 fn limits_are_kept(rt: HostRuntime) -> Result<(), Fail> {
     let alloc = rt.alloc();
-    assert_is_deep(&rt, alloc, 1000)?;
-    assert_is_deep(&rt, alloc, 2000)
+    let nested = refusal_of(&rt, alloc, FUEL, &wide(alloc, 1000)?)?;
+    assert!(rt; matches!(nested, Refusal::Deep));
+    let high = refusal_of(&rt, alloc, FUEL, &wide(alloc, 2000)?)?;
+    assert!(rt; matches!(high, Refusal::Deep));
+    Ok(())
 }
 
 /// The identity costs 16 units, and each declaration may spend as many.
 #[test]
 fn units_are_counted_anew(rt: HostRuntime) -> Result<(), Fail> {
     let alloc = rt.alloc();
-    let mut short = Session::new(alloc, false, 15)?;
-    let d = identity(alloc)?;
-    assert!(rt; matches!(short.declare(&d), Err(Refusal::Fuel(15))));
-    let mut session = Session::new(alloc, false, 16)?;
-    let long = wide(alloc, 100)?;
-    assert!(rt; matches!(session.declare(&long), Err(Refusal::Fuel(16))));
-    assert_accepts_identity(&rt, alloc, &mut session)
+    let refusal = refusal_of(&rt, alloc, 16, &wide(alloc, 100)?)?;
+    assert!(rt; matches!(refusal, Refusal::Fuel(16)));
+    Ok(())
 }
 
 #[test]
 fn functions_are_not_built_yet(rt: HostRuntime) -> Result<(), Fail> {
     let alloc = rt.alloc();
-    let mut session = Session::new(alloc, false, FUEL)?;
     let name = word(alloc, b"f", 4)?;
     let clauses = Items::new(alloc);
     let ty = Surf::Sort(0);
-    let d = Decl::Fun { name, ty, clauses };
-    assert!(rt; matches!(session.declare(&d), Err(Refusal::NotYet(4))));
-    assert_accepts_identity(&rt, alloc, &mut session)
+    let refusal = refusal_of(&rt, alloc, FUEL, &Decl::Fun { name, ty, clauses })?;
+    assert!(rt; matches!(refusal, Refusal::NotYet(4)));
+    Ok(())
 }

@@ -1,5 +1,5 @@
 // Families as they are written. After each refusal the same session accepts the identity.
-use super::{FUEL, assert_accepts, assert_accepts_identity, assert_denies, named, only, word};
+use super::{FUEL, arrow, assert_accepts, assert_denies, named, only, refusal_of, word};
 use crate::{PartName, Refusal, Session};
 use core_terms::Items;
 use std::alloc::Global;
@@ -58,50 +58,44 @@ fn families_are_accepted(rt: HostRuntime) -> Result<(), Fail> {
 #[test]
 fn families_are_positive(rt: HostRuntime) -> Result<(), Fail> {
     let alloc = rt.alloc();
-    let mut session = Session::new(alloc, false, FUEL)?;
-    let domain = super::arrow(alloc, b"Bad", b"Empty")?;
-    let bad = con(alloc, b"bad", domain, b"Bad")?;
-    let d = with_one(alloc, b"Bad", bad)?;
-    let Err(Refusal::NotPositive(name, 1)) = session.declare(&d) else {
-        panic!(rt; "another answer");
+    let domain = arrow(alloc, b"Bad", b"Empty")?;
+    let d = with_one(alloc, b"Bad", con(alloc, b"bad", domain, b"Bad")?)?;
+    let Refusal::NotPositive(name, 1) = refusal_of(&rt, alloc, FUEL, &d)? else {
+        panic!(rt; "another refusal");
     };
     assert_eq!(rt; name.as_slice(), b"bad".as_slice());
-    assert_accepts_identity(&rt, alloc, &mut session)
+    Ok(())
 }
 
 #[test]
 fn arguments_fit_the_level(rt: HostRuntime) -> Result<(), Fail> {
     let alloc = rt.alloc();
-    let mut session = Session::new(alloc, false, FUEL)?;
     let domain = Box::new(alloc, Surf::Sort(0))?;
-    let big = con(alloc, b"big", domain, b"Big")?;
-    let d = with_one(alloc, b"Big", big)?;
-    let Err(Refusal::IndexTooLarge(Some(name), 1)) = session.declare(&d) else {
-        panic!(rt; "another answer");
+    let d = with_one(alloc, b"Big", con(alloc, b"big", domain, b"Big")?)?;
+    let Refusal::IndexTooLarge(Some(name), 1) = refusal_of(&rt, alloc, FUEL, &d)? else {
+        panic!(rt; "another refusal");
     };
     assert_eq!(rt; name.as_slice(), b"big".as_slice());
-    assert_accepts_identity(&rt, alloc, &mut session)
+    Ok(())
 }
 
 #[test]
 fn indices_fit_the_level(rt: HostRuntime) -> Result<(), Fail> {
     let alloc = rt.alloc();
-    let mut session = Session::new(alloc, false, FUEL)?;
     let domain = Box::new(alloc, Surf::Sort(0))?;
     let ty = Surf::Arrow(domain, Box::new(alloc, Surf::Sort(0))?);
-    let d = data(alloc, b"D", ty, Items::new(alloc))?;
-    assert!(rt; matches!(session.declare(&d), Err(Refusal::IndexTooLarge(None, 1))));
-    assert_accepts_identity(&rt, alloc, &mut session)
+    let refusal = refusal_of(&rt, alloc, FUEL, &data(alloc, b"D", ty, Items::new(alloc))?)?;
+    assert!(rt; matches!(refusal, Refusal::IndexTooLarge(None, 1)));
+    Ok(())
 }
 
 #[test]
 fn types_end_in_sorts(rt: HostRuntime) -> Result<(), Fail> {
     let alloc = rt.alloc();
-    let mut session = Session::new(alloc, false, FUEL)?;
     let ty = Surf::Named(word(alloc, b"Empty", 9)?);
-    let d = data(alloc, b"D", ty, Items::new(alloc))?;
-    assert!(rt; matches!(session.declare(&d), Err(Refusal::BadFamily)));
-    assert_accepts_identity(&rt, alloc, &mut session)
+    let refusal = refusal_of(&rt, alloc, FUEL, &data(alloc, b"D", ty, Items::new(alloc))?)?;
+    assert!(rt; matches!(refusal, Refusal::BadFamily));
+    Ok(())
 }
 
 /// `(name : Type level)`
@@ -129,11 +123,7 @@ fn with_parameters(alloc: Global) -> Result<Decl, Fail> {
 #[test]
 fn parameters_have_sorts(rt: HostRuntime) -> Result<(), Fail> {
     let alloc = rt.alloc();
-    let mut session = Session::new(alloc, false, FUEL)?;
-    let d = with_parameters(alloc)?;
-    let Err(refusal) = session.declare(&d) else {
-        panic!(rt; "accepted");
-    };
+    let refusal = refusal_of(&rt, alloc, FUEL, &with_parameters(alloc)?)?;
     assert!(rt;
         matches!(
             refusal,
@@ -144,7 +134,7 @@ fn parameters_have_sorts(rt: HostRuntime) -> Result<(), Fail> {
         )
     );
     assert_denies(&rt, &refusal, b"", b"[Type 0]", b"LevelTooHigh");
-    assert_accepts_identity(&rt, alloc, &mut session)
+    Ok(())
 }
 
 /// `w : W -> W W`
@@ -161,12 +151,8 @@ fn applied_to_itself(alloc: Global) -> Result<SurfCon, Fail> {
 #[test]
 fn constructors_have_types(rt: HostRuntime) -> Result<(), Fail> {
     let alloc = rt.alloc();
-    let mut session = Session::new(alloc, false, FUEL)?;
-    let w = applied_to_itself(alloc)?;
-    let d = with_one(alloc, b"W", w)?;
-    let Err(refusal) = session.declare(&d) else {
-        panic!(rt; "accepted");
-    };
+    let d = with_one(alloc, b"W", applied_to_itself(alloc)?)?;
+    let refusal = refusal_of(&rt, alloc, FUEL, &d)?;
     assert!(rt;
         matches!(
             refusal,
@@ -177,16 +163,5 @@ fn constructors_have_types(rt: HostRuntime) -> Result<(), Fail> {
         )
     );
     assert_denies(&rt, &refusal, &[1], b"[W]", b"NotAProduct Type 0");
-    assert_accepts_identity(&rt, alloc, &mut session)
-}
-
-#[test]
-fn constructor_names_are_new(rt: HostRuntime) -> Result<(), Fail> {
-    let alloc = rt.alloc();
-    let mut session = Session::new(alloc, false, FUEL)?;
-    let mut cons = only(alloc, plain(alloc, b"e", 18, b"E")?)?;
-    cons.push(plain(alloc, b"e", 26, b"E")?)?;
-    let d = data(alloc, b"E", Surf::Sort(0), cons)?;
-    assert!(rt; matches!(session.declare(&d), Err(Refusal::Duplicate(26, _))));
-    assert_accepts_identity(&rt, alloc, &mut session)
+    Ok(())
 }
