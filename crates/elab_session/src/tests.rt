@@ -1,6 +1,5 @@
 // Declarations as they are written, with the entries and the refusals that they give. After each refusal the same session
 // accepts the identity.
-mod entries;
 mod families;
 
 use crate::{Accepted, PartName, Refusal, Session};
