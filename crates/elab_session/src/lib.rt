@@ -15,8 +15,6 @@ mod refusal;
 mod refusing;
 mod session;
 mod shown;
-#[cfg(test)]
-mod tests;
 mod texts;
 
 pub use accepted::Accepted;
