@@ -1,5 +1,8 @@
+pub mod Answered
+pub mod Applications
 pub mod Complete
 pub mod Declarations_read
+pub mod Elsewhere
 pub mod Ends
 pub mod Examples
 pub mod Finishing
@@ -9,6 +12,7 @@ pub mod Looks
 pub mod Nested
 pub mod Pieces
 pub mod Places
+pub mod Readings
 pub mod Rest
 pub mod Results
 pub mod Runs
@@ -18,5 +22,6 @@ pub mod Splits
 pub mod TokenLaws
 pub mod TokenViews
 pub mod Trees_read
+pub mod Turns
 pub mod Unique
 pub mod Ways

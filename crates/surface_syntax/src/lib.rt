@@ -1,11 +1,27 @@
 //! The surface language: the tokens of a text, and the declarations that they spell.
 #![tactic(auto)]
 
+mod awaiting;
+mod binders;
+mod building;
+mod clauses;
+mod closing;
+mod context;
+mod declarations;
+mod due;
+mod endings;
+mod halt;
 mod laws;
 mod lexeme;
+mod lexemes;
 mod lexer;
+mod parser;
+#[cfg(test)]
+mod parser_tests;
 mod spans;
+mod state;
 mod stop;
+mod terms;
 #[cfg(test)]
 mod tests;
 mod token;
@@ -18,6 +34,7 @@ pub use laws::{
 };
 pub use lexeme::Lexeme;
 pub use lexer::piece;
+pub use parser::parse;
 pub use spans::tokens;
 pub use stop::SyntaxStop;
 pub use token::{Piece, Token, TokenKind};

@@ -56,5 +56,9 @@ fn stops_at_the_first_byte_of_no_character(rt: HostRuntime) {
     assert!(rt; stop(rt.alloc(), b"\xff") == Some(SyntaxStop::NotUtf8(0)));
     assert!(rt; stop(rt.alloc(), b"@ \xe2\x82x") == Some(SyntaxStop::NotUtf8(2)));
     assert!(rt; stop(rt.alloc(), b"def \xf0\x90\x80") == Some(SyntaxStop::NotUtf8(4)));
+    assert!(rt; stop(rt.alloc(), b"def \xf0(\x8c\xbc") == Some(SyntaxStop::NotUtf8(4)));
+    assert!(rt; stop(rt.alloc(), b"def \xf0\x90(\xbc") == Some(SyntaxStop::NotUtf8(4)));
+    assert!(rt; stop(rt.alloc(), b"def \xed\xa0\x80") == Some(SyntaxStop::NotUtf8(4)));
+    assert!(rt; stop(rt.alloc(), b"x \xc3") == Some(SyntaxStop::NotUtf8(2)));
     assert!(rt; stop(rt.alloc(), b"def @") == Some(SyntaxStop::BadToken(4)));
 }

@@ -1,0 +1,67 @@
+ghost use Rattle.std.specs.Prelude.{ℕ, option_map};
+ghost use Rattle.surface_syntax.specs.Machine as machine;
+ghost use Rattle.surface_syntax.specs.Steps.{Follows};
+ghost use Rattle.surface_syntax.specs.StateMeanings.{spine_of, telescope_of, term_in_of, pats_in_of};
+
+use crate::building::{plus, with_pat};
+use crate::context::{PatsIn, Spine, Telescope, TermIn};
+use crate::halt::Halt;
+use crate::state::{ClauseState, State, Step, TermState};
+use crate::{Lexeme, Surf, SurfPat};
+use core_terms::Items;
+use std::alloc::Global;
+
+/// Behind `Type` in a term.
+pub(crate) fn level(
+    alloc: Global,
+    depth: u32,
+    spine: Option<Spine>,
+    context: Box<TermIn>,
+    lexeme: Lexeme,
+) -> Result<Step, Halt>
+    ensures { (i : ℕ) → Follows result (machine.term_step machine.limit i (machine.Level depth (option_map spine_of spine) (term_in_of context.value)) lexeme) }
+{
+    match lexeme {
+        Lexeme::Level(i) => {
+            let spine = plus(alloc, spine, Surf::Sort(i))?;
+            Ok(Step::to(State::InTerm(TermState::Atoms(depth, spine, context))))
+        }
+        _ => Err(Halt::Stuck),
+    }
+}
+
+/// Behind `Type` in a pattern.
+pub(crate) fn dot_level(
+    depth: u32,
+    void: bool,
+    context: PatsIn,
+    lexeme: Lexeme,
+) -> Result<Step, Halt>
+    ensures { (i : ℕ) → Follows result (machine.clause_step machine.limit i (machine.DotLevel depth void (pats_in_of context)) lexeme) }
+{
+    match lexeme {
+        Lexeme::Level(i) => {
+            let context = with_pat(SurfPat::Dot(Surf::Sort(i)), context)?;
+            Ok(Step::to(State::InClause(ClauseState::Pats(depth, void, context))))
+        }
+        _ => Err(Halt::Stuck),
+    }
+}
+
+/// Behind `\`.
+pub(crate) fn binder_open(
+    alloc: Global,
+    telescope: Telescope,
+    context: Box<TermIn>,
+    lexeme: Lexeme,
+) -> Result<Step, Halt>
+    ensures { (i : ℕ) → Follows result (machine.term_step machine.limit i (machine.BinderOpen (telescope_of telescope) (term_in_of context.value)) lexeme) }
+{
+    match lexeme {
+        Lexeme::Open => {
+            let names = Items::new(alloc);
+            Ok(Step::to(State::InTerm(TermState::BinderNames(telescope, names, context))))
+        }
+        _ => Err(Halt::Stuck),
+    }
+}
