@@ -48,7 +48,7 @@ enclosed-in true text p = p
 enclosed-in false text p = both text (codes ")") p refl
 
 -- a text in an opening and behind it a closing one
-spelled-in : (S : Signature) → HasNamesInLine S → (b : Bool) (t : Term) → is_in_line (spelled S b t) ≡ true
+pub spelled-in : (S : Signature) → HasNamesInLine S → (b : Bool) (t : Term) → is_in_line (spelled S b t) ≡ true
 spelled-in S names b (Var n) = decimal-in n
 spelled-in S names b (Sort i) = decimal-in i
 spelled-in S names b (Pi u v) =
@@ -85,7 +85,7 @@ constructors-in S names n f before (c ∷ cons) p own =
     (both (before ++ c.name ++ codes " : ") ty (both (before ++ c.name) (codes " : ") (both before c.name p own.0) refl) (spelled-in S names false (constructor_type_shown n f c)))
     (constructors-in S names n f (codes " ; ") cons refl own.1)
 
-text-in : (S : Signature) → HasNamesInLine S → (n : ℕ) (e : Entry) → AreInLine (names_of e) → is_in_line (entry_text S n e) ≡ true
+pub text-in : (S : Signature) → HasNamesInLine S → (n : ℕ) (e : Entry) → AreInLine (names_of e) → is_in_line (entry_text S n e) ≡ true
 text-in S names n (FamilyOf f) own =
     let ps = parameters_text S f.parameters in
     let ty = term_text S (type_shown f) in

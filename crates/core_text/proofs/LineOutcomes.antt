@@ -149,11 +149,11 @@ left-below left n zero v e = absurd (false≢true e)
 left-below left n (suc k) zero e = omega arith
 left-below left n (suc k) (suc v) e = let lt = left-below left (n + 1) k v e in omega arith
 
-levels-below : (S : Signature) (series : Series) (m : ℕ) → is_left (levels_left S series) m ≡ true → m < top
+pub levels-below : (S : Signature) (series : Series) (m : ℕ) → is_left (levels_left S series) m ≡ true → m < top
 unfolding levels_left
 levels-below S series m e = left-below (λ k. not (list_any (is_instance series k) S.entries)) 0 top m e
 
-identities-below : (S : Signature) (i : ℕ) → is_left (identities_left S) i ≡ true → i < top
+pub identities-below : (S : Signature) (i : ℕ) → is_left (identities_left S) i ≡ true → i < top
 unfolding identities_left
 identities-below S i e = left-below (some_level_left S) 0 top i e
 

@@ -29,12 +29,12 @@ and-none : (a : Bool) (k : ℕ) → (if a && false then k else 0) ≡ 0
 and-none true k = refl
 and-none false k = refl
 
-no-char : (b : ℕ) (rest : List ℕ) → width b ≡ 1 → are_name_chars (b ∷ []) ≡ false → name_char_len (b ∷ rest) ≡ 0
+pub no-char : (b : ℕ) (rest : List ℕ) → width b ≡ 1 → are_name_chars (b ∷ []) ≡ false → name_char_len (b ∷ rest) ≡ 0
 no-char b rest one none =
     ap (λ k. if nat_le k (length (b ∷ rest)) && are_name_chars (take k (b ∷ rest)) then k else 0) one
     ∙ (ap (λ c. if nat_le 1 (length (b ∷ rest)) && c then 1 else 0) none ∙ and-none (nat_le 1 (length (b ∷ rest))) 1)
 
-some-char : (b : ℕ) (rest : List ℕ) → width b ≡ 1 → are_name_chars (b ∷ []) ≡ true → name_char_len (b ∷ rest) ≡ 1
+pub some-char : (b : ℕ) (rest : List ℕ) → width b ≡ 1 → are_name_chars (b ∷ []) ≡ true → name_char_len (b ∷ rest) ≡ 1
 some-char b rest one some =
     let long : nat_le 1 (length (b ∷ rest)) ≡ true = grind (arith, nat_tests) in
     ap (λ k. if nat_le k (length (b ∷ rest)) && are_name_chars (take k (b ∷ rest)) then k else 0) one
@@ -68,13 +68,13 @@ type-run rest =
 
 -- ---- leaves
 
-take-word : (word rest : List ℕ) → take (length word) (word ++ rest) ≡ word
+pub take-word : (word rest : List ℕ) → take (length word) (word ++ rest) ≡ word
 take-word [] rest = refl
 take-word (b ∷ word) rest = ap (λ r. b ∷ r) (take-word word rest)
 
 -- what a term's text does not begin with
 record Begins (text : List ℕ) : Type 0 where
-  no_let : (rest : List ℕ) → begins (codes "let ") (text ++ rest) ≡ false
+  no_let : (rest : List ℕ) → Stops rest → begins (codes "let ") (text ++ rest) ≡ false
   no_function : (rest : List ℕ) → (first (text ++ rest) == 92) ≡ false
   no_arrow : (rest : List ℕ) → (first (text ++ rest) == 45) ≡ false
 
@@ -87,7 +87,7 @@ text-begins S look (Fam n) is = spelled-begins look (name_at S n) (Fam n) is
 text-begins S look (Con n c) is = spelled-begins look (constructor_name_at S n c) (Con n c) is
 text-begins S look (Elim n m) is = spelled-begins look (eliminator_name (name_at S n) m) (Elim n m) is
 text-begins S look (AxiomK i m) is = spelled-begins look (axiom_k_name i m) (AxiomK i m) is
-text-begins S look _ is = record { no_let = λ rest. refl; no_function = λ rest. refl; no_arrow = λ rest. refl }
+text-begins S look _ is = record { no_let = λ rest stops. refl; no_function = λ rest. refl; no_arrow = λ rest. refl }
 
 symbol-back : (look : List ℕ → Option Term) (name : List ℕ) (t : Term) (room n : ℕ) (rest : List ℕ) → IsSpelled look name t → Stops rest → read_term look (suc room) n (name ++ rest) ≡ Ok (t, rest)
 symbol-back look name t room n rest is stops =
@@ -168,7 +168,7 @@ module _ (S : Signature) (look : List ℕ → Option Term) (room : ℕ) (inner :
   open-back a n rest fa low =
       let starts = text-begins S look a fa.spelled in
       let bytes = term_text S a ++ 32 ∷ rest in
-      ap₂ (λ c d. if c then function_at inner n (drop 1 bytes) else (if d then let_at inner n (drop 4 bytes) else and_then (inner n bytes) (λ a r. behind_first inner a n r))) (starts.no_function (32 ∷ rest)) (starts.no_let (32 ∷ rest))
+      ap₂ (λ c d. if c then function_at inner n (drop 1 bytes) else (if d then let_at inner n (drop 4 bytes) else and_then (inner n bytes) (λ a r. behind_first inner a n r))) (starts.no_function (32 ∷ rest)) (starts.no_let (32 ∷ rest) (stops-space rest))
       ∙ ap (λ m. and_then m (λ a r. behind_first inner a n r)) (back a n (32 ∷ rest) fa low (stops-space rest))
 
   product-back : (a b : Term) (n : ℕ) (rest : List ℕ) → IsFit S look room n a → IsFit S look room (n + 1) b → height (Pi a b) ≤ 2000 → enclosed_at inner n (term_text S a ++ (codes " -> " ++ (term_text S b ++ 41 ∷ rest))) ≡ Ok (Pi a b, rest)

@@ -2,9 +2,11 @@ pub mod DeclaredNames
 pub mod EntryReading
 pub mod EntryText
 pub mod Heads
+pub mod LineLaws
 pub mod LineReading
 pub mod Lines
 pub mod NameRuns
+pub mod PlainNames
 pub mod ProductParts
 pub mod RawEntries
 pub mod ReadBack
@@ -12,7 +14,9 @@ pub mod Reading
 pub mod ReadLaws
 pub mod Records
 pub mod Scopes
+pub mod SurfaceNames
 pub mod SymbolLookup
 pub mod SymbolNames
 pub mod TermReading
 pub mod TermText
+pub mod WrittenEntries

@@ -1,6 +1,10 @@
+ghost use Rattle.core_text.specs.LineLaws.{EndsAreRead, LinesAreRead, LinesShowOneEntry, NotesArePassedOver};
 ghost use Rattle.core_text.specs.Lines.{LinesAreApart};
-ghost use Rattle.core_text.specs.ReadBack.{TermsAreReadBack};
+ghost use Rattle.core_text.specs.PlainNames.{NamesAreSpelled, NamesStayPlain, PreludeHasPlainNames};
+ghost use Rattle.core_text.specs.ReadBack.{EntriesAreReadBack, TermsAreReadBack};
 ghost use Rattle.core_text.specs.ReadLaws.{WhatIsRead};
+ghost use Rattle.core_text.specs.SurfaceNames.{SurfaceNamesArePlain};
+ghost use Rattle.core_text.specs.WrittenEntries.{EntriesThatFollow};
 
 /// No line of an entry begins another.
 pub fn lines_are_apart()
@@ -15,4 +19,54 @@ pub fn what_is_read()
 /// A term that is written is read back, whatever follows that goes on with no name and no number.
 pub fn terms_are_read_back()
     ensures { TermsAreReadBack }
+{}
+
+/// An entry that is written is read back over the entries before it, whatever follows, with the offset behind its line.
+pub fn entries_are_read_back()
+    ensures { EntriesAreReadBack }
+{}
+
+/// What is read as an entry is the line of the entry, behind lines that begin with `#`.
+pub fn lines_are_read()
+    ensures { LinesAreRead }
+{}
+
+/// A text begins with the line of one entry at most.
+pub fn lines_show_one_entry()
+    ensures { LinesShowOneEntry }
+{}
+
+/// Where names are plain, each symbol is looked up by its name, which is told from what follows it.
+pub fn names_are_spelled()
+    ensures { NamesAreSpelled }
+{}
+
+/// Names stay plain with an entry more whose names are plain.
+pub fn names_stay_plain()
+    ensures { NamesStayPlain }
+{}
+
+/// Lines that begin with `#` are passed over.
+pub fn notes_are_passed_over()
+    ensures { NotesArePassedOver }
+{}
+
+/// No entry is left exactly where nothing but such lines stands.
+pub fn ends_are_read()
+    ensures { EndsAreRead }
+{}
+
+/// The names of the prelude are plain.
+pub fn prelude_has_plain_names()
+    ensures { PreludeHasPlainNames }
+{}
+
+/// An entry that may follow others is read back over them, where their names are plain.
+pub fn entries_that_follow()
+    ensures { EntriesThatFollow }
+{}
+
+/// A core file may declare each plain name of the surface text, and none of them holds a `!`.
+pub fn surface_names_are_plain()
+    ensures { SurfaceNamesArePlain }
 {}

@@ -32,6 +32,10 @@ mod whole_terms;
 pub use entry_printer::print_entry;
 pub use entry_reader::read_entry;
 pub use head::read_head;
-pub use laws::{lines_are_apart, terms_are_read_back, what_is_read};
+pub use laws::{
+    ends_are_read, entries_are_read_back, entries_that_follow, lines_are_apart, lines_are_read,
+    lines_show_one_entry, names_are_spelled, names_stay_plain, notes_are_passed_over,
+    prelude_has_plain_names, surface_names_are_plain, terms_are_read_back, what_is_read,
+};
 pub use stop::CoreTextStop;
 pub use term_printer::print_term;

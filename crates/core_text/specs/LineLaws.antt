@@ -1,0 +1,47 @@
+-- An entry and its line determine each other: what is read is the line of its entry, and no text begins with the lines of
+-- two entries.
+use Rattle.std.specs.Prelude.{◌≡◌, ◌↔◌, ℕ, ◌≤◌, ◌<◌, ◌^◌, true, List, [], ◌++◌, length, drop, codes, Some, None, Ok}
+use Rattle.theory.specs.Signatures.{Entry, Signature}
+use Rattle.theory.specs.WellFormed.{pushed}
+use Rattle.core_text.specs.EntryReading.{entry_from}
+use Rattle.core_text.specs.EntryText.{entry_line}
+use Rattle.core_text.specs.Lines.{is_in_line}
+use Rattle.core_text.specs.RawEntries.{entry_shown}
+use Rattle.core_text.specs.ReadBack.{EntryReadsBack}
+
+-- lines that begin with `#`
+pub data AreNotes : List ℕ → Type 0 where
+  no_note : AreNotes []
+  note : (text others : List ℕ) → is_in_line text ≡ true → AreNotes others → AreNotes (codes "#" ++ (text ++ (codes "\n" ++ others)))
+
+-- Behind its first bytes the text has lines that begin with `#` and then the line of the entry, written over the entries S
+-- and itself, which ends where `to` says.
+pub record Stands (S : Signature) (text : List ℕ) (from : ℕ) (e : Entry) (to : ℕ) : Type 0 where
+  pub notes : List ℕ
+  pub others : List ℕ
+  pub are_notes : AreNotes notes
+  pub line : drop from text ≡ notes ++ (entry_line (pushed S e) (length S.entries) e ++ others)
+  pub behind : drop to text ≡ others
+
+-- What is read as an entry is the line of the entry.
+abbrev pub LinesAreRead : Type 0
+LinesAreRead =
+    (S : Signature) (text : List ℕ) (from : ℕ) (e : Entry) (to : ℕ) → length text < 2 ^ 32 → from ≤ length text →
+    entry_from S text from ≡ Ok (Some (entry_shown (length S.entries) e, to)) → Stands S text from e to
+
+-- A text that begins with the lines of two entries, each of which may stand there, shows one entry.
+abbrev pub LinesShowOneEntry : Type 0
+LinesShowOneEntry =
+    (T R S : Signature) (e f : Entry) (r s : List ℕ) → EntryReadsBack T R e → EntryReadsBack T S f
+    → entry_line R (length T.entries) e ++ r ≡ entry_line S (length T.entries) f ++ s
+    → entry_shown (length T.entries) e ≡ entry_shown (length T.entries) f
+
+-- Lines that begin with `#` are passed over.
+abbrev pub NotesArePassedOver : Type 0
+NotesArePassedOver =
+    (S : Signature) (before notes rest : List ℕ) → AreNotes notes →
+    entry_from S (before ++ (notes ++ rest)) (length before) ≡ entry_from S ((before ++ notes) ++ rest) (length (before ++ notes))
+
+-- No entry is left exactly where nothing but lines that begin with `#` stands there.
+abbrev pub EndsAreRead : Type 0
+EndsAreRead = (S : Signature) (text : List ℕ) (from : ℕ) → (entry_from S text from ≡ Ok None) ↔ AreNotes (drop from text)

@@ -1,0 +1,54 @@
+-- The names of a signature that tell its symbols apart in core text.
+use Rattle.std.specs.Prelude.{◌≡◌, ◌≢◌, ℕ, ◌<◌, ◌==◌, Bool, true, false, List, [], length, codes, bytes_eq, All, AllPairs}
+use Rattle.std.specs.List.{list_any}
+use Rattle.theory.specs.Terms.{Term, Const, Fam, Con, Elim, AxiomK, top}
+use Rattle.theory.specs.Families.{Family}
+use Rattle.theory.specs.Signatures.{Entry, FamilyOf, Definition, Signature, IsEntryAt, names_of, names}
+use Rattle.theory.specs.WellFormed.{pushed}
+use Rattle.theory.specs.Prelude.{prelude}
+use Rattle.core_text.specs.DeclaredNames.{is_eliminator_name, is_axiom_k_name}
+use Rattle.core_text.specs.NameRuns.{are_name_chars}
+use Rattle.core_text.specs.ReadBack.{IsSpelled}
+use Rattle.core_text.specs.SymbolLookup.{symbol}
+use Rattle.core_text.specs.SymbolNames.{name_at, constructor_name_at, eliminator_name, axiom_k_name}
+
+-- Characters that can stand in a name, and none of the two words that begin a term otherwise. It is not written as an
+-- eliminator of a family whose name holds no `!`, nor as K.
+pub record IsPlainName (name : List ℕ) : Type 0 where
+  pub chars : are_name_chars name ≡ true
+  pub some : 0 < length name
+  pub no_sort : bytes_eq name (codes "Type") ≡ false
+  pub no_let : bytes_eq name (codes "let") ≡ false
+  pub no_eliminator : is_eliminator_name name ≡ false
+  pub no_axiom_k : is_axiom_k_name name ≡ false
+
+-- the name of a family holds no `!`
+abbrev pub HasPlainFamily : Entry → Type 0
+HasPlainFamily (FamilyOf f) = list_any (λ b. b == 33) f.name ≡ false
+HasPlainFamily _ = Unit {0}
+
+-- All names are plain, and those of families hold no `!`. A file may declare `a!b!elim.3`: beside a family `a!b` that name
+-- would stand for the definition, and the eliminator would have no text of its own.
+pub record HasPlainNames (S : Signature) : Type 0 where
+  pub plain : All IsPlainName (names S)
+  pub families : All HasPlainFamily S.entries
+
+-- Each symbol of the signature is looked up by its name, which is told from what follows it.
+pub record HasSpelledNames (S : Signature) : Type 0 where
+  pub constants : (n : ℕ) (name : List ℕ) (type body : Term) → IsEntryAt S n (Definition name type body) → IsSpelled (symbol S []) (name_at S n) (Const n)
+  pub families : (n : ℕ) (f : Family) → IsEntryAt S n (FamilyOf f) → IsSpelled (symbol S []) (name_at S n) (Fam n)
+  pub constructors : (n c : ℕ) (f : Family) → IsEntryAt S n (FamilyOf f) → c < length f.constructors → IsSpelled (symbol S []) (constructor_name_at S n c) (Con n c)
+  pub eliminators : (n m : ℕ) (f : Family) → IsEntryAt S n (FamilyOf f) → m < top → IsSpelled (symbol S []) (eliminator_name (name_at S n) m) (Elim n m)
+  pub axiom_k : (i m : ℕ) → i < top → m < top → IsSpelled (symbol S []) (axiom_k_name i m) (AxiomK i m)
+
+-- Symbols are told by their names where these are plain and all different.
+abbrev pub NamesAreSpelled : Type 0
+NamesAreSpelled = (S : Signature) → AllPairs (λ x y. x ≢ y) (names S) → HasPlainNames S → HasSpelledNames S
+
+-- Names stay plain with an entry more.
+abbrev pub NamesStayPlain : Type 0
+NamesStayPlain = (S : Signature) (e : Entry) → HasPlainNames S → All IsPlainName (names_of e) → HasPlainFamily e → HasPlainNames (pushed S e)
+
+-- The names of the prelude are plain.
+abbrev pub PreludeHasPlainNames : Type 0
+PreludeHasPlainNames = (k : Bool) → HasPlainNames (prelude k)
