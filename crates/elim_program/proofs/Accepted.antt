@@ -1,154 +1,175 @@
--- Where a line says that a definition is accepted, the lines above show it.
-use Rattle.std.proofs.Common.{◌≡◌, ◌≢◌, ℕ, Bool, true, false, nat_lt, List, [], ◌∷◌, ◌++◌, length, drop, codes, Option, Some, None, Result, Ok, Err, refl, sym, ap, subst, ◌∙◌, arith}
-use Rattle.std.specs.Prelude.{if◌then◌else◌}
-use Rattle.theory.specs.Terms.{Term}
+-- Where a line says that a declaration is accepted, the lines above show it.
+use Rattle.std.proofs.Common.{◌≡◌, ℕ, Bool, true, false, List, [], ◌∷◌, ◌++◌, ◌-◌, length, drop, codes, Some, Result, Ok, Err, refl, sym, ap, subst, ◌∙◌, arith, append_assoc, append-nil}
+use Rattle.std.specs.Prelude.{IfOk}
+use Rattle.theory.specs.Signatures.{Signature, IsPrefix}
 use Rattle.theory.specs.Prelude.{prelude}
-use Rattle.theory.specs.Typing.{Has, HasSort}
-use Rattle.theory.specs.Typing.IsContext.{empty}
-use Rattle.theory.specs.WellFormed.{IsTyped}
-use Rattle.theory.proofs.PreludeWellFormed.{prelude_is_well_formed}
-use Rattle.theory.proofs.WellFormedness.{well_formed_typed}
-use Rattle.theory.proofs.Scoping.{term_scoped}
-use Rattle.core_terms.specs.Verdicts.{Verdict, Yes, No}
-use Rattle.elim_program.specs.declared.halt.Halt.{Halt}
-use Rattle.elim_program.specs.declared.halt.Halt.TheVariants.{Memory, NotYet, Syntax, UnknownName, Deep, IllTyped}
-use Rattle.elim_program.specs.Answers.{and_then}
-use Rattle.elim_program.specs.Checking.{infer_sort, check}
-use Rattle.elim_program.specs.Headline.{IsShown, Headline}
-use Rattle.elim_program.specs.Outputs.{accepted_line, refusal_line, definition_block, text_block, block_of, limited, usage, head_lines, compiled}
-use Rattle.elim_program.specs.Printing.{definition_line, denial_text}
-use Rattle.elim_program.specs.Resolving.{resolve_closed}
-use Rattle.elim_program.specs.Texts.{Written, Definition, on_verdict, typed, accept, written_in}
-use Rattle.elim_program.specs.Words.{is_accepted}
-use Rattle.elim_program.proofs.Answering.{OkOf, ErrOf, ok-injective}
-use Rattle.elim_program.proofs.Soundness.{IfYes, HasUniverse, infer_sort-has, check-has}
+use Rattle.surface_syntax.specs.Trees as surf
+use Rattle.elab_session.specs.Declaring.{Declared, declare_of}
+use Rattle.elab_session.specs.Laws.{IsAsWritten}
+use Rattle.elab_session.specs.Sessions.{IsReady}
+use Rattle.elab_session.specs.declared.refusal.Refusal.{Refusal}
+use Rattle.elab_session.proofs.PreludeReady.{prelude-ready}
+use Rattle.elab_session.proofs.Written.{declare-extends, declare-ready, declares-written}
+use Rattle.elim_program.specs.declared.words.Command.{Command}
+use Rattle.elim_program.specs.Headline.{core_lines, Shows, none, more, IsShown}
+use Rattle.elim_program.specs.Outputs.{Output, IsOutput, refused_words, compiles, accepted_line, lines_behind, declared_name, declared_block, after, followed, declarations, text_block, head_lines}
+use Rattle.elim_program.specs.Refusals.{stop_line, refusal_line}
+use Rattle.elim_program.specs.Texts.{Answer, Gives}
+use Rattle.elim_program.specs.Words.{asked}
+use Rattle.elim_program.proofs.Lines.{entries-core, core-lines-core, core-lines-append, third, first_line, not_empty, not_one, Found, here, behind, find}
 
--- the third character, which tells the lines apart
-third : List ℕ → ℕ
-third (a ∷ b ∷ c ∷ cs) = c
-third _ = 0
+-- What is known before the declarations `ds` of a text: those before it were accepted, and `told` are their lines.
+record IsBefore (command : Command) (all ds : List surf.Decl) (told : List (List ℕ)) (S : Signature) : Type 0 where
+  done : List surf.Decl
+  parts : all ≡ done ++ ds
+  ready : IsReady S
+  has_k : S.has_k ≡ command.k
+  shown : Shows (prelude command.k) S (core_lines told)
 
--- lines none of which accepts
-AreOthers : List (List ℕ) → Type 0
-AreOthers [] = Unit {0}
-AreOthers (line ∷ lines) = (third line ≢ 97) × AreOthers lines
+-- a declaration of the text that is shown
+record IsFound (command : Command) (all : List surf.Decl) (lines : List (List ℕ)) (name : List ℕ) : Type 0 where
+  front : List surf.Decl
+  declaration : surf.Decl
+  back : List surf.Decl
+  in_text : all ≡ front ++ declaration ∷ back
+  before : Signature
+  ready : IsReady before
+  has_k : before.has_k ≡ command.k
+  accepted : Declared
+  written : IsAsWritten before declaration accepted
+  named : accepted.accepted.name ≡ name
+  whole : IsReady accepted.signature
+  shown : Shows (prelude command.k) accepted.signature (core_lines lines)
 
-first_line : List (List ℕ) → List ℕ
-first_line [] = []
-first_line (line ∷ lines) = line
+pub if_ok : {A : Type 0} {E : Type 0} (P : A → Type 0) (r : Result A E) (a : A) → r ≡ Ok a → IfOk r P → P a
+if_ok {A} {E} P r a e h = let R : Result A E → Type 0 = λ x. IfOk x P in subst R e h
 
-not_empty : (front back : List (List ℕ)) (line : List ℕ) → [] ≡ front ++ line ∷ back → ⊥
-not_empty [] back line e = cc
-not_empty (x ∷ front) back line e = cc
+-- what is known behind a declaration that is accepted
+onward : (command : Command) (all : List surf.Decl) (d : surf.Decl) (ds : List surf.Decl) (told : List (List ℕ)) (S : Signature) (a : Declared) →
+    IsBefore command all (d ∷ ds) told S → IsReady a.signature → IsPrefix S a.signature →
+    IsBefore command all ds (told ++ (lines_behind S a.signature ++ accepted_line a.accepted.name ∷ [])) a.signature
+onward command all d ds told S a b ready longer =
+    let entries = lines_behind S a.signature in
+    let P : List (List ℕ) → Type 0 = λ ls. Shows (prelude command.k) a.signature ls in
+    let core : core_lines (told ++ (entries ++ accepted_line a.accepted.name ∷ [])) ≡ core_lines told ++ entries =
+    core-lines-append told (entries ++ accepted_line a.accepted.name ∷ [])
+    ∙ ap (λ ls. core_lines told ++ ls) (core-lines-core entries (accepted_line a.accepted.name ∷ []) (entries-core a.signature (length S.entries) (length a.signature.entries - length S.entries)) ∙ append-nil entries) in
+    record {
+      done = b.done ++ d ∷ [];
+      parts = b.parts ∙ sym (append_assoc b.done (d ∷ []) ds);
+      ready = ready;
+      has_k = longer.has_k ∙ b.has_k;
+      shown = subst P (sym core) (more S a.signature (core_lines told) b.shown longer);
+    }
 
-no_accepted : (lines front back : List (List ℕ)) (name : List ℕ) → AreOthers lines → lines ≡ front ++ accepted_line name ∷ back → ⊥
-unfolding third AreOthers first_line
-no_accepted [] front back name h e = not_empty front back (accepted_line name) e
-no_accepted (line ∷ lines) [] back name h e = h.0 (ap (λ ls. third (first_line ls)) e)
-no_accepted (line ∷ lines) (x ∷ front) back name h e = no_accepted lines front back name h.1 (ap (drop 1) e)
+shown_here : (command : Command) (all : List surf.Decl) (d : surf.Decl) (ds : List surf.Decl) (told : List (List ℕ)) (S : Signature) (a : Declared) (name : List ℕ) →
+    IsBefore command all (d ∷ ds) told S → IsReady a.signature → IsPrefix S a.signature → IsAsWritten S d a → a.accepted.name ≡ name →
+    IsFound command all (told ++ lines_behind S a.signature) name
+shown_here command all d ds told S a name b ready longer written named =
+    let entries = lines_behind S a.signature in
+    let P : List (List ℕ) → Type 0 = λ ls. Shows (prelude command.k) a.signature ls in
+    let same : core_lines entries ≡ entries =
+    ap core_lines (sym (append-nil entries)) ∙ core-lines-core entries [] (entries-core a.signature (length S.entries) (length a.signature.entries - length S.entries)) ∙ append-nil entries in
+    let core : core_lines (told ++ entries) ≡ core_lines told ++ entries = core-lines-append told entries ∙ ap (λ ls. core_lines told ++ ls) same in
+    record {
+      front = b.done;
+      declaration = d;
+      back = ds;
+      in_text = b.parts;
+      before = S;
+      ready = b.ready;
+      has_k = b.has_k;
+      accepted = a;
+      written = written;
+      named = named;
+      whole = ready;
+      shown = subst P (sym core) (more S a.signature (core_lines told) b.shown longer);
+    }
 
-last_accepted : (lines front back : List (List ℕ)) (n name : List ℕ) → AreOthers lines
-    → lines ++ accepted_line n ∷ [] ≡ front ++ accepted_line name ∷ back → (front ≡ lines) × (n ≡ name)
-unfolding third AreOthers first_line
-last_accepted [] [] back n name h e = (refl, ap (λ ls. drop 11 (first_line ls)) e)
-last_accepted [] (x ∷ front) back n name h e = absurd (not_empty front back (accepted_line name) (ap (drop 1) e))
-last_accepted (line ∷ lines) [] back n name h e = absurd (h.0 (ap (λ ls. third (first_line ls)) e))
-last_accepted (line ∷ lines) (x ∷ front) back n name h e =
-    let rest = last_accepted lines front back n name h.1 (ap (drop 1) e) in
-    let same : line ≡ x = ap first_line e in
-    (ap (λ ls. x ∷ ls) rest.0 ∙ ap (λ l. l ∷ lines) (sym same), rest.1)
-
-refusal_other : (front : List ℕ) (halt : Halt) → third (refusal_line front halt) ≢ 97
+found : (command : Command) (all : List surf.Decl) (S : Signature) (ds : List surf.Decl) (told above below : List (List ℕ)) (name : List ℕ) →
+    IsBefore command all ds told S → (declarations command.fuel S ds).lines ≡ above ++ accepted_line name ∷ below → IsFound command all (told ++ above) name
 unfolding third
-refusal_other front Memory e = omega (arith, e)
-refusal_other front (NotYet offset) e = omega (arith, e)
-refusal_other front (Syntax offset) e = omega (arith, e)
-refusal_other front (UnknownName offset word) e = omega (arith, e)
-refusal_other front Deep e = omega (arith, e)
-refusal_other front (IllTyped text) e = omega (arith, e)
-
-prelude_typed : IsTyped (prelude false)
-prelude_typed = well_formed_typed (prelude false) (prelude_is_well_formed false)
-
--- what is accepted has its type
-record IsAccepted (w : Written) (d : Definition) : Type 0 where
-  pub type_written : resolve_closed w.type ≡ Ok d.type
-  pub body_written : resolve_closed w.body ≡ Ok d.body
-  pub sort : HasSort (prelude false) [] d.type
-  pub has : Has (prelude false) [] d.body d.type
-
-err_ok : {A : Type 0} (h : Halt) (a : A) → ErrOf A h ≡ OkOf A a → ⊥
-err_ok h a e = cc
-
-typed_is : (w : Written) (type body : Term) (d : Definition) → resolve_closed w.type ≡ Ok type → resolve_closed w.body ≡ Ok body
-    → typed type body ≡ Ok d → IsAccepted w d
-typed_is w type body d et eb e =
-    go (infer_sort [] type) (check [] body type) (infer_sort-has (prelude false) prelude_typed [] type empty)
-    (check-has (prelude false) prelude_typed [] body type empty) e
+found command all S [] told above below name b e = absurd (not_empty above below (accepted_line name) e)
+found command all S (d ∷ ds) told above below name b e =
+    go (λ T later told b r. found command all T ds told later below name b r) (declare_of S command.fuel d) refl e
   where
-    go : (v1 v2 : Verdict) → IfYes v1 (HasUniverse (prelude false) [] type) → IfYes v2 (λ _. Has (prelude false) [] body type)
-        → on_verdict (codes "type") v1 (on_verdict (codes "body") v2 (OkOf Definition (record { type = type; body = body }))) ≡ OkOf Definition d → IsAccepted w d
-    go (Yes s) (Yes t) h k e =
-        let same : record { type = type; body = body } ≡ d = ok-injective e in
-        let P : Definition → Type 0 = λ x. IsAccepted w x in
-        subst P same (record { type_written = et; body_written = eb; sort = (h.0, h.2); has = k })
-    go (Yes s) (No denial) h k e = absurd (err_ok (IllTyped (denial_text (codes "body") denial)) d e)
-    go (No denial) v2 h k e = absurd (err_ok (IllTyped (denial_text (codes "type") denial)) d e)
+    go : ((T : Signature) (later told : List (List ℕ)) → IsBefore command all ds told T → (declarations command.fuel T ds).lines ≡ later ++ accepted_line name ∷ below → IsFound command all (told ++ later) name)
+        → (r : Result Declared Refusal) → declare_of S command.fuel d ≡ r
+        → (followed (declared_block S d r) (declarations command.fuel (after S r) ds)).lines ≡ above ++ accepted_line name ∷ below
+        → IsFound command all (told ++ above) name
+    go rec (Err refusal) er e = absurd (not_one (refusal_line (declared_name d) refusal) above below name (λ k. omega (arith, k)) e)
+    go rec (Ok a) er e =
+        let longer = if_ok (λ x. IsPrefix S x.signature) (declare_of S command.fuel d) a er (declare-extends S command.fuel d) in
+        let ready = if_ok (λ x. IsReady x.signature) (declare_of S command.fuel d) a er (declare-ready S command.fuel d b.ready) in
+        let written = if_ok (IsAsWritten S d) (declare_of S command.fuel d) a er (declares-written S command.fuel d b.ready.well_formed) in
+        let entries = lines_behind S a.signature in
+        let split : entries ++ accepted_line a.accepted.name ∷ (declarations command.fuel a.signature ds).lines ≡ above ++ accepted_line name ∷ below =
+        sym (append_assoc entries (accepted_line a.accepted.name ∷ []) (declarations command.fuel a.signature ds).lines) ∙ e in
+        which longer ready written (find entries (declarations command.fuel a.signature ds).lines above below a.accepted.name name (entries-core a.signature (length S.entries) (length a.signature.entries - length S.entries)) split)
+      where
+        which : IsPrefix S a.signature → IsReady a.signature → IsAsWritten S d a
+            → Found (lines_behind S a.signature) (declarations command.fuel a.signature ds).lines above below a.accepted.name name → IsFound command all (told ++ above) name
+        which longer ready written (here f m r) =
+            let P : List (List ℕ) → Type 0 = λ ls. IsFound command all (told ++ ls) name in
+            subst P (sym f) (shown_here command all d ds told S a name b ready longer written m)
+        which longer ready written (behind later f r) =
+            let block = lines_behind S a.signature ++ accepted_line a.accepted.name ∷ [] in
+            let P : List (List ℕ) → Type 0 = λ ls. IsFound command all ls name in
+            let place : (told ++ block) ++ later ≡ told ++ above =
+            append_assoc told block later ∙ ap (λ ls. told ++ ls) (append_assoc (lines_behind S a.signature) (accepted_line a.accepted.name ∷ []) later ∙ sym f) in
+            subst P place (rec a.signature later (told ++ block) (onward command all d ds told S a b ready longer) r)
 
-accept_is : (w : Written) (d : Definition) → accept w ≡ Ok d → IsAccepted w d
-accept_is w d e = go (resolve_closed w.type) (resolve_closed w.body) refl refl e
+-- what is found in a text is shown
+as_shown : (words : List (List ℕ)) (bytes : List ℕ) (command : Command) (decls : List surf.Decl) (lines : List (List ℕ)) (name : List ℕ) →
+    asked words ≡ Some command → Gives bytes (Ok decls) → IsFound command decls lines name → IsShown words bytes (head_lines command.k ++ lines) name
+as_shown words bytes command decls lines name asks gives f = record {
+  command = command;
+  asked_for = asks;
+  decls = decls;
+  text = gives;
+  front = f.front;
+  declaration = f.declaration;
+  back = f.back;
+  in_text = f.in_text;
+  before = f.before;
+  ready = f.ready;
+  has_k = f.has_k;
+  accepted = f.accepted;
+  written = f.written;
+  named = f.named;
+  whole = f.whole;
+  lines = lines;
+  heads = refl;
+  shown = f.shown;
+}
+
+-- the head lines accept nothing
+behind_heads : (k : Bool) (rest above below : List (List ℕ)) (name : List ℕ) → head_lines k ++ rest ≡ above ++ accepted_line name ∷ below →
+    (later : List (List ℕ)) × (above ≡ head_lines k ++ later) × (rest ≡ later ++ accepted_line name ∷ below)
+unfolding third first_line
+behind_heads k rest [] below name e = absurd (let h = ap (λ ls. third (first_line ls)) e in omega (arith, h))
+behind_heads true rest (x ∷ []) below name e = absurd (let h = ap (λ ls. third (first_line (drop 1 ls))) e in omega (arith, h))
+behind_heads false rest (x ∷ []) below name e = absurd (let h = ap (λ ls. third (first_line (drop 1 ls))) e in omega (arith, h))
+behind_heads k rest (x ∷ y ∷ above) below name e =
+    (above, ap (λ l. l ∷ y ∷ above) (sym (ap first_line e)) ∙ ap (λ l. codes "elim 1" ∷ l ∷ above) (sym (ap (λ ls. first_line (drop 1 ls)) e)), ap (drop 2) e)
+
+pub shown : (words : List (List ℕ)) (bytes : List ℕ) (out : Output) (above below : List (List ℕ)) (name : List ℕ) → IsOutput words bytes out → out.lines ≡ above ++ accepted_line name ∷ below →
+    IsShown words bytes above name
+unfolding third
+shown words bytes out above below name (refused_words asks) e = absurd (not_one (codes "# usage elim (compile [--k] | verify [--k] | work N) [--fuel N]") above below name (λ k. omega (arith, k)) e)
+shown words bytes out above below name (compiles command answer asks gives) e =
+    let b = behind_heads command.k (text_block command answer).lines above below name e in
+    let P : List (List ℕ) → Type 0 = λ ls. IsShown words bytes ls name in
+    subst P (sym b.1) (go answer gives b.0 b.2)
   where
-    go : (rt rb : Result Term Halt) → resolve_closed w.type ≡ rt → resolve_closed w.body ≡ rb
-        → and_then rt (λ type. and_then rb (λ body. typed type body)) ≡ OkOf Definition d → IsAccepted w d
-    go (Ok type) (Ok body) et eb e = typed_is w type body d et eb e
-    go (Ok type) (Err h) et eb e = absurd (err_ok h d e)
-    go (Err h) rb et eb e = absurd (err_ok h d e)
-
--- the lines in front of a last one that refuses or accepts nothing
-others_of : (line : List ℕ) → third line ≢ 97 → AreOthers (head_lines ++ line ∷ [])
-unfolding third AreOthers
-others_of line h = ((λ e. omega (arith, e)), ((λ e. omega (arith, e)), (h, tt)))
-
-pub headline : Headline
-unfolding third AreOthers
-headline words bytes above below name e = go (is_accepted words) e
-  where
-    nothing : AreOthers head_lines
-    nothing = ((λ e. omega (arith, e)), ((λ e. omega (arith, e)), tt))
-
-    refused : (front : List ℕ) (halt : Halt) → head_lines ++ refusal_line front halt ∷ [] ≡ above ++ accepted_line name ∷ below → IsShown bytes above name
-    refused front halt e = absurd (no_accepted (head_lines ++ refusal_line front halt ∷ []) above below name (others_of (refusal_line front halt) (refusal_other front halt)) e)
-
-    defined : (w : Written) → written_in bytes ≡ Ok (Some w) → (r : Result Definition Halt) → accept w ≡ r
-        → head_lines ++ (definition_block w.name r).lines ≡ above ++ accepted_line name ∷ below → IsShown bytes above name
-    defined w ew (Err halt) er e = refused (w.name ++ codes " ") halt e
-    defined w ew (Ok d) er e =
-        let is = accept_is w d er in
-        let line = definition_line w.name d.type d.body in
-        let last = last_accepted (head_lines ++ line ∷ []) above below w.name name (others_of line (λ e1. omega (arith, e1))) e in
-        record {
-          written = w;
-          in_text = ew;
-          named = last.1;
-          type = d.type;
-          body = d.body;
-          type_written = is.type_written;
-          body_written = is.body_written;
-          shown = last.0 ∙ ap (λ n. head_lines ++ definition_line n d.type d.body ∷ []) last.1;
-          closed = omega (arith, term_scoped is.has);
-          type_sort = is.sort;
-          typed = is.has;
-        }
-
-    text : (r : Result (Option Written) Halt) → written_in bytes ≡ r → head_lines ++ (text_block r).lines ≡ above ++ accepted_line name ∷ below → IsShown bytes above name
-    text (Ok None) ew e = absurd (no_accepted head_lines above below name nothing e)
-    text (Ok (Some w)) ew e = defined w ew (accept w) refl e
-    text (Err halt) ew e = refused [] halt e
-
-    size : (long : Bool) → head_lines ++ (block_of (if long then None else Some bytes)).lines ≡ above ++ accepted_line name ∷ below → IsShown bytes above name
-    size true e = refused [] (NotYet 1024) e
-    size false e = text (written_in bytes) refl e
-
-    go : (accepted : Bool) → (if accepted then compiled (block_of (limited bytes)) else usage).lines ≡ above ++ accepted_line name ∷ below → IsShown bytes above name
-    go false e = absurd (no_accepted usage.lines above below name ((λ e1. omega (arith, e1)), tt) e)
-    go true e = size (nat_lt 1024 (length bytes)) e
+    go : (answer : Answer) → Gives bytes answer → (later : List (List ℕ)) → (text_block command answer).lines ≡ later ++ accepted_line name ∷ below
+        → IsShown words bytes (head_lines command.k ++ later) name
+    go (Err stop) gives later e = absurd (not_one (stop_line stop) later below name (λ k. omega (arith, k)) e)
+    go (Ok decls) gives later e =
+        as_shown words bytes command decls later name asks gives (found command decls (prelude command.k) decls [] later below name (record {
+          done = [];
+          parts = refl;
+          ready = prelude-ready (prelude command.k) command.k refl;
+          has_k = refl;
+          shown = none;
+        }) e)

@@ -1,5 +1,5 @@
 -- What is written part by part follows the whole output.
-use Rattle.std.proofs.Common.{◌≡◌, ◌≢◌, ℕ, ◌+◌, ◌<◌, ◌≤◌, ◌↔◌, ◌⊎◌, inl, inr, Bool, true, false, nat_lt, List, [], ◌∷◌, ◌++◌, length, take, drop, Option, Some, None, Result, Err, IfSome, IsOk, refl, sym, ap, subst, ◌∙◌, arith, append_assoc, append-nil}
+use Rattle.std.proofs.Common.{◌≡◌, ◌≢◌, ℕ, ◌+◌, ◌<◌, ◌≤◌, ◌↔◌, ◌⊎◌, inl, inr, Bool, true, false, nat_lt, List, [], ◌∷◌, ◌++◌, length, take, drop, Option, Some, None, Result, Ok, Err, IfSome, IsOk, refl, sym, ap, subst, ◌∙◌, arith, append_assoc, append-nil}
 use Rattle.std.specs.Prelude.{if◌then◌else◌}
 use Rattle.std.specs.Io.KnownBytes.{Appends}
 use Rattle.std.proofs.lemmas.Bool.Decides.{nat_tests}
@@ -9,24 +9,22 @@ use Rattle.elim_ports.specs.declared.reading.ReadError.{ReadError}
 use Rattle.elim_ports.specs.declared.reading.ReadError.TheVariants.{TooLong}
 use Rattle.elim_ports.specs.Reading.{ReadsAll}
 use Rattle.elim_program.specs.declared.status.Status.{Status}
-use Rattle.elim_program.specs.declared.status.Status.TheVariants.{Done, Refused, ReadFault, WriteFault, NoMemory}
+use Rattle.elim_program.specs.declared.status.Status.TheVariants.{Done, Refused, Usage, ReadFault, WriteFault, NoMemory}
 use Rattle.elim_program.specs.Lines.{text_of}
-use Rattle.elim_program.specs.Outputs.{Block, Output, block_of, compiled, defined_output, head_lines, limited, usage}
+use Rattle.elim_program.specs.Outputs.{Block, Output, compiled, head_lines, followed}
 use Rattle.elim_program.specs.Blocks.{Shown, shown_block}
-use Rattle.elim_program.proofs.Answering.{OkOf, ok-injective}
-use Rattle.elim_program.specs.Runs.{Follows, Runs, Says, Sent}
-use Rattle.elim_program.specs.Words.{is_accepted}
-use Rattle.elim_program.proofs.Whole.{ran}
+use Rattle.elim_program.proofs.TextLines.{text_both}
+use Rattle.elim_program.specs.Runs.{IsFront, Follows, Says, Sent, Told, Failed, limited}
 
 -- The bytes of a source.
 
-limited-long : (bytes : List ℕ) → 1024 < length bytes → None ≡ limited bytes
+pub limited-long : (bytes : List ℕ) → 1048576 < length bytes → None ≡ limited bytes
 limited-long bytes long =
-    let e : nat_lt 1024 (length bytes) ≡ true = grind (arith, nat_tests) in
+    let e : nat_lt 1048576 (length bytes) ≡ true = grind (arith, nat_tests) in
     sym (ap (λ b. if b then None else Some bytes) e)
 
-pub long_bytes : (known after : Option (List ℕ)) (r : Result (List ℕ) ReadError) → r ≡ Err TooLong → ReadsAll known after r 1024
-    → IfSome known (λ left. r ≡ Err TooLong → 1024 < length left)
+pub long_bytes : (known after : Option (List ℕ)) (r : Result (List ℕ) ReadError) → r ≡ Err TooLong → ReadsAll known after r 1048576
+    → IfSome known (λ left. r ≡ Err TooLong → 1048576 < length left)
     → (bytes : List ℕ) × IfSome known (λ k. bytes ≡ k) × (None ≡ limited bytes)
 long_bytes None after r e reads h = (reads.came, tt, limited-long reads.came (reads.too_long.0 e))
 long_bytes (Some k) after r e reads h = (k, refl, limited-long k (h e))
@@ -37,15 +35,21 @@ no_bytes (Some k) = (k, refl, tt)
 
 -- A text that did not go out whole.
 
+abbrev pub IsLost : Status → Type 0
+IsLost status = (status ≡ WriteFault) ⊎ (status ≡ NoMemory)
+
+failed : (status : Status) (text whole : List ℕ) → IsLost status → text ≢ whole → Failed status text whole
+failed status text whole (inl e) h = subst (λ s. Failed s text whole) (sym e) h
+failed status text whole (inr e) h = subst (λ s. Failed s text whole) (sym e) tt
+
 pub sent_part : (before after : Option (List ℕ)) (n : ℕ) (r : Result (Unit {0}) PortError) (e : PortError) (bytes : List ℕ) (status : Status) →
-    Appends before after (take n bytes) → (IsOk r ↔ (n ≡ length bytes)) → n ≤ length bytes → r ≡ Err e →
-    (status ≡ WriteFault) ⊎ (status ≡ NoMemory) →
+    Appends before after (take n bytes) → (IsOk r ↔ (n ≡ length bytes)) → n ≤ length bytes → r ≡ Err e → IsLost status →
     (text : List ℕ) × Appends before after text × Sent (Err status) text bytes
-sent_part before after n r e bytes status appended ok within failed s =
-    (take n bytes, appended, ((drop n bytes, sym (take-append-drop n bytes)), not_whole, s))
+sent_part before after n r e bytes status appended ok within lost s =
+    (take n bytes, appended, ((drop n bytes, sym (take-append-drop n bytes)), failed status (take n bytes) bytes s not_whole))
   where
     no_ok : IsOk r → ⊥
-    no_ok h = let R : Result (Unit {0}) PortError → Type 0 = λ x. IsOk x in let k : R (Err e) = subst R failed h in cc
+    no_ok h = let R : Result (Unit {0}) PortError → Type 0 = λ x. IsOk x in let k : R (Err e) = subst R lost h in cc
 
     not_whole : take n bytes ≡ bytes → ⊥
     not_whole whole =
@@ -60,145 +64,197 @@ appends-both (Some a) None after x y h k = absurd h
 appends-both (Some a) (Some b) None x y h k = absurd k
 appends-both (Some a) (Some b) (Some c) x y h k = k ∙ ap (λ l. l ++ y) h ∙ append_assoc a x y
 
-says-failed : (status : Status) (out : Output) (text : List ℕ) → (status ≡ WriteFault) ⊎ (status ≡ NoMemory) → text ≢ text_of out.lines → Says status out text
-says-failed status out text (inl e) h = subst (λ s. Says s out text) (sym e) h
-says-failed status out text (inr e) h = subst (λ s. Says s out text) (sym e) tt
+pub appends-nothing : (known : Option (List ℕ)) → Appends known known []
+appends-nothing None = tt
+appends-nothing (Some text) = sym (append-nil text)
 
-pub follows_part : (out : Output) (before after : Option (List ℕ)) (status : Status) →
-    ((text : List ℕ) × Appends before after text × Sent (Err status) text (text_of out.lines)) → Follows out before after status
-follows_part out before after status sent = record {
-  text = sent.0;
-  appended = sent.1;
-  front = sent.2.0;
-  says = says-failed status out sent.0 sent.2.2 sent.2.1;
-}
+-- Blocks.
+
+-- a block went out, or a front of it
+abbrev pub Tells : Option (List ℕ) → Option (List ℕ) → Result Bool Status → Block → Type 0
+Tells before after r b = (text : List ℕ) × Appends before after text × Told r b text
+
+pub no_block : (before : Option (List ℕ)) (status : Status) (b : Block) → status ≡ NoMemory → Tells before before (Err status) b
+no_block before status b e = ([], appends-nothing before, ((text_of b.lines, refl), subst (λ s. Failed s [] (text_of b.lines)) (sym e) tt))
+
+pub part_of_block : (before after : Option (List ℕ)) (status : Status) (s : Shown) (b : Block) (bytes : List ℕ) → s ≡ shown_block b → bytes ≡ s.text →
+    ((text : List ℕ) × Appends before after text × Sent (Err status) text bytes) → Tells before after (Err status) b
+part_of_block before after status s b bytes e eb sent =
+    let same : bytes ≡ text_of b.lines = eb ∙ ap (λ x. x.text) e in
+    let P : List ℕ → Type 0 = λ whole. (text : List ℕ) × Appends before after text × Sent (Err status) text whole in
+    subst P same sent
+
+pub whole_block : (before after : Option (List ℕ)) (u : Unit {0}) (s : Shown) (b : Block) (bytes : List ℕ) → s ≡ shown_block b → bytes ≡ s.text →
+    ((text : List ℕ) × Appends before after text × (text ≡ bytes)) → Tells before after (Ok s.refused) b
+whole_block before after u s b bytes e eb sent = (sent.0, sent.1, (sent.2 ∙ eb ∙ ap (λ x. x.text) e, ap (λ x. x.refused) e))
+
+-- Blocks one by one: what went out so far, where the lines of `rest` are still to come for those of `whole`.
+pub record IsTelling (before now : Option (List ℕ)) (whole rest : Block) : Type 0 where
+  pub text : List ℕ
+  pub appended : Appends before now text
+  pub parts : text_of whole.lines ≡ text ++ text_of rest.lines
+  pub refused : whole.refused ≡ rest.refused
+
+pub telling : (before : Option (List ℕ)) (whole : Block) → IsTelling before before whole whole
+telling before whole = record { text = []; appended = appends-nothing before; parts = refl; refused = refl }
+
+-- a block that does not refuse went out
+pub told_one : (before middle after : Option (List ℕ)) (whole b rest : Block) → IsTelling before middle whole (followed b rest) → Tells middle after (Ok false) b →
+    IsTelling before after whole rest
+told_one before middle after whole b rest t one =
+    let refuses : b.refused ≡ false = sym one.2.1 in
+    let next : followed b rest ≡ record { lines = b.lines ++ rest.lines; refused = rest.refused } =
+    ap (λ x. if x then b else record { lines = b.lines ++ rest.lines; refused = rest.refused }) refuses in
+    record {
+      text = t.text ++ one.0;
+      appended = appends-both before middle after t.text one.0 t.appended one.1;
+      parts = t.parts ∙ ap (λ x. t.text ++ text_of x.lines) next ∙ ap (λ l. t.text ++ l) (text_both b.lines rest.lines ∙ ap (λ l. l ++ text_of rest.lines) (sym one.2.0)) ∙ sym (append_assoc t.text one.0 (text_of rest.lines));
+      refused = t.refused ∙ ap (λ x. x.refused) next;
+    }
+
+-- the last block refuses
+pub told_last : (before middle after : Option (List ℕ)) (whole b rest : Block) → IsTelling before middle whole (followed b rest) → Tells middle after (Ok true) b →
+    Tells before after (Ok true) whole
+told_last before middle after whole b rest t one =
+    let refuses : b.refused ≡ true = sym one.2.1 in
+    let next : followed b rest ≡ b = ap (λ x. if x then b else record { lines = b.lines ++ rest.lines; refused = rest.refused }) refuses in (
+      t.text ++ one.0,
+      appends-both before middle after t.text one.0 t.appended one.1,
+      (
+        ap (λ l. t.text ++ l) one.2.0 ∙ sym (t.parts ∙ ap (λ x. t.text ++ text_of x.lines) next),
+        sym (t.refused ∙ ap (λ x. x.refused) next ∙ refuses),
+      ),
+    )
+
+front_of : (b rest : Block) (x : List ℕ) → IsFront x (text_of b.lines) → IsFront x (text_of (followed b rest).lines)
+front_of b rest x f = go b.refused
+  where
+    go : (r : Bool) → IsFront x (text_of (if r then b else record { lines = b.lines ++ rest.lines; refused = rest.refused }).lines)
+    go true = f
+    go false = (f.0 ++ text_of rest.lines, text_both b.lines rest.lines ∙ ap (λ l. l ++ text_of rest.lines) f.1 ∙ append_assoc x f.0 (text_of rest.lines))
 
 no_items : (l : List ℕ) → length l ≡ 0 → l ≡ []
 no_items [] e = refl
 no_items (x ∷ xs) e = absurd (omega (arith, e))
 
-pub shown-text : (b : Block) (s : Shown) → OkOf Shown s ≡ OkOf Shown (shown_block b) → s.text ≡ text_of b.lines
-shown-text b s e = ap (λ x. x.text) (ok-injective e)
+-- a front that is not the whole is not the whole of more
+not_more : (x y z : List ℕ) → IsFront x y → x ≢ y → x ≢ y ++ z
+not_more x y z f h e =
+    let l1 : length x ≡ length y + length z = ap length e ∙ length-append y z in
+    let l2 : length y ≡ length x + length f.0 = ap length f.1 ∙ length-append x f.0 in
+    let none : f.0 ≡ [] = no_items f.0 (omega (arith, l1, l2)) in
+    h (sym (f.1 ∙ ap (λ l. x ++ l) none ∙ append-nil x))
 
-pub shown-refused : (b : Block) (s : Shown) → OkOf Shown s ≡ OkOf Shown (shown_block b) → s.refused ≡ b.refused
-shown-refused b s e = ap (λ x. x.refused) (ok-injective e)
+lost_of : (status : Status) (x y : List ℕ) → Failed status x y → IsLost status
+lost_of WriteFault x y h = inl refl
+lost_of NoMemory x y h = inr refl
+lost_of Done x y h = absurd h
+lost_of Refused x y h = absurd h
+lost_of Usage x y h = absurd h
+lost_of ReadFault x y h = absurd h
 
-pub status-of : (b : Block) (s : Shown) (r : Bool) → OkOf Shown s ≡ OkOf Shown (shown_block b) → s.refused ≡ r
-    → (compiled b).status ≡ (if r then Refused else Done)
-status-of b s r e h = ap (λ x. if x then Refused else Done) (sym (shown-refused b s e) ∙ h)
+-- what failed of a part fails of the whole
+failed_part : (status : Status) (front x y z whole : List ℕ) → IsFront x y → Failed status x y → whole ≡ front ++ (y ++ z) → Failed status (front ++ x) whole
+failed_part WriteFault front x y z whole f h e = λ k. not_more x y z f h (append_cancel_left front x (y ++ z) (k ∙ e))
+failed_part NoMemory front x y z whole f h e = tt
+failed_part Done front x y z whole f h e = absurd h
+failed_part Refused front x y z whole f h e = absurd h
+failed_part Usage front x y z whole f h e = absurd h
+failed_part ReadFault front x y z whole f h e = absurd h
 
--- not all of the head is not all of the output
-pub head_part : (b : Block) (before after : Option (List ℕ)) (status : Status) →
-    ((text : List ℕ) × Appends before after text × Sent (Err status) text (text_of head_lines)) → Follows (compiled b) before after status
-head_part b before after status sent =
-    follows_part (compiled b) before after status (
-      sent.0,
-      sent.1,
+-- the text of a block and of what follows it
+behind_block : (b rest : Block) → (more : List ℕ) × (text_of (followed b rest).lines ≡ text_of b.lines ++ more)
+behind_block b rest = go b.refused
+  where
+    go : (r : Bool) → (more : List ℕ) × (text_of (if r then b else record { lines = b.lines ++ rest.lines; refused = rest.refused }).lines ≡ text_of b.lines ++ more)
+    go true = ([], sym (append-nil (text_of b.lines)))
+    go false = (text_of rest.lines, text_both b.lines rest.lines)
+
+pub told_part : (before middle after : Option (List ℕ)) (whole b rest : Block) (status : Status) → IsTelling before middle whole (followed b rest) → Tells middle after (Err status) b →
+    Tells before after (Err status) whole
+told_part before middle after whole b rest status t one =
+    let more = behind_block b rest in
+    let all : text_of whole.lines ≡ t.text ++ (text_of b.lines ++ more.0) = t.parts ∙ ap (λ l. t.text ++ l) more.1 in
+    let front = one.2.0 in (
+      t.text ++ one.0,
+      appends-both before middle after t.text one.0 t.appended one.1,
       (
-        (sent.2.0.0 ++ text_of b.lines, ap (λ l. l ++ text_of b.lines) sent.2.0.1 ∙ append_assoc sent.0 sent.2.0.0 (text_of b.lines)),
-        not_whole,
-        sent.2.2,
+        (front.0 ++ more.0, all ∙ ap (λ l. t.text ++ l) (ap (λ l. l ++ more.0) front.1 ∙ append_assoc one.0 front.0 more.0) ∙ sym (append_assoc t.text one.0 (front.0 ++ more.0))),
+        failed_part status t.text one.0 (text_of b.lines) more.0 (text_of whole.lines) front one.2.1 all,
       ),
     )
-  where
-    not_whole : sent.0 ≡ text_of (compiled b).lines → ⊥
-    not_whole whole =
-        let l1 : length sent.0 ≡ length (text_of head_lines) + length (text_of b.lines) =
-        ap length whole ∙ length-append (text_of head_lines) (text_of b.lines) in
-        let l2 : length (text_of head_lines) ≡ length sent.0 + length sent.2.0.0 =
-        ap length sent.2.0.1 ∙ length-append sent.0 sent.2.0.0 in
-        let none : sent.2.0.0 ≡ [] = no_items sent.2.0.0 (omega (arith, l1, l2)) in
-        sent.2.1 (sym (sent.2.0.1 ∙ ap (λ l. sent.0 ++ l) none ∙ append-nil sent.0))
 
-pub head_only : (b : Block) (before after : Option (List ℕ)) →
-    ((text : List ℕ) × Appends before after text × (text ≡ text_of head_lines)) → Follows (compiled b) before after NoMemory
-head_only b before after sent = record {
+pub told_all : (before after : Option (List ℕ)) (whole : Block) → IsTelling before after whole (record { lines = []; refused = false }) → Tells before after (Ok false) whole
+told_all before after whole t = (t.text, t.appended, (sym (t.parts ∙ append-nil t.text), sym t.refused))
+
+-- The head lines and what follows them.
+
+says_lost : (status : Status) (out : Output) (text : List ℕ) → Failed status text (text_of out.lines) → Says status out text
+says_lost WriteFault out text h = h
+says_lost NoMemory out text h = tt
+says_lost Done out text h = absurd h
+says_lost Refused out text h = absurd h
+says_lost Usage out text h = absurd h
+says_lost ReadFault out text h = absurd h
+
+pub head_part : (k : Bool) (b : Block) (before after : Option (List ℕ)) (status : Status) (bytes : List ℕ) → bytes ≡ text_of (head_lines k) →
+    ((text : List ℕ) × Appends before after text × Sent (Err status) text bytes) → Follows (compiled k b) before after status
+head_part k b before after status bytes eb sent0 =
+    let P : List ℕ → Type 0 = λ whole. (text : List ℕ) × Appends before after text × Sent (Err status) text whole in
+    let sent : P (text_of (head_lines k)) = subst P eb sent0 in
+    let all : text_of (head_lines k ++ b.lines) ≡ text_of (head_lines k) ++ text_of b.lines = text_both (head_lines k) b.lines in
+    record {
+      text = sent.0;
+      appended = sent.1;
+      front = (sent.2.0.0 ++ text_of b.lines, all ∙ ap (λ l. l ++ text_of b.lines) sent.2.0.1 ∙ append_assoc sent.0 sent.2.0.0 (text_of b.lines));
+      says = says_lost status (compiled k b) sent.0 (failed_part status [] sent.0 (text_of (head_lines k)) (text_of b.lines) (text_of (compiled k b).lines) sent.2.0 sent.2.1 all);
+    }
+
+pub body_part : (k : Bool) (b : Block) (before middle after : Option (List ℕ)) (status : Status) (bytes : List ℕ) → bytes ≡ text_of (head_lines k) →
+    ((text : List ℕ) × Appends before middle text × (text ≡ bytes)) → Tells middle after (Err status) b → Follows (compiled k b) before after status
+body_part k b before middle after status bytes eb head told =
+    let all : text_of (head_lines k ++ b.lines) ≡ head.0 ++ text_of b.lines = text_both (head_lines k) b.lines ∙ ap (λ l. l ++ text_of b.lines) (sym (head.2 ∙ eb)) in
+    let same : text_of (head_lines k ++ b.lines) ≡ head.0 ++ (text_of b.lines ++ []) = all ∙ ap (λ l. head.0 ++ l) (sym (append-nil (text_of b.lines))) in
+    record {
+      text = head.0 ++ told.0;
+      appended = appends-both before middle after head.0 told.0 head.1 told.1;
+      front = (told.2.0.0, all ∙ ap (λ l. head.0 ++ l) told.2.0.1 ∙ sym (append_assoc head.0 told.0 told.2.0.0));
+      says = says_lost status (compiled k b) (head.0 ++ told.0) (failed_part status head.0 told.0 (text_of b.lines) [] (text_of (compiled k b).lines) told.2.0 told.2.1 same);
+    }
+
+abbrev pub ending : Bool → Status
+ending refused = if refused then Refused else Done
+
+pub body_whole : (k : Bool) (b : Block) (before middle after : Option (List ℕ)) (refused : Bool) (bytes : List ℕ) → bytes ≡ text_of (head_lines k) →
+    ((text : List ℕ) × Appends before middle text × (text ≡ bytes)) → Tells middle after (Ok refused) b → Follows (compiled k b) before after (ending refused)
+body_whole k b before middle after refused bytes eb head told =
+    let all : text_of (head_lines k ++ b.lines) ≡ head.0 ++ told.0 =
+    text_both (head_lines k) b.lines ∙ ap (λ l. l ++ text_of b.lines) (sym (head.2 ∙ eb)) ∙ ap (λ l. head.0 ++ l) (sym told.2.0) in
+    record {
+      text = head.0 ++ told.0;
+      appended = appends-both before middle after head.0 told.0 head.1 told.1;
+      front = ([], all ∙ sym (append-nil (head.0 ++ told.0)));
+      says = says_whole refused told.2.1 (sym all);
+    }
+  where
+    says_whole : (r : Bool) → r ≡ b.refused → head.0 ++ told.0 ≡ text_of (compiled k b).lines → Says (ending r) (compiled k b) (head.0 ++ told.0)
+    says_whole true e all = (all, ap (λ x. if x then Refused else Done) (sym e))
+    says_whole false e all = (all, ap (λ x. if x then Refused else Done) (sym e))
+
+pub usage_part : (out : Output) (before after : Option (List ℕ)) (status : Status) → ((text : List ℕ) × Appends before after text × Sent (Err status) text (text_of out.lines)) →
+    Follows out before after status
+usage_part out before after status sent = record {
   text = sent.0;
   appended = sent.1;
-  front = (text_of b.lines, ap (λ l. l ++ text_of b.lines) (sym sent.2));
-  says = tt;
+  front = sent.2.0;
+  says = says_lost status out sent.0 sent.2.1;
 }
 
-block_front : (b : Block) (before middle after : Option (List ℕ)) (status : Status) →
-    ((text : List ℕ) × Appends before middle text × (text ≡ text_of head_lines)) →
-    ((text : List ℕ) × Appends middle after text × Sent (Err status) text (text_of b.lines)) → Follows (compiled b) before after status
-block_front b before middle after status head sent =
-    follows_part (compiled b) before after status (
-      text_of head_lines ++ sent.0,
-      appends-both before middle after (text_of head_lines) sent.0 (subst (λ x. Appends before middle x) head.2 head.1) sent.1,
-      (
-        (sent.2.0.0, ap (λ l. text_of head_lines ++ l) sent.2.0.1),
-        (λ whole. sent.2.1 (same_end (text_of head_lines) whole)),
-        sent.2.2,
-      ),
-    )
-  where
-    same_end : (front : List ℕ) → front ++ sent.0 ≡ front ++ text_of b.lines → sent.0 ≡ text_of b.lines
-    same_end front e = append_cancel_left front sent.0 (text_of b.lines) e
-
-pub block_part : (b : Block) (before middle after : Option (List ℕ)) (status : Status) (bytes : List ℕ) →
-    ((text : List ℕ) × Appends before middle text × (text ≡ text_of head_lines)) → bytes ≡ text_of b.lines →
-    ((text : List ℕ) × Appends middle after text × Sent (Err status) text bytes) → Follows (compiled b) before after status
-block_part b before middle after status bytes head shown sent =
-    let P : List ℕ → Type 0 = λ bs. (text : List ℕ) × Appends middle after text × Sent (Err status) text bs in
-    block_front b before middle after status head (subst P shown sent)
-
-pub block_whole : (b : Block) (before middle after : Option (List ℕ)) (status : Status) (bytes : List ℕ) →
-    ((text : List ℕ) × Appends before middle text × (text ≡ text_of head_lines)) → bytes ≡ text_of b.lines →
-    ((text : List ℕ) × Appends middle after text × (text ≡ bytes)) →
-    (status ≡ Done) ⊎ (status ≡ Refused) → (compiled b).status ≡ status → Follows (compiled b) before after status
-block_whole b before middle after status bytes head shown sent s e = record {
-  text = text_of head_lines ++ text_of b.lines;
-  appended = appends-both before middle after (text_of head_lines) (text_of b.lines) (subst (λ x. Appends before middle x) head.2 head.1) (subst (λ x. Appends middle after x) (sent.2 ∙ shown) sent.1);
-  front = ([], sym (append-nil (text_of head_lines ++ text_of b.lines)));
-  says = says-whole s;
+pub usage_whole : (out : Output) (before after : Option (List ℕ)) (status : Status) → (status ≡ out.status) → ((text : List ℕ) × Appends before after text × (text ≡ text_of out.lines)) →
+    (out.status ≡ Usage) → Follows out before after status
+usage_whole out before after status e sent is = record {
+  text = sent.0;
+  appended = sent.1;
+  front = ([], sym (append-nil sent.0 ∙ sent.2));
+  says = subst (λ s. Says s out sent.0) (sym (e ∙ is)) (sent.2, is);
 }
-  where
-    says-whole : (status ≡ Done) ⊎ (status ≡ Refused) → Says status (compiled b) (text_of head_lines ++ text_of b.lines)
-    says-whole (inl d) = subst (λ x. Says x (compiled b) (text_of head_lines ++ text_of b.lines)) (sym d) (refl, e ∙ d)
-    says-whole (inr r) = subst (λ x. Says x (compiled b) (text_of head_lines ++ text_of b.lines)) (sym r) (refl, e ∙ r)
-
-pub usage_runs : (words : List (List ℕ)) (left before after : Option (List ℕ)) (status : Status) →
-    is_accepted words ≡ false → Follows usage before after status → Runs words left before after status
-usage_runs words left before after status refused follows =
-    let b = no_bytes left in
-    let P : Bool → Type 0 = λ a. Follows (if a then compiled (block_of (limited b.0)) else usage) before after status in
-    ran words left before after status b.0 b.1 (subst P (sym refused) follows)
-
-pub compiled_runs : (words : List (List ℕ)) (left before after : Option (List ℕ)) (status : Status) (text : Option (List ℕ)) → is_accepted words ≡ true
-    → ((bytes : List ℕ) × IfSome left (λ known. bytes ≡ known) × (text ≡ limited bytes)) → Follows (compiled (block_of text)) before after status
-    → Runs words left before after status
-compiled_runs words left before after status text accepted b follows =
-    let P : Option (List ℕ) → Type 0 = λ t. Follows (compiled (block_of t)) before after status in
-    let Q : Bool → Type 0 = λ a. Follows (if a then compiled (block_of (limited b.0)) else usage) before after status in
-    ran words left before after status b.0 b.1 (subst Q (sym accepted) (subst P b.2 follows))
-
-appends-nothing : (known : Option (List ℕ)) → Appends known known []
-appends-nothing None = tt
-appends-nothing (Some text) = sym (append-nil text)
-
--- where the source is not read whole nothing is written
-pub stopped_runs : (words : List (List ℕ)) (left before : Option (List ℕ)) (status : Status) (bytes : List ℕ) → IfSome left (λ known. bytes ≡ known)
-    → (status ≡ ReadFault) ⊎ (status ≡ NoMemory) → Runs words left before before status
-stopped_runs words left before status bytes told s = ran words left before before status bytes told (record {
-  text = [];
-  appended = appends-nothing before;
-  front = (text_of (defined_output words bytes).lines, refl);
-  says = nothing s;
-})
-  where
-    nothing : (status ≡ ReadFault) ⊎ (status ≡ NoMemory) → Says status (defined_output words bytes) []
-    nothing (inl e) = subst (λ x. Says x (defined_output words bytes) []) (sym e) refl
-    nothing (inr e) = subst (λ x. Says x (defined_output words bytes) []) (sym e) tt
-
-abbrev pub ErrStatus : (A : Type 0) → Status → Result A Status
-ErrStatus A status = Err status
-
-pub stop_of : {A : Type 0} (status : Status) → (ErrStatus A status ≡ ErrStatus A ReadFault) ⊎ (ErrStatus A status ≡ ErrStatus A NoMemory)
-    → (status ≡ ReadFault) ⊎ (status ≡ NoMemory)
-stop_of {A} status (inl e) = inl (cc)
-stop_of {A} status (inr e) = inr (cc)
-
-pub not_write_fault : (status : Status) → (status ≡ ReadFault) ⊎ (status ≡ NoMemory) → status ≢ WriteFault
-not_write_fault status (inl e) w = cc
-not_write_fault status (inr e) w = cc

@@ -1,13 +1,12 @@
-pub mod Accepted
-pub mod Answering
+mod Accepted
+mod Asking
 pub mod Following
-pub mod LinesInLine
-pub mod NamesInLine
-pub mod Parts
-pub mod Ready
-pub mod Resolved
-pub mod Soundness
-pub mod SpelledInLine
+mod GrammarInLine
+mod Lines
+mod OneOutput
+mod OutputInLine
+mod SessionInLine
+mod Telling
 pub mod TextLines
-pub mod Tokens
-pub mod Whole
+mod TokensInLine
+mod Whole

@@ -1,9 +1,31 @@
--- The whole lines of a text.
-use Rattle.std.proofs.Common.{◌≡◌, ℕ, Bool, true, false, not, List, [], ◌∷◌, ◌++◌, refl, ap, ◌∙◌}
-use Rattle.std.specs.Prelude.{◌==◌, if◌then◌else◌}
+-- Lines as texts.
+use Rattle.std.proofs.Common.{◌≡◌, ◌≢◌, ℕ, zero, suc, ◌+◌, ◌-◌, Bool, true, false, not, List, [], ◌∷◌, ◌++◌, Result, Ok, Err, refl, sym, ap, ◌∙◌, arith, append_assoc}
+use Rattle.std.specs.Prelude.{◌==◌, if◌then◌else◌, OnOk, slice_get, codes}
 use Rattle.std.proofs.lemmas.Bool.{and_parts, false≢true}
+use Rattle.theory.specs.Signatures.{Signature}
 use Rattle.core_text.specs.Lines.{is_in_line, AreInLine}
 use Rattle.elim_program.specs.Lines.{longer, lines_of, text_of}
+use Rattle.elim_program.specs.Outputs.{line_of, entry_lines}
+
+pub text_both : (xs ys : List (List ℕ)) → text_of (xs ++ ys) ≡ text_of xs ++ text_of ys
+text_both [] ys = refl
+text_both (x ∷ xs) ys = ap (λ t. x ++ 10 ∷ t) (text_both xs ys) ∙ sym (append_assoc x (10 ∷ text_of xs) (text_of ys))
+
+-- the line of one entry more
+entry_more : (S : Signature) (n count : ℕ) (before middle after : List ℕ) → count ≢ 0 → middle ≡ before ++ (line_of S n (slice_get S.entries n) ++ codes "\n")
+    → after ≡ middle ++ text_of (entry_lines S (n + 1) (count - 1)) → after ≡ before ++ text_of (entry_lines S n count)
+entry_more S n zero before middle after h m a = absurd (h refl)
+entry_more S n (suc count) before middle after h m a =
+    let less : suc count - 1 ≡ count = omega arith in
+    let line = line_of S n (slice_get S.entries n) in
+    let rest = text_of (entry_lines S (n + 1) count) in
+    a ∙ ap (λ k. middle ++ text_of (entry_lines S (n + 1) k)) less ∙ ap (λ l. l ++ rest) m ∙ append_assoc before (line ++ codes "\n") rest
+    ∙ ap (λ l. before ++ l) (append_assoc line (codes "\n") rest)
+
+pub on_more : {E : Type 0} (r : Result (Unit {0}) E) (S : Signature) (n count : ℕ) (before middle after : List ℕ) → count ≢ 0 → middle ≡ before ++ (line_of S n (slice_get S.entries n) ++ codes "\n")
+    → OnOk r (after ≡ middle ++ text_of (entry_lines S (n + 1) (count - 1))) → OnOk r (after ≡ before ++ text_of (entry_lines S n count))
+on_more (Ok u) S n count before middle after h m a = entry_more S n count before middle after h m a
+on_more (Err e) S n count before middle after h m a = tt
 
 other : {A : Type 0} (b : Bool) (x y : A) → not b ≡ true → (if b then x else y) ≡ y
 other true x y h = absurd (false≢true h)

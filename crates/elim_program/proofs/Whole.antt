@@ -1,51 +1,67 @@
--- What a run wrote, seen as lines and as a whole.
-use Rattle.std.proofs.Common.{◌≡◌, ◌≢◌, ℕ, List, ◌∷◌, ◌++◌, Option, IfSome, refl, sym, ap, subst, ◌∙◌, append_assoc}
+-- What a run wrote, seen as a whole.
+use Rattle.std.proofs.Common.{◌≡◌, ◌≢◌, ℕ, ◌⊎◌, inl, inr, List, Option, None, Result, Err, IfSome, refl, subst}
 use Rattle.std.specs.Io.KnownBytes.{Appends}
 use Rattle.elim_program.specs.declared.status.Status.{Status}
 use Rattle.elim_program.specs.declared.status.Status.TheVariants.{Done, Refused, Usage, ReadFault, WriteFault, NoMemory}
-use Rattle.elim_program.specs.Headline.{IsShown}
-use Rattle.elim_program.specs.Lines.{lines_of, text_of}
-use Rattle.elim_program.specs.Outputs.{accepted_line, defined_output}
-use Rattle.elim_program.specs.Runs.{Follows, IsWhole, Runs}
-use Rattle.elim_program.proofs.Accepted.{headline}
-use Rattle.elim_program.proofs.LinesInLine.{output-in}
-use Rattle.elim_program.proofs.TextLines.{lines-text, lines-front}
+use Rattle.elim_program.specs.Lines.{text_of}
+use Rattle.elim_program.specs.Outputs.{Output, IsOutput, refused_words, usage}
+use Rattle.elim_program.specs.Runs.{Follows, IsWhole, Runs, Wrote, nothing, output}
+use Rattle.elim_program.specs.Words.{asked}
+use Rattle.elim_program.proofs.OutputInLine.{headline_of_front}
+use Rattle.elim_program.proofs.Following.{no_bytes, appends-nothing}
 
--- the first lines of a text of lines are lines of the output
-shown : (words : List (List ℕ)) (bytes text rest : List ℕ) (above below : List (List ℕ)) (name : List ℕ) → text_of (defined_output words bytes).lines ≡ text ++ rest
-    → lines_of text ≡ above ++ accepted_line name ∷ below → IsShown bytes above name
-shown words bytes text rest above below name front line =
-    let more = lines-front text rest in
-    let whole : (defined_output words bytes).lines ≡ above ++ accepted_line name ∷ (below ++ more.0) =
-    sym (lines-text (defined_output words bytes).lines (output-in words bytes)) ∙ ap lines_of front ∙ more.1
-    ∙ ap (λ ls. ls ++ more.0) line ∙ append_assoc above (accepted_line name ∷ below) more.0 in
-    headline words bytes above (below ++ more.0) name whole
-
--- what follows the defined output shows what it accepts
-pub ran : (words : List (List ℕ)) (left before after : Option (List ℕ)) (status : Status) (bytes : List ℕ) → IfSome left (λ known. bytes ≡ known)
-    → Follows (defined_output words bytes) before after status → Runs words left before after status
-ran words left before after status bytes told follows = record {
+whole : (words : List (List ℕ)) (left before after : Option (List ℕ)) (status : Status) (bytes : List ℕ) → IfSome left (λ known. bytes ≡ known) → (out : Output) → IsOutput words bytes out →
+    (f : Follows out before after status) → (f.text ≡ text_of out.lines) × (out.status ≡ status) → IsWhole words left before after status
+whole words left before after status bytes told out is f says = record {
   bytes = bytes;
   told = told;
-  follows = follows;
-  headline = λ above below name line. shown words bytes follows.text follows.front.0 above below name follows.front.1 line;
-}
-
-whole : (words : List (List ℕ)) (left before after : Option (List ℕ)) (status : Status) (r : Runs words left before after status) →
-    (r.follows.text ≡ text_of (defined_output words r.bytes).lines) × ((defined_output words r.bytes).status ≡ status) → IsWhole words left before after status
-whole words left before after status r says = record {
-  bytes = r.bytes;
-  told = r.told;
-  appended = subst (λ text. Appends before after text) says.0 r.follows.appended;
+  out = out;
+  is_output = is;
+  appended = subst (λ text. Appends before after text) says.0 f.appended;
   status_is = says.1;
 }
+
+finished : (words : List (List ℕ)) (left before after : Option (List ℕ)) (status : Status) (bytes : List ℕ) → IfSome left (λ known. bytes ≡ known) → (out : Output) → IsOutput words bytes out →
+    Follows out before after status → status ≢ WriteFault → status ≢ NoMemory → IsWhole words left before after status
+finished words left before after Done bytes told out is f nw nm = whole words left before after Done bytes told out is f f.says
+finished words left before after Refused bytes told out is f nw nm = whole words left before after Refused bytes told out is f f.says
+finished words left before after Usage bytes told out is f nw nm = whole words left before after Usage bytes told out is f f.says
+finished words left before after ReadFault bytes told out is f nw nm = absurd f.says
+finished words left before after WriteFault bytes told out is f nw nm = absurd (nw refl)
+finished words left before after NoMemory bytes told out is f nw nm = absurd (nm refl)
 
 -- where nothing failed the output is whole
 pub complete : (words : List (List ℕ)) (left before after : Option (List ℕ)) (status : Status) → Runs words left before after status
     → status ≢ ReadFault → status ≢ WriteFault → status ≢ NoMemory → IsWhole words left before after status
-complete words left before after Done r nr nw nm = whole words left before after Done r r.follows.says
-complete words left before after Refused r nr nw nm = whole words left before after Refused r r.follows.says
-complete words left before after Usage r nr nw nm = whole words left before after Usage r r.follows.says
-complete words left before after ReadFault r nr nw nm = absurd (nr refl)
-complete words left before after WriteFault r nr nw nm = absurd (nw refl)
-complete words left before after NoMemory r nr nw nm = absurd (nm refl)
+complete words left before after status r nr nw nm = go r.wrote
+  where
+    go : Wrote words r.bytes before after status → IsWhole words left before after status
+    go (nothing a (inl e)) = absurd (nr e)
+    go (nothing a (inr e)) = absurd (nm e)
+    go (output out is f h) = finished words left before after status r.bytes r.told out is f nw nm
+
+-- what follows a defined output has the headline
+pub follow : (words : List (List ℕ)) (bytes : List ℕ) (before after : Option (List ℕ)) (status : Status) (out : Output) → IsOutput words bytes out → Follows out before after status →
+    Wrote words bytes before after status
+follow words bytes before after status out is f = output out is f (headline_of_front words bytes f.text out is f.front)
+
+pub usage_runs : (words : List (List ℕ)) (left before after : Option (List ℕ)) (status : Status) → asked words ≡ None → Follows usage before after status → Runs words left before after status
+usage_runs words left before after status none follows =
+    let b = no_bytes left in record { bytes = b.0; told = b.1; wrote = follow words b.0 before after status usage (refused_words none) follows }
+
+-- where the source is not read whole nothing is written
+pub stopped_runs : (words : List (List ℕ)) (left before : Option (List ℕ)) (status : Status) (bytes : List ℕ) → IfSome left (λ known. bytes ≡ known)
+    → (status ≡ ReadFault) ⊎ (status ≡ NoMemory) → Runs words left before before status
+stopped_runs words left before status bytes told s = record { bytes = bytes; told = told; wrote = nothing (appends-nothing before) s }
+
+abbrev pub ErrStatus : (A : Type 0) → Status → Result A Status
+ErrStatus A status = Err status
+
+pub stop_of : {A : Type 0} (status : Status) → (ErrStatus A status ≡ ErrStatus A ReadFault) ⊎ (ErrStatus A status ≡ ErrStatus A NoMemory)
+    → (status ≡ ReadFault) ⊎ (status ≡ NoMemory)
+stop_of {A} status (inl e) = inl (cc)
+stop_of {A} status (inr e) = inr (cc)
+
+pub not_write_fault : (status : Status) → (status ≡ ReadFault) ⊎ (status ≡ NoMemory) → status ≢ WriteFault
+not_write_fault status (inl e) w = cc
+not_write_fault status (inr e) w = cc

@@ -2,7 +2,10 @@
 use Rattle.std.specs.Prelude.{ℕ, Bool, List}
 use Rattle.elim_program.specs.declared.block.Block as code
 use Rattle.elim_program.specs.Lines.{text_of}
+use Rattle.std.specs.Prelude.{◌≡◌, Result, Ok, Err}
 use Rattle.elim_program.specs.Outputs.{Block}
+use Rattle.elim_program.specs.declared.status.Status.{Status}
+use Rattle.elim_program.specs.declared.status.Status.TheVariants.{NoMemory}
 
 pub record Shown : Type 0 where
   pub text : List ℕ
@@ -17,3 +20,8 @@ shown lines refused = record { text = text_of lines; refused = refused }
 
 abbrev pub shown_block : Block → Shown
 shown_block block = shown block.lines block.refused
+
+-- the code makes this block, unless memory ran out
+abbrev pub Makes : Result code.Block Status → Block → Type 0
+Makes (Ok b) meant = shown_of b ≡ shown_block meant
+Makes (Err e) meant = e ≡ NoMemory

@@ -1,30 +1,60 @@
--- What an accepted definition is.
-use Rattle.std.specs.Prelude.{◌≡◌, ℕ, false, List, [], ◌∷◌, ◌++◌, Some, Ok}
-use Rattle.theory.specs.Terms.{Term, IsClosed}
+-- What an accepted declaration is.
+use Rattle.std.specs.Prelude.{◌≡◌, ◌==◌, ℕ, Bool, true, not, if◌then◌else◌, List, [], ◌∷◌, ◌++◌, Some, Ok}
+use Rattle.theory.specs.Signatures.{Signature, IsPrefix}
 use Rattle.theory.specs.Prelude.{prelude}
-use Rattle.theory.specs.Typing.{Has, HasSort}
-use Rattle.elim_program.specs.Texts.{Written, written_in}
-use Rattle.elim_program.specs.Resolving.{resolve_closed}
-use Rattle.elim_program.specs.Printing.{definition_line}
-use Rattle.elim_program.specs.Outputs.{accepted_line, defined_output, head_lines}
+use Rattle.surface_syntax.specs.Trees.{Decl}
+use Rattle.elab_session.specs.Declaring.{Declared}
+use Rattle.elab_session.specs.Laws.{IsAsWritten}
+use Rattle.elab_session.specs.Sessions.{IsReady}
+use Rattle.elim_program.specs.declared.words.Command.{Command}
+use Rattle.elim_program.specs.Lines.{lines_of, text_of}
+use Rattle.elim_program.specs.Outputs.{Output, IsOutput, accepted_line, head_lines, lines_behind}
+use Rattle.elim_program.specs.Texts.{Gives}
+use Rattle.elim_program.specs.Words.{asked}
 
--- The text defines the name, and the lines `above` are the head lines and the line of the definition: a closed term
--- that has its written type by the typing rules over the prelude, without K.
-pub record IsShown (bytes : List ℕ) (above : List (List ℕ)) (name : List ℕ) : Type 0 where
-  pub written : Written
-  pub in_text : written_in bytes ≡ Ok (Some written)
-  pub named : written.name ≡ name
-  pub type : Term
-  pub body : Term
-  pub type_written : resolve_closed written.type ≡ Ok type
-  pub body_written : resolve_closed written.body ≡ Ok body
-  pub shown : above ≡ head_lines ++ definition_line name type body ∷ []
-  pub closed : IsClosed body
-  pub type_sort : HasSort (prelude false) [] type
-  pub typed : Has (prelude false) [] body type
+-- a core line does not begin with `#`
+abbrev pub is_core : List ℕ → Bool
+is_core [] = true
+is_core (c ∷ cs) = not (c == 35)
 
--- where a line says that a definition is accepted, the lines above show it
+abbrev pub core_lines : List (List ℕ) → List (List ℕ)
+core_lines [] = []
+core_lines (line ∷ lines) = if is_core line then line ∷ core_lines lines else core_lines lines
+
+-- The lines show the entries of a signature behind those of P, declaration by declaration: each adds entries behind those
+-- before it, and shows them over the signature that has them.
+pub data Shows (P : Signature) : Signature → List (List ℕ) → Type 0 where
+  none : Shows P P []
+  more : (S T : Signature) (lines : List (List ℕ)) → Shows P S lines → IsPrefix S T → Shows P T (lines ++ lines_behind S T)
+
+-- The declaration stands in the text, and what was accepted of it is what is written: it has its written type by the typing
+-- rules over the entries before it. The signatures before it and with it are well formed, without axiom K unless the words
+-- ask for it, and the lines `above` are the head lines and show the entries behind the prelude.
+pub record IsShown (words : List (List ℕ)) (bytes : List ℕ) (above : List (List ℕ)) (name : List ℕ) : Type 0 where
+  pub command : Command
+  pub asked_for : asked words ≡ Some command
+  pub decls : List Decl
+  pub text : Gives bytes (Ok decls)
+  pub front : List Decl
+  pub declaration : Decl
+  pub back : List Decl
+  pub in_text : decls ≡ front ++ declaration ∷ back
+  pub before : Signature
+  pub ready : IsReady before
+  pub has_k : before.has_k ≡ command.k
+  pub accepted : Declared
+  pub written : IsAsWritten before declaration accepted
+  pub named : accepted.accepted.name ≡ name
+  pub whole : IsReady accepted.signature
+  pub lines : List (List ℕ)
+  pub heads : above ≡ head_lines command.k ++ lines
+  pub shown : Shows (prelude command.k) accepted.signature (core_lines lines)
+
+-- where a whole line of the text says that a declaration is accepted, the lines above it show it
+abbrev pub IsHeadline : List (List ℕ) → List ℕ → List ℕ → Type 0
+IsHeadline words bytes text =
+    (above below : List (List ℕ)) (name : List ℕ) → lines_of text ≡ above ++ accepted_line name ∷ below → IsShown words bytes above name
+
+-- the headline of each output that is defined
 abbrev pub Headline : Type 0
-Headline =
-    (words : List (List ℕ)) (bytes : List ℕ) (above below : List (List ℕ)) (name : List ℕ) →
-    (defined_output words bytes).lines ≡ above ++ accepted_line name ∷ below → IsShown bytes above name
+Headline = (words : List (List ℕ)) (bytes : List ℕ) (out : Output) → IsOutput words bytes out → IsHeadline words bytes (text_of out.lines)

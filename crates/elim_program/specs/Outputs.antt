@@ -1,52 +1,75 @@
 -- The output that is defined for the words and the bytes of a source, and the status.
-use Rattle.std.specs.Prelude.{ℕ, Bool, true, false, nat_lt, if◌then◌else◌, List, [], ◌∷◌, ◌++◌, length, codes, decimal, Option, Some, None, Result, Ok, Err}
-use Rattle.elim_program.specs.declared.halt.Halt.{Halt}
-use Rattle.elim_program.specs.declared.halt.Halt.TheVariants.{Memory, NotYet, Syntax, UnknownName, Deep, IllTyped}
+use Rattle.std.specs.Prelude.{◌≡◌, ℕ, zero, suc, ◌+◌, ◌-◌, Bool, true, false, if◌then◌else◌, List, [], ◌∷◌, ◌++◌, length, slice_get, codes, Option, Some, None, Result, Ok, Err}
+use Rattle.theory.specs.Signatures.{Entry, Signature}
+use Rattle.theory.specs.Prelude.{prelude}
+use Rattle.surface_syntax.specs.Trees as surf
+use Rattle.core_text.specs.EntryText.{entry_text}
+use Rattle.elab_session.specs.Declaring.{Declared, declare_of, first_name}
+use Rattle.elab_session.specs.declared.refusal.Refusal.{Refusal}
 use Rattle.elim_program.specs.declared.status.Status.{Status}
 use Rattle.elim_program.specs.declared.status.Status.TheVariants as status
-use Rattle.elim_program.specs.Printing.{definition_line}
-use Rattle.elim_program.specs.Texts.{Written, Definition, written_in, accept}
-use Rattle.elim_program.specs.Words.{is_accepted}
+use Rattle.elim_program.specs.declared.words.Command.{Command}
+use Rattle.elim_program.specs.Refusals.{stop_line, refusal_line}
+use Rattle.elim_program.specs.Texts.{Answer, Gives}
+use Rattle.elim_program.specs.Words.{asked}
 
--- the lines of a declaration, or the last line
+-- lines, and whether the last one refuses
 pub record Block : Type 0 where
   pub lines : List (List ℕ)
   pub refused : Bool
 
+abbrev pub block : List (List ℕ) → Bool → Block
+block lines refused = record { lines = lines; refused = refused }
+
+-- the line of entry number n, if there is one
+abbrev pub line_of : Signature → ℕ → Option Entry → List ℕ
+line_of S n (Some e) = entry_text S n e
+line_of S n None = []
+
+-- the lines of so many entries from number n on
+abbrev pub entry_lines : Signature → ℕ → ℕ → List (List ℕ)
+entry_lines S n zero = []
+entry_lines S n (suc count) = line_of S n (slice_get S.entries n) ∷ entry_lines S (n + 1) count
+
+-- the lines of the entries of T behind those of S
+abbrev pub lines_behind : Signature → Signature → List (List ℕ)
+lines_behind S T = entry_lines T (length S.entries) (length T.entries - length S.entries)
+
 abbrev pub accepted_line : List ℕ → List ℕ
 accepted_line name = codes "# accepted " ++ name
 
--- the line of a refusal; `front` is the declaration's name and a space where one is being worked on
-abbrev pub refusal_line : List ℕ → Halt → List ℕ
-refusal_line front (NotYet offset) = codes "# refused NotYet " ++ decimal offset
-refusal_line front (Syntax offset) = codes "# refused Syntax " ++ decimal offset
-refusal_line front (UnknownName offset word) =
-    codes "# refused " ++ front ++ codes "UnknownName " ++ decimal offset ++ codes " " ++ word
-refusal_line front Deep = codes "# refused " ++ front ++ codes "Deep"
-refusal_line front (IllTyped text) = codes "# refused " ++ front ++ text
-refusal_line front Memory = []
+-- the name of a declaration; of families that refer to each other it is the first one's
+abbrev pub declared_name : surf.Decl → List ℕ
+declared_name (surf.Def x ty body) = x.text
+declared_name (surf.Decide x family decision) = x.text
+declared_name (surf.Data x params ty cons) = x.text
+declared_name (surf.Mutual params members family tag tags) = (first_name members family).text
+declared_name (surf.Fun x ty clauses) = x.text
 
-abbrev pub refusal_block : List ℕ → Halt → Block
-refusal_block front halt = record { lines = refusal_line front halt ∷ []; refused = true }
+-- the lines of a declaration over S: its entries and that it is accepted, or its refusal
+abbrev pub declared_block : Signature → surf.Decl → Result Declared Refusal → Block
+declared_block S d (Ok a) = block (lines_behind S a.signature ++ accepted_line a.accepted.name ∷ []) false
+declared_block S d (Err e) = block (refusal_line (declared_name d) e ∷ []) true
 
--- the lines of a definition: its entry, and that it is accepted
-abbrev pub definition_block : List ℕ → Result Definition Halt → Block
-definition_block name (Ok d) =
-    record { lines = definition_line name d.type d.body ∷ accepted_line name ∷ []; refused = false }
-definition_block name (Err halt) = refusal_block (name ++ codes " ") halt
+-- the signature behind a declaration
+abbrev pub after : Signature → Result Declared Refusal → Signature
+after S (Ok a) = a.signature
+after S (Err e) = S
 
-abbrev pub text_block : Result (Option Written) Halt → Block
-text_block (Ok None) = record { lines = []; refused = false }
-text_block (Ok (Some w)) = definition_block w.name (accept w)
-text_block (Err halt) = refusal_block [] halt
+-- lines behind others, where these do not refuse
+abbrev pub followed : Block → Block → Block
+followed first rest = if first.refused then first else block (first.lines ++ rest.lines) rest.refused
 
--- the bytes of a text that is read; a longer one than 1,024 bytes is not read yet
-abbrev pub limited : List ℕ → Option (List ℕ)
-limited bytes = if nat_lt 1024 (length bytes) then None else Some bytes
+-- the lines of declarations one by one, up to the first that is refused; each may spend `fuel` units
+abbrev pub declarations : ℕ → Signature → List surf.Decl → Block
+declarations fuel S [] = block [] false
+declarations fuel S (d ∷ ds) =
+    followed (declared_block S d (declare_of S fuel d)) (declarations fuel (after S (declare_of S fuel d)) ds)
 
-abbrev pub block_of : Option (List ℕ) → Block
-block_of None = refusal_block [] (NotYet 1024)
-block_of (Some bytes) = text_block (written_in bytes)
+-- the lines of what a text gives
+abbrev pub text_block : Command → Answer → Block
+text_block command (Ok ds) = declarations command.fuel (prelude command.k) ds
+text_block command (Err e) = block (stop_line e ∷ []) true
 
 -- the lines that are written, and the status of the run
 pub record Output : Type 0 where
@@ -59,15 +82,23 @@ usage = record {
   status = status.Usage;
 }
 
-abbrev pub head_lines : List (List ℕ)
-head_lines = codes "elim 1" ∷ codes "prelude" ∷ []
+abbrev pub prelude_line : Bool → List ℕ
+prelude_line k = if k then codes "prelude k" else codes "prelude"
 
-abbrev pub compiled : Block → Output
-compiled block = record {
-  lines = head_lines ++ block.lines;
-  status = if block.refused then status.Refused else status.Done;
+abbrev pub head_lines : Bool → List (List ℕ)
+head_lines k = codes "elim 1" ∷ prelude_line k ∷ []
+
+abbrev pub compiled : Bool → Block → Output
+compiled k told = record {
+  lines = head_lines k ++ told.lines;
+  status = if told.refused then status.Refused else status.Done;
 }
 
--- the words are those behind the program's name
-abbrev pub defined_output : List (List ℕ) → List ℕ → Output
-defined_output words bytes = if is_accepted words then compiled (block_of (limited bytes)) else usage
+-- the output that is defined for the words and the bytes
+pub data IsOutput (words : List (List ℕ)) (bytes : List ℕ) : Output → Type 0 where
+  refused_words : asked words ≡ None → IsOutput words bytes usage
+  compiles : (command : Command) (answer : Answer) → asked words ≡ Some command → Gives bytes answer → IsOutput words bytes (compiled command.k (text_block command answer))
+
+-- for all words and bytes one output at most is defined
+abbrev pub HasOneOutput : Type 0
+HasOneOutput = (words : List (List ℕ)) (bytes : List ℕ) (a b : Output) → IsOutput words bytes a → IsOutput words bytes b → a ≡ b

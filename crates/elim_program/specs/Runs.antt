@@ -1,20 +1,20 @@
 -- What a run did.
-use Rattle.std.specs.Prelude.{◌≡◌, ◌≢◌, ℕ, List, [], ◌∷◌, ◌++◌, Option, Result, Ok, Err, IfSome, ◌⊎◌}
+use Rattle.std.specs.Prelude.{◌≡◌, ◌≢◌, ℕ, nat_lt, if◌then◌else◌, Bool, List, [], ◌++◌, length, Option, Some, None, Result, Ok, Err, IfSome, ◌⊎◌}
 use Rattle.std.specs.Io.KnownBytes.{Appends}
 use Rattle.elim_program.specs.declared.status.Status.{Status}
 use Rattle.elim_program.specs.declared.status.Status.TheVariants.{ReadFault, WriteFault, NoMemory}
-use Rattle.elim_program.specs.Headline.{IsShown}
-use Rattle.elim_program.specs.Lines.{lines_of, text_of}
-use Rattle.elim_program.specs.Outputs.{Output, accepted_line, defined_output}
+use Rattle.elim_program.specs.Headline.{IsHeadline}
+use Rattle.elim_program.specs.Lines.{text_of}
+use Rattle.elim_program.specs.Outputs.{Block, Output, IsOutput}
+use Rattle.elim_program.specs.Texts.{limit}
 
 abbrev pub IsFront : List ℕ → List ℕ → Type 0
 IsFront front text = (rest : List ℕ) × (text ≡ front ++ rest)
 
 -- what a status says of the text that was written: `Done`, `Refused` and `Usage` come exactly where the whole output
--- was written and has that status, and only want of memory may take their place; nothing is written before the source
--- is read
+-- was written and has that status, and only want of memory may take their place
 abbrev pub Says : Status → Output → List ℕ → Type 0
-Says ReadFault out text = text ≡ []
+Says ReadFault out text = ⊥
 Says WriteFault out text = text ≢ text_of out.lines
 Says NoMemory out text = Unit {0}
 Says answer out text = (text ≡ text_of out.lines) × (out.status ≡ answer)
@@ -26,24 +26,44 @@ pub record Follows (out : Output) (before after : Option (List ℕ)) (status : S
   pub front : IsFront text (text_of out.lines)
   pub says : Says status out text
 
--- A run follows the output that is defined for its words and the bytes that the source had left, where it tells them.
--- The headline: where a whole line of what was written says that a definition is accepted, the lines above it show the
--- definition.
+-- A run follows an output that is defined for its words and the bytes, or it ended before it wrote anything: by a fault of
+-- the source, or for want of memory. The headline: where a whole line of what was written says that a declaration is
+-- accepted, the lines above it show the declaration.
+pub data Wrote (words : List (List ℕ)) (bytes : List ℕ) (before after : Option (List ℕ)) (status : Status) : Type 0 where
+  nothing : Appends before after [] → (status ≡ ReadFault) ⊎ (status ≡ NoMemory) → Wrote words bytes before after status
+  output : (out : Output) → IsOutput words bytes out → (follows : Follows out before after status) → IsHeadline words bytes follows.text → Wrote words bytes before after status
+
+-- the bytes are those that the source had left, where it tells them
 pub record Runs (words : List (List ℕ)) (left before after : Option (List ℕ)) (status : Status) : Type 0 where
   pub bytes : List ℕ
   pub told : IfSome left (λ known. bytes ≡ known)
-  pub follows : Follows (defined_output words bytes) before after status
-  pub headline : (above below : List (List ℕ)) (name : List ℕ)
-      → lines_of follows.text ≡ above ++ accepted_line name ∷ below → IsShown bytes above name
+  pub wrote : Wrote words bytes before after status
 
--- the whole output was written, and the status is its own
+-- a whole output was written, and the status is its own
 pub record IsWhole (words : List (List ℕ)) (left before after : Option (List ℕ)) (status : Status) : Type 0 where
   pub bytes : List ℕ
   pub told : IfSome left (λ known. bytes ≡ known)
-  pub appended : Appends before after (text_of (defined_output words bytes).lines)
-  pub status_is : (defined_output words bytes).status ≡ status
+  pub out : Output
+  pub is_output : IsOutput words bytes out
+  pub appended : Appends before after (text_of out.lines)
+  pub status_is : out.status ≡ status
 
--- a text went out whole, or a front of it that is not all
+-- the bytes of a text that is read, or None for a longer one
+abbrev pub limited : List ℕ → Option (List ℕ)
+limited bytes = if nat_lt limit (length bytes) then None else Some bytes
+
+-- a write that failed: not all of the text went out, or memory ran out
+abbrev pub Failed : Status → List ℕ → List ℕ → Type 0
+Failed WriteFault text whole = text ≢ whole
+Failed NoMemory text whole = Unit {0}
+Failed _ text whole = ⊥
+
+-- a text went out whole, or a front of it
 abbrev pub Sent : Result (Unit {0}) Status → List ℕ → List ℕ → Type 0
-Sent (Ok _) text bytes = text ≡ bytes
-Sent (Err status) text bytes = IsFront text bytes × (text ≢ bytes) × ((status ≡ WriteFault) ⊎ (status ≡ NoMemory))
+Sent (Ok _) text whole = text ≡ whole
+Sent (Err status) text whole = IsFront text whole × Failed status text whole
+
+-- the lines of a block went out whole, with whether it refuses, or a front of them
+abbrev pub Told : Result Bool Status → Block → List ℕ → Type 0
+Told (Ok refused) b text = (text ≡ text_of b.lines) × (refused ≡ b.refused)
+Told (Err status) b text = IsFront text (text_of b.lines) × Failed status text (text_of b.lines)

@@ -1,126 +1,59 @@
--- What a text defines: nothing, one definition, or the first refusal.
-use Rattle.std.specs.Prelude.{ℕ, zero, suc, min, if◌then◌else◌, ◌&&◌, List, [], ◌∷◌, length, codes, Option, Some, None, Result, Ok, Err}
-use Rattle.theory.specs.Terms as tree
-use Rattle.core_terms.specs.Verdicts.{Verdict, Yes, No}
-use Rattle.elim_program.specs.declared.halt.Halt.{Halt}
-use Rattle.elim_program.specs.declared.halt.Halt.TheVariants.{NotYet, Syntax, IllTyped}
-use Rattle.elim_program.specs.declared.token.Token.{Token}
-use Rattle.elim_program.specs.Answers.{Reading, and_then, then_read}
-use Rattle.elim_program.specs.Surface.{Surf, Sort, Named, Pi, Lam, App}
-use Rattle.elim_program.specs.Lexing.{tokens_of}
-use Rattle.elim_program.specs.Parsing.{expect, is_plain, is_spelled, stuck, offset_of, term}
-use Rattle.elim_program.specs.Resolving.{resolve_closed}
-use Rattle.elim_program.specs.Checking.{infer_sort, check}
-use Rattle.elim_program.specs.Printing.{denial_text}
+-- What a text gives: its declarations, or why it is refused before any of them is looked at.
+use Rattle.std.specs.Prelude.{◌≢◌, ℕ, Bool, true, false, ◌<◌, ◌≤◌, List, length, Option, Some, None, Result, Ok, Err, map}
+use Rattle.std.specs.Str.{IsValidUpTo}
+use Rattle.surface_syntax.specs.Splitting.{AreTokens, IsBadToken}
+use Rattle.surface_syntax.specs.Trees.{Decl}
+use Rattle.surface_syntax.specs.TreeMeanings.{decl_of}
+use Rattle.surface_syntax.specs.declared.token.Token.{Token}
+use Rattle.surface_syntax.specs.declared.tree.Decl as code
+use Rattle.surface_syntax.specs.declared.stop.SyntaxStop.{SyntaxStop}
+use Rattle.surface_syntax.specs.declared.stop.SyntaxStop.TheVariants as syntax
+use Rattle.surface_syntax.specs.Parses.{parsed}
+use Rattle.elim_program.specs.Unbuilt.{unbuilt}
+use Rattle.elim_program.specs.declared.text_stop.TextStop.{TextStop}
+use Rattle.elim_program.specs.declared.text_stop.TextStop.TheVariants as stop
 
--- a definition as it is written, and where a further one begins
-pub record Written : Type 0 where
-  pub name : List ℕ
-  pub type : Surf
-  pub body : Surf
-  pub next : Option ℕ
+-- the declarations of a text, or its refusal
+abbrev pub Answer : Type 0
+Answer = Result (List Decl) TextStop
 
--- So many parts of a term may be open at once, and so many definitions are read. Three parts at most are open for a
--- token, and a text has 1,024 bytes at most.
-abbrev pub most_open : ℕ
-most_open = 4096
+-- the most bytes of a text
+abbrev pub limit : ℕ
+limit = 1048576
 
--- a plain name
-abbrev pub plain_name : ℕ → List Token → Reading (List ℕ)
-plain_name end [] = stuck end []
-plain_name end (token ∷ tokens) = if is_plain token.kind then Ok (token.text, tokens) else stuck end (token ∷ tokens)
+abbrev pub stop_of : SyntaxStop → TextStop
+stop_of syntax.Memory = stop.Memory
+stop_of (syntax.NotUtf8 offset) = stop.NotUtf8 offset
+stop_of (syntax.BadToken offset) = stop.BadToken offset
+stop_of (syntax.Nested offset) = stop.Nested offset
+stop_of (syntax.Syntax offset) = stop.Syntax offset
 
--- where the tokens begin, if there are any
-abbrev pub start_of : List Token → Option ℕ
-start_of [] = None
-start_of (token ∷ tokens) = Some token.start
+abbrev pub read : Result (List Decl) SyntaxStop → Answer
+read (Ok decls) = Ok decls
+read (Err e) = Err (stop_of e)
 
--- the body of a definition
-abbrev pub body_part : ℕ → List ℕ → Surf → ℕ → List Token → Reading Written
-body_part room name type end tokens =
-    then_read (term room end tokens) (λ body rest.
-    Ok (record { name = name; type = type; body = body; next = start_of rest }, rest))
+-- what is not built yet comes before what the grammar says
+abbrev pub unless_unbuilt : Option ℕ → Answer → Answer
+unless_unbuilt (Some offset) answer = Err (stop.NotYet offset)
+unless_unbuilt None answer = answer
 
--- term '=' term
-abbrev pub type_part : ℕ → List ℕ → ℕ → List Token → Reading Written
-type_part room name end tokens =
-    then_read (term room end tokens) (λ type tokens1.
-    then_read (expect (codes "=") end tokens1) (λ _ tokens2.
-    body_part room name type end tokens2))
+-- What the bytes give, the first of these that fits: they are too many, they are no UTF-8, a token is none; and else what is
+-- not built yet, or what the grammar says of the tokens.
+pub data Gives (bytes : List ℕ) : Answer → Type 0 where
+  too_long : limit < length bytes → Gives bytes (Err stop.TooLong)
+  not_utf8 : (offset : ℕ) → length bytes ≤ limit → IsValidUpTo bytes offset → Gives bytes (Err (stop.NotUtf8 offset))
+  bad_token : (offset : ℕ) → length bytes ≤ limit → IsBadToken bytes offset → Gives bytes (Err (stop.BadToken offset))
+  tokens : (tokens : List Token) → length bytes ≤ limit → AreTokens bytes tokens → Gives bytes (unless_unbuilt (unbuilt bytes tokens) (read (parsed bytes tokens)))
 
--- 'def' plain ':' term '=' term, where `room` parts of a term may be open at once
-abbrev pub definition : ℕ → ℕ → List Token → Reading Written
-definition room end tokens =
-    then_read (expect (codes "def") end tokens) (λ _ tokens1.
-    then_read (plain_name end tokens1) (λ name tokens2.
-    then_read (expect (codes ":") end tokens2) (λ _ tokens3.
-    type_part room name end tokens3)))
+-- an answer of the code
+abbrev pub answer_of : Result (List code.Decl) TextStop → Answer
+answer_of (Ok decls) = Ok (map decl_of decls)
+answer_of (Err e) = Err e
 
--- further definitions, of which `many` at most are read
-abbrev pub others : ℕ → ℕ → ℕ → List Token → Result (Unit {0}) Halt
-others room zero end tokens = Err (Syntax (offset_of end tokens))
-others room (suc many) end [] = Ok tt
-others room (suc many) end (token ∷ tokens) =
-    and_then (definition room end (token ∷ tokens)) (λ read. others room many end read.1)
+-- the bytes give the answer, unless memory ran out
+abbrev pub Says : List ℕ → Result (List code.Decl) TextStop → Type 0
+Says bytes answer = answer ≢ Err stop.Memory → Gives bytes (answer_of answer)
 
--- decl*, of which the first is kept
-abbrev pub definitions : ℕ → ℕ → List Token → Result (Option Written) Halt
-definitions room end [] = Ok None
-definitions room end (token ∷ tokens) =
-    and_then (definition room end (token ∷ tokens)) (λ read. and_then (others room room end read.1) (λ _. Ok (Some read.0)))
-
--- the smaller of two offsets
-abbrev pub least : Option ℕ → Option ℕ → Option ℕ
-least None o = o
-least (Some m) None = Some m
-least (Some m) (Some n) = Some (min m n)
-
--- where the first argument of an application stands
-abbrev pub first_argument : Surf → Option ℕ
-first_argument (Sort i) = None
-first_argument (Named word start) = None
-first_argument (Pi name a b) = least (first_argument a) (first_argument b)
-first_argument (Lam name a b) = least (first_argument a) (first_argument b)
-first_argument (App head start) = least (first_argument head) (Some start)
-
--- where the name `Empty` stands first
-abbrev pub empty_name : List Token → Option ℕ
-empty_name [] = None
-empty_name (token ∷ tokens) =
-    if is_plain token.kind && is_spelled (codes "Empty") token then Some token.start else empty_name tokens
-
--- the first of what is read and not built yet: a second definition, an argument, the name `Empty`
-abbrev pub unbuilt : List Token → Written → Option ℕ
-unbuilt tokens w = least (empty_name tokens) (least w.next (least (first_argument w.type) (first_argument w.body)))
-
-abbrev pub if_built : Option ℕ → Written → Result (Option Written) Halt
-if_built None w = Ok (Some w)
-if_built (Some offset) w = Err (NotYet offset)
-
-abbrev pub built : List Token → Option Written → Result (Option Written) Halt
-built tokens None = Ok None
-built tokens (Some w) = if_built (unbuilt tokens w) w
-
--- the definition that a text of at most 1,024 bytes has, if any
-abbrev pub written_in : List ℕ → Result (Option Written) Halt
-written_in bytes = and_then (tokens_of bytes) (λ tokens. and_then (definitions most_open (length bytes) tokens) (built tokens))
-
--- a definition as terms
-pub record Definition : Type 0 where
-  pub type : tree.Term
-  pub body : tree.Term
-
--- goes on where the checker says Yes of a part
-abbrev pub on_verdict : {A : Type 0} → List ℕ → Verdict → Result A Halt → Result A Halt
-on_verdict part (Yes type) next = next
-on_verdict part (No denial) next = Err (IllTyped (denial_text part denial))
-
--- the type must have a sort, and the body that type
-abbrev pub typed : tree.Term → tree.Term → Result Definition Halt
-typed type body =
-    on_verdict (codes "type") (infer_sort [] type)
-    (on_verdict (codes "body") (check [] body type) (Ok (record { type = type; body = body })))
-
--- the phases of a definition: resolution, then its type and its body
-abbrev pub accept : Written → Result Definition Halt
-accept w = and_then (resolve_closed w.type) (λ type. and_then (resolve_closed w.body) (λ body. typed type body))
+abbrev pub is_memory : TextStop → Bool
+is_memory stop.Memory = true
+is_memory _ = false

@@ -1,8 +1,54 @@
--- The words behind the program's name.
-use Rattle.std.specs.Prelude.{Bool, false, List, [], ◌∷◌, ℕ, codes}
-use Rattle.surface_syntax.specs.Spelling.{is_text}
+-- The words behind the program's name, and what they ask for: `compile`, and behind it in any order `--k` at most once and
+-- `--fuel` with its number at most once.
+use Rattle.std.specs.Prelude.{ℕ, ◌+◌, ◌-◌, ◌*◌, ◌==◌, Bool, true, false, ◌&&◌, if◌then◌else◌, List, [], ◌∷◌, codes, nat_le, Option, Some, None, option_map, is_some}
+use Rattle.surface_syntax.specs.Spelling.{is_text, is_digit}
+use Rattle.elim_program.specs.declared.words.Command.{Command}
 
--- the words are one of the accepted lists; no flags and no other modes are built yet
+-- the units that a declaration may spend where the words don't say
+abbrev pub default_fuel : ℕ
+default_fuel = 100000000
+
+-- the number n behind which one more digit stands
+abbrev pub with_digit : ℕ → ℕ → ℕ
+with_digit n d = 10 * n + (d - 48)
+
+-- the number that the digits spell behind those of n, where it is at most 1,000,000,000
+abbrev pub number_behind : ℕ → List ℕ → Option ℕ
+number_behind n [] = Some n
+number_behind n (d ∷ ds) = if is_digit d && nat_le (with_digit n d) 1000000000 then number_behind (with_digit n d) ds else None
+
+-- a number from 1 to 1,000,000,000: digits, of which the first is not `0`
+abbrev pub fuel_of : List ℕ → Option ℕ
+fuel_of [] = None
+fuel_of (d ∷ ds) = if d == 48 then None else number_behind 0 (d ∷ ds)
+
+abbrev pub command : Bool → ℕ → Command
+command k fuel = record { k = k; fuel = fuel }
+
+abbrev pub with_fuel : Bool → Option ℕ → Option Command
+with_fuel k fuel = option_map (command k) fuel
+
+-- the words are `--k`, and `--fuel` before another one
+abbrev pub is_k : List ℕ → Bool
+is_k word = is_text word (codes "--k")
+
+abbrev pub is_fuel : List ℕ → Bool
+is_fuel word = is_text word (codes "--fuel")
+
+-- what the words behind the mode ask for
+abbrev pub flags : List (List ℕ) → Option Command
+flags [] = Some (command false default_fuel)
+flags (a ∷ []) = if is_k a then Some (command true default_fuel) else None
+flags (a ∷ b ∷ []) = if is_fuel a then with_fuel false (fuel_of b) else None
+flags (a ∷ b ∷ c ∷ []) =
+    if is_k a && is_fuel b then with_fuel true (fuel_of c)
+    else (if is_fuel a && is_k c then with_fuel true (fuel_of b) else None)
+flags _ = None
+
+-- what the words ask for, if they are one of the accepted lists
+abbrev pub asked : List (List ℕ) → Option Command
+asked [] = None
+asked (mode ∷ words) = if is_text mode (codes "compile") then flags words else None
+
 abbrev pub is_accepted : List (List ℕ) → Bool
-is_accepted (mode ∷ []) = is_text mode (codes "compile")
-is_accepted _ = false
+is_accepted words = is_some (asked words)

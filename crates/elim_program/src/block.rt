@@ -1,33 +1,48 @@
-ghost use Rattle.std.specs.Prelude.{◌≡◌, ◌≤◌, ◌++◌, ◌∷◌, [], length, codes, decimal, Ok, OnOk, IfSome, true, false};
-ghost use Rattle.core_terms.specs.Meanings.{tree_of};
-ghost use Rattle.elim_program.specs.Answers.{Gives};
-ghost use Rattle.elim_program.specs.Blocks.{shown_of, shown, shown_block};
-ghost use Rattle.elim_program.specs.Meanings.{written_of};
+ghost use Rattle.std.specs.Prelude.{◌≡◌, ◌≤◌, ◌<◌, ◌+◌, ◌-◌, ◌++◌, ◌∷◌, [], length, slice_get, codes, true, false, Err, OnErr, OnOk};
+ghost use Rattle.elim_program.specs.declared.status.Status.TheVariants.{NoMemory};
+ghost use Rattle.elim_program.specs.Blocks.{Makes};
+ghost use Rattle.elim_program.specs.Lines.{text_of};
 ghost use Rattle.elim_program.specs.Outputs as spec;
-ghost use Rattle.elim_program.specs.Printing.{definition_line};
-ghost use Rattle.elim_program.specs.Texts.{accept, written_in};
+ghost use Rattle.elim_program.specs.Refusals.{stop_line, refusal_line};
 
-use crate::Halt;
-use crate::printing::{push_number, push_term};
-use crate::texts::{Definition, Written};
-use core_terms::{Items, Name, Term};
-use std::alloc::{AllocError, Global};
+use crate::refusals::{write_refusal, write_stop};
+use crate::{Status, TextStop};
+use core_sig::Signature;
+use core_terms::Name;
+use core_text::print_entry;
+use elab_session::Refusal;
+use std::alloc::Global;
 
-/// The lines of a declaration or the last line, each with its line feed, and whether they refuse.
+/// Lines, each with its line feed, and whether the last one refuses.
 #[derive(Drop)]
 pub(crate) struct Block {
     pub text: Vec<u8>,
     pub refused: bool,
 }
 
-fn numbered(alloc: Global, kind: &[u8], offset: u32) -> Result<Block, Halt>
-    ensures { Gives shown_of result (Ok (shown ((codes "# refused " ++ kind.now ++ codes " " ++ decimal offset) ∷ []) true)) }
+/// The last line, where a text is refused before its declarations are looked at.
+pub(crate) fn stop_block(alloc: Global, stop: TextStop) -> Result<Block, Status>
+    ensures { Makes result (spec.block (stop_line stop ∷ []) true) }
 {
     let mut text = Vec::new(alloc);
     text.extend_from_slice(b"# refused ")?;
-    text.extend_from_slice(kind)?;
+    write_stop(&mut text, stop)?;
+    text.extend_from_slice(b"\n")?;
+    Ok(Block {
+        text,
+        refused: true,
+    })
+}
+
+/// The last line, where a declaration is refused.
+pub(crate) fn refusal_block(alloc: Global, name: &Name, refusal: &Refusal) -> Result<Block, Status>
+    ensures { Makes result (spec.block (refusal_line name.now refusal.now ∷ []) true) }
+{
+    let mut text = Vec::new(alloc);
+    text.extend_from_slice(b"# refused ")?;
+    text.extend_from_slice(name.as_slice())?;
     text.extend_from_slice(b" ")?;
-    push_number(&mut text, offset)?;
+    write_refusal(&mut text, refusal)?;
     text.extend_from_slice(b"\n")?;
     Ok(Block {
         text,
@@ -35,139 +50,63 @@ fn numbered(alloc: Global, kind: &[u8], offset: u32) -> Result<Block, Halt>
     })
 }
 
-fn unknown(alloc: Global, front: &[u8], offset: u32, word: &Name) -> Result<Block, Halt>
-    ensures { Gives shown_of result (Ok (shown (spec.refusal_line front.now (Halt.UnknownName offset word.now) ∷ []) true)) }
+/// Writes the line of an entry.
+fn write_entry(alloc: Global, out: &mut Vec<u8>, sig: &Signature, at: u32) -> Result<(), Status>
+    requires { at < length sig.now.entries }
+    ensures ok { OnOk result (out.new.items ≡ out.old.items ++ (spec.line_of sig.now at (slice_get sig.now.entries at) ++ codes "\n")) }
+    ensures memory { OnErr result (result ≡ Err NoMemory) }
 {
-    let mut text = Vec::new(alloc);
-    text.extend_from_slice(b"# refused ")?;
-    text.extend_from_slice(front)?;
-    text.extend_from_slice(b"UnknownName ")?;
-    push_number(&mut text, offset)?;
-    text.extend_from_slice(b" ")?;
-    text.extend_from_slice(word.as_slice())?;
-    text.extend_from_slice(b"\n")?;
-    Ok(Block {
-        text,
-        refused: true,
-    })
+    let line = print_entry(alloc, sig, at)?;
+    out.extend_from_slice(line.as_slice())?;
+    Ok(())
 }
 
-fn deep(alloc: Global, front: &[u8]) -> Result<Block, Halt>
-    ensures { Gives shown_of result (Ok (shown (spec.refusal_line front.now Halt.Deep ∷ []) true)) }
+/// Writes the lines of `count` entries from number `at` on.
+fn write_entries(
+    alloc: Global,
+    out: &mut Vec<u8>,
+    sig: &Signature,
+    at: u32,
+    count: u32,
+) -> Result<(), Status>
+    requires within { at + count ≤ length sig.now.entries }
+    requires numbered { length sig.now.entries < 4294967296 }
+    ensures ok { OnOk result (out.new.items ≡ out.old.items ++ text_of (spec.entry_lines sig.now at count)) }
+    ensures memory { OnErr result (result ≡ Err NoMemory) }
 {
-    let mut text = Vec::new(alloc);
-    text.extend_from_slice(b"# refused ")?;
-    text.extend_from_slice(front)?;
-    text.extend_from_slice(b"Deep\n")?;
-    Ok(Block {
-        text,
-        refused: true,
-    })
-}
-
-fn ill_typed(alloc: Global, front: &[u8], denial: &Name) -> Result<Block, Halt>
-    ensures { Gives shown_of result (Ok (shown (spec.refusal_line front.now (Halt.IllTyped denial.now) ∷ []) true)) }
-{
-    let mut text = Vec::new(alloc);
-    text.extend_from_slice(b"# refused ")?;
-    text.extend_from_slice(front)?;
-    text.extend_from_slice(denial.as_slice())?;
-    text.extend_from_slice(b"\n")?;
-    Ok(Block {
-        text,
-        refused: true,
-    })
-}
-
-/// The line of a refusal; `front` is the declaration's name and a space where one is being worked on.
-fn refusal(alloc: Global, front: &[u8], halt: Halt) -> Result<Block, Halt>
-    ensures { Gives shown_of result (Ok (shown (spec.refusal_line front.now halt ∷ []) true)) }
-{
-    match halt {
-        Halt::Memory => Err(Halt::Memory),
-        Halt::NotYet(offset) => numbered(alloc, b"NotYet", offset),
-        Halt::Syntax(offset) => numbered(alloc, b"Syntax", offset),
-        Halt::UnknownName(offset, word) => unknown(alloc, front, offset, &word),
-        Halt::Deep => deep(alloc, front),
-        Halt::IllTyped(denial) => ill_typed(alloc, front, &denial),
+    if count == 0 {
+        return Ok(());
     }
+    write_entry(alloc, out, sig, at)?;
+    write_entries(alloc, out, sig, at + 1, count - 1)
 }
 
-fn push_definition(out: &mut Vec<u8>, name: &Name, ty: &Term, body: &Term) -> Result<(), AllocError>
-    ensures { OnOk result (out.new.items ≡ out.old.items ++ definition_line name.now (tree_of ty.now) (tree_of body.now)) }
-{
-    out.extend_from_slice(b"def ")?;
-    out.extend_from_slice(name.as_slice())?;
-    out.extend_from_slice(b" : ")?;
-    push_term(out, ty)?;
-    out.extend_from_slice(b" = ")?;
-    push_term(out, body)
-}
-
-fn push_accepted(out: &mut Vec<u8>, name: &Name) -> Result<(), AllocError>
-    ensures { OnOk result (out.new.items ≡ out.old.items ++ spec.accepted_line name.now) }
+fn write_accepted(out: &mut Vec<u8>, name: &Name) -> Result<(), Status>
+    ensures ok { OnOk result (out.new.items ≡ out.old.items ++ (spec.accepted_line name.now ++ codes "\n")) }
+    ensures memory { OnErr result (result ≡ Err NoMemory) }
 {
     out.extend_from_slice(b"# accepted ")?;
-    out.extend_from_slice(name.as_slice())
+    out.extend_from_slice(name.as_slice())?;
+    out.extend_from_slice(b"\n")?;
+    Ok(())
 }
 
-fn accepted(alloc: Global, name: &Name, d: &Definition) -> Result<Block, Halt>
-    ensures { Gives shown_of result (Ok (shown (definition_line name.now (tree_of d.now.ty) (tree_of d.now.body) ∷ spec.accepted_line name.now ∷ []) false)) }
+/// The lines of a declaration: its entries, from number `from` on, and that it is accepted.
+#[tactic(auto, using(crate::proofs::TextLines::text_both))]
+pub(crate) fn accepted_block(
+    alloc: Global,
+    sig: &Signature,
+    from: u32,
+    name: &Name,
+) -> Result<Block, Status>
+    requires { from ≤ length sig.now.entries }
+    ensures { Makes result (spec.block (spec.entry_lines sig.now from (length sig.now.entries - from) ++ spec.accepted_line name.now ∷ []) false) }
 {
     let mut text = Vec::new(alloc);
-    push_definition(&mut text, name, &d.ty, &d.body)?;
-    text.extend_from_slice(b"\n")?;
-    push_accepted(&mut text, name)?;
-    text.extend_from_slice(b"\n")?;
+    write_entries(alloc, &mut text, sig, from, sig.len() - from)?;
+    write_accepted(&mut text, name)?;
     Ok(Block {
         text,
         refused: false,
     })
-}
-
-fn front_of(alloc: Global, name: &Name) -> Result<Vec<u8>, Halt>
-    ensures { Gives (λ front. front.items) result (Ok (name.now ++ codes " ")) }
-{
-    let mut front = name.as_slice().to_vec(alloc)?;
-    front.extend_from_slice(b" ")?;
-    Ok(front)
-}
-
-fn definition_block(alloc: Global, w: &Written) -> Result<Block, Halt>
-    ensures { Gives shown_of result (Ok (shown_block (spec.definition_block w.now.name (accept (written_of w.now))))) }
-{
-    match crate::texts::accept(alloc, w) {
-        Ok(d) => accepted(alloc, &w.name, &d),
-        Err(Halt::Memory) => Err(Halt::Memory),
-        Err(halt) => {
-            let front = front_of(alloc, &w.name)?;
-            refusal(alloc, front.as_slice(), halt)
-        }
-    }
-}
-
-fn text_block(alloc: Global, bytes: &[u8]) -> Result<Block, Halt>
-    requires { length bytes.now ≤ 1024 }
-    ensures { Gives shown_of result (Ok (shown_block (spec.text_block (written_in bytes.now)))) }
-{
-    match crate::texts::written_in(alloc, bytes) {
-        Ok(None) => Ok(Block {
-            text: Vec::new(alloc),
-            refused: false,
-        }),
-        Ok(Some(w)) => definition_block(alloc, &w),
-        Err(Halt::Memory) => Err(Halt::Memory),
-        Err(halt) => refusal(alloc, b"", halt),
-    }
-}
-
-/// What a text of at most 1,024 bytes gives, or a longer one.
-pub(crate) fn block_of(alloc: Global, text: &Option<Items<u8>>) -> Result<Block, Halt>
-    requires { IfSome text.now (λ bytes. length bytes ≤ 1024) }
-    ensures { Gives shown_of result (Ok (shown_block (spec.block_of text.now))) }
-{
-    match text {
-        None => refusal(alloc, b"", Halt::NotYet(1024)),
-        Some(bytes) => text_block(alloc, bytes.as_slice()),
-    }
 }

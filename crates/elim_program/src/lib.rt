@@ -2,23 +2,18 @@
 #![tactic(auto)]
 
 mod block;
-mod checking;
-mod context;
-mod halt;
+mod declaring;
 pub mod laws;
-mod lexing;
-mod parsing;
-mod printing;
-mod resolving;
+mod refusals;
 mod running;
-mod scope;
 mod status;
-mod surf;
+mod text_stop;
 mod texts;
-mod token;
+mod unbuilt;
+mod words;
 
-use halt::Halt;
+use block::Block;
 pub use running::run;
 pub use status::Status;
-use surf::{Form, Surf};
-use token::Token;
+use text_stop::TextStop;
+use words::Command;

@@ -1,35 +1,36 @@
-ghost use Rattle.std.specs.Prelude.{◌≡◌, ◌≢◌, ℕ, ◌≤◌, ◌↔◌, ◌∷◌, ◌++◌, List, map, length, IfSome, IfOk, OnErr, IsTrue, not, Some, Err, ◌⊎◌, string_bytes};
+ghost use Rattle.std.specs.Prelude.{◌≡◌, ◌≢◌, ℕ, ◌≤◌, ◌∷◌, [], List, map, length, true, Some, IfSome, IfOk, OnErr, IsTrue, not, Err, ◌⊎◌, string_bytes};
 ghost use Rattle.std.specs.Io.KnownBytes.{Appends};
 ghost use Rattle.core_terms.specs.Count.{Rose};
+ghost use Rattle.elim_program.specs.Outputs as spec;
+ghost use Rattle.elim_program.specs.Runs.{Follows, IsWhole, Runs, Sent, Told, Wrote, limited};
+ghost use Rattle.elim_program.specs.Texts.{answer_of, limit};
 ghost use Rattle.elim_program.specs.Lines.{text_of};
-ghost use Rattle.elim_program.specs.Outputs.{block_of, compiled, head_lines, limited, usage};
-ghost use Rattle.elim_program.specs.Runs.{Follows, IsWhole, Runs, Sent};
-ghost use Rattle.elim_program.specs.Words.{is_accepted};
+ghost use Rattle.elim_program.specs.Refusals.{stop_line};
+ghost use Rattle.elim_program.specs.Words.{is_accepted, asked};
 
-use crate::Status;
-use crate::block::block_of;
+use crate::block::stop_block;
+use crate::declaring::tell_declarations;
+use crate::text_stop::is_memory;
+use crate::texts::declarations;
+use crate::words::asked;
+use crate::{Command, Status, TextStop};
 use core_terms::Items;
+use elab_session::Session;
 use elim_ports::{PortError, ReadError, Sink, Source, read_all, write_all};
 use std::alloc::Global;
+use surface_syntax::Decl;
 
-/// The most bytes of a text that is read.
-const LIMIT: u32 = 1024;
+/// The most bytes of a text.
+const LIMIT: u32 = 1_048_576;
 
 const USAGE: &[u8] = b"# usage elim (compile [--k] | verify [--k] | work N) [--fuel N]\n";
 
 const HEAD: &[u8] = b"elim 1\nprelude\n";
 
-fn is_accepted(words: &[String]) -> bool
-    ensures { result ≡ is_accepted (map string_bytes words.now) }
-{
-    match words {
-        [mode] => mode.as_bytes() == b"compile".as_slice(),
-        _ => false,
-    }
-}
+const HEAD_WITH_K: &[u8] = b"elim 1\nprelude k\n";
 
 /// Writes a text whole, or a front of it.
-fn send<K: Sink>(sink: &mut K, bytes: &[u8]) -> Result<(), Status>
+pub(crate) fn send<K: Sink>(sink: &mut K, bytes: &[u8]) -> Result<(), Status>
     ensures sent { (text : List ℕ) × Appends (K.written sink.old) (K.written sink.new) text × Sent result text bytes.now }
     ensures fault { result ≡ Err Status.WriteFault → Rose (K.faults sink.old) (K.faults sink.new) }
     ensures never_falls { K.faults sink.old ≤ K.faults sink.new }
@@ -44,6 +45,7 @@ fn send<K: Sink>(sink: &mut K, bytes: &[u8]) -> Result<(), Status>
 /// The bytes of a source, or None where more came than are read.
 fn take_text<S: Source>(alloc: Global, source: &mut S) -> Result<Option<Items<u8>>, Status>
     ensures bytes { (bytes : List ℕ) × IfSome (S.left source.old) (λ known. bytes ≡ known) × IfOk result (λ text. text ≡ limited bytes) }
+    ensures within { IfOk result (λ text. IfSome text (λ bytes. length bytes ≤ limit)) }
     ensures errors { OnErr result ((result ≡ Err Status.ReadFault) ⊎ (result ≡ Err Status.NoMemory)) }
     ensures fault { result ≡ Err Status.ReadFault → Rose (S.faults source.old) (S.faults source.new) }
 {
@@ -55,29 +57,91 @@ fn take_text<S: Source>(alloc: Global, source: &mut S) -> Result<Option<Items<u8
     }
 }
 
+fn head(k: bool) -> &'static [u8]
+    ensures { result.now ≡ text_of (spec.head_lines k) }
+{
+    if k { HEAD_WITH_K } else { HEAD }
+}
+
+/// Writes the line of a text that is refused.
+fn tell_stop<K: Sink>(alloc: Global, stop: TextStop, sink: &mut K) -> Result<bool, Status>
+    ensures told { (text : List ℕ) × Appends (K.written sink.old) (K.written sink.new) text
+        × Told result (spec.block (stop_line stop ∷ []) true) text }
+    ensures fault { result ≡ Err Status.WriteFault → Rose (K.faults sink.old) (K.faults sink.new) }
+{
+    let block = stop_block(alloc, stop)?;
+    send(sink, block.text.as_slice())?;
+    Ok(block.refused)
+}
+
+/// Writes what the text gives, and answers whether the last line refuses.
+fn tell_text<K: Sink>(
+    alloc: Global,
+    command: Command,
+    answer: Result<Items<Decl>, TextStop>,
+    sink: &mut K,
+) -> Result<bool, Status>
+    ensures told { (text : List ℕ) × Appends (K.written sink.old) (K.written sink.new) text
+        × Told result (spec.text_block command (answer_of answer)) text }
+    ensures fault { result ≡ Err Status.WriteFault → Rose (K.faults sink.old) (K.faults sink.new) }
+{
+    match answer {
+        Ok(decls) => {
+            let mut session = Session::new(alloc, command.k, command.fuel)?;
+            tell_declarations(alloc, &mut session, decls.as_slice(), sink)
+        }
+        Err(stop) => tell_stop(alloc, stop, sink),
+    }
+}
+
 /// Writes the head lines and what the text gives.
-fn compile<K: Sink>(alloc: Global, text: &Option<Items<u8>>, sink: &mut K) -> Status
-    requires { IfSome text.now (λ bytes. length bytes ≤ 1024) }
-    ensures follows { Follows (compiled (block_of text.now)) (K.written sink.old) (K.written sink.new) result }
+fn tell<K: Sink>(
+    alloc: Global,
+    command: Command,
+    answer: Result<Items<Decl>, TextStop>,
+    sink: &mut K,
+) -> Status
+    ensures follows { Follows (spec.compiled command.k (spec.text_block command (answer_of answer))) (K.written sink.old) (K.written sink.new) result }
     ensures fault { result ≡ Status.WriteFault → Rose (K.faults sink.old) (K.faults sink.new) }
     ensures read { result ≢ Status.ReadFault }
 {
-    if let Err(status) = send(sink, HEAD) {
+    if let Err(status) = send(sink, head(command.k)) {
         return status;
     }
-    let Ok(block) = block_of(alloc, text) else {
-        return Status::NoMemory;
-    };
-    match send(sink, block.text.as_slice()) {
-        Ok(()) if block.refused => Status::Refused,
-        Ok(()) => Status::Done,
+    match tell_text(alloc, command, answer, sink) {
+        Ok(true) => Status::Refused,
+        Ok(false) => Status::Done,
         Err(status) => status,
+    }
+}
+
+/// Writes what the words ask for of a text.
+fn compile<K: Sink>(
+    alloc: Global,
+    command: Command,
+    text: &Option<Items<u8>>,
+    sink: &mut K,
+) -> Status
+    requires { IfSome text.now (λ bytes. length bytes ≤ limit) }
+    ensures wrote { (words : List (List ℕ)) (bytes : List ℕ) → asked words ≡ Some command → text.now ≡ limited bytes
+        → Wrote words bytes (K.written sink.old) (K.written sink.new) result }
+    ensures fault { result ≡ Status.WriteFault → Rose (K.faults sink.old) (K.faults sink.new) }
+    ensures read { result ≢ Status.ReadFault }
+{
+    match declarations(alloc, text) {
+        Ok(decls) => tell(alloc, command, Ok(decls), sink),
+        Err(stop) => {
+            if is_memory(stop) {
+                return Status::NoMemory;
+            }
+            tell(alloc, command, Err(stop), sink)
+        }
     }
 }
 
 /// Writes the usage line.
 fn refuse_words<K: Sink>(sink: &mut K) -> Status
-    ensures follows { Follows usage (K.written sink.old) (K.written sink.new) result }
+    ensures follows { Follows spec.usage (K.written sink.old) (K.written sink.new) result }
     ensures fault { result ≡ Status.WriteFault → Rose (K.faults sink.old) (K.faults sink.new) }
     ensures read { result ≢ Status.ReadFault }
 {
@@ -90,15 +154,15 @@ fn refuse_words<K: Sink>(sink: &mut K) -> Status
 /// Compiles the text of `source` where the words ask for it, and writes the lines to `sink`.
 ///
 /// `words` are those behind the program's name. The source is read whole before the first write. The first write holds
-/// the two head lines, the second one the lines of the declaration or the last line.
+/// the two head lines, each further one the lines of one declaration or the last line.
 pub fn run<S: Source, K: Sink>(
     alloc: Global,
     words: &[String],
     source: &mut S,
     sink: &mut K,
 ) -> Status
-    // What was written follows the defined output. Its field `headline` says of each whole line `# accepted NAME` that the
-    // lines above it show a closed term that has its written type.
+    // What was written follows a defined output, or nothing was written. Each whole line `# accepted NAME` has its headline:
+    // the lines above it show that the declaration has its written type.
     ensures runs { Runs (map string_bytes words.now) (S.left source.old) (K.written sink.old) (K.written sink.new) result }
     ensures read_fault { result ≡ Status.ReadFault → Rose (S.faults source.old) (S.faults source.new) }
     ensures write_fault { result ≡ Status.WriteFault → Rose (K.faults sink.old) (K.faults sink.new) }
@@ -106,11 +170,12 @@ pub fn run<S: Source, K: Sink>(
         → IsWhole (map string_bytes words.now) (S.left source.old) (K.written sink.old) (K.written sink.new) result }
     ensures unread { IsTrue (not (is_accepted (map string_bytes words.now))) → source.new ≡ source.old }
 {
-    if !is_accepted(words) {
-        return refuse_words(sink);
-    }
+    let command = match asked(words) {
+        Some(command) => command,
+        None => return refuse_words(sink),
+    };
     match take_text(alloc, source) {
-        Ok(text) => compile(alloc, &text, sink),
+        Ok(text) => compile(alloc, command, &text, sink),
         Err(status) => status,
     }
 }

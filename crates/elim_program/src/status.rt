@@ -1,3 +1,8 @@
+ghost use Rattle.elim_program.specs.declared.status.Status.TheVariants.{NoMemory};
+
+use core_terms::Stop;
+use std::alloc::AllocError;
+
 /// How a run ended; `code` has the status of the program.
 #[derive(Clone, Copy, Debug, PartialEq, Eq)]
 pub enum Status {
@@ -25,5 +30,26 @@ impl Status {
             Status::WriteFault => 4,
             Status::NoMemory => 5,
         }
+    }
+}
+
+impl From<AllocError> for Status {
+    ghost use Rattle.std.specs.Prelude.{◌≡◌};
+
+    ghost from_gives = { λ _ status. status ≡ NoMemory };
+
+    fn from(_error: AllocError) -> Status {
+        Status::NoMemory
+    }
+}
+
+/// Of the calls that stop a run, those that print have want of memory alone.
+impl From<Stop> for Status {
+    ghost use Rattle.std.specs.Prelude.{◌≡◌};
+
+    ghost from_gives = { λ _ status. status ≡ NoMemory };
+
+    fn from(_stop: Stop) -> Status {
+        Status::NoMemory
     }
 }

@@ -1,5 +1,5 @@
-use Rattle.elim_program.proofs.Accepted as law
+use Rattle.elim_program.proofs.OutputInLine.{headline}
 use Rattle.elim_program.proofs.laws.headline.Goals as goal
 
 pub returns : goal.returns
-returns c = law.headline
+returns c = headline

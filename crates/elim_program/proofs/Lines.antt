@@ -1,0 +1,86 @@
+-- Which lines are core lines.
+use Rattle.std.proofs.Common.{◌≡◌, ◌≢◌, ℕ, zero, suc, ◌+◌, Bool, true, false, List, [], ◌∷◌, ◌++◌, drop, Option, Some, None, refl, sym, ap, ◌∙◌}
+use Rattle.std.specs.Prelude.{slice_get, if◌then◌else◌}
+use Rattle.theory.specs.Signatures.{Entry, FamilyOf, EliminatorAt, AxiomKAt, Definition, Signature}
+use Rattle.core_text.specs.EntryText.{entry_text}
+use Rattle.elim_program.specs.Headline.{is_core, core_lines}
+use Rattle.elim_program.specs.Outputs.{line_of, entry_lines, accepted_line}
+
+-- all lines are core lines
+unfoldable pub AreCore : List (List ℕ) → Type 0
+AreCore [] = Unit {0}
+AreCore (line ∷ lines) = (is_core line ≡ true) × AreCore lines
+
+entry-core : (S : Signature) (n : ℕ) (e : Entry) → is_core (entry_text S n e) ≡ true
+entry-core S n (FamilyOf f) = refl
+entry-core S n (EliminatorAt family m) = refl
+entry-core S n (AxiomKAt i m) = refl
+entry-core S n (Definition name type body) = refl
+
+line-core : (S : Signature) (n : ℕ) (o : Option Entry) → is_core (line_of S n o) ≡ true
+line-core S n (Some e) = entry-core S n e
+line-core S n None = refl
+
+pub entries-core : (S : Signature) (n count : ℕ) → AreCore (entry_lines S n count)
+unfolding AreCore
+entries-core S n zero = tt
+entries-core S n (suc count) = (line-core S n (slice_get S.entries n), entries-core S (n + 1) count)
+
+-- core lines stay, and what begins with `#` goes
+pub core-lines-core : (xs ys : List (List ℕ)) → AreCore xs → core_lines (xs ++ ys) ≡ xs ++ core_lines ys
+unfolding AreCore
+core-lines-core [] ys h = refl
+core-lines-core (x ∷ xs) ys h = keep (is_core x) h.0 ∙ ap (λ ls. x ∷ ls) (core-lines-core xs ys h.1)
+  where
+    keep : (b : Bool) → b ≡ true → (if b then x ∷ core_lines (xs ++ ys) else core_lines (xs ++ ys)) ≡ x ∷ core_lines (xs ++ ys)
+    keep true e = refl
+    keep false e = cc
+
+pub core-lines-append : (xs ys : List (List ℕ)) → core_lines (xs ++ ys) ≡ core_lines xs ++ core_lines ys
+core-lines-append [] ys = refl
+core-lines-append (x ∷ xs) ys = go (is_core x) (core-lines-append xs ys)
+  where
+    go : (b : Bool) → core_lines (xs ++ ys) ≡ core_lines xs ++ core_lines ys
+        → (if b then x ∷ core_lines (xs ++ ys) else core_lines (xs ++ ys)) ≡ (if b then x ∷ core_lines xs else core_lines xs) ++ core_lines ys
+    go true h = ap (λ ls. x ∷ ls) h
+    go false h = h
+
+-- The third character tells lines of acceptance from those of refusal.
+unfoldable pub third : List ℕ → ℕ
+third (a ∷ b ∷ c ∷ cs) = c
+third _ = 0
+
+unfoldable pub first_line : List (List ℕ) → List ℕ
+first_line [] = []
+first_line (line ∷ lines) = line
+
+pub not_empty : (front back : List (List ℕ)) (line : List ℕ) → [] ≡ front ++ line ∷ back → ⊥
+not_empty [] back line e = cc
+not_empty (x ∷ front) back line e = cc
+
+-- lines that refuse or say nothing of a declaration
+pub not_one : (other : List ℕ) (front back : List (List ℕ)) (name : List ℕ) → third other ≢ 97 → other ∷ [] ≡ front ++ accepted_line name ∷ back → ⊥
+unfolding third first_line
+not_one other [] back name h e = h (ap (λ ls. third (first_line ls)) e)
+not_one other (x ∷ front) back name h e = not_empty front back (accepted_line name) (ap (drop 1) e)
+
+-- A line of acceptance behind core lines and one of acceptance: it is that one, or it stands behind.
+pub data Found (xs rest front back : List (List ℕ)) (n name : List ℕ) : Type 0 where
+  here : front ≡ xs → n ≡ name → rest ≡ back → Found xs rest front back n name
+  behind : (later : List (List ℕ)) → front ≡ xs ++ accepted_line n ∷ later → rest ≡ later ++ accepted_line name ∷ back → Found xs rest front back n name
+
+core-not : (line name : List ℕ) → is_core line ≡ true → line ≡ accepted_line name → ⊥
+core-not line name h e = let k : is_core (accepted_line name) ≡ true = sym (ap is_core e) ∙ h in cc
+
+pub find : (xs rest front back : List (List ℕ)) (n name : List ℕ) → AreCore xs → xs ++ accepted_line n ∷ rest ≡ front ++ accepted_line name ∷ back
+    → Found xs rest front back n name
+unfolding AreCore first_line
+find [] rest [] back n name h e = here refl (ap (λ ls. drop 11 (first_line ls)) e) (ap (drop 1) e)
+find [] rest (x ∷ front) back n name h e = behind front (ap (λ l. l ∷ front) (sym (ap first_line e))) (ap (drop 1) e)
+find (x ∷ xs) rest [] back n name h e = absurd (core-not x name h.0 (ap first_line e))
+find (x ∷ xs) rest (y ∷ front) back n name h e =
+    let same : x ≡ y = ap first_line e in go (find xs rest front back n name h.1 (ap (drop 1) e)) same
+  where
+    go : Found xs rest front back n name → x ≡ y → Found (x ∷ xs) rest (y ∷ front) back n name
+    go (here f m r) same = here (ap (λ ls. y ∷ ls) f ∙ ap (λ l. l ∷ xs) (sym same)) m r
+    go (behind later f r) same = behind later (ap (λ ls. y ∷ ls) f ∙ ap (λ l. l ∷ (xs ++ accepted_line n ∷ later)) (sym same)) r

@@ -1,0 +1,130 @@
+-- No line of an output holds a line feed.
+use Rattle.std.proofs.Common.{◌≡◌, ℕ, zero, suc, ◌+◌, ◌-◌, Bool, true, false, List, [], ◌∷◌, ◌++◌, length, codes, Option, Some, None, Result, Ok, Err, refl, sym, ap, ◌∙◌, append_assoc, append-nil}
+use Rattle.std.specs.Prelude.{decimal, slice_get}
+use Rattle.theory.specs.Prelude.{prelude}
+use Rattle.theory.specs.Signatures.{Entry, Signature, names_of}
+use Rattle.core_text.specs.Lines.{is_in_line, AreInLine}
+use Rattle.core_text.proofs.Feeds.{both, decimal-in, text-in}
+use Rattle.surface_syntax.specs.Trees as surf
+use Rattle.surface_syntax.specs.Grammar.{limit}
+use Rattle.surface_syntax.specs.Machine.{Start}
+use Rattle.surface_syntax.specs.Parsing.{Answer, Read, Wrong, Deep, run}
+use Rattle.surface_syntax.proofs.Runs.{run_file}
+use Rattle.elab_session.specs.Declaring.{Declared, declare_of}
+use Rattle.elab_session.specs.Laws.{IsAsWritten}
+use Rattle.elab_session.specs.Sessions.{IsReady}
+use Rattle.elab_session.specs.declared.refusal.Refusal.{Refusal}
+use Rattle.elab_session.proofs.PreludeReady.{prelude-ready}
+use Rattle.elab_session.proofs.Written.{declare-ready, declares-written}
+use Rattle.surface_syntax.specs.Lexemes.{lexemes_of}
+use Rattle.surface_syntax.specs.Parses.{by_offset, offset_of}
+use Rattle.elim_program.specs.declared.text_stop.TextStop.{TextStop}
+use Rattle.elim_program.specs.declared.text_stop.TextStop.TheVariants as stop
+use Rattle.elim_program.specs.declared.words.Command.{Command}
+use Rattle.elim_program.specs.Headline.{IsHeadline, Headline}
+use Rattle.elim_program.specs.Lines.{lines_of, text_of}
+use Rattle.elim_program.specs.Outputs.{Output, IsOutput, refused_words, compiles, line_of, entry_lines, accepted_line, declared_name, declared_block, after, followed, declarations, text_block, head_lines}
+use Rattle.elim_program.specs.Refusals.{stop_line, refusal_line, refusal_text}
+use Rattle.elim_program.specs.Runs.{IsFront}
+use Rattle.elim_program.specs.Texts as texts
+use Rattle.elim_program.specs.Texts.{Gives, too_long, not_utf8, bad_token, tokens, read, unless_unbuilt}
+use Rattle.elim_program.specs.Unbuilt.{unbuilt}
+use Rattle.elim_program.proofs.Accepted.{if_ok, shown}
+use Rattle.elim_program.proofs.GrammarInLine.{DeclInLine, file-in, lexemes-good}
+use Rattle.elim_program.proofs.SessionInLine.{NamesIn, has-names, TextIn, RefusesIn, refused-in, AcceptedIn, accepted-in, prelude-in}
+use Rattle.elim_program.proofs.TextLines.{lines-text, lines-front}
+use Rattle.elim_program.proofs.TokensInLine.{Each, tokens-in}
+
+join : (xs ys : List (List ℕ)) → AreInLine xs → AreInLine ys → AreInLine (xs ++ ys)
+join [] ys h k = k
+join (x ∷ xs) ys h k = (h.0, join xs ys h.1 k)
+
+line-in : (S : Signature) → NamesIn S → (n at : ℕ) (es : List Entry) → Each (λ e. AreInLine (names_of e)) es → is_in_line (line_of S n (slice_get es at)) ≡ true
+line-in S names n at [] h = refl
+line-in S names n zero (e ∷ es) h = text-in S (has-names S names) n e h.0
+line-in S names n (suc at) (e ∷ es) h = line-in S names n at es h.1
+
+entries-in : (S : Signature) → NamesIn S → (n count : ℕ) → AreInLine (entry_lines S n count)
+entries-in S names n zero = tt
+entries-in S names n (suc count) = (line-in S names n n S.entries names, entries-in S names (n + 1) count)
+
+name-in : (d : surf.Decl) → DeclInLine d → is_in_line (declared_name d) ≡ true
+name-in (surf.Def x ty body) h = h.0
+name-in (surf.Decide x f e) h = h
+name-in (surf.Data x params ty cons) h = h.0
+name-in (surf.Mutual params members f tag tags) h = absurd h
+name-in (surf.Fun x ty clauses) h = absurd h
+
+refusal-in : (name : List ℕ) (e : Refusal) → is_in_line name ≡ true → TextIn e → is_in_line (refusal_line name e) ≡ true
+refusal-in name e h k =
+    both (codes "# refused " ++ name ++ codes " ") (refusal_text e) (both (codes "# refused " ++ name) (codes " ") (both (codes "# refused ") name refl h) refl) k
+
+followed-in : (S : Signature) (d : surf.Decl) (a : Declared) (rest : List (List ℕ)) (count : ℕ) → AcceptedIn a → AreInLine rest →
+    AreInLine ((entry_lines a.signature (length S.entries) count ++ accepted_line a.accepted.name ∷ []) ++ rest)
+followed-in S d a rest count h k =
+    join (entry_lines a.signature (length S.entries) count ++ accepted_line a.accepted.name ∷ []) rest
+    (join (entry_lines a.signature (length S.entries) count) (accepted_line a.accepted.name ∷ []) (entries-in a.signature h.names (length S.entries) count) (both (codes "# accepted ") a.accepted.name refl h.name, tt)) k
+
+declarations-in : (fuel : ℕ) (S : Signature) (ds : List surf.Decl) → IsReady S → NamesIn S → Each DeclInLine ds → AreInLine (declarations fuel S ds).lines
+declarations-in fuel S [] ready names h = tt
+declarations-in fuel S (d ∷ ds) ready names h =
+    go (declare_of S fuel d) refl (refused-in S fuel d names h.0) (λ T r n. declarations-in fuel T ds r n h.1)
+  where
+    go : (r : Result Declared Refusal) → declare_of S fuel d ≡ r → RefusesIn r → ((T : Signature) → IsReady T → NamesIn T → AreInLine (declarations fuel T ds).lines) →
+        AreInLine (followed (declared_block S d r) (declarations fuel (after S r) ds)).lines
+    go (Err e) er k rec = (refusal-in (declared_name d) e (name-in d h.0) k, tt)
+    go (Ok a) er k rec =
+        let more = if_ok (λ x. IsReady x.signature) (declare_of S fuel d) a er (declare-ready S fuel d ready) in
+        let written = if_ok (IsAsWritten S d) (declare_of S fuel d) a er (declares-written S fuel d ready.well_formed) in
+        let is = accepted-in S d a names h.0 written in
+        followed-in S d a (declarations fuel a.signature ds).lines (length a.signature.entries - length S.entries) is (rec a.signature more is.names)
+
+-- what a text gives is in line
+abbrev AnswerIn : texts.Answer → Type 0
+AnswerIn (Ok ds) = Each DeclInLine ds
+AnswerIn (Err e) = Unit {0}
+
+given-in : (bytes : List ℕ) (answer : texts.Answer) → Gives bytes answer → AnswerIn answer
+given-in bytes answer (too_long h) = tt
+given-in bytes answer (not_utf8 offset h k) = tt
+given-in bytes answer (bad_token offset h k) = tt
+given-in bytes answer (tokens found within are) = go (unbuilt bytes found) refl (run limit Start (lexemes_of bytes found)) refl
+  where
+    go : (o : Option ℕ) → unbuilt bytes found ≡ o → (r : Answer) → run limit Start (lexemes_of bytes found) ≡ r → AnswerIn (unless_unbuilt o (read (by_offset (offset_of bytes found) r)))
+    go (Some offset) e r q = tt
+    go None e (Read ds) q = file-in limit (run_file limit (lexemes_of bytes found) ds q) (lexemes-good bytes found (tokens-in bytes found are) e)
+    go None e (Wrong n) q = tt
+    go None e (Deep n) q = tt
+
+stop-in : (e : TextStop) → is_in_line (stop_line e) ≡ true
+stop-in stop.Memory = refl
+stop-in stop.TooLong = refl
+stop-in (stop.NotUtf8 offset) = both (codes "# refused NotUtf8 ") (decimal offset) refl (decimal-in offset)
+stop-in (stop.BadToken offset) = both (codes "# refused BadToken ") (decimal offset) refl (decimal-in offset)
+stop-in (stop.NotYet offset) = both (codes "# refused NotYet ") (decimal offset) refl (decimal-in offset)
+stop-in (stop.Nested offset) = both (codes "# refused Nested ") (decimal offset) refl (decimal-in offset)
+stop-in (stop.Syntax offset) = both (codes "# refused Syntax ") (decimal offset) refl (decimal-in offset)
+
+block-in : (command : Command) (answer : texts.Answer) → AnswerIn answer → AreInLine (text_block command answer).lines
+block-in command (Ok ds) h = declarations-in command.fuel (prelude command.k) ds (prelude-ready (prelude command.k) command.k refl) (prelude-in command.k) h
+block-in command (Err e) h = (stop-in e, tt)
+
+heads-in : (k : Bool) → AreInLine (head_lines k)
+heads-in true = (refl, (refl, tt))
+heads-in false = (refl, (refl, tt))
+
+output-in : (words : List (List ℕ)) (bytes : List ℕ) (out : Output) → IsOutput words bytes out → AreInLine out.lines
+output-in words bytes out (refused_words none) = (refl, tt)
+output-in words bytes out (compiles command answer asks gives) =
+    join (head_lines command.k) (text_block command answer).lines (heads-in command.k) (block-in command answer (given-in bytes answer gives))
+
+-- the first lines of a text of lines are lines of the output
+pub headline_of_front : (words : List (List ℕ)) (bytes text : List ℕ) (out : Output) → IsOutput words bytes out → IsFront text (text_of out.lines) → IsHeadline words bytes text
+headline_of_front words bytes text out is front above below name line =
+    let more = lines-front text front.0 in
+    let whole : out.lines ≡ above ++ accepted_line name ∷ (below ++ more.0) =
+    sym (lines-text out.lines (output-in words bytes out is)) ∙ ap lines_of front.1 ∙ more.1 ∙ ap (λ ls. ls ++ more.0) line ∙ append_assoc above (accepted_line name ∷ below) more.0 in
+    shown words bytes out above (below ++ more.0) name is whole
+
+pub headline : Headline
+headline words bytes out is = headline_of_front words bytes (text_of out.lines) out is ([], sym (append-nil (text_of out.lines)))

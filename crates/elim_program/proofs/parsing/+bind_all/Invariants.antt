@@ -1,5 +1,0 @@
-use Rattle.std.proofs.Common.{length}
-use Rattle.elim_program.proofs.parsing.+bind_all.Given as goal
-
-abbrev pub decreases-bind_all : goal.decreases-bind_all
-decreases-bind_all l = length l.names.now

@@ -1,0 +1,38 @@
+ghost use Rattle.std.specs.Prelude.{◌≡◌};
+ghost use Rattle.elim_program.specs.Texts as spec;
+
+use surface_syntax::SyntaxStop;
+
+/// Why a text is refused before its declarations are looked at; each offset is one in bytes.
+///
+/// `TooLong` is a text of more than 1,048,576 bytes, and `NotYet` what is not built yet. The others are those of the tokens
+/// and of the grammar.
+#[derive(Clone, Copy, Debug, PartialEq, Eq)]
+pub(crate) enum TextStop {
+    Memory,
+    TooLong,
+    NotUtf8(u32),
+    BadToken(u32),
+    NotYet(u32),
+    Nested(u32),
+    Syntax(u32),
+}
+
+/// Why a text has no tokens or no declarations.
+pub(crate) fn stop_of(stop: SyntaxStop) -> TextStop
+    ensures { result ≡ spec.stop_of stop }
+{
+    match stop {
+        SyntaxStop::Memory => TextStop::Memory,
+        SyntaxStop::NotUtf8(offset) => TextStop::NotUtf8(offset),
+        SyntaxStop::BadToken(offset) => TextStop::BadToken(offset),
+        SyntaxStop::Nested(offset) => TextStop::Nested(offset),
+        SyntaxStop::Syntax(offset) => TextStop::Syntax(offset),
+    }
+}
+
+pub(crate) fn is_memory(stop: TextStop) -> bool
+    ensures { result ≡ spec.is_memory stop }
+{
+    matches!(stop, TextStop::Memory)
+}
