@@ -1,6 +1,5 @@
 -- Where a line says that a declaration is accepted, the lines above show it.
-use Rattle.std.proofs.Common.{◌≡◌, ℕ, Bool, true, false, List, [], ◌∷◌, ◌++◌, ◌-◌, length, drop, codes, Some, Result, Ok, Err, refl, sym, ap, subst, ◌∙◌, arith, append_assoc, append-nil}
-use Rattle.std.specs.Prelude.{IfOk}
+use Rattle.std.proofs.Common.{◌≡◌, ℕ, List, [], ◌∷◌, ◌++◌, ◌-◌, length, codes, Some, Result, Ok, Err, refl, sym, ap, subst, ◌∙◌, arith, append_assoc, append-nil}
 use Rattle.theory.specs.Signatures.{Signature, IsPrefix}
 use Rattle.theory.specs.Prelude.{prelude}
 use Rattle.surface_syntax.specs.Trees as surf
@@ -12,11 +11,13 @@ use Rattle.elab_session.proofs.PreludeReady.{prelude-ready}
 use Rattle.elab_session.proofs.Written.{declare-extends, declare-ready, declares-written}
 use Rattle.elim_program.specs.declared.words.Command.{Command}
 use Rattle.elim_program.specs.Headline.{core_lines, Shows, none, more, IsShown}
-use Rattle.elim_program.specs.Outputs.{Output, IsOutput, refused_words, compiles, accepted_line, lines_behind, declared_name, declared_block, after, followed, declarations, text_block, head_lines}
+use Rattle.elim_program.specs.DefinedOutputs.{IsOutput, refused_words, compiles, verifies}
+use Rattle.elim_program.specs.Outputs.{Output, accepted_line, lines_behind, declared_name, declared_block, after, followed, declarations, text_block, head_lines}
 use Rattle.elim_program.specs.Refusals.{stop_line, refusal_line}
-use Rattle.elim_program.specs.Texts.{Answer, Gives}
+use Rattle.elim_program.specs.Texts.{Answer, Gives, limited}
 use Rattle.elim_program.specs.Words.{asked}
-use Rattle.elim_program.proofs.Lines.{entries-core, core-lines-core, core-lines-append, third, first_line, not_empty, not_one, Found, here, behind, find}
+use Rattle.elim_program.proofs.Lines.{entries-core, core-lines-core, core-lines-append, third, not_empty, not_one, behind_heads, Found, here, behind, find, if_ok}
+use Rattle.elim_program.proofs.FileLines.{accepts-none}
 
 -- What is known before the declarations `ds` of a text: those before it were accepted, and `told` are their lines.
 record IsBefore (command : Command) (all ds : List surf.Decl) (told : List (List ℕ)) (S : Signature) : Type 0 where
@@ -40,9 +41,6 @@ record IsFound (command : Command) (all : List surf.Decl) (lines : List (List �
   named : accepted.accepted.name ≡ name
   whole : IsReady accepted.signature
   shown : Shows (prelude command.k) accepted.signature (core_lines lines)
-
-pub if_ok : {A : Type 0} {E : Type 0} (P : A → Type 0) (r : Result A E) (a : A) → r ≡ Ok a → IfOk r P → P a
-if_ok {A} {E} P r a e h = let R : Result A E → Type 0 = λ x. IfOk x P in subst R e h
 
 -- what is known behind a declaration that is accepted
 onward : (command : Command) (all : List surf.Decl) (d : surf.Decl) (ds : List surf.Decl) (told : List (List ℕ)) (S : Signature) (a : Declared) →
@@ -97,7 +95,7 @@ found command all S (d ∷ ds) told above below name b e =
         → (r : Result Declared Refusal) → declare_of S command.fuel d ≡ r
         → (followed (declared_block S d r) (declarations command.fuel (after S r) ds)).lines ≡ above ++ accepted_line name ∷ below
         → IsFound command all (told ++ above) name
-    go rec (Err refusal) er e = absurd (not_one (refusal_line (declared_name d) refusal) above below name (λ k. omega (arith, k)) e)
+    go rec (Err refusal) er e = absurd (not_one (refusal_line (declared_name d) refusal) (accepted_line name) above below (λ k. omega (arith, k)) e)
     go rec (Ok a) er e =
         let longer = if_ok (λ x. IsPrefix S x.signature) (declare_of S command.fuel d) a er (declare-extends S command.fuel d) in
         let ready = if_ok (λ x. IsReady x.signature) (declare_of S command.fuel d) a er (declare-ready S command.fuel d b.ready) in
@@ -143,28 +141,18 @@ as_shown words bytes command decls lines name asks gives f = record {
   shown = f.shown;
 }
 
--- the head lines accept nothing
-behind_heads : (k : Bool) (rest above below : List (List ℕ)) (name : List ℕ) → head_lines k ++ rest ≡ above ++ accepted_line name ∷ below →
-    (later : List (List ℕ)) × (above ≡ head_lines k ++ later) × (rest ≡ later ++ accepted_line name ∷ below)
-unfolding third first_line
-behind_heads k rest [] below name e = absurd (let h = ap (λ ls. third (first_line ls)) e in omega (arith, h))
-behind_heads true rest (x ∷ []) below name e = absurd (let h = ap (λ ls. third (first_line (drop 1 ls))) e in omega (arith, h))
-behind_heads false rest (x ∷ []) below name e = absurd (let h = ap (λ ls. third (first_line (drop 1 ls))) e in omega (arith, h))
-behind_heads k rest (x ∷ y ∷ above) below name e =
-    (above, ap (λ l. l ∷ y ∷ above) (sym (ap first_line e)) ∙ ap (λ l. codes "elim 1" ∷ l ∷ above) (sym (ap (λ ls. first_line (drop 1 ls)) e)), ap (drop 2) e)
-
 pub shown : (words : List (List ℕ)) (bytes : List ℕ) (out : Output) (above below : List (List ℕ)) (name : List ℕ) → IsOutput words bytes out → out.lines ≡ above ++ accepted_line name ∷ below →
     IsShown words bytes above name
 unfolding third
-shown words bytes out above below name (refused_words asks) e = absurd (not_one (codes "# usage elim (compile [--k] | verify [--k] | work N) [--fuel N]") above below name (λ k. omega (arith, k)) e)
+shown words bytes out above below name (refused_words asks nothing) e = absurd (not_one (codes "# usage elim (compile [--k] | verify [--k] | work N) [--fuel N]") (accepted_line name) above below (λ k. omega (arith, k)) e)
 shown words bytes out above below name (compiles command answer asks gives) e =
-    let b = behind_heads command.k (text_block command answer).lines above below name e in
+    let b = behind_heads command.k (text_block command answer).lines above below (accepted_line name) (λ k. omega (arith, k)) (λ k. omega (arith, k)) e in
     let P : List (List ℕ) → Type 0 = λ ls. IsShown words bytes ls name in
     subst P (sym b.1) (go answer gives b.0 b.2)
   where
     go : (answer : Answer) → Gives bytes answer → (later : List (List ℕ)) → (text_block command answer).lines ≡ later ++ accepted_line name ∷ below
         → IsShown words bytes (head_lines command.k ++ later) name
-    go (Err stop) gives later e = absurd (not_one (stop_line stop) later below name (λ k. omega (arith, k)) e)
+    go (Err stop) gives later e = absurd (not_one (stop_line stop) (accepted_line name) later below (λ k. omega (arith, k)) e)
     go (Ok decls) gives later e =
         as_shown words bytes command decls later name asks gives (found command decls (prelude command.k) decls [] later below name (record {
           done = [];
@@ -173,3 +161,4 @@ shown words bytes out above below name (compiles command answer asks gives) e =
           has_k = refl;
           shown = none;
         }) e)
+shown words bytes out above below name (verifies command asks) e = absurd (accepts-none command (limited bytes) above below name e)

@@ -13,8 +13,7 @@ use Rattle.surface_syntax.specs.Parses.{parsed, GivesAnswer}
 use Rattle.elim_program.specs.Unbuilt.{unbuilt}
 use Rattle.elim_program.specs.declared.text_stop.TextStop.{TextStop}
 use Rattle.elim_program.specs.declared.text_stop.TextStop.TheVariants as stop
-use Rattle.elim_program.specs.Runs.{limited}
-use Rattle.elim_program.specs.Texts.{Answer, Gives, too_long, not_utf8, bad_token, tokens, Says, answer_of, limit, is_memory, stop_of, read, unless_unbuilt}
+use Rattle.elim_program.specs.Texts.{Answer, Gives, too_long, not_utf8, bad_token, tokens, Says, answer_of, limit, limited, is_memory, stop_of, read, unless_unbuilt}
 
 abbrev pub Failure : TextStop → Result (List code.Decl) TextStop
 Failure e = Err e
@@ -79,6 +78,7 @@ not_memory (stop.BadToken offset) e h = cc
 not_memory (stop.NotYet offset) e h = cc
 not_memory (stop.Nested offset) e h = cc
 not_memory (stop.Syntax offset) e h = cc
+not_memory (stop.NotCoreText offset) e h = cc
 
 pub success : (decls : List code.Decl) → Success decls ≢ Failure stop.Memory
 success decls h = cc

@@ -14,7 +14,8 @@ use Rattle.elim_program.specs.Lines.{text_of}
 use Rattle.elim_program.specs.Outputs.{Block, Output, compiled, head_lines, followed}
 use Rattle.elim_program.specs.Blocks.{Shown, shown_block}
 use Rattle.elim_program.proofs.TextLines.{text_both}
-use Rattle.elim_program.specs.Runs.{IsFront, Follows, Says, Sent, Told, Failed, limited}
+use Rattle.elim_program.specs.Runs.{IsFront, Follows, Says, Sent, Told, Failed}
+use Rattle.elim_program.specs.Texts.{limited}
 
 -- The bytes of a source.
 
@@ -181,6 +182,24 @@ told_part before middle after whole b rest status t one =
       (
         (front.0 ++ more.0, all ∙ ap (λ l. t.text ++ l) (ap (λ l. l ++ more.0) front.1 ∙ append_assoc one.0 front.0 more.0) ∙ sym (append_assoc t.text one.0 (front.0 ++ more.0))),
         failed_part status t.text one.0 (text_of b.lines) more.0 (text_of whole.lines) front one.2.1 all,
+      ),
+    )
+
+-- what is still to come went out, or a front of it
+pub told_rest : (before middle after : Option (List ℕ)) (whole rest : Block) (r : Result Bool Status) → IsTelling before middle whole rest → Tells middle after r rest → Tells before after r whole
+told_rest before middle after whole rest (Ok b) t one = (
+  t.text ++ one.0,
+  appends-both before middle after t.text one.0 t.appended one.1,
+  (ap (λ l. t.text ++ l) one.2.0 ∙ sym t.parts, one.2.1 ∙ sym t.refused),
+)
+told_rest before middle after whole rest (Err status) t one =
+    let front = one.2.0 in
+    let all : text_of whole.lines ≡ t.text ++ (text_of rest.lines ++ []) = t.parts ∙ ap (λ l. t.text ++ l) (sym (append-nil (text_of rest.lines))) in (
+      t.text ++ one.0,
+      appends-both before middle after t.text one.0 t.appended one.1,
+      (
+        (front.0, t.parts ∙ ap (λ l. t.text ++ l) front.1 ∙ sym (append_assoc t.text one.0 front.0)),
+        failed_part status t.text one.0 (text_of rest.lines) [] (text_of whole.lines) front one.2.1 all,
       ),
     )
 

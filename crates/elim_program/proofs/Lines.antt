@@ -1,10 +1,13 @@
 -- Which lines are core lines.
-use Rattle.std.proofs.Common.{◌≡◌, ◌≢◌, ℕ, zero, suc, ◌+◌, Bool, true, false, List, [], ◌∷◌, ◌++◌, drop, Option, Some, None, refl, sym, ap, ◌∙◌}
-use Rattle.std.specs.Prelude.{slice_get, if◌then◌else◌}
+use Rattle.std.proofs.Common.{◌≡◌, ◌≢◌, ℕ, zero, suc, ◌+◌, Bool, true, false, List, [], ◌∷◌, ◌++◌, drop, codes, Option, Some, None, Result, Ok, refl, sym, ap, subst, ◌∙◌}
+use Rattle.std.specs.Prelude.{slice_get, if◌then◌else◌, IfOk}
 use Rattle.theory.specs.Signatures.{Entry, FamilyOf, EliminatorAt, AxiomKAt, Definition, Signature}
 use Rattle.core_text.specs.EntryText.{entry_text}
 use Rattle.elim_program.specs.Headline.{is_core, core_lines}
-use Rattle.elim_program.specs.Outputs.{line_of, entry_lines, accepted_line}
+use Rattle.elim_program.specs.Outputs.{line_of, entry_lines, accepted_line, head_lines}
+
+pub if_ok : {A : Type 0} {E : Type 0} (P : A → Type 0) (r : Result A E) (a : A) → r ≡ Ok a → IfOk r P → P a
+if_ok {A} {E} P r a e h = let R : Result A E → Type 0 = λ x. IfOk x P in subst R e h
 
 -- all lines are core lines
 unfoldable pub AreCore : List (List ℕ) → Type 0
@@ -58,11 +61,21 @@ pub not_empty : (front back : List (List ℕ)) (line : List ℕ) → [] ≡ fron
 not_empty [] back line e = cc
 not_empty (x ∷ front) back line e = cc
 
--- lines that refuse or say nothing of a declaration
-pub not_one : (other : List ℕ) (front back : List (List ℕ)) (name : List ℕ) → third other ≢ 97 → other ∷ [] ≡ front ++ accepted_line name ∷ back → ⊥
+-- one line is no other, by the third character
+pub not_one : (other line : List ℕ) (front back : List (List ℕ)) → third other ≢ third line → other ∷ [] ≡ front ++ line ∷ back → ⊥
+unfolding first_line
+not_one other line [] back h e = h (ap (λ ls. third (first_line ls)) e)
+not_one other line (x ∷ front) back h e = not_empty front back line (ap (drop 1) e)
+
+-- the head lines are none that has another third character
+pub behind_heads : (k : Bool) (rest above below : List (List ℕ)) (line : List ℕ) → third line ≢ 105 → third line ≢ 101 → head_lines k ++ rest ≡ above ++ line ∷ below →
+    (later : List (List ℕ)) × (above ≡ head_lines k ++ later) × (rest ≡ later ++ line ∷ below)
 unfolding third first_line
-not_one other [] back name h e = h (ap (λ ls. third (first_line ls)) e)
-not_one other (x ∷ front) back name h e = not_empty front back (accepted_line name) (ap (drop 1) e)
+behind_heads k rest [] below line h g e = absurd (h (sym (ap (λ ls. third (first_line ls)) e)))
+behind_heads true rest (x ∷ []) below line h g e = absurd (g (sym (ap (λ ls. third (first_line (drop 1 ls))) e)))
+behind_heads false rest (x ∷ []) below line h g e = absurd (g (sym (ap (λ ls. third (first_line (drop 1 ls))) e)))
+behind_heads k rest (x ∷ y ∷ above) below line h g e =
+    (above, ap (λ l. l ∷ y ∷ above) (sym (ap first_line e)) ∙ ap (λ l. codes "elim 1" ∷ l ∷ above) (sym (ap (λ ls. first_line (drop 1 ls)) e)), ap (drop 2) e)
 
 -- A line of acceptance behind core lines and one of acceptance: it is that one, or it stands behind.
 pub data Found (xs rest front back : List (List ℕ)) (n name : List ℕ) : Type 0 where

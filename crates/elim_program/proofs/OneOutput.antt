@@ -1,5 +1,7 @@
 -- One output at most is defined.
-use Rattle.std.proofs.Common.{◌≡◌, ℕ, ◌+◌, List, ◌∷◌, take, drop, Option, Some, None, Err, refl, sym, ap, subst, ◌∙◌, arith}
+use Rattle.std.proofs.Common.{◌≡◌, ℕ, ◌+◌, Bool, true, false, List, [], ◌∷◌, length, take, drop, Option, Some, None, Err, refl, sym, ap, subst, ◌∙◌, arith, codes}
+use Rattle.std.specs.Prelude.{bytes_eq, if◌then◌else◌}
+use Rattle.std.proofs.lemmas.Slice.Eq.{bytes_eq-Decides}
 use Rattle.std.specs.Str.{IsUtf8, IsValidUpTo}
 use Rattle.std.proofs.lemmas.Str.{utf8_valid_len-IsValidUpTo, utf8_valid_len-IsUtf8}
 use Rattle.surface_syntax.specs.Spelling.{piece, byte_len}
@@ -11,10 +13,12 @@ use Rattle.surface_syntax.specs.declared.token.TokenKind.{TokenKind}
 use Rattle.elim_program.specs.declared.text_stop.TextStop.TheVariants as failure
 use Rattle.elim_program.specs.declared.words.Command.{Command}
 use Rattle.surface_syntax.specs.Parses.{parsed}
-use Rattle.elim_program.specs.Outputs.{refused_words, compiles, HasOneOutput, compiled, text_block}
-use Rattle.elim_program.specs.Texts.{Answer, Gives, too_long, not_utf8, bad_token, tokens, read, unless_unbuilt}
+use Rattle.elim_program.specs.DefinedOutputs.{refused_words, compiles, verifies, HasOneOutput}
+use Rattle.elim_program.specs.Outputs.{compiled, text_block}
+use Rattle.elim_program.specs.Texts.{Answer, Gives, too_long, not_utf8, bad_token, tokens, limited, read, unless_unbuilt}
 use Rattle.elim_program.specs.Unbuilt.{unbuilt}
-use Rattle.elim_program.specs.Words.{asked}
+use Rattle.elim_program.specs.Verifies.{file_block}
+use Rattle.elim_program.specs.Words.{asked, flags, verify_asked}
 
 gap-of : Piece → ℕ → ℕ
 gap-of (Gap n) m = n
@@ -96,13 +100,31 @@ fuel-or : Command → Option Command → Command
 fuel-or c (Some d) = d
 fuel-or c None = c
 
-same-command : (o : Option Command) (c d : Command) → o ≡ Some c → o ≡ Some d → c ≡ d
+pub same-command : (o : Option Command) (c d : Command) → o ≡ Some c → o ≡ Some d → c ≡ d
 unfolding fuel-or
 same-command o c d e f = ap (fuel-or c) (sym e ∙ f)
 
+-- no words ask for both
+pub not-both-asked : (words : List (List ℕ)) (c d : Command) → asked words ≡ Some c → verify_asked words ≡ Some d → ⊥
+not-both-asked [] c d e f = cc
+not-both-asked (mode ∷ words) c d e f = go (bytes_eq mode (codes "compile")) refl (bytes_eq mode (codes "verify")) refl e f
+  where
+    go : (a : Bool) → bytes_eq mode (codes "compile") ≡ a → (b : Bool) → bytes_eq mode (codes "verify") ≡ b → (if a then flags words else None) ≡ Some c → (if b then flags words else None) ≡ Some d → ⊥
+    go true h true g e f =
+        let one = ap (length {A = ℕ}) ((bytes_eq-Decides mode (codes "compile")).0 h) in
+        let other = ap (length {A = ℕ}) ((bytes_eq-Decides mode (codes "verify")).0 g) in omega (arith, one, other)
+    go true h false g e f = cc
+    go false h b g e f = cc
+
 pub one_output : HasOneOutput
-one_output words bytes a b (refused_words e) (refused_words f) = refl
-one_output words bytes a b (refused_words e) (compiles c x f g) = absurd (let k = sym e ∙ f in cc)
-one_output words bytes a b (compiles c x e g) (refused_words f) = absurd (let k = sym e ∙ f in cc)
+one_output words bytes a b (refused_words e g) (refused_words f h) = refl
+one_output words bytes a b (refused_words e n) (compiles c x f g) = absurd (let k = sym e ∙ f in cc)
+one_output words bytes a b (compiles c x e g) (refused_words f n) = absurd (let k = sym e ∙ f in cc)
 one_output words bytes a b (compiles c x e g) (compiles d y f h) =
     ap (λ z. compiled c.k (text_block c z)) (one_answer bytes x y g h) ∙ ap (λ z. compiled z.k (text_block z y)) (same-command (asked words) c d e f)
+one_output words bytes a b (refused_words e n) (verifies c f) = absurd (let k = sym n ∙ f in cc)
+one_output words bytes a b (verifies c e) (refused_words f n) = absurd (let k = sym n ∙ e in cc)
+one_output words bytes a b (compiles c x e g) (verifies d f) = absurd (not-both-asked words c d e f)
+one_output words bytes a b (verifies c e) (compiles d y f h) = absurd (not-both-asked words d c f e)
+one_output words bytes a b (verifies c e) (verifies d f) =
+    ap (λ z. compiled z.k (file_block z (limited bytes))) (same-command (verify_asked words) c d e f)

@@ -1,10 +1,10 @@
 -- No line of an output holds a line feed.
 use Rattle.std.proofs.Common.{◌≡◌, ℕ, zero, suc, ◌+◌, ◌-◌, Bool, true, false, List, [], ◌∷◌, ◌++◌, length, codes, Option, Some, None, Result, Ok, Err, refl, sym, ap, ◌∙◌, append_assoc, append-nil}
-use Rattle.std.specs.Prelude.{decimal, slice_get}
+use Rattle.std.specs.Prelude.{slice_get}
 use Rattle.theory.specs.Prelude.{prelude}
 use Rattle.theory.specs.Signatures.{Entry, Signature, names_of}
 use Rattle.core_text.specs.Lines.{is_in_line, AreInLine}
-use Rattle.core_text.proofs.Feeds.{both, decimal-in, text-in}
+use Rattle.core_text.proofs.Feeds.{both, text-in}
 use Rattle.surface_syntax.specs.Trees as surf
 use Rattle.surface_syntax.specs.Grammar.{limit}
 use Rattle.surface_syntax.specs.Machine.{Start}
@@ -18,26 +18,26 @@ use Rattle.elab_session.proofs.PreludeReady.{prelude-ready}
 use Rattle.elab_session.proofs.Written.{declare-ready, declares-written}
 use Rattle.surface_syntax.specs.Lexemes.{lexemes_of}
 use Rattle.surface_syntax.specs.Parses.{by_offset, offset_of}
-use Rattle.elim_program.specs.declared.text_stop.TextStop.{TextStop}
-use Rattle.elim_program.specs.declared.text_stop.TextStop.TheVariants as stop
 use Rattle.elim_program.specs.declared.words.Command.{Command}
 use Rattle.elim_program.specs.Headline.{IsHeadline, Headline}
 use Rattle.elim_program.specs.Lines.{lines_of, text_of}
-use Rattle.elim_program.specs.Outputs.{Output, IsOutput, refused_words, compiles, line_of, entry_lines, accepted_line, declared_name, declared_block, after, followed, declarations, text_block, head_lines}
-use Rattle.elim_program.specs.Refusals.{stop_line, refusal_line, refusal_text}
+use Rattle.elim_program.specs.DefinedOutputs.{IsOutput, refused_words, compiles, verifies}
+use Rattle.elim_program.specs.Outputs.{Output, line_of, entry_lines, accepted_line, declared_name, declared_block, after, followed, declarations, text_block, head_lines}
 use Rattle.elim_program.specs.Runs.{IsFront}
 use Rattle.elim_program.specs.Texts as texts
-use Rattle.elim_program.specs.Texts.{Gives, too_long, not_utf8, bad_token, tokens, read, unless_unbuilt}
+use Rattle.elim_program.specs.Texts.{Gives, too_long, not_utf8, bad_token, tokens, limited, read, unless_unbuilt}
 use Rattle.elim_program.specs.Unbuilt.{unbuilt}
-use Rattle.elim_program.proofs.Accepted.{if_ok, shown}
+use Rattle.elim_program.specs.Verifies.{file_block, verified_line}
+use Rattle.elim_program.specs.VerifyHeadline.{IsVerifyHeadline, VerifyHeadline}
+use Rattle.elim_program.proofs.Accepted.{shown}
+use Rattle.elim_program.proofs.Lines.{if_ok}
 use Rattle.elim_program.proofs.GrammarInLine.{DeclInLine, file-in, lexemes-good}
-use Rattle.elim_program.proofs.SessionInLine.{NamesIn, has-names, TextIn, RefusesIn, refused-in, AcceptedIn, accepted-in, prelude-in}
+use Rattle.elim_program.proofs.RefusalsInLine.{join, refusal-in, stop-in}
+use Rattle.elim_program.proofs.SessionInLine.{NamesIn, has-names, RefusesIn, refused-in, AcceptedIn, accepted-in, prelude-in}
 use Rattle.elim_program.proofs.TextLines.{lines-text, lines-front}
 use Rattle.elim_program.proofs.TokensInLine.{Each, tokens-in}
-
-join : (xs ys : List (List ℕ)) → AreInLine xs → AreInLine ys → AreInLine (xs ++ ys)
-join [] ys h k = k
-join (x ∷ xs) ys h k = (h.0, join xs ys h.1 k)
+use Rattle.elim_program.proofs.FileLines.{file-lines-in}
+use Rattle.elim_program.proofs.Verified.{verified}
 
 line-in : (S : Signature) → NamesIn S → (n at : ℕ) (es : List Entry) → Each (λ e. AreInLine (names_of e)) es → is_in_line (line_of S n (slice_get es at)) ≡ true
 line-in S names n at [] h = refl
@@ -54,10 +54,6 @@ name-in (surf.Decide x f e) h = h
 name-in (surf.Data x params ty cons) h = h.0
 name-in (surf.Mutual params members f tag tags) h = absurd h
 name-in (surf.Fun x ty clauses) h = absurd h
-
-refusal-in : (name : List ℕ) (e : Refusal) → is_in_line name ≡ true → TextIn e → is_in_line (refusal_line name e) ≡ true
-refusal-in name e h k =
-    both (codes "# refused " ++ name ++ codes " ") (refusal_text e) (both (codes "# refused " ++ name) (codes " ") (both (codes "# refused ") name refl h) refl) k
 
 followed-in : (S : Signature) (d : surf.Decl) (a : Declared) (rest : List (List ℕ)) (count : ℕ) → AcceptedIn a → AreInLine rest →
     AreInLine ((entry_lines a.signature (length S.entries) count ++ accepted_line a.accepted.name ∷ []) ++ rest)
@@ -96,15 +92,6 @@ given-in bytes answer (tokens found within are) = go (unbuilt bytes found) refl 
     go None e (Wrong n) q = tt
     go None e (Deep n) q = tt
 
-stop-in : (e : TextStop) → is_in_line (stop_line e) ≡ true
-stop-in stop.Memory = refl
-stop-in stop.TooLong = refl
-stop-in (stop.NotUtf8 offset) = both (codes "# refused NotUtf8 ") (decimal offset) refl (decimal-in offset)
-stop-in (stop.BadToken offset) = both (codes "# refused BadToken ") (decimal offset) refl (decimal-in offset)
-stop-in (stop.NotYet offset) = both (codes "# refused NotYet ") (decimal offset) refl (decimal-in offset)
-stop-in (stop.Nested offset) = both (codes "# refused Nested ") (decimal offset) refl (decimal-in offset)
-stop-in (stop.Syntax offset) = both (codes "# refused Syntax ") (decimal offset) refl (decimal-in offset)
-
 block-in : (command : Command) (answer : texts.Answer) → AnswerIn answer → AreInLine (text_block command answer).lines
 block-in command (Ok ds) h = declarations-in command.fuel (prelude command.k) ds (prelude-ready (prelude command.k) command.k refl) (prelude-in command.k) h
 block-in command (Err e) h = (stop-in e, tt)
@@ -114,9 +101,11 @@ heads-in true = (refl, (refl, tt))
 heads-in false = (refl, (refl, tt))
 
 output-in : (words : List (List ℕ)) (bytes : List ℕ) (out : Output) → IsOutput words bytes out → AreInLine out.lines
-output-in words bytes out (refused_words none) = (refl, tt)
+output-in words bytes out (refused_words none nothing) = (refl, tt)
 output-in words bytes out (compiles command answer asks gives) =
     join (head_lines command.k) (text_block command answer).lines (heads-in command.k) (block-in command answer (given-in bytes answer gives))
+output-in words bytes out (verifies command asks) =
+    join (head_lines command.k) (file_block command (limited bytes)).lines (heads-in command.k) (file-lines-in command (limited bytes))
 
 -- the first lines of a text of lines are lines of the output
 pub headline_of_front : (words : List (List ℕ)) (bytes text : List ℕ) (out : Output) → IsOutput words bytes out → IsFront text (text_of out.lines) → IsHeadline words bytes text
@@ -125,6 +114,16 @@ headline_of_front words bytes text out is front above below name line =
     let whole : out.lines ≡ above ++ accepted_line name ∷ (below ++ more.0) =
     sym (lines-text out.lines (output-in words bytes out is)) ∙ ap lines_of front.1 ∙ more.1 ∙ ap (λ ls. ls ++ more.0) line ∙ append_assoc above (accepted_line name ∷ below) more.0 in
     shown words bytes out above (below ++ more.0) name is whole
+
+pub verify_headline_of_front : (words : List (List ℕ)) (bytes text : List ℕ) (out : Output) → IsOutput words bytes out → IsFront text (text_of out.lines) → IsVerifyHeadline words bytes text
+verify_headline_of_front words bytes text out is front command asks above below name line =
+    let more = lines-front text front.0 in
+    let whole : out.lines ≡ above ++ verified_line name ∷ (below ++ more.0) =
+    sym (lines-text out.lines (output-in words bytes out is)) ∙ ap lines_of front.1 ∙ more.1 ∙ ap (λ ls. ls ++ more.0) line ∙ append_assoc above (verified_line name ∷ below) more.0 in
+    verified words bytes out command above (below ++ more.0) name is asks whole
+
+pub verify_headline : VerifyHeadline
+verify_headline words bytes out is = verify_headline_of_front words bytes (text_of out.lines) out is ([], sym (append-nil (text_of out.lines)))
 
 pub headline : Headline
 headline words bytes out is = headline_of_front words bytes (text_of out.lines) out is ([], sym (append-nil (text_of out.lines)))

@@ -75,7 +75,7 @@ all-constructors-in (e ∷ es) (suc n) c h = all-constructors-in es n c h.1
 pub has-names : (S : Signature) → NamesIn S → HasNamesInLine S
 has-names S h = record { entries = λ n. entries-in S.entries n h; constructors = λ n c. all-constructors-in S.entries n c h }
 
-each-last : {A : Type 0} (P : A → Type 0) (xs : List A) (x : A) → Each P xs → P x → Each P (xs ++ x ∷ [])
+pub each-last : {A : Type 0} (P : A → Type 0) (xs : List A) (x : A) → Each P xs → P x → Each P (xs ++ x ∷ [])
 each-last P [] x h k = (k, tt)
 each-last P (y ∷ xs) x h k = (h.0, each-last P xs x h.1 k)
 
@@ -224,7 +224,7 @@ unresolved-in (unresolved.Duplicate offset word) h = at-word (codes "Duplicate "
 unresolved-in (unresolved.WrongArity offset word) h = at-word (codes "WrongArity ") offset word refl h
 unresolved-in (unresolved.NotLinear offset word) h = at-word (codes "NotLinear ") offset word refl h
 
-term-in : (S : Signature) → NamesIn S → (t : tree.Term) → is_in_line (term_text S t) ≡ true
+pub term-in : (S : Signature) → NamesIn S → (t : tree.Term) → is_in_line (term_text S t) ≡ true
 term-in S names t = spelled-in S (has-names S names) false t
 
 types-in : (S : Signature) → NamesIn S → (before : List ℕ) (types : List tree.Term) → is_in_line before ≡ true → is_in_line (types_text S before types) ≡ true
@@ -284,7 +284,7 @@ stopped-in fuel stop.PoolFull = refl
 argument-in : (kind owner : List ℕ) (k : ℕ) → is_in_line kind ≡ true → is_in_line owner ≡ true → is_in_line (kind ++ owner ++ codes " " ++ decimal k) ≡ true
 argument-in kind owner k h j = both (kind ++ owner ++ codes " ") (decimal k) (both (kind ++ owner) (codes " ") (both kind owner h j) refl) (decimal-in k)
 
-unentered-in : (over : Site → Signature) (names : List (List ℕ)) → ((site : Site) → NamesIn (over site)) → AreInLine names → (x : Word) → WordIn x → (fuel : ℕ) (e : FamilyStop) →
+pub unentered-in : (over : Site → Signature) (names : List (List ℕ)) → ((site : Site) → NamesIn (over site)) → AreInLine names → (x : Word) → WordIn x → (fuel : ℕ) (e : FamilyStop) →
     TextIn (refusals.unentered over names x fuel e)
 unentered-in over names hs hn x h fuel (Stopped e) = stopped-in fuel e
 unentered-in over names hs hn x h fuel (Denied site d) = denied-in (over site) names (hs site) hn site d
@@ -314,7 +314,7 @@ anything (Ok a) h = tt
 anything (Err e) h = h
 
 -- the signature that a part of a family is checked over
-site-in : (S : Signature) (raw : RawFamily) → NamesIn S → is_in_line raw.name ≡ true → (site : Site) → NamesIn (site_signature S raw site)
+pub site-in : (S : Signature) (raw : RawFamily) → NamesIn S → is_in_line raw.name ≡ true → (site : Site) → NamesIn (site_signature S raw site)
 site-in S raw hs h OfType = hs
 site-in S raw hs h OfBody = hs
 site-in S raw hs h (OfParameter k) = hs

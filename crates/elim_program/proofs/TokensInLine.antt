@@ -71,7 +71,7 @@ encode-in c h = go (ltb c 128) (ltb c 2048) (ltb c 65536)
     go false false true = cons-in (224 + c / 4096) two (apart 224 (c / 4096) (omega arith)) two-in
     go false false false = cons-in (240 + c / 262144) three (apart 240 (c / 262144) (omega arith)) three-in
 
-encodes-in : (cs : List ℕ) → is_in_line cs ≡ true → is_in_line (encodes cs) ≡ true
+pub encodes-in : (cs : List ℕ) → is_in_line cs ≡ true → is_in_line (encodes cs) ≡ true
 encodes-in [] h = refl
 encodes-in (c ∷ cs) h = let p = and_parts (not (c == 10)) (is_in_line cs) h in both (encode c) (encodes cs) (encode-in c p.0) (encodes-in cs p.1)
 
@@ -88,11 +88,11 @@ not-feed q h c k = go (c == 10) refl
     go false e = ap not e
     go true e = absurd (false≢true (sym h ∙ ap q (sym (eqb-true c 10 e)) ∙ k))
 
-all-in : (q : ℕ → Bool) → q 10 ≡ false → (cs : List ℕ) → list_all q cs ≡ true → is_in_line cs ≡ true
+pub all-in : (q : ℕ → Bool) → q 10 ≡ false → (cs : List ℕ) → list_all q cs ≡ true → is_in_line cs ≡ true
 all-in q h [] k = refl
 all-in q h (c ∷ cs) k = let p = and_parts (q c) (list_all q cs) k in cons-in c cs (not-feed q h c p.0) (all-in q h cs p.1)
 
-feed-continues : is_continuing 10 ≡ false
+pub feed-continues : is_continuing 10 ≡ false
 feed-continues = let e : is_xid_continue 10 ≡ false = is_xid_continue-ascii 10 (omega arith) in ap (λ b. b || (10 == 39)) e
 
 feed-starts : is_xid_start 10 ≡ false

@@ -1,13 +1,16 @@
 -- What a run wrote, seen as a whole.
-use Rattle.std.proofs.Common.{◌≡◌, ◌≢◌, ℕ, ◌⊎◌, inl, inr, List, Option, None, Result, Err, IfSome, refl, subst}
+use Rattle.std.specs.Prelude.{◌||◌, is_some}
+use Rattle.std.proofs.lemmas.Bool.{true≢false}
+use Rattle.std.proofs.Common.{◌≡◌, ◌≢◌, ℕ, ◌⊎◌, inl, inr, Bool, true, false, List, Option, Some, None, Result, Err, IfSome, refl, subst}
 use Rattle.std.specs.Io.KnownBytes.{Appends}
 use Rattle.elim_program.specs.declared.status.Status.{Status}
 use Rattle.elim_program.specs.declared.status.Status.TheVariants.{Done, Refused, Usage, ReadFault, WriteFault, NoMemory}
 use Rattle.elim_program.specs.Lines.{text_of}
-use Rattle.elim_program.specs.Outputs.{Output, IsOutput, refused_words, usage}
+use Rattle.elim_program.specs.DefinedOutputs.{IsOutput, refused_words}
+use Rattle.elim_program.specs.Outputs.{Output, usage}
 use Rattle.elim_program.specs.Runs.{Follows, IsWhole, Runs, Wrote, nothing, output}
-use Rattle.elim_program.specs.Words.{asked}
-use Rattle.elim_program.proofs.OutputInLine.{headline_of_front}
+use Rattle.elim_program.specs.Words.{asked, is_accepted, verify_asked}
+use Rattle.elim_program.proofs.OutputInLine.{headline_of_front, verify_headline_of_front}
 use Rattle.elim_program.proofs.Following.{no_bytes, appends-nothing}
 
 whole : (words : List (List ℕ)) (left before after : Option (List ℕ)) (status : Status) (bytes : List ℕ) → IfSome left (λ known. bytes ≡ known) → (out : Output) → IsOutput words bytes out →
@@ -38,16 +41,35 @@ complete words left before after status r nr nw nm = go r.wrote
     go : Wrote words r.bytes before after status → IsWhole words left before after status
     go (nothing a (inl e)) = absurd (nr e)
     go (nothing a (inr e)) = absurd (nm e)
-    go (output out is f h) = finished words left before after status r.bytes r.told out is f nw nm
+    go (output out is f h v) = finished words left before after status r.bytes r.told out is f nw nm
 
 -- what follows a defined output has the headline
 pub follow : (words : List (List ℕ)) (bytes : List ℕ) (before after : Option (List ℕ)) (status : Status) (out : Output) → IsOutput words bytes out → Follows out before after status →
     Wrote words bytes before after status
-follow words bytes before after status out is f = output out is f (headline_of_front words bytes f.text out is f.front)
+follow words bytes before after status out is f = output out is f (headline_of_front words bytes f.text out is f.front) (verify_headline_of_front words bytes f.text out is f.front)
 
-pub usage_runs : (words : List (List ℕ)) (left before after : Option (List ℕ)) (status : Status) → asked words ≡ None → Follows usage before after status → Runs words left before after status
-usage_runs words left before after status none follows =
-    let b = no_bytes left in record { bytes = b.0; told = b.1; wrote = follow words b.0 before after status usage (refused_words none) follows }
+pub usage_runs : (words : List (List ℕ)) (left before after : Option (List ℕ)) (status : Status) → asked words ≡ None → verify_asked words ≡ None → Follows usage before after status → Runs words left before after status
+usage_runs words left before after status none neither follows =
+    let b = no_bytes left in record { bytes = b.0; told = b.1; wrote = follow words b.0 before after status usage (refused_words none neither) follows }
+
+not-first : (a b : Bool) → (a || b) ≡ false → a ≡ false
+not-first true b e = e
+not-first false b e = refl
+
+not-second : (a b : Bool) → (a || b) ≡ false → b ≡ false
+not-second true b e = absurd (true≢false e)
+not-second false b e = e
+
+none-of : {A : Type 0} (o : Option A) → is_some o ≡ false → o ≡ None
+none-of None e = refl
+none-of (Some a) e = absurd (true≢false e)
+
+-- the same where the words are not accepted
+pub unaccepted_runs : (words : List (List ℕ)) (left before after : Option (List ℕ)) (status : Status) → is_accepted words ≡ false → Follows usage before after status → Runs words left before after status
+unaccepted_runs words left before after status refused follows =
+    let first = not-first (is_some (asked words)) (is_some (verify_asked words)) refused in
+    let second = not-second (is_some (asked words)) (is_some (verify_asked words)) refused in
+    usage_runs words left before after status (none-of (asked words) first) (none-of (verify_asked words) second) follows
 
 -- where the source is not read whole nothing is written
 pub stopped_runs : (words : List (List ℕ)) (left before : Option (List ℕ)) (status : Status) (bytes : List ℕ) → IfSome left (λ known. bytes ≡ known)

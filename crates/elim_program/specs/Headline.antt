@@ -8,7 +8,8 @@ use Rattle.elab_session.specs.Laws.{IsAsWritten}
 use Rattle.elab_session.specs.Sessions.{IsReady}
 use Rattle.elim_program.specs.declared.words.Command.{Command}
 use Rattle.elim_program.specs.Lines.{lines_of, text_of}
-use Rattle.elim_program.specs.Outputs.{Output, IsOutput, accepted_line, head_lines, lines_behind}
+use Rattle.elim_program.specs.DefinedOutputs.{IsOutput}
+use Rattle.elim_program.specs.Outputs.{Output, accepted_line, head_lines, lines_behind}
 use Rattle.elim_program.specs.Texts.{Gives}
 use Rattle.elim_program.specs.Words.{asked}
 

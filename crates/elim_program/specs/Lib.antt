@@ -1,4 +1,6 @@
 pub mod Blocks
+pub mod CommandLine
+pub mod DefinedOutputs
 pub mod Headline
 pub mod Lines
 pub mod Outputs
@@ -7,4 +9,6 @@ pub mod Runs
 pub mod Statuses
 pub mod Texts
 pub mod Unbuilt
+pub mod Verifies
+pub mod VerifyHeadline
 pub mod Words

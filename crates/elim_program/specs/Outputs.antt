@@ -1,5 +1,5 @@
--- The output that is defined for the words and the bytes of a source, and the status.
-use Rattle.std.specs.Prelude.{◌≡◌, ℕ, zero, suc, ◌+◌, ◌-◌, Bool, true, false, if◌then◌else◌, List, [], ◌∷◌, ◌++◌, length, slice_get, codes, Option, Some, None, Result, Ok, Err}
+-- Lines of declarations, and the outputs that they make.
+use Rattle.std.specs.Prelude.{ℕ, zero, suc, ◌+◌, ◌-◌, Bool, true, false, if◌then◌else◌, List, [], ◌∷◌, ◌++◌, length, slice_get, codes, Option, Some, None, Result, Ok, Err}
 use Rattle.theory.specs.Signatures.{Entry, Signature}
 use Rattle.theory.specs.Prelude.{prelude}
 use Rattle.surface_syntax.specs.Trees as surf
@@ -10,8 +10,7 @@ use Rattle.elim_program.specs.declared.status.Status.{Status}
 use Rattle.elim_program.specs.declared.status.Status.TheVariants as status
 use Rattle.elim_program.specs.declared.words.Command.{Command}
 use Rattle.elim_program.specs.Refusals.{stop_line, refusal_line}
-use Rattle.elim_program.specs.Texts.{Answer, Gives}
-use Rattle.elim_program.specs.Words.{asked}
+use Rattle.elim_program.specs.Texts.{Answer}
 
 -- lines, and whether the last one refuses
 pub record Block : Type 0 where
@@ -93,12 +92,3 @@ compiled k told = record {
   lines = head_lines k ++ told.lines;
   status = if told.refused then status.Refused else status.Done;
 }
-
--- the output that is defined for the words and the bytes
-pub data IsOutput (words : List (List ℕ)) (bytes : List ℕ) : Output → Type 0 where
-  refused_words : asked words ≡ None → IsOutput words bytes usage
-  compiles : (command : Command) (answer : Answer) → asked words ≡ Some command → Gives bytes answer → IsOutput words bytes (compiled command.k (text_block command answer))
-
--- for all words and bytes one output at most is defined
-abbrev pub HasOneOutput : Type 0
-HasOneOutput = (words : List (List ℕ)) (bytes : List ℕ) (a b : Output) → IsOutput words bytes a → IsOutput words bytes b → a ≡ b

@@ -7,7 +7,7 @@ use Rattle.elab_session.specs.declared.refusal.Refusal.TheVariants as refusal
 use Rattle.elim_program.specs.declared.text_stop.TextStop.{TextStop}
 use Rattle.elim_program.specs.declared.text_stop.TextStop.TheVariants as stop
 
--- why a text is refused before its declarations are looked at
+-- why a text is refused at one of its bytes, or whole
 abbrev pub stop_text : TextStop → List ℕ
 stop_text stop.Memory = []
 stop_text stop.TooLong = codes "TooLong 1048576"
@@ -16,6 +16,7 @@ stop_text (stop.BadToken offset) = codes "BadToken " ++ decimal offset
 stop_text (stop.NotYet offset) = codes "NotYet " ++ decimal offset
 stop_text (stop.Nested offset) = codes "Nested " ++ decimal offset
 stop_text (stop.Syntax offset) = codes "Syntax " ++ decimal offset
+stop_text (stop.NotCoreText offset) = codes "NotCoreText " ++ decimal offset
 
 abbrev pub stop_line : TextStop → List ℕ
 stop_line e = codes "# refused " ++ stop_text e

@@ -1,12 +1,13 @@
 -- What a run did.
-use Rattle.std.specs.Prelude.{◌≡◌, ◌≢◌, ℕ, nat_lt, if◌then◌else◌, Bool, List, [], ◌++◌, length, Option, Some, None, Result, Ok, Err, IfSome, ◌⊎◌}
+use Rattle.std.specs.Prelude.{◌≡◌, ◌≢◌, ℕ, Bool, List, [], ◌++◌, Option, Result, Ok, Err, IfSome, ◌⊎◌}
 use Rattle.std.specs.Io.KnownBytes.{Appends}
 use Rattle.elim_program.specs.declared.status.Status.{Status}
 use Rattle.elim_program.specs.declared.status.Status.TheVariants.{ReadFault, WriteFault, NoMemory}
+use Rattle.elim_program.specs.DefinedOutputs.{IsOutput}
 use Rattle.elim_program.specs.Headline.{IsHeadline}
 use Rattle.elim_program.specs.Lines.{text_of}
-use Rattle.elim_program.specs.Outputs.{Block, Output, IsOutput}
-use Rattle.elim_program.specs.Texts.{limit}
+use Rattle.elim_program.specs.Outputs.{Block, Output}
+use Rattle.elim_program.specs.VerifyHeadline.{IsVerifyHeadline}
 
 abbrev pub IsFront : List ℕ → List ℕ → Type 0
 IsFront front text = (rest : List ℕ) × (text ≡ front ++ rest)
@@ -27,11 +28,12 @@ pub record Follows (out : Output) (before after : Option (List ℕ)) (status : S
   pub says : Says status out text
 
 -- A run follows an output that is defined for its words and the bytes, or it ended before it wrote anything: by a fault of
--- the source, or for want of memory. The headline: where a whole line of what was written says that a declaration is
--- accepted, the lines above it show the declaration.
+-- the source, or for want of memory. The headlines: where a whole line of what was written says that a declaration is
+-- accepted, the lines above it show the declaration; where one says that an entry of a core file is verified, the entries
+-- that are verified up to it are a signature by the rules.
 pub data Wrote (words : List (List ℕ)) (bytes : List ℕ) (before after : Option (List ℕ)) (status : Status) : Type 0 where
   nothing : Appends before after [] → (status ≡ ReadFault) ⊎ (status ≡ NoMemory) → Wrote words bytes before after status
-  output : (out : Output) → IsOutput words bytes out → (follows : Follows out before after status) → IsHeadline words bytes follows.text → Wrote words bytes before after status
+  output : (out : Output) → IsOutput words bytes out → (follows : Follows out before after status) → IsHeadline words bytes follows.text → IsVerifyHeadline words bytes follows.text → Wrote words bytes before after status
 
 -- the bytes are those that the source had left, where it tells them
 pub record Runs (words : List (List ℕ)) (left before after : Option (List ℕ)) (status : Status) : Type 0 where
@@ -47,10 +49,6 @@ pub record IsWhole (words : List (List ℕ)) (left before after : Option (List �
   pub is_output : IsOutput words bytes out
   pub appended : Appends before after (text_of out.lines)
   pub status_is : out.status ≡ status
-
--- the bytes of a text that is read, or None for a longer one
-abbrev pub limited : List ℕ → Option (List ℕ)
-limited bytes = if nat_lt limit (length bytes) then None else Some bytes
 
 -- a write that failed: not all of the text went out, or memory ran out
 abbrev pub Failed : Status → List ℕ → List ℕ → Type 0

@@ -1,5 +1,5 @@
 -- What a text gives: its declarations, or why it is refused before any of them is looked at.
-use Rattle.std.specs.Prelude.{◌≢◌, ℕ, Bool, true, false, ◌<◌, ◌≤◌, List, length, Option, Some, None, Result, Ok, Err, map}
+use Rattle.std.specs.Prelude.{◌≢◌, ℕ, Bool, true, false, ◌<◌, ◌≤◌, nat_lt, if◌then◌else◌, List, length, Option, Some, None, Result, Ok, Err, map}
 use Rattle.std.specs.Str.{IsValidUpTo}
 use Rattle.surface_syntax.specs.Splitting.{AreTokens, IsBadToken}
 use Rattle.surface_syntax.specs.Trees.{Decl}
@@ -20,6 +20,10 @@ Answer = Result (List Decl) TextStop
 -- the most bytes of a text
 abbrev pub limit : ℕ
 limit = 1048576
+
+-- the bytes of a text that is read, or None for a longer one
+abbrev pub limited : List ℕ → Option (List ℕ)
+limited bytes = if nat_lt limit (length bytes) then None else Some bytes
 
 abbrev pub stop_of : SyntaxStop → TextStop
 stop_of syntax.Memory = stop.Memory

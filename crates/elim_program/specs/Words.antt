@@ -1,8 +1,10 @@
--- The words behind the program's name, and what they ask for: `compile`, and behind it in any order `--k` at most once and
--- `--fuel` with its number at most once.
-use Rattle.std.specs.Prelude.{ℕ, ◌+◌, ◌-◌, ◌*◌, ◌==◌, Bool, true, false, ◌&&◌, if◌then◌else◌, List, [], ◌∷◌, codes, nat_le, Option, Some, None, option_map, is_some}
+-- The words behind the program's name, and what they ask for: `compile` or `verify`, and behind it in any order `--k` at
+-- most once and `--fuel` with its number at most once.
+use Rattle.std.specs.Prelude.{◌≡◌, ℕ, ◌+◌, ◌-◌, ◌*◌, ◌==◌, Bool, true, false, ◌&&◌, ◌||◌, if◌then◌else◌, List, [], ◌∷◌, codes, nat_le, Option, Some, None, option_map, is_some}
 use Rattle.surface_syntax.specs.Spelling.{is_text, is_digit}
 use Rattle.elim_program.specs.declared.words.Command.{Command}
+use Rattle.elim_program.specs.declared.words.Asked.{Asked}
+use Rattle.elim_program.specs.declared.words.Asked.TheVariants.{Compile, Verify}
 
 -- the units that a declaration may spend where the words don't say
 abbrev pub default_fuel : ℕ
@@ -45,10 +47,20 @@ flags (a ∷ b ∷ c ∷ []) =
     else (if is_fuel a && is_k c then with_fuel true (fuel_of b) else None)
 flags _ = None
 
--- what the words ask for, if they are one of the accepted lists
+-- what the words ask for where they ask to compile a text
 abbrev pub asked : List (List ℕ) → Option Command
 asked [] = None
 asked (mode ∷ words) = if is_text mode (codes "compile") then flags words else None
 
+-- what the words ask for where they ask to verify a core file
+abbrev pub verify_asked : List (List ℕ) → Option Command
+verify_asked [] = None
+verify_asked (mode ∷ words) = if is_text mode (codes "verify") then flags words else None
+
 abbrev pub is_accepted : List (List ℕ) → Bool
-is_accepted words = is_some (asked words)
+is_accepted words = is_some (asked words) || is_some (verify_asked words)
+
+-- the words ask for this
+abbrev pub Asks : List (List ℕ) → Asked → Type 0
+Asks words (Compile command) = asked words ≡ Some command
+Asks words (Verify command) = verify_asked words ≡ Some command

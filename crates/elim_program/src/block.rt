@@ -4,6 +4,7 @@ ghost use Rattle.elim_program.specs.Blocks.{Makes};
 ghost use Rattle.elim_program.specs.Lines.{text_of};
 ghost use Rattle.elim_program.specs.Outputs as spec;
 ghost use Rattle.elim_program.specs.Refusals.{stop_line, refusal_line};
+ghost use Rattle.elim_program.specs.Verifies.{verified_line};
 
 use crate::refusals::{write_refusal, write_stop};
 use crate::{Status, TextStop};
@@ -79,6 +80,20 @@ fn write_entries(
     }
     write_entry(alloc, out, sig, at)?;
     write_entries(alloc, out, sig, at + 1, count - 1)
+}
+
+/// The line of an entry that is verified.
+pub(crate) fn verified_block(alloc: Global, name: &Name) -> Result<Block, Status>
+    ensures { Makes result (spec.block (verified_line name.now ∷ []) false) }
+{
+    let mut text = Vec::new(alloc);
+    text.extend_from_slice(b"# verified ")?;
+    text.extend_from_slice(name.as_slice())?;
+    text.extend_from_slice(b"\n")?;
+    Ok(Block {
+        text,
+        refused: false,
+    })
 }
 
 fn write_accepted(out: &mut Vec<u8>, name: &Name) -> Result<(), Status>

@@ -1,10 +1,23 @@
 //! The laws of the defined output.
+ghost use Rattle.elim_program.specs.DefinedOutputs.{HasOneOutput};
 ghost use Rattle.elim_program.specs.Headline.{Headline};
-ghost use Rattle.elim_program.specs.Outputs.{HasOneOutput};
+ghost use Rattle.elim_program.specs.Verifies.{AllAreTold};
+ghost use Rattle.elim_program.specs.VerifyHeadline.{VerifyHeadline};
 
 /// Where a line says that a declaration is accepted, the lines above it show that it has its written type.
 pub fn headline()
     ensures { Headline }
+{}
+
+/// The bound in the definition of the lines of a core file cuts nothing off.
+pub fn all_are_told()
+    ensures { AllAreTold }
+{}
+
+/// Where a line says that an entry of a core file is verified, the entries that are verified up to it are a signature by the
+/// rules.
+pub fn verify_headline()
+    ensures { VerifyHeadline }
 {}
 
 /// What is written and the status are a function of the words and the bytes.

@@ -2,6 +2,7 @@
 #![tactic(auto)]
 
 mod block;
+mod command_line;
 mod declaring;
 pub mod laws;
 mod refusals;
@@ -10,6 +11,7 @@ mod status;
 mod text_stop;
 mod texts;
 mod unbuilt;
+mod verifying;
 mod words;
 
 use block::Block;

@@ -128,7 +128,7 @@ pub(crate) fn write_refusal(out: &mut Vec<u8>, refusal: &Refusal) -> Result<(), 
     }
 }
 
-/// Writes why a text is refused before its declarations are looked at.
+/// Writes why a text is refused at one of its bytes, or whole.
 pub(crate) fn write_stop(out: &mut Vec<u8>, stop: TextStop) -> Result<(), AllocError>
     ensures { OnOk result (out.new.items ≡ out.old.items ++ spec.stop_text stop) }
 {
@@ -140,5 +140,6 @@ pub(crate) fn write_stop(out: &mut Vec<u8>, stop: TextStop) -> Result<(), AllocE
         TextStop::NotYet(offset) => write_at(out, b"NotYet ", offset),
         TextStop::Nested(offset) => write_at(out, b"Nested ", offset),
         TextStop::Syntax(offset) => write_at(out, b"Syntax ", offset),
+        TextStop::NotCoreText(offset) => write_at(out, b"NotCoreText ", offset),
     }
 }

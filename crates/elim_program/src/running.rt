@@ -2,17 +2,19 @@ ghost use Rattle.std.specs.Prelude.{◌≡◌, ◌≢◌, ℕ, ◌≤◌, ◌∷
 ghost use Rattle.std.specs.Io.KnownBytes.{Appends};
 ghost use Rattle.core_terms.specs.Count.{Rose};
 ghost use Rattle.elim_program.specs.Outputs as spec;
-ghost use Rattle.elim_program.specs.Runs.{Follows, IsWhole, Runs, Sent, Told, Wrote, limited};
-ghost use Rattle.elim_program.specs.Texts.{answer_of, limit};
+ghost use Rattle.elim_program.specs.Runs.{Follows, IsWhole, Runs, Sent, Told, Wrote};
+ghost use Rattle.elim_program.specs.Texts.{answer_of, limit, limited};
 ghost use Rattle.elim_program.specs.Lines.{text_of};
 ghost use Rattle.elim_program.specs.Refusals.{stop_line};
 ghost use Rattle.elim_program.specs.Words.{is_accepted, asked};
 
 use crate::block::stop_block;
+use crate::command_line::asked;
 use crate::declaring::tell_declarations;
 use crate::text_stop::is_memory;
 use crate::texts::declarations;
-use crate::words::asked;
+use crate::verifying::verify;
+use crate::words::{Asked, is_accepted};
 use crate::{Command, Status, TextStop};
 use core_terms::Items;
 use elab_session::Session;
@@ -57,17 +59,22 @@ fn take_text<S: Source>(alloc: Global, source: &mut S) -> Result<Option<Items<u8
     }
 }
 
-fn head(k: bool) -> &'static [u8]
+pub(crate) fn head(k: bool) -> &'static [u8]
     ensures { result.now ≡ text_of (spec.head_lines k) }
 {
     if k { HEAD_WITH_K } else { HEAD }
 }
 
 /// Writes the line of a text that is refused.
-fn tell_stop<K: Sink>(alloc: Global, stop: TextStop, sink: &mut K) -> Result<bool, Status>
+pub(crate) fn tell_stop<K: Sink>(
+    alloc: Global,
+    stop: TextStop,
+    sink: &mut K,
+) -> Result<bool, Status>
     ensures told { (text : List ℕ) × Appends (K.written sink.old) (K.written sink.new) text
         × Told result (spec.block (stop_line stop ∷ []) true) text }
     ensures fault { result ≡ Err Status.WriteFault → Rose (K.faults sink.old) (K.faults sink.new) }
+    ensures never_falls { K.faults sink.old ≤ K.faults sink.new }
 {
     let block = stop_block(alloc, stop)?;
     send(sink, block.text.as_slice())?;
@@ -115,7 +122,7 @@ fn tell<K: Sink>(
     }
 }
 
-/// Writes what the words ask for of a text.
+/// Compiles a text.
 fn compile<K: Sink>(
     alloc: Global,
     command: Command,
@@ -151,10 +158,31 @@ fn refuse_words<K: Sink>(sink: &mut K) -> Status
     }
 }
 
-/// Compiles the text of `source` where the words ask for it, and writes the lines to `sink`.
+/// Writes what the words ask for of a text.
+fn answer<K: Sink>(
+    alloc: Global,
+    words: &[String],
+    text: &Option<Items<u8>>,
+    sink: &mut K,
+) -> Status
+    requires accepted { is_accepted (map string_bytes words.now) ≡ true }
+    requires within { IfSome text.now (λ bytes. length bytes ≤ limit) }
+    ensures wrote { (bytes : List ℕ) → text.now ≡ limited bytes → Wrote (map string_bytes words.now) bytes (K.written sink.old) (K.written sink.new) result }
+    ensures fault { result ≡ Status.WriteFault → Rose (K.faults sink.old) (K.faults sink.new) }
+    ensures read { result ≢ Status.ReadFault }
+{
+    match asked(alloc, words) {
+        Ok(Asked::Compile(command)) => compile(alloc, command, text, sink),
+        Ok(Asked::Verify(command)) => verify(alloc, command, text, sink),
+        Err(status) => status,
+    }
+}
+
+/// Compiles the text of `source`, or verifies the core file that it holds, as the words ask for, and writes the lines to
+/// `sink`.
 ///
 /// `words` are those behind the program's name. The source is read whole before the first write. The first write holds
-/// the two head lines, each further one the lines of one declaration or the last line.
+/// the two head lines, each further one the lines of one declaration, the line of one verified entry or the last line.
 pub fn run<S: Source, K: Sink>(
     alloc: Global,
     words: &[String],
@@ -162,7 +190,8 @@ pub fn run<S: Source, K: Sink>(
     sink: &mut K,
 ) -> Status
     // What was written follows a defined output, or nothing was written. Each whole line `# accepted NAME` has its headline:
-    // the lines above it show that the declaration has its written type.
+    // the lines above it show that the declaration has its written type. So has each whole line `# verified NAME`: the entries
+    // that are verified up to it are a well-formed signature.
     ensures runs { Runs (map string_bytes words.now) (S.left source.old) (K.written sink.old) (K.written sink.new) result }
     ensures read_fault { result ≡ Status.ReadFault → Rose (S.faults source.old) (S.faults source.new) }
     ensures write_fault { result ≡ Status.WriteFault → Rose (K.faults sink.old) (K.faults sink.new) }
@@ -170,12 +199,11 @@ pub fn run<S: Source, K: Sink>(
         → IsWhole (map string_bytes words.now) (S.left source.old) (K.written sink.old) (K.written sink.new) result }
     ensures unread { IsTrue (not (is_accepted (map string_bytes words.now))) → source.new ≡ source.old }
 {
-    let command = match asked(words) {
-        Some(command) => command,
-        None => return refuse_words(sink),
-    };
+    if !is_accepted(words) {
+        return refuse_words(sink);
+    }
     match take_text(alloc, source) {
-        Ok(text) => compile(alloc, command, &text, sink),
+        Ok(text) => answer(alloc, words, &text, sink),
         Err(status) => status,
     }
 }

@@ -1,12 +1,14 @@
 ghost use Rattle.std.specs.Prelude.{◌≡◌};
 ghost use Rattle.elim_program.specs.Texts as spec;
+ghost use Rattle.elim_program.specs.Verifies as verifies;
 
+use core_text::CoreTextStop;
 use surface_syntax::SyntaxStop;
 
-/// Why a text is refused before its declarations are looked at; each offset is one in bytes.
+/// Why a text is refused at one of its bytes, or whole; each offset is one in bytes.
 ///
-/// `TooLong` is a text of more than 1,048,576 bytes, and `NotYet` what is not built yet. The others are those of the tokens
-/// and of the grammar.
+/// `TooLong` is a text of more than 1,048,576 bytes, and `NotYet` what is not built yet. `NotCoreText` is that of core text,
+/// `Nested` that of core text or of the grammar, and the others are those of the tokens and of the grammar.
 #[derive(Clone, Copy, Debug, PartialEq, Eq)]
 pub(crate) enum TextStop {
     Memory,
@@ -16,6 +18,7 @@ pub(crate) enum TextStop {
     NotYet(u32),
     Nested(u32),
     Syntax(u32),
+    NotCoreText(u32),
 }
 
 /// Why a text has no tokens or no declarations.
@@ -28,6 +31,17 @@ pub(crate) fn stop_of(stop: SyntaxStop) -> TextStop
         SyntaxStop::BadToken(offset) => TextStop::BadToken(offset),
         SyntaxStop::Nested(offset) => TextStop::Nested(offset),
         SyntaxStop::Syntax(offset) => TextStop::Syntax(offset),
+    }
+}
+
+/// Why core text is not read.
+pub(crate) fn unread(stop: CoreTextStop) -> TextStop
+    ensures { result ≡ verifies.unread stop }
+{
+    match stop {
+        CoreTextStop::Memory => TextStop::Memory,
+        CoreTextStop::Nested(offset) => TextStop::Nested(offset),
+        CoreTextStop::NotCoreText(offset) => TextStop::NotCoreText(offset),
     }
 }
 

@@ -1,6 +1,5 @@
 ghost use Rattle.std.specs.Prelude.{◌≡◌, ◌≤◌, ℕ, List, length, IfSome};
-ghost use Rattle.elim_program.specs.Runs.{limited};
-ghost use Rattle.elim_program.specs.Texts.{Says, limit};
+ghost use Rattle.elim_program.specs.Texts.{Says, limit, limited};
 
 use crate::TextStop;
 use crate::text_stop::stop_of;

@@ -1,16 +1,20 @@
-ghost use Rattle.std.specs.Prelude.{◌≡◌, ◌≤◌, ◌∷◌, [], map, string_bytes};
+ghost use Rattle.std.specs.Prelude.{◌≡◌, ◌≤◌, ◌∷◌, [], map, string_bytes, is_some};
 ghost use Rattle.surface_syntax.specs.Spelling.{is_text, is_digit};
 ghost use Rattle.elim_program.specs.Words as spec;
 
-/// What accepted words ask for: axiom K or not, and the units that each declaration may spend.
+/// The values of accepted words: axiom K or not, and the units that each declaration or entry may spend.
 #[derive(Clone, Copy, Debug, PartialEq, Eq)]
 pub(crate) struct Command {
     pub k: bool,
     pub fuel: u64,
 }
 
-/// The units where the words don't say.
-const DEFAULT_FUEL: u64 = 100_000_000;
+/// What accepted words ask for: a text is compiled, or a core file is verified.
+#[derive(Clone, Copy, Debug, PartialEq, Eq)]
+pub(crate) enum Asked {
+    Compile(Command),
+    Verify(Command),
+}
 
 const MOST_FUEL: u64 = 1_000_000_000;
 
@@ -26,81 +30,68 @@ fn is_digit(byte: u8) -> bool
     byte >= b'0' && byte <= b'9'
 }
 
-/// The number that digits spell behind those of `number`.
-fn number_behind(number: u64, digits: &[u8]) -> Option<u64>
+/// Whether digits spell a number in the limit behind those of `number`.
+fn is_number_behind(number: u64, digits: &[u8]) -> bool
     requires { number ≤ 1000000000 }
-    ensures { result ≡ spec.number_behind number digits.now }
+    ensures { result ≡ is_some (spec.number_behind number digits.now) }
 {
     match digits {
-        [] => Some(number),
+        [] => true,
         [digit, rest @ ..] => {
             if !is_digit(*digit) {
-                return None;
+                return false;
             }
             let next = 10 * number + (*digit - b'0') as u64;
             if next > MOST_FUEL {
-                return None;
+                return false;
             }
-            number_behind(next, rest)
+            is_number_behind(next, rest)
         }
     }
 }
 
-fn fuel_of(word: &String) -> Option<u64>
-    ensures { result ≡ spec.fuel_of (string_bytes word.now) }
+fn is_fuel_number(word: &String) -> bool
+    ensures { result ≡ is_some (spec.fuel_of (string_bytes word.now)) }
 {
     let digits = word.as_bytes();
     match digits {
-        [] | [b'0', ..] => None,
-        _ => number_behind(0, digits),
+        [] | [b'0', ..] => false,
+        _ => is_number_behind(0, digits),
     }
 }
 
-fn with_fuel(k: bool, word: &String) -> Option<Command>
-    ensures { result ≡ spec.with_fuel k (spec.fuel_of (string_bytes word.now)) }
-{
-    match fuel_of(word) {
-        Some(fuel) => Some(Command { k, fuel }),
-        None => None,
-    }
-}
-
-fn three_flags(first: &String, second: &String, third: &String) -> Option<Command>
-    ensures { result ≡ spec.flags (string_bytes first.now ∷ string_bytes second.now ∷ string_bytes third.now ∷ []) }
+fn are_three_flags(first: &String, second: &String, third: &String) -> bool
+    ensures { result ≡ is_some (spec.flags (string_bytes first.now ∷ string_bytes second.now ∷ string_bytes third.now ∷ [])) }
 {
     if is_word(first, b"--k") && is_word(second, b"--fuel") {
-        with_fuel(true, third)
+        is_fuel_number(third)
     } else if is_word(first, b"--fuel") && is_word(third, b"--k") {
-        with_fuel(true, second)
+        is_fuel_number(second)
     } else {
-        None
+        false
     }
 }
 
-fn flags(words: &[String]) -> Option<Command>
-    ensures { result ≡ spec.flags (map string_bytes words.now) }
+fn are_flags(words: &[String]) -> bool
+    ensures { result ≡ is_some (spec.flags (map string_bytes words.now)) }
 {
     match words {
-        [] => Some(Command {
-            k: false,
-            fuel: DEFAULT_FUEL,
-        }),
-        [only] if is_word(only, b"--k") => Some(Command {
-            k: true,
-            fuel: DEFAULT_FUEL,
-        }),
-        [first, second] if is_word(first, b"--fuel") => with_fuel(false, second),
-        [first, second, third] => three_flags(first, second, third),
-        _ => None,
+        [] => true,
+        [only] => is_word(only, b"--k"),
+        [first, second] => is_word(first, b"--fuel") && is_fuel_number(second),
+        [first, second, third] => are_three_flags(first, second, third),
+        _ => false,
     }
 }
 
-/// What the words ask for, if they are one of the accepted lists.
-pub(crate) fn asked(words: &[String]) -> Option<Command>
-    ensures { result ≡ spec.asked (map string_bytes words.now) }
+/// Whether the words are one of the accepted lists.
+pub(crate) fn is_accepted(words: &[String]) -> bool
+    ensures { result ≡ spec.is_accepted (map string_bytes words.now) }
 {
     match words {
-        [mode, rest @ ..] if is_word(mode, b"compile") => flags(rest),
-        _ => None,
+        [mode, rest @ ..] => {
+            (is_word(mode, b"compile") || is_word(mode, b"verify")) && are_flags(rest)
+        }
+        [] => false,
     }
 }

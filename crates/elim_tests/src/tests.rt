@@ -5,6 +5,7 @@ mod fuel;
 mod limits;
 mod refused;
 mod usage;
+mod verifying;
 
 ghost use Rattle.std.specs.Prelude.{◌≤◌};
 

@@ -1,5 +1,5 @@
 use Rattle.std.proofs.Common.{sym, ◌∙◌}
-use Rattle.elim_program.specs.Outputs.{compiles}
+use Rattle.elim_program.specs.DefinedOutputs.{compiles}
 use Rattle.elim_program.specs.Texts.{answer_of}
 use Rattle.elim_program.proofs.Asking.{Failure, Success, not_memory, success}
 use Rattle.elim_program.proofs.Whole.{follow}

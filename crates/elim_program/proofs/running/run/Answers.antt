@@ -1,24 +1,28 @@
-use Rattle.std.proofs.Common.{sym, ap, Err, ◌∙◌}
-use Rattle.elim_program.proofs.Whole.{complete, usage_runs, stopped_runs, stop_of, not_write_fault}
+use Rattle.std.proofs.Common.{◌≡◌, false, ap, Err, rules}
+use Rattle.std.specs.Prelude.{map, string_bytes}
+use Rattle.elim_program.specs.Words.{is_accepted}
+use Rattle.elim_program.proofs.Whole.{complete, unaccepted_runs, stopped_runs, stop_of, not_write_fault}
 use Rattle.elim_program.proofs.running.run.Goals as goal
 
-pub returns-in-None-clause-runs : goal.returns-in-None-clause-runs
-returns-in-None-clause-runs g c = usage_runs _ _ _ _ _ (sym c.asked.ensures ∙ c.in-None.is) c.refuse_words.ensures.follows
+pub returns-then-not-is_accepted-clause-runs : goal.returns-then-not-is_accepted-clause-runs
+returns-then-not-is_accepted-clause-runs g c =
+    let refused : is_accepted (map string_bytes c.args.words.now) ≡ false = search rules in
+    unaccepted_runs _ _ _ _ _ refused c.refuse_words.ensures.follows
 
-pub returns-in-None-clause-complete : goal.returns-in-None-clause-complete
-returns-in-None-clause-complete g c = λ source sink memory.
-    complete _ _ _ _ _ (returns-in-None-clause-runs g c) c.refuse_words.ensures.read (λ e. sink (c.refuse_words.ensures.fault e)) memory
+pub returns-then-not-is_accepted-clause-complete : goal.returns-then-not-is_accepted-clause-complete
+returns-then-not-is_accepted-clause-complete g c = λ source sink memory.
+    complete _ _ _ _ _ (returns-then-not-is_accepted-clause-runs g c) c.refuse_words.ensures.read (λ e. sink (c.refuse_words.ensures.fault e)) memory
 
 pub returns-in-Ok-clause-runs : goal.returns-in-Ok-clause-runs
 returns-in-Ok-clause-runs g c = record {
   bytes = c.in-Ok.ensures.bytes.0;
   told = c.in-Ok.ensures.bytes.1;
-  wrote = c.compile.ensures.wrote _ _ (sym c.asked.ensures ∙ c.in-Some.is) c.in-Ok.ensures.bytes.2;
+  wrote = c.answer.ensures.wrote _ c.in-Ok.ensures.bytes.2;
 }
 
 pub returns-in-Ok-clause-complete : goal.returns-in-Ok-clause-complete
 returns-in-Ok-clause-complete g c = λ source sink memory.
-    complete _ _ _ _ _ (returns-in-Ok-clause-runs g c) c.compile.ensures.read (λ e. sink (c.compile.ensures.fault e)) memory
+    complete _ _ _ _ _ (returns-in-Ok-clause-runs g c) c.answer.ensures.read (λ e. sink (c.answer.ensures.fault e)) memory
 
 pub returns-in-Err-clause-runs : goal.returns-in-Err-clause-runs
 returns-in-Err-clause-runs g c =

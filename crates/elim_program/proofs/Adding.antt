@@ -1,0 +1,142 @@
+-- What an entry that is read adds to a signature.
+use Rattle.std.proofs.Common.{◌≡◌, ℕ, suc, ◌+◌, Bool, true, false, List, [], ◌∷◌, length, Option, Some, None, Result, Ok, Err, IfOk, refl, sym, ap, subst, ◌∙◌, arith}
+use Rattle.std.specs.Prelude.{◌||◌, cond, slice_get, position, nat_lt, not}
+use Rattle.std.specs.List.{list_any, position_or_len}
+use Rattle.std.proofs.lemmas.Bool.{false≢true}
+use Rattle.std.proofs.lemmas.Bool.Decides.{nat_tests}
+use Rattle.theory.specs.Terms.{Term, top}
+use Rattle.theory.specs.Eliminators.{eliminator_type}
+use Rattle.theory.specs.Signatures.{Entry, FamilyOf, EliminatorAt, AxiomKAt, Definition, Signature, IsPrefix, axiom_k_type}
+use Rattle.theory.specs.WellFormed.{IsWellFormed}
+use Rattle.core_text.specs.LineReading.{is_eliminator, is_axiom_k}
+use Rattle.core_text.specs.RawEntries.{RawEntry, RawFamilyOf, RawEliminator, RawAxiomK, RawDefinition}
+use Rattle.core_text.specs.ReadLaws.{IsReadEntry}
+use Rattle.kernel_check.specs.Symbols as symbols
+use Rattle.family_check.specs.Asking.{sort_in, type_in}
+use Rattle.family_check.specs.Entering.{Entered, are_new, check_definition, declare_of, define_of, enter_instance, entered, unless_there}
+use Rattle.family_check.specs.Laws.{EntersAsDeclared}
+use Rattle.family_check.specs.Outcomes.{OfType, OfBody, FamilyStop, Outcome}
+use Rattle.family_check.specs.Scopes.{IsSettled}
+use Rattle.family_check.proofs.Extending.{declare-extends}
+use Rattle.family_check.proofs.Given.{declare-gives}
+use Rattle.family_check.proofs.Outcomes.{Ends, and_next-has, if_new-has}
+use Rattle.family_check.proofs.ScopedEntering.{declare-settles}
+use Rattle.family_check.proofs.Soundness.{declare-keeps}
+use Rattle.elab_session.specs.Entering.{answered, checked_entry, eliminator_in}
+use Rattle.elab_session.specs.Sessions.{IsReady}
+use Rattle.elab_session.specs.declared.refusal.Refusal.{Refusal}
+use Rattle.elab_session.proofs.Entered.{enter-ready}
+use Rattle.elab_session.proofs.Resolved.{prelude-stays, together}
+use Rattle.elim_program.specs.Verifies.{enter_read}
+use Rattle.elim_program.specs.VerifyHeadline.{Adds, family, eliminator, axiom_k, definition}
+use Rattle.elim_program.proofs.Entries.{scoped-raw}
+use Rattle.elim_program.proofs.ReadInLine.{IsMissing}
+
+answered-has : (P : Entered → Type 0) (refusal : FamilyStop → Refusal) (r : Result Entered FamilyStop) → IfOk r P → IfOk (answered refusal r) P
+answered-has P refusal (Ok e) h = h
+answered-has P refusal (Err e) h = tt
+
+-- The signature stays one that a session may have.
+pub ready-read : (S : Signature) (fuel : ℕ) (raw : RawEntry) → IsReady S → IsReadEntry S raw → IfOk (enter_read S fuel raw) (λ x. IsReady x.signature)
+ready-read S fuel (RawFamilyOf raw) ready is =
+    answered-has (λ x. IsReady x.signature) _ (declare_of S raw fuel).0
+    (together (λ x. IsWellFormed x.signature) (λ x. IsSettled x.signature) (λ x. IsPrefix S x.signature) (λ x. IsReady x.signature) (declare_of S raw fuel).0
+    (declare-keeps S raw fuel ready.well_formed) (declare-settles S raw fuel ready.settled (scoped-raw S raw is)).0 (declare-extends S raw fuel)
+    (λ x well settled longer. record { well_formed = well; settled = settled; prelude = prelude-stays S x.signature ready.prelude longer }))
+ready-read S fuel (RawEliminator n m) ready is = enter-ready S fuel (EliminatorAt n m) ready is.0
+ready-read S fuel (RawAxiomK i m) ready is = enter-ready S fuel (AxiomKAt i m) ready is.0
+ready-read S fuel (RawDefinition name type body) ready is = enter-ready S fuel (Definition name type body) ready (is.1.scoped, is.2.scoped)
+
+-- What is read is what is added.
+
+abbrev Any : {A : Type 0} → A → Type 0
+Any a = Unit {0}
+
+any : {A : Type 0} (r : Outcome A) → Ends Any r
+any {A} r = go r.0
+  where
+    go : (x : Result A FamilyStop) → IfOk x Any
+    go (Ok a) = tt
+    go (Err e) = tt
+
+if-ok-map : {A E : Type 0} (P Q : A → Type 0) (r : Result A E) → ((a : A) → P a → Q a) → IfOk r P → IfOk r Q
+if-ok-map P Q (Ok a) f h = f a h
+if-ok-map P Q (Err e) f h = tt
+
+define-enters : (S : Signature) (name : List ℕ) (type body : Term) (left : ℕ) → Ends (λ e. e ≡ entered S (Definition name type body)) (define_of S name type body left)
+define-enters S name type body left =
+    if_new-has (λ e. e ≡ entered S (Definition name type body)) (are_new S (name ∷ [])) (check_definition S name type body) left (λ test.
+    and_next-has Any (λ e. e ≡ entered S (Definition name type body)) (sort_in S OfType [] type left) _ (any (sort_in S OfType [] type left)) (λ sort rest u.
+    and_next-has Any (λ e. e ≡ entered S (Definition name type body)) (type_in S OfBody [] body type rest) _ (any (type_in S OfBody [] body type rest)) (λ found end v.
+    refl)))
+
+instance-enters : (S : Signature) (e : Entry) (fits : Bool) (type : Term) (left : ℕ) → Ends (λ x. x ≡ entered S e) (enter_instance S e fits type left)
+instance-enters S e true type left = and_next-has Any (λ x. x ≡ entered S e) (sort_in S OfType [] type left) _ (any (sort_in S OfType [] type left)) (λ sort end u. refl)
+instance-enters S e false type left = tt
+
+missing-enters : (S : Signature) (e : Entry) (fits : Bool) (type : Term) (left : ℕ) (o : Option ℕ) → o ≡ None → Ends (λ x. x ≡ entered S e) (unless_there S o (enter_instance S e fits type) left)
+missing-enters S e fits type left None h = instance-enters S e fits type left
+missing-enters S e fits type left (Some n) h = cc
+
+eliminator-enters : (S : Signature) (n m left : ℕ) (o : Option Entry) → position (symbols.is_eliminator n m) S.entries ≡ None → Ends (λ x. x ≡ entered S (EliminatorAt n m)) (eliminator_in S n m o left)
+eliminator-enters S n m left (Some (FamilyOf f)) h = missing-enters S (EliminatorAt n m) (nat_lt m top) (eliminator_type n f m) left (position (symbols.is_eliminator n m) S.entries) h
+eliminator-enters S n m left (Some (EliminatorAt g k)) h = tt
+eliminator-enters S n m left (Some (AxiomKAt i k)) h = tt
+eliminator-enters S n m left (Some (Definition name type body)) h = tt
+eliminator-enters S n m left None h = tt
+
+same-eliminator : (n m : ℕ) (e : Entry) → is_eliminator n m e ≡ symbols.is_eliminator n m e
+same-eliminator n m (FamilyOf f) = refl
+same-eliminator n m (EliminatorAt g k) = refl
+same-eliminator n m (AxiomKAt i k) = refl
+same-eliminator n m (Definition name type body) = refl
+
+same-axiom_k : (i m : ℕ) (e : Entry) → is_axiom_k i m e ≡ symbols.is_axiom_k i m e
+same-axiom_k i m (FamilyOf f) = refl
+same-axiom_k i m (EliminatorAt g k) = refl
+same-axiom_k i m (AxiomKAt j k) = refl
+same-axiom_k i m (Definition name type body) = refl
+
+-- what no element is has no position
+no-place : (p q : Entry → Bool) → ((e : Entry) → p e ≡ q e) → (es : List Entry) → list_any p es ≡ false → position_or_len q es ≡ length es
+no-place p q same [] h = refl
+no-place p q same (e ∷ es) h =
+    let parts = neither (p e) (list_any p es) h in
+    let other : not (q e) ≡ true = ap not (sym (same e) ∙ parts.0) in
+    ap (λ b. cond b (1 + position_or_len q es) 0) other ∙ ap (λ n. 1 + n) (no-place p q same es parts.1) ∙ one-more (length es)
+  where
+    neither : (a b : Bool) → (a || b) ≡ false → (a ≡ false) × (b ≡ false)
+    neither true b k = absurd (false≢true (sym k))
+    neither false b k = (refl, k)
+
+    one-more : (n : ℕ) → 1 + n ≡ suc n
+    one-more n = omega arith
+
+no-position : (p q : Entry → Bool) → ((e : Entry) → p e ≡ q e) → (es : List Entry) → list_any p es ≡ false → position q es ≡ None
+no-position p q same es h =
+    let place = no-place p q same es h in
+    let none : nat_lt (position_or_len q es) (length es) ≡ false = ap (λ n. nat_lt n (length es)) place ∙ not-below (length es) in
+    ap (λ b. cond b (Some (position_or_len q es)) None) none
+  where
+    not-below : (n : ℕ) → nat_lt n n ≡ false
+    not-below n = grind (arith, nat_tests)
+
+added : (S : Signature) (raw : RawEntry) (e : Entry) → Adds S raw (entered S e).signature → (x : Entered) → x ≡ entered S e → Adds S raw x.signature
+added S raw e adds x is = subst (λ y. Adds S raw y.signature) (sym is) adds
+
+pub adds-read : (S : Signature) (fuel : ℕ) (raw : RawEntry) → IsMissing S raw → IfOk (enter_read S fuel raw) (λ x. Adds S raw x.signature)
+adds-read S fuel (RawFamilyOf raw) missing =
+    answered-has (λ x. Adds S (RawFamilyOf raw) x.signature) _ (declare_of S raw fuel).0
+    (if-ok-map (EntersAsDeclared S raw) (λ x. Adds S (RawFamilyOf raw) x.signature) (declare_of S raw fuel).0 (λ x is. added S (RawFamilyOf raw) (FamilyOf is.0) (family raw is.0 is.2) x is.1) (declare-gives S raw fuel))
+adds-read S fuel (RawEliminator n m) missing =
+    answered-has (λ x. Adds S (RawEliminator n m) x.signature) _ (checked_entry S (EliminatorAt n m) fuel).0
+    (if-ok-map (λ x. x ≡ entered S (EliminatorAt n m)) (λ x. Adds S (RawEliminator n m) x.signature) (checked_entry S (EliminatorAt n m) fuel).0 (added S (RawEliminator n m) (EliminatorAt n m) (eliminator n m))
+    (eliminator-enters S n m fuel (slice_get S.entries n) (no-position (is_eliminator n m) (symbols.is_eliminator n m) (same-eliminator n m) S.entries missing)))
+adds-read S fuel (RawAxiomK i m) missing =
+    answered-has (λ x. Adds S (RawAxiomK i m) x.signature) _ (checked_entry S (AxiomKAt i m) fuel).0
+    (if-ok-map (λ x. x ≡ entered S (AxiomKAt i m)) (λ x. Adds S (RawAxiomK i m) x.signature) (checked_entry S (AxiomKAt i m) fuel).0 (added S (RawAxiomK i m) (AxiomKAt i m) (axiom_k i m))
+    (missing-enters S (AxiomKAt i m) _ (axiom_k_type i m) fuel (position (symbols.is_axiom_k i m) S.entries) (no-position (is_axiom_k i m) (symbols.is_axiom_k i m) (same-axiom_k i m) S.entries missing)))
+adds-read S fuel (RawDefinition name type body) missing =
+    answered-has (λ x. Adds S (RawDefinition name type body) x.signature) _ (checked_entry S (Definition name type body) fuel).0
+    (if-ok-map (λ x. x ≡ entered S (Definition name type body)) (λ x. Adds S (RawDefinition name type body) x.signature) (checked_entry S (Definition name type body) fuel).0 (added S (RawDefinition name type body) (Definition name type body) (definition name type body))
+    (define-enters S name type body fuel))

@@ -1,0 +1,180 @@
+-- Entries of a core file one by one.
+use Rattle.std.proofs.Common.{◌≡◌, ◌≢◌, ℕ, zero, suc, ◌+◌, ◌-◌, ◌<◌, ◌≤◌, Bool, true, false, List, [], ◌∷◌, length, map, Option, Some, None, Result, Ok, Err, refl, sym, ap, subst, ◌∙◌, arith}
+use Rattle.std.proofs.lemmas.List.Elements.{All-head}
+use Rattle.std.proofs.lemmas.Simd.{map-map}
+use Rattle.theory.specs.Families.{Constructor}
+use Rattle.theory.specs.Signatures.{Entry, FamilyOf, EliminatorAt, AxiomKAt, Definition, Signature}
+use Rattle.theory.specs.SignatureScopes.{IsScopedTelescope}
+use Rattle.theory.specs.Prelude.{prelude}
+use Rattle.theory.specs.Telescopes.{Telescope}
+use Rattle.core_sig.specs.Names.{find}
+use Rattle.core_sig.specs.Raw.{RawConstructor, RawFamily}
+use Rattle.core_sig.specs.Meanings.{entry_of}
+use Rattle.core_sig.specs.declared.entry.Entry as code
+use Rattle.core_text.specs.EntryReading.{ReadsEntry, entry_from}
+use Rattle.core_text.specs.EntryText.{constructor_type_shown}
+use Rattle.core_text.specs.RawEntries.{RawEntry, entry_shown, family_shown}
+use Rattle.core_text.specs.ReadLaws.{AreReadTypes, IsReadEntry, IsReadFamily}
+use Rattle.core_text.specs.declared.stop.CoreTextStop.{CoreTextStop}
+use Rattle.core_text.specs.declared.stop.CoreTextStop.TheVariants as core
+use Rattle.core_text.proofs.EntryOutcomes.{what-is-read}
+use Rattle.family_check.specs.Entering.{Entered, declare_of}
+use Rattle.family_check.specs.Families.{family_without}
+use Rattle.family_check.specs.Scopes.{IsScopedRaw, site_signature}
+use Rattle.elab_session.specs.Entering.{CanEnter, answered, enter_of}
+use Rattle.elab_session.specs.Refusals.{unentered}
+use Rattle.elab_session.specs.declared.refusal.Refusal.{Refusal}
+use Rattle.elim_program.specs.declared.status.Status.{Status}
+use Rattle.elim_program.specs.declared.text_stop.TextStop.{TextStop}
+use Rattle.elim_program.specs.Outputs.{Block, block, followed}
+use Rattle.elim_program.specs.Refusals.{stop_line}
+use Rattle.elim_program.specs.Texts.{is_memory}
+use Rattle.elim_program.specs.Verifies.{AllAreTold, behind, behind_head, enter_read, entries, next_block, read_block, unread, unread_block}
+use Rattle.elim_program.proofs.Following.{IsTelling, Tells, telling, told_all, told_last, told_one, told_part, told_rest}
+
+-- What is read can enter.
+
+scoped-types : (S : Signature) (n : ℕ) (tele : Telescope) → AreReadTypes S n tele → IsScopedTelescope S n tele
+scoped-types S n [] h = tt
+scoped-types S n (a ∷ tele) h = (h.0.scoped, scoped-types S (n + 1) tele h.1)
+
+pub scoped-raw : (S : Signature) (raw : RawFamily) → IsReadFamily S raw → IsScopedRaw S raw
+scoped-raw S raw is = record {
+  parameters = scoped-types S 0 raw.parameters is.parameters;
+  type = is.type.scoped;
+  constructors = λ i d lt. (is.constructors (family_without raw [] 0) i d lt).scoped;
+}
+
+pub can-enter : (S : Signature) (e : Entry) → IsReadEntry S (entry_shown (length S.entries) e) → CanEnter S e
+can-enter S (FamilyOf f) is =
+    (scoped-raw S (family_shown (length S.entries) f) is, All-head (λ name. find S name ≡ None) f.name (map (λ c. c.name) (family_shown (length S.entries) f).constructors) is.names.unknown)
+can-enter S (EliminatorAt n m) is = is.0
+can-enter S (AxiomKAt i m) is = is.0
+can-enter S (Definition name type body) is = (is.1.scoped, is.2.scoped)
+
+-- The checker looks at no more of an entry than its line shows.
+pub read_as_entered : (S : Signature) (fuel : ℕ) (e : Entry) → enter_read S fuel (entry_shown (length S.entries) e) ≡ enter_of S fuel e
+read_as_entered S fuel (FamilyOf f) =
+    let raw = family_shown (length S.entries) f in
+    let named : List (List ℕ) → Result Entered Refusal = λ names. answered (unentered (site_signature S raw) names (record { text = f.name; start = 0 }) fuel) (declare_of S raw fuel).0 in
+    ap named (map-map (λ (c : RawConstructor). c.name) (λ (c : Constructor). record { name = c.name; type = constructor_type_shown (length S.entries) f c }) f.constructors)
+read_as_entered S fuel (EliminatorAt n m) = refl
+read_as_entered S fuel (AxiomKAt i m) = refl
+read_as_entered S fuel (Definition name type body) = refl
+
+-- Core text that is not read.
+
+pub not-memory : (e : CoreTextStop) → is_memory (unread e) ≡ false → e ≢ core.Memory
+not-memory core.Memory h k = cc
+not-memory (core.Nested offset) h k = cc
+not-memory (core.NotCoreText offset) h k = cc
+
+pub told-unread : (before after : Option (List ℕ)) (e : CoreTextStop) (s : TextStop) (r : Result Bool Status) → s ≡ unread e → is_memory s ≡ false → Tells before after r (block (stop_line s ∷ []) true) →
+    (meant : Block) → (e ≢ core.Memory → unread_block e ≡ meant) → Tells before after r meant
+told-unread before after e s r is h told meant same =
+    let other : is_memory (unread e) ≡ false = sym (ap is_memory is) ∙ h in
+    subst (Tells before after r) (ap (λ x. block (stop_line x ∷ []) true) is ∙ same (not-memory e other)) told
+
+-- The entries from an offset on are still to be told.
+pub record IsGoing (before now : Option (List ℕ)) (whole : Block) (text : List ℕ) (fuel : ℕ) (S : Signature) (from : ℕ) : Type 0 where
+  pub most : ℕ
+  pub enough : length text - from < most
+  pub telling : IsTelling before now whole (entries text fuel most S from)
+
+pub going : (before : Option (List ℕ)) (text : List ℕ) (fuel : ℕ) (S : Signature) (from : ℕ) → IsGoing before before (entries text fuel (suc (length text)) S from) text fuel S from
+going before text fuel S from = record {
+  most = suc (length text);
+  enough = omega arith;
+  telling = telling before (entries text fuel (suc (length text)) S from);
+}
+
+-- one entry more is to be told
+record IsNext (before now : Option (List ℕ)) (whole : Block) (text : List ℕ) (fuel : ℕ) (S : Signature) (from : ℕ) : Type 0 where
+  others : ℕ
+  enough : length text - from ≤ others
+  telling : IsTelling before now whole (next_block fuel S (entries text fuel others) (entry_from S text from))
+
+next : (before now : Option (List ℕ)) (whole : Block) (text : List ℕ) (fuel : ℕ) (S : Signature) (from : ℕ) → IsGoing before now whole text fuel S from → IsNext before now whole text fuel S from
+next before now whole text fuel S from g = go g.most g.enough g.telling
+  where
+    go : (most : ℕ) → length text - from < most → IsTelling before now whole (entries text fuel most S from) → IsNext before now whole text fuel S from
+    go zero lt t = absurd (omega (arith, lt))
+    go (suc most) lt t = record { others = most; enough = omega (arith, lt); telling = t }
+
+-- what the code read stands for what is read next
+abbrev IsRead : Signature → List ℕ → ℕ → Result (Option (code.Entry × ℕ)) CoreTextStop → Type 0
+IsRead S text from r = ReadsEntry (length S.entries) r (entry_from S text from)
+
+module _ (before now : Option (List ℕ)) (whole : Block) (text : List ℕ) (fuel : ℕ) (S : Signature) (from : ℕ) (g : IsGoing before now whole text fuel S from) (r : Result (Option (code.Entry × ℕ)) CoreTextStop) (h : ReadsEntry (length S.entries) r (entry_from S text from)) where
+  pub at_end : r ≡ Ok None → Tells before now (Ok false) whole
+  at_end is =
+      let n = next before now whole text fuel S from g in
+      let k : IsRead S text from (Ok None) = subst (IsRead S text from) is h in
+      told_all before now whole (subst (λ m. IsTelling before now whole (next_block fuel S (entries text fuel n.others) m)) (sym k) n.telling)
+
+  pub at_stop : (end : Option (List ℕ)) (e : CoreTextStop) (answer : Result Bool Status) → r ≡ Err e → ((meant : Block) → (e ≢ core.Memory → unread_block e ≡ meant) → Tells now end answer meant) → Tells before end answer whole
+  at_stop end e answer is told =
+      let n = next before now whole text fuel S from g in
+      let k : IsRead S text from (Err e) = subst (IsRead S text from) is h in
+      let rest = next_block fuel S (entries text fuel n.others) (entry_from S text from) in
+      told_rest before now end whole rest answer n.telling (told rest (λ known. ap (next_block fuel S (entries text fuel n.others)) (k known)))
+
+  split : (e : code.Entry) (to : ℕ) → r ≡ Ok (Some (e, to)) → (n : IsNext before now whole text fuel S from) →
+      IsTelling before now whole (followed (read_block S fuel (entry_shown (length S.entries) (entry_of e))) (entries text fuel n.others (behind S (enter_read S fuel (entry_shown (length S.entries) (entry_of e)))) to))
+  split e to is n =
+      let k : IsRead S text from (Ok (Some (e, to))) = subst (IsRead S text from) is h in
+      subst (λ m. IsTelling before now whole (next_block fuel S (entries text fuel n.others) m)) (sym k) n.telling
+
+  pub at_failed : (e : code.Entry) (to : ℕ) → r ≡ Ok (Some (e, to)) → (end : Option (List ℕ)) (status : Status) → Tells now end (Err status) (read_block S fuel (entry_shown (length S.entries) (entry_of e))) →
+      Tells before end (Err status) whole
+  at_failed e to is end status told =
+      let n = next before now whole text fuel S from g in
+      let raw = entry_shown (length S.entries) (entry_of e) in
+      told_part before now end whole (read_block S fuel raw) (entries text fuel n.others (behind S (enter_read S fuel raw)) to) status (split e to is n) told
+
+  pub at_refused : (e : code.Entry) (to : ℕ) → r ≡ Ok (Some (e, to)) → (end : Option (List ℕ)) (b : Bool) → b ≡ true → Tells now end (Ok b) (read_block S fuel (entry_shown (length S.entries) (entry_of e))) →
+      Tells before end (Ok true) whole
+  at_refused e to is end b eb told =
+      let n = next before now whole text fuel S from g in
+      let raw = entry_shown (length S.entries) (entry_of e) in
+      told_last before now end whole (read_block S fuel raw) (entries text fuel n.others (behind S (enter_read S fuel raw)) to) (split e to is n) (subst (λ x. Tells now end (Ok x) (read_block S fuel raw)) eb told)
+
+  pub at_verified : (e : code.Entry) (to : ℕ) → r ≡ Ok (Some (e, to)) → (end : Option (List ℕ)) (b : Bool) → b ≡ false → Tells now end (Ok b) (read_block S fuel (entry_shown (length S.entries) (entry_of e))) → from < to → to ≤ length text
+      → (T : Signature) → T ≡ behind S (enter_read S fuel (entry_shown (length S.entries) (entry_of e))) → (left : ℕ) → left ≡ fuel → IsGoing before end whole text left T to
+  at_verified e to is end b eb told forward within T et left el =
+      let n = next before now whole text fuel S from g in
+      let raw = entry_shown (length S.entries) (entry_of e) in
+      let le = n.enough in
+      let less : length text - to < n.others = omega (arith, le, forward, within) in
+      let P : Signature → Type 0 = λ X. IsGoing before end whole text left X to in
+      let Q : ℕ → Type 0 = λ m. IsGoing before end whole text m (behind S (enter_read S fuel raw)) to in
+      subst P (sym et) (subst Q (sym el) (record {
+        most = n.others;
+        enough = less;
+        telling = told_one before now end whole (read_block S fuel raw) (entries text fuel n.others (behind S (enter_read S fuel raw)) to) (split e to is n) (subst (λ x. Tells now end (Ok x) (read_block S fuel raw)) eb told);
+      }))
+
+-- the lines behind a head that is read
+pub told-file : (before after : Option (List ℕ)) (r : Result Bool Status) (fuel : ℕ) (text : List ℕ) (m : Result (Bool × ℕ) CoreTextStop) (k : Bool) (start : ℕ) → m ≡ Ok (k, start) → (S : Signature) → S ≡ prelude k
+    → (left : ℕ) → left ≡ fuel → Tells before after r (entries text left (suc (length text)) S start) → Tells before after r (behind_head fuel text m)
+told-file before after r fuel text m k start em S es left el told =
+    subst (λ x. Tells before after r (behind_head fuel text x)) (sym em)
+    (subst (λ T. Tells before after r (entries text fuel (suc (length text)) T start)) es (subst (λ n. Tells before after r (entries text n (suc (length text)) S start)) el told))
+
+-- A bound above the number of the bytes that are left cuts nothing off.
+pub all_are_told : AllAreTold
+all_are_told text fuel S from zero more within lt le = absurd (omega (arith, lt))
+all_are_told text fuel S from (suc most) zero within lt le = absurd (omega (arith, le))
+all_are_told text fuel S from (suc most) (suc more) within lt le =
+    go (entry_from S text from) refl (λ T to inside less. all_are_told text fuel T to most more inside less (omega (arith, le)))
+  where
+    go : (m : Result (Option (RawEntry × ℕ)) CoreTextStop) → entry_from S text from ≡ m
+        → ((T : Signature) (to : ℕ) → to ≤ length text → length text - to < most → entries text fuel most T to ≡ entries text fuel more T to)
+        → next_block fuel S (entries text fuel most) m ≡ next_block fuel S (entries text fuel more) m
+    go (Ok None) is rec = refl
+    go (Err e) is rec = refl
+    go (Ok (Some (raw, to))) is rec =
+        let what = what-is-read S text from raw to within is in
+        let forward = what.1 in
+        let inside = what.2 in
+        ap (followed (read_block S fuel raw)) (rec (behind S (enter_read S fuel raw)) to inside (omega (arith, lt, forward, inside)))

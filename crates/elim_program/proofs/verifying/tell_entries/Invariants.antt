@@ -1,0 +1,14 @@
+use Rattle.std.proofs.Common.{◌≤◌, ◌-◌, length, suc}
+use Rattle.elim_program.specs.Verifies.{entries}
+use Rattle.elim_program.proofs.Entries.{IsGoing}
+use Rattle.elim_program.proofs.verifying.tell_entries.Given as goal
+
+abbrev pub invariant-entries : goal.invariant-entries
+invariant-entries g l = record {
+  going : IsGoing (g.K.Sink.written l.initial.sink) (g.K.Sink.written l.sink) (entries l.text l.initial.session.fuel (suc (length l.text)) l.initial.session.signature l.start) l.text l.session.fuel l.session.signature l.from;
+  within : l.from ≤ length l.text;
+  never_falls : g.K.Sink.faults l.initial.sink ≤ g.K.Sink.faults l.sink;
+}
+
+abbrev pub decreases-entries : goal.decreases-entries
+decreases-entries g l = length l.text - l.from

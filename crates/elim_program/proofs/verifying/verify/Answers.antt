@@ -1,0 +1,15 @@
+use Rattle.std.proofs.Common.{subst}
+use Rattle.elim_program.specs.DefinedOutputs.{verifies}
+use Rattle.elim_program.specs.Outputs.{compiled}
+use Rattle.elim_program.specs.Runs.{Follows}
+use Rattle.elim_program.specs.Texts.{limited}
+use Rattle.elim_program.specs.Verifies.{file_block}
+use Rattle.elim_program.proofs.Whole.{follow}
+use Rattle.elim_program.proofs.verifying.verify.Goals as goal
+
+pub returns-clause-wrote : goal.returns-clause-wrote
+returns-clause-wrote g c = λ words bytes asks is.
+    let before = g.K.Sink.written c.args.sink.now in
+    let after = g.K.Sink.written c.tell.new.sink in
+    follow words bytes before after c.tell.result (compiled c.args.command.k (file_block c.args.command (limited bytes))) (verifies c.args.command asks)
+    (subst (λ text. Follows (compiled c.args.command.k (file_block c.args.command text)) before after c.tell.result) is c.tell.ensures.follows)

@@ -1,0 +1,54 @@
+-- What the verified entries of a core file are.
+use Rattle.std.specs.Prelude.{◌≡◌, ℕ, Bool, IsTrue, List, [], ◌∷◌, ◌++◌, map, length, Some, Ok}
+use Rattle.theory.specs.Terms.{Term}
+use Rattle.theory.specs.Families.{Family}
+use Rattle.theory.specs.Prelude.{prelude}
+use Rattle.theory.specs.Signatures.{EliminatorAt, AxiomKAt, Definition, FamilyOf, Signature}
+use Rattle.theory.specs.WellFormed.{pushed}
+use Rattle.core_sig.specs.Raw.{RawFamily}
+use Rattle.core_text.specs.EntryReading.{entry_from}
+use Rattle.core_text.specs.Heads.{head_of}
+use Rattle.core_text.specs.RawEntries.{RawEntry, RawFamilyOf, RawEliminator, RawAxiomK, RawDefinition}
+use Rattle.family_check.specs.Laws.{IsAsDeclared}
+use Rattle.elab_session.specs.Sessions.{IsReady}
+use Rattle.elim_program.specs.declared.words.Command.{Command}
+use Rattle.elim_program.specs.DefinedOutputs.{IsOutput}
+use Rattle.elim_program.specs.Lines.{lines_of, text_of}
+use Rattle.elim_program.specs.Outputs.{Output, head_lines}
+use Rattle.elim_program.specs.Verifies.{read_name, verified_line}
+use Rattle.elim_program.specs.Words.{verify_asked}
+
+-- the signature S with one entry more, the one that was read; the levels that a family keeps are not read
+pub data Adds (S : Signature) : RawEntry → Signature → Type 0 where
+  family : (raw : RawFamily) (f : Family) → IsAsDeclared (length S.entries) raw f → Adds S (RawFamilyOf raw) (pushed S (FamilyOf f))
+  eliminator : (n m : ℕ) → Adds S (RawEliminator n m) (pushed S (EliminatorAt n m))
+  axiom_k : (i m : ℕ) → Adds S (RawAxiomK i m) (pushed S (AxiomKAt i m))
+  definition : (name : List ℕ) (type body : Term) → Adds S (RawDefinition name type body) (pushed S (Definition name type body))
+
+-- The core text up to an offset has the signature: the prelude, with axiom K where the head says so and `k` allows it, and
+-- behind it the entries that are read one by one, which have the names.
+pub data Holds (k : Bool) (text : List ℕ) : Signature → ℕ → List (List ℕ) → Type 0 where
+  head : (has_k : Bool) (from : ℕ) → head_of k text ≡ Ok (has_k, from) → Holds k text (prelude has_k) from []
+  entry : (S T : Signature) (from to : ℕ) (names : List (List ℕ)) (raw : RawEntry) → Holds k text S from names
+      → entry_from S text from ≡ Ok (Some (raw, to)) → Adds S raw T → Holds k text T to (names ++ read_name S raw ∷ [])
+
+-- The lines up to the one that verifies an entry are the head lines and one line for each entry of a signature behind the
+-- prelude, which the core text has. The signature is well formed, and without axiom K unless the words ask for it.
+pub record IsVerified (k : Bool) (text : List ℕ) (above : List (List ℕ)) (name : List ℕ) : Type 0 where
+  pub signature : Signature
+  pub offset : ℕ
+  pub names : List (List ℕ)
+  pub held : Holds k text signature offset names
+  pub ready : IsReady signature
+  pub has_k : IsTrue signature.has_k → IsTrue k
+  pub lines : above ++ verified_line name ∷ [] ≡ head_lines k ++ map verified_line names
+
+-- where a core file is to be verified, and a whole line of the text says that an entry is verified, it is
+abbrev pub IsVerifyHeadline : List (List ℕ) → List ℕ → List ℕ → Type 0
+IsVerifyHeadline words bytes text =
+    (command : Command) → verify_asked words ≡ Some command → (above below : List (List ℕ)) (name : List ℕ)
+    → lines_of text ≡ above ++ verified_line name ∷ below → IsVerified command.k bytes above name
+
+-- the headline of each output that is defined
+abbrev pub VerifyHeadline : Type 0
+VerifyHeadline = (words : List (List ℕ)) (bytes : List ℕ) (out : Output) → IsOutput words bytes out → IsVerifyHeadline words bytes (text_of out.lines)

@@ -1,0 +1,218 @@
+ghost use Rattle.std.specs.Prelude.{◌≡◌, ◌≢◌, ◌≤◌, ℕ, List, length, suc, true, Some, IfSome, IfOk, Err, OnErr, OnOk};
+ghost use Rattle.std.specs.Io.KnownBytes.{Appends};
+ghost use Rattle.core_terms.specs.Count.{Rose};
+ghost use Rattle.core_sig.specs.Kinds.{HasEntryKinds};
+ghost use Rattle.core_sig.specs.Meanings.{entry_of};
+ghost use Rattle.core_terms.specs.Meanings.{tree_of};
+ghost use Rattle.core_text.specs.RawEntries.{entry_shown};
+ghost use Rattle.core_text.specs.ReadLaws.{IsReadEntry};
+ghost use Rattle.core_text.specs.TermText.{term_text};
+ghost use Rattle.core_text.specs.declared.stop.CoreTextStop.TheVariants.{Memory};
+ghost use Rattle.elab_session.specs.Entering.{enter_of};
+ghost use Rattle.elim_program.specs.Blocks.{Makes};
+ghost use Rattle.elim_program.specs.Outputs as outputs;
+ghost use Rattle.elim_program.specs.Runs.{Follows, Told, Wrote};
+ghost use Rattle.elim_program.specs.Texts.{limit, limited};
+ghost use Rattle.elim_program.specs.Verifies as spec;
+ghost use Rattle.elim_program.specs.Words.{verify_asked};
+
+use crate::block::{refusal_block, verified_block};
+use crate::running::{head, send, tell_stop};
+use crate::text_stop::{is_memory, unread};
+use crate::{Block, Command, Status, TextStop};
+use core_sig::{Entry, Signature};
+use core_terms::{Items, Name, Term};
+use core_text::{CoreTextStop, print_term, read_entry, read_head};
+use elab_session::{Refusal, Session};
+use elim_ports::Sink;
+use std::alloc::Global;
+
+fn copy_name(alloc: Global, name: &Name) -> Result<Name, Status>
+    ensures ok { IfOk result (λ copied. copied ≡ name.now) }
+    ensures memory { OnErr result (result ≡ Err Status.NoMemory) }
+{
+    Ok(Name::from_vec(name.as_slice().to_vec(alloc)?))
+}
+
+/// How a symbol is spelled.
+fn spelled(alloc: Global, sig: &Signature, symbol: &Term) -> Result<Name, Status>
+    ensures ok { IfOk result (λ name. name ≡ term_text sig.now (tree_of symbol.now)) }
+    ensures memory { OnErr result (result ≡ Err Status.NoMemory) }
+{
+    let text = print_term(alloc, sig, symbol)?;
+    Ok(Name::from_vec(text.into_vec()))
+}
+
+/// The name of an entry that is read.
+fn read_name(alloc: Global, sig: &Signature, entry: &Entry) -> Result<Name, Status>
+    ensures ok { IfOk result (λ name. name ≡ spec.read_name sig.now (entry_shown (length sig.now.entries) (entry_of entry.now))) }
+    ensures memory { OnErr result (result ≡ Err Status.NoMemory) }
+{
+    match entry {
+        Entry::Family(family) => copy_name(alloc, &family.name),
+        Entry::Elim(family, m) => spelled(alloc, sig, &Term::Elim(*family, *m)),
+        Entry::AxiomK(i, m) => spelled(alloc, sig, &Term::AxiomK(*i, *m)),
+        Entry::Def { name, .. } => copy_name(alloc, name),
+    }
+}
+
+/// Adds an entry with the name to the session, and makes its line.
+fn enter(alloc: Global, session: &mut Session, name: &Name, entry: Entry) -> Result<Block, Status>
+    requires kinds { HasEntryKinds (length session.old.signature.entries) entry }
+    requires scoped { IsReadEntry session.old.signature (entry_shown (length session.old.signature.entries) (entry_of entry)) }
+    ensures made { Makes result (spec.entry_block name.now (enter_of session.old.signature session.old.fuel (entry_of entry))) }
+    ensures after { OnOk result (session.new.signature ≡ spec.behind session.old.signature (enter_of session.old.signature session.old.fuel (entry_of entry))) }
+    ensures fuel { session.new.fuel ≡ session.old.fuel }
+{
+    match session.enter(entry) {
+        Ok(_) => verified_block(alloc, name),
+        Err(Refusal::Memory) => Err(Status::NoMemory),
+        Err(refusal) => refusal_block(alloc, name, &refusal),
+    }
+}
+
+/// Adds an entry to the session, writes its line, and answers whether that refuses it.
+#[tactic(auto, using(crate::proofs::Entries::read_as_entered))]
+fn tell_entry<K: Sink>(
+    alloc: Global,
+    session: &mut Session,
+    entry: Entry,
+    sink: &mut K,
+) -> Result<bool, Status>
+    requires kinds { HasEntryKinds (length session.old.signature.entries) entry }
+    requires scoped { IsReadEntry session.old.signature (entry_shown (length session.old.signature.entries) (entry_of entry)) }
+    ensures told { (text : List ℕ) × Appends (K.written sink.old) (K.written sink.new) text
+        × Told result (spec.read_block session.old.signature session.old.fuel (entry_shown (length session.old.signature.entries) (entry_of entry))) text }
+    ensures after { OnOk result (session.new.signature ≡ spec.behind session.old.signature (spec.enter_read session.old.signature session.old.fuel (entry_shown (length session.old.signature.entries) (entry_of entry)))) }
+    ensures fuel { session.new.fuel ≡ session.old.fuel }
+    ensures fault { result ≡ Err Status.WriteFault → Rose (K.faults sink.old) (K.faults sink.new) }
+    ensures never_falls { K.faults sink.old ≤ K.faults sink.new }
+{
+    let name = match read_name(alloc, session.signature(), &entry) {
+        Ok(name) => name,
+        Err(status) => return Err(status),
+    };
+    let block = match enter(alloc, session, &name, entry) {
+        Ok(block) => block,
+        Err(status) => return Err(status),
+    };
+    send(sink, block.text.as_slice())?;
+    Ok(block.refused)
+}
+
+/// Writes the line of core text that is not read.
+fn tell_unread<K: Sink>(alloc: Global, stop: CoreTextStop, sink: &mut K) -> Result<bool, Status>
+    ensures told { (meant : outputs.Block) → (stop ≢ Memory → spec.unread_block stop ≡ meant)
+        → (text : List ℕ) × Appends (K.written sink.old) (K.written sink.new) text × Told result meant text }
+    ensures fault { result ≡ Err Status.WriteFault → Rose (K.faults sink.old) (K.faults sink.new) }
+    ensures never_falls { K.faults sink.old ≤ K.faults sink.new }
+{
+    let stop = unread(stop);
+    if is_memory(stop) {
+        return Err(Status::NoMemory);
+    }
+    tell_stop(alloc, stop, sink)
+}
+
+/// Enters the entries that stand from an offset on, one by one up to the first that is refused, and writes the line of each.
+/// The answer is whether the last line refuses.
+fn tell_entries<K: Sink>(
+    alloc: Global,
+    session: &mut Session,
+    text: &[u8],
+    start: u32,
+    sink: &mut K,
+) -> Result<bool, Status>
+    requires { start ≤ length text.now }
+    ensures told { (told : List ℕ) × Appends (K.written sink.old) (K.written sink.new) told
+        × Told result (spec.entries text.now session.old.fuel (suc (length text.now)) session.old.signature start) told }
+    ensures fault { result ≡ Err Status.WriteFault → Rose (K.faults sink.old) (K.faults sink.new) }
+{
+    let mut from = start;
+    'entries: loop {
+        let (entry, end) = match read_entry(alloc, session.signature(), text, from) {
+            Ok(Some(read)) => read,
+            Ok(None) => return Ok(false),
+            Err(stop) => return tell_unread(alloc, stop, sink),
+        };
+        let refused = match tell_entry(alloc, session, entry, sink) {
+            Ok(refused) => refused,
+            Err(status) => return Err(status),
+        };
+        if refused {
+            return Ok(true);
+        }
+        from = end;
+    }
+}
+
+/// Writes the lines of a core file. The answer is whether the last line refuses.
+fn tell_file<K: Sink>(
+    alloc: Global,
+    command: Command,
+    text: &[u8],
+    sink: &mut K,
+) -> Result<bool, Status>
+    ensures told { (told : List ℕ) × Appends (K.written sink.old) (K.written sink.new) told
+        × Told result (spec.file_block command (Some text.now)) told }
+    ensures fault { result ≡ Err Status.WriteFault → Rose (K.faults sink.old) (K.faults sink.new) }
+{
+    match read_head(text, command.k) {
+        Ok((k, start)) => {
+            let mut session = match Session::new(alloc, k, command.fuel) {
+                Ok(session) => session,
+                Err(_) => return Err(Status::NoMemory),
+            };
+            tell_entries(alloc, &mut session, text, start, sink)
+        }
+        Err(stop) => tell_unread(alloc, stop, sink),
+    }
+}
+
+/// The same of a text that may be too long.
+fn tell_text<K: Sink>(
+    alloc: Global,
+    command: Command,
+    text: &Option<Items<u8>>,
+    sink: &mut K,
+) -> Result<bool, Status>
+    ensures told { (told : List ℕ) × Appends (K.written sink.old) (K.written sink.new) told
+        × Told result (spec.file_block command text.now) told }
+    ensures fault { result ≡ Err Status.WriteFault → Rose (K.faults sink.old) (K.faults sink.new) }
+{
+    match text {
+        Some(bytes) => tell_file(alloc, command, bytes.as_slice(), sink),
+        None => tell_stop(alloc, TextStop::TooLong, sink),
+    }
+}
+
+/// Writes the head lines and the lines of a core file.
+fn tell<K: Sink>(alloc: Global, command: Command, text: &Option<Items<u8>>, sink: &mut K) -> Status
+    ensures follows { Follows (outputs.compiled command.k (spec.file_block command text.now)) (K.written sink.old) (K.written sink.new) result }
+    ensures fault { result ≡ Status.WriteFault → Rose (K.faults sink.old) (K.faults sink.new) }
+    ensures read { result ≢ Status.ReadFault }
+{
+    if let Err(status) = send(sink, head(command.k)) {
+        return status;
+    }
+    match tell_text(alloc, command, text, sink) {
+        Ok(true) => Status::Refused,
+        Ok(false) => Status::Done,
+        Err(status) => status,
+    }
+}
+
+/// Verifies a core file.
+pub(crate) fn verify<K: Sink>(
+    alloc: Global,
+    command: Command,
+    text: &Option<Items<u8>>,
+    sink: &mut K,
+) -> Status
+    ensures wrote { (words : List (List ℕ)) (bytes : List ℕ) → verify_asked words ≡ Some command → text.now ≡ limited bytes
+        → Wrote words bytes (K.written sink.old) (K.written sink.new) result }
+    ensures fault { result ≡ Status.WriteFault → Rose (K.faults sink.old) (K.faults sink.new) }
+    ensures read { result ≢ Status.ReadFault }
+{
+    tell(alloc, command, text, sink)
+}
