@@ -4,6 +4,7 @@ mod devices;
 mod fuel;
 mod limits;
 mod refused;
+mod sessions;
 mod usage;
 mod verifying;
 
