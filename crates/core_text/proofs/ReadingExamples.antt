@@ -17,7 +17,7 @@ variable = refl
 greatest : read_term no_names 2000 12 (codes "%12)") ≡ Ok (Var 1, codes "2)")
 greatest = refl
 
-no_binder : read_term no_names 2000 0 (codes "%0)") ≡ Err (Wrong 2)
+no_binder : read_term no_names 2000 0 (codes "%0)") ≡ Err (Wrong 3)
 no_binder = refl
 
 no_leading_zero : read_term no_names 2000 12 (codes "%00)") ≡ Ok (Var 0, codes "0)")

@@ -80,9 +80,10 @@ as_term-fits S n bound form P (Ok p) k h = k p.0 p.1 h
 as_term-fits S n bound form P (Err e) k h = tt
 
 variable-fits : (S : Signature) (n bound : ℕ) (rest : List ℕ) → length rest ≤ bound → Ensures (Fits S n bound) (variable_at n rest)
-variable-fits S n bound rest le =
-    as_term-fits S n bound Var (Below n bound) (read_index n rest)
-    (λ v r h. record { scoped = record { variables = omega (arith, h.0); entries = tt }; low = omega arith; within = h.1 }) (read_index-within n bound rest le)
+variable-fits S zero bound rest le = tt
+variable-fits S (suc n) bound rest le =
+    as_term-fits S (suc n) bound Var (Below (suc n) bound) (read_index (suc n) (drop 1 rest))
+    (λ v r h. record { scoped = record { variables = omega (arith, h.0); entries = tt }; low = omega arith; within = h.1 }) (read_index-within (suc n) bound (drop 1 rest) (drop-within 1 bound rest le))
 
 sort-fits : (S : Signature) (n bound : ℕ) (rest : List ℕ) → length rest ≤ bound → Ensures (Fits S n bound) (sort_at rest)
 sort-fits S n bound rest le =
@@ -196,8 +197,8 @@ pub term-fits : (S : Signature) (look : List ℕ → Option Term) → AreSymbols
 term-fits S look are zero n bound rest le = tt
 term-fits S look are (suc room) n bound rest le =
     ensures-if (Fits S n bound) (first rest == 40) (enclosed_at (read_term look room) n (drop 1 rest))
-    (if first rest == 37 then variable_at n (drop 1 rest) else named look (run_len rest) rest)
+    (if first rest == 37 then variable_at n rest else named look (run_len rest) rest)
     (λ e. enclosed-fits S bound (read_term look room) (λ m r within. term-fits S look are room m bound r within) n (drop 1 rest) (drop-within 1 bound rest le))
-    (λ e. ensures-if (Fits S n bound) (first rest == 37) (variable_at n (drop 1 rest)) (named look (run_len rest) rest)
-    (λ e. variable-fits S n bound (drop 1 rest) (drop-within 1 bound rest le))
+    (λ e. ensures-if (Fits S n bound) (first rest == 37) (variable_at n rest) (named look (run_len rest) rest)
+    (λ e. variable-fits S n bound rest le)
     (λ e. named-fits S look are n bound (run_len rest) rest le))

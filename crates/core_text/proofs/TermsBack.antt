@@ -275,7 +275,7 @@ let-text S a t b rest = simp append_assoc
 paren : (look : List ℕ → Option Term) (room n : ℕ) (rest : List ℕ) → read_term look (suc room) n (40 ∷ rest) ≡ enclosed_at (read_term look room) n rest
 paren look room n rest = refl
 
-percent : (look : List ℕ → Option Term) (room n : ℕ) (rest : List ℕ) → read_term look (suc room) n (37 ∷ rest) ≡ as_term Var (read_index n rest)
+percent : (look : List ℕ → Option Term) (room n : ℕ) (rest : List ℕ) → read_term look (suc room) (suc n) (37 ∷ rest) ≡ as_term Var (read_index (suc n) rest)
 percent look room n rest = refl
 
 backslash : (inner : ℕ → List ℕ → Reading Term) (n : ℕ) (rest : List ℕ) → enclosed_at inner n (92 ∷ rest) ≡ function_at inner n rest
@@ -289,8 +289,9 @@ enclosed-form : (look : List ℕ → Option Term) (room n : ℕ) (text rest : Li
 enclosed-form look room n text rest m is e = ap (read_term look (suc room) n) is ∙ (paren look room n rest ∙ e)
 
 variable-form : (look : List ℕ → Option Term) (room n v : ℕ) (text rest : List ℕ) → text ≡ 37 ∷ (decimal v ++ rest) → v < n → v < 2 ^ 64 → Stops rest → read_term look (suc room) n text ≡ Ok (Var v, rest)
-variable-form look room n v text rest is lt fits stops =
-    ap (read_term look (suc room) n) is ∙ (percent look room n (decimal v ++ rest) ∙ ap (as_term Var) (index-back n v rest lt fits stops.digit))
+variable-form look room zero v text rest is lt fits stops = absurd (omega (arith, lt))
+variable-form look room (suc n) v text rest is lt fits stops =
+    ap (read_term look (suc room) (suc n)) is ∙ (percent look room n (decimal v ++ rest) ∙ ap (as_term Var) (index-back (suc n) v rest lt fits stops.digit))
 
 sort-form : (look : List ℕ → Option Term) (room n i : ℕ) (text rest : List ℕ) → text ≡ 84 ∷ 121 ∷ 112 ∷ 101 ∷ 32 ∷ (decimal i ++ rest) → i ≤ 15 → Stops rest → read_term look (suc room) n text ≡ Ok (Sort i, rest)
 sort-form look room n i text rest is le stops = ap (read_term look (suc room) n) is ∙ sort-back look i room n rest le stops

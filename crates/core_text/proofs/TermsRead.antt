@@ -27,9 +27,6 @@ as_term-writes : (T : Signature) (word rest : List ℕ) (form : ℕ → Term) (m
 as_term-writes T word rest form (Ok p) text is = ap (λ s. word ++ s) is ∙ (sym (append_assoc word (decimal p.0) p.1) ∙ ap (λ s. s ++ p.1) (sym (text p.0)))
 as_term-writes T word rest form (Err e) text is = tt
 
-variable-writes : (T : Signature) (n : ℕ) (rest : List ℕ) → n ≤ 2 ^ 64 → Ensures (Writes T (37 ∷ rest)) (variable_at n rest)
-variable-writes T n rest le = as_term-writes T (codes "%") rest Var (read_index n rest) (λ v. refl) (index-read n rest le)
-
 sort-writes : (T : Signature) (rest : List ℕ) → Ensures (Writes T (codes "Type" ++ rest)) (sort_at rest)
 sort-writes T rest =
     ensures-word (Writes T (codes "Type" ++ rest)) (codes " ") rest (λ r. as_term Sort (read_level sort_levels r))
@@ -50,6 +47,12 @@ known-writes T name start rest None is = tt
 pub ensures-same : (T : Signature) (a b : List ℕ) (m : Reading Term) → a ≡ b → Ensures (Writes T b) m → Ensures (Writes T a) m
 ensures-same T a b (Ok p) is so = is ∙ so
 ensures-same T a b (Err e) is so = tt
+
+variable-writes : (T : Signature) (n : ℕ) (rest : List ℕ) → n ≤ 2 ^ 64 → (first rest == 37) ≡ true → Ensures (Writes T rest) (variable_at n rest)
+variable-writes T zero rest le e = tt
+variable-writes T (suc n) rest le e =
+    let number = read_index (suc n) (drop 1 rest) in
+    ensures-same T rest (37 ∷ drop 1 rest) (as_term Var number) (first-is 37 rest (omega arith) e) (as_term-writes T (codes "%") (drop 1 rest) Var number (λ v. refl) (index-read (suc n) (drop 1 rest) le))
 
 named-writes : (T : Signature) (look : List ℕ → Option Term) → WritesNames T look → (k : ℕ) (rest : List ℕ) → Ensures (Writes T rest) (named look k rest)
 named-writes T look names k rest =
@@ -219,9 +222,9 @@ pub term-writes : (T : Signature) (look : List ℕ → Option Term) → WritesNa
 term-writes T look names zero n rest le = tt
 term-writes T look names (suc room) n rest le =
     ensures-if (Writes T rest) (first rest == 40) (enclosed_at (read_term look room) n (drop 1 rest))
-    (if first rest == 37 then variable_at n (drop 1 rest) else named look (run_len rest) rest)
+    (if first rest == 37 then variable_at n rest else named look (run_len rest) rest)
     (λ e. ensures-same T rest (40 ∷ drop 1 rest) (enclosed_at (read_term look room) n (drop 1 rest)) (first-is 40 rest (omega arith) e)
     (enclosed-writes T n (read_term look room) (λ m r within. term-writes T look names room m r (omega arith)) n (drop 1 rest) (omega arith)))
-    (λ e. ensures-if (Writes T rest) (first rest == 37) (variable_at n (drop 1 rest)) (named look (run_len rest) rest)
-    (λ e. ensures-same T rest (37 ∷ drop 1 rest) (variable_at n (drop 1 rest)) (first-is 37 rest (omega arith) e) (variable-writes T n (drop 1 rest) (omega arith)))
+    (λ e. ensures-if (Writes T rest) (first rest == 37) (variable_at n rest) (named look (run_len rest) rest)
+    (λ e. variable-writes T n rest (omega arith) e)
     (λ e. named-writes T look names (run_len rest) rest))

@@ -32,9 +32,10 @@ abbrev pub known : Option Term → List ℕ → List ℕ → Reading Term
 known (Some t) start rest = Ok (t, rest)
 known None start rest = wrong start
 
--- a variable under n binders, behind its `%`
+-- a variable under n binders, from its `%` on; under none there is no variable
 abbrev pub variable_at : ℕ → List ℕ → Reading Term
-variable_at n rest = as_term Var (read_index n rest)
+variable_at zero rest = wrong rest
+variable_at (suc n) rest = as_term Var (read_index (suc n) (drop 1 rest))
 
 -- a sort, behind `Type`
 abbrev pub sort_at : List ℕ → Reading Term
@@ -105,7 +106,7 @@ module _ (inner : ℕ → List ℕ → Reading Term) where
   abbrev pub term_at : (List ℕ → Option Term) → ℕ → List ℕ → Reading Term
   term_at look n rest =
       if first rest == 40 then enclosed_at n (drop 1 rest)
-      else (if first rest == 37 then variable_at n (drop 1 rest) else named look (run_len rest) rest)
+      else (if first rest == 37 then variable_at n rest else named look (run_len rest) rest)
 
 -- a term under n binders, inside which `room` terms may be nested
 abbrev pub read_term : (List ℕ → Option Term) → ℕ → ℕ → List ℕ → Reading Term

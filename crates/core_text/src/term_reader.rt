@@ -48,7 +48,10 @@ fn is_application(t: &Term) -> bool
 fn read_variable(under: u32, rest: &[u8]) -> Result<(Measured, &[u8]), Halt>
     ensures { Reads measured_of result (spec.variable_at under rest.now) }
 {
-    let (index, rest) = read_index(under, rest)?;
+    if under == 0 {
+        return Err(Halt::Wrong(rest.len()));
+    }
+    let (index, rest) = read_index(under, skip(rest, 1))?;
     Ok((leaf(Term::Var(index)), rest))
 }
 
@@ -92,7 +95,7 @@ pub(crate) fn read_term<'t>(
     if first(rest) == b'(' {
         read_enclosed(scope, under, room - 1, skip(rest, 1))
     } else if first(rest) == b'%' {
-        read_variable(under, skip(rest, 1))
+        read_variable(under, rest)
     } else {
         read_named(scope, rest)
     }
