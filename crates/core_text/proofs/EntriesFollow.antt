@@ -103,7 +103,7 @@ no-axiom_k name plain =
         ∙ (ap (λ o. is_some (option_and_then (λ q. if bytes_eq q.0 (codes "Eq.") then Some p.1 else None) o)) first
         ∙ ap (λ b. is_some (if b then Some p.1 else None)) same))
 
-own-unknown : (T : Signature) → AllPairs (λ x y. x ≢ y) (names T) → HasPlainNames T → (own : List ℕ) → IsPlainName own → find T own ≡ None → symbol T [] own ≡ None
+pub own-unknown : (T : Signature) → AllPairs (λ x y. x ≢ y) (names T) → HasPlainNames T → (own : List ℕ) → IsPlainName own → find T own ≡ None → symbol T [] own ≡ None
 own-unknown T distinct has own plain unknown =
     ap (λ o. or_else (found_symbol T o) (or_else (eliminator_symbol T own) (axiom_k_symbol own))) unknown
     ∙ (ap (λ o. or_else o (axiom_k_symbol own)) (no-eliminator T distinct has own plain) ∙ no-axiom_k own plain)
@@ -111,7 +111,7 @@ own-unknown T distinct has own plain unknown =
 -- ---- names under the family that is being declared
 
 -- what is spelled over the signature is spelled there too
-still-spelled : (T : Signature) (own name : List ℕ) (t : Term) → symbol T [] own ≡ None → IsSpelled (symbol T []) name t → IsSpelled (symbol T own) name t
+pub still-spelled : (T : Signature) (own name : List ℕ) (t : Term) → symbol T [] own ≡ None → IsSpelled (symbol T []) name t → IsSpelled (symbol T own) name t
 still-spelled T own name t unknown is = record {
   found = by (bytes_eq name own) refl;
   run = is.run;
@@ -135,7 +135,7 @@ still-spelled T own name t unknown is = record {
     by false e = ap (λ b. if nat_lt 0 (length own) && b then Some (Fam (length T.entries)) else or_else (found_symbol T (find T name)) (or_else (eliminator_symbol T name) (axiom_k_symbol name))) e
         ∙ (ap (λ b. if b then Some (Fam (length T.entries)) else or_else (found_symbol T (find T name)) (or_else (eliminator_symbol T name) (axiom_k_symbol name))) (and-no (nat_lt 0 (length own))) ∙ is.found)
 
-own-found : (T : Signature) (own : List ℕ) → 0 < length own → symbol T own own ≡ Some (Fam (length T.entries))
+pub own-found : (T : Signature) (own : List ℕ) → 0 < length own → symbol T own own ≡ Some (Fam (length T.entries))
 own-found T own some =
     let long : nat_lt 0 (length own) ≡ true = grind (arith, nat_tests) in
     ap (λ b. if b then Some (Fam (length T.entries)) else or_else (found_symbol T (find T own)) (or_else (eliminator_symbol T own) (axiom_k_symbol own)))
@@ -147,7 +147,7 @@ module _ (T S : Signature) (has : Has S T) (spelled : HasSpelledNames T) (look :
   same-name : (n : ℕ) (e : Entry) → IsEntryAt T n e → name_at T n ≡ name_at S n
   same-name n e at = ap own_name at ∙ sym (ap own_name (has n e at))
 
-  term-spelled : (t : Term) (n : ℕ) → HasSymbols T flag t → free_of t ≤ n → n + height t ≤ 2 ^ 33 → AreSpelled S look t
+  pub term-spelled : (t : Term) (n : ℕ) → HasSymbols T flag t → free_of t ≤ n → n + height t ≤ 2 ^ 33 → AreSpelled S look t
   term-spelled (Var v) n symbols free low = omega (arith, free, low)
   term-spelled (Sort i) n symbols free low = symbols
   term-spelled (Pi a b) n symbols free low =
@@ -176,7 +176,7 @@ module _ (T S : Signature) (has : Has S T) (spelled : HasSpelledNames T) (look :
 
 -- ---- names that are declared
 
-may-declare : (T : Signature) (own : List ℕ) (found : List RawConstructor) (name : List ℕ) → IsDeclarableName name → find T name ≡ None → bytes_eq name own ≡ false → list_any (λ c. bytes_eq name c.name) found ≡ false → MayDeclare T own found name
+pub may-declare : (T : Signature) (own : List ℕ) (found : List RawConstructor) (name : List ℕ) → IsDeclarableName name → find T name ≡ None → bytes_eq name own ≡ false → list_any (λ c. bytes_eq name c.name) found ≡ false → MayDeclare T own found name
 may-declare T own found name is unknown other others = record {
   reads = λ rest stops.
       ap (λ k. by_shape (shape_of (take k (name ++ rest))) (may_declare T own found (take k (name ++ rest))) (take k (name ++ rest)) (name ++ rest)) (whole-run name rest is.plain.chars stops.run)

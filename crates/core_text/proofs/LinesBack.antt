@@ -24,14 +24,14 @@ use Rattle.core_text.proofs.NumbersBack.{begins-word, behind-word, drop-word, le
 use Rattle.core_text.proofs.TermsBack.{stops-space, stops-close, stops-line, take-word, terms-are-read-back}
 use Rattle.core_text.proofs.LineOutcomes.{levels-below, identities-below}
 
-nested-is : nested ≡ 2000
+pub nested-is : nested ≡ 2000
 unfolding nested
 nested-is = refl
 
-abbrev raw_of_parts : List ℕ → Term → RawConstructor
+abbrev pub raw_of_parts : List ℕ → Term → RawConstructor
 raw_of_parts name type = record { name = name; type = type }
 
-abbrev raw_family_of_parts : List ℕ → Telescope → Term → List RawConstructor → RawFamily
+abbrev pub raw_family_of_parts : List ℕ → Telescope → Term → List RawConstructor → RawFamily
 raw_family_of_parts name parameters type constructors = record { name = name; parameters = parameters; type = type; constructors = constructors }
 
 -- ---- whole terms
@@ -44,7 +44,7 @@ behind-back : (T S : Signature) (own word : List ℕ) (n : ℕ) (t : Term) (rest
 behind-back T S own word n t rest is stops =
     ap (λ m. after m (whole_term T own n)) (behind-word word (term_text S t ++ rest)) ∙ whole-back T S own n t rest is stops
 
-ended-back : (e : RawEntry) (rest : List ℕ) → ended e (10 ∷ rest) ≡ Ok (e, rest)
+pub ended-back : (e : RawEntry) (rest : List ℕ) → ended e (10 ∷ rest) ≡ Ok (e, rest)
 ended-back e rest = ap (λ m. after m (λ end. Ok (e, end))) (behind-word (codes "\n") rest)
 
 -- ---- definitions
@@ -60,7 +60,7 @@ definition-back T S name type body rest may ft fb =
 
 -- ---- instances
 
-eliminator-back : (T : Signature) (name : List ℕ) (g m : ℕ) (rest : List ℕ) → IsFoundFamily T name g → is_left (levels_left T (Elim g)) m ≡ true → eliminator_at T (name ++ (codes " " ++ (decimal m ++ 10 ∷ rest))) ≡ Ok (RawEliminator g m, rest)
+pub eliminator-back : (T : Signature) (name : List ℕ) (g m : ℕ) (rest : List ℕ) → IsFoundFamily T name g → is_left (levels_left T (Elim g)) m ≡ true → eliminator_at T (name ++ (codes " " ++ (decimal m ++ 10 ∷ rest))) ≡ Ok (RawEliminator g m, rest)
 eliminator-back T name g m rest is left =
     let more = codes " " ++ (decimal m ++ 10 ∷ rest) in
     let below = levels-below T (Elim g) m left in
@@ -74,7 +74,7 @@ eliminator-back T name g m rest is left =
     next : ℕ → List ℕ → Reading RawEntry
     next n r1 = after (behind (codes " ") r1) (λ r2. and_then (read_level (levels_left T (Elim n)) r2) (λ m r3. ended (RawEliminator n m) r3))
 
-axiom_k-back : (T : Signature) (i m : ℕ) (rest : List ℕ) → is_left (identities_left T) i ≡ true → is_left (levels_left T (AxiomK i)) m ≡ true → axiom_k_line T (decimal i ++ (codes " " ++ (decimal m ++ 10 ∷ rest))) ≡ Ok (RawAxiomK i m, rest)
+pub axiom_k-back : (T : Signature) (i m : ℕ) (rest : List ℕ) → is_left (identities_left T) i ≡ true → is_left (levels_left T (AxiomK i)) m ≡ true → axiom_k_line T (decimal i ++ (codes " " ++ (decimal m ++ 10 ∷ rest))) ≡ Ok (RawAxiomK i m, rest)
 axiom_k-back T i m rest first_left left =
     let below = identities-below T i first_left in
     let under = levels-below T (AxiomK i) m left in
@@ -86,17 +86,17 @@ axiom_k-back T i m rest first_left left =
 
 -- ---- parameters
 
-abbrev Parameters : Signature → Telescope → List ℕ → Reading (Option Term)
+abbrev pub Parameters : Signature → Telescope → List ℕ → Reading (Option Term)
 Parameters T found r = next_parameter T [] (length found) r
 
-parameter-text : (S : Signature) (a : Term) (tele : Telescope) (rest : List ℕ) → parameters_text S (a ∷ tele) ++ rest ≡ 32 ∷ 40 ∷ (term_text S a ++ 41 ∷ (parameters_text S tele ++ rest))
+pub parameter-text : (S : Signature) (a : Term) (tele : Telescope) (rest : List ℕ) → parameters_text S (a ∷ tele) ++ rest ≡ 32 ∷ 40 ∷ (term_text S a ++ 41 ∷ (parameters_text S tele ++ rest))
 parameter-text S a tele rest = simp append_assoc
 
 -- the next one, behind its space
-next-space : (T : Signature) (n : ℕ) (r : List ℕ) → next_parameter T [] n (32 ∷ r) ≡ (if first r == 40 then parameter_at T [] n (drop 1 r) else no_parameter r)
+pub next-space : (T : Signature) (n : ℕ) (r : List ℕ) → next_parameter T [] n (32 ∷ r) ≡ (if first r == 40 then parameter_at T [] n (drop 1 r) else no_parameter r)
 next-space T n r = ap (λ m. after m (λ r. if first r == 40 then parameter_at T [] n (drop 1 r) else no_parameter r)) (behind-word (codes " ") r)
 
-next-none : (T : Signature) (n : ℕ) (rest : List ℕ) → next_parameter T [] n (codes " : " ++ rest) ≡ Ok (None, rest)
+pub next-none : (T : Signature) (n : ℕ) (rest : List ℕ) → next_parameter T [] n (codes " : " ++ rest) ≡ Ok (None, rest)
 next-none T n rest = next-space T n (codes ": " ++ rest) ∙ ap (λ m. after m (λ end. Ok (None, end))) (behind-word (codes ": ") rest)
 
 next-some : (T S : Signature) (n : ℕ) (a : Term) (rest : List ℕ) → IsReadBack T S [] n a → next_parameter T [] n (32 ∷ 40 ∷ (term_text S a ++ 41 ∷ rest)) ≡ Ok (Some a, rest)
@@ -114,7 +114,7 @@ parameters-back T S (a ∷ tele) found (suc k) rest are few =
     ∙ (ap (λ m. and_then m (behind_item (collected (Parameters T) k) found)) (next-some T S (length found) a (parameters_text S tele ++ (codes " : " ++ rest)) are.0)
     ∙ (parameters-back T S tele (found ++ a ∷ []) k rest are.1 (omega arith) ∙ ap (λ xs. Ok (xs, rest)) (append_assoc found (a ∷ []) tele)))
 
-parameters-long : (S : Signature) (tele : Telescope) → length tele ≤ length (parameters_text S tele)
+pub parameters-long : (S : Signature) (tele : Telescope) → length tele ≤ length (parameters_text S tele)
 parameters-long S [] = omega arith
 parameters-long S (a ∷ tele) =
     let inner = parameters-long S tele in
@@ -123,7 +123,7 @@ parameters-long S (a ∷ tele) =
 -- ---- constructors
 
 -- what stands before a constructor behind those found
-abbrev separator : List RawConstructor → List ℕ
+abbrev pub separator : List RawConstructor → List ℕ
 separator [] = codes " "
 separator (c ∷ found) = codes " ; "
 
@@ -149,11 +149,11 @@ next-constructor-back T S own p (c ∷ found) name type rest may is stops =
     ∙ (ap (λ m. after m (constructor_at T own p (c ∷ found))) (behind-word (codes "; ") text)
     ∙ constructor-back T S own p (c ∷ found) name type rest may is stops)
 
-no-more : (T : Signature) (own : List ℕ) (p : ℕ) (found : List RawConstructor) (rest : List ℕ) → next_constructor T own p found (codes " }" ++ rest) ≡ Ok (None, rest)
+pub no-more : (T : Signature) (own : List ℕ) (p : ℕ) (found : List RawConstructor) (rest : List ℕ) → next_constructor T own p found (codes " }" ++ rest) ≡ Ok (None, rest)
 no-more T own p found rest =
     ap (λ m. after m (λ r. if first r == 125 then Ok (None, drop 1 r) else after (separated found r) (constructor_at T own p found))) (behind-word (codes " ") (125 ∷ rest))
 
-separator-more : (found : List RawConstructor) (c : RawConstructor) → codes " ; " ≡ separator (found ++ c ∷ [])
+pub separator-more : (found : List RawConstructor) (c : RawConstructor) → codes " ; " ≡ separator (found ++ c ∷ [])
 separator-more [] c = refl
 separator-more (d ∷ found) c = refl
 
@@ -189,7 +189,7 @@ family-line-text : (S : Signature) (n : ℕ) (f : Family) (rest : List ℕ) → 
 family-line-text S n f rest = simp append_assoc
 
 -- a parameter or the colon stands behind the name
-stops-name : (S : Signature) (tele : Telescope) (rest : List ℕ) → Stops (parameters_text S tele ++ (codes " : " ++ rest))
+pub stops-name : (S : Signature) (tele : Telescope) (rest : List ℕ) → Stops (parameters_text S tele ++ (codes " : " ++ rest))
 stops-name S [] rest = stops-space _
 stops-name S (a ∷ tele) rest = subst Stops (sym (parameter-text S a tele (codes " : " ++ rest))) (stops-space _)
 
@@ -222,20 +222,20 @@ and-no : (b : Bool) → (b && false) ≡ false
 and-no true = refl
 and-no false = refl
 
-def-line : (T : Signature) (rest : List ℕ) → line_at T [] (codes "def " ++ rest) ≡ definition_at T [] rest
+pub def-line : (T : Signature) (rest : List ℕ) → line_at T [] (codes "def " ++ rest) ≡ definition_at T [] rest
 def-line T rest =
     line-if (begins (codes "de") (codes "def " ++ rest)) (after (behind (codes "def ") (codes "def " ++ rest)) (definition_at T [])) (if first (codes "def " ++ rest) == 101 then after (behind (codes "elim ") (codes "def " ++ rest)) (eliminator_at T) else (if T.has_k && (first (codes "def " ++ rest) == 97) then after (behind (codes "axiomk ") (codes "def " ++ rest)) (axiom_k_line T) else after (behind (codes "data ") (codes "def " ++ rest)) (family_at T []))) (begins-word (codes "de") (codes "f " ++ rest))
     ∙ ap (λ m. after m (definition_at T [])) (behind-word (codes "def ") rest)
 
-elim-line : (T : Signature) (rest : List ℕ) → line_at T [] (codes "elim " ++ rest) ≡ eliminator_at T rest
+pub elim-line : (T : Signature) (rest : List ℕ) → line_at T [] (codes "elim " ++ rest) ≡ eliminator_at T rest
 elim-line T rest = ap (λ m. after m (eliminator_at T)) (behind-word (codes "elim ") rest)
 
-axiom_k-line : (T : Signature) (rest : List ℕ) → T.has_k ≡ true → line_at T [] (codes "axiomk " ++ rest) ≡ axiom_k_line T rest
+pub axiom_k-line : (T : Signature) (rest : List ℕ) → T.has_k ≡ true → line_at T [] (codes "axiomk " ++ rest) ≡ axiom_k_line T rest
 axiom_k-line T rest has =
     ap (λ b. if b then after (behind (codes "axiomk ") (codes "axiomk " ++ rest)) (axiom_k_line T) else after (behind (codes "data ") (codes "axiomk " ++ rest)) (family_at T [])) (ap (λ b. b && true) has)
     ∙ ap (λ m. after m (axiom_k_line T)) (behind-word (codes "axiomk ") rest)
 
-data-line : (T : Signature) (rest : List ℕ) → line_at T [] (codes "data " ++ rest) ≡ family_at T [] rest
+pub data-line : (T : Signature) (rest : List ℕ) → line_at T [] (codes "data " ++ rest) ≡ family_at T [] rest
 data-line T rest =
     ap (λ b. if b then after (behind (codes "axiomk ") (codes "data " ++ rest)) (axiom_k_line T) else after (behind (codes "data ") (codes "data " ++ rest)) (family_at T [])) (and-no T.has_k)
     ∙ ap (λ m. after m (family_at T [])) (behind-word (codes "data ") rest)
@@ -251,11 +251,11 @@ eliminator-text S n g m rest = simp append_assoc
 axiom_k-text : (S : Signature) (n i m : ℕ) (rest : List ℕ) → entry_line S n (AxiomKAt i m) ++ rest ≡ codes "axiomk " ++ (decimal i ++ (codes " " ++ (decimal m ++ 10 ∷ rest)))
 axiom_k-text S n i m rest = simp append_assoc
 
-record Starts (text : List ℕ) : Type 0 where
-  one : ℕ
-  others : List ℕ
-  is : text ≡ one ∷ others
-  no_note : (one == 35) ≡ false
+pub record Starts (text : List ℕ) : Type 0 where
+  pub one : ℕ
+  pub others : List ℕ
+  pub is : text ≡ one ∷ others
+  pub no_note : (one == 35) ≡ false
 
 -- a line and what it shows
 record Line (T S : Signature) (e : Entry) (rest : List ℕ) : Type 0 where
@@ -292,7 +292,7 @@ next-back T text rest raw starts reads shows =
     ∙ (ap (shown_by (length T.entries) (starts.one ∷ starts.others)) (ap (line_at T []) (sym starts.is) ∙ reads)
     ∙ ap (λ b. if b then Ok (Some raw, rest) else Err (Wrong (length (starts.one ∷ starts.others)))) shows))
 
-offset-is : (before line rest : List ℕ) → length (before ++ (line ++ rest)) - length rest ≡ length before + length line
+pub offset-is : (before line rest : List ℕ) → length (before ++ (line ++ rest)) - length rest ≡ length before + length line
 offset-is before line rest = omega (arith, length-append before (line ++ rest), length-append line rest)
 
 pub entries-are-read-back : EntriesAreReadBack

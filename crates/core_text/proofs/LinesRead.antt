@@ -21,6 +21,7 @@ use Rattle.core_text.specs.NameRuns.{run_len}
 use Rattle.core_text.specs.RawEntries.{RawEntry, RawFamilyOf, RawEliminator, RawAxiomK, RawDefinition, entry_shown}
 use Rattle.core_text.specs.ReadBack.{constructor_line}
 use Rattle.core_text.specs.Reading.{Reading, wrong, first, and_then, after, behind, begins, read_level}
+use Rattle.core_text.specs.Spellings.{raw_constructors, raw_text}
 use Rattle.core_text.specs.SymbolLookup.{symbol, found_symbol}
 use Rattle.core_text.specs.SymbolNames.{own_name, name_at}
 use Rattle.core_text.specs.TermReading.{term_after}
@@ -30,30 +31,15 @@ use Rattle.core_text.specs.declared.declared_names.Shape.TheVariants.{Declarable
 use Rattle.core_text.specs.declared.halt.Halt.{Halt}
 use Rattle.core_text.specs.declared.instances.Series.TheVariants.{Elim, AxiomK}
 use Rattle.core_text.specs.declared.stop.CoreTextStop.{CoreTextStop}
-use Rattle.core_text.proofs.LinesBack.{entries-are-read-back}
+use Rattle.core_text.proofs.LinesBack.{nested-is, separator, separator-more, entries-are-read-back}
 use Rattle.core_text.proofs.Outcomes.{Ensures, ensures-then, ensures-if}
+use Rattle.core_text.proofs.RunSteps.{taken-front}
 use Rattle.core_text.proofs.SymbolOutcomes.{Has}
 use Rattle.core_text.proofs.SymbolsRead.{found_symbol-written, symbol-written}
 use Rattle.core_text.proofs.TermsRead.{Writes, term-writes}
 use Rattle.core_text.proofs.WordsRead.{ensures-word, first-is, level-read}
 
-nested-is : nested ≡ 2000
-unfolding nested
-nested-is = refl
-
 -- ---- the text of what a line shows
-
--- constructors as they are written, the first one behind the text `before`
-abbrev raw_constructors : Signature → List ℕ → List RawConstructor → List ℕ
-raw_constructors S before [] = []
-raw_constructors S before (c ∷ cs) = before ++ (c.name ++ (codes " : " ++ (term_text S c.type ++ raw_constructors S (codes " ; ") cs)))
-
-abbrev raw_text : Signature → RawEntry → List ℕ
-raw_text S (RawFamilyOf raw) =
-    codes "data " ++ (raw.name ++ (parameters_text S raw.parameters ++ (codes " : " ++ (term_text S raw.type ++ (codes " {" ++ (raw_constructors S (codes " ") raw.constructors ++ codes " }\n"))))))
-raw_text S (RawEliminator g m) = codes "elim " ++ (name_at S g ++ (codes " " ++ (decimal m ++ codes "\n")))
-raw_text S (RawAxiomK i m) = codes "axiomk " ++ (decimal i ++ (codes " " ++ (decimal m ++ codes "\n")))
-raw_text S (RawDefinition name type body) = codes "def " ++ (name ++ (codes " : " ++ (term_text S type ++ (codes " = " ++ (term_text S body ++ codes "\n")))))
 
 constructors-shown : (S : Signature) (n : ℕ) (f : Family) (before : List ℕ) (cs : List Constructor) → raw_constructors S before (map (constructor_line n f) cs) ≡ constructors_text S n f before cs
 constructors-shown S n f before [] = refl
@@ -82,12 +68,7 @@ ensures-weaker P Q (Err e) k h = tt
 -- ---- names that are declared
 
 shape-reads : (may : Bool) (shape : Shape) (k : ℕ) (rest : List ℕ) → Ensures (λ name r. rest ≡ name ++ r) (by_shape shape may (take k rest) rest)
-shape-reads may Declarable k rest = ensures-if (λ name r. rest ≡ name ++ r) may (Ok (take k rest, drop (length (take k rest)) rest)) (wrong rest) (λ e. whole k rest) (λ e. tt)
-  where
-    whole : (k : ℕ) (xs : List ℕ) → xs ≡ take k xs ++ drop (length (take k xs)) xs
-    whole zero xs = refl
-    whole (suc k) [] = refl
-    whole (suc k) (x ∷ xs) = ap (λ r. x ∷ r) (whole k xs)
+shape-reads may Declarable k rest = ensures-if (λ name r. rest ≡ name ++ r) may (Ok (take k rest, drop (length (take k rest)) rest)) (wrong rest) (λ e. taken-front k rest) (λ e. tt)
 shape-reads may Underscore k rest = tt
 shape-reads may Malformed k rest = tt
 
@@ -211,21 +192,13 @@ module _ (T S : Signature) (has : Has T S) where
 
   -- ---- constructors of the family `own`
 
-  abbrev separator : List RawConstructor → List ℕ
-  separator [] = codes " "
-  separator (c ∷ found) = codes " ; "
-
   abbrev constructor_text : List RawConstructor → RawConstructor → List ℕ
   constructor_text found c = separator found ++ (c.name ++ (codes " : " ++ term_text T c.type))
-
-  separator-more : (found : List RawConstructor) (c : RawConstructor) → separator (found ++ c ∷ []) ≡ codes " ; "
-  separator-more [] c = refl
-  separator-more (d ∷ found) c = refl
 
   constructors-listed : (found new : List RawConstructor) → listed constructor_text found new ≡ raw_constructors T (separator found) new
   constructors-listed found [] = refl
   constructors-listed found (c ∷ new) =
-      ap (λ r. (separator found ++ (c.name ++ (codes " : " ++ term_text T c.type))) ++ r) (constructors-listed (found ++ c ∷ []) new ∙ ap (λ b. raw_constructors T b new) (separator-more found c))
+      ap (λ r. (separator found ++ (c.name ++ (codes " : " ++ term_text T c.type))) ++ r) (constructors-listed (found ++ c ∷ []) new ∙ ap (λ b. raw_constructors T b new) (sym (separator-more found c)))
       ∙ simp append_assoc
 
   module _ (own : List ℕ) (p : ℕ) (is_own : nat_lt 0 (length own) ≡ true → name_at T (length S.entries) ≡ own) (few : p < 2 ^ 33) where

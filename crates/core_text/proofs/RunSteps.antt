@@ -1,5 +1,5 @@
 -- Runs of the characters of names, one character at a time.
-use Rattle.std.proofs.Common.{◌≡◌, ℕ, zero, suc, ◌+◌, ◌-◌, ◌<◌, ◌≤◌, true, false, List, [], ◌∷◌, drop, length, refl, ap, arith}
+use Rattle.std.proofs.Common.{◌++◌, take, ◌≡◌, ℕ, zero, suc, ◌+◌, ◌-◌, ◌<◌, ◌≤◌, true, false, List, [], ◌∷◌, drop, length, refl, ap, arith}
 use Rattle.std.specs.Prelude.{◌==◌}
 use Rattle.std.specs.Str.{IsUtf8, is_utf8}
 use Rattle.std.proofs.lemmas.Str.{IsUtf8-from_is_utf8}
@@ -34,3 +34,9 @@ run_end (b ∷ bytes) is = rw is refl
 
 pub run_past : (bytes : List ℕ) (n : ℕ) → length bytes ≤ n → run_len (drop n bytes) ≡ 0
 run_past bytes n past = ap run_len (drop_all n bytes past)
+
+-- what was taken stands before the rest
+pub taken-front : (k : ℕ) (xs : List ℕ) → xs ≡ take k xs ++ drop (length (take k xs)) xs
+taken-front zero xs = refl
+taken-front (suc k) [] = refl
+taken-front (suc k) (x ∷ xs) = ap (λ r. x ∷ r) (taken-front k xs)

@@ -1,5 +1,5 @@
 -- The text of an application by its head and its arguments.
-use Rattle.std.proofs.Common.{◌≡◌, ℕ, zero, suc, ◌+◌, ◌<◌, List, [], ◌∷◌, ◌++◌, map, length, append_assoc, true, refl, sym, ap, ◌∙◌, arith}
+use Rattle.std.proofs.Common.{◌≡◌, ℕ, zero, suc, ◌+◌, ◌<◌, List, [], ◌∷◌, ◌++◌, map, length, append_assoc, true, false, refl, sym, ap, ◌∙◌, arith}
 use Rattle.std.specs.Prelude.{codes, decimal}
 use Rattle.std.proofs.lemmas.List.{append-nil, length-map}
 use Rattle.theory.specs.Terms.{Term, App, Fam}
@@ -8,7 +8,13 @@ use Rattle.theory.specs.Telescopes.{applied, variables, weaken_by}
 use Rattle.core_terms.specs.declared.term.Term as code
 use Rattle.core_terms.specs.Meanings.{tree_of, tele_of}
 use Rattle.core_text.specs.SymbolNames.{name_at}
+use Rattle.core_text.specs.TermReading.{is_application}
 use Rattle.core_text.specs.TermText.{spelled, term_text, spaced}
+
+-- a term that is no application has its text wherever it stands
+pub spelled-alone : (S : Signature) (t : Term) → is_application t ≡ false → spelled S true t ≡ term_text S t
+spelled-alone S (App f a) e = absurd (cc)
+spelled-alone S t e = refl
 
 pub spelled-applied : (S : Signature) (head : Term) (ts : List Term) → spelled S true (applied head ts) ≡ spelled S true head ++ spaced S ts
 spelled-applied S head [] = sym (append-nil (spelled S true head))

@@ -91,7 +91,7 @@ found-is T S has (Some (FoundCon f c)) stands t e =
 pub found_symbol-is : (T S : Signature) → Has T S → (name : List ℕ) (t : Term) → found_symbol S (find S name) ≡ Some t → IsSymbol T t
 found_symbol-is T S has name t e = found-is T S has (find S name) (find-stands S name) t e
 
-through : {A : Type 0} (P : Type 0) (f : A → Option Term) (o : Option A) (t : Term) → ((a : A) → f a ≡ Some t → P) → option_and_then f o ≡ Some t → P
+pub through : {A : Type 0} (P : Type 0) (f : A → Option Term) (o : Option A) (t : Term) → ((a : A) → f a ≡ Some t → P) → option_and_then f o ≡ Some t → P
 through P f None t k e = absurd (cc)
 through P f (Some a) t k e = k a e
 

@@ -20,7 +20,7 @@ use Rattle.core_text.specs.TermText.{spelled, term_text, spaced}
 use Rattle.core_text.specs.declared.halt.Halt.TheVariants.{Nested}
 use Rattle.core_text.proofs.NumbersBack.{drop-word, begins-word, behind-word, index-back, level-back}
 use Rattle.core_text.proofs.RunSteps.{run_more, run_end}
-use Rattle.core_text.proofs.SpineTexts.{spelled-applied}
+use Rattle.core_text.proofs.SpineTexts.{spelled-alone, spelled-applied}
 use Rattle.core_text.proofs.TermSteps.{term_named}
 
 -- ---- bytes that stop names and numbers
@@ -73,15 +73,15 @@ take-word [] rest = refl
 take-word (b ∷ word) rest = ap (λ r. b ∷ r) (take-word word rest)
 
 -- what a term's text does not begin with
-record Begins (text : List ℕ) : Type 0 where
-  no_let : (rest : List ℕ) → Stops rest → begins (codes "let ") (text ++ rest) ≡ false
-  no_function : (rest : List ℕ) → (first (text ++ rest) == 92) ≡ false
-  no_arrow : (rest : List ℕ) → (first (text ++ rest) == 45) ≡ false
+pub record Begins (text : List ℕ) : Type 0 where
+  pub no_let : (rest : List ℕ) → Stops rest → begins (codes "let ") (text ++ rest) ≡ false
+  pub no_function : (rest : List ℕ) → (first (text ++ rest) == 92) ≡ false
+  pub no_arrow : (rest : List ℕ) → (first (text ++ rest) == 45) ≡ false
 
 spelled-begins : (look : List ℕ → Option Term) (name : List ℕ) (t : Term) → IsSpelled look name t → Begins name
 spelled-begins look name t is = record { no_let = is.no_let; no_function = is.no_function; no_arrow = is.no_arrow }
 
-text-begins : (S : Signature) (look : List ℕ → Option Term) (t : Term) → AreSpelled S look t → Begins (term_text S t)
+pub text-begins : (S : Signature) (look : List ℕ → Option Term) (t : Term) → AreSpelled S look t → Begins (term_text S t)
 text-begins S look (Const n) is = spelled-begins look (name_at S n) (Const n) is
 text-begins S look (Fam n) is = spelled-begins look (name_at S n) (Fam n) is
 text-begins S look (Con n c) is = spelled-begins look (constructor_name_at S n c) (Con n c) is
@@ -89,7 +89,7 @@ text-begins S look (Elim n m) is = spelled-begins look (eliminator_name (name_at
 text-begins S look (AxiomK i m) is = spelled-begins look (axiom_k_name i m) (AxiomK i m) is
 text-begins S look _ is = record { no_let = λ rest stops. refl; no_function = λ rest. refl; no_arrow = λ rest. refl }
 
-symbol-back : (look : List ℕ → Option Term) (name : List ℕ) (t : Term) (room n : ℕ) (rest : List ℕ) → IsSpelled look name t → Stops rest → read_term look (suc room) n (name ++ rest) ≡ Ok (t, rest)
+pub symbol-back : (look : List ℕ → Option Term) (name : List ℕ) (t : Term) (room n : ℕ) (rest : List ℕ) → IsSpelled look name t → Stops rest → read_term look (suc room) n (name ++ rest) ≡ Ok (t, rest)
 symbol-back look name t room n rest is stops =
     term_named look (suc room) n (name ++ rest) (omega arith) (is.no_form rest) (is.no_variable rest)
     ∙ (ap (λ k. named look k (name ++ rest)) (is.run rest stops)
@@ -210,7 +210,7 @@ module _ (S : Signature) (look : List ℕ → Option Term) (room : ℕ) (inner :
 
 -- ---- an application is its head and its spine
 
-head-no-application : (t : Term) → is_application (head_of t) ≡ false
+pub head-no-application : (t : Term) → is_application (head_of t) ≡ false
 head-no-application (App f a) = head-no-application f
 head-no-application (Var _) = refl
 head-no-application (Sort _) = refl
@@ -223,19 +223,6 @@ head-no-application (Con _ _) = refl
 head-no-application (Elim _ _) = refl
 head-no-application (AxiomK _ _) = refl
 
-spelled-alone : (S : Signature) (t : Term) → is_application t ≡ false → spelled S true t ≡ term_text S t
-spelled-alone S (App f a) e = absurd (cc)
-spelled-alone S (Var _) e = refl
-spelled-alone S (Sort _) e = refl
-spelled-alone S (Pi _ _) e = refl
-spelled-alone S (Lam _ _) e = refl
-spelled-alone S (Let _ _ _) e = refl
-spelled-alone S (Const _) e = refl
-spelled-alone S (Fam _) e = refl
-spelled-alone S (Con _ _) e = refl
-spelled-alone S (Elim _ _) e = refl
-spelled-alone S (AxiomK _ _) e = refl
-
 fit-parts : (S : Signature) (look : List ℕ → Option Term) (room n : ℕ) (f a : Term) → IsFit S look room n (App f a) → IsFit S look room n f × IsFit S look room n a
 fit-parts S look room n f a fit = (
   record { spelled = fit.spelled.0; free = omega (arith, fit.free); low = omega (arith, fit.low) },
@@ -243,12 +230,12 @@ fit-parts S look room n f a fit = (
 )
 
 -- a spine that is not empty
-record Split (ts : List Term) : Type 0 where
-  one : Term
-  others : List Term
-  is : ts ≡ one ∷ others
+pub record Split (ts : List Term) : Type 0 where
+  pub one : Term
+  pub others : List Term
+  pub is : ts ≡ one ∷ others
 
-split-push : (ts : List Term) (a : Term) → Split (ts ++ a ∷ [])
+pub split-push : (ts : List Term) (a : Term) → Split (ts ++ a ∷ [])
 split-push [] a = record { one = a; others = []; is = refl }
 split-push (t ∷ ts) a = record { one = t; others = ts ++ a ∷ []; is = refl }
 
@@ -261,46 +248,60 @@ positive _ = omega arith
 
 -- ---- texts by their parts
 
-product-text : (S : Signature) (a b : Term) (rest : List ℕ) → term_text S (Pi a b) ++ rest ≡ 40 ∷ (term_text S a ++ (codes " -> " ++ (term_text S b ++ 41 ∷ rest)))
+pub product-text : (S : Signature) (a b : Term) (rest : List ℕ) → term_text S (Pi a b) ++ rest ≡ 40 ∷ (term_text S a ++ (codes " -> " ++ (term_text S b ++ 41 ∷ rest)))
 product-text S a b rest = simp append_assoc
 
-function-text : (S : Signature) (a b : Term) (rest : List ℕ) → term_text S (Lam a b) ++ rest ≡ 40 ∷ 92 ∷ (term_text S a ++ (codes " . " ++ (term_text S b ++ 41 ∷ rest)))
+pub function-text : (S : Signature) (a b : Term) (rest : List ℕ) → term_text S (Lam a b) ++ rest ≡ 40 ∷ 92 ∷ (term_text S a ++ (codes " . " ++ (term_text S b ++ 41 ∷ rest)))
 function-text S a b rest = simp append_assoc
 
-let-text : (S : Signature) (a t b : Term) (rest : List ℕ) → term_text S (Let a t b) ++ rest ≡ 40 ∷ (codes "let " ++ (term_text S a ++ (codes " = " ++ (term_text S t ++ (codes " . " ++ (term_text S b ++ 41 ∷ rest))))))
+pub let-text : (S : Signature) (a t b : Term) (rest : List ℕ) → term_text S (Let a t b) ++ rest ≡ 40 ∷ (codes "let " ++ (term_text S a ++ (codes " = " ++ (term_text S t ++ (codes " . " ++ (term_text S b ++ 41 ∷ rest))))))
 let-text S a t b rest = simp append_assoc
+
+-- an application is its head at its spine, which stand in one pair of parentheses
+pub application-whole : (f a : Term) (split : Split (spine_of f ++ a ∷ [])) → applied (App (head_of f) split.one) split.others ≡ App f a
+application-whole f a split = ap (applied (head_of f)) (sym split.is) ∙ applied-spine (App f a)
+
+pub application-text : (S : Signature) (f a : Term) (split : Split (spine_of f ++ a ∷ [])) (rest : List ℕ) → term_text S (App f a) ++ rest ≡ 40 ∷ (term_text S (head_of f) ++ (spaced S (split.one ∷ split.others) ++ 41 ∷ rest))
+application-text S f a split rest =
+    ap (λ r. 40 ∷ r) (append_assoc (spelled S true (App f a)) (codes ")") rest
+    ∙ (ap (λ r. r ++ 41 ∷ rest) spelling ∙ append_assoc (term_text S (head_of f)) (spaced S (split.one ∷ split.others)) (41 ∷ rest)))
+  where
+    spelling : spelled S true (App f a) ≡ term_text S (head_of f) ++ spaced S (split.one ∷ split.others)
+    spelling =
+        ap (spelled S true) (sym (applied-spine (App f a)))
+        ∙ (spelled-applied S (head_of f) (spine_of f ++ a ∷ []) ∙ ap₂ (λ x y. x ++ spaced S y) (spelled-alone S (head_of f) (head-no-application f)) split.is)
 
 -- ---- one form, by its first bytes
 
-paren : (look : List ℕ → Option Term) (room n : ℕ) (rest : List ℕ) → read_term look (suc room) n (40 ∷ rest) ≡ enclosed_at (read_term look room) n rest
+pub paren : (look : List ℕ → Option Term) (room n : ℕ) (rest : List ℕ) → read_term look (suc room) n (40 ∷ rest) ≡ enclosed_at (read_term look room) n rest
 paren look room n rest = refl
 
 percent : (look : List ℕ → Option Term) (room n : ℕ) (rest : List ℕ) → read_term look (suc room) (suc n) (37 ∷ rest) ≡ as_term Var (read_index (suc n) rest)
 percent look room n rest = refl
 
-backslash : (inner : ℕ → List ℕ → Reading Term) (n : ℕ) (rest : List ℕ) → enclosed_at inner n (92 ∷ rest) ≡ function_at inner n rest
+pub backslash : (inner : ℕ → List ℕ → Reading Term) (n : ℕ) (rest : List ℕ) → enclosed_at inner n (92 ∷ rest) ≡ function_at inner n rest
 backslash inner n rest = refl
 
-let-word : (inner : ℕ → List ℕ → Reading Term) (n : ℕ) (rest : List ℕ) → enclosed_at inner n (codes "let " ++ rest) ≡ let_at inner n rest
+pub let-word : (inner : ℕ → List ℕ → Reading Term) (n : ℕ) (rest : List ℕ) → enclosed_at inner n (codes "let " ++ rest) ≡ let_at inner n rest
 let-word inner n rest =
     ap (λ c. if c then let_at inner n rest else and_then (inner n (codes "let " ++ rest)) (λ a r. behind_first inner a n r)) (begins-word (codes "let ") rest)
 
 enclosed-form : (look : List ℕ → Option Term) (room n : ℕ) (text rest : List ℕ) (m : Reading Term) → text ≡ 40 ∷ rest → enclosed_at (read_term look room) n rest ≡ m → read_term look (suc room) n text ≡ m
 enclosed-form look room n text rest m is e = ap (read_term look (suc room) n) is ∙ (paren look room n rest ∙ e)
 
-variable-form : (look : List ℕ → Option Term) (room n v : ℕ) (text rest : List ℕ) → text ≡ 37 ∷ (decimal v ++ rest) → v < n → v < 2 ^ 64 → Stops rest → read_term look (suc room) n text ≡ Ok (Var v, rest)
+pub variable-form : (look : List ℕ → Option Term) (room n v : ℕ) (text rest : List ℕ) → text ≡ 37 ∷ (decimal v ++ rest) → v < n → v < 2 ^ 64 → Stops rest → read_term look (suc room) n text ≡ Ok (Var v, rest)
 variable-form look room zero v text rest is lt fits stops = absurd (omega (arith, lt))
 variable-form look room (suc n) v text rest is lt fits stops =
     ap (read_term look (suc room) (suc n)) is ∙ (percent look room n (decimal v ++ rest) ∙ ap (as_term Var) (index-back (suc n) v rest lt fits stops.digit))
 
-sort-form : (look : List ℕ → Option Term) (room n i : ℕ) (text rest : List ℕ) → text ≡ 84 ∷ 121 ∷ 112 ∷ 101 ∷ 32 ∷ (decimal i ++ rest) → i ≤ 15 → Stops rest → read_term look (suc room) n text ≡ Ok (Sort i, rest)
+pub sort-form : (look : List ℕ → Option Term) (room n i : ℕ) (text rest : List ℕ) → text ≡ 84 ∷ 121 ∷ 112 ∷ 101 ∷ 32 ∷ (decimal i ++ rest) → i ≤ 15 → Stops rest → read_term look (suc room) n text ≡ Ok (Sort i, rest)
 sort-form look room n i text rest is le stops = ap (read_term look (suc room) n) is ∙ sort-back look i room n rest le stops
 
 application-form : (S : Signature) (look : List ℕ → Option Term) (room : ℕ) → ReadsBack S look room (read_term look room) → (f a : Term) (n : ℕ) (rest : List ℕ) → IsFit S look (suc room) n (App f a) → height (App f a) ≤ 2000 → read_term look (suc room) n (term_text S (App f a) ++ rest) ≡ Ok (App f a, rest)
 application-form S look room back f a n rest fit small =
-    enclosed-form look room n (term_text S (App f a) ++ rest) (term_text S h ++ (spaced S (split.one ∷ split.others) ++ 41 ∷ rest)) (Ok (App f a, rest)) (ap (λ r. 40 ∷ r) text)
-    (application-back S look room (read_term look room) back h split.one split.others n rest (head-no-application f) parts.0 (All-head Fit split.one split.others all) (All-tail Fit split.one split.others all) (subst (λ t. height t ≤ 2000) (sym whole) small)
-    ∙ ap (λ t. Ok (t, rest)) whole)
+    enclosed-form look room n (term_text S (App f a) ++ rest) (term_text S h ++ (spaced S (split.one ∷ split.others) ++ 41 ∷ rest)) (Ok (App f a, rest)) (application-text S f a split rest)
+    (application-back S look room (read_term look room) back h split.one split.others n rest (head-no-application f) parts.0 (All-head Fit split.one split.others all) (All-tail Fit split.one split.others all) (subst (λ t. height t ≤ 2000) (sym (application-whole f a split)) small)
+    ∙ ap (λ t. Ok (t, rest)) (application-whole f a split))
   where
     Fit : Term → Type 0
     Fit t = IsFit S look room n t
@@ -322,19 +323,6 @@ application-form S look room back f a n rest fit small =
 
     all : All Fit (split.one ∷ split.others)
     all = subst (All Fit) split.is (All-push Fit (spine_of f) a parts.1 inside.1)
-
-    whole : applied (App h split.one) split.others ≡ App f a
-    whole = ap (applied h) (sym split.is) ∙ applied-spine (App f a)
-
-    spelling : spelled S true (App f a) ≡ term_text S h ++ spaced S (split.one ∷ split.others)
-    spelling =
-        ap (spelled S true) (sym (applied-spine (App f a)))
-        ∙ (spelled-applied S h (spine_of f ++ a ∷ []) ∙ ap₂ (λ x y. x ++ spaced S y) (spelled-alone S h (head-no-application f)) split.is)
-
-    text : (spelled S true (App f a) ++ codes ")") ++ rest ≡ term_text S h ++ (spaced S (split.one ∷ split.others) ++ 41 ∷ rest)
-    text =
-        append_assoc (spelled S true (App f a)) (codes ")") rest
-        ∙ (ap (λ r. r ++ 41 ∷ rest) spelling ∙ append_assoc (term_text S h) (spaced S (split.one ∷ split.others)) (41 ∷ rest))
 
 form-back : (S : Signature) (look : List ℕ → Option Term) (room : ℕ) → ReadsBack S look room (read_term look room) → (t : Term) (n : ℕ) (rest : List ℕ) → IsFit S look (suc room) n t → height t ≤ 2000 → Stops rest → read_term look (suc room) n (term_text S t ++ rest) ≡ Ok (t, rest)
 form-back S look room back (Var v) n rest fit small stops =

@@ -10,6 +10,7 @@ use Rattle.core_text.specs.TermReading.{most, sort_levels, limited, closed_by, a
 use Rattle.core_text.specs.TermText.{spelled, term_text}
 use Rattle.core_text.specs.declared.halt.Halt.TheVariants.{Nested}
 use Rattle.core_text.proofs.Outcomes.{Ensures, ensures-then, ensures-if}
+use Rattle.core_text.proofs.SpineTexts.{spelled-alone}
 use Rattle.core_text.proofs.SymbolsRead.{IsWritten, same-bytes}
 use Rattle.core_text.proofs.WordsRead.{word-is, ensures-word, first-is, index-read, level-read}
 
@@ -91,19 +92,6 @@ closed-writes T whole front t rest is text = by (closed_by t rest) (closed-ends 
 -- terms inside are read under at most as many binders
 abbrev pub Inside : Signature → ℕ → (ℕ → List ℕ → Reading Term) → Type 0
 Inside T bound inner = (n : ℕ) (rest : List ℕ) → n ≤ bound → Ensures (Writes T rest) (inner n rest)
-
-spelled-alone : (T : Signature) (t : Term) → is_application t ≡ false → spelled T true t ≡ term_text T t
-spelled-alone T (App f a) e = absurd (cc)
-spelled-alone T (Var _) e = refl
-spelled-alone T (Sort _) e = refl
-spelled-alone T (Pi _ _) e = refl
-spelled-alone T (Lam _ _) e = refl
-spelled-alone T (Let _ _ _) e = refl
-spelled-alone T (Const _) e = refl
-spelled-alone T (Fam _) e = refl
-spelled-alone T (Con _ _) e = refl
-spelled-alone T (Elim _ _) e = refl
-spelled-alone T (AxiomK _ _) e = refl
 
 module _ (T : Signature) (bound : ℕ) (inner : ℕ → List ℕ → Reading Term) (inside : Inside T (bound + 1) inner) where
   after-writes : {B : Type 0} (Q : B → List ℕ → Type 0) (word : List ℕ) (n : ℕ) (rest : List ℕ) (next : Term → List ℕ → Reading B) → n ≤ bound + 1 → ((t : Term) (r : List ℕ) → rest ≡ word ++ (term_text T t ++ r) → Ensures Q (next t r)) → Ensures Q (and_then (term_after inner word n rest) next)

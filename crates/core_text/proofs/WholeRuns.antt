@@ -122,11 +122,11 @@ no-brace = no-first 125 refl no-names.4
 
 -- ---- the word `let`
 
-letters : (are_name_chars (108 ∷ []) ≡ true) × (are_name_chars (101 ∷ []) ≡ true) × (are_name_chars (116 ∷ []) ≡ true)
+pub letters : (are_name_chars (108 ∷ []) ≡ true) × (are_name_chars (101 ∷ []) ≡ true) × (are_name_chars (116 ∷ []) ≡ true)
 unfolding is_utf8 chars unicode_ident lib.Utf8.encode
 letters = (refl, refl, refl)
 
-let-run : (rest : List ℕ) → run_len (108 ∷ 101 ∷ 116 ∷ 32 ∷ rest) ≡ 3
+pub let-run : (rest : List ℕ) → run_len (108 ∷ 101 ∷ 116 ∷ 32 ∷ rest) ≡ 3
 let-run rest =
     run_more (108 ∷ 101 ∷ 116 ∷ 32 ∷ rest) 1 (some-char 108 (101 ∷ 116 ∷ 32 ∷ rest) refl letters.0) (omega arith)
     ∙ (ap (λ k. 1 + k) (run_more (101 ∷ 116 ∷ 32 ∷ rest) 1 (some-char 101 (116 ∷ 32 ∷ rest) refl letters.1) (omega arith))

@@ -41,7 +41,7 @@ first-is b (x ∷ rest) some e = let here : x ≡ b = grind (arith, nat_tests) i
 
 -- ---- numbers
 
-digit-bounds : (b : ℕ) → is_digit b ≡ true → (48 ≤ b) × (b ≤ 57)
+pub digit-bounds : (b : ℕ) → is_digit b ≡ true → (48 ≤ b) × (b ≤ 57)
 digit-bounds b e = let parts = and_parts (nat_le 48 b) (nat_le b 57) e in (le-told 48 b parts.0, le-told b 57 parts.1)
 
 pub decimal-one : (b : ℕ) (rest : List ℕ) → is_digit b ≡ true → b ∷ rest ≡ decimal (b - 48) ++ rest

@@ -6,6 +6,8 @@ pub mod LineLaws
 pub mod LineReading
 pub mod Lines
 pub mod NameRuns
+pub mod Places
+pub mod PlacesPassed
 pub mod PlainNames
 pub mod ProductParts
 pub mod RawEntries
@@ -14,6 +16,8 @@ pub mod Reading
 pub mod ReadLaws
 pub mod Records
 pub mod Scopes
+pub mod SpelledLines
+pub mod Spellings
 pub mod SurfaceNames
 pub mod SymbolLookup
 pub mod SymbolNames

@@ -1,8 +1,11 @@
 ghost use Rattle.core_text.specs.LineLaws.{EndsAreRead, LinesAreRead, LinesShowOneEntry, NotesArePassedOver};
 ghost use Rattle.core_text.specs.Lines.{LinesAreApart};
+ghost use Rattle.core_text.specs.Places.{PlacesAreFirst};
+ghost use Rattle.core_text.specs.PlacesPassed.{NothingGoesOn};
 ghost use Rattle.core_text.specs.PlainNames.{NamesAreSpelled, NamesStayPlain, PreludeHasPlainNames};
 ghost use Rattle.core_text.specs.ReadBack.{EntriesAreReadBack, TermsAreReadBack};
 ghost use Rattle.core_text.specs.ReadLaws.{WhatIsRead};
+ghost use Rattle.core_text.specs.SpelledLines.{SpelledLinesAreRead};
 ghost use Rattle.core_text.specs.SurfaceNames.{SurfaceNamesArePlain};
 ghost use Rattle.core_text.specs.WrittenEntries.{EntriesThatFollow};
 
@@ -69,4 +72,19 @@ pub fn entries_that_follow()
 /// A core file may declare each plain name of the surface text, and none of them holds a `!`.
 pub fn surface_names_are_plain()
     ensures { SurfaceNamesArePlain }
+{}
+
+/// The place of a refusal is the first byte with which no core file over the entries so far goes on.
+pub fn places_are_first()
+    ensures { PlacesAreFirst }
+{}
+
+/// A line that is spelled right is read, unless a term in it is too deep or it shows no record.
+pub fn spelled_lines_are_read()
+    ensures { SpelledLinesAreRead }
+{}
+
+/// No core file goes on with the bytes before the place of a refusal and what is wrong there.
+pub fn nothing_goes_on()
+    ensures { NothingGoesOn }
 {}

@@ -1,4 +1,4 @@
-ghost use Rattle.std.specs.Prelude.{◌≡◌, ◌++◌, OnOk, OnErr};
+ghost use Rattle.std.specs.Prelude.{◌≡◌, ◌++◌, cond, [], OnOk, OnErr};
 ghost use Rattle.core_terms.specs.Answers.{Gives};
 ghost use Rattle.core_terms.specs.Meanings.{tree_of};
 ghost use Rattle.core_terms.specs.declared.stop.Stop.TheVariants.{Memory};
@@ -48,17 +48,11 @@ pub(crate) fn write_term(
             write(out, b")")
         }
         Term::App(function, argument) => {
-            if !is_function {
-                write(out, b"(")?;
-            }
+            write_unless(out, is_function, b"(")?;
             write_term(out, sig, function, true)?;
             write(out, b" ")?;
             write_term(out, sig, argument, false)?;
-            if is_function {
-                Ok(())
-            } else {
-                write(out, b")")
-            }
+            write_unless(out, is_function, b")")
         }
         Term::Let(ty, value, rest) => {
             write(out, b"(let ")?;
@@ -74,4 +68,15 @@ pub(crate) fn write_term(
         Term::Elim(family, level) => write_eliminator(out, name_at(sig, *family), *level),
         Term::AxiomK(i, level) => write_axiom_k(out, *i, *level),
     }
+}
+
+/// Writes bytes, or nothing where they are left out.
+fn write_unless(out: &mut Vec<u8>, left_out: bool, bytes: &[u8]) -> Result<(), Stop>
+    ensures ok { OnOk result (out.new.items ≡ out.old.items ++ cond left_out [] bytes.now) }
+    ensures memory { OnErr result (result ≡ Err Memory) }
+{
+    if left_out {
+        return Ok(());
+    }
+    write(out, bytes)
 }

@@ -176,8 +176,30 @@ fn names_are_known_or_new(rt: HostRuntime) -> Result<(), Fail> {
     Ok(())
 }
 
+/// Characters with which no line goes on, and a keyword.
+const WRONG_CHARACTERS: [(&str, u32); 5] = [
+    ("def t : %\n", 8),
+    ("def t : (Nat -> %1)\n", 17),
+    ("def t : Nat× = zero\n", 11),
+    ("def t× : Nat = zero\n", 5),
+    ("def t : (let) = zero\n", 9),
+];
+
+#[test]
+fn characters_are_looked_at_whole(rt: HostRuntime) -> Result<(), Fail> {
+    let alloc = rt.alloc();
+    assert!(rt; stop_at(alloc, false, &WRONG_CHARACTERS)?);
+    assert!(rt; are_read(alloc, &["def té : Nat = zero\n"])?);
+    Ok(())
+}
+
+/// All instances of Nat, and one of them again.
+const SPENT: &str =
+    "elim Nat 0\nelim Nat 1\nelim Nat 2\nelim Nat 3\nelim Nat 4\nelim Nat 5\nelim Nat 6\nelim Nat 7\nelim Nat 8\nelim Nat 9\nelim Nat 10\nelim Nat 11\nelim Nat 12\nelim Nat 13\nelim Nat 14\nelim Nat 0\n";
+
 /// Instances that are there, or whose levels are too high.
-const WRONG_INSTANCES: [(&str, u32); 3] = [
+const WRONG_INSTANCES: [(&str, u32); 4] = [
+    (SPENT, 179),
     ("elim Nat 0\nelim Nat 0\n", 20),
     ("elim Nat 15\n", 10),
     ("axiomk 0 0\n", 0),

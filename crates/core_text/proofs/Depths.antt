@@ -1,0 +1,41 @@
+-- Readings that succeed unless a term is too deep.
+use Rattle.std.proofs.Common.{◌≡◌, ℕ, Bool, true, false, List, ◌∷◌, length, refl, ap, ◌∙◌}
+use Rattle.std.specs.Prelude.{nat_le, if◌then◌else◌, Ok, Err, codes}
+use Rattle.theory.specs.Terms.{Term, height}
+use Rattle.core_text.specs.Reading.{Reading, and_then, after}
+use Rattle.core_text.specs.TermReading.{most, limited, closed_by}
+use Rattle.core_text.specs.declared.halt.Halt.TheVariants.{Nested}
+use Rattle.core_text.proofs.NumbersBack.{behind-word}
+
+-- The reading gives a and leaves the bytes r, or a term in it is too deep.
+pub data OrNested {A : Type 0} (m : Reading A) (a : A) (r : List ℕ) : Type 0 where
+  is_read : m ≡ Ok (a, r) → OrNested m a r
+  is_nested : (left : ℕ) → m ≡ Err (Nested left) → OrNested m a r
+
+-- the same reading
+pub or-same : {A : Type 0} (m k : Reading A) {a : A} {r : List ℕ} → m ≡ k → OrNested k a r → OrNested m a r
+or-same m k e (is_read is) = is_read (e ∙ is)
+or-same m k e (is_nested left is) = is_nested left (e ∙ is)
+
+-- what is read, and then more
+pub or-then : {A B : Type 0} {m : Reading A} {a : A} {r : List ℕ} (next : A → List ℕ → Reading B) {b : B} {s : List ℕ} → OrNested m a r → OrNested (next a r) b s → OrNested (and_then m next) b s
+or-then {a = a} {r = r} next (is_read is) h = or-same _ (next a r) (ap (λ k. and_then k next) is) h
+or-then next (is_nested left is) h = is_nested left (ap (λ k. and_then k next) is)
+
+-- the same with another form of what is read
+pub or-other : {A : Type 0} (m : Reading A) {a b : A} {r : List ℕ} → a ≡ b → OrNested m a r → OrNested m b r
+or-other m {r = r} e (is_read is) = is_read (is ∙ ap (λ x. Ok (x, r)) e)
+or-other m e (is_nested left is) = is_nested left is
+
+-- ---- the ends of forms
+
+pub or-limited : (t : Term) (rest : List ℕ) → OrNested (limited t rest) t rest
+or-limited t rest = by (nat_le (height t) most)
+  where
+    by : (b : Bool) → OrNested (if b then Ok (t, rest) else Err (Nested (length rest))) t rest
+    by true = is_read refl
+    by false = is_nested (length rest) refl
+
+pub or-closed : (t : Term) (rest : List ℕ) → OrNested (closed_by t (41 ∷ rest)) t rest
+or-closed t rest =
+    or-same (closed_by t (41 ∷ rest)) (limited t rest) (ap (λ m. after m (limited t)) (behind-word (codes ")") rest)) (or-limited t rest)

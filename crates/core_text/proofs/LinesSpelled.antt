@@ -1,0 +1,167 @@
+-- A line whose names and terms are spelled right is read as what it says, unless a term in it is too deep.
+use Rattle.std.proofs.Common.{◌≡◌, ℕ, zero, suc, ◌+◌, ◌<◌, ◌≤◌, ◌^◌, Bool, true, false, List, [], ◌∷◌, ◌++◌, length, drop, refl, sym, ap, ◌∙◌, subst, append_assoc, append-nil, arith}
+use Rattle.std.specs.Prelude.{◌==◌, if◌then◌else◌, Ok, Some, None, codes}
+use Rattle.std.proofs.lemmas.List.{length-append}
+use Rattle.theory.specs.Terms.{Term}
+use Rattle.theory.specs.Telescopes.{Telescope}
+use Rattle.theory.specs.Signatures.{Signature}
+use Rattle.core_sig.specs.Raw.{RawConstructor, RawFamily}
+use Rattle.core_text.specs.EntryText.{parameters_text}
+use Rattle.core_text.specs.LineReading.{whole_term, ended, definition_at, behind_item, collected, parameter_at, parameters_at, constructor_at, next_parameter, next_constructor, family_behind, family_at}
+use Rattle.core_text.specs.RawEntries.{RawFamilyOf, RawDefinition}
+use Rattle.core_text.specs.ReadBack.{Stops, MayDeclare}
+use Rattle.core_text.specs.Reading.{first, and_then, after, behind}
+use Rattle.core_text.specs.Spellings.{raw_constructors, raw_text, IsTermOver, AreTypesOver, AreConstructorsOver, IsFamilyOver}
+use Rattle.core_text.specs.TermReading.{term_after}
+use Rattle.core_text.specs.TermText.{term_text}
+use Rattle.core_text.proofs.Depths.{OrNested, is_read, or-same, or-then, or-other}
+use Rattle.core_text.proofs.LinesBack.{raw_of_parts, raw_family_of_parts, ended-back, Parameters, parameter-text, next-space, next-none, parameters-long, separator, no-more, separator-more, stops-name}
+use Rattle.core_text.proofs.NewNames.{new-read}
+use Rattle.core_text.proofs.NumbersBack.{behind-word}
+use Rattle.core_text.proofs.TermsBack.{stops-space, stops-close, stops-line}
+
+-- Whole terms over the symbols of S are read, as they are written over W, where the family `own` is being declared.
+abbrev pub ReadsWhole : Signature → Signature → List ℕ → Bool → Type 0
+ReadsWhole S W own flag =
+    (n : ℕ) (t : Term) (rest : List ℕ) → IsTermOver S flag n t → n < 2 ^ 32 → length (term_text W t) < 2 ^ 32 → Stops rest
+    → OrNested (whole_term S own n (term_text W t ++ rest)) t rest
+
+-- ---- definitions and parameters
+
+module _ (S W : Signature) (reads : ReadsWhole S W [] false) where
+  -- a term behind a word
+  behind-spelled : (word : List ℕ) (n : ℕ) (t : Term) (rest : List ℕ) → IsTermOver S false n t → n < 2 ^ 32 → length (term_text W t) < 2 ^ 32 → Stops rest → OrNested (term_after (whole_term S []) word n (word ++ (term_text W t ++ rest))) t rest
+  behind-spelled word n t rest is few short stops =
+      or-same (term_after (whole_term S []) word n (word ++ (term_text W t ++ rest))) (whole_term S [] n (term_text W t ++ rest)) (ap (λ m. after m (whole_term S [] n)) (behind-word word (term_text W t ++ rest)))
+      (reads n t rest is few short stops)
+
+  pub definition-spelled : (name : List ℕ) (type body : Term) (rest : List ℕ) → MayDeclare S [] [] name → IsTermOver S false 0 type → IsTermOver S false 0 body → length (term_text W type) < 2 ^ 32 → length (term_text W body) < 2 ^ 32 → OrNested (definition_at S [] (name ++ (codes " : " ++ (term_text W type ++ (codes " = " ++ (term_text W body ++ 10 ∷ rest)))))) (RawDefinition name type body) rest
+  definition-spelled name type body rest may ft fb short few =
+      or-then (λ name r1. and_then (term_after (whole_term S []) (codes " : ") 0 r1) (λ type r2. and_then (term_after (whole_term S []) (codes " = ") 0 r2) (λ body r3. ended (RawDefinition name type body) r3)))
+      (is_read (may.reads (codes " : " ++ (term_text W type ++ (codes " = " ++ (term_text W body ++ 10 ∷ rest)))) (stops-space _)))
+      (or-then (λ type r2. and_then (term_after (whole_term S []) (codes " = ") 0 r2) (λ body r3. ended (RawDefinition name type body) r3))
+      (behind-spelled (codes " : ") 0 type (codes " = " ++ (term_text W body ++ 10 ∷ rest)) ft (omega arith) short (stops-space _))
+      (or-then (λ body r3. ended (RawDefinition name type body) r3) (behind-spelled (codes " = ") 0 body (10 ∷ rest) fb (omega arith) few (stops-line rest))
+      (is_read (ended-back (RawDefinition name type body) rest))))
+
+  next-spelled : (n : ℕ) (a : Term) (rest : List ℕ) → IsTermOver S false n a → n < 2 ^ 32 → length (term_text W a) < 2 ^ 32 → OrNested (next_parameter S [] n (32 ∷ 40 ∷ (term_text W a ++ 41 ∷ rest))) (Some a) rest
+  next-spelled n a rest is few short =
+      or-same (next_parameter S [] n (32 ∷ 40 ∷ (term_text W a ++ 41 ∷ rest))) (parameter_at S [] n (term_text W a ++ 41 ∷ rest)) (next-space S n (40 ∷ (term_text W a ++ 41 ∷ rest)))
+      (or-then (λ a r. after (behind (codes ")") r) (λ end. Ok (Some a, end))) (reads n a (41 ∷ rest) is few short (stops-close rest))
+      (is_read (ap (λ m. after m (λ end. Ok (Some a, end))) (behind-word (codes ")") rest))))
+
+  parameters-size : (a : Term) (tele : Telescope) → length (parameters_text W (a ∷ tele)) ≡ length (term_text W a) + (length (parameters_text W tele) + 3)
+  parameters-size a tele =
+      omega (arith, ap length (parameter-text W a tele []), ap length (append-nil (parameters_text W (a ∷ tele))), length-append (term_text W a) (41 ∷ (parameters_text W tele ++ [])), length-append (parameters_text W tele) [])
+
+  parameters-spelled : (tele found : Telescope) (k : ℕ) (rest : List ℕ) → AreTypesOver S (length found) tele → length found + length (parameters_text W tele) < 2 ^ 32 → length tele < k → OrNested (collected (Parameters S) k found (parameters_text W tele ++ (codes " : " ++ rest))) (found ++ tele) rest
+  parameters-spelled tele found zero rest are short few = absurd (omega arith)
+  parameters-spelled [] found (suc k) rest are short few =
+      or-other (collected (Parameters S) (suc k) found (codes " : " ++ rest)) (sym (append-nil found))
+      (or-then (behind_item (collected (Parameters S) k) found) (is_read (next-none S (length found) rest)) (is_read refl))
+  parameters-spelled (a ∷ tele) found (suc k) rest are short few =
+      let size = parameters-size a tele in
+      let longer = length-append found (a ∷ []) in
+      let one : length found + 1 ≡ length (found ++ a ∷ []) = omega (arith, longer) in
+      or-same (collected (Parameters S) (suc k) found (parameters_text W (a ∷ tele) ++ (codes " : " ++ rest))) (collected (Parameters S) (suc k) found (32 ∷ 40 ∷ (term_text W a ++ 41 ∷ (parameters_text W tele ++ (codes " : " ++ rest)))))
+      (ap (collected (Parameters S) (suc k) found) (parameter-text W a tele (codes " : " ++ rest)))
+      (or-then (behind_item (collected (Parameters S) k) found)
+      (next-spelled (length found) a (parameters_text W tele ++ (codes " : " ++ rest)) are.0 (omega (arith, short)) (omega (arith, short, size)))
+      (or-other (collected (Parameters S) k (found ++ a ∷ []) (parameters_text W tele ++ (codes " : " ++ rest))) (append_assoc found (a ∷ []) tele)
+      (parameters-spelled tele (found ++ a ∷ []) k rest (subst (λ j. AreTypesOver S j tele) one are.1) (omega (arith, short, size, longer)) (omega (arith, few)))))
+
+-- ---- constructors
+
+constructor-text : (W : Signature) (before : List ℕ) (c : RawConstructor) (cs : List RawConstructor) (rest : List ℕ) → raw_constructors W before (c ∷ cs) ++ rest ≡ before ++ (c.name ++ (codes " : " ++ (term_text W c.type ++ (raw_constructors W (codes " ; ") cs ++ rest))))
+constructor-text W before c cs rest = simp append_assoc
+
+constructors-size : (W : Signature) (before : List ℕ) (c : RawConstructor) (cs : List RawConstructor) → length (raw_constructors W before (c ∷ cs)) ≡ length before + (length c.name + (3 + (length (term_text W c.type) + length (raw_constructors W (codes " ; ") cs))))
+constructors-size W before c cs =
+    let type = term_text W c.type in
+    let others = raw_constructors W (codes " ; ") cs in
+    omega (arith, length-append before (c.name ++ (codes " : " ++ (type ++ others))), length-append c.name (codes " : " ++ (type ++ others)), length-append type others)
+
+constructors-long : (W : Signature) (before : List ℕ) (cs : List RawConstructor) → length cs ≤ length (raw_constructors W before cs)
+constructors-long W before [] = omega arith
+constructors-long W before (c ∷ cs) = omega (arith, constructors-long W (codes " ; ") cs, constructors-size W before c cs)
+
+stops-next : (W : Signature) (cs : List RawConstructor) (rest : List ℕ) → Stops (raw_constructors W (codes " ; ") cs ++ (codes " }" ++ rest))
+stops-next W [] rest = stops-space (125 ∷ rest)
+stops-next W (c ∷ cs) rest = subst Stops (sym (constructor-text W (codes " ; ") c cs (codes " }" ++ rest))) (stops-space _)
+
+module _ (S W : Signature) (own : List ℕ) (p : ℕ) (few : p < 2 ^ 32) (reads : ReadsWhole S W own true) where
+  constructor-spelled : (found : List RawConstructor) (name : List ℕ) (type : Term) (rest : List ℕ) → MayDeclare S own found name → IsTermOver S true p type → length (term_text W type) < 2 ^ 32 → Stops rest → OrNested (constructor_at S own p found (name ++ (codes " : " ++ (term_text W type ++ rest)))) (Some (raw_of_parts name type)) rest
+  constructor-spelled found name type rest may is short stops =
+      or-then (λ name r. and_then (term_after (whole_term S own) (codes " : ") p r) (λ type end. Ok (Some (raw_of_parts name type), end)))
+      (is_read (may.reads (codes " : " ++ (term_text W type ++ rest)) (stops-space _)))
+      (or-then (λ type end. Ok (Some (raw_of_parts name type), end))
+      (or-same (term_after (whole_term S own) (codes " : ") p (codes " : " ++ (term_text W type ++ rest))) (whole_term S own p (term_text W type ++ rest)) (ap (λ m. after m (whole_term S own p)) (behind-word (codes " : ") (term_text W type ++ rest)))
+      (reads p type rest is few short stops))
+      (is_read refl))
+
+  -- the next constructor behind what separates it
+  next-constructor-spelled : (found : List RawConstructor) (name : List ℕ) (type : Term) (rest : List ℕ) → MayDeclare S own found name → IsTermOver S true p type → length (term_text W type) < 2 ^ 32 → Stops rest → OrNested (next_constructor S own p found (separator found ++ (name ++ (codes " : " ++ (term_text W type ++ rest))))) (Some (raw_of_parts name type)) rest
+  next-constructor-spelled [] name type rest may is short stops =
+      let text = name ++ (codes " : " ++ (term_text W type ++ rest)) in
+      or-same (next_constructor S own p [] (separator [] ++ text)) (constructor_at S own p [] text)
+      (ap (λ m. after m (λ r. if first r == 125 then Ok (None, drop 1 r) else constructor_at S own p [] r)) (behind-word (codes " ") text)
+      ∙ ap (λ b. if b then Ok (None, drop 1 text) else constructor_at S own p [] text) (may.no_brace (codes " : " ++ (term_text W type ++ rest))))
+      (constructor-spelled [] name type rest may is short stops)
+  next-constructor-spelled (c ∷ found) name type rest may is short stops =
+      let text = name ++ (codes " : " ++ (term_text W type ++ rest)) in
+      or-same (next_constructor S own p (c ∷ found) (separator (c ∷ found) ++ text)) (constructor_at S own p (c ∷ found) text)
+      (ap (λ m. after m (λ r. if first r == 125 then Ok (None, drop 1 r) else after (behind (codes "; ") r) (constructor_at S own p (c ∷ found)))) (behind-word (codes " ") (codes "; " ++ text))
+      ∙ ap (λ m. after m (constructor_at S own p (c ∷ found))) (behind-word (codes "; ") text))
+      (constructor-spelled (c ∷ found) name type rest may is short stops)
+
+  constructors-spelled : (cs found : List RawConstructor) (before : List ℕ) (k : ℕ) (rest : List ℕ) → before ≡ separator found → AreConstructorsOver S own p found cs → length (raw_constructors W before cs) < 2 ^ 32 → length cs < k → OrNested (collected (next_constructor S own p) k found (raw_constructors W before cs ++ (codes " }" ++ rest))) (found ++ cs) rest
+  constructors-spelled cs found before zero rest is are short less = absurd (omega arith)
+  constructors-spelled [] found before (suc k) rest is are short less =
+      or-other (collected (next_constructor S own p) (suc k) found (codes " }" ++ rest)) (sym (append-nil found))
+      (or-then (behind_item (collected (next_constructor S own p) k) found) (is_read (no-more S own p found rest)) (is_read refl))
+  constructors-spelled (c ∷ cs) found before (suc k) rest is are short less =
+      let size = constructors-size W before c cs in
+      let more = raw_constructors W (codes " ; ") cs ++ (codes " }" ++ rest) in
+      let text = c.name ++ (codes " : " ++ (term_text W c.type ++ more)) in
+      or-same (collected (next_constructor S own p) (suc k) found (raw_constructors W before (c ∷ cs) ++ (codes " }" ++ rest))) (collected (next_constructor S own p) (suc k) found (separator found ++ text))
+      (ap (collected (next_constructor S own p) (suc k) found) (constructor-text W before c cs (codes " }" ++ rest) ∙ ap (λ b. b ++ text) is))
+      (or-then (behind_item (collected (next_constructor S own p) k) found)
+      (next-constructor-spelled found c.name c.type more (new-read S own found c.name are.0) are.1 (omega (arith, short, size)) (stops-next W cs rest))
+      (or-other (collected (next_constructor S own p) k (found ++ c ∷ []) more) (append_assoc found (c ∷ []) cs)
+      (constructors-spelled cs (found ++ c ∷ []) (codes " ; ") k rest (separator-more found c) are.2 (omega (arith, short, size)) (omega (arith, less)))))
+
+-- ---- families
+
+pub family-line-text : (W : Signature) (raw : RawFamily) (rest : List ℕ) → raw_text W (RawFamilyOf raw) ++ rest ≡ codes "data " ++ (raw.name ++ (parameters_text W raw.parameters ++ (codes " : " ++ (term_text W raw.type ++ (codes " {" ++ (raw_constructors W (codes " ") raw.constructors ++ (codes " }" ++ 10 ∷ rest)))))))
+family-line-text W raw rest = simp append_assoc
+
+pub family-spelled : (S W : Signature) (raw : RawFamily) (rest : List ℕ) → ReadsWhole S W [] false → ReadsWhole S W raw.name true → IsFamilyOver S raw → length (raw_text W (RawFamilyOf raw)) < 2 ^ 32 → OrNested (family_at S [] (raw.name ++ (parameters_text W raw.parameters ++ (codes " : " ++ (term_text W raw.type ++ (codes " {" ++ (raw_constructors W (codes " ") raw.constructors ++ (codes " }" ++ 10 ∷ rest)))))))) (RawFamilyOf raw) rest
+family-spelled S W raw rest reads inside is short =
+    let tele = parameters_text W raw.parameters in
+    let type = term_text W raw.type in
+    let cs = raw_constructors W (codes " ") raw.constructors in
+    let ending = codes " }" ++ 10 ∷ rest in
+    let braces = cs ++ ending in
+    let typed = type ++ (codes " {" ++ braces) in
+    let whole = tele ++ (codes " : " ++ typed) in
+    let few = parameters-long W raw.parameters in
+    let less = constructors-long W (codes " ") raw.constructors in
+    let long = length-append tele (codes " : " ++ typed) in
+    let wide = length-append cs ending in
+    let end = codes " {" ++ (cs ++ codes " }\n") in
+    let third = length-append cs (codes " }\n") in
+    let second = length-append type end in
+    let next = length-append tele (codes " : " ++ (type ++ end)) in
+    let size = length-append raw.name (tele ++ (codes " : " ++ (type ++ end))) in
+    let sum : length tele + (length type + length cs) < 2 ^ 32 = omega (arith, short, size, next, second, third) in
+    or-then (λ name r1. and_then (parameters_at S [] r1) (λ parameters r2. and_then (whole_term S [] (length parameters) r2) (λ type r3. after (behind (codes " {") r3) (family_behind S name parameters type))))
+    (is_read ((new-read S [] [] raw.name is.name).reads whole (stops-name W raw.parameters typed)))
+    (or-then (λ parameters r2. and_then (whole_term S [] (length parameters) r2) (λ type r3. after (behind (codes " {") r3) (family_behind S raw.name parameters type)))
+    (parameters-spelled S W reads raw.parameters [] (length whole) typed is.parameters (omega (arith, sum)) (omega (arith, few, long)))
+    (or-then (λ type r3. after (behind (codes " {") r3) (family_behind S raw.name raw.parameters type))
+    (reads (length raw.parameters) raw.type (codes " {" ++ braces) is.type (omega (arith, few, sum)) (omega (arith, sum)) (stops-space _))
+    (or-same (after (behind (codes " {") (codes " {" ++ braces)) (family_behind S raw.name raw.parameters raw.type)) (family_behind S raw.name raw.parameters raw.type braces)
+    (ap (λ m. after m (family_behind S raw.name raw.parameters raw.type)) (behind-word (codes " {") braces))
+    (or-then (λ constructors end. ended (RawFamilyOf (raw_family_of_parts raw.name raw.parameters raw.type constructors)) end)
+    (constructors-spelled S W raw.name (length raw.parameters) (omega (arith, few, sum)) inside raw.constructors [] (codes " ") (length braces) (10 ∷ rest) refl is.constructors (omega (arith, sum)) (omega (arith, less, wide)))
+    (is_read (ended-back (RawFamilyOf raw) rest))))))

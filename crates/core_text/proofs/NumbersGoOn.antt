@@ -1,0 +1,79 @@
+-- Numbers that are read may stand there and, where a byte is wrong, the bytes before it begin the text of one that may.
+use Rattle.std.proofs.Common.{◌≡◌, ℕ, zero, suc, ◌-◌, ◌^◌, ◌<◌, ◌≤◌, Bool, true, false, List, [], ◌∷◌, ◌++◌, length, refl, append-nil, arith}
+use Rattle.std.specs.Prelude.{◌&&◌, nat_lt, if◌then◌else◌, Ok, Err, decimal}
+use Rattle.std.proofs.lemmas.Bool.{and_parts, false≢true}
+use Rattle.core_text.specs.Reading.{Reading, wrong, is_digit, with_digit, index_from, read_index, is_left, read_level}
+use Rattle.core_text.proofs.Completions.{Meets, IsFront, meets-if, meets-wrong, meets-ensures}
+use Rattle.core_text.proofs.LevelsGoOn.{level-meets}
+use Rattle.core_text.proofs.Outcomes.{Ensures, ensures-if}
+use Rattle.core_text.proofs.TermOutcomes.{lt-told}
+use Rattle.core_text.proofs.WordsRead.{index-read}
+
+-- nothing is said of what is read
+abbrev Any : ℕ → List ℕ → Type 0
+Any v r = Unit {0}
+
+both : {A : Type 0} (P Q : A → List ℕ → Type 0) (m : Reading A) → Ensures P m → Ensures Q m → Ensures (λ a r. P a r × Q a r) m
+both P Q (Ok p) h k = (h, k)
+both P Q (Err e) h k = tt
+
+-- ---- numbers below n
+
+-- a number below n is read, whose text is at the front
+abbrev pub ReadsIndex : ℕ → List ℕ → ℕ → List ℕ → Type 0
+ReadsIndex n rest v r = (rest ≡ decimal v ++ r) × (v < n)
+
+-- the text of a number below n
+abbrev pub IsIndexText : ℕ → List ℕ → Type 0
+IsIndexText n text = (v : ℕ) × (text ≡ decimal v) × (v < n)
+
+index-below : (n v : ℕ) (rest : List ℕ) → v < n → (index_from n v rest).0 < n
+index-below n v [] lt = lt
+index-below n v (b ∷ rest) lt = by (λ less. index-below n (with_digit v b) rest less) (is_digit b && (nat_lt 0 v && nat_lt (with_digit v b) n)) refl
+  where
+    by : (with_digit v b < n → (index_from n (with_digit v b) rest).0 < n) → (c : Bool) → (is_digit b && (nat_lt 0 v && nat_lt (with_digit v b) n)) ≡ c → (if c then index_from n (with_digit v b) rest else (v, b ∷ rest)).0 < n
+    by longer true e =
+        let parts = and_parts (is_digit b) (nat_lt 0 v && nat_lt (with_digit v b) n) e in
+        longer (lt-told (with_digit v b) n (and_parts (nat_lt 0 v) (nat_lt (with_digit v b) n) parts.1).1)
+    by longer false e = lt
+
+index-told : (n : ℕ) (rest : List ℕ) → Ensures (λ v r. v < n) (read_index n rest)
+index-told n [] = tt
+index-told n (b ∷ rest) =
+    ensures-if (λ v r. v < n) (is_digit b && nat_lt (b - 48) n) (Ok (index_from n (b - 48) rest)) (wrong (b ∷ rest))
+    (λ e. index-below n (b - 48) rest (lt-told (b - 48) n (and_parts (is_digit b) (nat_lt (b - 48) n) e).1)) (λ e. tt)
+
+zero-text : (n : ℕ) → 0 < n → IsFront (IsIndexText n) []
+zero-text n some = (decimal 0, (0, refl, some))
+
+index-place : (n : ℕ) (rest : List ℕ) → 0 < n → Meets Any (IsIndexText n) rest (read_index n rest)
+index-place n [] some = meets-wrong Any (IsIndexText n) [] [] [] refl (zero-text n some)
+index-place n (b ∷ rest) some =
+    meets-if Any (IsIndexText n) (b ∷ rest) (is_digit b && nat_lt (b - 48) n) (Ok (index_from n (b - 48) rest)) (wrong (b ∷ rest))
+    (λ e. tt) (λ e. meets-wrong Any (IsIndexText n) [] (b ∷ rest) (b ∷ rest) refl (zero-text n some))
+
+pub index-meets : (n : ℕ) (rest : List ℕ) → 0 < n → n ≤ 2 ^ 64 → Meets (ReadsIndex n rest) (IsIndexText n) rest (read_index n rest)
+index-meets n rest some le =
+    meets-ensures Any (ReadsIndex n rest) (IsIndexText n) rest (read_index n rest)
+    (both (λ v r. rest ≡ decimal v ++ r) (λ v r. v < n) (read_index n rest) (index-read n rest le) (index-told n rest)) (index-place n rest some)
+
+-- ---- levels
+
+-- a level that may stand there is read, whose text is at the front
+abbrev pub ReadsLevel : List Bool → List ℕ → ℕ → List ℕ → Type 0
+ReadsLevel levels rest v r = (rest ≡ decimal v ++ r) × (is_left levels v ≡ true)
+
+-- the text of a level that may stand there
+abbrev pub IsLevelText : List Bool → List ℕ → Type 0
+IsLevelText levels text = (v : ℕ) × (text ≡ decimal v) × (is_left levels v ≡ true)
+
+-- where the level v is left
+pub level-text-meets : (levels : List Bool) (v : ℕ) (rest : List ℕ) → is_left levels v ≡ true → Meets (ReadsLevel levels rest) (IsLevelText levels) rest (read_level levels rest)
+level-text-meets levels v rest left =
+    level-meets levels (IsLevelText levels) [] rest (λ w is. ([], (w, append-nil (decimal w), is))) rest refl (decimal v, (v, refl, left))
+
+-- a level that is left is one of the list
+pub left-below : (levels : List Bool) (v : ℕ) → is_left levels v ≡ true → v < length levels
+left-below [] v left = absurd (false≢true left)
+left-below (b ∷ levels) zero left = omega arith
+left-below (b ∷ levels) (suc v) left = let lt = left-below levels v left in omega arith
