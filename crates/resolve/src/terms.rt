@@ -51,22 +51,8 @@ pub(crate) fn resolve(
     ensures { Gives low_of result (spec.resolve (known_of known.now) (surf_of t.now) (names_of scope.now)) }
 {
     match t {
-        Surf::Lam(binders, body) => telescope(
-            alloc,
-            known,
-            Form::Lam,
-            binders.as_slice(),
-            body,
-            scope,
-        ),
-        Surf::Pi(binders, body) => telescope(
-            alloc,
-            known,
-            Form::Pi,
-            binders.as_slice(),
-            body,
-            scope,
-        ),
+        Surf::Lam(binders, body) => telescope(alloc, known, Form::Lam, binders, body, scope),
+        Surf::Pi(binders, body) => telescope(alloc, known, Form::Pi, binders, body, scope),
         Surf::Arrow(a, b) => {
             let domain = resolve(alloc, known, a, scope)?;
             let codomain = resolve(alloc, known, b, &Scope::Under(None, &*scope))?;
@@ -111,7 +97,7 @@ fn telescope(
     alloc: Global,
     known: &Symbols,
     form: Form,
-    binders: &[Binder],
+    binders: &Items<Binder>,
     body: &Surf,
     scope: &Scope,
 ) -> Result<Low, ResolveStop>
@@ -119,7 +105,7 @@ fn telescope(
 {
     let mut under = Binders::new(alloc);
     let mut types = Vec::new(alloc);
-    for binder in binders {
+    for binder in binders.as_slice() {
         group(alloc, known, form, binder, scope, &mut under, &mut types)?;
     }
     let inner = resolve(alloc, known, body, &Scope::Behind(&under, &*scope))?;

@@ -48,35 +48,42 @@ group-returns t c =
 
 pub telescope-group-requires : goal.telescope-group-requires
 telescope-group-requires t c =
-    let h = size_binder_at c.args.binders.now c.loop-binder.binder-index c.binder-item.result c.loop-binder-test.true c.binder-item.is in
+    let lt : c.loop-binder.binder-index < length c.args.binders.now = rw (← c.as_slice-binder-items.ensures) c.loop-binder-test.true in
+    let is : c.binder-item.result ≡ get_or c.args.binders.now c.loop-binder.binder-index c.binder-item.result = rw (← c.as_slice-binder-items.ensures) c.binder-item.is in
+    let h = size_binder_at c.args.binders.now c.loop-binder.binder-index c.binder-item.result lt is in
     let e : size_binder (binder_of c.binder-item.result) ≡ 1 + length c.binder-item.result.names + size (surf_of c.binder-item.result.ty) = ap size_binder (binder_parts c.binder-item.result) in
     (omega arith, tt)
 
 pub telescope-returns-in_err-group : goal.telescope-returns-in_err-group
 telescope-returns-in_err-group t c =
+    let lt : c.loop-binder.binder-index < length c.args.binders.now = rw (← c.as_slice-binder-items.ensures) c.loop-binder-test.true in
+    let is : c.binder-item.result ≡ get_or c.args.binders.now c.loop-binder.binder-index c.binder-item.result = rw (← c.as_slice-binder-items.ensures) c.binder-item.is in
     let inner = resolve (known_of c.args.known.now) (surf_of c.args.body.now) in
     let under = c.loop-binder.under ++ names_of c.args.scope.now in
     let q = err_from_is_err_and c.from_residual.result c.from_residual.ensures.1 in
     rw (q.1, q.2)
     (λ other. sym (c.loop-binder.invariant
-    ∙ (ap (closed (former c.args.form) (map low_of c.loop-binder.types.items)) (telescope_behind (known_of c.args.known.now) (former c.args.form) c.args.binders.now c.loop-binder.binder-index c.binder-item.result inner under c.loop-binder-test.true c.binder-item.is)
+    ∙ (ap (closed (former c.args.form) (map low_of c.loop-binder.types.items)) (telescope_behind (known_of c.args.known.now) (former c.args.form) c.args.binders.now c.loop-binder.binder-index c.binder-item.result inner under lt is)
     ∙ c.in_err-group.ensures other (telescope (known_of c.args.known.now) (former c.args.form) (surf.binders (map binder_of (drop (c.loop-binder.binder-index + 1) c.args.binders.now))) inner))))
 
 pub telescope-loop-binder-preserved : goal.telescope-loop-binder-preserved
 telescope-loop-binder-preserved t c =
+    let lt : c.loop-binder.binder-index < length c.args.binders.now = rw (← c.as_slice-binder-items.ensures) c.loop-binder-test.true in
+    let is : c.binder-item.result ≡ get_or c.args.binders.now c.loop-binder.binder-index c.binder-item.result = rw (← c.as_slice-binder-items.ensures) c.binder-item.is in
     let inner = resolve (known_of c.args.known.now) (surf_of c.args.body.now) in
     let under = c.loop-binder.under ++ names_of c.args.scope.now in
     c.loop-binder.invariant
-    ∙ (ap (closed (former c.args.form) (map low_of c.loop-binder.types.items)) (telescope_behind (known_of c.args.known.now) (former c.args.form) c.args.binders.now c.loop-binder.binder-index c.binder-item.result inner under c.loop-binder-test.true c.binder-item.is)
+    ∙ (ap (closed (former c.args.form) (map low_of c.loop-binder.types.items)) (telescope_behind (known_of c.args.known.now) (former c.args.form) c.args.binders.now c.loop-binder.binder-index c.binder-item.result inner under lt is)
     ∙ c.in_ok-group.ensures (telescope (known_of c.args.known.now) (former c.args.form) (surf.binders (map binder_of (drop (c.loop-binder.binder-index + 1) c.args.binders.now))) inner))
 
 pub telescope-returns-in_err-inner : goal.telescope-returns-in_err-inner
 telescope-returns-in_err-inner t c =
+    let end : length c.args.binders.now ≤ c.loop-binder.binder-index = rw (← c.as_slice-binder-items.ensures) c.loop-binder-test.false in
     let inner = resolve (known_of c.args.known.now) (surf_of c.args.body.now) in
     let under = c.loop-binder.under ++ names_of c.args.scope.now in
     let q = err_from_is_err_and c.from_residual-in_err-inner.result c.from_residual-in_err-inner.ensures.1 in
     rw (q.1, q.2)
     (λ other. sym (c.loop-binder.invariant
     ∙ (ap (closed (former c.args.form) (map low_of c.loop-binder.types.items))
-    (telescope_done (known_of c.args.known.now) (former c.args.form) c.args.binders.now c.loop-binder.binder-index inner under c.loop-binder-test.false ∙ sym (c.in_err-inner.ensures other))
+    (telescope_done (known_of c.args.known.now) (former c.args.form) c.args.binders.now c.loop-binder.binder-index inner under end ∙ sym (c.in_err-inner.ensures other))
     ∙ closed_stop (former c.args.form) (map low_of c.loop-binder.types.items) _)))
