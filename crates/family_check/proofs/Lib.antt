@@ -1,5 +1,4 @@
 pub mod Answered
-pub mod BareEntries
 pub mod Completing
 pub mod ConstructorLoops
 pub mod Declaring

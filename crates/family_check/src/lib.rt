@@ -3,7 +3,6 @@
 
 mod asking;
 mod axioms;
-mod bare;
 mod constructors;
 mod definitions;
 mod eliminators;
@@ -18,7 +17,6 @@ mod stop;
 mod tests;
 
 pub use axioms::axiom_k;
-pub use bare::push_bare;
 pub use definitions::define;
 pub use eliminators::instance;
 pub use families::declare;
