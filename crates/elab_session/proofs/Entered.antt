@@ -1,21 +1,21 @@
 -- What the entry of a core file keeps.
-use Rattle.std.proofs.Common.{◌≡◌, ◌≢◌, ℕ, Option, Some, None, List, [], map, length, slice_get, Result, Ok, Err, IfOk, OnErr, refl, sym, ap, ap₂, ◌∙◌, subst as transport}
+use Rattle.std.proofs.Common.{◌≡◌, ℕ, Option, Some, None, length, slice_get, Result, Ok, Err, IfOk, OnErr, refl, sym, subst as transport}
 use Rattle.theory.specs.Families.{Family}
-use Rattle.theory.specs.Signatures.{Entry, FamilyOf, EliminatorAt, AxiomKAt, Definition, Signature, IsEntryAt, IsPrefix}
+use Rattle.theory.specs.Signatures.{Entry, FamilyOf, EliminatorAt, AxiomKAt, Definition, Signature, IsPrefix}
 use Rattle.theory.specs.WellFormed.{IsWellFormed}
-use Rattle.family_check.specs.Entering.{Entered, axiom_k_of, declare_of, define_of, instance_of}
-use Rattle.family_check.specs.Outcomes.{FamilyStop, Outcome}
+use Rattle.family_check.specs.Entering.{Entered, instance_of}
+use Rattle.family_check.specs.Outcomes.{FamilyStop}
 use Rattle.family_check.specs.Scopes.{IsSettled}
 use Rattle.family_check.proofs.Extending.{axiom_k-extends, declare-extends, define-extends, instance-extends}
 use Rattle.family_check.proofs.Outcomes.{Ends}
 use Rattle.family_check.proofs.PreludeEntries.{equality-there}
 use Rattle.family_check.proofs.ScopedEntering.{axiom_k-settles, declare-settles, define-settles, instance-settles}
 use Rattle.family_check.proofs.Soundness.{axiom_k-keeps, declare-keeps, define-keeps, instance-keeps}
-use Rattle.elab_session.specs.Entering.{CanEnter, Enters, answered, checked_entry, eliminator_in, enter_of, family_shown}
+use Rattle.elab_session.specs.Entering.{CanEnter, Enters, answered, checked_entry, eliminator_in}
+use Rattle.core_text.specs.RawEntries.{family_shown}
 use Rattle.elab_session.specs.Laws.{EnterExtends, EnterKeepsReady}
 use Rattle.elab_session.specs.Sessions.{IsReady}
 use Rattle.elab_session.specs.declared.refusal.Refusal.{Refusal}
-use Rattle.elab_session.specs.declared.refusal.Refusal.TheVariants.{Memory}
 use Rattle.elab_session.proofs.Resolved.{prelude-stays, together}
 
 answered-has : (P : Entered → Type 0) (refusal : FamilyStop → Refusal) (r : Result Entered FamilyStop) → IfOk r P → IfOk (answered refusal r) P

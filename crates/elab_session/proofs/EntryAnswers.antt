@@ -1,5 +1,5 @@
 -- What the answer of entering says, from what the calls inside it answered.
-use Rattle.std.proofs.Common.{◌≡◌, ◌≢◌, ℕ, List, [], map, length, Result, Ok, Err, refl, sym, ap, ap₂, ◌∙◌, subst as transport}
+use Rattle.std.proofs.Common.{◌≡◌, ◌≢◌, ℕ, List, [], Result, Ok, Err, refl, ap, ap₂, ◌∙◌, subst as transport}
 use Rattle.theory.specs.Signatures.{Signature}
 use Rattle.core_terms.specs.declared.stop.Stop.TheVariants as memory
 use Rattle.core_sig.specs.Raw.{RawFamily}

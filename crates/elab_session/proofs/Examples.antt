@@ -1,6 +1,6 @@
 -- Small declarations, by computation: what they add, and what refuses them.
 use native.Mathlib.Decide.{ℕ_discrete}
-use Rattle.std.proofs.Common.{◌≡◌, ℕ, false, Ok, Err, Some, None, List, [], ◌∷◌, codes, refl}
+use Rattle.std.proofs.Common.{◌≡◌, ℕ, false, Ok, Err, List, [], ◌∷◌, codes, refl}
 use Rattle.std.specs.Fmt.{digits}
 use Rattle.theory.specs.Terms as tree
 use Rattle.theory.specs.Prelude.{empty_family}

@@ -1,8 +1,8 @@
 -- What holds of what is accepted, from what holds of its parts.
-use Rattle.std.proofs.Common.{◌≡◌, ℕ, Bool, true, false, if◌then◌else◌, List, [], length, Result, Ok, Err, IfOk, refl, sym, subst as transport, arith}
+use Rattle.std.proofs.Common.{◌≡◌, ℕ, Bool, true, false, if◌then◌else◌, List, [], length, Result, Ok, Err, IfOk, refl, sym, subst as transport}
 use Rattle.theory.specs.Prelude.{prelude}
 use Rattle.theory.specs.Signatures.{Entry, Signature, IsPrefix}
-use Rattle.theory.specs.WellFormed.{IsEntry, IsWellFormed, first_entries, pushed}
+use Rattle.theory.specs.WellFormed.{IsEntry, IsWellFormed, pushed}
 use Rattle.theory.proofs.Lists.{slice_get-last}
 use Rattle.theory.proofs.Pushing.{prefix_transitive}
 use Rattle.surface_syntax.specs.declared.tree.Word.{Word}

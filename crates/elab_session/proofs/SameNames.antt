@@ -1,6 +1,6 @@
 -- Over signatures that give every number the same name, texts are the same.
 use Rattle.std.proofs.Common.{◌≡◌, ℕ, zero, suc, Bool, true, false, List, [], ◌∷◌, ◌++◌, map, length, slice_get, refl, ap, ap₂, sym, ◌∙◌}
-use Rattle.std.specs.Prelude.{cond, codes}
+use Rattle.std.specs.Prelude.{codes}
 use Rattle.theory.specs.Terms.{Term}
 use Rattle.theory.specs.Terms.Term.{Var, Sort, Pi, Lam, App, Let, Const, Fam, Con, Elim, AxiomK}
 use Rattle.theory.specs.Families.{Family}
@@ -11,9 +11,9 @@ use Rattle.core_terms.specs.Verdicts.Reason.{Mismatch, NotAProduct, NotASort, No
 use Rattle.core_sig.specs.Meanings.{constructor_of, family_of}
 use Rattle.core_sig.specs.declared.family.Family as code
 use Rattle.core_text.specs.SymbolNames.{constructor_name_at, constructor_name_in, eliminator_name, name_at, own_constructor_name, own_name}
-use Rattle.core_text.specs.TermText.{enclosed, spelled, term_text}
+use Rattle.core_text.specs.TermText.{enclosed, spelled}
 use Rattle.elab_session.specs.Refusals.{ill_typed}
-use Rattle.elab_session.specs.Texts.{context_text, reason_text, types_text}
+use Rattle.elab_session.specs.Texts.{reason_text, types_text}
 use Rattle.elab_session.specs.declared.refusal.PartName.{PartName}
 use Rattle.elab_session.specs.declared.refusal.Refusal.TheVariants.{IllTyped}
 

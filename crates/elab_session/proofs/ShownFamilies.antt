@@ -15,8 +15,8 @@ use Rattle.core_sig.specs.declared.family.Family.{Family}
 use Rattle.core_sig.proofs.Arguments.{index_types-of}
 use Rattle.core_text.specs.EntryText.{constructor_type_shown}
 use Rattle.core_text.proofs.ConstructorTexts.{shown-is}
-use Rattle.elab_session.specs.Entering.{family_shown}
-use Rattle.elab_session.specs.Shown.{shown, shown_constructor}
+use Rattle.core_text.specs.RawEntries.{family_shown}
+use Rattle.elab_session.specs.Shown.{shown_constructor}
 
 abbrev by-line : ℕ → Family → pure.Constructor → RawConstructor
 by-line n f c = record { name = c.name; type = constructor_type_shown n (family_of f) c }

@@ -1,12 +1,12 @@
 -- Families that are resolved: their names are new, they are scoped as the checker asks for it, and they enter as written.
-use Rattle.std.proofs.Common.{◌≡◌, ℕ, Bool, true, false, ◌||◌, if◌then◌else◌, Option, Some, None, List, [], ◌∷◌, length, Result, Ok, Err, IfOk, refl, sym, ap, subst as transport, arith}
+use Rattle.std.proofs.Common.{◌≡◌, ℕ, false, ◌||◌, if◌then◌else◌, Option, Some, None, List, [], ◌∷◌, length, Result, Ok, Err, IfOk, refl, ap, subst as transport, arith}
 use Rattle.std.specs.Option.{is_some}
 use Rattle.std.proofs.lemmas.List.Elements.{All-weaker}
 use Rattle.theory.specs.Terms.Term.{Fam}
 use Rattle.theory.specs.Families.{Family}
 use Rattle.theory.specs.Signatures.{FamilyOf, Signature, IsPrefix}
 use Rattle.theory.specs.SignatureScopes.{IsScoped}
-use Rattle.theory.specs.WellFormed.{IsEntry, IsFamily, IsWellFormed, pushed}
+use Rattle.theory.specs.WellFormed.{IsEntry, IsFamily, IsWellFormed}
 use Rattle.theory.specs.WellFormed.IsEntry.{family as family_entry}
 use Rattle.theory.proofs.Lists.{slice_get-last}
 use Rattle.theory.proofs.Pushing.{push_is_longer}

@@ -1,6 +1,6 @@
 -- One declaration over a signature, phase by phase: its names, then what the checker says of each written part, with one
 -- count of units that starts at the fuel. The first refusal in this order is the answer.
-use Rattle.std.specs.Prelude.{◌≡◌, ◌≢◌, ℕ, List, [], ◌∷◌, map, length, Result, Ok, Err}
+use Rattle.std.specs.Prelude.{◌≡◌, ◌≢◌, ℕ, List, [], ◌∷◌, length, Result, Ok, Err}
 use Rattle.theory.specs.Terms.{Term}
 use Rattle.theory.specs.Signatures.{Signature}
 use Rattle.core_sig.specs.Raw.{RawFamily}
@@ -12,7 +12,7 @@ use Rattle.resolve.specs.Families.{declared, family, names_of}
 use Rattle.resolve.specs.Resolving.{resolve_term}
 use Rattle.family_check.specs.Entering.{Entered}
 use Rattle.family_check.specs.Entering as entering
-use Rattle.family_check.specs.Outcomes.{FamilyStop, Outcome}
+use Rattle.family_check.specs.Outcomes.{FamilyStop}
 use Rattle.family_check.specs.Scopes.{site_signature}
 use Rattle.elab_session.specs.Refusals.{unresolved, unentered}
 use Rattle.elab_session.specs.declared.accepted.Accepted.{Accepted}

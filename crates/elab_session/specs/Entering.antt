@@ -1,12 +1,10 @@
 -- One entry of a core file over a signature: what the checker says of it, with one count of units that starts at the fuel.
 use Rattle.std.specs.Prelude.{◌≡◌, ◌≢◌, ℕ, IsTrue, List, [], map, length, Option, Some, None, Result, Ok, Err, slice_get}
-use Rattle.theory.specs.Families.{Family}
 use Rattle.theory.specs.Signatures.{Entry, FamilyOf, EliminatorAt, AxiomKAt, Definition, Signature}
 use Rattle.theory.specs.SignatureScopes.{IsFamilyNumber, IsScoped}
 use Rattle.core_terms.specs.declared.stop.Stop.TheVariants as stop
 use Rattle.core_sig.specs.Names.{find}
-use Rattle.core_sig.specs.Raw.{RawFamily}
-use Rattle.core_text.specs.EntryText.{constructor_type_shown, type_shown}
+use Rattle.core_text.specs.RawEntries.{family_shown}
 use Rattle.surface_syntax.specs.declared.tree.Word.{Word}
 use Rattle.family_check.specs.Entering.{Entered, axiom_k_of, declare_of, define_of, entered_at, instance_of}
 use Rattle.family_check.specs.Outcomes.{FamilyStop, Outcome, Site, Stopped, ended}
@@ -14,15 +12,6 @@ use Rattle.family_check.specs.Scopes.{IsScopedRaw, site_signature}
 use Rattle.elab_session.specs.Refusals.{unentered}
 use Rattle.elab_session.specs.declared.refusal.Refusal.{Refusal}
 use Rattle.elab_session.specs.declared.refusal.Refusal.TheVariants.{Memory}
-
--- family number n as its line shows it: the levels that it keeps are not looked at
-abbrev pub family_shown : ℕ → Family → RawFamily
-family_shown n f = record {
-  name = f.name;
-  parameters = f.parameters;
-  type = type_shown f;
-  constructors = map (λ c. record { name = c.name; type = constructor_type_shown n f c }) f.constructors;
-}
 
 -- the eliminator into Type m of what stands at number n, which is a family
 abbrev pub eliminator_in : Signature → ℕ → ℕ → Option Entry → ℕ → Outcome Entered

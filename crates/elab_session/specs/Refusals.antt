@@ -1,5 +1,5 @@
 -- What refuses a declaration: refusals of resolution and of entering, with the names and the texts that they show.
-use Rattle.std.specs.Prelude.{ℕ, List, [], Option, Some, None, slice_get, unwrap_or}
+use Rattle.std.specs.Prelude.{ℕ, List, [], Some, None, slice_get, unwrap_or}
 use Rattle.theory.specs.Signatures.{Signature}
 use Rattle.core_terms.specs.Verdicts.{Denial}
 use Rattle.core_terms.specs.declared.stop.Stop.{Stop}

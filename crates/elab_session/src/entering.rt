@@ -7,6 +7,7 @@ ghost use Rattle.core_sig.specs.Kinds.{HasEntryKinds, HasKinds};
 ghost use Rattle.core_sig.specs.Meanings.{entry_of, family_of};
 ghost use Rattle.core_sig.specs.Names.{find};
 ghost use Rattle.family_check.specs.Scopes.{IsScopedRaw};
+ghost use Rattle.core_text.specs.RawEntries as raw_entries;
 ghost use Rattle.elab_session.specs.Entering as spec;
 ghost use Rattle.elab_session.specs.Sessions.{IsReady};
 
@@ -112,7 +113,7 @@ fn enter_axiom_k(
 
 fn enter_family(alloc: Global, sig: &mut Signature, fuel: u64, f: &Family) -> Result<u32, Refusal>
     requires ready { IsReady sig.old }
-    requires raw { IsScopedRaw sig.old (spec.family_shown (length sig.old.entries) (family_of f.now)) }
+    requires raw { IsScopedRaw sig.old (raw_entries.family_shown (length sig.old.entries) (family_of f.now)) }
     requires new { find sig.old f.now.name ≡ None }
     requires kinds { HasKinds (length sig.old.entries) f.now }
     ensures answer { spec.Enters sig.new result (spec.enter_of sig.old fuel (pure.FamilyOf (family_of f.now))) }

@@ -7,7 +7,7 @@ ghost use Rattle.core_terms.specs.declared.stop.Stop.TheVariants.{Memory};
 ghost use Rattle.core_sig.specs.Kinds.{HasKinds};
 ghost use Rattle.core_sig.specs.Meanings.{family_of};
 ghost use Rattle.core_sig.specs.Raw.{raw_constructor_of, raw_of};
-ghost use Rattle.elab_session.specs.Entering.{family_shown};
+ghost use Rattle.core_text.specs.RawEntries.{family_shown};
 ghost use Rattle.elab_session.specs.Shown.{shown, shown_constructor};
 
 use crate::refusing::copy_name;

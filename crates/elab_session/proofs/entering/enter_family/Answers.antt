@@ -1,7 +1,8 @@
-use Rattle.std.proofs.Common.{map, sym, ◌∙◌, ap}
+use Rattle.std.proofs.Common.{map, ◌∙◌, ap}
 use Rattle.core_sig.proofs.Telescoping.{ok_is}
 use Rattle.core_sig.specs.Meanings.{family_of}
-use Rattle.elab_session.specs.Entering.{family_shown, word_of}
+use Rattle.elab_session.specs.Entering.{word_of}
+use Rattle.core_text.specs.RawEntries.{family_shown}
 use Rattle.theory.specs.Signatures.Entry.{FamilyOf}
 use Rattle.elab_session.proofs.EntryAnswers.{family-entered}
 use Rattle.elab_session.proofs.ShownFamilies.{names-shown}

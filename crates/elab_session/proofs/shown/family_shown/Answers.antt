@@ -1,4 +1,4 @@
-use Rattle.std.proofs.Common.{Result, Ok, map, length, ap, ap₂, ◌∙◌}
+use Rattle.std.proofs.Common.{Result, Ok, map, length, ap, ◌∙◌}
 use Rattle.theory.specs.Terms.Term.{Sort}
 use Rattle.theory.specs.Telescopes.{products}
 use Rattle.core_terms.specs.Meanings.{tree_of, tele_of}
