@@ -22,7 +22,8 @@ pub record Begun (P : List ℕ → Type 0) (rest : List ℕ) (left : ℕ) : Type
 abbrev pub Meets : {A : Type 0} → (A → List ℕ → Type 0) → (List ℕ → Type 0) → List ℕ → Reading A → Type 0
 Meets P Q rest (Ok p) = P p.0 p.1
 Meets P Q rest (Err (Wrong left)) = Begun Q rest left
-Meets P Q rest (Err e) = Unit {0}
+Meets P Q rest (Err (Nested left)) = Begun Q rest left
+Meets P Q rest (Err Memory) = Unit {0}
 
 -- ---- fronts of texts
 
@@ -99,6 +100,10 @@ begun-word V text word rest whole at f =
 pub meets-wrong : {A : Type 0} (Q : A → List ℕ → Type 0) (V : List ℕ → Type 0) (text rest whole : List ℕ) → whole ≡ text ++ rest → IsFront V text → Meets Q V whole (wrong rest)
 meets-wrong Q V text rest whole at f = begun-at V text rest whole (length rest) at refl f
 
+-- where what stands there would be too deep
+pub meets-deep : {A : Type 0} (Q : A → List ℕ → Type 0) (V : List ℕ → Type 0) (text rest whole : List ℕ) → whole ≡ text ++ rest → IsFront V text → Meets Q V whole (Err (Nested (length rest)))
+meets-deep Q V text rest whole at f = begun-at V text rest whole (length rest) at refl f
+
 pub meets-if : {A : Type 0} (Q : A → List ℕ → Type 0) (V : List ℕ → Type 0) (whole : List ℕ) (b : Bool) (x y : Reading A) → (b ≡ true → Meets Q V whole x) → (b ≡ false → Meets Q V whole y) → Meets Q V whole (if b then x else y)
 meets-if Q V whole true x y first second = first refl
 meets-if Q V whole false x y first second = second refl
@@ -108,14 +113,14 @@ pub meets-ensures : {A : Type 0} (P Q : A → List ℕ → Type 0) (V : List ℕ
 meets-ensures P Q V whole (Ok p) so h = so
 meets-ensures P Q V whole (Err (Wrong left)) so h = h
 meets-ensures P Q V whole (Err Memory) so h = tt
-meets-ensures P Q V whole (Err (Nested left)) so h = tt
+meets-ensures P Q V whole (Err (Nested left)) so h = h
 
 -- the same reading, with a text before it
 pub meets-behind : {A : Type 0} (P Q : A → List ℕ → Type 0) (U V : List ℕ → Type 0) (text rest whole : List ℕ) (m : Reading A) → whole ≡ text ++ rest → ((x : List ℕ) → U x → IsFront V (text ++ x)) → ((a : A) (r : List ℕ) → P a r → Q a r) → Meets P U rest m → Meets Q V whole m
 meets-behind P Q U V text rest whole (Ok p) at over k h = k p.0 p.1 h
 meets-behind P Q U V text rest whole (Err (Wrong left)) at over k h = begun-behind U V text rest whole left at over h
 meets-behind P Q U V text rest whole (Err Memory) at over k h = tt
-meets-behind P Q U V text rest whole (Err (Nested left)) at over k h = tt
+meets-behind P Q U V text rest whole (Err (Nested left)) at over k h = begun-behind U V text rest whole left at over h
 
 -- A part is read behind a text, and then more. Where the part is wrong, its text is one with the property U, and behind `text`
 -- that is the front of one with the property V.
@@ -123,14 +128,14 @@ pub meets-then : {A B : Type 0} (P : A → List ℕ → Type 0) (Q : B → List 
 meets-then P Q U V text rest whole (Ok p) next at over h k = k p.0 p.1 h
 meets-then P Q U V text rest whole (Err (Wrong left)) next at over h k = begun-behind U V text rest whole left at over h
 meets-then P Q U V text rest whole (Err Memory) next at over h k = tt
-meets-then P Q U V text rest whole (Err (Nested left)) next at over h k = tt
+meets-then P Q U V text rest whole (Err (Nested left)) next at over h k = begun-behind U V text rest whole left at over h
 
 -- the same where what is read first and what follows are parts of one whole
 pub meets-on : {A B : Type 0} (P : A → List ℕ → Type 0) (Q : B → List ℕ → Type 0) (V : List ℕ → Type 0) (whole : List ℕ) (m : Reading A) (next : A → List ℕ → Reading B) → Meets P V whole m → ((a : A) (r : List ℕ) → P a r → Meets Q V whole (next a r)) → Meets Q V whole (and_then m next)
 meets-on P Q V whole (Ok p) next h k = k p.0 p.1 h
 meets-on P Q V whole (Err (Wrong left)) next h k = h
 meets-on P Q V whole (Err Memory) next h k = tt
-meets-on P Q V whole (Err (Nested left)) next h k = tt
+meets-on P Q V whole (Err (Nested left)) next h k = h
 
 -- A word stands behind a text, and then more is read.
 pub meets-word : {B : Type 0} (Q : B → List ℕ → Type 0) (V : List ℕ → Type 0) (text word rest whole : List ℕ) (next : List ℕ → Reading B) → whole ≡ text ++ rest → IsFront V (text ++ word) → ((r : List ℕ) → rest ≡ word ++ r → Meets Q V whole (next r)) → Meets Q V whole (after (behind word rest) next)

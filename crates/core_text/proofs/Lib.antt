@@ -32,6 +32,7 @@ pub mod NumbersAgree
 pub mod NumbersBack
 pub mod NumbersGoOn
 pub mod Outcomes
+mod PlaceExamples
 pub mod PlacesBefore
 pub mod PlacesFirst
 pub mod PlacesPassed

@@ -1,6 +1,6 @@
--- A core file goes on with the bytes before a place.
+-- A core file goes on with the bytes before the place of a refusal.
 use Rattle.std.proofs.Common.{◌≡◌, ℕ, ◌+◌, ◌-◌, ◌<◌, ◌≤◌, ◌^◌, Bool, true, false, List, [], ◌∷◌, ◌++◌, length, drop, take, refl, sym, ap, ap₂, ◌∙◌, subst, append_assoc, append-nil, arith, inl, inr}
-use Rattle.std.specs.Prelude.{◌⊎◌, ◌==◌, ◌&&◌, not, if◌then◌else◌, Result, Ok, Err, Some, codes}
+use Rattle.std.specs.Prelude.{◌⊎◌, ◌==◌, ◌&&◌, not, if◌then◌else◌, Option, None, Result, Ok, Err, Some, codes}
 use Rattle.std.proofs.lemmas.Bool.{and_parts}
 use Rattle.std.proofs.lemmas.Bool.Decides.{nat_tests}
 use Rattle.std.proofs.lemmas.List.{length-append, length-drop, length-take-le, take-append-drop}
@@ -11,14 +11,14 @@ use Rattle.core_text.specs.EntryReading.{behind_notes, shows_entry, shown_by, en
 use Rattle.core_text.specs.LineLaws.{AreNotes, no_note, note}
 use Rattle.core_text.specs.LineReading.{definition_at, eliminator_at, axiom_k_line, family_at, line_at}
 use Rattle.core_text.specs.Lines.{is_in_line}
-use Rattle.core_text.specs.Places.{GoesOn, NoneLeft, of_family, of_eliminators, of_axiom_k}
+use Rattle.core_text.specs.Places.{IsReached, GoesOn, NoneLeft, of_family, of_eliminators, of_axiom_k}
 use Rattle.core_text.specs.RawEntries.{RawEntry, RawFamilyOf, RawDefinition}
 use Rattle.core_text.specs.Reading.{Reading, wrong, first, after, behind, begins}
 use Rattle.core_text.specs.Spellings.{raw_line, IsEntryOver}
 use Rattle.core_text.specs.declared.halt.Halt.{Halt}
 use Rattle.core_text.specs.declared.halt.Halt.TheVariants.{Memory, Nested as TooDeep, Wrong}
 use Rattle.core_text.specs.declared.stop.CoreTextStop.{CoreTextStop}
-use Rattle.core_text.specs.declared.stop.CoreTextStop.TheVariants.{NotCoreText}
+use Rattle.core_text.specs.declared.stop.CoreTextStop.TheVariants.{Memory as Exhausted, Nested, NotCoreText}
 use Rattle.core_text.proofs.Completions.{Meets, IsFront, meets-if, meets-word}
 use Rattle.core_text.proofs.FamiliesGoOn.{family-meets}
 use Rattle.core_text.proofs.FreshNames.{fresh, letters-for, fresh-name}
@@ -135,17 +135,37 @@ goes-behind S bytes more are =
     let some = some-line S in
     record { more = more ++ raw_line S some.0; notes = bytes ++ more; entry = some.0; are_notes = are; over = some.1; line = sym (append_assoc bytes more (raw_line S some.0)) }
 
-pub record IsBefore (S : Signature) (text : List ℕ) (from p : ℕ) : Type 0 where
-  pub behind : from ≤ p
-  pub within : p ≤ length text
-  pub before : GoesOn S (drop from (take p text)) ⊎ NoneLeft S (drop from (take p text))
+-- refused at p, as no core text or as too deep
+abbrev IsRefused : ℕ → Result (Option (RawEntry × ℕ)) CoreTextStop → Type 0
+IsRefused p r = (r ≡ Err (NotCoreText p)) ⊎ (r ≡ Err (Nested p))
 
-place-is : {p q : ℕ} {A : Type 0} → ◌≡◌ {A = Result A CoreTextStop} (Err (NotCoreText p)) (Err (NotCoreText q)) → p ≡ q
-place-is e = cc
+not-ok : (o : Option (RawEntry × ℕ)) (p : ℕ) → IsRefused p (Ok o) → ⊥
+not-ok o p (inl e) = absurd (cc)
+not-ok o p (inr e) = absurd (cc)
+
+not-memory : (p : ℕ) → IsRefused p (Err Exhausted) → ⊥
+not-memory p (inl e) = absurd (cc)
+not-memory p (inr e) = absurd (cc)
+
+-- the offset of what was wrong
+wrong-place : (p q : ℕ) → IsRefused q (Err (NotCoreText p)) → p ≡ q
+wrong-place p q (inl e) = place-is e
+  where
+    place-is : ◌≡◌ {A = Result (Option (RawEntry × ℕ)) CoreTextStop} (Err (NotCoreText p)) (Err (NotCoreText q)) → p ≡ q
+    place-is e = cc
+wrong-place p q (inr e) = absurd (cc)
+
+-- and of what was too deep
+deep-place : (p q : ℕ) → IsRefused q (Err (Nested p)) → p ≡ q
+deep-place p q (inl e) = absurd (cc)
+deep-place p q (inr e) = place-is e
+  where
+    place-is : ◌≡◌ {A = Result (Option (RawEntry × ℕ)) CoreTextStop} (Err (Nested p)) (Err (Nested q)) → p ≡ q
+    place-is e = cc
 
 module _ (S : Signature) (text : List ℕ) (from : ℕ) (le : from ≤ length text) where
   -- where the text behind its first bytes is a front and what stands at the place
-  at-place : (front back : List ℕ) (p : ℕ) → drop from text ≡ front ++ back → length text - length back ≡ p → GoesOn S front ⊎ NoneLeft S front → IsBefore S text from p
+  at-place : (front back : List ℕ) (p : ℕ) → drop from text ≡ front ++ back → length text - length back ≡ p → GoesOn S front ⊎ NoneLeft S front → IsReached S text from p
   at-place front back p is place goes = record {
     behind = omega (arith, sizes, place, size);
     within = omega (arith, place);
@@ -171,30 +191,37 @@ module _ (S : Signature) (text : List ℕ) (from : ℕ) (le : from ≤ length te
           place-size : length text - length back ≡ length (take from text ++ front)
           place-size = omega (arith, sizes, length-append (take from text) front)
 
-  at-line : (notes rest : List ℕ) (p : ℕ) → AreNotes notes → drop from text ≡ notes ++ rest → (m : Reading RawEntry) → Meets (Read S rest) (Goes S) rest m → with_offset (length text) (shown_by (length S.entries) rest m) ≡ Err (NotCoreText p) → IsBefore S text from p
+  at-line : (notes rest : List ℕ) (p : ℕ) → AreNotes notes → drop from text ≡ notes ++ rest → (m : Reading RawEntry) → Meets (Read S rest) (Goes S) rest m → IsRefused p (with_offset (length text) (shown_by (length S.entries) rest m)) → IsReached S text from p
   at-line notes rest p are is (Ok (raw, r)) h e = by (shows_entry (length S.entries) raw) e
     where
-      by : (b : Bool) → with_offset (length text) (if b then Ok (Some raw, r) else wrong rest) ≡ Err (NotCoreText p) → IsBefore S text from p
-      by true same = absurd (cc)
-      by false same = at-place notes rest p is (place-is same) (inl (goes-behind S notes [] (subst AreNotes (sym (append-nil notes)) are)))
+      by : (b : Bool) → IsRefused p (with_offset (length text) (if b then Ok (Some raw, r) else wrong rest)) → IsReached S text from p
+      by true same = absurd (not-ok _ p same)
+      by false same = at-place notes rest p is (wrong-place _ p same) (inl (goes-behind S notes [] (subst AreNotes (sym (append-nil notes)) are)))
   at-line notes rest p are is (Err (Wrong left)) h e =
-      at-place (notes ++ h.front) h.back p (is ∙ (ap (λ s. notes ++ s) h.is ∙ sym (append_assoc notes h.front h.back))) (ap (λ k. length text - k) h.size ∙ place-is e) (goes-with S notes h.front h.more are h.whole)
-  at-line notes rest p are is (Err Memory) h e = absurd (cc)
-  at-line notes rest p are is (Err (TooDeep left)) h e = absurd (cc)
+      at-place (notes ++ h.front) h.back p (is ∙ (ap (λ s. notes ++ s) h.is ∙ sym (append_assoc notes h.front h.back))) (ap (λ k. length text - k) h.size ∙ wrong-place _ p e) (goes-with S notes h.front h.more are h.whole)
+  at-line notes rest p are is (Err (TooDeep left)) h e =
+      at-place (notes ++ h.front) h.back p (is ∙ (ap (λ s. notes ++ s) h.is ∙ sym (append_assoc notes h.front h.back))) (ap (λ k. length text - k) h.size ∙ deep-place _ p e) (goes-with S notes h.front h.more are h.whole)
+  at-line notes rest p are is (Err Memory) h e = absurd (not-memory p e)
 
-  at-entry : (notes rest : List ℕ) (p : ℕ) → length text < 2 ^ 32 → AreNotes notes → drop from text ≡ notes ++ rest → with_offset (length text) (entry_at S rest) ≡ Err (NotCoreText p) → IsBefore S text from p
-  at-entry notes [] p short are is e = absurd (cc)
+  at-entry : (notes rest : List ℕ) (p : ℕ) → length text < 2 ^ 32 → AreNotes notes → drop from text ≡ notes ++ rest → IsRefused p (with_offset (length text) (entry_at S rest)) → IsReached S text from p
+  at-entry notes [] p short are is e = absurd (not-ok None p e)
   at-entry notes (b ∷ rest) p short are is e =
       at-line notes (b ∷ rest) p are is (line_at S [] (b ∷ rest))
       (line-meets S (b ∷ rest) (omega (arith, short, length-drop from text, ap length is, length-append notes (b ∷ rest)))) e
 
-  pub place-before : (p : ℕ) → length text < 2 ^ 32 → entry_from S text from ≡ Err (NotCoreText p) → IsBefore S text from p
-  place-before p short e = by (behind_notes false (drop from text)) refl e
+  reached : (p : ℕ) → length text < 2 ^ 32 → IsRefused p (entry_from S text from) → IsReached S text from p
+  reached p short e = by (behind_notes false (drop from text)) refl e
     where
-      by : (m : Result (List ℕ) Halt) → behind_notes false (drop from text) ≡ m → with_offset (length text) (after m (entry_at S)) ≡ Err (NotCoreText p) → IsBefore S text from p
+      by : (m : Result (List ℕ) Halt) → behind_notes false (drop from text) ≡ m → IsRefused p (with_offset (length text) (after m (entry_at S))) → IsReached S text from p
       by (Ok rest) notes same = let before = notes-read false (drop from text) rest notes in at-entry before.notes rest p short before.are before.is same
       by (Err h) notes same =
           let stop = notes-stop false (drop from text) h notes in
           let u = stop.1 in
           at-place (drop from text) [] p (sym (append-nil (drop from text)))
-          (place-is (ap (λ x. with_offset (length text) (after (Err x) (entry_at S))) (sym stop.0) ∙ same)) (inl (goes-behind S (drop from text) (codes "\n") u.are))
+          (wrong-place _ p (subst (λ x. IsRefused p (with_offset (length text) (after (Err x) (entry_at S)))) stop.0 same)) (inl (goes-behind S (drop from text) (codes "\n") u.are))
+
+  pub place-reached : (p : ℕ) → length text < 2 ^ 32 → entry_from S text from ≡ Err (NotCoreText p) → IsReached S text from p
+  place-reached p short e = reached p short (inl e)
+
+  pub deep-place-reached : (p : ℕ) → length text < 2 ^ 32 → entry_from S text from ≡ Err (Nested p) → IsReached S text from p
+  deep-place-reached p short e = reached p short (inr e)

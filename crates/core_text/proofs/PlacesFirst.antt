@@ -4,13 +4,13 @@ use Rattle.std.specs.Prelude.{Ok}
 use Rattle.std.proofs.lemmas.List.{length-drop}
 use Rattle.theory.specs.Signatures.{Signature}
 use Rattle.core_text.specs.LineReading.{line_at}
-use Rattle.core_text.specs.Places.{IsWrongCharacter, IsWrongName, IsNoRecord, PlacesAreFirst}
+use Rattle.core_text.specs.Places.{IsWrongCharacter, IsWrongName, IsNoRecord, PlacesAreFirst, DeepPlacesAreReached}
 use Rattle.core_text.specs.RawEntries.{RawFamilyOf, shows_record}
 use Rattle.core_text.specs.Reading.{Reading}
 use Rattle.core_text.specs.RawEntries.{RawEntry}
 use Rattle.core_text.proofs.Completions.{Meets}
 use Rattle.core_text.proofs.LinesGoOn.{Goes, Read}
-use Rattle.core_text.proofs.PlacesBefore.{line-meets, place-before}
+use Rattle.core_text.proofs.PlacesBefore.{line-meets, place-reached, deep-place-reached}
 use Rattle.core_text.proofs.PlacesTold.{ReadsNoRecord, places-told}
 
 -- the line of a family that shows no record
@@ -25,15 +25,13 @@ no-record S rest short none = by (line_at S [] rest) (line-meets S rest short) (
 
 pub places-are-first : PlacesAreFirst
 places-are-first S text from p short le e =
-    let before = place-before S text from le p short e in
-    record {
-      behind = before.behind;
-      within = before.within;
-      before = before.before;
-      told = by (places-told S text from p le e before.behind before.within);
-    }
+    let reached = place-reached S text from le p short e in
+    record { reached = reached; told = by (places-told S text from p le e reached.behind reached.within) }
   where
     by : IsWrongCharacter S text from p ⊎ IsWrongName S text from p ⊎ ReadsNoRecord S (drop p text) → IsWrongCharacter S text from p ⊎ IsWrongName S text from p ⊎ IsNoRecord S (drop p text)
     by (inl character) = inl character
     by (inr (inl name)) = inr (inl name)
     by (inr (inr none)) = inr (inr (no-record S (drop p text) (omega (arith, short, length-drop p text)) none))
+
+pub deep-places-are-reached : DeepPlacesAreReached
+deep-places-are-reached S text from p short le e = deep-place-reached S text from le p short e

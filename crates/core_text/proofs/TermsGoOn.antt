@@ -10,7 +10,7 @@ use Rattle.core_text.specs.Spellings.{IsTermOver}
 use Rattle.core_text.specs.TermReading.{most, sort_levels, limited, closed_by, as_term, known, variable_at, sort_at, named, is_application, read_term, term_after, function_at, let_at, product_from, argument_of, behind_argument, arguments_from, spine_from, behind_first, enclosed_at}
 use Rattle.core_text.specs.TermText.{spelled, term_text}
 use Rattle.core_text.specs.declared.halt.Halt.TheVariants.{Memory, Nested, Wrong}
-use Rattle.core_text.proofs.Completions.{Meets, IsFront, whole-front, front-less, begun-behind, meets-if, meets-wrong, meets-then, meets-word}
+use Rattle.core_text.proofs.Completions.{Meets, IsFront, whole-front, front-less, begun-behind, meets-if, meets-wrong, meets-deep, meets-then, meets-word}
 use Rattle.core_text.proofs.NumbersGoOn.{index-meets, level-text-meets, left-below}
 use Rattle.core_text.proofs.SymbolsRead.{same-bytes}
 use Rattle.core_text.proofs.SpineTexts.{spelled-alone}
@@ -32,7 +32,9 @@ as_term-meets T S own n text rest whole form Is (Err (Wrong left)) at spells ove
     begun-behind (λ x. (v : ℕ) × (x ≡ decimal v) × Is v) (IsText T S own n) text rest whole left at
     (λ x u. whole-front (IsText T S own n) (text ++ x) (form u.0, ap (λ s. text ++ s) u.1 ∙ spells u.0, over u.0 u.2)) h
 as_term-meets T S own n text rest whole form Is (Err Memory) at spells over h = tt
-as_term-meets T S own n text rest whole form Is (Err (Nested left)) at spells over h = tt
+as_term-meets T S own n text rest whole form Is (Err (Nested left)) at spells over h =
+    begun-behind (λ x. (v : ℕ) × (x ≡ decimal v) × Is v) (IsText T S own n) text rest whole left at
+    (λ x u. whole-front (IsText T S own n) (text ++ x) (form u.0, ap (λ s. text ++ s) u.1 ∙ spells u.0, over u.0 u.2)) h
 
 sort-meets : (T S : Signature) (own : Bool) (n : ℕ) (rest whole : List ℕ) → whole ≡ codes "Type" ++ rest → Meets (ReadsTerm T S own n whole) (IsText T S own n) whole (sort_at rest)
 sort-meets T S own n rest whole at =
@@ -69,7 +71,8 @@ closed-meets T S own n front t rest whole at text over =
     meets-word (ReadsTerm T S own n whole) (IsText T S own n) front (codes ")") rest whole (limited t) at
     (whole-front (IsText T S own n) (front ++ codes ")") (t, text, over))
     (λ r is. meets-if (ReadsTerm T S own n whole) (IsText T S own n) whole (nat_le (height t) most) (Ok (t, r)) (Err (Nested (length r)))
-    (λ e. (at ∙ (ap (λ s. front ++ s) is ∙ (sym (append_assoc front (codes ")") r) ∙ ap (λ s. s ++ r) text)), over)) (λ e. tt))
+    (λ e. (at ∙ (ap (λ s. front ++ s) is ∙ (sym (append_assoc front (codes ")") r) ∙ ap (λ s. s ++ r) text)), over))
+    (λ e. meets-deep (ReadsTerm T S own n whole) (IsText T S own n) (front ++ codes ")") r whole (at ∙ (ap (λ s. front ++ s) is ∙ sym (append_assoc front (codes ")") r))) (whole-front (IsText T S own n) (front ++ codes ")") (t, text, over))))
 
 -- ---- compound terms, where `inner` reads terms
 
@@ -120,10 +123,14 @@ module _ (T S : Signature) (own : Bool) (bound : ℕ) (inner : ℕ → List ℕ 
       then-term T S own (Opens n whole) (IsText T S own n) n (codes "(" ++ (spelled T true f ++ codes " ")) rest whole (inner n rest) (λ a r. limited (App f a) r) (at ∙ simp append_assoc)
       (λ a oa. app-front T S own n f a of oa) (inside n rest (omega arith))
       (λ a r fa oa. meets-if (Opens n whole) (IsText T S own n) whole (nat_le (height (App f a)) most) (Ok (App f a, r)) (Err (Nested (length r)))
-      (λ e. (simp append_assoc, at ∙ (ap (λ s. codes "(" ++ (spelled T true f ++ (codes " " ++ s))) fa ∙ simp append_assoc), over-app S own n f a of oa)) (λ e. tt))
+      (λ e. (simp append_assoc, at ∙ (ap (λ s. codes "(" ++ (spelled T true f ++ (codes " " ++ s))) fa ∙ simp append_assoc), over-app S own n f a of oa))
+      (λ e. meets-deep (Opens n whole) (IsText T S own n) ((codes "(" ++ (spelled T true f ++ codes " ")) ++ term_text T a) r whole
+      (at ∙ (ap (λ s. codes "(" ++ (spelled T true f ++ (codes " " ++ s))) fa ∙ simp append_assoc)) (app-front T S own n f a of oa)))
 
   arguments-meet : (n k : ℕ) (f : Term) (rest whole : List ℕ) → n ≤ bound → IsTermOver S own n f → whole ≡ codes "(" ++ (spelled T true f ++ (codes " " ++ rest)) → Meets (ReadsTerm T S own n whole) (IsText T S own n) whole (arguments_from inner k f n rest)
-  arguments-meet n zero f rest whole le of at = tt
+  arguments-meet n zero f rest whole le of at =
+      meets-deep (ReadsTerm T S own n whole) (IsText T S own n) (codes "(" ++ (spelled T true f ++ codes " ")) rest whole (at ∙ simp append_assoc)
+      (front-less (IsText T S own n) (codes "(" ++ (spelled T true f ++ codes " ")) (term_text T (Sort 0)) (app-front T S own n f (Sort 0) of (over-sort S own n)))
   arguments-meet n (suc k) f rest whole le of at =
       meets-then (Opens n whole) (ReadsTerm T S own n whole) (IsText T S own n) (IsText T S own n) [] whole whole (argument_of inner f n rest) (behind_argument inner (λ t end. arguments_from inner k t n end)) refl
       (whole-front (IsText T S own n)) (argument-meets n f rest whole le of at)
@@ -161,7 +168,8 @@ module _ (T S : Signature) (own : Bool) (bound : ℕ) (inner : ℕ → List ℕ 
 -- A term is read inside `room` others, so that at most as many binders are opened. What is read is a term that may stand there
 -- and its text; where a byte is wrong, the bytes before it begin such a text.
 pub term-meets : (T S : Signature) (own : Bool) (look : List ℕ → Option Term) → WritesNames T look → NamesAreOver S own look → (room n : ℕ) (rest : List ℕ) → n + room ≤ 2 ^ 64 → Meets (ReadsTerm T S own n rest) (IsText T S own n) rest (read_term look room n rest)
-term-meets T S own look names symbols zero n rest le = tt
+term-meets T S own look names symbols zero n rest le =
+    meets-deep (ReadsTerm T S own n rest) (IsText T S own n) [] rest rest refl (no-text T S own n)
 term-meets T S own look names symbols (suc room) n rest le =
     meets-if (ReadsTerm T S own n rest) (IsText T S own n) rest (first rest == 40) (enclosed_at (read_term look room) n (drop 1 rest))
     (if first rest == 37 then variable_at n rest else named look (run_len rest) rest)

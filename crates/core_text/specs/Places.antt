@@ -12,7 +12,7 @@ use Rattle.core_text.specs.Reading.{first, is_left}
 use Rattle.core_text.specs.Spellings.{raw_line, IsFamilyOver, IsEntryOver}
 use Rattle.core_text.specs.SymbolNames.{name_at}
 use Rattle.core_text.specs.declared.instances.Series.TheVariants.{Elim}
-use Rattle.core_text.specs.declared.stop.CoreTextStop.TheVariants.{NotCoreText}
+use Rattle.core_text.specs.declared.stop.CoreTextStop.TheVariants.{Nested, NotCoreText}
 
 -- ---- before the place
 
@@ -71,12 +71,16 @@ pub record IsNoRecord (S : Signature) (rest : List ℕ) : Type 0 where
   pub line : rest ≡ raw_line S (RawFamilyOf raw) ++ behind
   pub none : shows_record (length S.entries) raw ≡ false
 
--- ---- the law
+-- ---- the laws
 
-pub record IsPlace (S : Signature) (text : List ℕ) (from p : ℕ) : Type 0 where
+-- a core file goes on with the bytes before p
+pub record IsReached (S : Signature) (text : List ℕ) (from p : ℕ) : Type 0 where
   pub behind : from ≤ p
   pub within : p ≤ length text
   pub before : GoesOn S (drop from (take p text)) ⊎ NoneLeft S (drop from (take p text))
+
+pub record IsPlace (S : Signature) (text : List ℕ) (from p : ℕ) : Type 0 where
+  pub reached : IsReached S text from p
   pub told : IsWrongCharacter S text from p ⊎ IsWrongName S text from p ⊎ IsNoRecord S (drop p text)
 
 -- The place of a refusal is the first one from which no core file over the entries goes on: before it one does, and what
@@ -85,3 +89,9 @@ abbrev pub PlacesAreFirst : Type 0
 PlacesAreFirst =
     (S : Signature) (text : List ℕ) (from p : ℕ) → length text < 2 ^ 32 → from ≤ length text →
     entry_from S text from ≡ Err (NotCoreText p) → IsPlace S text from p
+
+-- Also where a term is too deep or too high, a core file goes on with the bytes before that place.
+abbrev pub DeepPlacesAreReached : Type 0
+DeepPlacesAreReached =
+    (S : Signature) (text : List ℕ) (from p : ℕ) → length text < 2 ^ 32 → from ≤ length text →
+    entry_from S text from ≡ Err (Nested p) → IsReached S text from p

@@ -1,6 +1,6 @@
 ghost use Rattle.core_text.specs.LineLaws.{EndsAreRead, LinesAreRead, LinesShowOneEntry, NotesArePassedOver};
 ghost use Rattle.core_text.specs.Lines.{LinesAreApart};
-ghost use Rattle.core_text.specs.Places.{PlacesAreFirst};
+ghost use Rattle.core_text.specs.Places.{DeepPlacesAreReached, PlacesAreFirst};
 ghost use Rattle.core_text.specs.PlacesPassed.{NothingGoesOn};
 ghost use Rattle.core_text.specs.PlainNames.{NamesAreSpelled, NamesStayPlain, PreludeHasPlainNames};
 ghost use Rattle.core_text.specs.ReadBack.{EntriesAreReadBack, TermsAreReadBack};
@@ -87,4 +87,9 @@ pub fn spelled_lines_are_read()
 /// No core file goes on with the bytes before the place of a refusal and what is wrong there.
 pub fn nothing_goes_on()
     ensures { NothingGoesOn }
+{}
+
+/// A core file goes on with the bytes before the place at which a term is too deep or too high.
+pub fn deep_places_are_reached()
+    ensures { DeepPlacesAreReached }
 {}
