@@ -1,22 +1,58 @@
--- How the answer of a call is tied to the answer that is meant. Want of memory is the one answer that nothing rules out.
-use Rattle.std.specs.Prelude.{◌≡◌, ◌≢◌, ℕ, nat_le, if◌then◌else◌, Result, Ok, Err}
+-- How the answer of a call is tied to the answer that is meant, and how answers are put one behind the other.
+use Rattle.std.specs.Prelude.{◌≡◌, ℕ, nat_le, if◌then◌else◌, Result, Ok, Err}
 use Rattle.theory.specs.Terms.{Term, height}
 use Rattle.core_terms.specs.declared.stop.Stop.{Stop}
 use Rattle.core_terms.specs.declared.stop.Stop.TheVariants.{Memory, Deep}
 
--- the answer stands for `meant` by way of `f`, unless memory ran out
-abbrev pub Gives : {A B : Type 0} (f : A → B) → Result A Stop → Result B Stop → Type 0
-Gives f (Ok a) meant = Ok (f a) ≡ meant
-Gives f (Err e) meant = e ≢ Memory → Err e ≡ meant
+-- the refusals that nothing rules out, since no definition says when they come: want of memory alone
+abbrev pub IsUnforeseen : Stop → Type 0
+IsUnforeseen e = e ≡ Memory
 
--- an answer with the units that are left behind it
+-- Q holds where P does not
+abbrev pub Unless : Type 0 → Type 0 → Type 0
+Unless P Q = (P → ⊥) → Q
+
+-- The answer stands for `meant`, a value by way of `f` and a refusal by way of `g`. Nothing is said of a refusal that is `free`.
+abbrev pub StandsFor : {A B E F : Type 0} → (E → Type 0) → (E → F) → (A → B) → Result A E → Result B F → Type 0
+StandsFor free g f (Ok a) meant = Ok (f a) ≡ meant
+StandsFor free g f (Err e) meant = Unless (free e) (Err (g e) ≡ meant)
+
+-- the same where each refusal stands for itself
+abbrev pub GivesUnless : {A B E : Type 0} → (E → Type 0) → (A → B) → Result A E → Result B E → Type 0
+GivesUnless free f result meant = StandsFor free (λ e. e) f result meant
+
+-- the answer of a call on terms stands for `meant` by way of `f`, unless memory ran out
+abbrev pub Gives : {A B : Type 0} → (A → B) → Result A Stop → Result B Stop → Type 0
+Gives f result meant = GivesUnless IsUnforeseen f result meant
+
+-- an answer, or a refusal of E, with the units that are left behind it
+abbrev pub SpentOr : Type 0 → Type 0 → Type 0
+SpentOr E A = Result A E × ℕ
+
 abbrev pub Spent : Type 0 → Type 0
-Spent B = Result B Stop × ℕ
+Spent A = SpentOr Stop A
 
--- the answer with the units that are `left` stands for `meant` by way of `f`, unless memory ran out
-abbrev pub Runs : {A B : Type 0} (f : A → B) → Result A Stop → ℕ → Spent B → Type 0
-Runs f (Ok a) left meant = (Ok (f a), left) ≡ meant
-Runs f (Err e) left meant = e ≢ Memory → (Err e, left) ≡ meant
+-- the answer with the units that are `left` stands for `meant`, as with `StandsFor`
+abbrev pub SpendsFor : {A B E F : Type 0} → (E → Type 0) → (E → F) → (A → B) → Result A E → ℕ → SpentOr F B → Type 0
+SpendsFor free g f (Ok a) left meant = (Ok (f a), left) ≡ meant
+SpendsFor free g f (Err e) left meant = Unless (free e) ((Err (g e), left) ≡ meant)
+
+-- the same of a call on terms, unless memory ran out
+abbrev pub Runs : {A B : Type 0} → (A → B) → Result A Stop → ℕ → Spent B → Type 0
+Runs f result left meant = SpendsFor IsUnforeseen (λ e. e) f result left meant
+
+-- goes on with an answer, or ends with the refusal
+abbrev pub and_then : {A B E : Type 0} → Result A E → (A → Result B E) → Result B E
+and_then (Ok a) go = go a
+and_then (Err e) go = Err e
+
+-- the same with the units that are left
+abbrev pub on_answer : {A B E : Type 0} → Result A E → ℕ → (A → ℕ → SpentOr E B) → SpentOr E B
+on_answer (Ok a) left go = go a left
+on_answer (Err e) left go = (Err e, left)
+
+abbrev pub and_next : {A B E : Type 0} → SpentOr E A → (A → ℕ → SpentOr E B) → SpentOr E B
+and_next first go = on_answer first.0 first.1 go
 
 -- the term itself, or Deep where it is higher than 2,000
 abbrev pub bounded : Term → Result Term Stop
