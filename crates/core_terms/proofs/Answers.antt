@@ -1,6 +1,10 @@
 -- What holds of an answer and of the units that are left behind it, from what holds of the parts.
-use Rattle.std.proofs.Common.{◌≡◌, ℕ, ◌≤◌, Result, Ok, Err, IfOk, IfErr, refl, sym, ap, subst as transport, arith}
-use Rattle.core_terms.specs.Answers.{StandsFor, SpentOr, SpendsFor, and_then, on_answer, and_next}
+use Rattle.std.proofs.Common.{◌≡◌, ℕ, ◌≤◌, Bool, true, false, cond, Result, Ok, Err, IfOk, IfErr, refl, sym, subst as transport, arith}
+use Rattle.std.proofs.lemmas.Bool.Decides.{nat_tests}
+use Rattle.theory.specs.Terms.{Term, height}
+use Rattle.core_terms.specs.Answers.{StandsFor, SpentOr, SpendsFor, and_then, on_answer, and_next, is_low, bounded}
+use Rattle.core_terms.specs.declared.stop.Stop.{Stop}
+use Rattle.core_terms.specs.declared.stop.Stop.TheVariants.{Deep}
 
 -- what holds of the value that is meant holds of the one that is answered
 pub stands-has : {A B E F : Type 0} (free : E → Type 0) (g : E → F) (f : A → B) (P : B → Type 0) (result : Result A E) (meant : Result B F)
@@ -69,3 +73,13 @@ goes_on free g f first go a l r left is h = transport (λ x. SpendsFor free g f 
 pub stops : {A B C E F : Type 0} (free : E → Type 0) (g : E → F) (f : C → B) (first : SpentOr F A) (go : A → ℕ → SpentOr F B) (e : E) (l : ℕ)
     → ((free e → ⊥) → ◌≡◌ {A = SpentOr F A} (Err (g e), l) first) → SpendsFor free g f (Err e) l (and_next first go)
 stops {B = B} {F = F} free g f first go e l is q = transport (λ x. ◌≡◌ {A = SpentOr F B} (Err (g e), l) (and_next x go)) (is q) refl
+
+pub low-is : (t : Term) → is_low t ≡ true → height t ≤ 2000
+low-is t h = grind (arith, nat_tests)
+
+pub bounded-has : (P : Term → Type 0) (t : Term) → (height t ≤ 2000 → P t) → IfOk (bounded t) P
+bounded-has P t h = go (is_low t) refl
+  where
+    go : (b : Bool) → is_low t ≡ b → IfOk {E = Stop} (cond b (Ok t) (Err Deep)) P
+    go true e = h (low-is t e)
+    go false e = tt

@@ -1,5 +1,5 @@
 -- How the answer of a call is tied to the answer that is meant, and how answers are put one behind the other.
-use Rattle.std.specs.Prelude.{◌≡◌, ℕ, nat_le, if◌then◌else◌, Result, Ok, Err}
+use Rattle.std.specs.Prelude.{◌≡◌, ℕ, Bool, nat_le, if◌then◌else◌, Result, Ok, Err}
 use Rattle.theory.specs.Terms.{Term, height}
 use Rattle.core_terms.specs.declared.stop.Stop.{Stop}
 use Rattle.core_terms.specs.declared.stop.Stop.TheVariants.{Memory, Deep}
@@ -54,6 +54,9 @@ on_answer (Err e) left go = (Err e, left)
 abbrev pub and_next : {A B E : Type 0} → SpentOr E A → (A → ℕ → SpentOr E B) → SpentOr E B
 and_next first go = on_answer first.0 first.1 go
 
+abbrev pub is_low : Term → Bool
+is_low t = nat_le (height t) 2000
+
 -- the term itself, or Deep where it is higher than 2,000
 abbrev pub bounded : Term → Result Term Stop
-bounded t = if nat_le (height t) 2000 then Ok t else Err Deep
+bounded t = if is_low t then Ok t else Err Deep

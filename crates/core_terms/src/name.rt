@@ -1,5 +1,6 @@
-ghost use Rattle.std.specs.Prelude.{◌≡◌};
+ghost use Rattle.std.specs.Prelude.{◌≡◌, IfOk};
 
+use std::alloc::{AllocError, Global};
 use std::marker::Model;
 
 /// The bytes of a name, that contracts see as a list of bytes.
@@ -38,4 +39,11 @@ impl Name {
     {
         self.bytes.as_slice()
     }
+}
+
+/// The same name in memory of its own.
+pub fn copy_name(alloc: Global, name: &Name) -> Result<Name, AllocError>
+    ensures { IfOk result (λ copied. copied ≡ name.now) }
+{
+    Ok(Name::from_vec(name.as_slice().to_vec(alloc)?))
 }
