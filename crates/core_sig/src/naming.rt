@@ -6,18 +6,7 @@ ghost use Rattle.core_sig.specs.Names.{AreNew, named, named_by, named_constructo
 
 use crate::name_index::NameIndex;
 use crate::{Constructor, Entry, Found};
-use core_terms::Stop;
-
-/// A length as a number of 32 bits, or Memory where it does not fit.
-pub(crate) fn number_of(len: usize) -> Result<u32, Stop>
-    ensures ok { IfOk result (λ n. n ≡ len) }
-    ensures memory { OnErr result (result ≡ Err Memory) }
-{
-    match u32::try_from(len) {
-        Ok(number) => Ok(number),
-        Err(_) => Err(Stop::Memory),
-    }
-}
+use core_terms::{Stop, number_of};
 
 /// How many names the entry brings.
 pub(crate) fn name_count(entry: &Entry) -> usize

@@ -7,7 +7,7 @@ ghost use Rattle.core_sig.specs.SettledParts.{argument_parts, constructor_parts,
 ghost use Rattle.core_sig.specs.Settling.{renumbered, renumbered_entry, settled_number};
 
 use crate::{Arg, Constructor, Draft, Entry, Family, Found, Signature};
-use core_terms::{Items, Name, Stop, Tele, Term};
+use core_terms::{Items, Stop, Tele, Term, copy_name};
 use std::alloc::Global;
 
 /// The draft's entry with the numbers that its names have in the signature. A name that is no entry's, and a constant
@@ -100,12 +100,6 @@ fn settle_terms(alloc: Global, sig: &Signature, draft: &Draft, terms: &[Term]) -
         settled.push(settle_term(alloc, sig, draft, t)?)?;
     }
     Ok(settled)
-}
-
-fn copy_name(alloc: Global, name: &Name) -> Result<Name, Stop>
-    ensures { Gives (λ n. n) result (Ok name.now) }
-{
-    Ok(Name::from_vec(Vec::from_slice(alloc, name.as_slice())?))
 }
 
 /// The term with the numbers that the names of the draft have in the signature.

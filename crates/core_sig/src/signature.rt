@@ -8,9 +8,9 @@ ghost use Rattle.core_sig.specs.Meanings.{entry_of};
 ghost use Rattle.core_sig.specs.Names.{find, named};
 
 use crate::name_index::NameIndex;
-use crate::naming::{add_names, name_count, number_of};
+use crate::naming::{add_names, name_count};
 use crate::{Entry, Found};
-use core_terms::Stop;
+use core_terms::{Stop, number_of};
 use std::alloc::Global;
 use std::marker::Model;
 
