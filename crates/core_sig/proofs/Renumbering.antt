@@ -57,17 +57,6 @@ kind-renumbered r n f g at kind t parameters indices is =
     ∙ sym (kind-same n f at kind t is))
     (kind-is n g at (renumbered r t))
 
--- and has it only where it had it before
-pub kind-before : (r : ℕ → ℕ) (n : ℕ) (f g : pure.Family) (at : ℕ) (kind : ArgKind) (t : Term) → length g.parameters ≡ length f.parameters → length g.indices ≡ length f.indices → HasKind n g at kind (renumbered r t) → HasKind n f at kind t
-kind-before r n f g at kind t parameters indices is =
-    subst (λ k. HasKind n f at k t)
-    (sym
-    (kind-same n g at kind (renumbered r t) is
-    ∙ ap kind_by
-    (count-renumbered r n (length g.parameters) (length g.indices) at t
-    ∙ ap₂ (λ p i. inner_count n p i at t) parameters indices)))
-    (kind-is n f at t)
-
 -- ---- what an argument stands for
 
 domains-renumbered : (r : ℕ → ℕ) (k : ℕ) (t : Term) → domains k (renumbered r t) ≡ map (renumbered r) (domains k t)

@@ -17,11 +17,16 @@ pub spends-has : {A B E F : Type 0} (free : E → Type 0) (g : E → F) (f : A �
 spends-has free g f P (Ok a) left meant is h = transport (λ r. IfOk r.0 P) (sym is) h
 spends-has free g f P (Err e) left meant is h = tt
 
--- the value has P if each value that the second part goes on with gives one that has
-pub and_then-has : {A B E : Type 0} (P : B → Type 0) (first : Result A E) (go : A → Result B E)
+pub and_then-has : {A B E : Type 0} (P : A → Type 0) (Q : B → Type 0) (first : Result A E) (go : A → Result B E)
+    → IfOk first P → ((a : A) → P a → IfOk (go a) Q) → IfOk (and_then first go) Q
+and_then-has P Q (Ok a) go h k = k a h
+and_then-has P Q (Err e) go h k = tt
+
+-- the same where the second part may know what was answered
+pub and_then-is : {A B E : Type 0} (P : B → Type 0) (first : Result A E) (go : A → Result B E)
     → ((a : A) → first ≡ Ok a → IfOk (go a) P) → IfOk (and_then first go) P
-and_then-has P (Ok a) go k = k a refl
-and_then-has P (Err e) go k = tt
+and_then-is P (Ok a) go k = k a refl
+and_then-is P (Err e) go k = tt
 
 -- the answer, where there is one, has P
 abbrev pub Answers : {A E : Type 0} → (A → Type 0) → SpentOr E A → Type 0
@@ -40,6 +45,11 @@ and_next-has P Q first go h k = on_answer-has P Q first.0 first.1 go h k
 abbrev pub Splits : {A E : Type 0} → (A → Type 0) → (E → Type 0) → Result A E → Type 0
 Splits P N (Ok a) = P a
 Splits P N (Err e) = N e
+
+pub and_then-splits : {A B E : Type 0} (P : A → Type 0) (Q : B → Type 0) (N : E → Type 0) (first : Result A E) (go : A → Result B E)
+    → Splits P N first → ((a : A) → P a → Splits Q N (go a)) → Splits Q N (and_then first go)
+and_then-splits P Q N (Ok a) go h k = k a h
+and_then-splits P Q N (Err e) go h k = h
 
 on_answer-splits : {A B E : Type 0} (P : A → Type 0) (Q : B → Type 0) (N : E → Type 0) (r : Result A E) (left : ℕ) (go : A → ℕ → SpentOr E B)
     → Splits P N r → ((a : A) (rest : ℕ) → P a → Splits Q N (go a rest).0) → Splits Q N (on_answer r left go).0
@@ -63,16 +73,6 @@ on_answer-spends (Err e) left all go h k = h
 pub and_next-spends : {A B E : Type 0} (first : SpentOr E A) (go : A → ℕ → SpentOr E B) (left : ℕ)
     → first.1 ≤ left → ((a : A) (rest : ℕ) → (go a rest).1 ≤ rest) → (and_next first go).1 ≤ left
 and_next-spends first go left h k = on_answer-spends first.0 first.1 left go h (λ a. k a first.1)
-
--- a call goes on with the first answer,
-pub goes_on : {A B C E F : Type 0} (free : E → Type 0) (g : E → F) (f : C → B) (first : SpentOr F A) (go : A → ℕ → SpentOr F B) (a : A) (l : ℕ) (r : Result C E) (left : ℕ)
-    → ◌≡◌ {A = SpentOr F A} (Ok a, l) first → SpendsFor free g f r left (go a l) → SpendsFor free g f r left (and_next first go)
-goes_on free g f first go a l r left is h = transport (λ x. SpendsFor free g f r left (and_next x go)) is h
-
--- or ends with the first refusal
-pub stops : {A B C E F : Type 0} (free : E → Type 0) (g : E → F) (f : C → B) (first : SpentOr F A) (go : A → ℕ → SpentOr F B) (e : E) (l : ℕ)
-    → ((free e → ⊥) → ◌≡◌ {A = SpentOr F A} (Err (g e), l) first) → SpendsFor free g f (Err e) l (and_next first go)
-stops {B = B} {F = F} free g f first go e l is q = transport (λ x. ◌≡◌ {A = SpentOr F B} (Err (g e), l) (and_next x go)) (is q) refl
 
 pub low-is : (t : Term) → is_low t ≡ true → height t ≤ 2000
 low-is t h = grind (arith, nat_tests)
