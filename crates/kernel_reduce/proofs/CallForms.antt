@@ -215,9 +215,6 @@ pub hypothesis-values : (values : List code.Term) (p : ℕ) (recursor : Term) (k
 hypothesis-values values p recursor known r inner t low e =
     ap₂ (λ us u. hypothesis_of us p recursor u inner 0 t) (tele_take known values) (value-there values known r (Sort 0) low e)
 
-pub tele_drop : (n : ℕ) (xs : List code.Term) → tele_of (drop n xs) ≡ drop n (tele_of xs)
-tele_drop n xs = map-drop tree_of n xs
-
 take-whole : {A : Type 0} (xs : List A) (k : ℕ) → length xs ≤ k → take k xs ≡ xs
 take-whole [] zero low = refl
 take-whole [] (suc k) low = refl

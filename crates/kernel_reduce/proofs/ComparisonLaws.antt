@@ -9,12 +9,13 @@ use Rattle.theory.specs.Conversion.{Converts, Below}
 use Rattle.theory.specs.Conversion.Converts.{same as unchanged}
 use Rattle.theory.specs.Conversion.Below.{converts, sorts, products, trans}
 use Rattle.theory.proofs.Congruence.{converts-trans, converts-sym, converts-pi, converts-lam, converts-app}
-use Rattle.core_terms.specs.Answers.{Spent}
+use Rattle.core_terms.specs.Answers.{Spent, is_low}
 use Rattle.core_terms.specs.declared.stop.Stop.{Stop}
-use Rattle.kernel_reduce.specs.Reduction.{is_low, whnf_of}
+use Rattle.kernel_reduce.specs.Reduction.{whnf_of}
 use Rattle.kernel_reduce.specs.Comparison.{same, second_if, both, on_heads, heads_convertible, unless_same, convertible_of, heads_below, subtype_of}
 use Rattle.kernel_reduce.specs.Laws.{IsHeadForm, ConvertibleConverts, SubtypeIsBelow, ConvertibleSpends, SubtypeSpends}
-use Rattle.kernel_reduce.proofs.Answers.{Answers, and_then-has, charge-has, if_low-has, and_then-spends, charge-spends, if_low-spends}
+use Rattle.core_terms.proofs.Answers.{Answers, and_next-has, and_next-spends}
+use Rattle.kernel_reduce.proofs.Answers.{charge-has, if_low-has, charge-spends, if_low-spends}
 use Rattle.kernel_reduce.proofs.StepLaws.{both-true}
 use Rattle.kernel_reduce.proofs.ReductionLaws.{whnf-is_head_form, whnf-spends}
 
@@ -44,7 +45,7 @@ second_if-shows P Q false second left h k = λ t. absurd (grind arith)
 both-show : (P Q : Type 0) (first second : ℕ → Spent Bool) (left : ℕ) → ((rest : ℕ) → Answers (Shows P) (first rest))
     → ((rest : ℕ) → Answers (Shows Q) (second rest)) → Answers (Shows (P × Q)) (both first second left)
 both-show P Q first second left h k =
-    and_then-has (Shows P) (Shows (P × Q)) (first left) _ (h left) (λ holds rest p. second_if-shows P Q holds second rest p k)
+    and_next-has (Shows P) (Shows (P × Q)) (first left) _ (h left) (λ holds rest p. second_if-shows P Q holds second rest p k)
 
 weaker : {P Q : Type 0} (r : Spent Bool) → (P → Q) → Answers (Shows P) r → Answers (Shows Q) r
 weaker {P} {Q} r f h = go r.0 h
@@ -63,8 +64,8 @@ on_heads-show : (S : Signature) (R : Term → Term → Type 0) (a b : Term) (com
     → ((c d : Term) (rest : ℕ) → Converts S a c → Converts S b d → Answers (Shows (R a b)) (compare c d rest))
     → Answers (Shows (R a b)) (on_heads S a b compare left)
 on_heads-show S R a b compare left h =
-    and_then-has (IsHeadForm S true a) _ (whnf_of S true left a) _ (whnf-is_head_form S true left a) (λ c rest hc.
-    and_then-has (IsHeadForm S true b) _ (whnf_of S true rest b) _ (whnf-is_head_form S true rest b) (λ d end hd.
+    and_next-has (IsHeadForm S true a) _ (whnf_of S true left a) _ (whnf-is_head_form S true left a) (λ c rest hc.
+    and_next-has (IsHeadForm S true b) _ (whnf_of S true rest b) _ (whnf-is_head_form S true rest b) (λ d end hd.
     h c d end hc.converts hd.converts))
 
 between : {S : Signature} {a b c d : Term} → Converts S a c → Converts S b d → Converts S c d → Converts S a b
@@ -143,13 +144,13 @@ second_if-spends false second left h = omega arith
 
 both-spend : (first second : ℕ → Spent Bool) (left : ℕ) → ((rest : ℕ) → (first rest).1 ≤ rest) → ((rest : ℕ) → (second rest).1 ≤ rest) → (both first second left).1 ≤ left
 both-spend first second left h k =
-    and_then-spends (first left) _ left (h left) (λ holds rest. second_if-spends holds second rest k)
+    and_next-spends (first left) _ left (h left) (λ holds rest. second_if-spends holds second rest k)
 
 on_heads-spend : (S : Signature) (a b : Term) (compare : Term → Term → ℕ → Spent Bool) (left : ℕ) → Spends compare → (on_heads S a b compare left).1 ≤ left
 unfolding Spends
 on_heads-spend S a b compare left h =
-    and_then-spends (whnf_of S true left a) _ left (whnf-spends S true left a) (λ c rest.
-    and_then-spends (whnf_of S true rest b) _ rest (whnf-spends S true rest b) (λ d end. h c d end))
+    and_next-spends (whnf_of S true left a) _ left (whnf-spends S true left a) (λ c rest.
+    and_next-spends (whnf_of S true rest b) _ rest (whnf-spends S true rest b) (λ d end. h c d end))
 
 heads_convertible-spends : (compare : Term → Term → ℕ → Spent Bool) → Spends compare → Spends (heads_convertible compare)
 unfolding Spends

@@ -117,10 +117,6 @@ makes-bounded under r t meant h e = transport (MakesUnder under r) e (by (nat_le
 pub applied_snoc : (h : Term) (us : List Term) (a : Term) → applied h (us ++ a ∷ []) ≡ App (applied h us) a
 applied_snoc h us a = applied-append h us (a ∷ [])
 
-pub variables-less : (h : Term) (n : ℕ) → 0 < n → applied h (variables n) ≡ applied (App h (Var (n - 1))) (variables (n - 1))
-variables-less h zero e = absurd (omega arith)
-variables-less h (suc n) e = let back : n ≡ suc n - 1 = omega arith in ap (λ k. applied (App h (Var k)) (variables k)) back
-
 pub under-low : (under n : ℕ) (s : ℕ → Term) → n < under → Var n ≡ under_binders under s n
 unfolding under_binders
 under-low under n s low = go (nat_lt n under) refl

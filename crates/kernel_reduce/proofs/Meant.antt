@@ -1,14 +1,14 @@
 -- What a law says of an answer that is meant, said of the answer of the call.
 use Rattle.std.proofs.Common.{◌≡◌, ℕ, Option, Some, None, IfSome, option_map, Result, Ok, Err, IfOk, sym, ap, subst as transport}
-use Rattle.core_terms.specs.Answers.{Spent, Runs}
+use Rattle.core_terms.specs.Answers.{IsUnforeseen, Spent, Runs}
+use Rattle.core_terms.proofs.Answers.{spends-has}
 use Rattle.core_terms.specs.declared.stop.Stop.{Stop}
 
 pub meant-has : {B : Type 0} (P : B → Type 0) (b : B) (left : ℕ) (meant : Spent B) → ◌≡◌ {A = Spent B} (Ok b, left) meant → IfOk meant.0 P → P b
 meant-has P b left meant e h = transport (λ r. IfOk r P) (sym (ap (λ (s : Spent _). s.0) e)) h
 
 pub runs-has : {A B : Type 0} (f : A → B) (P : B → Type 0) (result : Result A Stop) (left : ℕ) (meant : Spent B) → Runs f result left meant → IfOk meant.0 P → IfOk result (λ a. P (f a))
-runs-has f P (Ok a) left meant e h = meant-has P (f a) left meant e h
-runs-has f P (Err x) left meant e h = tt
+runs-has f P result left meant e h = spends-has IsUnforeseen (λ x. x) f P result left meant e h
 
 -- the same of a value that may be there
 pub runs-some : {A B : Type 0} (f : A → B) (P : B → Type 0) (result : Result (Option A) Stop) (left : ℕ) (meant : Spent (Option B)) → Runs (option_map f) result left meant

@@ -6,13 +6,14 @@ use Rattle.theory.specs.Signatures.{Signature}
 use Rattle.theory.specs.Conversion.{Step, Converts}
 use Rattle.theory.specs.Conversion.Converts.{same, forwards}
 use Rattle.theory.proofs.Congruence.{converts-trans, converts-pi, converts-lam, converts-app}
-use Rattle.core_terms.specs.Answers.{Spent}
+use Rattle.core_terms.specs.Answers.{Spent, is_low}
 use Rattle.core_terms.specs.declared.stop.Stop.{Stop}
 use Rattle.core_terms.specs.declared.stop.Stop.TheVariants.{Deep}
 use Rattle.kernel_reduce.specs.Steps.{step_of}
-use Rattle.kernel_reduce.specs.Reduction.{is_low, some_bounded, step_taken, without_units, with_unit, whnf_of, with_children, normal_children, normal_of}
+use Rattle.kernel_reduce.specs.Reduction.{some_bounded, step_taken, without_units, with_unit, whnf_of, with_children, normal_children, normal_of}
 use Rattle.kernel_reduce.specs.Laws.{HeadStepIsStep, IsHeadForm, WhnfIsHeadForm, NormalConverts, HeadStepSpends, WhnfSpends, NormalSpends}
-use Rattle.kernel_reduce.proofs.Answers.{Answers, low-is, and_then-has, charge-has, if_low-has, bounded-has, and_then-spends, charge-spends, if_low-spends}
+use Rattle.core_terms.proofs.Answers.{Answers, and_next-has, and_next-spends, low-is, bounded-has}
+use Rattle.kernel_reduce.proofs.Answers.{charge-has, if_low-has, charge-spends, if_low-spends}
 use Rattle.kernel_reduce.proofs.StepLaws.{step-steps}
 
 pub some_bounded-has : (P : Term → Type 0) (t : Term) → P t → IfOk (some_bounded t) (λ next. IfSome next P)
@@ -69,8 +70,8 @@ with_children-has : (S : Signature) (form : Term → Term → Term) (a b : Term)
     → Answers (IsReduct S (form a b)) (with_children form first second left)
 unfolding IsReduct
 with_children-has S form a b first second left congruent h k =
-    and_then-has _ _ (first left) _ (h left) (λ c rest hc.
-    and_then-has _ _ (second rest) _ (k rest) (λ d end hd.
+    and_next-has _ _ (first left) _ (h left) (λ c rest hc.
+    and_next-has _ _ (second rest) _ (k rest) (λ d end hd.
     bounded-has _ (form c d) (λ low. (congruent c d hc.0 hd.0, low))))
 
 children-have : (S : Signature) (normal : Term → ℕ → Spent Term) (u : Term) (left : ℕ) → height u ≤ 2000
@@ -87,7 +88,7 @@ pub normal-converts : NormalConverts
 unfolding IsReduct
 normal-converts S delta zero t left = tt
 normal-converts S delta (suc room) t left =
-    and_then-has (IsHeadForm S delta t) _ (whnf_of S delta left t) _ (whnf-is_head_form S delta left t) (λ u rest head.
+    and_next-has (IsHeadForm S delta t) _ (whnf_of S delta left t) _ (whnf-is_head_form S delta left t) (λ u rest head.
     behind u (normal_children (normal_of S delta room) u rest).0 head.converts
     (children-have S (normal_of S delta room) u rest head.low (normal-converts S delta room)))
   where
@@ -118,7 +119,7 @@ whnf-spends S delta (suc left) t =
 with_children-spends : (form : Term → Term → Term) (first second : ℕ → Spent Term) (left : ℕ)
     → ((rest : ℕ) → (first rest).1 ≤ rest) → ((rest : ℕ) → (second rest).1 ≤ rest) → (with_children form first second left).1 ≤ left
 with_children-spends form first second left h k =
-    and_then-spends (first left) _ left (h left) (λ a rest. and_then-spends (second rest) _ rest (k rest) (λ b end. omega arith))
+    and_next-spends (first left) _ left (h left) (λ a rest. and_next-spends (second rest) _ rest (k rest) (λ b end. omega arith))
 
 children-spend : (normal : Term → ℕ → Spent Term) (u : Term) (left : ℕ) → ((t : Term) (rest : ℕ) → (normal t rest).1 ≤ rest) → (normal_children normal u left).1 ≤ left
 children-spend normal (Pi a b) left h = with_children-spends Pi (normal a) (normal b) left (h a) (h b)
@@ -130,4 +131,4 @@ children-spend normal _ left h = omega arith
 pub normal-spends : NormalSpends
 normal-spends S delta zero t left = omega arith
 normal-spends S delta (suc room) t left =
-    and_then-spends (whnf_of S delta left t) _ left (whnf-spends S delta left t) (λ u rest. children-spend (normal_of S delta room) u rest (normal-spends S delta room))
+    and_next-spends (whnf_of S delta left t) _ left (whnf-spends S delta left t) (λ u rest. children-spend (normal_of S delta room) u rest (normal-spends S delta room))

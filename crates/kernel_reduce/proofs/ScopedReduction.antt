@@ -10,12 +10,13 @@ use Rattle.theory.specs.Signatures.{Signature, FamilyOf, IsEntryAt, equality}
 use Rattle.theory.specs.SignatureScopes.{IsScoped, IsScopedSignature}
 use Rattle.theory.proofs.ScopedTerms.{scoped-pi, scoped-lam, scoped-app, scoped-let, pi-scoped, lam-scoped, app-scoped, scoped_over_more, subst-scoped, spine-scoped}
 use Rattle.theory.proofs.ScopedEntries.{All-at, bodies-scoped, iota-scoped}
-use Rattle.core_terms.specs.Answers.{Spent}
+use Rattle.core_terms.specs.Answers.{Spent, is_low}
 use Rattle.kernel_reduce.specs.Entries.{body_at, family_at}
 use Rattle.kernel_reduce.specs.Steps.{beta_step, awaits_scrutinee, method_applied, iota_step, k_step, contraction, scrutinee_step, elimination_step, application_step, step_of}
-use Rattle.kernel_reduce.specs.Reduction.{is_low, step_taken, with_unit, without_units, whnf_of, with_children, normal_children, normal_of}
+use Rattle.kernel_reduce.specs.Reduction.{step_taken, with_unit, without_units, whnf_of, with_children, normal_children, normal_of}
 use Rattle.kernel_reduce.specs.Laws.{StepScoped, HeadStepScoped, WhnfScoped, NormalScoped}
-use Rattle.kernel_reduce.proofs.Answers.{Answers, and_then-has, charge-has, if_low-has, bounded-has}
+use Rattle.core_terms.proofs.Answers.{Answers, and_next-has, bounded-has}
+use Rattle.kernel_reduce.proofs.Answers.{charge-has, if_low-has}
 use Rattle.kernel_reduce.proofs.ReductionLaws.{some_bounded-has}
 use Rattle.kernel_reduce.proofs.StepLaws.{some-next, some-map, some-cond, first-has, body-in, family-found}
 
@@ -127,8 +128,8 @@ with_children-scoped : (S : Signature) (k i j : ℕ) (form : Term → Term → T
     → ((rest : ℕ) → Answers (IsScoped S i) (first rest)) → ((rest : ℕ) → Answers (IsScoped S j) (second rest))
     → Answers (IsScoped S k) (with_children form first second left)
 with_children-scoped S k i j form first second left makes h l =
-    and_then-has (IsScoped S i) _ (first left) _ (h left) (λ a rest ha.
-    and_then-has (IsScoped S j) _ (second rest) _ (l rest) (λ b end hb.
+    and_next-has (IsScoped S i) _ (first left) _ (h left) (λ a rest ha.
+    and_next-has (IsScoped S j) _ (second rest) _ (l rest) (λ b end hb.
     bounded-has (IsScoped S k) (form a b) (λ low. makes a b ha hb)))
 
 children-scoped : (S : Signature) (normal : Term → ℕ → Spent Term) (k : ℕ) (u : Term) (left : ℕ) → IsScoped S k u
@@ -148,7 +149,7 @@ children-scoped S normal k _ left h go = h
 pub normal-scoped : NormalScoped
 normal-scoped S delta zero k t left scoped h = tt
 normal-scoped S delta (suc room) k t left scoped h =
-    and_then-has (IsScoped S k) _ (whnf_of S delta left t) _ (whnf-scoped S delta left k t scoped h) (λ u rest hu.
+    and_next-has (IsScoped S k) _ (whnf_of S delta left t) _ (whnf-scoped S delta left k t scoped h) (λ u rest hu.
     children-scoped S (normal_of S delta room) k u rest hu (λ i v end hv. normal-scoped S delta room i v end scoped hv))
 
 step_taken-scoped : (S : Signature) (k : ℕ) (step : Option Term) (left : ℕ) → IfSome step (IsScoped S k) → Answers (λ next. IfSome next (IsScoped S k)) (step_taken step left)

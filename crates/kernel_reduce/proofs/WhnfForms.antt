@@ -5,13 +5,13 @@ use Rattle.theory.specs.Terms.{Term, height}
 use Rattle.theory.specs.Signatures.{Signature}
 use Rattle.theory.specs.SignatureScopes.{IsScoped, IsScopedSignature}
 use Rattle.core_terms.specs.Meanings.{tree_of}
-use Rattle.core_terms.specs.Answers.{Spent, bounded}
+use Rattle.core_terms.specs.Answers.{Spent, bounded, and_next, is_low}
 use Rattle.core_terms.specs.declared.stop.Stop.{Stop}
 use Rattle.core_terms.specs.declared.stop.Stop.TheVariants.{Memory, Fuel, Deep}
 use Rattle.core_terms.specs.declared.term.Term as code
 use Rattle.kernel_reduce.specs.Making.{Makes}
 use Rattle.kernel_reduce.specs.Steps.{step_of}
-use Rattle.kernel_reduce.specs.Reduction.{is_low, answered, if_low, without_units, with_unit, whnf_of, and_then, normal_children, normal_of}
+use Rattle.kernel_reduce.specs.Reduction.{answered, if_low, without_units, with_unit, whnf_of, normal_children, normal_of}
 use Rattle.kernel_reduce.proofs.ScopedReduction.{step-scoped}
 
 low-true : (t : Term) → height t ≤ 2000 → is_low t ≡ true
@@ -32,31 +32,6 @@ if-low-false false go left e = refl
 pub whnf-high : (S : Signature) (delta : Bool) (left : ℕ) (t : Term) → 2000 < height t → answered (Err Deep) left ≡ whnf_of S delta left t
 whnf-high S delta zero t h = sym (if-low-false (is_low t) _ zero (low-false t h))
 whnf-high S delta (suc left) t h = sym (if-low-false (is_low t) _ (suc left) (low-false t h))
-
--- no step
-pub whnf-rests : (S : Signature) (delta : Bool) (left : ℕ) (t : Term) → height t ≤ 2000 → false ≡ is_some (step_of S delta t) → answered (Ok t) left ≡ whnf_of S delta left t
-whnf-rests S delta zero t low none =
-    sym (if-low-true (is_low t) _ zero (low-true t low) ∙ go (step_of S delta t) none)
-  where
-    go : (o : Option Term) → false ≡ is_some o → without_units t o ≡ answered (Ok t) zero
-    go None e = refl
-    go (Some u) e = absurd (grind arith)
-whnf-rests S delta (suc left) t low none =
-    sym (if-low-true (is_low t) _ (suc left) (low-true t low) ∙ go (step_of S delta t) none)
-  where
-    go : (o : Option Term) → false ≡ is_some o → with_unit t left (whnf_of S delta left) o ≡ answered (Ok t) (suc left)
-    go None e = refl
-    go (Some u) e = absurd (grind arith)
-
--- no unit
-pub whnf-fuel : (S : Signature) (delta : Bool) (left : ℕ) (t : Term) → left ≡ 0 → height t ≤ 2000 → true ≡ is_some (step_of S delta t) → answered (Err Fuel) 0 ≡ whnf_of S delta left t
-whnf-fuel S delta zero t e low some =
-    sym (if-low-true (is_low t) _ zero (low-true t low) ∙ go (step_of S delta t) some)
-  where
-    go : (o : Option Term) → true ≡ is_some o → without_units t o ≡ answered (Err Fuel) zero
-    go None e = absurd (grind arith)
-    go (Some u) e = refl
-whnf-fuel S delta (suc left) t e low some = absurd (omega arith)
 
 whnf-suc : (S : Signature) (delta : Bool) (left : ℕ) (t u : Term) → height t ≤ 2000 → step_of S delta t ≡ Some u → whnf_of S delta (suc left) t ≡ whnf_of S delta left u
 whnf-suc S delta left t u low e =
@@ -100,7 +75,7 @@ stepped-scoped S delta n t made scoped ht some h = go (step_of S delta t) some h
 pub normal-high : (S : Signature) (delta : Bool) (room : ℕ) (t : Term) (left : ℕ) → 2000 < height t → answered (Err Deep) left ≡ normal_of S delta room t left
 normal-high S delta zero t left h = refl
 normal-high S delta (suc room) t left h =
-    ap (λ r. and_then r (normal_children (normal_of S delta room))) (whnf-high S delta left t h)
+    ap (λ r. and_next r (normal_children (normal_of S delta room))) (whnf-high S delta left t h)
 
 -- the same as a copy refuses it
 pub normal-refused : (S : Signature) (delta : Bool) (room : ℕ) (t : Term) (left : ℕ) (stop : Stop) → (stop ≢ Memory → ◌≡◌ {A = Result Term Stop} (Err stop) (bounded t)) → stop ≢ Memory

@@ -3,9 +3,9 @@ use Rattle.std.specs.Prelude.{ℕ, zero, suc, Bool, true, false, ◌&&◌, ◌==
 use native.Mathlib.Decide.{ℕ_discrete}
 use Rattle.theory.specs.Terms.{Term, Term-discrete, Var, Sort, Pi, Lam, App, Fam, Con, Elim, AxiomK}
 use Rattle.theory.specs.Signatures.{Signature}
-use Rattle.core_terms.specs.Answers.{Spent}
+use Rattle.core_terms.specs.Answers.{Spent, and_next, is_low}
 use Rattle.core_terms.specs.declared.stop.Stop.TheVariants.{Deep}
-use Rattle.kernel_reduce.specs.Reduction.{answered, and_then, charge, if_low, is_low, whnf_of}
+use Rattle.kernel_reduce.specs.Reduction.{answered, charge, if_low, whnf_of}
 
 -- the terms are equal letter for letter
 abbrev pub same : Term → Term → Bool
@@ -17,12 +17,12 @@ second_if true second left = second left
 second_if false second left = answered (Ok false) left
 
 abbrev pub both : (ℕ → Spent Bool) → (ℕ → Spent Bool) → ℕ → Spent Bool
-both first second left = and_then (first left) (λ holds rest. second_if holds second rest)
+both first second left = and_next (first left) (λ holds rest. second_if holds second rest)
 
 -- both terms reduced at their heads with delta, the first one first
 abbrev pub on_heads : Signature → Term → Term → (Term → Term → ℕ → Spent Bool) → ℕ → Spent Bool
 on_heads S a b compare left =
-    and_then (whnf_of S true left a) (λ c rest. and_then (whnf_of S true rest b) (λ d end. compare c d end))
+    and_next (whnf_of S true left a) (λ c rest. and_next (whnf_of S true rest b) (λ d end. compare c d end))
 
 -- two terms without a head step, with `convertible` for their children
 abbrev pub heads_convertible : (Term → Term → ℕ → Spent Bool) → Term → Term → ℕ → Spent Bool

@@ -1,9 +1,9 @@
 -- Reduction with units: each head step costs one. Fuel comes where a unit is needed and none is left. Deep comes where a
 -- term higher than 2,000 is given or made, and where a call would be the 2,001st of those that are open at once.
-use Rattle.std.specs.Prelude.{ℕ, zero, suc, Bool, true, false, cond, nat_le, Option, Some, None, Result, Ok, Err}
-use Rattle.theory.specs.Terms.{Term, Pi, Lam, App, height}
+use Rattle.std.specs.Prelude.{ℕ, zero, suc, Bool, true, false, cond, Option, Some, None, Result, Ok, Err}
+use Rattle.theory.specs.Terms.{Term, Pi, Lam, App}
 use Rattle.theory.specs.Signatures.{Signature}
-use Rattle.core_terms.specs.Answers.{Spent, bounded}
+use Rattle.core_terms.specs.Answers.{Spent, and_next, is_low, bounded}
 use Rattle.core_terms.specs.declared.stop.Stop.{Stop}
 use Rattle.core_terms.specs.declared.stop.Stop.TheVariants.{Fuel, Deep}
 use Rattle.kernel_reduce.specs.Steps.{step_of}
@@ -17,20 +17,9 @@ nesting = 2000
 abbrev pub most_variables : ℕ
 most_variables = 3221223472
 
-abbrev pub is_low : Term → Bool
-is_low t = nat_le (height t) 2000
-
 -- an answer with the units that are left behind it
 abbrev pub answered : {A : Type 0} → Result A Stop → ℕ → Spent A
 answered answer left = (answer, left)
-
--- `go` on with the first answer, unless that is a refusal
-abbrev pub on_answer : {A B : Type 0} → Result A Stop → ℕ → (A → ℕ → Spent B) → Spent B
-on_answer (Ok a) left go = go a left
-on_answer (Err e) left go = answered (Err e) left
-
-abbrev pub and_then : {A B : Type 0} → Spent A → (A → ℕ → Spent B) → Spent B
-and_then first go = on_answer first.0 first.1 go
 
 -- one unit is spent before `go`
 abbrev pub charge : {A : Type 0} → (ℕ → Spent A) → ℕ → Spent A
@@ -73,7 +62,7 @@ whnf_of S delta (suc left) t =
 -- the form with two children, the first one normalised before the second
 abbrev pub with_children : (Term → Term → Term) → (ℕ → Spent Term) → (ℕ → Spent Term) → ℕ → Spent Term
 with_children form first second left =
-    and_then (first left) (λ a rest. and_then (second rest) (λ b end. answered (bounded (form a b)) end))
+    and_next (first left) (λ a rest. and_next (second rest) (λ b end. answered (bounded (form a b)) end))
 
 -- a term that takes no head step, with `normal` for its children
 abbrev pub normal_children : (Term → ℕ → Spent Term) → Term → ℕ → Spent Term
@@ -85,4 +74,4 @@ normal_children normal t left = answered (Ok t) left
 -- the head form, and then the normal forms of its children, where `room` calls more may be open
 abbrev pub normal_of : Signature → Bool → ℕ → Term → ℕ → Spent Term
 normal_of S delta zero t left = answered (Err Deep) left
-normal_of S delta (suc room) t left = and_then (whnf_of S delta left t) (normal_children (normal_of S delta room))
+normal_of S delta (suc room) t left = and_next (whnf_of S delta left t) (normal_children (normal_of S delta room))

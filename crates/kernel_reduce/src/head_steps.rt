@@ -5,11 +5,10 @@ ghost use Rattle.theory.specs.Terms as tree;
 ghost use Rattle.kernel_reduce.specs.Reduction.{head_step_of};
 ghost use Rattle.kernel_reduce.specs.Steps.{step_of};
 
-use crate::normalising::low;
 use crate::stepping::step;
 use crate::testing::has_step;
 use core_sig::Signature;
-use core_terms::{MAX_HEIGHT, Stop, Term, Units, copy};
+use core_terms::{MAX_HEIGHT, Stop, Term, Units, bounded, copy};
 use std::alloc::Global;
 
 /// The step of a term that takes one, or Deep.
@@ -20,7 +19,7 @@ fn take_step(alloc: Global, sig: &Signature, t: &Term, delta: bool) -> Result<Te
     ensures { IfSome (step_of sig.now delta (tree_of t.now)) (λ u. Gives tree_of result (bounded u)) }
 {
     let t = copy(alloc, t)?;
-    low(step(alloc, sig, t, delta)?)
+    bounded(step(alloc, sig, t, delta)?)
 }
 
 /// The next head step of a term, or None where it takes none.

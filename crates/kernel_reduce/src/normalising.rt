@@ -1,23 +1,13 @@
 ghost use Rattle.std.specs.Prelude.{◌≡◌, ◌≤◌, ◌<◌, ◌+◌, ◌-◌};
-ghost use Rattle.core_terms.specs.Answers.{Gives, Runs, bounded};
+ghost use Rattle.core_terms.specs.Answers.{Runs};
 ghost use Rattle.core_terms.specs.Meanings.{tree_of};
 ghost use Rattle.theory.specs.SignatureScopes.{IsScoped, IsScopedSignature};
 ghost use Rattle.kernel_reduce.specs.Reduction as pure;
 
 use crate::reducing::reduce;
 use core_sig::Signature;
-use core_terms::{MAX_HEIGHT, Stop, Term, Units, copy};
+use core_terms::{Stop, Term, Units, bounded, copy};
 use std::alloc::Global;
-
-/// The term itself, or Deep.
-pub(crate) fn low(t: Term) -> Result<Term, Stop>
-    ensures { Gives tree_of result (bounded (tree_of t)) }
-{
-    if t.height() > MAX_HEIGHT {
-        return Err(Stop::Deep);
-    }
-    Ok(t)
-}
 
 /// The head form of a term, and then the normal forms of its children, where `room` calls more may be open.
 #[cycle(normal)]
@@ -62,17 +52,17 @@ fn normal_children(
         Term::Pi(a, b) => {
             let a = normalise(alloc, sig, Box::into_inner(a), delta, room, units)?;
             let b = normalise(alloc, sig, Box::into_inner(b), delta, room, units)?;
-            low(Term::new_pi(alloc, a, b)?)
+            bounded(Term::new_pi(alloc, a, b)?)
         }
         Term::Lam(a, b) => {
             let a = normalise(alloc, sig, Box::into_inner(a), delta, room, units)?;
             let b = normalise(alloc, sig, Box::into_inner(b), delta, room, units)?;
-            low(Term::new_lam(alloc, a, b)?)
+            bounded(Term::new_lam(alloc, a, b)?)
         }
         Term::App(f, a) => {
             let f = normalise(alloc, sig, Box::into_inner(f), delta, room, units)?;
             let a = normalise(alloc, sig, Box::into_inner(a), delta, room, units)?;
-            low(Term::new_app(alloc, f, a)?)
+            bounded(Term::new_app(alloc, f, a)?)
         }
         other => Ok(other),
     }
