@@ -1,2 +1,3 @@
 pub mod Builders
+pub mod Placing
 pub mod SubstUnder
