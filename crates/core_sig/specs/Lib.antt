@@ -1,4 +1,5 @@
 pub mod Building
+pub mod ByLevels
 pub mod Codes
 pub mod Invariants
 pub mod KindTests
@@ -9,4 +10,5 @@ pub mod Offenders
 pub mod Raw
 pub mod SettledParts
 pub mod Settling
+pub mod Shapes
 pub mod Stages

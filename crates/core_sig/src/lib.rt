@@ -3,10 +3,10 @@
 #![tactic(auto)]
 
 mod building;
+mod by_levels;
 mod eliminator;
 mod entry;
 mod family;
-mod hypotheses;
 mod kinds;
 mod name_index;
 mod naming;
@@ -14,6 +14,7 @@ mod positivity;
 mod prelude;
 mod raw;
 mod settling;
+mod shapes;
 mod signature;
 #[cfg(test)]
 mod tests;

@@ -1,9 +1,11 @@
 //! The types that every crate shares, terms first, and the calls on them.
 #![tactic(auto)]
 
+mod building;
 mod case_tree;
 mod copying;
 mod items;
+mod levels;
 mod lifting;
 mod low;
 mod name;
@@ -15,9 +17,15 @@ mod term;
 mod units;
 mod verdict;
 
+pub use building::{
+    applied, applied_to_variables, checked, few, functions, head, into_spine, products, spine_len,
+};
 pub use case_tree::{Branch, Origin, Rule, Step, Tree, Walk};
 pub use copying::{copy, copy_pat, copy_tele, copy_whole};
 pub use items::Items;
+pub use levels::{
+    Run, applied_to_places, applied_to_run, functions_over, place, products_over, variable,
+};
 pub use lifting::lift;
 pub use low::{Low, bounded};
 pub use name::{Name, copy_name};
