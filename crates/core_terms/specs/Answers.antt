@@ -1,6 +1,7 @@
 -- How the answer of a call is tied to the answer that is meant. Want of memory is the one answer that nothing rules out.
 use Rattle.std.specs.Prelude.{◌≡◌, ◌≢◌, ℕ, nat_le, if◌then◌else◌, Result, Ok, Err}
 use Rattle.theory.specs.Terms.{Term, height}
+use Rattle.core_terms.specs.Bounds.{most_height}
 use Rattle.core_terms.specs.declared.stop.Stop.{Stop}
 use Rattle.core_terms.specs.declared.stop.Stop.TheVariants.{Memory, Deep}
 
@@ -18,6 +19,6 @@ abbrev pub Runs : {A B : Type 0} (f : A → B) → Result A Stop → ℕ → Spe
 Runs f (Ok a) left meant = (Ok (f a), left) ≡ meant
 Runs f (Err e) left meant = e ≢ Memory → (Err e, left) ≡ meant
 
--- the term itself, or Deep where it is higher than 2,000
+-- the term itself, or Deep where it is too high
 abbrev pub bounded : Term → Result Term Stop
-bounded t = if nat_le (height t) 2000 then Ok t else Err Deep
+bounded t = if nat_le (height t) most_height then Ok t else Err Deep
