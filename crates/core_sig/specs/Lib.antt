@@ -1,5 +1,8 @@
 pub mod Building
 pub mod Codes
+pub mod DraftScopes
+pub mod EntryTerms
+pub mod Instances
 pub mod Invariants
 pub mod KindTests
 pub mod Kinds
