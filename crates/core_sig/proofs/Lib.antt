@@ -1,9 +1,11 @@
 pub mod Arguments
 pub mod ClosedFamilies
 pub mod ConstructorTypes
+pub mod DraftTerms
 pub mod EliminatorTypes
 pub mod EntryInstances
 pub mod HypothesisTypes
+pub mod Instances
 pub mod Keeping
 pub mod KindLists
 pub mod Lookups

@@ -1,6 +1,9 @@
 pub mod Building
 pub mod ByLevels
 pub mod Codes
+pub mod DraftScopes
+pub mod EntryTerms
+pub mod Instances
 pub mod Invariants
 pub mod KindTests
 pub mod Kinds

@@ -1,5 +1,5 @@
 ghost use Rattle.std.specs.Prelude.{◌≡◌, ◌<◌, ◌≤◌, ◌+◌, ◌++◌, ℕ, codes, length, IfOk, OnOk, OnErr};
-ghost use Rattle.theory.specs.Signatures.{FamilyOf, IsEntryAt};
+ghost use Rattle.theory.specs.Signatures.{FamilyOf, IsEntryAt, equality};
 ghost use Rattle.theory.specs.Prelude as spec;
 ghost use Rattle.theory.specs.WellFormed.{first_entries};
 ghost use Rattle.core_terms.specs.declared.stop.Stop.TheVariants.{Memory};
@@ -29,6 +29,27 @@ impl Signature {
         }
         Ok(sig)
     }
+}
+
+/// The number of the family `Eq.i` in each signature that begins with the prelude.
+pub fn equality(i: u8) -> u32
+    ensures { result ≡ equality i }
+{
+    i as u32 + 1
+}
+
+/// The number of the family `Unit.m` in each signature that begins with the prelude.
+pub fn unit(m: u8) -> u32
+    ensures { result ≡ spec.unit_type m }
+{
+    equality(TOP) + m as u32
+}
+
+/// The number of the family `Pair.m` in each signature that begins with the prelude.
+pub fn pair(m: u8) -> u32
+    ensures { result ≡ spec.pair_type m }
+{
+    unit(TOP) + m as u32
 }
 
 /// Adds the next family of the prelude.

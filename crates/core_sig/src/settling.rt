@@ -1,6 +1,11 @@
-ghost use Rattle.std.specs.Prelude.{◌≡◌, ℕ, map, IfOk};
+ghost use Rattle.std.specs.Prelude.{◌≡◌, ◌≤◌, ℕ, map, length, All, IfOk};
+ghost use Rattle.theory.specs.Signatures as signature;
+ghost use Rattle.theory.specs.SignatureScopes.{IsScoped};
+ghost use Rattle.theory.specs.Terms as tree;
 ghost use Rattle.core_terms.specs.Answers.{Gives};
 ghost use Rattle.core_terms.specs.Meanings.{tree_of, tele_of};
+ghost use Rattle.core_sig.specs.DraftScopes.{IsDraftTerm, NamesConstant};
+ghost use Rattle.core_sig.specs.EntryTerms.{EachTerm};
 ghost use Rattle.core_sig.specs.Kinds.{HasEntryKinds};
 ghost use Rattle.core_sig.specs.Meanings.{entry_of};
 ghost use Rattle.core_sig.specs.SettledParts.{argument_parts, constructor_parts, family_parts, settled_argument, settled_constructor, settled_family, settled_terms};
@@ -11,8 +16,17 @@ use core_terms::{Items, Stop, Tele, Term, copy_name};
 use std::alloc::Global;
 
 /// The draft's entry with the numbers that its names have in the signature. A name that is no entry's, and a constant
-/// behind the names, keeps its number.
+/// behind the names, keeps its number. Where the names are constants of `T`, what is scoped over `T` but for them is scoped over it.
 pub fn settle(alloc: Global, sig: &Signature, draft: &Draft) -> Result<Entry, Stop>
+    ensures answer { Gives entry_of result (Ok (renumbered_entry (settled_number sig.now draft.now.base draft.now.names) (entry_of draft.now.entry))) }
+    ensures kinds { (n : ℕ) → HasEntryKinds n draft.now.entry → IfOk result (HasEntryKinds n) }
+    ensures scoped { (T : signature.Signature) → All (NamesConstant sig.now T) draft.now.names → EachTerm (IsDraftTerm T draft.now.base (length draft.now.names)) (entry_of draft.now.entry) → IfOk result (λ e. EachTerm (IsScoped T) (entry_of e)) }
+    ensures height { (h : ℕ) → EachTerm (λ n t. tree.height t ≤ h) (entry_of draft.now.entry) → IfOk result (λ e. EachTerm (λ n t. tree.height t ≤ h) (entry_of e)) }
+{
+    settle_entry(alloc, sig, draft)
+}
+
+fn settle_entry(alloc: Global, sig: &Signature, draft: &Draft) -> Result<Entry, Stop>
     ensures answer { Gives entry_of result (Ok (renumbered_entry (settled_number sig.now draft.now.base draft.now.names) (entry_of draft.now.entry))) }
     ensures kinds { (n : ℕ) → HasEntryKinds n draft.now.entry → IfOk result (HasEntryKinds n) }
 {

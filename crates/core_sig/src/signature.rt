@@ -1,12 +1,15 @@
-ghost use Rattle.std.specs.Prelude.{◌≡◌, ◌≢◌, ◌≤◌, None, [], length, take, map, slice_get, option_map, All, AllPairs, IfOk, OnOk, OnErr, IfSome};
-ghost use Rattle.std.specs.Option.{option_copied};
+ghost use Rattle.std.specs.Prelude.{◌≡◌, ◌≢◌, ◌≤◌, None, [], length, take, map, position, slice_get, option_map, All, AllPairs, IfOk, OnOk, OnErr, IfSome};
+ghost use Rattle.std.specs.List.{list_any};
+ghost use Rattle.std.specs.Option.{is_some, option_copied};
 ghost use Rattle.theory.specs.Signatures.{names_of};
 ghost use Rattle.theory.specs.WellFormed.{pushed, first_entries};
 ghost use Rattle.core_terms.specs.declared.stop.Stop.TheVariants.{Memory};
+ghost use Rattle.core_sig.specs.Instances.{is_axiom_k, is_eliminator};
 ghost use Rattle.core_sig.specs.Kinds.{HasEntryKinds};
 ghost use Rattle.core_sig.specs.Meanings.{entry_of};
 ghost use Rattle.core_sig.specs.Names.{find, named};
 
+use crate::instance_place::{Instance, place_of};
 use crate::name_index::NameIndex;
 use crate::naming::{add_names, name_count};
 use crate::{Entry, Found};
@@ -79,6 +82,24 @@ impl Signature {
         ensures { result ≡ find self.now name.now }
     {
         self.names.get(name)
+    }
+
+    /// The number of the eliminator of family `fam` into `Type m`, where it is an entry. Takes no memory.
+    #[tactic(auto, using(crate::proofs::Instances::place_laws))]
+    pub fn eliminator(&self, fam: u32, m: u8) -> Option<u32>
+        ensures place { result ≡ position (is_eliminator fam m) self.now.entries }
+        ensures there { is_some result ≡ list_any (is_eliminator fam m) self.now.entries }
+    {
+        place_of(self.entries.as_slice(), Instance::Eliminator(fam, m))
+    }
+
+    /// The number of the axiom K of `Eq.i` into `Type m`, where it is an entry. Takes no memory.
+    #[tactic(auto, using(crate::proofs::Instances::place_laws))]
+    pub fn axiom_k(&self, i: u8, m: u8) -> Option<u32>
+        ensures place { result ≡ position (is_axiom_k i m) self.now.entries }
+        ensures there { is_some result ≡ list_any (is_axiom_k i m) self.now.entries }
+    {
+        place_of(self.entries.as_slice(), Instance::AxiomK(i, m))
     }
 
     /// Adds the entry at the end and answers its number. Memory is also answered where a number would not fit.

@@ -1,6 +1,7 @@
 -- How the answer of a call is tied to the answer that is meant, and how answers are put one behind the other.
 use Rattle.std.specs.Prelude.{◌≡◌, ℕ, Bool, nat_le, if◌then◌else◌, Result, Ok, Err}
 use Rattle.theory.specs.Terms.{Term, height}
+use Rattle.core_terms.specs.Bounds.{most_height}
 use Rattle.core_terms.specs.declared.stop.Stop.{Stop}
 use Rattle.core_terms.specs.declared.stop.Stop.TheVariants.{Memory, Deep}
 
@@ -55,8 +56,8 @@ abbrev pub and_next : {A B E : Type 0} → SpentOr E A → (A → ℕ → SpentO
 and_next first go = on_answer first.0 first.1 go
 
 abbrev pub is_low : Term → Bool
-is_low t = nat_le (height t) 2000
+is_low t = nat_le (height t) most_height
 
--- the term itself, or Deep where it is higher than 2,000
+-- the term itself, or Deep where it is too high
 abbrev pub bounded : Term → Result Term Stop
 bounded t = if is_low t then Ok t else Err Deep

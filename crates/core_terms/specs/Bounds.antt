@@ -1,5 +1,9 @@
--- Bounds under which an index of a variable fits 32 bits.
+-- The greatest height of a term, and a bound under which an index of a variable fits 32 bits.
 use Rattle.std.specs.Prelude.{ℕ}
+
+-- the greatest height of a term that a call answers
+abbrev pub most_height : ℕ
+most_height = 2000
 
 -- 2 ^ 32 - 2001: with so many free variables a term of height 2,000 or less has no index above u32.MAX, since fewer
 -- than 2,000 binders stand around a variable

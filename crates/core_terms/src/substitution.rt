@@ -1,6 +1,6 @@
 ghost use Rattle.std.specs.Prelude.{◌≡◌, ◌≤◌, ◌<◌, ◌+◌, ◌^◌, min};
 ghost use Rattle.core_terms.specs.Answers.{Gives, bounded};
-ghost use Rattle.core_terms.specs.Bounds.{most_free};
+ghost use Rattle.core_terms.specs.Bounds.{most_free, most_height};
 ghost use Rattle.core_terms.specs.Meanings.{tree_of};
 ghost use Rattle.core_terms.specs.Substitution.{subst_under, height_with};
 ghost use Rattle.theory.specs.Terms as tree;
@@ -25,9 +25,9 @@ pub fn subst(alloc: Global, t: &Term, at: u32, by: &Term) -> Result<Term, Stop>
 
 /// The height that `t` has once a term of height `put` stands for variable `at`, or `MAX_HEIGHT + 1` where it is greater.
 fn substituted_height(t: &Term, at: u64, put: u32) -> u32
-    requires height { put ≤ 2001 }
+    requires height { put ≤ most_height + 1 }
     requires binders { at + tree.height (tree_of t.now) < 2 ^ 64 }
-    ensures { result ≡ min (height_with (tree_of t.now) at put) 2001 }
+    ensures { result ≡ min (height_with (tree_of t.now) at put) (most_height + 1) }
 {
     match t {
         Term::Var(n) if *n as u64 == at => put,

@@ -1,6 +1,7 @@
 ghost use Rattle.std.specs.Prelude.{◌≡◌, ◌≤◌, ◌+◌, ◌↔◌, min, IsTrue};
 ghost use Rattle.theory.specs.Terms as tree;
 ghost use Rattle.core_terms.specs.Answers.{Gives};
+ghost use Rattle.core_terms.specs.Bounds.{most_height};
 ghost use Rattle.core_terms.specs.Meanings.{tree_of};
 
 use crate::{Items, Stop};
@@ -70,7 +71,7 @@ impl Term {
 
     /// The height, or `MAX_HEIGHT + 1` where it is greater. A leaf has height 1. Takes no memory.
     pub fn height(&self) -> u32
-        ensures { result ≡ min (tree.height (tree_of self.now)) 2001 }
+        ensures { result ≡ min (tree.height (tree_of self.now)) (most_height + 1) }
     {
         match self {
             Term::Pi(first, second) | Term::Lam(first, second) | Term::App(first, second) => {
@@ -106,8 +107,8 @@ impl Term {
 
 /// The height of a term whose highest part has height `part`, where both stop behind `MAX_HEIGHT`.
 pub(crate) fn above(part: u32) -> u32
-    requires { part ≤ 2001 }
-    ensures { result ≡ min (1 + part) 2001 }
+    requires { part ≤ most_height + 1 }
+    ensures { result ≡ min (1 + part) (most_height + 1) }
 {
     (1 + part).min(MAX_HEIGHT + 1)
 }

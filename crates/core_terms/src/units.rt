@@ -1,4 +1,4 @@
-ghost use Rattle.std.specs.Prelude.{◌≡◌, ◌+◌, ◌<◌, ◌^◌, OnOk, OnErr};
+ghost use Rattle.std.specs.Prelude.{◌≡◌, ◌+◌, ◌<◌, ◌≤◌, ◌^◌, OnOk, OnErr};
 ghost use Rattle.core_terms.specs.declared.stop.Stop.TheVariants.{Fuel};
 
 use crate::Stop;
@@ -15,6 +15,7 @@ impl Units {
     /// Moves one unit from `left` to `spent`, or answers Fuel where none is left. Takes no memory.
     pub fn spend(&mut self) -> Result<(), Stop>
         ensures total { self.new.left + self.new.spent ≡ self.old.left + self.old.spent }
+        ensures spends { self.new.left ≤ self.old.left }
         ensures ok { OnOk result (self.old.left ≡ self.new.left + 1) }
         ensures err { OnErr result (self.new ≡ self.old) }
         ensures fuel { OnErr result (result ≡ Err Fuel) }

@@ -11,7 +11,7 @@ use Rattle.core_terms.specs.declared.stop.Stop.{Stop}
 use Rattle.core_terms.specs.declared.stop.Stop.TheVariants.{Deep}
 use Rattle.kernel_reduce.specs.Steps.{step_of}
 use Rattle.kernel_reduce.specs.Reduction.{some_bounded, step_taken, without_units, with_unit, whnf_of, with_children, normal_children, normal_of}
-use Rattle.kernel_reduce.specs.Laws.{HeadStepIsStep, IsHeadForm, WhnfIsHeadForm, NormalConverts, HeadStepSpends, WhnfSpends, NormalSpends}
+use Rattle.kernel_reduce.specs.Laws.{HeadStepIsStep, HeadStepIsLow, IsHeadForm, WhnfIsHeadForm, NormalConverts, HeadStepSpends, WhnfSpends, NormalSpends}
 use Rattle.core_terms.proofs.Answers.{Answers, and_next-has, and_next-spends, low-is, bounded-has}
 use Rattle.kernel_reduce.proofs.Answers.{charge-has, if_low-has, charge-spends, if_low-spends}
 use Rattle.kernel_reduce.proofs.StepLaws.{step-steps}
@@ -31,6 +31,21 @@ step_taken-has P (Some u) left h = charge-has _ _ left (λ rest. some_bounded-ha
 pub head_step-is_step : HeadStepIsStep
 head_step-is_step S delta t left =
     if_low-has _ (is_low t) _ left (λ low. step_taken-has (Step S t) (step_of S delta t) left (step-steps S delta t))
+
+bounded-low : (t : Term) → IfOk (some_bounded t) (λ next. IfSome next (λ u. height u ≤ 2000))
+bounded-low t = go (is_low t) refl
+  where
+    go : (b : Bool) → is_low t ≡ b → IfOk {E = Stop} (cond b (Ok (Some t)) (Err Deep)) (λ next. IfSome next (λ u. height u ≤ 2000))
+    go true low = low-is t low
+    go false high = tt
+
+step_taken-low : (step : Option Term) (left : ℕ) → Answers (λ next. IfSome next (λ u. height u ≤ 2000)) (step_taken step left)
+step_taken-low None left = tt
+step_taken-low (Some u) left = charge-has _ _ left (λ rest. bounded-low u)
+
+-- a head step is no higher than a term may be
+pub head_step-is_low : HeadStepIsLow
+head_step-is_low S delta t left = if_low-has _ (is_low t) _ left (λ low. step_taken-low (step_of S delta t) left)
 
 head_form : {S : Signature} {delta : Bool} {t : Term} → step_of S delta t ≡ None → is_low t ≡ true → IsHeadForm S delta t t
 head_form {t = t} rests low = record { converts = same; rests = rests; low = low-is t low }

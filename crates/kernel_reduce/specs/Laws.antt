@@ -4,6 +4,7 @@ use Rattle.theory.specs.Terms.{Term, height}
 use Rattle.theory.specs.Signatures.{Signature}
 use Rattle.theory.specs.SignatureScopes.{IsScoped, IsScopedSignature}
 use Rattle.theory.specs.Conversion.{Step, Converts, Below}
+use Rattle.core_terms.specs.Bounds.{most_height}
 use Rattle.kernel_reduce.specs.Steps.{step_of}
 use Rattle.kernel_reduce.specs.Reduction.{head_step_of, whnf_of, normal_of}
 use Rattle.kernel_reduce.specs.Comparison.{convertible_of, subtype_of}
@@ -14,22 +15,28 @@ HeadStepIsStep =
     (S : Signature) (delta : Bool) (t : Term) (left : ℕ) →
     IfOk (head_step_of S delta t left).0 (λ next. IfSome next (Step S t))
 
--- u is a head form of t: t converts to it, it takes no head step, and it is no higher than 2,000
+-- a head step is no higher than a term may be
+abbrev pub HeadStepIsLow : Type 0
+HeadStepIsLow =
+    (S : Signature) (delta : Bool) (t : Term) (left : ℕ) →
+    IfOk (head_step_of S delta t left).0 (λ next. IfSome next (λ u. height u ≤ most_height))
+
+-- u is a head form of t: t converts to it, it takes no head step, and it is no higher than a term may be
 pub record IsHeadForm (S : Signature) (delta : Bool) (t u : Term) : Type 0 where
   pub converts : Converts S t u
   pub rests : step_of S delta u ≡ None
-  pub low : height u ≤ 2000
+  pub low : height u ≤ most_height
 
 abbrev pub WhnfIsHeadForm : Type 0
 WhnfIsHeadForm =
     (S : Signature) (delta : Bool) (left : ℕ) (t : Term) →
     IfOk (whnf_of S delta left t).0 (IsHeadForm S delta t)
 
--- a term converts to its normal form, which is no higher than 2,000
+-- a term converts to its normal form, which is no higher than a term may be
 abbrev pub NormalConverts : Type 0
 NormalConverts =
     (S : Signature) (delta : Bool) (room : ℕ) (t : Term) (left : ℕ) →
-    IfOk (normal_of S delta room t left).0 (λ u. Converts S t u × (height u ≤ 2000))
+    IfOk (normal_of S delta room t left).0 (λ u. Converts S t u × (height u ≤ most_height))
 
 -- terms that are found convertible convert
 abbrev pub ConvertibleConverts : Type 0

@@ -4,6 +4,7 @@ use Rattle.std.specs.Prelude.{ℕ, zero, suc, Bool, true, false, cond, Option, S
 use Rattle.theory.specs.Terms.{Term, Pi, Lam, App}
 use Rattle.theory.specs.Signatures.{Signature}
 use Rattle.core_terms.specs.Answers.{Spent, and_next, is_low, bounded}
+use Rattle.core_terms.specs.Bounds.{most_height}
 use Rattle.core_terms.specs.declared.stop.Stop.{Stop}
 use Rattle.core_terms.specs.declared.stop.Stop.TheVariants.{Fuel, Deep}
 use Rattle.kernel_reduce.specs.Steps.{step_of}
@@ -12,8 +13,12 @@ use Rattle.kernel_reduce.specs.Steps.{step_of}
 abbrev pub nesting : ℕ
 nesting = 2000
 
--- 3 * 2 ^ 30 - 2000: the terms that calls are given have so many free variables at most, which is more than 2 ^ 31 and as many
--- binders as calls may be open. No index of a term that is made passes 32 bits.
+-- 3 * 2 ^ 30: so many free variables at most has a term inside a call. No index of a term that is made passes 32 bits.
+abbrev pub most_inner_variables : ℕ
+most_inner_variables = 3221225472
+
+-- 3 * 2 ^ 30 - 2000: so many at most has a term that a call is given, which is more than 2 ^ 31. As many binders more as calls
+-- may be open stand around a term inside.
 abbrev pub most_variables : ℕ
 most_variables = 3221223472
 

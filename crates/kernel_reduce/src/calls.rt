@@ -5,6 +5,7 @@
 //! comes first. The answers and the units are those of the definitions, unless memory ran out.
 ghost use Rattle.std.specs.Prelude.{◌≡◌, ◌≤◌, ◌+◌, ℕ, IfOk, IfSome, IsTrue, option_map};
 ghost use Rattle.core_terms.specs.Answers.{Runs};
+ghost use Rattle.core_terms.specs.Bounds.{most_height};
 ghost use Rattle.core_terms.specs.Meanings.{tree_of};
 ghost use Rattle.theory.specs.Conversion.{Step, Converts, Below};
 ghost use Rattle.theory.specs.SignatureScopes.{IsScoped, IsScopedSignature};
@@ -23,7 +24,7 @@ use core_terms::{Stop, Term, Units};
 use std::alloc::Global;
 
 /// How many calls may be open at once.
-const NESTING: u32 = 2000;
+pub const NESTING: u32 = 2000;
 
 /// The next head step of a term, or None where it takes none. Without `delta` constants take no step.
 pub fn head_step(
@@ -37,7 +38,9 @@ pub fn head_step(
     requires scoped { IsScoped sig.now most_variables (tree_of t.now) }
     ensures answer { Runs (option_map tree_of) result units.new.left (head_step_of sig.now delta (tree_of t.now) units.old.left) }
     ensures sum { units.new.left + units.new.spent ≡ units.old.left + units.old.spent }
+    ensures spends { units.new.left ≤ units.old.left }
     ensures step { IfOk result (λ next. IfSome next (λ u. Step sig.now (tree_of t.now) (tree_of u))) }
+    ensures low { IfOk result (λ next. IfSome next (λ u. tree.height (tree_of u) ≤ most_height)) }
     ensures scoped { (n : ℕ) → IsScoped sig.now n (tree_of t.now) → IfOk result (λ next. IfSome next (λ u. IsScoped sig.now n (tree_of u))) }
 {
     next_step(alloc, sig, t, delta, units)
@@ -55,6 +58,7 @@ pub fn whnf(
     requires scoped { IsScoped sig.now most_variables (tree_of t.now) }
     ensures answer { Runs tree_of result units.new.left (whnf_of sig.now delta units.old.left (tree_of t.now)) }
     ensures sum { units.new.left + units.new.spent ≡ units.old.left + units.old.spent }
+    ensures spends { units.new.left ≤ units.old.left }
     ensures form { IfOk result (λ u. IsHeadForm sig.now delta (tree_of t.now) (tree_of u)) }
     ensures scoped { (n : ℕ) → IsScoped sig.now n (tree_of t.now) → IfOk result (λ u. IsScoped sig.now n (tree_of u)) }
 {
@@ -73,8 +77,9 @@ pub fn normal(
     requires scoped { IsScoped sig.now most_variables (tree_of t.now) }
     ensures answer { Runs tree_of result units.new.left (normal_of sig.now delta nesting (tree_of t.now) units.old.left) }
     ensures sum { units.new.left + units.new.spent ≡ units.old.left + units.old.spent }
+    ensures spends { units.new.left ≤ units.old.left }
     ensures converts { IfOk result (λ u. Converts sig.now (tree_of t.now) (tree_of u)) }
-    ensures low { IfOk result (λ u. tree.height (tree_of u) ≤ 2000) }
+    ensures low { IfOk result (λ u. tree.height (tree_of u) ≤ most_height) }
     ensures scoped { (n : ℕ) → IsScoped sig.now n (tree_of t.now) → IfOk result (λ u. IsScoped sig.now n (tree_of u)) }
 {
     normal_form(alloc, sig, t, delta, NESTING, units)
@@ -93,6 +98,7 @@ pub fn convertible(
     requires b { IsScoped sig.now most_variables (tree_of b.now) }
     ensures answer { Runs (λ holds. holds) result units.new.left (convertible_of sig.now nesting (tree_of a.now) (tree_of b.now) units.old.left) }
     ensures sum { units.new.left + units.new.spent ≡ units.old.left + units.old.spent }
+    ensures spends { units.new.left ≤ units.old.left }
     ensures sound { IfOk result (λ holds. IsTrue holds → Converts sig.now (tree_of a.now) (tree_of b.now)) }
 {
     compare(alloc, sig, a, b, NESTING, units)
@@ -111,6 +117,7 @@ pub fn subtype(
     requires b { IsScoped sig.now most_variables (tree_of b.now) }
     ensures answer { Runs (λ holds. holds) result units.new.left (subtype_of sig.now nesting (tree_of a.now) (tree_of b.now) units.old.left) }
     ensures sum { units.new.left + units.new.spent ≡ units.old.left + units.old.spent }
+    ensures spends { units.new.left ≤ units.old.left }
     ensures sound { IfOk result (λ holds. IsTrue holds → Below sig.now (tree_of a.now) (tree_of b.now)) }
 {
     order(alloc, sig, a, b, NESTING, units)
@@ -125,12 +132,13 @@ pub fn subtype_within(
     room: u32,
     units: &mut Units,
 ) -> Result<bool, Stop>
-    requires room { room ≤ 2000 }
+    requires room { room ≤ nesting }
     requires signature { IsScopedSignature sig.now }
     requires a { IsScoped sig.now most_variables (tree_of a.now) }
     requires b { IsScoped sig.now most_variables (tree_of b.now) }
     ensures answer { Runs (λ holds. holds) result units.new.left (subtype_of sig.now room (tree_of a.now) (tree_of b.now) units.old.left) }
     ensures sum { units.new.left + units.new.spent ≡ units.old.left + units.old.spent }
+    ensures spends { units.new.left ≤ units.old.left }
     ensures sound { IfOk result (λ holds. IsTrue holds → Below sig.now (tree_of a.now) (tree_of b.now)) }
 {
     order(alloc, sig, a, b, room, units)

@@ -1,8 +1,9 @@
 ghost use Rattle.std.specs.Prelude.{◌≡◌, ◌≤◌, ◌<◌, ◌+◌, IfSome, is_some, option_map, true};
 ghost use Rattle.core_terms.specs.Answers.{Gives, Runs, bounded};
+ghost use Rattle.core_terms.specs.Bounds.{most_height};
 ghost use Rattle.core_terms.specs.Meanings.{tree_of};
 ghost use Rattle.theory.specs.Terms as tree;
-ghost use Rattle.kernel_reduce.specs.Reduction.{head_step_of};
+ghost use Rattle.kernel_reduce.specs.Reduction.{head_step_of, most_inner_variables};
 ghost use Rattle.kernel_reduce.specs.Steps.{step_of};
 
 use crate::stepping::step;
@@ -14,8 +15,8 @@ use std::alloc::Global;
 /// The step of a term that takes one, or Deep.
 fn take_step(alloc: Global, sig: &Signature, t: &Term, delta: bool) -> Result<Term, Stop>
     requires takes { is_some (step_of sig.now delta (tree_of t.now)) ≡ true }
-    requires low { tree.height (tree_of t.now) ≤ 2000 }
-    requires free { tree.free_of (tree_of t.now) ≤ 3221225472 }
+    requires low { tree.height (tree_of t.now) ≤ most_height }
+    requires free { tree.free_of (tree_of t.now) ≤ most_inner_variables }
     ensures { IfSome (step_of sig.now delta (tree_of t.now)) (λ u. Gives tree_of result (bounded u)) }
 {
     let t = copy(alloc, t)?;
@@ -30,9 +31,10 @@ pub(crate) fn next_step(
     delta: bool,
     units: &mut Units,
 ) -> Result<Option<Term>, Stop>
-    requires free { tree.free_of (tree_of t.now) ≤ 3221225472 }
+    requires free { tree.free_of (tree_of t.now) ≤ most_inner_variables }
     ensures answer { Runs (option_map tree_of) result units.new.left (head_step_of sig.now delta (tree_of t.now) units.old.left) }
     ensures sum { units.new.left + units.new.spent ≡ units.old.left + units.old.spent }
+    ensures spends { units.new.left ≤ units.old.left }
 {
     if t.height() > MAX_HEIGHT {
         return Err(Stop::Deep);

@@ -1,10 +1,15 @@
 //! What reduction and comparison mean in the theory.
 ghost use Rattle.kernel_reduce.specs.SignatureLaws.{PreludeScoped, PushedScoped, FirstEntriesScoped, WellFormedScoped, WellFormedWhole, SoFarScoped, TypedTermScoped, TypedContextScoped};
-ghost use Rattle.kernel_reduce.specs.Laws.{HeadStepIsStep, WhnfIsHeadForm, NormalConverts, ConvertibleConverts, SubtypeIsBelow, HeadStepSpends, WhnfSpends, NormalSpends, ConvertibleSpends, SubtypeSpends, StepScoped, HeadStepScoped, WhnfScoped, NormalScoped};
+ghost use Rattle.kernel_reduce.specs.Laws.{HeadStepIsStep, HeadStepIsLow, WhnfIsHeadForm, NormalConverts, ConvertibleConverts, SubtypeIsBelow, HeadStepSpends, WhnfSpends, NormalSpends, ConvertibleSpends, SubtypeSpends, StepScoped, HeadStepScoped, WhnfScoped, NormalScoped};
 
 /// A head step is a step of the theory.
 pub fn head_step_is_step()
     ensures { HeadStepIsStep }
+{}
+
+/// A head step is no higher than 2,000.
+pub fn head_step_is_low()
+    ensures { HeadStepIsLow }
 {}
 
 /// Head reduction answers a head form that its term converts to.

@@ -3,6 +3,7 @@ ghost use Rattle.core_terms.specs.Answers.{Runs};
 ghost use Rattle.core_terms.specs.Meanings.{tree_of};
 ghost use Rattle.theory.specs.SignatureScopes.{IsScoped, IsScopedSignature};
 ghost use Rattle.kernel_reduce.specs.Reduction as pure;
+ghost use Rattle.kernel_reduce.specs.Reduction.{most_inner_variables, nesting};
 
 use crate::reducing::reduce;
 use core_sig::Signature;
@@ -19,11 +20,12 @@ pub(crate) fn normalise(
     room: u32,
     units: &mut Units,
 ) -> Result<Term, Stop>
-    requires room { room ≤ 2000 }
+    requires room { room ≤ nesting }
     requires signature { IsScopedSignature sig.now }
-    requires scoped { IsScoped sig.now (3221225472 - room) (tree_of t) }
+    requires scoped { IsScoped sig.now (most_inner_variables - room) (tree_of t) }
     ensures answer { Runs tree_of result units.new.left (pure.normal_of sig.now delta room (tree_of t) units.old.left) }
     ensures sum { units.new.left + units.new.spent ≡ units.old.left + units.old.spent }
+    ensures spends { units.new.left ≤ units.old.left }
 {
     if room == 0 {
         return Err(Stop::Deep);
@@ -42,11 +44,12 @@ fn normal_children(
     room: u32,
     units: &mut Units,
 ) -> Result<Term, Stop>
-    requires room { room < 2000 }
+    requires room { room < nesting }
     requires signature { IsScopedSignature sig.now }
-    requires scoped { IsScoped sig.now (3221225471 - room) (tree_of t) }
+    requires scoped { IsScoped sig.now (most_inner_variables - (room + 1)) (tree_of t) }
     ensures answer { Runs tree_of result units.new.left (pure.normal_children (pure.normal_of sig.now delta room) (tree_of t) units.old.left) }
     ensures sum { units.new.left + units.new.spent ≡ units.old.left + units.old.spent }
+    ensures spends { units.new.left ≤ units.old.left }
 {
     match t {
         Term::Pi(a, b) => {
@@ -77,11 +80,12 @@ pub(crate) fn normal_form(
     room: u32,
     units: &mut Units,
 ) -> Result<Term, Stop>
-    requires room { room ≤ 2000 }
+    requires room { room ≤ nesting }
     requires signature { IsScopedSignature sig.now }
-    requires scoped { IsScoped sig.now (3221225472 - room) (tree_of t.now) }
+    requires scoped { IsScoped sig.now (most_inner_variables - room) (tree_of t.now) }
     ensures answer { Runs tree_of result units.new.left (pure.normal_of sig.now delta room (tree_of t.now) units.old.left) }
     ensures sum { units.new.left + units.new.spent ≡ units.old.left + units.old.spent }
+    ensures spends { units.new.left ≤ units.old.left }
 {
     let t = copy(alloc, t)?;
     normalise(alloc, sig, t, delta, room, units)

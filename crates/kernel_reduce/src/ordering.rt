@@ -3,6 +3,7 @@ ghost use Rattle.core_terms.specs.Answers.{Runs};
 ghost use Rattle.core_terms.specs.Meanings.{tree_of};
 ghost use Rattle.theory.specs.SignatureScopes.{IsScoped, IsScopedSignature};
 ghost use Rattle.kernel_reduce.specs.Comparison as pure;
+ghost use Rattle.kernel_reduce.specs.Reduction.{most_inner_variables, nesting};
 
 use crate::comparing::compare;
 use crate::reducing::head_form;
@@ -20,12 +21,13 @@ pub(crate) fn order(
     room: u32,
     units: &mut Units,
 ) -> Result<bool, Stop>
-    requires room { room ≤ 2000 }
+    requires room { room ≤ nesting }
     requires signature { IsScopedSignature sig.now }
-    requires a { IsScoped sig.now (3221225472 - room) (tree_of a.now) }
-    requires b { IsScoped sig.now (3221225472 - room) (tree_of b.now) }
+    requires a { IsScoped sig.now (most_inner_variables - room) (tree_of a.now) }
+    requires b { IsScoped sig.now (most_inner_variables - room) (tree_of b.now) }
     ensures answer { Runs (λ holds. holds) result units.new.left (pure.subtype_of sig.now room (tree_of a.now) (tree_of b.now) units.old.left) }
     ensures sum { units.new.left + units.new.spent ≡ units.old.left + units.old.spent }
+    ensures spends { units.new.left ≤ units.old.left }
 {
     if room == 0 || a.height() > MAX_HEIGHT || b.height() > MAX_HEIGHT {
         return Err(Stop::Deep);
@@ -44,12 +46,13 @@ fn order_forms(
     room: u32,
     units: &mut Units,
 ) -> Result<bool, Stop>
-    requires room { room < 2000 }
+    requires room { room < nesting }
     requires signature { IsScopedSignature sig.now }
-    requires a { IsScoped sig.now (3221225471 - room) (tree_of a.now) }
-    requires b { IsScoped sig.now (3221225471 - room) (tree_of b.now) }
+    requires a { IsScoped sig.now (most_inner_variables - (room + 1)) (tree_of a.now) }
+    requires b { IsScoped sig.now (most_inner_variables - (room + 1)) (tree_of b.now) }
     ensures answer { Runs (λ holds. holds) result units.new.left (pure.on_heads sig.now (tree_of a.now) (tree_of b.now) (pure.heads_below (pure.convertible_of sig.now room) (pure.subtype_of sig.now room)) units.old.left) }
     ensures sum { units.new.left + units.new.spent ≡ units.old.left + units.old.spent }
+    ensures spends { units.new.left ≤ units.old.left }
 {
     let a = head_form(alloc, sig, a, true, units)?;
     let b = head_form(alloc, sig, b, true, units)?;
@@ -66,12 +69,13 @@ fn order_heads(
     room: u32,
     units: &mut Units,
 ) -> Result<bool, Stop>
-    requires room { room < 2000 }
+    requires room { room < nesting }
     requires signature { IsScopedSignature sig.now }
-    requires a { IsScoped sig.now (3221225471 - room) (tree_of a.now) }
-    requires b { IsScoped sig.now (3221225471 - room) (tree_of b.now) }
+    requires a { IsScoped sig.now (most_inner_variables - (room + 1)) (tree_of a.now) }
+    requires b { IsScoped sig.now (most_inner_variables - (room + 1)) (tree_of b.now) }
     ensures answer { Runs (λ holds. holds) result units.new.left (pure.heads_below (pure.convertible_of sig.now room) (pure.subtype_of sig.now room) (tree_of a.now) (tree_of b.now) units.old.left) }
     ensures sum { units.new.left + units.new.spent ≡ units.old.left + units.old.spent }
+    ensures spends { units.new.left ≤ units.old.left }
 {
     match (a, b) {
         (Term::Sort(i), Term::Sort(j)) => Ok(i <= j),
@@ -92,14 +96,15 @@ fn order_products(
     room: u32,
     units: &mut Units,
 ) -> Result<bool, Stop>
-    requires room { room < 2000 }
+    requires room { room < nesting }
     requires signature { IsScopedSignature sig.now }
-    requires a { IsScoped sig.now (3221225472 - room) (tree_of a.now) }
-    requires b { IsScoped sig.now (3221225472 - room) (tree_of b.now) }
-    requires c { IsScoped sig.now (3221225472 - room) (tree_of c.now) }
-    requires d { IsScoped sig.now (3221225472 - room) (tree_of d.now) }
+    requires a { IsScoped sig.now (most_inner_variables - room) (tree_of a.now) }
+    requires b { IsScoped sig.now (most_inner_variables - room) (tree_of b.now) }
+    requires c { IsScoped sig.now (most_inner_variables - room) (tree_of c.now) }
+    requires d { IsScoped sig.now (most_inner_variables - room) (tree_of d.now) }
     ensures answer { Runs (λ holds. holds) result units.new.left (pure.both (pure.convertible_of sig.now room (tree_of a.now) (tree_of c.now)) (pure.subtype_of sig.now room (tree_of b.now) (tree_of d.now)) units.old.left) }
     ensures sum { units.new.left + units.new.spent ≡ units.old.left + units.old.spent }
+    ensures spends { units.new.left ≤ units.old.left }
 {
     if !compare(alloc, sig, a, c, room, units)? {
         return Ok(false);

@@ -1,8 +1,8 @@
-ghost use Rattle.std.specs.Prelude.{◌≡◌, ◌+◌};
+ghost use Rattle.std.specs.Prelude.{◌≡◌, ◌≤◌, ◌+◌};
 ghost use Rattle.core_terms.specs.Answers.{Runs};
 ghost use Rattle.core_terms.specs.Meanings.{tree_of};
 ghost use Rattle.theory.specs.SignatureScopes.{IsScoped, IsScopedSignature};
-ghost use Rattle.kernel_reduce.specs.Reduction.{whnf_of};
+ghost use Rattle.kernel_reduce.specs.Reduction.{most_inner_variables, whnf_of};
 
 use crate::stepping::step;
 use crate::testing::has_step;
@@ -19,9 +19,10 @@ pub(crate) fn reduce(
     units: &mut Units,
 ) -> Result<Term, Stop>
     requires signature { IsScopedSignature sig.now }
-    requires scoped { IsScoped sig.now 3221225472 (tree_of t) }
+    requires scoped { IsScoped sig.now most_inner_variables (tree_of t) }
     ensures answer { Runs tree_of result units.new.left (whnf_of sig.now delta units.old.left (tree_of t)) }
     ensures sum { units.new.left + units.new.spent ≡ units.old.left + units.old.spent }
+    ensures spends { units.new.left ≤ units.old.left }
 {
     let mut t = t;
     'steps: loop {
@@ -45,9 +46,10 @@ pub(crate) fn head_form(
     units: &mut Units,
 ) -> Result<Term, Stop>
     requires signature { IsScopedSignature sig.now }
-    requires scoped { IsScoped sig.now 3221225472 (tree_of t.now) }
+    requires scoped { IsScoped sig.now most_inner_variables (tree_of t.now) }
     ensures answer { Runs tree_of result units.new.left (whnf_of sig.now delta units.old.left (tree_of t.now)) }
     ensures sum { units.new.left + units.new.spent ≡ units.old.left + units.old.spent }
+    ensures spends { units.new.left ≤ units.old.left }
 {
     let t = copy(alloc, t)?;
     reduce(alloc, sig, t, delta, units)

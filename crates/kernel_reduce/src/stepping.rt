@@ -1,8 +1,10 @@
 ghost use Rattle.std.specs.Prelude.{◌≡◌, ◌≤◌, true, is_some, IfSome};
+ghost use Rattle.core_terms.specs.Bounds.{most_height};
 ghost use Rattle.core_terms.specs.Meanings.{tree_of};
 ghost use Rattle.theory.specs.Terms as tree;
 ghost use Rattle.kernel_reduce.specs.Entries.{body_at};
 ghost use Rattle.kernel_reduce.specs.Making.{Makes};
+ghost use Rattle.kernel_reduce.specs.Reduction.{most_inner_variables};
 ghost use Rattle.kernel_reduce.specs.Steps.{beta_step, step_of};
 
 use crate::contracting::contract;
@@ -24,7 +26,7 @@ fn unfold(alloc: Global, sig: &Signature, n: u32) -> Result<Term, Stop>
 
 /// The function `f` at `u`.
 fn apply(alloc: Global, f: Term, u: &Term) -> Result<Term, Stop>
-    requires free { tree.free_of (tree_of u.now) ≤ 3221225472 }
+    requires free { tree.free_of (tree_of u.now) ≤ most_inner_variables }
     ensures { IfSome (beta_step (tree_of f) (tree_of u.now)) (Makes result) }
 {
     match f {
@@ -36,8 +38,8 @@ fn apply(alloc: Global, f: Term, u: &Term) -> Result<Term, Stop>
 /// The step of a term that takes one.
 pub(crate) fn step(alloc: Global, sig: &Signature, t: Term, delta: bool) -> Result<Term, Stop>
     requires takes { is_some (step_of sig.now delta (tree_of t)) ≡ true }
-    requires low { tree.height (tree_of t) ≤ 2000 }
-    requires free { tree.free_of (tree_of t) ≤ 3221225472 }
+    requires low { tree.height (tree_of t) ≤ most_height }
+    requires free { tree.free_of (tree_of t) ≤ most_inner_variables }
     ensures { IfSome (step_of sig.now delta (tree_of t)) (Makes result) }
 {
     match t {

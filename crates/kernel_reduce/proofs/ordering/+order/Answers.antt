@@ -1,13 +1,14 @@
-use Rattle.std.proofs.Common.{◌-◌, true, arith}
+use Rattle.std.proofs.Common.{◌+◌, ◌-◌, true, arith}
 use Rattle.core_terms.specs.Meanings.{tree_of}
 use Rattle.theory.specs.SignatureScopes.{IsScoped}
+use Rattle.kernel_reduce.specs.Reduction.{most_inner_variables}
 use Rattle.kernel_reduce.proofs.Meant.{meant-has}
 use Rattle.kernel_reduce.proofs.ScopedReduction.{whnf-scoped}
 use Rattle.kernel_reduce.proofs.ordering.+order.Goals as goal
 
 pub order_forms-order_heads-requires : goal.order_forms-order_heads-requires
 order_forms-order_heads-requires t c =
-    let n = 3221225471 - c.args.room in
+    let n = most_inner_variables - (c.args.room + 1) in
     let a =
     meant-has (IsScoped c.args.sig.now n) (tree_of c.in_ok-a.a) _ _ c.in_ok-a.ensures.answer
     (whnf-scoped c.args.sig.now true _ n (tree_of c.args.a.now) c.requires.signature c.requires.a) in

@@ -29,6 +29,7 @@ steps-preserved c =
           c.in_ok-t.ensures
           ∙ c.steps.invariant.meant;
       sum = omega (arith, c.in_ok-spend.ensures.total);
+      spends = omega (arith, c.in_ok-spend.ensures.spends);
       scoped =
           stepped-scoped c.args.sig.now c.args.delta 3221225472 (tree_of c.steps.t) c.in_ok-t.t c.requires.signature c.steps.invariant.scoped c.if-not-has_step.ensures
           c.in_ok-t.ensures;

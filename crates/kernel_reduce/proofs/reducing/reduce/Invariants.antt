@@ -1,14 +1,15 @@
-use Rattle.std.proofs.Common.{◌≡◌, ◌+◌}
+use Rattle.std.proofs.Common.{◌≡◌, ◌≤◌, ◌+◌}
 use Rattle.core_terms.specs.Meanings.{tree_of}
 use Rattle.theory.specs.SignatureScopes.{IsScoped}
-use Rattle.kernel_reduce.specs.Reduction.{whnf_of}
+use Rattle.kernel_reduce.specs.Reduction.{most_inner_variables, whnf_of}
 use Rattle.kernel_reduce.proofs.reducing.reduce.Given as goal
 
 abbrev pub invariant-steps : goal.invariant-steps
 invariant-steps l = record {
   meant : whnf_of l.sig l.delta l.units.left (tree_of l.t) ≡ whnf_of l.sig l.delta l.fn.units.left (tree_of l.fn.t);
   sum : l.units.left + l.units.spent ≡ l.fn.units.left + l.fn.units.spent;
-  scoped : IsScoped l.sig 3221225472 (tree_of l.t);
+  spends : l.units.left ≤ l.fn.units.left;
+  scoped : IsScoped l.sig most_inner_variables (tree_of l.t);
 }
 
 abbrev pub decreases-steps : goal.decreases-steps
