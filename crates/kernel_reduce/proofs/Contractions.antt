@@ -16,6 +16,7 @@ use Rattle.core_sig.specs.declared.family.Constructor.{Constructor}
 use Rattle.core_sig.specs.declared.family.Family.{Family}
 use Rattle.kernel_reduce.specs.Calls.{iota_made, HasAllArguments}
 use Rattle.kernel_reduce.specs.Entries.{family_at}
+use Rattle.kernel_reduce.specs.Identities.{has_k_at}
 use Rattle.kernel_reduce.specs.Steps.{awaits_scrutinee, fills, iota_at, iota_step, k_step, contraction}
 use Rattle.kernel_reduce.specs.Tests.{constructor_takes, family_takes, meets, eliminator_numbers, constructor_number}
 use Rattle.kernel_reduce.proofs.IotaForms.{iota-made}
@@ -118,7 +119,7 @@ contraction-last S P (App f a) k us eh awaits last = by (head_of f) eh awaits
   where
     by : (h : Term) → None ≡ eliminator_numbers h → awaits_scrutinee S h (spine_of f ++ a ∷ []) ≡ true → IfSome (contraction S h (spine_of f ++ a ∷ []) k us) P
     by (AxiomK i m) e full =
-        let count = (Decides-eqb (length (spine_of f ++ a ∷ [])) 4).0 (both-true S.has_k (length (spine_of f ++ a ∷ []) == 4) full).1 in
+        let count = (Decides-eqb (length (spine_of f ++ a ∷ [])) 4).0 (both-true (has_k_at S i) (length (spine_of f ++ a ∷ []) == 4) full).1 in
         by-k i k (last-there (spine_of f) a 3 (omega (arith, length-append (spine_of f) (a ∷ []))))
       where
         by-k : (i : ℕ) (k : Term) → slice_get (spine_of f ++ a ∷ []) 3 ≡ Some a → IfSome (k_step i (spine_of f ++ a ∷ []) k us) P
@@ -131,7 +132,7 @@ contraction-last S P (App f a) k us eh awaits last = by (head_of f) eh awaits
     by (Var x) e full = tt
     by _ e full = tt
 contraction-last S P (AxiomK i m) k us eh awaits last =
-    absurd (grind (arith, (both-true S.has_k false awaits).1))
+    absurd (grind (arith, (both-true (has_k_at S i) false awaits).1))
 contraction-last S P (Elim n m) k us eh awaits last = absurd (grind arith)
 contraction-last S P (Var x) k us eh awaits last = tt
 contraction-last S P _ k us eh awaits last = tt

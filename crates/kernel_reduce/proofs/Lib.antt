@@ -5,9 +5,11 @@ pub mod ComparisonLaws
 pub mod Contractions
 pub mod DerivationScopes
 pub mod Examples
+pub mod Identities
 pub mod InstanceUnder
 pub mod IotaBounds
 pub mod IotaForms
+pub mod LookUps
 pub mod Meant
 pub mod ReductionLaws
 pub mod ScopedReduction

@@ -14,7 +14,10 @@ use Rattle.theory.specs.Conversion.Contracts.{beta, zeta, delta as delta_step, i
 use Rattle.theory.specs.Conversion.Step.{here, function, argument}
 use Rattle.theory.proofs.Spines.{applied-spine}
 use Rattle.kernel_reduce.specs.Entries.{is_constant, body_in, body_at, family_in, family_at}
+use Rattle.kernel_reduce.specs.Identities.{has_k_at}
 use Rattle.kernel_reduce.specs.Steps.{beta_step, fills, awaits_scrutinee, method_applied, iota_at, iota_step, k_step, contraction, scrutinee_step, elimination_step, first_of, application_step, step_of}
+pub use Rattle.kernel_reduce.proofs.LookUps.{both-true, family-found}
+use Rattle.kernel_reduce.proofs.Identities.{k-there}
 
 -- what an option leads to, where each value in it does
 pub some-next : {A B : Type 0} (P : B → Type 0) (next : A → Option B) (o : Option A) → ((x : A) → o ≡ Some x → IfSome (next x) P) → IfSome (option_and_then next o) P
@@ -28,17 +31,6 @@ some-map P f None h = tt
 pub some-cond : {A : Type 0} (P : A → Type 0) (test : Bool) (o : Option A) → (test ≡ true → IfSome o P) → IfSome (cond test o None) P
 some-cond P true o h = h refl
 some-cond P false o h = tt
-
-family-in : (o : Option Entry) (f : Family) → option_and_then family_in o ≡ Some f → o ≡ Some (FamilyOf f)
-family-in (Some (FamilyOf f)) g e = grind arith
-family-in (Some (EliminatorAt n m)) g e = grind arith
-family-in (Some (AxiomKAt i m)) g e = grind arith
-family-in (Some (Definition name type body)) g e = grind arith
-family-in None g e = grind arith
-
--- a family that is found stands there
-pub family-found : (S : Signature) (n : ℕ) (f : Family) → family_at S n ≡ Some f → IsEntryAt S n (FamilyOf f)
-family-found S n f e = family-in (slice_get S.entries n) f e
 
 pub body-in : (n : ℕ) (o : Option Entry) (body : Term) → option_and_then (body_in n) o ≡ Some body → (name : List ℕ) × (type : Term) × (o ≡ Some (Definition name type body)) × (is_constant n body ≡ false)
 body-in n (Some (FamilyOf f)) body e = absurd (grind arith)
@@ -133,10 +125,6 @@ iota-steps S n m f args (Con g number) us entry full =
 iota-steps S n m f args (Var x) us entry full = tt
 iota-steps S n m f args _ us entry full = tt
 
-pub both-true : (a b : Bool) → (a && b) ≡ true → (a ≡ true) × (b ≡ true)
-both-true true b h = (refl, h)
-both-true false b h = absurd (grind arith)
-
 -- a list of a known length is its elements
 two-of : {A : Type 0} (P : List A → Type 0) (us : List A) → length us ≡ 2 → ((x y : A) → P (x ∷ y ∷ [])) → P us
 two-of P [] e h = absurd (grind arith)
@@ -152,16 +140,16 @@ four-of P (w ∷ x ∷ y ∷ []) e h = absurd (grind arith)
 four-of P (w ∷ x ∷ y ∷ z ∷ []) e h = h w x y z
 four-of P (w ∷ x ∷ y ∷ z ∷ v ∷ us) e h = absurd (omega arith)
 
-k-here : (S : Signature) (i m g number : ℕ) (args us : List Term) → S.has_k ≡ true → length args ≡ 4 → length us ≡ 2 → g ≡ equality i → number ≡ 0
+k-here : (S : Signature) (i m g number : ℕ) (args us : List Term) → has_k_at S i ≡ true → length args ≡ 4 → length us ≡ 2 → g ≡ equality i → number ≡ 0
     → IfSome (slice_get args 3) (Step S (App (applied (AxiomK i m) args) (applied (Con g number) us)))
 k-here S i m g number args us on four two eg en =
     four-of (λ x. IfSome (slice_get x 3) (Step S (App (applied (AxiomK i m) x) (applied (Con g number) us)))) args four (λ A a P d.
     two-of (λ x. Step S (App (applied (AxiomK i m) (A ∷ a ∷ P ∷ d ∷ [])) (applied (Con g number) x)) d) us two (λ B b.
     transport (λ x. Step S (App (applied (AxiomK i m) (A ∷ a ∷ P ∷ d ∷ [])) (App (App (Con x number) B) b)) d) (sym eg)
     (transport (λ x. Step S (App (applied (AxiomK i m) (A ∷ a ∷ P ∷ d ∷ [])) (App (App (Con (equality i) x) B) b)) d) (sym en)
-    (here (axiom_k i m on)))))
+    (here (axiom_k i m (k-there S i on).0 (k-there S i on).1)))))
 
-k-steps : (S : Signature) (i m : ℕ) (args : List Term) (h : Term) (us : List Term) → S.has_k ≡ true → length args ≡ 4
+k-steps : (S : Signature) (i m : ℕ) (args : List Term) (h : Term) (us : List Term) → has_k_at S i ≡ true → length args ≡ 4
     → IfSome (k_step i args h us) (Step S (App (applied (AxiomK i m) args) (applied h us)))
 k-steps S i m args (Con g number) us on four =
     some-cond _ ((g == equality i) && ((number == 0) && (length us == 2))) _ (λ test.
@@ -183,7 +171,7 @@ contraction-steps S (Elim n m) args k us full =
     iota-steps S n m f args k us (family-found S n f found)
     (fills-full args f (transport (λ o. fills args o ≡ true) found full)))
 contraction-steps S (AxiomK i m) args k us full =
-    let parts = both-true S.has_k (length args == 4) full in
+    let parts = both-true (has_k_at S i) (length args == 4) full in
     k-steps S i m args k us parts.0 ((Decides-eqb (length args) 4).0 parts.1)
 contraction-steps S (Var x) args k us full = tt
 contraction-steps S _ args k us full = tt

@@ -9,6 +9,7 @@ use Rattle.theory.specs.Spines.{head_of, spine_of}
 use Rattle.theory.specs.Families.{Family, Constructor}
 use Rattle.theory.specs.Signatures.{Signature, equality}
 use Rattle.kernel_reduce.specs.Entries.{family_at}
+use Rattle.kernel_reduce.specs.Identities.{has_k_at}
 use Rattle.kernel_reduce.specs.Steps.{beta_step, fills, awaits_scrutinee, method_applied, iota_at, iota_step, k_step, contraction, scrutinee_step, elimination_step, first_of, application_step, step_of}
 use Rattle.kernel_reduce.specs.Tests.{is_function, constructor_takes, family_takes, meets}
 use Rattle.kernel_reduce.proofs.SpineLengths.{spine_fits}
@@ -88,7 +89,7 @@ contracts-where : (S : Signature) (h : Term) (args : List Term) (k : Term) (us :
     → is_some (contraction S h args k us) ≡ meets S h k (length us)
 contracts-where S (Elim n m) args k us full = eliminator-contracts S n m args k us (family_at S n) full refl
 contracts-where S (AxiomK i m) args k us full =
-    k-contracts S i m args k us ((Decides-eqb (length args) 4).0 (both-true S.has_k (length args == 4) full).1)
+    k-contracts S i m args k us ((Decides-eqb (length args) 4).0 (both-true (has_k_at S i) (length args == 4) full).1)
 contracts-where S (Var x) args k us full = absurd (grind arith)
 contracts-where S _ args k us full = absurd (grind arith)
 

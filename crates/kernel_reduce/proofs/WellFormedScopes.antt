@@ -10,8 +10,9 @@ use Rattle.theory.specs.Substitutions.{weaken, ups}
 use Rattle.theory.specs.Telescopes.{Context, Telescope, applied, weaken_by}
 use Rattle.theory.specs.Families.{Argument, Plain, Recursive, Constructor, Family, level_of, index_types, argument_types, constructor_telescope, family_head}
 use Rattle.theory.specs.Scopes.{IsTelescopeOver, AreArgumentsOver, IsConstructorOver}
-use Rattle.theory.specs.Signatures.{Entry, FamilyOf, EliminatorAt, AxiomKAt, Definition, Signature, IsEntryAt, equality, axiom_k_type}
-use Rattle.theory.specs.SignatureScopes.{IsConstantNumber, IsConstructorNumber, HasEntries, IsScoped, IsScopedTelescope, IsScopedArguments, IsScopedConstructor, IsScopedFamily, IsScopedEntry}
+use Rattle.theory.specs.Prelude.{equality_family}
+use Rattle.theory.specs.Signatures.{Entry, FamilyOf, EliminatorAt, AxiomKAt, Definition, Signature, IsEntryAt}
+use Rattle.theory.specs.SignatureScopes.{IsConstantNumber, HasEntries, IsScoped, IsScopedTelescope, IsScopedArguments, IsScopedConstructor, IsScopedFamily, IsScopedEntry}
 use Rattle.theory.specs.WellFormed.{pushed, first_entries, HasLevels, IsConstructor, IsFamily, IsDefinition, IsEntry, IsWellFormed}
 use Rattle.theory.specs.WellFormed.HasLevels.{none, more}
 use Rattle.theory.specs.WellFormed.IsEntry.{family as family_entry, eliminator as eliminator_entry, axiom_k as axiom_k_entry, definition as definition_entry}
@@ -111,15 +112,11 @@ family-scoped S h n f at k =
           constructor-scoped (pushed T (FamilyOf f)) (length T.entries) f (get_or f.constructors number d) k.level (closed.constructors number d low) (k.constructors number d low));
     }
 
--- the type of K names the reflexivity of its identity family
-axiom_k-names : (S : Signature) (i m : ℕ) → HasEntries S (axiom_k_type i m) → IsConstructorNumber S (equality i) 0
-axiom_k-names S i m h = h.1.1.1.0.1.0.0
-
 entry-scoped : (S : Signature) → IsWellFormed S → (n : ℕ) (e : Entry) → IsEntryAt S n e → IsEntry (first_entries S n) e → IsScopedEntry S n e
 entry-scoped S h n (FamilyOf f) at (family_entry k) = family-scoped S h n f at k
 entry-scoped S h n (EliminatorAt g m) at (eliminator_entry f k) = ((f, k.family), k.level)
 entry-scoped S h n (AxiomKAt i m) at (axiom_k_entry k) =
-    (k.identity_level, k.level, axiom_k-names (first_entries S n) i m (derivation-entries k.type.1))
+    (k.identity.level, k.level, (equality_family i, k.identity.entry, omega arith))
 entry-scoped S h n (Definition name type body) at (definition_entry k) = (
   typed_term-scoped (first_entries S n) [] type _ k.type_sort.1,
   inl (typed_term-scoped (first_entries S n) [] body type k.body_type),

@@ -1,6 +1,7 @@
 pub mod Calls
 pub mod Comparison
 pub mod Entries
+pub mod Identities
 pub mod Laws
 pub mod Making
 pub mod Reduction

@@ -6,6 +6,7 @@ use Rattle.theory.specs.Families.{Family, Constructor}
 use Rattle.theory.specs.Eliminators.{iota_right}
 use Rattle.theory.specs.Signatures.{Signature, equality}
 use Rattle.kernel_reduce.specs.Entries.{body_at, family_at}
+use Rattle.kernel_reduce.specs.Identities.{has_k_at}
 
 -- a function at an argument
 abbrev pub beta_step : Term → Term → Option Term
@@ -17,10 +18,10 @@ abbrev pub fills : List Term → Option Family → Bool
 fills args (Some f) = length args == length f.parameters + (1 + (length f.constructors + length f.indices))
 fills args None = false
 
--- a head with its arguments takes one argument more, its scrutinee: an eliminator, or K where it is on
+-- a head with its arguments takes one argument more, its scrutinee: an eliminator, or K where it steps
 abbrev pub awaits_scrutinee : Signature → Term → List Term → Bool
 awaits_scrutinee S (Elim n m) args = fills args (family_at S n)
-awaits_scrutinee S (AxiomK i m) args = S.has_k && (length args == 4)
+awaits_scrutinee S (AxiomK i m) args = has_k_at S i && (length args == 4)
 awaits_scrutinee S _ args = false
 
 -- The parameters `ps` of an eliminator, and in `rest` its motive, its methods and its indices; `us` are the arguments of

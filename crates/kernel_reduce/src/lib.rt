@@ -5,6 +5,7 @@ mod calls;
 mod comparing;
 mod contracting;
 mod head_steps;
+mod identity;
 mod iota;
 pub mod laws;
 mod lookup;

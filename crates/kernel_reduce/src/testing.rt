@@ -5,6 +5,7 @@ ghost use Rattle.theory.specs.Terms as tree;
 ghost use Rattle.kernel_reduce.specs.Steps as steps;
 ghost use Rattle.kernel_reduce.specs.Tests as tests;
 
+use crate::identity::has_k;
 use crate::lookup::{body, eliminator_arity, family, takes};
 use crate::spine::{head, spine_len};
 use core_sig::Signature;
@@ -17,7 +18,7 @@ pub(crate) fn is_function(t: &Term) -> bool
     matches!(t, Term::Lam(_, _))
 }
 
-/// Whether the term is an eliminator, or K where it is on, with all its arguments but the scrutinee.
+/// Whether the term is an eliminator, or K where it steps, with all its arguments but the scrutinee.
 pub(crate) fn awaits_scrutinee(sig: &Signature, f: &Term) -> bool
     requires low { tree.height (tree_of f.now) ≤ 2000 }
     ensures { result ≡ steps.awaits_scrutinee sig.now (head_of (tree_of f.now)) (spine_of (tree_of f.now)) }
@@ -27,7 +28,7 @@ pub(crate) fn awaits_scrutinee(sig: &Signature, f: &Term) -> bool
             Some(found) => spine_len(f) as u128 == eliminator_arity(found),
             None => false,
         },
-        Term::AxiomK(_, _) => sig.k() && spine_len(f) == 4,
+        Term::AxiomK(i, _) => has_k(sig, *i) && spine_len(f) == 4,
         _ => false,
     }
 }

@@ -55,7 +55,7 @@ contracts-inst S closed s (iota n m number f c ps P ms is qs us {method} at cons
     (sym (inst-iota_right s n m ps P ms c.arguments method us))
     (iota n m number f c (map (inst s) ps) (inst s P) (map (inst s) ms) (map (inst s) is) (map (inst s) qs) (map (inst s) us)
     at constructor (redex-inst s redex) (slice_get-map (inst s) ms number ∙ ap (option_map (inst s)) chosen))
-contracts-inst S closed s (axiom_k i m on) = axiom_k i m on
+contracts-inst S closed s (axiom_k i m on identity) = axiom_k i m on identity
 
 -- an instantiation keeps a step
 pub step-inst : (S : Signature) → HasClosedBodies S → (s : ℕ → Term) {t u : Term} → Step S t u → Step S (inst s t) (inst s u)

@@ -32,7 +32,7 @@ free_of-contracts S closed n (delta k {name} {type} {body = value} at new) h = o
 free_of-contracts S closed n (iota k m number f c ps P ms is qs us {method} at chosen redex method_at) h =
     iota-kept (λ t. Unit {0}) (λ j t. free_of t ≤ j) free_bound n k m number ps P ms is qs us number method c.arguments
     (any_terms c.arguments) method_at h
-free_of-contracts S closed n (axiom_k i m on) h = omega arith
+free_of-contracts S closed n (axiom_k i m on identity) h = omega arith
 
 -- no step does
 pub free_of-step : FreeOfStep

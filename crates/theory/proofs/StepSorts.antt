@@ -37,7 +37,7 @@ sorts_of_contracts S typed n le (iota k m number f c ps P ms is qs us {method} a
     (All-weaker (HasTerms (SortsBelow top)) (HasTerms (SortsBelow n)) (terms-raised top n le) c.arguments
     (sorts_before_constructor k f c top (sorts_of_term (typed.types (constructor k number at chosen)).1)))
     method_at h
-sorts_of_contracts S typed n le (axiom_k i m on) h = h.0.1
+sorts_of_contracts S typed n le (axiom_k i m on identity) h = h.0.1
 
 -- a step keeps every bound on the sorts from top on
 pub sorts_of_step : SortsOfStep

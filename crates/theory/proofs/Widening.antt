@@ -3,7 +3,7 @@ use Rattle.std.proofs.Common.{ℕ, List, slice_get, ap, ◌∙◌, sym, IsTrue, 
 use Rattle.theory.specs.Terms.{Term}
 use Rattle.theory.specs.Telescopes.{Context, Telescope}
 use Rattle.theory.specs.Families.{Family, Constructor}
-use Rattle.theory.specs.Signatures.{Signature, Entry, IsEntryAt, IsPrefix, TypeOf}
+use Rattle.theory.specs.Signatures.{Signature, Entry, IsEntryAt, IsPrefix, TypeOf, HasIdentity}
 use Rattle.theory.specs.Signatures.TypeOf.{constant, family, constructor, eliminator, axiom_k}
 use Rattle.theory.specs.Conversion.{Contracts, Step, Converts, Below}
 use Rattle.theory.specs.Conversion.Contracts.{beta, zeta, delta, iota}
@@ -39,13 +39,16 @@ type_of-wider h (constructor n number at chosen) = constructor n number (h.entry
 type_of-wider h (eliminator n m place at made) = eliminator n m place (h.entry n _ at) (h.entry place _ made)
 type_of-wider h (axiom_k i m place made) = axiom_k i m place (h.entry place _ made)
 
+pub identity-wider : {S T : Signature} → Keeps S T → {i : ℕ} → HasIdentity S i → HasIdentity T i
+identity-wider h identity = record { level = identity.level; entry = h.entry _ _ identity.entry }
+
 contracts-wider : {S T : Signature} → Keeps S T → {t u : Term} → Contracts S t u → Contracts T t u
 contracts-wider h beta = beta
 contracts-wider h zeta = zeta
 contracts-wider h (delta n at new) = delta n (h.entry n _ at) new
 contracts-wider h (iota n m number f c ps P ms is qs us at chosen redex method) =
     iota n m number f c ps P ms is qs us (h.entry n _ at) chosen redex method
-contracts-wider h (step_k i m on) = step_k i m (h.k on)
+contracts-wider h (step_k i m on identity) = step_k i m (h.k on) (identity-wider h identity)
 
 step-wider : {S T : Signature} → Keeps S T → {t u : Term} → Step S t u → Step T t u
 step-wider h (here c) = here (contracts-wider h c)

@@ -4,7 +4,7 @@ use Rattle.theory.specs.Terms.{Term, Sort, Pi, Lam, App, Let, Const, Con, Elim, 
 use Rattle.theory.specs.Telescopes.{applied}
 use Rattle.theory.specs.Families.{Family, Constructor}
 use Rattle.theory.specs.Eliminators.{iota_right}
-use Rattle.theory.specs.Signatures.{Signature, IsEntryAt, FamilyOf, Definition, reflexivity}
+use Rattle.theory.specs.Signatures.{Signature, IsEntryAt, FamilyOf, Definition, HasIdentity, reflexivity}
 
 -- An eliminator with all its arguments at a constructor of its family with all its arguments.
 pub record IsIotaRedex (f : Family) (c : Constructor) (ps ms is qs us : List Term) : Type 0 where
@@ -25,7 +25,7 @@ pub data Contracts (S : Signature) : Term → Term → Type 0 where
       → slice_get ms number ≡ Some method
       → Contracts S (App (applied (Elim n m) (ps ++ P ∷ (ms ++ is))) (applied (Con n number) (qs ++ us)))
       (iota_right n m ps P ms c.arguments method us)
-  axiom_k : (i m : ℕ) {A a P d B b : Term} → IsTrue S.has_k
+  axiom_k : (i m : ℕ) {A a P d B b : Term} → IsTrue S.has_k → HasIdentity S i
       → Contracts S (applied (AxiomK i m) (A ∷ a ∷ P ∷ d ∷ reflexivity i B b ∷ [])) d
 
 -- one step at any place

@@ -5,6 +5,7 @@ pub mod Families
 pub mod Generation
 pub mod InstanceLaws
 pub mod Prelude
+pub mod PreludeFamilies
 pub mod PreludeLaws
 pub mod ScopeLaws
 pub mod Scopes

@@ -1,7 +1,8 @@
 -- Signatures: the entries that a term may name by their numbers, in order, and whether axiom K is on.
-use Rattle.std.specs.Prelude.{Some, ℕ, suc, Bool, List, [], ◌∷◌, ◌++◌, map, flat_map, slice_get, ◌≡◌}
-use Rattle.theory.specs.Terms.{Term, Var, Sort, Pi, App, Const, Fam, Con, Elim, AxiomK, IsClosed}
+use Rattle.std.specs.Prelude.{Some, ℕ, suc, ◌<◌, Bool, List, [], ◌∷◌, ◌++◌, map, flat_map, slice_get, ◌≡◌}
+use Rattle.theory.specs.Terms.{Term, Var, Sort, Pi, App, Const, Fam, Con, Elim, AxiomK, IsClosed, top}
 use Rattle.theory.specs.Families.{Family, Constructor, family_type, constructor_type}
+use Rattle.theory.specs.PreludeFamilies.{equality_family}
 use Rattle.theory.specs.Eliminators.{eliminator_type}
 
 -- `EliminatorAt n m` is the instance at level m of the eliminator of family n, `AxiomKAt i m` that of K of Eq.i, and
@@ -44,6 +45,11 @@ names S = flat_map names_of S.entries
 -- the entry number of the family Eq.i, whose one constructor is refl.i
 abbrev pub equality : ℕ → ℕ
 equality i = suc i
+
+-- the signature has Eq.i as the prelude has it
+pub record HasIdentity (S : Signature) (i : ℕ) : Type 0 where
+  pub level : i < top
+  pub entry : IsEntryAt S (equality i) (FamilyOf (equality_family i))
 
 -- Eq.i A a b
 abbrev pub equation : ℕ → Term → Term → Term → Term

@@ -4,7 +4,7 @@ use Rattle.theory.specs.Terms.{Term, Sort, Const, top}
 use Rattle.theory.specs.Telescopes.{Context, Telescope, context_behind}
 use Rattle.theory.specs.Families.{Argument, Plain, Recursive, Constructor, Family, IsPositive, level_of, index_types, family_type, constructor_type, constructor_telescope}
 use Rattle.theory.specs.Eliminators.{eliminator_type}
-use Rattle.theory.specs.Signatures.{Signature, Entry, FamilyOf, EliminatorAt, AxiomKAt, Definition, IsEntryAt, TypeOf, names, axiom_k_type}
+use Rattle.theory.specs.Signatures.{Signature, Entry, FamilyOf, EliminatorAt, AxiomKAt, Definition, IsEntryAt, TypeOf, HasIdentity, names, axiom_k_type}
 use Rattle.theory.specs.Typing.{Has, HasSort}
 
 -- the signature with one entry more
@@ -49,7 +49,7 @@ pub record IsEliminator (S : Signature) (n m : ℕ) (f : Family) : Type 0 where
 
 pub record IsAxiomK (S : Signature) (i m : ℕ) : Type 0 where
   pub on : IsTrue S.has_k
-  pub identity_level : i < top
+  pub identity : HasIdentity S i
   pub level : m < top
   pub type : HasSort S [] (axiom_k_type i m)
   pub new : ¬ Contains S.entries (AxiomKAt i m)

@@ -1,10 +1,10 @@
 -- The right side of iota, one step of each kind and at each place, conversion, cumulativity.
-use Rattle.std.proofs.Common.{◌≡◌, ◌≢◌, ℕ, List, [], ◌∷◌, refl, arith, slice_get, ap, sym, ◌∙◌, lit≤, true≢false, false, ◌++◌}
+use Rattle.std.proofs.Common.{◌≡◌, ◌≢◌, ℕ, List, [], ◌∷◌, refl, arith, slice_get, ap, sym, ◌∙◌, lit≤, lit<, IsTrue, subst as transport, ◌++◌}
 use Rattle.theory.specs.Terms.{Term, Var, Sort, Pi, Lam, App, Let, Const, Elim, AxiomK}
 use Rattle.theory.specs.Substitutions.{weaken}
 use Rattle.theory.specs.Telescopes.{applied}
 use Rattle.theory.specs.Eliminators.{iota_right}
-use Rattle.theory.specs.Signatures.{Signature, Definition, IsEntryAt, reflexivity}
+use Rattle.theory.specs.Signatures.{Signature, Definition, IsEntryAt, HasIdentity, reflexivity}
 use Rattle.theory.specs.Conversion.{Contracts, beta, zeta, delta, iota, axiom_k, Step, here, domain, codomain, annotation, body, function, argument, let_type, let_value, let_body, Converts, same, forwards, backwards, Below, converts, sorts, products, trans}
 use Rattle.theory.proofs.Lists.{some_is}
 use Rattle.theory.proofs.Examples.Forms.{const_number, body_same}
@@ -49,14 +49,14 @@ provisional_is_stuck S n name type at t u e (here (delta m found given)) =
     let number : m ≡ n = const_number e in
     given (body_same (some_is (sym found ∙ (ap (slice_get S.entries) number ∙ at))) ∙ ap Const (sym number))
 provisional_is_stuck S n name type at t u e (here (iota k m number f c ps P ms is qs us found constructor redex method)) = grind arith
-provisional_is_stuck S n name type at t u e (here (axiom_k i m on)) = grind arith
+provisional_is_stuck S n name type at t u e (here (axiom_k i m on identity)) = grind arith
 provisional_is_stuck S n name type at t u e _ = grind arith
 
 iota_step : (P z s n : Term) → Step sample (App (App (App (App (Elim nat 0) P) z) s) (suc_of n)) (App (App s n) (App (App (App (App (Elim nat 0) P) z) s) n))
 iota_step P z s n = here (iota nat 0 1 nat_family suc_constructor [] P (z ∷ s ∷ []) [] [] (n ∷ []) refl refl (record { parameters = refl; methods = refl; indices = refl; constructor_parameters = refl; arguments = refl }) refl)
 
 k_step : (A a P d B b : Term) → Step sample (App (App (App (App (App (AxiomK 0 1) A) a) P) d) (reflexivity 0 B b)) d
-k_step A a P d B b = here (axiom_k 0 1 refl)
+k_step A a P d B b = here (axiom_k 0 1 refl (record { level = lit< tt; entry = refl }))
 
 -- a step at each place, in terms that hold the constant two
 two_step : Step sample (Const 8) two
@@ -82,7 +82,7 @@ below_products a = products same (sorts (lit≤ tt))
 below_converted : (b : Term) → Below sample (Pi (App b (Const 8)) (Sort 0)) (Pi (App b two) (Sort 1))
 below_converted b = trans (converts (forwards (domain (argument two_step)) same)) (products same (sorts (lit≤ tt)))
 
--- the head of a spine, and K at reflexivity, where K is off
+-- the head of a spine, and K at reflexivity: it steps only where K is on and Eq.i is there
 head_of : Term → Term
 head_of (App f a) = head_of f
 head_of t = t
@@ -92,13 +92,16 @@ unfolding head_of
 head_of-applied f [] = refl
 head_of-applied f (a ∷ spine) = head_of-applied (App f a) spine
 
-no_k : (S : Signature) → S.has_k ≡ false → (i m : ℕ) (A a P d B b t u : Term)
-    → t ≡ App (App (App (App (App (AxiomK i m) A) a) P) d) (reflexivity i B b) → Contracts S t u → ⊥
+k_needs : (S : Signature) (i m : ℕ) (A a P d B b t u : Term)
+    → t ≡ App (App (App (App (App (AxiomK i m) A) a) P) d) (reflexivity i B b) → Contracts S t u → IsTrue S.has_k × HasIdentity S i
 unfolding head_of
-no_k S off i m A a P d B b t u e (beta {a = c} {b = f}) = let head : Lam c f ≡ AxiomK i m = ap head_of e in grind arith
-no_k S off i m A a P d B b t u e zeta = grind arith
-no_k S off i m A a P d B b t u e (delta n found given) = grind arith
-no_k S off i m A a P d B b t u e (iota n m' number f c ps P' ms is qs us found constructor redex method) =
+k_needs S i m A a P d B b t u e (beta {a = c} {b = f}) = let head : Lam c f ≡ AxiomK i m = ap head_of e in absurd (grind arith)
+k_needs S i m A a P d B b t u e zeta = absurd (grind arith)
+k_needs S i m A a P d B b t u e (delta n found given) = absurd (grind arith)
+k_needs S i m A a P d B b t u e (iota n m' number f c ps P' ms is qs us found constructor redex method) =
     let head : Elim n m' ≡ AxiomK i m = sym (head_of-applied (Elim n m') (ps ++ P' ∷ (ms ++ is))) ∙ ap head_of e in
-    grind arith
-no_k S off i m A a P d B b t u e (axiom_k i' m' on) = true≢false (sym on ∙ off)
+    absurd (grind arith)
+k_needs S i m A a P d B b t u e (axiom_k i' m' on identity) =
+    let head : AxiomK i' m' ≡ AxiomK i m = ap head_of e in
+    let same : i' ≡ i = grind arith in
+    (on, transport (HasIdentity S) same identity)

@@ -1,11 +1,11 @@
 -- What the conditions of well-formed signatures refuse.
-use Rattle.std.proofs.Common.{◌≡◌, ◌≢◌, ℕ, false, List, [], ◌∷◌, length, refl, arith, sym, ◌∙◌, true≢false, lit<, AllPairs, ◌<◌, map, ap, subst, subst₂}
+use Rattle.std.proofs.Common.{◌≡◌, ◌≢◌, ℕ, true, false, List, [], ◌∷◌, length, refl, arith, sym, ◌∙◌, true≢false, lit<, AllPairs, ◌<◌, map, ap, subst, subst₂}
 use Rattle.std.proofs.Math.Seq.{take-append_seam}
 use Rattle.std.proofs.lemmas.Option.{slice_get_within}
 use Rattle.theory.specs.Terms.{Term, Const, top}
 use Rattle.theory.specs.Telescopes.{Context, Telescope}
 use Rattle.theory.specs.Families.{Family, Constructor, Plain, Recursive, level_of}
-use Rattle.theory.specs.Signatures.{Signature, Entry, Definition, TypeOf, constant, names}
+use Rattle.theory.specs.Signatures.{Signature, Entry, FamilyOf, Definition, TypeOf, constant, names}
 use Rattle.theory.specs.Conversion.{IsIotaRedex}
 use Rattle.theory.specs.Typing.{Has, symbol, below, below_sort}
 use Rattle.theory.specs.WellFormed.{IsFamily, IsEliminator, IsAxiomK, IsEntry, IsWellFormed, HasLevels, HasTargets, none, more, provisional, first_entries, family, eliminator, axiom_k, definition}
@@ -16,6 +16,10 @@ use Rattle.theory.proofs.Examples.Sample.{nat, suc_constructor, nat_family, vec_
 -- K where it is off
 k_off : (S : Signature) (i m : ℕ) → S.has_k ≡ false → IsAxiomK S i m → ⊥
 k_off S i m off h = true≢false (sym h.on ∙ off)
+
+-- K where another family stands in the place of Eq.0
+k_elsewhere : (m : ℕ) → IsAxiomK (record { entries = FamilyOf nat_family ∷ FamilyOf nat_family ∷ []; has_k = true }) 0 m → ⊥
+k_elsewhere m h = grind (arith, h.identity.entry)
 
 -- an eliminator into `Type top`
 eliminator_into_top : (S : Signature) (n : ℕ) (f : Family) → IsEliminator S n top f → ⊥

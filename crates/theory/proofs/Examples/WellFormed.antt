@@ -132,7 +132,7 @@ k_enters =
     let no_eliminator : (n : ℕ) → EliminatorAt n 0 ≢ AxiomKAt 0 1 = λ n e. grind arith in
     axiom_k (record {
       on = refl;
-      identity_level = lit< tt;
+      identity = record { level = lit< tt; entry = refl };
       level = lit< tt;
       type = k_sort S refl;
       new = lacks S.entries (AxiomKAt 0 1)
