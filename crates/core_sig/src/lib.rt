@@ -15,8 +15,6 @@ mod prelude;
 mod raw;
 mod settling;
 mod signature;
-#[cfg(test)]
-mod tests;
 mod types;
 
 pub use eliminator::elim_type;
