@@ -17,8 +17,6 @@ mod raw;
 mod settling;
 mod shapes;
 mod signature;
-#[cfg(test)]
-mod tests;
 mod types;
 
 pub use eliminator::elim_type;

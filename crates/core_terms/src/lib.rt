@@ -36,6 +36,3 @@ pub use substitution::subst;
 pub use term::{MAX_HEIGHT, TOP, Tele, Term};
 pub use units::Units;
 pub use verdict::{Denial, Place, Reason, Verdict};
-
-#[cfg(test)]
-mod tests;

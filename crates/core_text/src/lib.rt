@@ -25,8 +25,6 @@ mod symbols;
 mod telescopes;
 mod term_printer;
 mod term_reader;
-#[cfg(test)]
-mod tests;
 mod whole_terms;
 
 pub use entry_printer::print_entry;

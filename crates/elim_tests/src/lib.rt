@@ -1,4 +1,5 @@
-//! Tests over the whole program: texts with the output that is wanted of them, and devices that fail.
+//! What the worked cases don't reach: devices that fail, bytes that are no text, limits of the lower crates, and a session
+//! after each kind of refusal.
 #![tactic(auto)]
 
 #[cfg(test)]

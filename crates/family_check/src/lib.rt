@@ -13,8 +13,6 @@ mod levels;
 mod names;
 mod products;
 mod stop;
-#[cfg(test)]
-mod tests;
 
 pub use axioms::axiom_k;
 pub use definitions::define;

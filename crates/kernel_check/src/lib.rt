@@ -7,8 +7,6 @@ pub mod laws;
 mod leaf;
 mod scope;
 mod symbols;
-#[cfg(test)]
-mod tests;
 mod typing;
 mod verdicts;
 

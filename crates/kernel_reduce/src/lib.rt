@@ -16,8 +16,6 @@ mod reducing;
 mod spine;
 mod stepping;
 mod testing;
-#[cfg(test)]
-mod tests;
 
 pub use calls::{NESTING, convertible, head_step, normal, subtype, subtype_within, whnf};
 pub use making::into_spine;

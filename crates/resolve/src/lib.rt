@@ -22,6 +22,3 @@ pub use functions::resolve_fun;
 pub use laws::{families_resolve, functions_resolve, terms_resolve};
 pub use stop::ResolveStop;
 pub use terms::resolve_term;
-
-#[cfg(test)]
-mod tests;

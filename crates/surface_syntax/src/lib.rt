@@ -16,14 +16,10 @@ mod lexeme;
 mod lexemes;
 mod lexer;
 mod parser;
-#[cfg(test)]
-mod parser_tests;
 mod spans;
 mod state;
 mod stop;
 mod terms;
-#[cfg(test)]
-mod tests;
 mod token;
 mod tree;
 

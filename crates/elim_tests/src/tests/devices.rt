@@ -1,4 +1,5 @@
 use super::*;
+use std::test::Fail;
 
 /// Runs `compile` on the identity with devices that move one byte at a time. A source fails at its read number `read` and
 /// a sink at its write number `write`, from 1 on.
@@ -10,7 +11,7 @@ fn ran_with_faults(
     let bytes = listed(alloc, IDENTITY.as_bytes())?;
     let mut source = MemorySource::stepped(bytes, 1, listed(alloc, &[read])?);
     let mut sink = MemorySink::stepped(1, listed(alloc, &[write])?);
-    let words = words(alloc, "compile")?;
+    let words = compile_word(alloc)?;
     let status = run(alloc, words.as_slice(), &mut source, &mut sink);
     Ok((status, sink))
 }
@@ -25,7 +26,7 @@ fn identity_text(alloc: Global) -> Result<Vec<u8>, AllocError> {
 fn pieces(rt: HostRuntime) -> Result<(), Fail> {
     let wanted = identity_text(rt.alloc())?;
     for step in [1, 2, 7] {
-        let (answer, sink) = ran(rt.alloc(), "compile", IDENTITY.as_bytes(), step)?;
+        let (answer, sink) = compiled(rt.alloc(), IDENTITY.as_bytes(), step)?;
         assert_eq!(rt; answer, Status::Done, "step {step}");
         assert_eq!(rt; sink.written(), wanted.as_slice(), "step {step}");
     }
@@ -53,7 +54,7 @@ fn faults(rt: HostRuntime) -> Result<(), Fail> {
 #[test]
 fn second_write(rt: HostRuntime) -> Result<(), Fail> {
     let alloc = rt.alloc();
-    let words = words(alloc, "compile")?;
+    let words = compile_word(alloc)?;
     let bytes = listed(alloc, IDENTITY.as_bytes())?;
     let mut source = MemorySource::new(bytes, listed(alloc, &[])?);
     let mut sink = MemorySink::new(listed(alloc, &[2])?);

@@ -1,0 +1,53 @@
+// Functions by clauses, which the program does not compile yet: where their text goes wrong, and what their names stand for.
+use core_sig::Signature;
+use core_terms::Pat;
+use resolve::resolve_fun;
+use std::alloc::Global;
+use std::test::Fail;
+use surface_syntax::SyntaxStop::Syntax;
+use surface_syntax::{Decl, SyntaxStop, parse, tokens};
+
+/// Why a text has no declarations.
+fn stop(alloc: Global, text: &[u8]) -> Option<SyntaxStop> {
+    match tokens(alloc, text) {
+        Ok(found) => parse(alloc, text, &found).err(),
+        Err(stop) => Some(stop),
+    }
+}
+
+#[test]
+fn wrong_tokens(rt: HostRuntime) {
+    let alloc = rt.alloc();
+    let whole =
+        b"fun f : A { f zero _ .x .(s x) (c.1 y (z)) with g y { f x () } ; f .Type 0 = x } fun g : A { }";
+    assert!(rt; stop(alloc, whole).is_none());
+    assert!(rt; stop(alloc, b"fun f : A { f () = x }") == Some(Syntax(17)));
+    assert!(rt; stop(alloc, b"fun f : A { f () (c ()) }") == Some(Syntax(21)));
+    assert!(rt; stop(alloc, b"fun f : A { f x }") == Some(Syntax(16)));
+    assert!(rt; stop(alloc, b"fun f : N { f (") == Some(Syntax(15)));
+}
+
+/// The arity of the function that a text declares alone, with how many clauses of one bound variable it has.
+fn resolved(alloc: Global, text: &[u8]) -> Result<(u32, usize), Fail> {
+    let sig = Signature::prelude(alloc, false)?;
+    let found = tokens(alloc, text)?;
+    let decls = parse(alloc, text, &found)?;
+    match decls.as_slice() {
+        [d @ Decl::Fun { .. }] => {
+            let function = resolve_fun(alloc, &sig, d)?;
+            let clauses = function.clauses.as_slice();
+            let single = clauses
+                .iter()
+                .filter(|c| matches!(c.pats.as_slice(), [Pat::Bind]));
+            Ok((function.arity, single.count()))
+        }
+        _ => Err(Fail::new("no function")),
+    }
+}
+
+#[test]
+fn names_of_clauses(rt: HostRuntime) -> Result<(), Fail> {
+    let text = b"fun f : Empty -> Empty { f x = x ; f y = y }";
+    assert_eq!(rt; resolved(rt.alloc(), text)?, (1, 2));
+    Ok(())
+}
