@@ -1,17 +1,18 @@
 -- The prelude, entry by entry.
-use Rattle.std.proofs.Common.{◌≡◌, ℕ, ◌+◌, ◌≤◌, List, [], ◌∷◌, ◌++◌, map, take, length, Some, slice_get, All, refl, ap, ap₂, sym, ◌∙◌, subst, subst₂, Bool, add-one}
+use Rattle.std.proofs.Common.{◌≡◌, ℕ, ◌+◌, ◌*◌, ◌<◌, ◌≤◌, List, [], ◌∷◌, ◌++◌, map, take, length, Some, slice_get, All, refl, ap, ap₂, sym, ◌∙◌, subst, subst₂, Bool, add-one}
 use Rattle.std.proofs.lemmas.List.{length-take-le}
 use Rattle.std.proofs.lemmas.Option.{slice_get_within, get_or_from_slice_get}
 use Rattle.std.proofs.Math.Seq.{take-suc}
-use Rattle.theory.specs.Terms.{Term}
+use Rattle.theory.specs.Terms.{Term, top}
 use Rattle.theory.specs.Terms.Term.{Var, App, Fam}
 use Rattle.theory.specs.Substitutions.{ren, inst}
 use Rattle.theory.specs.Spines.{head_of}
 use Rattle.theory.specs.Telescopes.{Telescope, applied, weaken_by, variables}
 use Rattle.theory.specs.Families as pure
 use Rattle.theory.specs.Families.{family_head}
-use Rattle.theory.specs.Signatures.{Signature, Entry, IsEntryAt}
-use Rattle.theory.specs.Prelude.{prelude}
+use Rattle.theory.specs.Signatures.{Signature, Entry, FamilyOf, IsEntryAt}
+use Rattle.theory.specs.Prelude.{prelude, unit_family, pair_family}
+use Rattle.theory.proofs.PreludeWellFormed.{unit_at, pair_at}
 use Rattle.theory.specs.WellFormed.{pushed, first_entries}
 use Rattle.core_sig.specs.Kinds.{IsRecursiveType, HasKind, HaveKinds, HasKinds}
 use Rattle.core_terms.specs.Meanings.{tree_of}
@@ -49,7 +50,7 @@ pub first_entries-push : (S : Signature) (n : ℕ) (e : Entry) → IsEntryAt S n
 first_entries-push S n e at = ap (λ (es : List Entry). record { entries = es; has_k = S.has_k }) (sym (take-next S.entries n e at))
 
 -- the first m entries of the prelude tell whether K is on, and how many they are
-first-are : (k : Bool) (m : ℕ) (S : Signature) → m ≤ length (prelude k).entries → S ≡ first_entries (prelude k) m → (S.has_k ≡ k) × (length S.entries ≡ m)
+pub first-are : (k : Bool) (m : ℕ) (S : Signature) → m ≤ length (prelude k).entries → S ≡ first_entries (prelude k) m → (S.has_k ≡ k) × (length S.entries ≡ m)
 first-are k m S le so_far =
     (ap (λ (s : Signature). s.has_k) so_far, ap (λ (s : Signature). length s.entries) so_far ∙ length-take-le m (prelude k).entries le)
 
@@ -76,3 +77,10 @@ pair_kinds n f con a b v w i j indices cons args is_a is_b = record {
 
     plain : (x : Arg) (u l at : ℕ) → x ≡ record { ty = Code.Var u; level = l; kind = Plain } → HasKind n (family_of f) at x.kind (tree_of x.ty)
     plain x u l at is = subst (λ (y : Arg). HasKind n (family_of f) at y.kind (tree_of y.ty)) (sym is) (variable_plain n (family_of f) at u)
+
+-- the families Unit.i and Pair.i by their numbers
+pub unit_number : (k : Bool) (n i : ℕ) → i < top → top + 1 + i ≡ n → IsEntryAt (prelude k) n (FamilyOf (unit_family i))
+unit_number k n i lt at = subst (λ m. IsEntryAt (prelude k) m (FamilyOf (unit_family i))) at (unit_at top i lt)
+
+pub pair_number : (k : Bool) (n i : ℕ) → i < top → 2 * top + 1 + i ≡ n → IsEntryAt (prelude k) n (FamilyOf (pair_family i))
+pair_number k n i lt at = subst (λ m. IsEntryAt (prelude k) m (FamilyOf (pair_family i))) at (pair_at top i lt)

@@ -78,7 +78,13 @@ pub fn goal_type(alloc: Global, fam: u32, f: &Family, motive: u32, depth: u32) -
     let count = indices.len() as u32;
     let inside = depth + count;
     let domain = family_at(alloc, fam, params, inside, depth, count)?;
-    let goal = applied_to_run(alloc, variable(inside + 1, motive), inside + 1, depth, count)?;
+    let goal = applied_to_run(
+        alloc,
+        variable(inside + 1, motive),
+        inside + 1,
+        depth,
+        count,
+    )?;
     let goal = Term::new_app(alloc, goal, variable(inside + 1, inside))?;
     let end = Term::new_pi(alloc, domain, goal)?;
     let runs = [(0, params), (depth, count)];
@@ -134,8 +140,7 @@ fn hypothesis_from(
     match ty {
         Term::Pi(domain, codomain) if count > 0 => {
             let domain = place(alloc, runs, size, depth, domain)?;
-            let rest =
-                hypothesis_from(alloc, runs, size + 1, depth + 1, at, count - 1, codomain)?;
+            let rest = hypothesis_from(alloc, runs, size + 1, depth + 1, at, count - 1, codomain)?;
             Term::new_pi(alloc, domain, rest)
         }
         _ => {

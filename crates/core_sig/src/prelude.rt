@@ -1,4 +1,5 @@
-ghost use Rattle.std.specs.Prelude.{◌≡◌, ◌<◌, ◌≤◌, ◌+◌, ◌++◌, ℕ, codes, length, IfOk, OnOk, OnErr};
+ghost use Rattle.std.specs.Prelude.{◌≡◌, ◌<◌, ◌≤◌, ◌+◌, ◌*◌, ◌++◌, ◌∷◌, [], Bool, ℕ, codes, length, IfOk, OnOk, OnErr};
+ghost use Rattle.theory.specs.Terms.{top};
 ghost use Rattle.theory.specs.Signatures.{FamilyOf, IsEntryAt, equality};
 ghost use Rattle.theory.specs.Prelude as spec;
 ghost use Rattle.theory.specs.WellFormed.{first_entries};
@@ -10,6 +11,9 @@ use crate::{Arg, ArgKind, Constructor, Entry, Family, Signature};
 use core_terms::{Items, Name, Stop, TOP, Term};
 use std::alloc::Global;
 
+/// How many families the prelude has.
+const FAMILIES: u32 = 3 * TOP as u32 + 1;
+
 impl Signature {
     /// The families `Empty`, then `Eq.i`, then `Unit.i`, then `Pair.i`, each for the levels i below `TOP`.
     pub fn prelude(alloc: Global, k: bool) -> Result<Signature, Stop>
@@ -17,15 +21,8 @@ impl Signature {
         ensures memory { OnErr result (result ≡ Err Memory) }
     {
         let mut sig = Signature::new(alloc, k);
-        push_next(&mut sig, empty_family(alloc)?)?;
-        for level in 0..TOP {
-            push_next(&mut sig, equality_family(alloc, level)?)?;
-        }
-        for level in 0..TOP {
-            push_next(&mut sig, unit_family(alloc, level)?)?;
-        }
-        for level in 0..TOP {
-            push_next(&mut sig, pair_family(alloc, level)?)?;
+        for _number in 0..FAMILIES {
+            push_next(alloc, &mut sig)?;
         }
         Ok(sig)
     }
@@ -53,15 +50,55 @@ pub fn pair(m: u8) -> u32
 }
 
 /// Adds the next family of the prelude.
-fn push_next(sig: &mut Signature, family: Family) -> Result<(), Stop>
+fn push_next(alloc: Global, sig: &mut Signature) -> Result<(), Stop>
     requires so_far { sig.old ≡ first_entries (spec.prelude sig.old.has_k) (length sig.old.entries) }
-    requires next { IsEntryAt (spec.prelude sig.old.has_k) (length sig.old.entries) (FamilyOf (family_of family)) }
-    requires kinds { HasKinds (length sig.old.entries) family }
+    requires room { length sig.old.entries < 3 * top + 1 }
     ensures ok { OnOk result (sig.new ≡ first_entries (spec.prelude sig.old.has_k) (length sig.old.entries + 1)) }
     ensures memory { OnErr result (result ≡ Err Memory) }
 {
+    let family = family_at(alloc, sig.len())?;
     sig.push(Entry::Family(family))?;
     Ok(())
+}
+
+/// The family of the prelude with the number.
+fn family_at(alloc: Global, number: u32) -> Result<Family, Stop>
+    requires { number < 3 * top + 1 }
+    ensures ok { (k : Bool) → IfOk result (λ f. IsEntryAt (spec.prelude k) number (FamilyOf (family_of f))) }
+    ensures kinds { (n : ℕ) → IfOk result (HasKinds n) }
+    ensures memory { OnErr result (result ≡ Err Memory) }
+{
+    let levels = TOP as u32;
+    if number == 0 {
+        empty_family(alloc)
+    } else if number <= levels {
+        equality_family(alloc, (number - 1) as u8)
+    } else if number <= 2 * levels {
+        unit_family(alloc, (number - levels - 1) as u8)
+    } else {
+        pair_family(alloc, (number - 2 * levels - 1) as u8)
+    }
+}
+
+/// A list of one.
+fn only<T: Drop>(alloc: Global, x: T) -> Result<Items<T>, Stop>
+    ensures ok { IfOk result (λ xs. xs ≡ x ∷ []) }
+    ensures memory { OnErr result (result ≡ Err Memory) }
+{
+    let mut items = Items::new(alloc);
+    items.push(x)?;
+    Ok(items)
+}
+
+/// A list of two.
+fn two<T: Drop>(alloc: Global, x: T, y: T) -> Result<Items<T>, Stop>
+    ensures ok { IfOk result (λ xs. xs ≡ x ∷ y ∷ []) }
+    ensures memory { OnErr result (result ≡ Err Memory) }
+{
+    let mut items = Items::new(alloc);
+    items.push(x)?;
+    items.push(y)?;
+    Ok(items)
 }
 
 /// The bytes with the level behind them, in decimal.
@@ -92,28 +129,61 @@ fn empty_family(alloc: Global) -> Result<Family, Stop>
     })
 }
 
+/// An argument or an index whose type is a variable.
+fn variable(n: u32, level: u8) -> Arg
+    ensures { result ≡ record { ty = Term.Var n; level = level; kind = ArgKind.Plain } }
+{
+    Arg {
+        ty: Term::Var(n),
+        level,
+        kind: ArgKind::Plain,
+    }
+}
+
+/// The constructor of `Eq.level`.
+fn reflexivity(alloc: Global, level: u8) -> Result<Constructor, Stop>
+    requires { level < 100 }
+    ensures ok { IfOk result (λ c. c ≡ record { name = codes "refl." ++ spec.level_text level; args = []; targets = Term.Var 0 ∷ [] }) }
+    ensures memory { OnErr result (result ≡ Err Memory) }
+{
+    let name = name_at(alloc, b"refl.", level)?;
+    let targets = only(alloc, Term::Var(0))?;
+    Ok(Constructor {
+        name,
+        args: Items::new(alloc),
+        targets,
+    })
+}
+
 fn equality_family(alloc: Global, level: u8) -> Result<Family, Stop>
     requires { level < 100 }
     ensures ok { IfOk result (λ f. family_of f ≡ spec.equality_family level) }
     ensures kinds { (n : ℕ) → IfOk result (HasKinds n) }
     ensures memory { OnErr result (result ≡ Err Memory) }
 {
-    let index = Arg {
-        ty: Term::Var(1),
-        level,
-        kind: ArgKind::Plain,
-    };
-    let reflexivity = Constructor {
-        name: name_at(alloc, b"refl.", level)?,
-        args: Items::new(alloc),
-        targets: Items::from_vec(vec![in alloc; Term::Var(0)]?),
-    };
+    let name = name_at(alloc, b"Eq.", level)?;
+    let params = two(alloc, Term::Sort(level), Term::Var(0))?;
+    let indices = only(alloc, variable(1, level))?;
+    let cons = only(alloc, reflexivity(alloc, level)?)?;
     Ok(Family {
-        name: name_at(alloc, b"Eq.", level)?,
-        params: Items::from_vec(vec![in alloc; Term::Sort(level), Term::Var(0)]?),
-        indices: Items::from_vec(vec![in alloc; index]?),
+        name,
+        params,
+        indices,
         level,
-        cons: Items::from_vec(vec![in alloc; reflexivity]?),
+        cons,
+    })
+}
+
+/// The constructor of `Unit.level`.
+fn unit_constructor(alloc: Global, level: u8) -> Result<Constructor, Stop>
+    requires { level < 100 }
+    ensures ok { IfOk result (λ c. c ≡ record { name = codes "unit." ++ spec.level_text level; args = []; targets = [] }) }
+    ensures memory { OnErr result (result ≡ Err Memory) }
+{
+    Ok(Constructor {
+        name: name_at(alloc, b"unit.", level)?,
+        args: Items::new(alloc),
+        targets: Items::new(alloc),
     })
 }
 
@@ -123,17 +193,29 @@ fn unit_family(alloc: Global, level: u8) -> Result<Family, Stop>
     ensures kinds { (n : ℕ) → IfOk result (HasKinds n) }
     ensures memory { OnErr result (result ≡ Err Memory) }
 {
-    let unit = Constructor {
-        name: name_at(alloc, b"unit.", level)?,
-        args: Items::new(alloc),
-        targets: Items::new(alloc),
-    };
+    let name = name_at(alloc, b"Unit.", level)?;
+    let cons = only(alloc, unit_constructor(alloc, level)?)?;
     Ok(Family {
-        name: name_at(alloc, b"Unit.", level)?,
+        name,
         params: Items::new(alloc),
         indices: Items::new(alloc),
         level,
-        cons: Items::from_vec(vec![in alloc; unit]?),
+        cons,
+    })
+}
+
+/// The constructor of `Pair.level`. The type of a component is the second variable, both before and after the first one.
+fn pair_constructor(alloc: Global, level: u8) -> Result<Constructor, Stop>
+    requires { level < 100 }
+    ensures ok { IfOk result (λ c. c ≡ record { name = codes "pair." ++ spec.level_text level; args = record { ty = Term.Var 1; level = level; kind = ArgKind.Plain } ∷ record { ty = Term.Var 1; level = level; kind = ArgKind.Plain } ∷ []; targets = [] }) }
+    ensures memory { OnErr result (result ≡ Err Memory) }
+{
+    let name = name_at(alloc, b"pair.", level)?;
+    let args = two(alloc, variable(1, level), variable(1, level))?;
+    Ok(Constructor {
+        name,
+        args,
+        targets: Items::new(alloc),
     })
 }
 
@@ -143,27 +225,14 @@ fn pair_family(alloc: Global, level: u8) -> Result<Family, Stop>
     ensures kinds { (n : ℕ) → IfOk result (HasKinds n) }
     ensures memory { OnErr result (result ≡ Err Memory) }
 {
-    let pair = Constructor {
-        name: name_at(alloc, b"pair.", level)?,
-        args: Items::from_vec(vec![in alloc; component(level), component(level)]?),
-        targets: Items::new(alloc),
-    };
+    let name = name_at(alloc, b"Pair.", level)?;
+    let params = two(alloc, Term::Sort(level), Term::Sort(level))?;
+    let cons = only(alloc, pair_constructor(alloc, level)?)?;
     Ok(Family {
-        name: name_at(alloc, b"Pair.", level)?,
-        params: Items::from_vec(vec![in alloc; Term::Sort(level), Term::Sort(level)]?),
+        name,
+        params,
         indices: Items::new(alloc),
         level,
-        cons: Items::from_vec(vec![in alloc; pair]?),
+        cons,
     })
-}
-
-/// A component of a pair: its type is the second variable, both before and behind the first component.
-fn component(level: u8) -> Arg
-    ensures { result ≡ record { ty = Term.Var 1; level = level; kind = ArgKind.Plain } }
-{
-    Arg {
-        ty: Term::Var(1),
-        level,
-        kind: ArgKind::Plain,
-    }
 }

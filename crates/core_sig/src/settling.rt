@@ -12,7 +12,7 @@ ghost use Rattle.core_sig.specs.SettledParts.{argument_parts, constructor_parts,
 ghost use Rattle.core_sig.specs.Settling.{renumbered, renumbered_entry, settled_number};
 
 use crate::{Arg, Constructor, Draft, Entry, Family, Found, Signature};
-use core_terms::{Items, Stop, Tele, Term, copy_name};
+use core_terms::{Items, Stop, Tele, Term, copy_name, copy_whole};
 use std::alloc::Global;
 
 /// The draft's entry with the numbers that its names have in the signature. A name that is no entry's, and a constant
@@ -120,32 +120,36 @@ fn settle_terms(alloc: Global, sig: &Signature, draft: &Draft, terms: &[Term]) -
 fn settle_term(alloc: Global, sig: &Signature, draft: &Draft, t: &Term) -> Result<Term, Stop>
     ensures { Gives tree_of result (Ok (renumbered (settled_number sig.now draft.now.base draft.now.names) (tree_of t.now))) }
 {
-    Ok(match t {
-        Term::Var(n) => Term::Var(*n),
-        Term::Sort(i) => Term::Sort(*i),
-        Term::Pi(a, b) => Term::Pi(
-            Box::new(alloc, settle_term(alloc, sig, draft, a)?)?,
-            Box::new(alloc, settle_term(alloc, sig, draft, b)?)?,
+    match t {
+        Term::Pi(a, b) => Term::new_pi(
+            alloc,
+            settle_term(alloc, sig, draft, a)?,
+            settle_term(alloc, sig, draft, b)?,
         ),
-        Term::Lam(a, b) => Term::Lam(
-            Box::new(alloc, settle_term(alloc, sig, draft, a)?)?,
-            Box::new(alloc, settle_term(alloc, sig, draft, b)?)?,
+        Term::Lam(a, b) => Term::new_lam(
+            alloc,
+            settle_term(alloc, sig, draft, a)?,
+            settle_term(alloc, sig, draft, b)?,
         ),
-        Term::App(f, a) => Term::App(
-            Box::new(alloc, settle_term(alloc, sig, draft, f)?)?,
-            Box::new(alloc, settle_term(alloc, sig, draft, a)?)?,
+        Term::App(f, a) => Term::new_app(
+            alloc,
+            settle_term(alloc, sig, draft, f)?,
+            settle_term(alloc, sig, draft, a)?,
         ),
-        Term::Let(a, t, b) => Term::Let(
-            Box::new(alloc, settle_term(alloc, sig, draft, a)?)?,
-            Box::new(alloc, settle_term(alloc, sig, draft, t)?)?,
-            Box::new(alloc, settle_term(alloc, sig, draft, b)?)?,
+        Term::Let(a, t, b) => Term::new_let(
+            alloc,
+            settle_term(alloc, sig, draft, a)?,
+            settle_term(alloc, sig, draft, t)?,
+            settle_term(alloc, sig, draft, b)?,
         ),
-        Term::Const(c) => Term::Const(settled_number(sig, draft, *c)),
-        Term::Fam(f) => Term::Fam(*f),
-        Term::Con(f, c) => Term::Con(*f, *c),
-        Term::Elim(f, m) => Term::Elim(*f, *m),
-        Term::AxiomK(i, m) => Term::AxiomK(*i, *m),
-    })
+        Term::Const(c) => Ok(Term::Const(settled_number(sig, draft, *c))),
+        Term::Var(_)
+        | Term::Sort(_)
+        | Term::Fam(_)
+        | Term::Con(_, _)
+        | Term::Elim(_, _)
+        | Term::AxiomK(_, _) => copy_whole(alloc, t),
+    }
 }
 
 fn settled_number(sig: &Signature, draft: &Draft, constant: u32) -> u32

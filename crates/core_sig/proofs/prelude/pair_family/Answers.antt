@@ -1,9 +1,13 @@
-use Rattle.std.proofs.Common.{◌∙◌}
+use Rattle.std.proofs.Common.{refl, ap}
+use Rattle.core_terms.specs.declared.term.Term as Code
+use Rattle.core_sig.specs.declared.family.ArgKind.TheVariants.{Plain}
+use Rattle.core_sig.specs.declared.family.Arg.{Arg}
+use Rattle.core_sig.specs.declared.family.Constructor.{Constructor}
 use Rattle.core_sig.proofs.PreludeEntries.{pair_kinds}
 use Rattle.core_sig.proofs.prelude.pair_family.Goals as goal
 
 pub returns-clause-kinds : goal.returns-clause-kinds
 returns-clause-kinds c = λ n.
-    pair_kinds n _ (record { name = c.in_ok-name_at.field-0; args = c.from_vec.result; targets = c.new.result })
-    c.component.result c.component-2.result 1 1 c.args.level c.args.level c.new-2.ensures (c.from_vec-3.ensures ∙ c.in_ok-vec-3.ensures.items)
-    (c.from_vec.ensures ∙ c.in_ok-vec.ensures.items) c.component.ensures c.component-2.ensures
+    let component : Arg = record { ty = Code.Var 1; level = c.args.level; kind = Plain } in
+    pair_kinds n _ c.in_ok-pair_constructor.field-0 component component 1 1 c.args.level c.args.level c.new.ensures c.in_ok-cons.ensures.ok
+    (ap (λ (con : Constructor). con.args) c.in_ok-pair_constructor.ensures.ok) refl refl
