@@ -36,7 +36,7 @@ domains-recursive_type s head (a ∷ inner) targets = ap (λ tele. inst s a ∷ 
 pub ups-same_var : ups Var ≡ Var
 ups-same_var = fun_ext ups-var
 
-inst_telescope-var : (tele : Telescope) → inst_telescope Var tele ≡ tele
+pub inst_telescope-var : (tele : Telescope) → inst_telescope Var tele ≡ tele
 inst_telescope-var [] = refl
 inst_telescope-var (a ∷ tele) = ap₂ ◌∷◌ (inst-var a) (ap (λ s. inst_telescope s tele) ups-same_var ∙ inst_telescope-var tele)
 
@@ -115,6 +115,17 @@ argument_types-lifted n f by at (a ∷ args) kinds =
     (ap₂ (λ s h. argument_types s h (map (argument_of (length f.parameters)) args)) (ups-lifted by at)
     (sym (inst-weaken (lifted by at) (weaken_by at (family_head n f))) ∙ ap₂ inst (ups-lifted by at) (weaken-weaken_by at (family_head n f)))
     ∙ argument_types-lifted n f by (at + 1) args kinds.1)
+
+-- the telescope of arguments is that of their types, where the head is an instance of the family at its parameters
+pub argument_types-inst : (n : ℕ) (f : pure.Family) (at : ℕ) (s : ℕ → Term) (args : List Arg) → HaveKinds n f at args → argument_types s (inst s (weaken_by at (family_head n f))) (map (argument_of (length f.parameters)) args) ≡ inst_telescope s (map (λ a. tree_of a.ty) args)
+argument_types-inst n f at s [] kinds = refl
+argument_types-inst n f at s (a ∷ args) kinds =
+    ap₂ ◌∷◌
+    (sym (inst-argument_type s Var (weaken_by at (family_head n f)) (argument_of (length f.parameters) a))
+    ∙ ap (inst s) (argument_type-of n f at a.kind (tree_of a.ty) a.level kinds.0))
+    (ap (λ h. argument_types (ups s) h (map (argument_of (length f.parameters)) args))
+    (sym (inst-weaken s (weaken_by at (family_head n f))) ∙ ap (inst (ups s)) (weaken-weaken_by at (family_head n f)))
+    ∙ argument_types-inst n f (at + 1) (ups s) args kinds.1)
 
 lifted-none : lifted 0 0 ≡ Var
 lifted-none = fun_ext (λ n. ap Var (omega (arith, lift_var-tells n 0 0)))

@@ -2,12 +2,16 @@ pub mod Arguments
 pub mod ClosedFamilies
 pub mod ConstructorTypes
 pub mod EliminatorTypes
+pub mod EliminatorsByLevels
 pub mod EntryInstances
+pub mod FewParts
+pub mod HypothesesByLevels
 pub mod HypothesisTypes
 pub mod Keeping
 pub mod KindLists
 pub mod Lookups
 pub mod MethodTypes
+pub mod MethodsByLevels
 pub mod NameLists
 pub mod NewNames
 pub mod PositiveFamilies

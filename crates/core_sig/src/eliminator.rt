@@ -26,7 +26,8 @@ pub fn elim_type(alloc: Global, fam: u32, f: &Family, m: u8) -> Result<Term, Sto
     if !is_few(f) {
         return Err(Stop::Deep);
     }
-    checked(eliminator(alloc, fam, f, m)?)
+    let whole = eliminator(alloc, fam, f, m)?;
+    checked(whole)
 }
 
 /// The type of the eliminator, whose height nothing tests.

@@ -140,7 +140,7 @@ alike-spine runs size depth s f f' (t ∷ ts) at same free =
 
 -- ---- more variables, more binders
 
-variable-weaken : (depth level : ℕ) → level < depth → weaken (variable depth level) ≡ variable (depth + 1) level
+pub variable-weaken : (depth level : ℕ) → level < depth → weaken (variable depth level) ≡ variable (depth + 1) level
 variable-weaken depth level lt = ap Var (omega arith)
 
 -- the next variable of the record is that of a binder
@@ -209,6 +209,12 @@ run-further depth start zero more le = refl
 run-further depth start (suc count) more le =
     ap₂ ◌∷◌ (ap Var (omega arith)) (run-further depth (start + 1) count more (omega arith))
 
+-- behind one more
+pub run-weaken : (depth start count : ℕ) → start + count ≤ depth → map weaken (run depth start count) ≡ run (depth + 1) start count
+run-weaken depth start zero le = refl
+run-weaken depth start (suc count) le =
+    ap₂ ◌∷◌ (variable-weaken depth start (omega arith)) (run-weaken depth (start + 1) count (omega arith))
+
 -- one level more
 pub run-push : (depth start count : ℕ) → run depth start (suc count) ≡ run depth start count ++ variable depth (start + count) ∷ []
 run-push depth start zero = ap (λ l. variable depth l ∷ []) (omega arith)
@@ -220,3 +226,11 @@ run-push depth start (suc count) =
 pub height-over : (runs : List (ℕ × ℕ)) (size depth : ℕ) (tele : Telescope) (b : Term) → height b + length tele ≤ height (products_over runs size depth tele b)
 height-over runs size depth [] b = omega arith
 height-over runs size depth (a ∷ tele) b = omega (arith, height-over runs (size + 1) (depth + 1) tele b)
+
+-- a term that is not low enough is Deep
+pub deep-unless : (t : Term) → ¬ (height t ≤ 2000) → bounded t ≡ Err Deep
+deep-unless t high = by (nat_le (height t) 2000) refl
+  where
+    by : (b : Bool) → nat_le (height t) 2000 ≡ b → bounded t ≡ Err Deep
+    by true e = absurd (high (grind (arith, nat_tests)))
+    by false e = ap (λ b. if b then Ok t else Err Deep) e
