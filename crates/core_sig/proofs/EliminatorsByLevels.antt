@@ -18,7 +18,8 @@ use Rattle.theory.proofs.Instances.{inst-inst, ren-is_inst, ups-ups}
 use Rattle.theory.proofs.Instantiation.{inst-applied, inst-products, inst-weaken, ups_by}
 use Rattle.theory.proofs.ScopedTypes.{length-inst_telescope}
 use Rattle.core_terms.specs.Answers.{bounded}
-use Rattle.core_terms.specs.Levels.{variable, level_at, products_over, run}
+use Rattle.core_terms.specs.declared.levels.Binder.TheVariants.{Product}
+use Rattle.core_terms.specs.Levels.{variable, level_at, over, run}
 use Rattle.core_terms.specs.Meanings.{tree_of, tele_of}
 use Rattle.core_terms.specs.declared.stop.Stop.TheVariants.{Deep}
 use Rattle.core_terms.proofs.Placing.{IsPlaced, Alike, alike-pi, alike-products, alike-over, alike-bounded, deep-unless, run-variables, run-further, run-weaken}
@@ -81,7 +82,7 @@ next-index p depth k l lt = grind (arith, nat_tests)
 abbrev goal_at : (n p depth : ℕ) → Telescope → Term
 goal_at n p depth indices =
     let k = length indices in
-    products_over ((0, p) ∷ (depth, k) ∷ []) p depth indices
+    over Product ((0, p) ∷ (depth, k) ∷ []) p depth indices
     (Pi (family_at n p (depth + k) depth k)
     (App (applied (variable (depth + k + 1) p) (run (depth + k + 1) depth k)) (variable (depth + k + 1) (depth + k))))
 
@@ -94,7 +95,7 @@ goal_of n p k indices =
 alike-goal : (n p j : ℕ) (indices : Telescope) → IsTelescopeOver p indices → Alike (goal_at n p (p + 1 + j) indices) (weaken_by j (goal_of n p (length indices) indices))
 alike-goal n p j indices scoped =
     subst (Alike (goal_at n p depth indices)) (sym shown)
-    (alike-over ((0, p) ∷ (depth, k) ∷ []) p depth (λ v. Var (suc v + j)) indices _ _ (next-index p depth k)
+    (alike-over Product ((0, p) ∷ (depth, k) ∷ []) p depth (λ v. Var (suc v + j)) indices _ _ (next-index p depth k)
     (none-yet p depth k (λ v. Var (suc v + j)) (placed-there p j)) scoped (inl refl))
   where
     k : ℕ
@@ -140,12 +141,12 @@ alike-goal n p j indices scoped =
 abbrev motive_at : (n p : ℕ) → Telescope → ℕ → Term
 motive_at n p indices m =
     let k = length indices in
-    products_over ((0, p) ∷ (p, k) ∷ []) p p indices (Pi (family_at n p (p + k) p k) (Sort m))
+    over Product ((0, p) ∷ (p, k) ∷ []) p p indices (Pi (family_at n p (p + k) p k) (Sort m))
 
 alike-motive : (n p : ℕ) (indices : Telescope) (m : ℕ) → IsTelescopeOver p indices → Alike (motive_at n p indices m) (products indices (Pi (applied (weaken_by (length indices) (applied (Fam n) (variables p))) (variables (length indices))) (Sort m)))
 alike-motive n p indices m scoped =
     subst₂ (λ tele d. Alike (motive_at n p indices m) (products tele (Pi d (Sort m)))) (inst_telescope-var indices) (sym domain)
-    (alike-over ((0, p) ∷ (p, k) ∷ []) p p Var indices _ _ (next-index p p k) (none-yet p p k Var here) scoped (inl refl))
+    (alike-over Product ((0, p) ∷ (p, k) ∷ []) p p Var indices _ _ (next-index p p k) (none-yet p p k Var here) scoped (inl refl))
   where
     k : ℕ
     k = length indices
@@ -218,9 +219,9 @@ pub alike-eliminator : (n : ℕ) (f : Family) (m : ℕ) → HasKinds n f → IsC
 alike-eliminator n f m kinds scoped =
     alike-products (tele_of f.params) _ _
     (alike-pi (motive_type n (shape_of f) m p) (spec.motive_type n (family_of f) m) _ _
-    (subst₂ Alike (ap₂ (λ k tele. products_over ((0, p) ∷ (p, k) ∷ []) p p tele (Pi (family_at n p (p + k) p k) (Sort m))) (sym made_count) (sym made_types))
+    (subst₂ Alike (ap₂ (λ k tele. over Product ((0, p) ∷ (p, k) ∷ []) p p tele (Pi (family_at n p (p + k) p k) (Sort m))) (sym made_count) (sym made_types))
     (ap₂ (λ k tele. products tele (Pi (applied (weaken_by k (applied (Fam n) (variables p))) (variables k)) (Sort m))) (sym wanted_count) (sym (index_types-of f)))
-    (alike-motive n p indices m over))
+    (alike-motive n p indices m indices_scoped))
     (subst₂ Alike (ap₂ (λ k d. methods_over n p k p 0 d (map constructor_shape f.cons) goal) (wanted_count ∙ sym made_count) (omega arith))
     (ren-id (λ v. v + 0) (arrows (method_types (λ v. Var (suc v)) n ps (Var 0) 0 (map (constructor_of p) f.cons)) E) (λ v. omega arith)
     ∙ ap (λ j. arrows (method_types (λ v. Var (suc v)) n ps (Var 0) 0 (map (constructor_of j) f.cons)) E) counted)
@@ -240,8 +241,8 @@ alike-eliminator n f m kinds scoped =
     indices : Telescope
     indices = map (λ a. tree_of a.ty) f.indices
 
-    over : IsTelescopeOver p indices
-    over = subst (IsTelescopeOver p) (index_types-of f) scoped.indices
+    indices_scoped : IsTelescopeOver p indices
+    indices_scoped = subst (IsTelescopeOver p) (index_types-of f) scoped.indices
 
     made_types : types_of (map argument_shape f.indices) ≡ indices
     made_types = map-map (λ x. x.type) argument_shape f.indices
@@ -265,11 +266,11 @@ alike-eliminator n f m kinds scoped =
         ∙ ap (λ c. made (length (map argument_shape f.indices)) (types_of (map argument_shape f.indices)) (p + 1 + c)) (sym (length-map f.cons constructor_shape)))
         (ap₂ (λ k tele. weaken_by (length f.cons) (goal_of n p k tele)) (sym wanted_count) (sym (index_types-of f))
         ∙ ap (λ j. weaken_by j E) (omega arith))
-        (alike-goal n p (length f.cons) indices over)
+        (alike-goal n p (length f.cons) indices indices_scoped)
       where
         made : ℕ → Telescope → ℕ → Term
         made k tele depth =
-            products_over ((0, p) ∷ (depth, k) ∷ []) p depth tele
+            over Product ((0, p) ∷ (depth, k) ∷ []) p depth tele
             (Pi (family_at n p (depth + k) depth k)
             (App (applied (variable (depth + k + 1) p) (run (depth + k + 1) depth k)) (variable (depth + k + 1) (depth + k))))
 

@@ -3,6 +3,7 @@ use Rattle.std.proofs.Common.{◌≡◌, ℕ, ◌+◌, ◌≤◌, List, [], ◌�
 use Rattle.std.proofs.lemmas.List.{length-map}
 use Rattle.theory.specs.Terms.{Term, height}
 use Rattle.theory.specs.Terms.Term.{Sort, Pi}
+use Rattle.core_terms.specs.declared.levels.Binder.TheVariants.{Product}
 use Rattle.core_terms.proofs.Builders.{height-products}
 use Rattle.core_terms.proofs.Placing.{height-over}
 use Rattle.core_sig.specs.ByLevels.{family_at, motive_type, goal_type, hypotheses_over, conclusion, methods_over, eliminator_type}
@@ -14,7 +15,7 @@ few-arguments n p k motive number depth (c ∷ cs) end low =
     let rest = few-arguments n p k motive (number + 1) (depth + 1) cs end (omega arith) in
     let count = length c.arguments in
     let inside = depth + count in
-    let least = height-over ((0, p) ∷ (depth, count) ∷ []) p depth (types_of c.arguments) (hypotheses_over p k motive depth 0 inside c.arguments (conclusion n p motive number depth (inside + recursive_count c.arguments) c)) in
+    let least = height-over Product ((0, p) ∷ (depth, count) ∷ []) p depth (types_of c.arguments) (hypotheses_over Product p k motive depth 0 inside c.arguments (conclusion n p motive number depth (inside + recursive_count c.arguments) c)) in
     let types = length-map c.arguments (λ a. a.type) in
     let tail = rest.1 in
     ((omega arith, rest.0), omega arith)
@@ -26,7 +27,7 @@ few-eliminator n f m low =
     let goal = goal_type n f p (p + 1 + length f.constructors) in
     let methods = methods_over n p k p 0 (p + 1) f.constructors goal in
     let outer = height-products f.parameters (Pi (motive_type n f m p) methods) in
-    let motive = height-over ((0, p) ∷ (p, k) ∷ []) p p (types_of f.indices) (Pi (family_at n p (p + k) p k) (Sort m)) in
+    let motive = height-over Product ((0, p) ∷ (p, k) ∷ []) p p (types_of f.indices) (Pi (family_at n p (p + k) p k) (Sort m)) in
     let types = length-map f.indices (λ a. a.type) in
     let inner = few-arguments n p k p 0 (p + 1) f.constructors goal (omega arith) in
     let tail = inner.1 in

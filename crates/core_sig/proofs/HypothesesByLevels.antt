@@ -13,6 +13,7 @@ use Rattle.theory.specs.Eliminators as spec
 use Rattle.theory.specs.Eliminators.{hypothesis_types}
 use Rattle.theory.proofs.Instances.{inst-var, ren-is_inst}
 use Rattle.theory.proofs.Renaming.{ren-weaken}
+use Rattle.core_terms.specs.declared.levels.Binder.TheVariants.{Product}
 use Rattle.core_terms.specs.Levels.{variable, level_at, place, run}
 use Rattle.core_terms.specs.Meanings.{tree_of}
 use Rattle.core_terms.proofs.Builders.{applied-push}
@@ -182,19 +183,19 @@ step : (n : ℕ) (f : pure.Family) (motive first at depth j : ℕ) (rest : List 
     → depth ≡ first + at + suc (length rest) → motive < first → IsPlaced ((0, length f.parameters) ∷ (first, at) ∷ []) (length f.parameters + at) depth s
     → Alike end (weaken_by (j + recursive_count (record { type = t; level = level; kind = kind } ∷ map argument_shape rest)) E)
     → ((i : ℕ) → Alike end (weaken_by (i + recursive_count (map argument_shape rest)) E)
-    → Alike (hypotheses_over (length f.parameters) (length f.indices) motive first (at + 1) (depth + i) (map argument_shape rest) end)
+    → Alike (hypotheses_over Product (length f.parameters) (length f.indices) motive first (at + 1) (depth + i) (map argument_shape rest) end)
     (weaken_by i (arrows (hypothesis_types (extend s (Var (length rest))) (variable depth motive) (map (argument_of (length f.parameters)) rest) (variables (length rest))) E)))
-    → Alike (hypotheses_over (length f.parameters) (length f.indices) motive first at (depth + j) (record { type = t; level = level; kind = kind } ∷ map argument_shape rest) end)
+    → Alike (hypotheses_over Product (length f.parameters) (length f.indices) motive first at (depth + j) (record { type = t; level = level; kind = kind } ∷ map argument_shape rest) end)
     (weaken_by j (arrows (hypothesis_types s (variable depth motive) (argument_with (length f.parameters) t level kind ∷ map (argument_of (length f.parameters)) rest) (variables (suc (length rest)))) E))
 step n f motive first at depth j rest s end E t level Plain kind scoped is low placed same others = others j same
 step n f motive first at depth j rest s end E t level (Recursive count) kind scoped is low placed same others =
-    subst (Alike (Pi (hypothesis_type p k motive first at (depth + j) count t) (hypotheses_over p k motive first (at + 1) (depth + j + 1) (map argument_shape rest) end)))
+    subst (Alike (Pi (hypothesis_type p k motive first at (depth + j) count t) (hypotheses_over Product p k motive first (at + 1) (depth + j + 1) (map argument_shape rest) end)))
     (sym (ap (λ a. weaken_by j (arrows (hypothesis_types s (variable depth motive) (a ∷ map (argument_of p) rest) (variables (suc (length rest)))) E)) (argument_with-recursive n f at count kind.0 kind.1 t level kind.2 kind.3)
     ∙ further j (spec.hypothesis_type s (variable depth motive) (Var (length rest)) kind.0 kind.1) behind))
     (alike-pi (hypothesis_type p k motive first at (depth + j) count t) (weaken_by j (spec.hypothesis_type s (variable depth motive) (Var (length rest)) kind.0 kind.1))
-    (hypotheses_over p k motive first (at + 1) (depth + j + 1) (map argument_shape rest) end) (weaken_by (j + 1) behind)
+    (hypotheses_over Product p k motive first (at + 1) (depth + j + 1) (map argument_shape rest) end) (weaken_by (j + 1) behind)
     (hypothesis-behind n f motive first at depth j count (length rest) s t level kind scoped is low placed)
-    (subst (λ d. Alike (hypotheses_over p k motive first (at + 1) d (map argument_shape rest) end) (weaken_by (j + 1) behind)) (omega arith)
+    (subst (λ d. Alike (hypotheses_over Product p k motive first (at + 1) d (map argument_shape rest) end) (weaken_by (j + 1) behind)) (omega arith)
     (others (j + 1) (subst (λ i. Alike end (weaken_by i E)) (omega arith) same))))
   where
     p : ℕ
@@ -210,7 +211,7 @@ step n f motive first at depth j rest s end E t level (Recursive count) kind sco
 pub alike-hypotheses : (n : ℕ) (f : pure.Family) (motive first at depth j : ℕ) (args : List Arg) (s : ℕ → Term) (end E : Term) → HaveKinds n f at args → AreArgumentsOver (length f.parameters + at) (map (argument_of (length f.parameters)) args)
     → depth ≡ first + at + length args → motive < first → length f.parameters ≤ first → IsPlaced ((0, length f.parameters) ∷ (first, at) ∷ []) (length f.parameters + at) depth s
     → Alike end (weaken_by (j + recursive_count (map argument_shape args)) E)
-    → Alike (hypotheses_over (length f.parameters) (length f.indices) motive first at (depth + j) (map argument_shape args) end)
+    → Alike (hypotheses_over Product (length f.parameters) (length f.indices) motive first at (depth + j) (map argument_shape args) end)
     (weaken_by j (arrows (hypothesis_types s (variable depth motive) (map (argument_of (length f.parameters)) args) (variables (length args))) E))
 alike-hypotheses n f motive first at depth j [] s end E kinds scoped is low le placed same =
     subst (λ i. Alike end (weaken_by i E)) (omega arith) same

@@ -19,7 +19,8 @@ use Rattle.theory.proofs.Instantiation.{inst-applied, inst-products, inst-weaken
 use Rattle.theory.proofs.Renaming.{ren-weaken}
 use Rattle.theory.proofs.Scopes.{scoped-arguments}
 use Rattle.theory.proofs.ScopedTypes.{length-inst_telescope, scoped-head}
-use Rattle.core_terms.specs.Levels.{variable, level_at, place, products_over, run}
+use Rattle.core_terms.specs.declared.levels.Binder.TheVariants.{Product}
+use Rattle.core_terms.specs.Levels.{variable, level_at, place, over, run}
 use Rattle.core_terms.specs.Meanings.{tree_of, tele_of}
 use Rattle.core_terms.proofs.Placing.{IsPlaced, Alike, alike-pi, alike-app, alike-products, alike-spine, alike-over, placed-extend, placed-kept, placed-further, run-variables, run-further, run-weaken}
 use Rattle.core_sig.specs.ByLevels.{family_at, motive_type, goal_type, hypotheses_over, conclusion, method_type, methods_over, eliminator_type}
@@ -109,8 +110,8 @@ pub alike-method : (n : ℕ) (f : pure.Family) (motive number depth : ℕ) (con 
     → Alike (method_type n (length f.parameters) (length f.indices) motive number depth (constructor_shape con)) (spec.method_type s (applied (Fam n) (run depth 0 (length f.parameters))) (applied (Con n number) (run depth 0 (length f.parameters))) (variable depth motive) (constructor_of (length f.parameters) con))
 alike-method n f motive number depth con s kinds scoped low le placed =
     subst₂ Alike (ap made (sym (length-map con.args argument_shape))) (ap wanted (sym (length-map con.args (argument_of p))))
-    (subst₂ (λ tele types. Alike (products_over runs p depth tele (made-inside a)) (products types (wanted-inside a))) (sym made_types) (sym wanted_types)
-    (alike-over runs p depth s types (made-inside a) (wanted-inside a) next (none-yet p depth a s placed) (scoped-types n f con kinds scoped) inside))
+    (subst₂ (λ tele types. Alike (over Product runs p depth tele (made-inside a)) (products types (wanted-inside a))) (sym made_types) (sym wanted_types)
+    (alike-over Product runs p depth s types (made-inside a) (wanted-inside a) next (none-yet p depth a s placed) (scoped-types n f con kinds scoped) inside))
   where
     p : ℕ
     p = length f.parameters
@@ -130,10 +131,10 @@ alike-method n f motive number depth con s kinds scoped low le placed =
         (applied (applied (Con n number) (run (depth + count + recursive_count (map argument_shape con.args)) 0 p)) (run (depth + count + recursive_count (map argument_shape con.args)) depth count))
 
     made-inside : ℕ → Term
-    made-inside count = hypotheses_over p (length f.indices) motive depth 0 (depth + count) (map argument_shape con.args) (end count)
+    made-inside count = hypotheses_over Product p (length f.indices) motive depth 0 (depth + count) (map argument_shape con.args) (end count)
 
     made : ℕ → Term
-    made count = products_over ((0, p) ∷ (depth, count) ∷ []) p depth (types_of (map argument_shape con.args)) (made-inside count)
+    made count = over Product ((0, p) ∷ (depth, count) ∷ []) p depth (types_of (map argument_shape con.args)) (made-inside count)
 
     E : ℕ → Term
     E count =
@@ -184,6 +185,6 @@ alike-method n f motive number depth con s kinds scoped low le placed =
 
     inside : Alike (made-inside a) (wanted-inside a)
     inside =
-        subst₂ (λ d u. Alike (hypotheses_over p (length f.indices) motive depth 0 d (map argument_shape con.args) (end a)) u) (omega arith)
+        subst₂ (λ d u. Alike (hypotheses_over Product p (length f.indices) motive depth 0 d (map argument_shape con.args) (end a)) u) (omega arith)
         (ren-id (λ v. v + 0) _ (λ v. omega arith) ∙ ap (λ u. arrows (hypothesis_types s' u (map (argument_of p) con.args) (variables a)) (E a)) motive_there)
         (alike-hypotheses n f motive depth 0 (depth + a) 0 con.args s' (end a) (E a) kinds (subst (λ k. AreArgumentsOver k (map (argument_of p) con.args)) (omega arith) scoped.arguments) (omega arith) low le none' concluded)

@@ -14,7 +14,7 @@ use crate::by_levels::{
 };
 use crate::shapes::{is_few, recursive_count};
 use crate::{Constructor, Family};
-use core_terms::{Stop, Term, checked, copy_tele, products};
+use core_terms::{Binder, Stop, Term, checked, copy_tele, products};
 use std::alloc::Global;
 
 /// The type of the eliminator of the family with number `fam` into `Type m`.
@@ -93,7 +93,7 @@ fn method_type(
     let count = args.len() as u32;
     let inside = depth + count;
     let end = conclusion(alloc, fam, motive, number, depth, inside + recursive_count(args), con)?;
-    let end = hypotheses_over(alloc, motive, depth, 0, inside, args, end)?;
+    let end = hypotheses_over(alloc, Binder::Product, motive, depth, 0, inside, args, end)?;
     let runs = [(0, motive.params), (depth, count)];
-    arguments_over(alloc, &runs, motive.params, depth, args, end)
+    arguments_over(alloc, Binder::Product, &runs, motive.params, depth, args, end)
 }
