@@ -1,16 +1,13 @@
 pub mod Arguments
 pub mod ClosedFamilies
 pub mod ConstructorTypes
-pub mod EliminatorTypes
 pub mod EliminatorsByLevels
 pub mod EntryInstances
 pub mod FewParts
 pub mod HypothesesByLevels
-pub mod HypothesisTypes
 pub mod Keeping
 pub mod KindLists
 pub mod Lookups
-pub mod MethodTypes
 pub mod MethodsByLevels
 pub mod NameLists
 pub mod NewNames
@@ -19,4 +16,3 @@ pub mod PreludeEntries
 pub mod RecursiveForms
 pub mod Renumbering
 pub mod SettledFamilies
-pub mod Telescoping

@@ -30,7 +30,7 @@ use Rattle.core_sig.specs.Shapes.{argument_shape, constructor_shape, shape_of, t
 use Rattle.core_sig.specs.declared.family.Arg.{Arg}
 use Rattle.core_sig.specs.declared.family.Constructor.{Constructor}
 use Rattle.core_sig.specs.declared.family.Family.{Family}
-use Rattle.core_sig.proofs.Arguments.{argument_types-inst, inst_telescope-var, weaken-weaken_by, index_types-of}
+use Rattle.core_sig.proofs.Arguments.{argument_types-inst, argument_types-of}
 use Rattle.core_sig.proofs.ConstructorTypes.{ren-applied}
 use Rattle.core_sig.proofs.EntryInstances.{ren-id, inst-method_type, inst-weaken_by, inst-variables}
 use Rattle.core_sig.proofs.HypothesesByLevels.{level-kept, placed-argument, alike-hypotheses}
@@ -100,9 +100,7 @@ alike-conclusion n number p motive first a h depth s targets is low le placed fr
 -- arguments of the code over a telescope that is scoped
 scoped-types : (n : ℕ) (f : pure.Family) (con : Constructor) → HaveKinds n f 0 con.args → IsConstructorOver (length f.parameters) (constructor_of (length f.parameters) con) → IsTelescopeOver (length f.parameters) (map (λ a. tree_of a.ty) con.args)
 scoped-types n f con kinds scoped =
-    subst (IsTelescopeOver (length f.parameters))
-    (ap (λ h. argument_types Var h (map (argument_of (length f.parameters)) con.args)) (sym (inst-var (weaken_by 0 (family_head n f)) ∙ ren-id (λ v. v + 0) (family_head n f) (λ v. omega arith)))
-    ∙ (argument_types-inst n f 0 Var con.args kinds ∙ inst_telescope-var (map (λ a. tree_of a.ty) con.args)))
+    subst (IsTelescopeOver (length f.parameters)) (argument_types-of n f con.args kinds)
     (scoped-arguments Var (family_head n f) (map (argument_of (length f.parameters)) con.args) (length f.parameters) (length f.parameters) (λ i lt. omega arith) (scoped-head n f) scoped.arguments)
 
 -- a method

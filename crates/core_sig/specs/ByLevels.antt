@@ -2,7 +2,7 @@
 -- at a depth stands behind so many binders.
 use Rattle.std.specs.Prelude.{ℕ, zero, suc, ◌+◌, ◌-◌, nat_le, if◌then◌else◌, List, [], ◌∷◌, map, length}
 use Rattle.theory.specs.Terms.{Term, Sort, Pi, App, Fam, Con}
-use Rattle.theory.specs.Telescopes.{products, applied}
+use Rattle.theory.specs.Telescopes.{Telescope, products, applied}
 use Rattle.core_terms.specs.Levels.{variable, run, place, bind, over}
 use Rattle.core_terms.specs.declared.levels.Binder.{Binder}
 use Rattle.core_terms.specs.declared.levels.Binder.TheVariants.{Product}
@@ -90,3 +90,9 @@ eliminator_type n f m =
     let p = length f.parameters in
     products f.parameters (Pi (motive_type n f m p)
     (methods_over n p (length f.indices) p 0 (p + 1) f.constructors (goal_type n f p (p + 1 + length f.constructors))))
+
+-- the type of a constructor, whose arguments have the types: (p) -> (types) -> D p targets
+abbrev pub constructor_type : (n : ℕ) → Telescope → Telescope → List Term → Term
+constructor_type n parameters types targets =
+    let p = length parameters in
+    products parameters (products types (applied (applied (Fam n) (run (p + length types) 0 p)) targets))

@@ -1,4 +1,3 @@
-pub mod Building
 pub mod ByLevels
 pub mod Codes
 pub mod Invariants
@@ -11,4 +10,3 @@ pub mod Raw
 pub mod SettledParts
 pub mod Settling
 pub mod Shapes
-pub mod Stages

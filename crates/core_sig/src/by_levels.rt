@@ -9,8 +9,8 @@ ghost use Rattle.core_sig.specs.Shapes.{IsFew, argument_shape, constructor_shape
 use crate::shapes::recursive_count;
 use crate::{Arg, ArgKind, Constructor, Family};
 use core_terms::{
-    Binder, MAX_HEIGHT, Run, Stop, Term, applied_to_places, applied_to_run, bind, copy_whole, place,
-    variable,
+    Binder, MAX_HEIGHT, Run, Stop, Term, applied_to_places, applied_to_run, bind, copy_whole,
+    place, variable,
 };
 use std::alloc::Global;
 
@@ -80,7 +80,13 @@ pub fn goal_type(alloc: Global, fam: u32, f: &Family, motive: u32, depth: u32) -
     let count = indices.len() as u32;
     let inside = depth + count;
     let domain = family_at(alloc, fam, params, inside, depth, count)?;
-    let goal = applied_to_run(alloc, variable(inside + 1, motive), inside + 1, depth, count)?;
+    let goal = applied_to_run(
+        alloc,
+        variable(inside + 1, motive),
+        inside + 1,
+        depth,
+        count,
+    )?;
     let goal = Term::new_app(alloc, goal, variable(inside + 1, inside))?;
     let end = Term::new_pi(alloc, domain, goal)?;
     let runs = [(0, params), (depth, count)];
@@ -136,8 +142,7 @@ fn hypothesis_from(
     match ty {
         Term::Pi(domain, codomain) if count > 0 => {
             let domain = place(alloc, runs, size, depth, domain)?;
-            let rest =
-                hypothesis_from(alloc, runs, size + 1, depth + 1, at, count - 1, codomain)?;
+            let rest = hypothesis_from(alloc, runs, size + 1, depth + 1, at, count - 1, codomain)?;
             Term::new_pi(alloc, domain, rest)
         }
         _ => {
@@ -209,10 +214,28 @@ pub fn hypotheses_over(
     match args {
         [] => Ok(end),
         [arg, rest @ ..] => match arg.kind {
-            ArgKind::Plain => hypotheses_over(alloc, binder, motive, first, at + 1, depth, rest, end),
+            ArgKind::Plain => hypotheses_over(
+                alloc,
+                binder,
+                motive,
+                first,
+                at + 1,
+                depth,
+                rest,
+                end,
+            ),
             ArgKind::Recursive(count) => {
                 let ty = hypothesis_type(alloc, motive, first, at, depth, count, &arg.ty)?;
-                let rest = hypotheses_over(alloc, binder, motive, first, at + 1, depth + 1, rest, end)?;
+                let rest = hypotheses_over(
+                    alloc,
+                    binder,
+                    motive,
+                    first,
+                    at + 1,
+                    depth + 1,
+                    rest,
+                    end,
+                )?;
                 bind(alloc, binder, ty, rest)
             }
         },

@@ -46,7 +46,11 @@ fn eliminator(alloc: Global, fam: u32, f: &Family, m: u8) -> Result<Term, Stop>
     let methods = methods_over(alloc, fam, motive, 0, params + 1, cons, end)?;
     let ty = motive_type(alloc, fam, f, m, params)?;
     let end = Term::new_pi(alloc, ty, methods)?;
-    products(alloc, copy_tele(alloc, f.params.as_slice())?.into_vec(), end)
+    products(
+        alloc,
+        copy_tele(alloc, f.params.as_slice())?.into_vec(),
+        end,
+    )
 }
 
 /// The product of `end` over the methods for the constructors from `number` on, at a depth.
@@ -92,8 +96,24 @@ fn method_type(
     let args = con.args.as_slice();
     let count = args.len() as u32;
     let inside = depth + count;
-    let end = conclusion(alloc, fam, motive, number, depth, inside + recursive_count(args), con)?;
+    let end = conclusion(
+        alloc,
+        fam,
+        motive,
+        number,
+        depth,
+        inside + recursive_count(args),
+        con,
+    )?;
     let end = hypotheses_over(alloc, Binder::Product, motive, depth, 0, inside, args, end)?;
     let runs = [(0, motive.params), (depth, count)];
-    arguments_over(alloc, Binder::Product, &runs, motive.params, depth, args, end)
+    arguments_over(
+        alloc,
+        Binder::Product,
+        &runs,
+        motive.params,
+        depth,
+        args,
+        end,
+    )
 }

@@ -5,7 +5,6 @@ ghost use Rattle.core_sig.specs.Names.{find};
 mod closed;
 mod families;
 
-use crate::building::few;
 use crate::tests::closed::is_closed;
 use crate::tests::families::Part::{App, Con, Const, Fam, Pi, Sort, Var};
 use crate::tests::families::{Terms, family};
@@ -13,7 +12,7 @@ use crate::{
     Draft, Entry, Family, Found, Signature, con_type, elim_type, family_type, settle,
     strictly_positive,
 };
-use core_terms::{Items, Name, Term};
+use core_terms::{Items, Name, Term, few};
 use std::alloc::Global;
 use std::test::Fail;
 

@@ -4,9 +4,8 @@ ghost use Rattle.core_sig.specs.Kinds.{HasKinds, HaveKinds};
 ghost use Rattle.core_sig.specs.Meanings.{family_of};
 ghost use Rattle.core_sig.specs.declared.family.ArgKind.TheVariants.{Plain};
 
-use crate::building::few;
 use crate::{Arg, ArgKind, Constructor, Family, kind_of};
-use core_terms::{Items, MAX_HEIGHT, Name, Term};
+use core_terms::{Items, MAX_HEIGHT, Name, Term, few};
 use std::alloc::Global;
 use std::test::Fail;
 
