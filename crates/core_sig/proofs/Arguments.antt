@@ -13,11 +13,8 @@ use Rattle.theory.specs.Families as pure
 use Rattle.theory.specs.Families.{recursive_type, argument_type, argument_types, family_head, index_types}
 use Rattle.theory.proofs.Instances.{inst-var, ups-var, ren-ren, ren-same}
 use Rattle.theory.proofs.Instantiation.{inst-weaken, ups_by}
-use Rattle.theory.proofs.Shifts.{lift-is_inst, lift_var-tells}
-use Rattle.theory.proofs.Commuting.{lift_by_none}
 use Rattle.theory.proofs.ScopedTypes.{length-variables}
 use Rattle.core_terms.specs.Meanings.{tree_of}
-use Rattle.core_sig.specs.Building.{lift_telescope}
 use Rattle.core_sig.specs.Kinds.{IsRecursiveType, HasKind, HaveKinds}
 use Rattle.core_sig.specs.Meanings.{domains, behind, argument_with, argument_of, family_of}
 use Rattle.core_sig.specs.declared.family.Family.{Family}
@@ -25,7 +22,6 @@ use Rattle.core_sig.specs.declared.family.ArgKind.{ArgKind}
 use Rattle.core_sig.specs.declared.family.ArgKind.TheVariants.{Plain, Recursive}
 use Rattle.core_sig.specs.declared.family.Arg.{Arg}
 use Rattle.core_sig.proofs.EntryInstances.{ren-id, inst-argument_type}
-use Rattle.core_sig.proofs.Telescoping.{lift_telescope-push}
 
 -- ---- splitting the type of a recursive argument
 
@@ -36,7 +32,7 @@ domains-recursive_type s head (a ∷ inner) targets = ap (λ tele. inst s a ∷ 
 pub ups-same_var : ups Var ≡ Var
 ups-same_var = fun_ext ups-var
 
-inst_telescope-var : (tele : Telescope) → inst_telescope Var tele ≡ tele
+pub inst_telescope-var : (tele : Telescope) → inst_telescope Var tele ≡ tele
 inst_telescope-var [] = refl
 inst_telescope-var (a ∷ tele) = ap₂ ◌∷◌ (inst-var a) (ap (λ s. inst_telescope s tele) ups-same_var ∙ inst_telescope-var tele)
 
@@ -89,58 +85,31 @@ argument_type-of n f at (Recursive count) t level is =
     ap (argument_type Var (weaken_by at (family_head n f))) (argument_with-recursive n f at count is.0 is.1 t level is.2 is.3)
     ∙ sym (is.3).form
 
--- ---- lifted arguments
-
--- the variables of a record, `by` further out, under `from` binders
-abbrev pub lifted : ℕ → ℕ → ℕ → Term
-lifted by from v = Var (lift_var v by from)
-
-pub ups-lifted : (by from : ℕ) → ups (lifted by from) ≡ lifted by (from + 1)
-ups-lifted by from = fun_ext at
-  where
-    at : (n : ℕ) → ups (lifted by from) n ≡ lifted by (from + 1) n
-    at zero = ap Var (omega (arith, lift_var-tells 0 by (from + 1)))
-    at (suc n) = ap Var (omega (arith, lift_var-tells n by from, lift_var-tells (suc n) by (from + 1)))
+-- ---- the types of arguments
 
 pub weaken-weaken_by : (at : ℕ) (t : Term) → weaken (weaken_by at t) ≡ weaken_by (at + 1) t
 weaken-weaken_by at t = ren-ren suc (λ n. n + at) t ∙ ren-same t (λ n. omega arith)
 
--- the telescope of arguments is that of their types, lifted
-pub argument_types-lifted : (n : ℕ) (f : pure.Family) (by at : ℕ) (args : List Arg) → HaveKinds n f at args → argument_types (lifted by at) (inst (lifted by at) (weaken_by at (family_head n f))) (map (argument_of (length f.parameters)) args) ≡ lift_telescope (map (λ a. tree_of a.ty) args) by at
-argument_types-lifted n f by at [] kinds = refl
-argument_types-lifted n f by at (a ∷ args) kinds =
+-- the telescope of arguments is that of their types, where the head is an instance of the family at its parameters
+pub argument_types-inst : (n : ℕ) (f : pure.Family) (at : ℕ) (s : ℕ → Term) (args : List Arg) → HaveKinds n f at args → argument_types s (inst s (weaken_by at (family_head n f))) (map (argument_of (length f.parameters)) args) ≡ inst_telescope s (map (λ a. tree_of a.ty) args)
+argument_types-inst n f at s [] kinds = refl
+argument_types-inst n f at s (a ∷ args) kinds =
     ap₂ ◌∷◌
-    (sym (inst-argument_type (lifted by at) Var (weaken_by at (family_head n f)) (argument_of (length f.parameters) a))
-    ∙ (ap (inst (lifted by at)) (argument_type-of n f at a.kind (tree_of a.ty) a.level kinds.0) ∙ sym (lift-is_inst (tree_of a.ty) by at)))
-    (ap₂ (λ s h. argument_types s h (map (argument_of (length f.parameters)) args)) (ups-lifted by at)
-    (sym (inst-weaken (lifted by at) (weaken_by at (family_head n f))) ∙ ap₂ inst (ups-lifted by at) (weaken-weaken_by at (family_head n f)))
-    ∙ argument_types-lifted n f by (at + 1) args kinds.1)
+    (sym (inst-argument_type s Var (weaken_by at (family_head n f)) (argument_of (length f.parameters) a))
+    ∙ ap (inst s) (argument_type-of n f at a.kind (tree_of a.ty) a.level kinds.0))
+    (ap (λ h. argument_types (ups s) h (map (argument_of (length f.parameters)) args))
+    (sym (inst-weaken s (weaken_by at (family_head n f))) ∙ ap (inst (ups s)) (weaken-weaken_by at (family_head n f)))
+    ∙ argument_types-inst n f (at + 1) (ups s) args kinds.1)
 
-lifted-none : lifted 0 0 ≡ Var
-lifted-none = fun_ext (λ n. ap Var (omega (arith, lift_var-tells n 0 0)))
-
-lift_telescope-none : (tele : Telescope) (at : ℕ) → lift_telescope tele 0 at ≡ tele
-lift_telescope-none [] at = refl
-lift_telescope-none (t ∷ tele) at = ap₂ ◌∷◌ (lift_by_none t at) (lift_telescope-none tele (at + 1))
-
--- and their own where nothing is lifted
+-- and their own where each variable stands for itself
 pub argument_types-of : (n : ℕ) (f : pure.Family) (args : List Arg) → HaveKinds n f 0 args → argument_types Var (family_head n f) (map (argument_of (length f.parameters)) args) ≡ map (λ a. tree_of a.ty) args
 argument_types-of n f args kinds =
-    ap₂ (λ s h. argument_types s h (map (argument_of (length f.parameters)) args)) (sym lifted-none)
-    (sym (ap₂ inst lifted-none (ren-id (λ k. k + 0) (family_head n f) (λ k. omega arith)) ∙ inst-var (family_head n f)))
-    ∙ (argument_types-lifted n f 0 0 args kinds ∙ lift_telescope-none (map (λ a. tree_of a.ty) args) 0)
+    ap (λ h. argument_types Var h (map (argument_of (length f.parameters)) args))
+    (sym (inst-var (weaken_by 0 (family_head n f)) ∙ ren-id (λ k. k + 0) (family_head n f) (λ k. omega arith)))
+    ∙ (argument_types-inst n f 0 Var args kinds ∙ inst_telescope-var (map (λ a. tree_of a.ty) args))
 
 -- the types of indices
 pub index_types-of : (f : Family) → index_types (family_of f) ≡ map (λ a. tree_of a.ty) f.indices
 index_types-of f = map-map (λ (i : Term × ℕ). i.0) (λ (a : Arg). (tree_of a.ty, a.level)) f.indices
 
--- one type more of a lifted telescope
-pub lift_types-more : (args : List Arg) (n by : ℕ) (a : Arg) → n < length args → a ≡ get_or args n a → lift_telescope (map (λ k. tree_of k.ty) (take (n + 1) args)) by 0 ≡ lift_telescope (map (λ k. tree_of k.ty) (take n args)) by 0 ++ lift (tree_of a.ty) by n ∷ []
-lift_types-more args n by a lt is =
-    ap (λ xs. lift_telescope (map (λ k. tree_of k.ty) xs) by 0) (ap (λ k. take k args) (add-one n) ∙ (take-suc args n a lt ∙ ap (λ k. take n args ++ k ∷ []) (sym is)))
-    ∙ (ap (λ ts. lift_telescope ts by 0) (map-append (λ k. tree_of k.ty) (take n args) (a ∷ []))
-    ∙ (lift_telescope-push (map (λ k. tree_of k.ty) (take n args)) (tree_of a.ty) by 0
-    ∙ ap (λ k. lift_telescope (map (λ j. tree_of j.ty) (take n args)) by 0 ++ lift (tree_of a.ty) by k ∷ []) counted))
-  where
-    counted : 0 + length (map (λ k. tree_of k.ty) (take n args)) ≡ n
-    counted = omega (arith, length-map (take n args) (λ k. tree_of k.ty), length-take-le n args)
+pub ruleset index_laws = (index_types-of)

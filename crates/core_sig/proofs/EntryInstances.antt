@@ -147,8 +147,3 @@ inst-method_type q s head con P c =
         ap₂ App
         (inst-applied Q (weaken_by k P) (map (inst (fill inside (variables k))) c.targets) ∙ ap₂ applied (inst-weaken_by k q P) same_targets)
         (inst-applied Q (weaken_by k con) (variables k) ∙ ap₂ applied (inst-weaken_by k q con) (inst-variables k q))
-
--- behind no binder the nearest variables are themselves
-pub variables-here : (k : ℕ) → map (weaken_by 0) (variables k) ≡ variables k
-variables-here zero = refl
-variables-here (suc k) = ap₂ ◌∷◌ (ap Var (omega arith)) (variables-here k)

@@ -2,14 +2,15 @@ pub mod Arguments
 pub mod ClosedFamilies
 pub mod ConstructorTypes
 pub mod DraftTerms
-pub mod EliminatorTypes
+pub mod EliminatorsByLevels
 pub mod EntryInstances
-pub mod HypothesisTypes
+pub mod FewParts
+pub mod HypothesesByLevels
 pub mod Instances
 pub mod Keeping
 pub mod KindLists
 pub mod Lookups
-pub mod MethodTypes
+pub mod MethodsByLevels
 pub mod NameLists
 pub mod NewNames
 pub mod PositiveFamilies
@@ -17,4 +18,3 @@ pub mod PreludeEntries
 pub mod RecursiveForms
 pub mod Renumbering
 pub mod SettledFamilies
-pub mod Telescoping

@@ -15,7 +15,6 @@ use Rattle.core_sig.specs.declared.family.ArgKind.TheVariants.{Recursive}
 use Rattle.core_sig.specs.declared.family.Arg.{Arg}
 use Rattle.core_sig.specs.declared.family.Constructor.{Constructor}
 use Rattle.core_sig.proofs.Arguments.{argument_with-recursive}
-use Rattle.core_sig.proofs.HypothesisTypes.{drop-at}
 
 -- terms that all lack the family
 lacks-any : (n : ℕ) (ts : List Term) → All (Lacks n) ts → list_any (mentions n) ts ≡ false
@@ -37,6 +36,10 @@ pub recursive-fits : (n : ℕ) (f : pure.Family) (at count : ℕ) (t : Term) (le
 recursive-fits n f at count t level kind =
     ap (offends n) (argument_with-recursive n f at count kind.0 kind.1 t level kind.2 kind.3)
     ∙ ap₂ ◌||◌ (lacks-any n kind.0 (kind.3).inner_lacks) (lacks-any n kind.1 (kind.3).targets_lack)
+
+-- the arguments from one on are that one and those that follow
+drop-at : (args : List Arg) (at : ℕ) (a : Arg) → at < length args → a ≡ get_or args at a → drop at args ≡ a ∷ drop (at + 1) args
+drop-at args at a lt is = drop-cons args at a lt ∙ ap₂ ◌∷◌ (sym is) (ap (λ k. drop k args) (sym (add-one at)))
 
 -- from one argument on
 pub offender-step : (n : ℕ) (f : pure.Family) (at : ℕ) (args : List Arg) (a : Arg) (c : pure.Constructor) → at < length args → a ≡ get_or args at a → HaveKinds n f at (drop at args)

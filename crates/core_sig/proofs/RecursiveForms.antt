@@ -16,7 +16,7 @@ use Rattle.core_sig.specs.declared.family.ArgKind.{ArgKind}
 use Rattle.core_sig.specs.declared.family.ArgKind.TheVariants.{Plain, Recursive}
 use Rattle.core_sig.proofs.Arguments.{ups-same_var, map-inst-var, weaken-weaken_by}
 use Rattle.core_sig.proofs.ConstructorTypes.{ren-applied}
-use Rattle.core_sig.proofs.Telescoping.{applied-push}
+use Rattle.core_terms.proofs.Builders.{applied-push}
 
 both : (a b : Bool) → (a && b) ≡ true → (a ≡ true) × (b ≡ true)
 both true b e = (refl, e)

@@ -2,8 +2,10 @@
 -- at a depth stands behind so many binders.
 use Rattle.std.specs.Prelude.{ℕ, zero, suc, ◌+◌, ◌-◌, nat_le, if◌then◌else◌, List, [], ◌∷◌, map, length}
 use Rattle.theory.specs.Terms.{Term, Sort, Pi, App, Fam, Con}
-use Rattle.theory.specs.Telescopes.{products, applied}
-use Rattle.core_terms.specs.Levels.{variable, run, place, products_over}
+use Rattle.theory.specs.Telescopes.{Telescope, products, applied}
+use Rattle.core_terms.specs.Levels.{variable, run, place, bind, over}
+use Rattle.core_terms.specs.declared.levels.Binder.{Binder}
+use Rattle.core_terms.specs.declared.levels.Binder.TheVariants.{Product}
 use Rattle.core_sig.specs.Shapes.{ArgumentShape, ConstructorShape, Shape, types_of, by_kind, recursive_count}
 
 -- family n at its p parameters, and at k indices that have the levels from `start` on
@@ -15,7 +17,7 @@ abbrev pub motive_type : (n : ℕ) (f : Shape) (m depth : ℕ) → Term
 motive_type n f m depth =
     let p = length f.parameters in
     let k = length f.indices in
-    products_over ((0, p) ∷ (depth, k) ∷ []) p depth (types_of f.indices)
+    over Product ((0, p) ∷ (depth, k) ∷ []) p depth (types_of f.indices)
     (Pi (family_at n p (depth + k) depth k) (Sort m))
 
 -- (I) -> (x : D p I) -> P I x, where P has the level `motive`
@@ -24,7 +26,7 @@ goal_type n f motive depth =
     let p = length f.parameters in
     let k = length f.indices in
     let inside = depth + k in
-    products_over ((0, p) ∷ (depth, k) ∷ []) p depth (types_of f.indices)
+    over Product ((0, p) ∷ (depth, k) ∷ []) p depth (types_of f.indices)
     (Pi (family_at n p inside depth k)
     (App (applied (variable (inside + 1) motive) (run (inside + 1) depth k)) (variable (inside + 1) inside)))
 
@@ -51,13 +53,14 @@ hypothesis_type p k motive first at depth count t =
     then hypothesis_from ((0, p) ∷ (first, at) ∷ (depth, count) ∷ []) (p + at) depth motive (first + at) depth k count t
     else t
 
--- hypotheses -> end, for arguments behind `at` others of a constructor, whose arguments' levels begin with `first`
-abbrev pub hypotheses_over : (p k motive first at depth : ℕ) → List ArgumentShape → Term → Term
-hypotheses_over p k motive first at depth [] end = end
-hypotheses_over p k motive first at depth (a ∷ arguments) end =
-    by_kind a.kind (hypotheses_over p k motive first (at + 1) depth arguments end)
-    (λ count. Pi (hypothesis_type p k motive first at depth count a.type)
-    (hypotheses_over p k motive first (at + 1) (depth + 1) arguments end))
+-- hypotheses -> end, or \hypotheses. end, for arguments behind `at` others of a constructor, whose arguments' levels begin
+-- with `first`
+abbrev pub hypotheses_over : (binder : Binder) (p k motive first at depth : ℕ) → List ArgumentShape → Term → Term
+hypotheses_over binder p k motive first at depth [] end = end
+hypotheses_over binder p k motive first at depth (a ∷ arguments) end =
+    by_kind a.kind (hypotheses_over binder p k motive first (at + 1) depth arguments end)
+    (λ count. bind binder (hypothesis_type p k motive first at depth count a.type)
+    (hypotheses_over binder p k motive first (at + 1) (depth + 1) arguments end))
 
 -- P targets (c p arguments), where the arguments' levels begin with `first`
 abbrev pub conclusion : (n p motive number first depth : ℕ) → ConstructorShape → Term
@@ -71,8 +74,8 @@ abbrev pub method_type : (n p k motive number depth : ℕ) → ConstructorShape 
 method_type n p k motive number depth c =
     let count = length c.arguments in
     let inside = depth + count in
-    products_over ((0, p) ∷ (depth, count) ∷ []) p depth (types_of c.arguments)
-    (hypotheses_over p k motive depth 0 inside c.arguments
+    over Product ((0, p) ∷ (depth, count) ∷ []) p depth (types_of c.arguments)
+    (hypotheses_over Product p k motive depth 0 inside c.arguments
     (conclusion n p motive number depth (inside + recursive_count c.arguments) c))
 
 -- methods -> end, for the constructors from `number` on
@@ -87,3 +90,9 @@ eliminator_type n f m =
     let p = length f.parameters in
     products f.parameters (Pi (motive_type n f m p)
     (methods_over n p (length f.indices) p 0 (p + 1) f.constructors (goal_type n f p (p + 1 + length f.constructors))))
+
+-- the type of a constructor, whose arguments have the types: (p) -> (types) -> D p targets
+abbrev pub constructor_type : (n : ℕ) → Telescope → Telescope → List Term → Term
+constructor_type n parameters types targets =
+    let p = length parameters in
+    products parameters (products types (applied (applied (Fam n) (run (p + length types) 0 p)) targets))

@@ -1,4 +1,3 @@
-pub mod Building
 pub mod ByLevels
 pub mod Codes
 pub mod DraftScopes
@@ -14,4 +13,3 @@ pub mod Raw
 pub mod SettledParts
 pub mod Settling
 pub mod Shapes
-pub mod Stages

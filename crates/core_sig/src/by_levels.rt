@@ -9,13 +9,15 @@ ghost use Rattle.core_sig.specs.Shapes.{IsFew, argument_shape, constructor_shape
 use crate::shapes::recursive_count;
 use crate::{Arg, ArgKind, Constructor, Family};
 use core_terms::{
-    MAX_HEIGHT, Run, Stop, Term, applied_to_places, applied_to_run, copy_whole, place, variable,
+    Binder, MAX_HEIGHT, Run, Stop, Term, applied_to_places, applied_to_run, bind, copy_whole,
+    place, variable,
 };
 use std::alloc::Global;
 
-/// The product of `end` over the types of arguments or indices of a record, at a depth.
+/// Binds the types of arguments or indices of a record around `end`, at a depth.
 pub fn arguments_over(
     alloc: Global,
+    binder: Binder,
     runs: &[Run],
     size: u32,
     depth: u32,
@@ -24,14 +26,14 @@ pub fn arguments_over(
 ) -> Result<Term, Stop>
     requires size { size + length args.now ≤ 1000000 }
     requires depth { depth + length args.now ≤ 1000000 }
-    ensures { Gives tree_of result (Ok (level.products_over runs.now size depth (types_of (map argument_shape args.now)) (tree_of end))) }
+    ensures { Gives tree_of result (Ok (level.over binder runs.now size depth (types_of (map argument_shape args.now)) (tree_of end))) }
 {
     match args {
         [] => Ok(end),
         [arg, rest @ ..] => {
             let ty = place(alloc, runs, size, depth, &arg.ty)?;
-            let rest = arguments_over(alloc, runs, size + 1, depth + 1, rest, end)?;
-            Term::new_pi(alloc, ty, rest)
+            let rest = arguments_over(alloc, binder, runs, size + 1, depth + 1, rest, end)?;
+            bind(alloc, binder, ty, rest)
         }
     }
 }
@@ -64,7 +66,7 @@ pub fn motive_type(alloc: Global, fam: u32, f: &Family, m: u8, depth: u32) -> Re
     let domain = family_at(alloc, fam, params, depth + count, depth, count)?;
     let end = Term::new_pi(alloc, domain, Term::Sort(m))?;
     let runs = [(0, params), (depth, count)];
-    arguments_over(alloc, &runs, params, depth, indices, end)
+    arguments_over(alloc, Binder::Product, &runs, params, depth, indices, end)
 }
 
 /// What an eliminator gives, at a depth: (I) -> (x : D p I) -> P I x, where P has the level `motive`.
@@ -88,7 +90,7 @@ pub fn goal_type(alloc: Global, fam: u32, f: &Family, motive: u32, depth: u32) -
     let goal = Term::new_app(alloc, goal, variable(inside + 1, inside))?;
     let end = Term::new_pi(alloc, domain, goal)?;
     let runs = [(0, params), (depth, count)];
-    arguments_over(alloc, &runs, params, depth, indices, end)
+    arguments_over(alloc, Binder::Product, &runs, params, depth, indices, end)
 }
 
 /// `head` applied to the last `count` arguments of a term of a record.
@@ -192,9 +194,10 @@ pub fn hypothesis_type(
     hypothesis_from(alloc, &runs, motive.params + at, depth, site, count, ty)
 }
 
-/// The product of `end` over the hypotheses for arguments behind `at` others, at a depth.
+/// Binds the hypotheses for arguments behind `at` others around `end`, at a depth.
 pub fn hypotheses_over(
     alloc: Global,
+    binder: Binder,
     motive: Motive,
     first: u32,
     at: u32,
@@ -206,16 +209,34 @@ pub fn hypotheses_over(
     requires first { first ≤ 100000 }
     requires at { at + length args.now ≤ 2000 }
     requires depth { depth + length args.now ≤ 100000 }
-    ensures { Gives tree_of result (Ok (spec.hypotheses_over motive.params motive.indices motive.level first at depth (map argument_shape args.now) (tree_of end))) }
+    ensures { Gives tree_of result (Ok (spec.hypotheses_over binder motive.params motive.indices motive.level first at depth (map argument_shape args.now) (tree_of end))) }
 {
     match args {
         [] => Ok(end),
         [arg, rest @ ..] => match arg.kind {
-            ArgKind::Plain => hypotheses_over(alloc, motive, first, at + 1, depth, rest, end),
+            ArgKind::Plain => hypotheses_over(
+                alloc,
+                binder,
+                motive,
+                first,
+                at + 1,
+                depth,
+                rest,
+                end,
+            ),
             ArgKind::Recursive(count) => {
                 let ty = hypothesis_type(alloc, motive, first, at, depth, count, &arg.ty)?;
-                let rest = hypotheses_over(alloc, motive, first, at + 1, depth + 1, rest, end)?;
-                Term::new_pi(alloc, ty, rest)
+                let rest = hypotheses_over(
+                    alloc,
+                    binder,
+                    motive,
+                    first,
+                    at + 1,
+                    depth + 1,
+                    rest,
+                    end,
+                )?;
+                bind(alloc, binder, ty, rest)
             }
         },
     }

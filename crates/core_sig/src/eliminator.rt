@@ -14,7 +14,7 @@ use crate::by_levels::{
 };
 use crate::shapes::{is_few, recursive_count};
 use crate::{Constructor, Family};
-use core_terms::{Stop, Term, checked, copy_tele, products};
+use core_terms::{Binder, Stop, Term, checked, copy_tele, products};
 use std::alloc::Global;
 
 /// The type of the eliminator of the family with number `fam` into `Type m`.
@@ -26,7 +26,8 @@ pub fn elim_type(alloc: Global, fam: u32, f: &Family, m: u8) -> Result<Term, Sto
     if !is_few(f) {
         return Err(Stop::Deep);
     }
-    checked(eliminator(alloc, fam, f, m)?)
+    let whole = eliminator(alloc, fam, f, m)?;
+    checked(whole)
 }
 
 /// The type of the eliminator, whose height nothing tests.
@@ -104,7 +105,15 @@ fn method_type(
         inside + recursive_count(args),
         con,
     )?;
-    let end = hypotheses_over(alloc, motive, depth, 0, inside, args, end)?;
+    let end = hypotheses_over(alloc, Binder::Product, motive, depth, 0, inside, args, end)?;
     let runs = [(0, motive.params), (depth, count)];
-    arguments_over(alloc, &runs, motive.params, depth, args, end)
+    arguments_over(
+        alloc,
+        Binder::Product,
+        &runs,
+        motive.params,
+        depth,
+        args,
+        end,
+    )
 }

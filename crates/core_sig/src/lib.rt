@@ -2,7 +2,6 @@
 //! bring along.
 #![tactic(auto)]
 
-mod building;
 mod by_levels;
 mod eliminator;
 mod entry;
@@ -19,6 +18,10 @@ mod shapes;
 mod signature;
 mod types;
 
+pub use by_levels::{
+    Motive, arguments_over, conclusion, family_at, goal_type, hypotheses_over, hypothesis_type,
+    motive_type,
+};
 pub use eliminator::elim_type;
 pub use entry::{Draft, Entry, Found};
 pub use family::{Arg, ArgKind, Constructor, Family};
@@ -27,5 +30,6 @@ pub use positivity::{mentions, strictly_positive};
 pub use prelude::{equality, pair, unit};
 pub use raw::{MutualRaw, RawCon, RawFamily, RawMember};
 pub use settling::settle;
+pub use shapes::{is_few, recursive_count};
 pub use signature::Signature;
-pub use types::{con_type, family_type};
+pub use types::{con_type, family_type, types_of};

@@ -1,20 +1,34 @@
-ghost use Rattle.std.specs.Prelude.{◌≡◌, ◌<◌, length, slice_get};
+ghost use Rattle.std.specs.Prelude.{◌≡◌, ◌≤◌, ◌<◌, ◌↔◌, IsTrue, length, map, slice_get};
 ghost use Rattle.core_terms.specs.Answers.{Gives, bounded};
-ghost use Rattle.core_terms.specs.Meanings.{tree_of};
+ghost use Rattle.core_terms.specs.Meanings.{tree_of, tele_of};
 ghost use Rattle.theory.specs.Families as pure;
+ghost use Rattle.core_sig.specs.ByLevels as levels;
 ghost use Rattle.core_sig.specs.Kinds.{HasKinds, HaveKinds};
 ghost use Rattle.core_sig.specs.Meanings.{constructor_of, family_of};
 
-use crate::building::{applied, applied_to_variables, checked, copy_types, few, products};
-use crate::{Constructor, Family};
-use core_terms::{Stop, Term, copy_tele};
+use crate::{Arg, Constructor, Family};
+use core_terms::{
+    MAX_HEIGHT, Stop, Term, applied, applied_to_run, checked, copy_tele, copy_whole, products,
+};
 use std::alloc::Global;
 
+/// The types of arguments or indices.
+pub fn types_of(alloc: Global, args: &[Arg]) -> Result<Vec<Term>, Stop>
+    ensures { Gives (λ types. tele_of types.items) result (Ok (map (λ a. tree_of a.ty) args.now)) }
+{
+    let mut types = Vec::new(alloc);
+    for arg in args {
+        types.push(copy_whole(alloc, &arg.ty)?)?;
+    }
+    Ok(types)
+}
+
 /// The type of a family: products over its parameters and its indices into its sort.
+#[tactic(auto, using(crate::proofs::Arguments::index_laws))]
 pub fn family_type(alloc: Global, f: &Family) -> Result<Term, Stop>
     ensures { Gives tree_of result (bounded (pure.family_type (family_of f.now))) }
 {
-    let indices = copy_types(alloc, f.indices.as_slice())?;
+    let indices = types_of(alloc, f.indices.as_slice())?;
     let params = copy_tele(alloc, f.params.as_slice())?.into_vec();
     let end = products(alloc, indices, Term::Sort(f.level))?;
     checked(products(alloc, params, end)?)
@@ -34,13 +48,35 @@ fn type_of(alloc: Global, fam: u32, f: &Family, con: &Constructor) -> Result<Ter
     requires { HaveKinds fam (family_of f.now) 0 con.now.args }
     ensures { Gives tree_of result (bounded (pure.constructor_type fam (family_of f.now) (constructor_of (length f.now.params) con.now))) }
 {
-    let params = few(f.params.as_slice().len())?;
-    let args = few(con.args.as_slice().len())?;
-    let types = copy_types(alloc, con.args.as_slice())?;
-    let tele = copy_tele(alloc, f.params.as_slice())?.into_vec();
+    if !are_few(f, con) {
+        return Err(Stop::Deep);
+    }
+    let whole = constructor_type(alloc, fam, f, con)?;
+    checked(whole)
+}
+
+/// Whether there are at most 2,000 parameters and 2,000 arguments.
+fn are_few(f: &Family, con: &Constructor) -> bool
+    ensures { IsTrue result ↔ ((length f.now.params ≤ 2000) × (length con.now.args ≤ 2000)) }
+{
+    let most = MAX_HEIGHT as usize;
+    f.params.as_slice().len() <= most && con.args.as_slice().len() <= most
+}
+
+/// The type of a constructor, whose height nothing tests.
+fn constructor_type(alloc: Global, fam: u32, f: &Family, con: &Constructor) -> Result<Term, Stop>
+    requires params { length f.now.params ≤ 2000 }
+    requires args { length con.now.args ≤ 2000 }
+    ensures { Gives tree_of result (Ok (levels.constructor_type fam (tele_of f.now.params) (map (λ a. tree_of a.ty) con.now.args) (tele_of con.now.targets))) }
+{
+    let params = f.params.as_slice();
+    let count = params.len() as u32;
+    let args = con.args.as_slice();
+    let depth = count + args.len() as u32;
+    let head = applied_to_run(alloc, Term::Fam(fam), depth, 0, count)?;
     let targets = copy_tele(alloc, con.targets.as_slice())?.into_vec();
-    let head = applied_to_variables(alloc, Term::Fam(fam), args, params)?;
     let end = applied(alloc, head, targets)?;
+    let types = types_of(alloc, args)?;
     let end = products(alloc, types, end)?;
-    checked(products(alloc, tele, end)?)
+    products(alloc, copy_tele(alloc, params)?.into_vec(), end)
 }

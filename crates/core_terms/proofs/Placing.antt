@@ -1,15 +1,17 @@
 -- Placed terms beside instantiated ones: variables by level are a renaming.
-use Rattle.std.proofs.Common.{◌≡◌, ◌⊎◌, ℕ, zero, suc, ◌+◌, ◌-◌, ◌<◌, ◌≤◌, Bool, true, false, nat_lt, nat_le, cond, if◌then◌else◌, max, List, [], ◌∷◌, ◌++◌, map, length, Ok, Err, inl, inr, refl, ap, ap₂, sym, ◌∙◌, arith, All}
+use Rattle.std.proofs.Common.{◌≡◌, ◌⊎◌, ℕ, zero, suc, ◌+◌, ◌-◌, ◌<◌, ◌≤◌, Bool, true, false, nat_lt, nat_le, cond, if◌then◌else◌, max, List, [], ◌∷◌, ◌++◌, map, length, Ok, Err, inl, inr, refl, ap, ap₂, sym, ◌∙◌, subst, arith, All}
 use Rattle.std.proofs.lemmas.Bool.Decides.{nat_tests}
 use Rattle.std.proofs.lemmas.List.Elements.{All-head, All-tail}
 use Rattle.theory.specs.Terms.{Term, height, free_of}
 use Rattle.theory.specs.Terms.Term.{Var, Pi, Lam, App, Let}
 use Rattle.theory.specs.Substitutions.{ren, inst, ups, weaken, extend, fill}
 use Rattle.theory.specs.Scopes.{IsTelescopeOver}
-use Rattle.theory.specs.Telescopes.{Telescope, products, applied, variables, weaken_by, inst_telescope}
+use Rattle.theory.specs.Telescopes.{Telescope, products, functions, applied, variables, weaken_by, inst_telescope}
 use Rattle.theory.proofs.Instances.{ap₃}
 use Rattle.core_terms.specs.Answers.{bounded}
-use Rattle.core_terms.specs.Levels.{variable, level_at, place_var, place_under, place, products_over, run}
+use Rattle.core_terms.specs.Levels.{variable, level_at, place_var, place_under, place, bind, over, run}
+use Rattle.core_terms.specs.declared.levels.Binder.{Binder}
+use Rattle.core_terms.specs.declared.levels.Binder.TheVariants.{Product, Function}
 use Rattle.core_terms.specs.declared.stop.Stop.TheVariants.{Deep}
 
 -- ---- a term that is placed is an instance
@@ -140,7 +142,7 @@ alike-spine runs size depth s f f' (t ∷ ts) at same free =
 
 -- ---- more variables, more binders
 
-variable-weaken : (depth level : ℕ) → level < depth → weaken (variable depth level) ≡ variable (depth + 1) level
+pub variable-weaken : (depth level : ℕ) → level < depth → weaken (variable depth level) ≡ variable (depth + 1) level
 variable-weaken depth level lt = ap Var (omega arith)
 
 -- the next variable of the record is that of a binder
@@ -180,14 +182,32 @@ placed-further runs size depth more s at v lt =
     let below = before.0 in
     (omega arith, ap (weaken_by more) before.1 ∙ ap Var (omega arith))
 
+alike-bind : (binder : Binder) (a a' b b' : Term) → Alike a a' → Alike b b' → Alike (bind binder a b) (bind binder a' b')
+alike-bind Product a a' b b' p q = alike-pi a a' b b' p q
+alike-bind Function a a' b b' p q = alike-lam a a' b b' p q
+
+-- products or functions over a telescope
+abbrev pub binding : Binder → Telescope → Term → Term
+binding Product tele b = products tele b
+binding Function tele b = functions tele b
+
+binding-cons : (binder : Binder) (a : Term) (tele : Telescope) (b : Term) → bind binder a (binding binder tele b) ≡ binding binder (a ∷ tele) b
+binding-cons Product a tele b = refl
+binding-cons Function a tele b = refl
+
+binding-none : (binder : Binder) (b : Term) → b ≡ binding binder [] b
+binding-none Product b = refl
+binding-none Function b = refl
+
 -- a telescope of the record
-pub alike-over : (runs : List (ℕ × ℕ)) (size depth : ℕ) (s : ℕ → Term) (tele : Telescope) (b b' : Term) → ((l : ℕ) → l < length tele → level_at runs (size + l) ≡ depth + l) → IsPlaced runs size depth s → IsTelescopeOver size tele → Alike b b' → Alike (products_over runs size depth tele b) (products (inst_telescope s tele) b')
-alike-over runs size depth s [] b b' next at scoped same = same
-alike-over runs size depth s (a ∷ tele) b b' next at scoped same =
-    alike-pi (place runs size depth a) (inst s a) (products_over runs (size + 1) (depth + 1) tele b) (products (inst_telescope (ups s) tele) b')
+pub alike-over : (binder : Binder) (runs : List (ℕ × ℕ)) (size depth : ℕ) (s : ℕ → Term) (tele : Telescope) (b b' : Term) → ((l : ℕ) → l < length tele → level_at runs (size + l) ≡ depth + l) → IsPlaced runs size depth s → IsTelescopeOver size tele → Alike b b' → Alike (over binder runs size depth tele b) (binding binder (inst_telescope s tele) b')
+alike-over binder runs size depth s [] b b' next at scoped same = subst (Alike b) (binding-none binder b') same
+alike-over binder runs size depth s (a ∷ tele) b b' next at scoped same =
+    subst (Alike (over binder runs size depth (a ∷ tele) b)) (binding-cons binder (inst s a) (inst_telescope (ups s) tele) b')
+    (alike-bind binder (place runs size depth a) (inst s a) (over binder runs (size + 1) (depth + 1) tele b) (binding binder (inst_telescope (ups s) tele) b')
     (alike-place runs size depth s a at scoped.0)
-    (alike-over runs (size + 1) (depth + 1) (ups s) tele b b' further
-    (placed-up runs size depth s here at) scoped.1 same)
+    (alike-over binder runs (size + 1) (depth + 1) (ups s) tele b b' further
+    (placed-up runs size depth s here at) scoped.1 same))
   where
     here : level_at runs size ≡ depth
     here = (let e : size ≡ size + 0 = omega arith in ap (level_at runs) e) ∙ (next 0 (omega arith) ∙ omega arith)
@@ -209,6 +229,12 @@ run-further depth start zero more le = refl
 run-further depth start (suc count) more le =
     ap₂ ◌∷◌ (ap Var (omega arith)) (run-further depth (start + 1) count more (omega arith))
 
+-- behind one more
+pub run-weaken : (depth start count : ℕ) → start + count ≤ depth → map weaken (run depth start count) ≡ run (depth + 1) start count
+run-weaken depth start zero le = refl
+run-weaken depth start (suc count) le =
+    ap₂ ◌∷◌ (variable-weaken depth start (omega arith)) (run-weaken depth (start + 1) count (omega arith))
+
 -- one level more
 pub run-push : (depth start count : ℕ) → run depth start (suc count) ≡ run depth start count ++ variable depth (start + count) ∷ []
 run-push depth start zero = ap (λ l. variable depth l ∷ []) (omega arith)
@@ -216,7 +242,24 @@ run-push depth start (suc count) =
     ap (λ vs. variable depth start ∷ vs)
     (run-push depth (start + 1) count ∙ ap (λ l. run depth (start + 1) count ++ variable depth l ∷ []) (omega arith))
 
--- a product is as high as its telescope is long, above its end
-pub height-over : (runs : List (ℕ × ℕ)) (size depth : ℕ) (tele : Telescope) (b : Term) → height b + length tele ≤ height (products_over runs size depth tele b)
-height-over runs size depth [] b = omega arith
-height-over runs size depth (a ∷ tele) b = omega (arith, height-over runs (size + 1) (depth + 1) tele b)
+height-bind : (binder : Binder) (a b : Term) → height (bind binder a b) ≡ 1 + max (height a) (height b)
+height-bind Product a b = refl
+height-bind Function a b = refl
+
+-- what binds a telescope is as high as that is long, above its end
+pub height-over : (binder : Binder) (runs : List (ℕ × ℕ)) (size depth : ℕ) (tele : Telescope) (b : Term) → height b + length tele ≤ height (over binder runs size depth tele b)
+height-over binder runs size depth [] b = omega arith
+height-over binder runs size depth (a ∷ tele) b =
+    omega (
+      arith,
+      height-over binder runs (size + 1) (depth + 1) tele b,
+      height-bind binder (place runs size depth a) (over binder runs (size + 1) (depth + 1) tele b),
+    )
+
+-- a term that is not low enough is Deep
+pub deep-unless : (t : Term) → ¬ (height t ≤ 2000) → bounded t ≡ Err Deep
+deep-unless t high = by (nat_le (height t) 2000) refl
+  where
+    by : (b : Bool) → nat_le (height t) 2000 ≡ b → bounded t ≡ Err Deep
+    by true e = absurd (high (grind (arith, nat_tests)))
+    by false e = ap (λ b. if b then Ok t else Err Deep) e

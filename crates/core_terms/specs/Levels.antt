@@ -5,6 +5,8 @@
 use Rattle.std.specs.Prelude.{ℕ, zero, suc, ◌+◌, ◌-◌, nat_lt, nat_le, cond, if◌then◌else◌, List, [], ◌∷◌}
 use Rattle.theory.specs.Terms.{Term, Var, Sort, Pi, Lam, App, Let, Const, Fam, Con, Elim, AxiomK, height}
 use Rattle.theory.specs.Telescopes.{Telescope}
+use Rattle.core_terms.specs.declared.levels.Binder.{Binder}
+use Rattle.core_terms.specs.declared.levels.Binder.TheVariants.{Product, Function}
 
 -- the variable with a level, at a depth
 abbrev pub variable : (depth level : ℕ) → Term
@@ -42,17 +44,17 @@ place_under runs size depth under (AxiomK i m) = AxiomK i m
 abbrev pub place : (runs : List (ℕ × ℕ)) (size depth : ℕ) → Term → Term
 place runs size depth t = if nat_le (height t) 2000 then place_under runs size depth 0 t else t
 
--- (tele) -> end over a telescope of a record, where each type of the telescope is over one variable of the record more, and one binder further in
-abbrev pub products_over : (runs : List (ℕ × ℕ)) (size depth : ℕ) → Telescope → Term → Term
-products_over runs size depth [] end = end
-products_over runs size depth (a ∷ tele) end =
-    Pi (place runs size depth a) (products_over runs (size + 1) (depth + 1) tele end)
+-- a product, or a function
+abbrev pub bind : Binder → Term → Term → Term
+bind Product a b = Pi a b
+bind Function a b = Lam a b
 
--- \tele. end over a telescope of a record
-abbrev pub functions_over : (runs : List (ℕ × ℕ)) (size depth : ℕ) → Telescope → Term → Term
-functions_over runs size depth [] end = end
-functions_over runs size depth (a ∷ tele) end =
-    Lam (place runs size depth a) (functions_over runs (size + 1) (depth + 1) tele end)
+-- (tele) -> end, or \tele. end, over a telescope of a record: each type is over one variable of the record more, and stands one
+-- binder further in
+abbrev pub over : (binder : Binder) (runs : List (ℕ × ℕ)) (size depth : ℕ) → Telescope → Term → Term
+over binder runs size depth [] end = end
+over binder runs size depth (a ∷ tele) end =
+    bind binder (place runs size depth a) (over binder runs (size + 1) (depth + 1) tele end)
 
 -- the variables with `count` levels from `start` on
 abbrev pub run : (depth start count : ℕ) → List Term

@@ -105,32 +105,27 @@ pub fn place(alloc: Global, runs: &[Run], size: u32, depth: u32, t: &Term) -> Re
     place_under(alloc, runs, size, depth, 0, t)
 }
 
-/// The product of `end` over a telescope of a record, at a depth.
-pub fn products_over(
-    alloc: Global,
-    runs: &[Run],
-    size: u32,
-    depth: u32,
-    tele: &[Term],
-    end: Term,
-) -> Result<Term, Stop>
-    requires size { size + length tele.now < 2 ^ 32 }
-    requires depth { depth + length tele.now < 2 ^ 31 }
-    ensures { Gives tree_of result (Ok (spec.products_over runs.now size depth (tele_of tele.now) (tree_of end))) }
+/// A product or a function.
+#[derive(Clone, Copy, Debug, PartialEq, Eq)]
+pub enum Binder {
+    Product,
+    Function,
+}
+
+/// A product or a function, whose height nothing tests.
+pub fn bind(alloc: Global, binder: Binder, domain: Term, body: Term) -> Result<Term, Stop>
+    ensures { Gives tree_of result (Ok (spec.bind binder (tree_of domain) (tree_of body))) }
 {
-    match tele {
-        [] => Ok(end),
-        [ty, rest @ ..] => {
-            let ty = place(alloc, runs, size, depth, ty)?;
-            let rest = products_over(alloc, runs, size + 1, depth + 1, rest, end)?;
-            Term::new_pi(alloc, ty, rest)
-        }
+    match binder {
+        Binder::Product => Term::new_pi(alloc, domain, body),
+        Binder::Function => Term::new_lam(alloc, domain, body),
     }
 }
 
-/// The function with `end` over a telescope of a record, at a depth.
-pub fn functions_over(
+/// Binds a telescope of a record around `end`, at a depth.
+pub fn over(
     alloc: Global,
+    binder: Binder,
     runs: &[Run],
     size: u32,
     depth: u32,
@@ -139,14 +134,14 @@ pub fn functions_over(
 ) -> Result<Term, Stop>
     requires size { size + length tele.now < 2 ^ 32 }
     requires depth { depth + length tele.now < 2 ^ 31 }
-    ensures { Gives tree_of result (Ok (spec.functions_over runs.now size depth (tele_of tele.now) (tree_of end))) }
+    ensures { Gives tree_of result (Ok (spec.over binder runs.now size depth (tele_of tele.now) (tree_of end))) }
 {
     match tele {
         [] => Ok(end),
         [ty, rest @ ..] => {
             let ty = place(alloc, runs, size, depth, ty)?;
-            let rest = functions_over(alloc, runs, size + 1, depth + 1, rest, end)?;
-            Term::new_lam(alloc, ty, rest)
+            let rest = over(alloc, binder, runs, size + 1, depth + 1, rest, end)?;
+            bind(alloc, binder, ty, rest)
         }
     }
 }

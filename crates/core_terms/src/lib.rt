@@ -23,9 +23,7 @@ pub use building::{
 pub use case_tree::{Branch, Origin, Rule, Step, Tree, Walk};
 pub use copying::{copy, copy_pat, copy_tele, copy_whole};
 pub use items::Items;
-pub use levels::{
-    Run, applied_to_places, applied_to_run, functions_over, place, products_over, variable,
-};
+pub use levels::{Binder, Run, applied_to_places, applied_to_run, bind, over, place, variable};
 pub use lifting::lift;
 pub use low::{Low, bounded};
 pub use name::{Name, copy_name};

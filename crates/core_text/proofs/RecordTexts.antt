@@ -28,7 +28,7 @@ use Rattle.core_sig.specs.declared.family.Constructor.{Constructor}
 use Rattle.core_sig.proofs.Arguments.{index_types-of}
 use Rattle.core_sig.proofs.KindLists.{kinds-push, kinds-moved}
 use Rattle.core_sig.proofs.RecursiveForms.{kind-found, head-is}
-use Rattle.core_sig.proofs.Telescoping.{applied-push}
+use Rattle.core_terms.proofs.Builders.{applied-push}
 use Rattle.core_text.specs.EntryText.{constructor_type_shown}
 use Rattle.core_text.specs.RawEntries.{domains_of, end_of, end_level, is_at_targets, ends_in_family, shows_record, family_shown}
 use Rattle.core_text.specs.Records.{HasLevelsZero, typed, with_level_zero, type_of_constructor, constructor_shown}

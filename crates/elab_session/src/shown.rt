@@ -11,8 +11,8 @@ ghost use Rattle.core_text.specs.RawEntries.{family_shown};
 ghost use Rattle.elab_session.specs.Shown.{shown, shown_constructor};
 
 use crate::refusing::copy_name;
-use core_sig::{Arg, Constructor, Family, RawCon, RawFamily};
-use core_terms::{Items, Stop, Term, copy_tele, copy_whole};
+use core_sig::{Constructor, Family, RawCon, RawFamily, types_of};
+use core_terms::{Items, Stop, Term, applied, applied_to_variables, copy_tele, products};
 use std::alloc::Global;
 
 /// The family as its line shows it.
@@ -62,7 +62,7 @@ fn constructors_shown(
     Ok(shown)
 }
 
-/// The type of a constructor in the context of the parameters.
+/// The type of a constructor in the context of the parameters. Memory is also answered where a number would not fit.
 fn constructor_type(
     alloc: Global,
     number: u32,
@@ -73,56 +73,11 @@ fn constructor_type(
 {
     let types = types_of(alloc, con.args.as_slice())?;
     let from = number_of(con.args.as_slice().len())?;
+    if from.checked_add(params).is_none() {
+        return Err(Stop::Memory);
+    }
     let head = applied_to_variables(alloc, Term::Fam(number), from, params)?;
     let targets = copy_tele(alloc, con.targets.as_slice())?;
     let end = applied(alloc, head, targets.into_vec())?;
     products(alloc, types, end)
-}
-
-/// The types of arguments or indices.
-fn types_of(alloc: Global, args: &[Arg]) -> Result<Vec<Term>, Stop>
-    ensures { Gives (λ types. tele_of types.items) result (Ok (map (λ a. tree_of a.ty) args.now)) }
-{
-    let mut types = Vec::new(alloc);
-    for arg in args {
-        types.push(copy_whole(alloc, &arg.ty)?)?;
-    }
-    Ok(types)
-}
-
-/// The product of `end` over the telescope.
-fn products(alloc: Global, mut tele: Vec<Term>, end: Term) -> Result<Term, Stop>
-    ensures { Gives tree_of result (Ok (spec.products (tele_of tele.items) (tree_of end))) }
-{
-    let mut whole = end;
-    while let Some(ty) = tele.pop() {
-        whole = Term::Pi(Box::new(alloc, ty)?, Box::new(alloc, whole)?);
-    }
-    Ok(whole)
-}
-
-/// `head` applied to the arguments.
-fn applied(alloc: Global, head: Term, spine: Vec<Term>) -> Result<Term, Stop>
-    ensures { Gives tree_of result (Ok (spec.applied (tree_of head) (tele_of spine.items))) }
-{
-    let mut whole = head;
-    for arg in spine {
-        whole = Term::App(Box::new(alloc, whole)?, Box::new(alloc, arg)?);
-    }
-    Ok(whole)
-}
-
-/// `head` applied to `count` variables, the last of which is numbered `from`. Memory is also answered where a number would
-/// not fit.
-fn applied_to_variables(alloc: Global, head: Term, from: u32, count: u32) -> Result<Term, Stop>
-    ensures { Gives tree_of result (Ok (spec.applied (tree_of head) (map (spec.weaken_by from) (spec.variables count)))) }
-{
-    let mut whole = head;
-    for at in (0..count).rev() {
-        let Some(number) = from.checked_add(at) else {
-            return Err(Stop::Memory);
-        };
-        whole = Term::App(Box::new(alloc, whole)?, Box::new(alloc, Term::Var(number))?);
-    }
-    Ok(whole)
 }

@@ -11,7 +11,7 @@ use Rattle.core_sig.specs.Meanings.{entry_of}
 use Rattle.core_sig.specs.Settling.{settled_number}
 use Rattle.core_sig.specs.declared.entry.Entry.{Entry as CodeEntry}
 use Rattle.core_sig.proofs.DraftTerms.{each-renumbered, height-renumbered, settled-scoped}
-use Rattle.core_sig.proofs.Telescoping.{ok_is}
+use Rattle.core_terms.proofs.Builders.{ok_is}
 use Rattle.core_sig.proofs.settling.settle.Goals as goal
 
 -- what holds of the entry that is meant holds of the answer

@@ -4,7 +4,7 @@ use Rattle.core_sig.specs.Kinds.{HasEntryKinds}
 use Rattle.core_sig.specs.Meanings.{entry_of}
 use Rattle.core_sig.specs.Settling.{settled_number, renumbered_entry}
 use Rattle.core_sig.proofs.SettledFamilies.{family-renumbered, kinds-renumbered}
-use Rattle.core_sig.proofs.Telescoping.{ok_is}
+use Rattle.core_terms.proofs.Builders.{ok_is}
 use Rattle.core_sig.proofs.settling.settle_entry.Goals as goal
 
 pub returns-in_ok-settle_family-in-Family-clause-answer : goal.returns-in_ok-settle_family-in-Family-clause-answer

@@ -1,5 +1,5 @@
 use Rattle.std.proofs.Common.{map, ◌∙◌, ap}
-use Rattle.core_sig.proofs.Telescoping.{ok_is}
+use Rattle.core_terms.proofs.Builders.{ok_is}
 use Rattle.core_sig.specs.Meanings.{family_of}
 use Rattle.elab_session.specs.Entering.{word_of}
 use Rattle.core_text.specs.RawEntries.{family_shown}

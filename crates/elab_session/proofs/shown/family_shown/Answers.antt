@@ -3,7 +3,7 @@ use Rattle.theory.specs.Terms.Term.{Sort}
 use Rattle.theory.specs.Telescopes.{products}
 use Rattle.core_terms.specs.Meanings.{tree_of, tele_of}
 use Rattle.core_terms.specs.declared.stop.Stop.{Stop}
-use Rattle.core_sig.proofs.Telescoping.{ok_is}
+use Rattle.core_terms.proofs.Builders.{ok_is}
 use Rattle.core_sig.specs.Raw.{RawFamily}
 use Rattle.elab_session.specs.Shown.{shown_constructor}
 use Rattle.elab_session.proofs.ShownFamilies.{family-shown}
