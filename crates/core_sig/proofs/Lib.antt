@@ -9,6 +9,7 @@ pub mod KindLists
 pub mod Lookups
 pub mod MethodTypes
 pub mod NameLists
+pub mod NamesShown
 pub mod NewNames
 pub mod PositiveFamilies
 pub mod PreludeEntries
