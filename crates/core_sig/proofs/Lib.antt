@@ -12,6 +12,7 @@ pub mod KindLists
 pub mod Lookups
 pub mod MethodsByLevels
 pub mod NameLists
+pub mod NamesShown
 pub mod NewNames
 pub mod PositiveFamilies
 pub mod PreludeEntries

@@ -6,15 +6,15 @@ use Rattle.theory.specs.Telescopes.{Context, context_behind}
 use Rattle.theory.specs.Signatures.{Signature}
 use Rattle.theory.specs.SignatureScopes.{IsScoped, IsScopedContext, IsScopedSignature, IsScopedTelescope}
 use Rattle.theory.proofs.ScopedTerms.{scoped-pi, scoped-lam, scoped-app, scoped-let, scoped_over_more, subst-scoped, context-scoped}
-use Rattle.core_terms.specs.Answers.{Runs, Spent, bounded}
+use Rattle.core_terms.specs.Answers.{Runs, Spent, bounded, is_low}
 use Rattle.core_terms.specs.Bounds.{most_free}
 use Rattle.core_terms.specs.Meanings.{tree_of, tele_of, verdict_of}
 use Rattle.core_terms.specs.Verdicts as pure
 use Rattle.core_terms.specs.declared.stop.Stop.{Stop}
 use Rattle.core_terms.specs.declared.stop.Stop.TheVariants.{Deep}
-use Rattle.kernel_reduce.specs.Reduction.{charge, if_low, is_low, most_variables, nesting, whnf_of}
+use Rattle.kernel_reduce.specs.Reduction.{charge, if_low, most_variables, nesting, whnf_of}
 use Rattle.kernel_reduce.specs.Comparison.{on_heads, heads_below, convertible_of, subtype_of}
-use Rattle.kernel_reduce.proofs.Answers.{low-is}
+use Rattle.core_terms.proofs.Answers.{low-is}
 use Rattle.kernel_reduce.proofs.ScopedReduction.{whnf-scoped}
 use Rattle.core_terms.specs.declared.term.Term.{Term}
 use Rattle.core_terms.specs.declared.verdict.Verdict.{Verdict}
@@ -56,11 +56,6 @@ can_body {S} {room} s a b h low = let p = scoped-lam h.term in can_under s room 
 
 pub can_argument : {S : Signature} {room : ℕ} {scope : Scope} {f u : tree.Term} → CanCheck S room scope (tree.App f u) → CanCheck S room scope u
 can_argument {u = u} h = can_same _ u h (omega arith) (scoped-app h.term).1
-
-pub can_value : {S : Signature} {room : ℕ} {scope : Scope} {a t b : tree.Term} → CanCheck S (room + 1) scope (tree.Let a t b)
-    → CanCheck S room scope t × CanCheck S room scope a
-can_value {room = room} {a = a} {t = t} h =
-    let p = scoped-let h.term in (can_same room t h (omega arith) p.1, can_same room a h (omega arith) p.0)
 
 abbrev same_result : {A : Type 0} → Result A Stop → Result A Stop → Type 0
 same_result r s = r ≡ s

@@ -5,7 +5,7 @@ use Rattle.core_terms.specs.Answers.{Spent, bounded}
 use Rattle.core_terms.specs.Verdicts.{Denial, Verdict}
 use Rattle.core_terms.specs.declared.stop.Stop.{Stop}
 use Rattle.core_terms.specs.Verdicts.Verdict.{Yes, No}
-use Rattle.kernel_reduce.proofs.Answers.{Answers, and_then-has, bounded-has, and_then-spends}
+use Rattle.core_terms.proofs.Answers.{Answers, and_next-has, and_next-spends, bounded-has}
 use Rattle.kernel_check.specs.Checking.{yes_of, typed, on_verdict, if_typed, verdict_behind, behind}
 
 -- the type is P, and what is denied is N
@@ -23,7 +23,7 @@ typed-splits P N made h = go (bounded made) (bounded-has P made (λ low. h))
 pub if_typed-splits : (P Q : Term → Type 0) (N : Denial → Type 0) (first : Spent Verdict) (go : Term → ℕ → Spent Verdict)
     → Answers (Splits P N) first → ((type : Term) (rest : ℕ) → P type → Answers (Splits Q N) (go type rest))
     → Answers (Splits Q N) (if_typed first go)
-if_typed-splits P Q N first go h k = and_then-has (Splits P N) (Splits Q N) first _ h on
+if_typed-splits P Q N first go h k = and_next-has (Splits P N) (Splits Q N) first _ h on
   where
     on : (verdict : Verdict) (rest : ℕ) → Splits P N verdict → Answers (Splits Q N) (on_verdict verdict rest go)
     on (Yes type) rest p = k type rest p
@@ -32,7 +32,7 @@ if_typed-splits P Q N first go h k = and_then-has (Splits P N) (Splits Q N) firs
 pub behind-splits : (P : Term → Type 0) (N M : Denial → Type 0) (child : ℕ) (asked : Spent Verdict)
     → ((denial : Denial) → N denial → M (record denial { place = child ∷ denial.place })) → Answers (Splits P N) asked
     → Answers (Splits P M) (behind child asked)
-behind-splits P N M child asked f h = and_then-has (Splits P N) (Splits P M) asked _ h on
+behind-splits P N M child asked f h = and_next-has (Splits P N) (Splits P M) asked _ h on
   where
     on : (verdict : Verdict) (rest : ℕ) → Splits P N verdict → Splits P M (verdict_behind child verdict)
     on (Yes type) rest p = p
@@ -40,14 +40,14 @@ behind-splits P N M child asked f h = and_then-has (Splits P N) (Splits P M) ask
 
 pub if_typed-spends : (first : Spent Verdict) (go : Term → ℕ → Spent Verdict) (left : ℕ) → first.1 ≤ left
     → ((type : Term) (rest : ℕ) → (go type rest).1 ≤ rest) → (if_typed first go).1 ≤ left
-if_typed-spends first go left h k = and_then-spends first _ left h on
+if_typed-spends first go left h k = and_next-spends first _ left h on
   where
     on : (verdict : Verdict) (rest : ℕ) → (on_verdict verdict rest go).1 ≤ rest
     on (Yes type) rest = k type rest
     on (No denial) rest = omega arith
 
 pub behind-spends : (child : ℕ) (asked : Spent Verdict) (left : ℕ) → asked.1 ≤ left → (behind child asked).1 ≤ left
-behind-spends child asked left h = and_then-spends asked _ left h (λ verdict rest. omega arith)
+behind-spends child asked left h = and_next-spends asked _ left h (λ verdict rest. omega arith)
 
 -- both for a child that is asked first
 pub child-spends : (child : ℕ) (asked : Spent Verdict) (go : Term → ℕ → Spent Verdict) (left : ℕ) → asked.1 ≤ left

@@ -9,14 +9,15 @@ use Rattle.theory.specs.SignatureScopes.{IsScoped, IsScopedContext, IsScopedSign
 use Rattle.theory.proofs.Lists.{some_is}
 use Rattle.theory.proofs.ScopedTerms.{scoped-pi, scoped-lam, scoped-app, scoped-let, pi-scoped, sort-scoped, scoped_over_more, lift-scoped, subst-scoped, context-scoped}
 use Rattle.theory.proofs.ScopedEntries.{types-scoped}
-use Rattle.core_terms.specs.Answers.{Spent, bounded}
+use Rattle.core_terms.specs.Answers.{Spent, bounded, and_next, is_low}
 use Rattle.core_terms.specs.Verdicts.{Reason, Verdict}
 use Rattle.core_terms.specs.Verdicts.Verdict.{Yes, No}
 use Rattle.core_terms.specs.Verdicts.Reason.{Mismatch, NotAProduct, NotASort, NoSuchInstance, LevelTooHigh}
 use Rattle.core_terms.specs.declared.stop.Stop.{Stop}
-use Rattle.kernel_reduce.specs.Reduction.{answered, and_then, is_low, whnf_of}
+use Rattle.kernel_reduce.specs.Reduction.{answered, whnf_of}
 use Rattle.kernel_reduce.specs.Comparison.{subtype_of}
-use Rattle.kernel_reduce.proofs.Answers.{Answers, and_then-has, charge-has, if_low-has, bounded-has}
+use Rattle.core_terms.proofs.Answers.{Answers, and_next-has, bounded-has}
+use Rattle.kernel_reduce.proofs.Answers.{charge-has, if_low-has}
 use Rattle.kernel_reduce.proofs.ScopedReduction.{whnf-scoped}
 use Rattle.kernel_check.specs.Symbols.{symbol_type}
 use Rattle.kernel_check.specs.Checking.{Asks, Checks, typed as of_type, denied, if_typed, behind, variable_type, universe_type, greater_sort, infer_product, is_top, function_type, infer_function, reduced_product, product_of, apply_product, infer_application, infer_body, infer_local, given_type, leaf_type, infer_form, sort_of, compared, infer_of, infer_sort_of, check_of}
@@ -131,9 +132,9 @@ reduced-scopes S infer_sort h G (Var n) left ctx hc = denied-scoped S G (NotAPro
 reduced-scopes S infer_sort h G c left ctx hc = denied-scoped S G (NotAProduct c) ctx hc
 
 head-scopes : (S : Signature) → IsScopedSignature S → (infer_sort : Asks) → AskScopes S infer_sort → (G : Context) (c : Term) (left : ℕ) → IsScopedContext S G
-    → IsScoped S (length G) c → Scopes S (length G) (and_then (whnf_of S true left c) (reduced_product infer_sort G))
+    → IsScoped S (length G) c → Scopes S (length G) (and_next (whnf_of S true left c) (reduced_product infer_sort G))
 head-scopes S scoped infer_sort h G c left ctx hc =
-    and_then-has (IsScoped S (length G)) (Splits (IsScoped S (length G)) (IsScopedDenial S)) (whnf_of S true left c) (reduced_product infer_sort G)
+    and_next-has (IsScoped S (length G)) (Splits (IsScoped S (length G)) (IsScopedDenial S)) (whnf_of S true left c) (reduced_product infer_sort G)
     (whnf-scoped S true left (length G) c scoped hc) (λ d rest hd. reduced-scopes S infer_sort h G d rest ctx hd)
 
 product_of-scopes : (S : Signature) → IsScopedSignature S → (infer_sort : Asks) → AskScopes S infer_sort → (G : Context) (c : Term) (left : ℕ) → IsScopedContext S G
@@ -166,7 +167,7 @@ body-scopes : (S : Signature) (infer : Asks) → AskScopes S infer → (G : Cont
     → IsScoped S (length G) made → Scopes S (length G) (infer_body infer G made left)
 unfolding AskScopes
 body-scopes S infer h G made left ctx hm =
-    and_then-has (IsScoped S (length G)) (Splits (IsScoped S (length G)) (IsScopedDenial S)) (answered (bounded made) left) _
+    and_next-has (IsScoped S (length G)) (Splits (IsScoped S (length G)) (IsScopedDenial S)) (answered (bounded made) left) _
     (bounded-has (IsScoped S (length G)) made (λ low. hm)) (λ body end hb.
     behind-splits (IsScoped S (length G)) (IsScopedDenial S) (IsScopedDenial S) 2 (infer G body end) (λ denial d. d) (h G body end ctx hb))
 
@@ -228,7 +229,7 @@ mutual
   infer_sort-scopes S scoped (suc room) G t left ctx ht =
       if_typed-splits (IsScoped S (length G)) (IsScoped S (length G)) (IsScopedDenial S) (infer_of S room G t left) _
       (infer-scopes S scoped room G t left ctx ht) (λ c rest hc.
-      and_then-has (IsScoped S (length G)) (Splits (IsScoped S (length G)) (IsScopedDenial S)) (whnf_of S true rest c) _
+      and_next-has (IsScoped S (length G)) (Splits (IsScoped S (length G)) (IsScopedDenial S)) (whnf_of S true rest c) _
       (whnf-scoped S true rest (length G) c scoped hc) (λ d end hd. sort_of-scopes S G d ctx hd))
 
   check-scopes : (S : Signature) → IsScopedSignature S → (room : ℕ) → CheckingScopes S (check_of S room)
@@ -236,7 +237,7 @@ mutual
   check-scopes S scoped (suc room) G t wanted left ctx ht hw =
       if_typed-splits (IsScoped S (length G)) (IsScoped S (length G)) (IsScopedDenial S) (infer_of S room G t left) _
       (infer-scopes S scoped room G t left ctx ht) (λ found rest hf.
-      and_then-has (λ holds. Unit {0}) (Splits (IsScoped S (length G)) (IsScopedDenial S)) (subtype_of S room found wanted rest) _
+      and_next-has (λ holds. Unit {0}) (Splits (IsScoped S (length G)) (IsScopedDenial S)) (subtype_of S room found wanted rest) _
       (any-answer (subtype_of S room found wanted rest).0) (λ holds end hb. compared-scopes S G found wanted holds ctx hf hw))
 
 -- the words of the law

@@ -5,10 +5,11 @@ use Rattle.theory.specs.Signatures.{Signature}
 use Rattle.theory.specs.Conversion.{Step}
 use Rattle.theory.specs.WellFormed.{IsTyped}
 use Rattle.theory.proofs.StepSorts.{sorts_of_step}
-use Rattle.core_terms.specs.Answers.{Spent}
+use Rattle.core_terms.specs.Answers.{Spent, is_low}
 use Rattle.kernel_reduce.specs.Steps.{step_of}
-use Rattle.kernel_reduce.specs.Reduction.{is_low, without_units, with_unit, whnf_of}
-use Rattle.kernel_reduce.proofs.Answers.{Answers, if_low-has}
+use Rattle.kernel_reduce.specs.Reduction.{without_units, with_unit, whnf_of}
+use Rattle.core_terms.proofs.Answers.{Answers}
+use Rattle.kernel_reduce.proofs.Answers.{if_low-has}
 use Rattle.kernel_reduce.proofs.StepLaws.{step-steps}
 
 without_units-sorts : (n : ℕ) (t : Term) (step : Option Term) → SortsBelow n t → Answers (SortsBelow n) (without_units t step)

@@ -16,15 +16,16 @@ use Rattle.theory.proofs.Generation.{parts}
 use Rattle.theory.proofs.Validity.{variable_sort, product_sort, valid}
 use Rattle.theory.proofs.TermSorts.{sorts_of_term, sorts_of_symbol_type}
 use Rattle.theory.proofs.SortLevels.{sorts_raised, sorts_of_subst}
-use Rattle.core_terms.specs.Answers.{Spent, bounded}
+use Rattle.core_terms.specs.Answers.{Spent, bounded, and_next, is_low}
 use Rattle.core_terms.specs.Verdicts.{Denial, Verdict}
 use Rattle.core_terms.specs.Verdicts.Verdict.{Yes, No}
 use Rattle.core_terms.specs.Verdicts.Reason.{LevelTooHigh}
 use Rattle.core_terms.specs.declared.stop.Stop.{Stop}
 use Rattle.kernel_reduce.specs.Laws.{IsHeadForm}
-use Rattle.kernel_reduce.specs.Reduction.{answered, and_then, is_low, whnf_of}
+use Rattle.kernel_reduce.specs.Reduction.{answered, whnf_of}
 use Rattle.kernel_reduce.specs.Comparison.{subtype_of}
-use Rattle.kernel_reduce.proofs.Answers.{Answers, and_then-has, charge-has, if_low-has, bounded-has}
+use Rattle.core_terms.proofs.Answers.{Answers, and_next-has, bounded-has}
+use Rattle.kernel_reduce.proofs.Answers.{charge-has, if_low-has}
 use Rattle.kernel_reduce.proofs.ReductionLaws.{whnf-is_head_form}
 use Rattle.kernel_reduce.proofs.ComparisonLaws.{subtype-is_below}
 use Rattle.kernel_check.specs.Symbols.{symbol_type}
@@ -152,9 +153,9 @@ reduced-sound S typed infer_sort h G f c (Var n) left ctx hf hc = tt
 reduced-sound S typed infer_sort h G f c _ left ctx hf hc = tt
 
 head-sound : (S : Signature) → IsTyped S → (infer_sort : Asks) → SortIsSound S infer_sort → (G : Context) (f c : Term) (left : ℕ) → IsContext S G
-    → Has S G f c → Says (HasProduct S G f) (and_then (whnf_of S true left c) (reduced_product infer_sort G))
+    → Has S G f c → Says (HasProduct S G f) (and_next (whnf_of S true left c) (reduced_product infer_sort G))
 head-sound S typed infer_sort h G f c left ctx hf =
-    and_then-has (IsHeadForm S true c) (Splits (HasProduct S G f) NoClaim) (whnf_of S true left c) (reduced_product infer_sort G)
+    and_next-has (IsHeadForm S true c) (Splits (HasProduct S G f) NoClaim) (whnf_of S true left c) (reduced_product infer_sort G)
     (whnf-is_head_form S true left c) (λ d rest hd. reduced-sound S typed infer_sort h G f c d rest ctx hf hd.converts)
 
 product_of-sound : (S : Signature) → IsTyped S → (infer_sort : Asks) → SortIsSound S infer_sort → (G : Context) (f c : Term) (left : ℕ) → IsContext S G
@@ -191,7 +192,7 @@ body-sound : (S : Signature) → (infer : Asks) → AskIsSound S infer → (G : 
     → Says (HasType S G made) (infer_body infer G made left)
 unfolding NoClaim
 body-sound S infer h G made left ctx =
-    and_then-has (λ body. body ≡ made) (Splits (HasType S G made) NoClaim) (answered (bounded made) left) _
+    and_next-has (λ body. body ≡ made) (Splits (HasType S G made) NoClaim) (answered (bounded made) left) _
     (bounded-has (λ body. body ≡ made) made (λ low. refl)) (λ body end e.
     behind-splits (HasType S G made) NoClaim NoClaim 2 (infer G body end) (λ denial n. tt)
     (transport (λ t. Says (HasType S G t) (infer G body end)) e (h G body end ctx)))
@@ -268,14 +269,14 @@ mutual
   infer_sort-says S typed zero G t left ctx = tt
   infer_sort-says S typed (suc room) G t left ctx =
       if_typed-splits (HasType S G t) (HasUniverse S G t) NoClaim (infer_of S room G t left) _ (infer-says S typed room G t left ctx) (λ c rest hc.
-      and_then-has (λ d. Converts S c d × SortsBelow (top + 1) d) (Splits (HasUniverse S G t) NoClaim) (whnf_of S true rest c) _
+      and_next-has (λ d. Converts S c d × SortsBelow (top + 1) d) (Splits (HasUniverse S G t) NoClaim) (whnf_of S true rest c) _
       (head-levels S typed c rest hc.levels) (λ d end hd. sort_of-sound S G t c d hc.derivation hd.0 hd.1))
 
   check-says : (S : Signature) → IsTyped S → (room : ℕ) → CheckingIsSound S (check_of S room)
   check-says S typed zero G t wanted left ctx hw = tt
   check-says S typed (suc room) G t wanted left ctx hw =
       if_typed-splits (HasType S G t) (HasWanted S G t wanted) NoClaim (infer_of S room G t left) _ (infer-says S typed room G t left ctx) (λ found rest hf.
-      and_then-has (λ holds. IsTrue holds → Below S found wanted) (Splits (HasWanted S G t wanted) NoClaim)
+      and_next-has (λ holds. IsTrue holds → Below S found wanted) (Splits (HasWanted S G t wanted) NoClaim)
       (subtype_of S room found wanted rest) _ (subtype-is_below S room found wanted rest) (λ holds end hb.
       compared-sound S typed G t found wanted holds hf hw hb))
 

@@ -4,11 +4,12 @@ use Rattle.theory.specs.Terms.{Term, subst}
 use Rattle.theory.specs.Terms.Term.{Var, Sort, Pi, Lam, App, Let, Const}
 use Rattle.theory.specs.Telescopes.{Context}
 use Rattle.theory.specs.Signatures.{Signature}
-use Rattle.core_terms.specs.Answers.{bounded}
+use Rattle.core_terms.specs.Answers.{bounded, is_low}
 use Rattle.core_terms.specs.Verdicts.Verdict.{Yes}
-use Rattle.kernel_reduce.specs.Reduction.{answered, is_low, whnf_of}
+use Rattle.kernel_reduce.specs.Reduction.{answered, whnf_of}
 use Rattle.kernel_reduce.specs.Comparison.{subtype_of}
-use Rattle.kernel_reduce.proofs.Answers.{and_then-spends, charge-spends, if_low-spends}
+use Rattle.core_terms.proofs.Answers.{and_next-spends}
+use Rattle.kernel_reduce.proofs.Answers.{charge-spends, if_low-spends}
 use Rattle.kernel_reduce.proofs.ReductionLaws.{whnf-spends}
 use Rattle.kernel_reduce.proofs.ComparisonLaws.{subtype-spends}
 use Rattle.kernel_check.specs.Checking.{Asks, Checks, infer_product, infer_function, reduced_product, product_of, apply_product, infer_application, infer_body, infer_local, infer_form, infer_of, infer_sort_of, check_of}
@@ -42,9 +43,9 @@ product_of-spends : (S : Signature) (infer_sort : Asks) → AskSpends infer_sort
     → (product_of S infer_sort G c left).1 ≤ left
 product_of-spends S infer_sort h G (Pi a b) left = omega arith
 product_of-spends S infer_sort h G (Var n) left =
-    and_then-spends (whnf_of S true left (Var n)) _ left (whnf-spends S true left (Var n)) (reduced-spends infer_sort h G)
+    and_next-spends (whnf_of S true left (Var n)) _ left (whnf-spends S true left (Var n)) (reduced-spends infer_sort h G)
 product_of-spends S infer_sort h G c left =
-    and_then-spends (whnf_of S true left c) _ left (whnf-spends S true left c) (reduced-spends infer_sort h G)
+    and_next-spends (whnf_of S true left c) _ left (whnf-spends S true left c) (reduced-spends infer_sort h G)
 
 apply-spends : (check : Checks) → CheckingSpends check → (G : Context) (u c : Term) (left : ℕ) → (apply_product check G u c left).1 ≤ left
 apply-spends check h G u (Pi a b) left =
@@ -60,7 +61,7 @@ application-spends S infer infer_sort check h k l G f u left =
 
 body-spends : (infer : Asks) → AskSpends infer → (G : Context) (made : Term) (left : ℕ) → (infer_body infer G made left).1 ≤ left
 body-spends infer h G made left =
-    and_then-spends (answered (bounded made) left) _ left (omega arith) (λ body end. behind-spends 2 (infer G body end) end (h G body end))
+    and_next-spends (answered (bounded made) left) _ left (omega arith) (λ body end. behind-spends 2 (infer G body end) end (h G body end))
 
 local-spends : (infer infer_sort : Asks) (check : Checks) → AskSpends infer → AskSpends infer_sort → CheckingSpends check
     → (G : Context) (a t b : Term) (left : ℕ) → (infer_local infer infer_sort check G a t b left).1 ≤ left
@@ -91,10 +92,10 @@ mutual
   infer_sort-spends S zero G t left = omega arith
   infer_sort-spends S (suc room) G t left =
       if_typed-spends (infer_of S room G t left) _ left (infer-spends S room G t left) (λ c rest.
-      and_then-spends (whnf_of S true rest c) _ rest (whnf-spends S true rest c) (λ u end. omega arith))
+      and_next-spends (whnf_of S true rest c) _ rest (whnf-spends S true rest c) (λ u end. omega arith))
 
   pub check-spends : CheckSpends
   check-spends S zero G t wanted left = omega arith
   check-spends S (suc room) G t wanted left =
       if_typed-spends (infer_of S room G t left) _ left (infer-spends S room G t left) (λ found rest.
-      and_then-spends (subtype_of S room found wanted rest) _ rest (subtype-spends S room found wanted rest) (λ holds end. omega arith))
+      and_next-spends (subtype_of S room found wanted rest) _ rest (subtype-spends S room found wanted rest) (λ holds end. omega arith))

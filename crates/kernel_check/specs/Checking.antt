@@ -5,11 +5,11 @@ use Rattle.std.specs.Prelude.{ℕ, zero, suc, ◌+◌, Bool, true, false, cond, 
 use Rattle.theory.specs.Terms.{Term, Var, Sort, Pi, Lam, App, Let, lift, subst, top}
 use Rattle.theory.specs.Telescopes.{Context}
 use Rattle.theory.specs.Signatures.{Signature}
-use Rattle.core_terms.specs.Answers.{Spent, bounded}
+use Rattle.core_terms.specs.Answers.{Spent, bounded, and_next, is_low}
 use Rattle.core_terms.specs.Verdicts.{Denial, Reason, Mismatch, NotAProduct, NotASort, NoSuchInstance, LevelTooHigh, Verdict, Yes, No}
 use Rattle.core_terms.specs.declared.stop.Stop.{Stop}
 use Rattle.core_terms.specs.declared.stop.Stop.TheVariants.{Deep}
-use Rattle.kernel_reduce.specs.Reduction.{answered, and_then, charge, if_low, is_low, whnf_of}
+use Rattle.kernel_reduce.specs.Reduction.{answered, charge, if_low, whnf_of}
 use Rattle.kernel_reduce.specs.Comparison.{subtype_of}
 use Rattle.kernel_check.specs.Symbols.{symbol_type}
 
@@ -39,7 +39,7 @@ on_verdict (Yes type) left go = go type left
 on_verdict (No denial) left go = answered (Ok (No denial)) left
 
 abbrev pub if_typed : Spent Verdict → (Term → ℕ → Spent Verdict) → Spent Verdict
-if_typed first go = and_then first (λ verdict left. on_verdict verdict left go)
+if_typed first go = and_next first (λ verdict left. on_verdict verdict left go)
 
 -- what is denied in a child has its place behind the number of the child
 abbrev pub denial_behind : ℕ → Denial → Denial
@@ -50,7 +50,7 @@ verdict_behind child (Yes type) = Yes type
 verdict_behind child (No denial) = No (denial_behind child denial)
 
 abbrev pub behind : ℕ → Spent Verdict → Spent Verdict
-behind child asked = and_then asked (λ verdict left. answered (Ok (verdict_behind child verdict)) left)
+behind child asked = and_next asked (λ verdict left. answered (Ok (verdict_behind child verdict)) left)
 
 -- a variable has the type that the context gives it, lifted to the whole context
 abbrev pub variable_type : Context → ℕ → Option Term → Result Verdict Stop
@@ -94,7 +94,7 @@ reduced_product infer_sort G c left = answered (denied G (NotAProduct c)) left
 -- the product that a function's type is, letter for letter or reduced at its head
 abbrev pub product_of : Signature → Asks → Context → Term → ℕ → Spent Verdict
 product_of S infer_sort G (Pi a b) left = answered (Ok (Yes (Pi a b))) left
-product_of S infer_sort G c left = and_then (whnf_of S true left c) (reduced_product infer_sort G)
+product_of S infer_sort G c left = and_next (whnf_of S true left c) (reduced_product infer_sort G)
 
 -- the argument u of a function whose type is a product
 abbrev pub apply_product : Checks → Context → Term → Term → ℕ → Spent Verdict
@@ -108,7 +108,7 @@ infer_application S infer infer_sort check G f u left =
 
 -- what follows a `let`, with the value in the variable's place
 abbrev pub infer_body : Asks → Context → Term → ℕ → Spent Verdict
-infer_body infer G made left = and_then (answered (bounded made) left) (λ body end. behind 2 (infer G body end))
+infer_body infer G made left = and_next (answered (bounded made) left) (λ body end. behind 2 (infer G body end))
 
 abbrev pub infer_local : Asks → Asks → Checks → Context → Term → Term → Term → ℕ → Spent Verdict
 infer_local infer infer_sort check G a t b left =
@@ -155,11 +155,11 @@ abbrev mutual
   pub infer_sort_of : Signature → ℕ → Asks
   infer_sort_of S zero G t left = answered (Err Deep) left
   infer_sort_of S (suc room) G t left =
-      if_typed (infer_of S room G t left) (λ c rest. and_then (whnf_of S true rest c) (λ u end. answered (sort_of G u) end))
+      if_typed (infer_of S room G t left) (λ c rest. and_next (whnf_of S true rest c) (λ u end. answered (sort_of G u) end))
 
   -- the type of a term that is to have the type `wanted`: the one that is inferred, which must be below
   pub check_of : Signature → ℕ → Checks
   check_of S zero G t wanted left = answered (Err Deep) left
   check_of S (suc room) G t wanted left =
       if_typed (infer_of S room G t left) (λ found rest.
-      and_then (subtype_of S room found wanted rest) (λ holds end. answered (compared G found wanted holds) end))
+      and_next (subtype_of S room found wanted rest) (λ holds end. answered (compared G found wanted holds) end))

@@ -5,17 +5,14 @@ ghost use Rattle.kernel_check.specs.Scopes.{AreLow, scope_of};
 ghost use Rattle.std.specs.Prelude.{Ok};
 
 use crate::scope::{Scope, copy_scope};
-use core_terms::{Denial, Items, MAX_HEIGHT, Reason, Stop, Term, Verdict};
+use core_terms::{Denial, Items, Reason, Stop, Term, Verdict, bounded};
 use std::alloc::Global;
 
 /// A term that was made is the type, or Deep.
 pub(crate) fn typed(made: Term) -> Result<Verdict, Stop>
     ensures { Gives verdict_of result (checking.typed (tree_of made)) }
 {
-    if made.height() > MAX_HEIGHT {
-        return Err(Stop::Deep);
-    }
-    Ok(Verdict::Yes(made))
+    Ok(Verdict::Yes(bounded(made)?))
 }
 
 /// The term itself is denied.

@@ -1,16 +1,15 @@
 ghost use Rattle.std.specs.Prelude.{◌≡◌, [], ◌∷◌, ◌++◌, not, bytes_eq, Ok, IfOk, IsTrue};
 ghost use Rattle.std.specs.List.{list_any};
-ghost use Rattle.resolve.specs.Answers.{Gives};
+ghost use Rattle.core_terms.specs.Answers.{Gives};
 
-use crate::ResolveStop;
-use core_terms::Name;
+use core_terms::{Name, Stop};
 use indexmap::IndexSet;
 use std::alloc::Global;
 use std::marker::Model;
 
 /// Distinct names in the order in which they came. They are found by hashes.
 #[derive(Drop)]
-pub(crate) struct NameSet {
+pub struct NameSet {
     names: IndexSet<Vec<u8>>,
     alloc: Global,
 }
@@ -24,7 +23,7 @@ impl Model for NameSet {
 }
 
 impl NameSet {
-    pub(crate) fn new(alloc: Global) -> NameSet
+    pub fn new(alloc: Global) -> NameSet
         ensures { result ≡ [] }
     {
         NameSet {
@@ -34,7 +33,7 @@ impl NameSet {
     }
 
     /// Adds the name behind the others where it is new, and says whether it is.
-    pub(crate) fn insert(&mut self, name: &Name) -> Result<bool, ResolveStop>
+    pub fn insert(&mut self, name: &Name) -> Result<bool, Stop>
         ensures added { Gives (λ added. added) result (Ok (not (list_any (bytes_eq name.now) self.old))) }
         ensures names { IfOk result (λ added. IsTrue added → self.new ≡ self.old ++ name.now ∷ []) }
     {

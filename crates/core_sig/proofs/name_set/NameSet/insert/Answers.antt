@@ -1,7 +1,7 @@
 use Rattle.std.proofs.Common.{Ok, bytes_eq, not, map, ap, ◌∙◌}
 use Rattle.std.specs.List.{list_any}
-use Rattle.resolve.proofs.NamesShown.{any_shown}
-use Rattle.resolve.proofs.name_set.NameSet.insert.Goals as goal
+use Rattle.core_sig.proofs.NamesShown.{any_shown}
+use Rattle.core_sig.proofs.name_set.NameSet.insert.Goals as goal
 
 pub returns-clause-added : goal.returns-clause-added
 returns-clause-added c =
