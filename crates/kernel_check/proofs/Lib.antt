@@ -1,3 +1,4 @@
+pub mod AnswerHeights
 pub mod Conditions
 pub mod Contexts
 mod Examples
@@ -7,5 +8,4 @@ pub mod Sorts
 pub mod Spending
 pub mod SymbolTypes
 pub mod FamilyScopes
-pub mod Instances
 pub mod Parts

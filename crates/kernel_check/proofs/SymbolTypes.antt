@@ -10,7 +10,8 @@ use Rattle.theory.specs.Signatures.{Entry, FamilyOf, EliminatorAt, AxiomKAt, Def
 use Rattle.theory.specs.Signatures.TypeOf.{constant, family, constructor, eliminator, axiom_k}
 use Rattle.kernel_reduce.specs.Entries.{family_at}
 use Rattle.kernel_reduce.proofs.StepLaws.{some-next, some-map, some-cond, family-found, both-true}
-use Rattle.kernel_check.specs.Symbols.{type_in, is_eliminator, is_axiom_k, symbol_type}
+use Rattle.core_sig.specs.Instances.{is_eliminator, is_axiom_k}
+use Rattle.kernel_check.specs.Symbols.{type_in, symbol_type}
 
 -- where a test passes in a list, there is an element that passes it
 any-at : {X : Type 0} (p : X → Bool) (xs : List X) → list_any p xs ≡ true → (n : ℕ) × (x : X) × (slice_get xs n ≡ Some x) × (p x ≡ true)

@@ -1,11 +1,13 @@
--- What the checker's answers mean: a Yes gives a derivation, no call gives units back, and what is answered is scoped.
+-- What the checker's answers mean: a Yes gives a derivation, no call gives units back, and what is answered is scoped and no
+-- higher than terms may be.
 use Rattle.std.specs.Prelude.{◌≡◌, ℕ, ◌+◌, ◌≤◌, length, IfOk}
-use Rattle.theory.specs.Terms.{Term, Sort, SortsBelow, top}
+use Rattle.theory.specs.Terms.{Term, Sort, SortsBelow, height, top}
 use Rattle.theory.specs.Telescopes.{Context}
 use Rattle.theory.specs.Signatures.{Signature}
 use Rattle.theory.specs.Typing.{IsContext, Has, IsType}
 use Rattle.theory.specs.WellFormed.{IsTyped}
 use Rattle.theory.specs.SignatureScopes.{IsScoped, IsScopedTelescope, IsScopedContext, IsScopedSignature}
+use Rattle.core_terms.specs.Bounds.{most_height}
 use Rattle.core_terms.specs.Verdicts.{Reason, Mismatch, NotAProduct, NotASort, Denial, Verdict, Yes, No}
 use Rattle.kernel_check.specs.Checking.{infer_of, infer_sort_of, check_of}
 
@@ -31,6 +33,35 @@ pub record HasUniverse (S : Signature) (G : Context) (t sort : Term) : Type 0 wh
 pub record HasWanted (S : Signature) (G : Context) (t wanted found : Term) : Type 0 where
   pub derivation : Has S G t wanted
   pub found_type : HasType S G t found
+
+-- a term and the type that is answered for it are no higher than terms may be
+pub record AreBothLow (t a : Term) : Type 0 where
+  pub term : height t ≤ most_height
+  pub type : height a ≤ most_height
+
+abbrev pub IsSort : Term → Type 0
+IsSort t = (level : ℕ) × (t ≡ Sort level)
+
+abbrev pub InferIsLow : Type 0
+InferIsLow =
+    (S : Signature) (room : ℕ) (G : Context) (t : Term) (left : ℕ) →
+    IfOk (infer_of S room G t left).0 (λ verdict. IfYes verdict (AreBothLow t))
+
+abbrev pub InferSortIsLow : Type 0
+InferSortIsLow =
+    (S : Signature) (room : ℕ) (G : Context) (t : Term) (left : ℕ) →
+    IfOk (infer_sort_of S room G t left).0 (λ verdict. IfYes verdict (AreBothLow t))
+
+abbrev pub CheckIsLow : Type 0
+CheckIsLow =
+    (S : Signature) (room : ℕ) (G : Context) (t wanted : Term) (left : ℕ) →
+    IfOk (check_of S room G t wanted left).0 (λ verdict. IfYes verdict (AreBothLow t))
+
+-- what is answered for a type is a sort
+abbrev pub InferSortIsSort : Type 0
+InferSortIsSort =
+    (S : Signature) (room : ℕ) (G : Context) (t : Term) (left : ℕ) →
+    IfOk (infer_sort_of S room G t left).0 (λ verdict. IfYes verdict IsSort)
 
 -- The checker is sound, over a typed signature and in a well-formed context. It rests neither on subject reduction nor on
 -- confluence or normalisation: a type that had to be reduced is checked once more.

@@ -5,17 +5,22 @@ use Rattle.theory.specs.Telescopes.{Context, context_behind}
 use Rattle.theory.specs.Signatures.{Signature}
 use Rattle.theory.specs.SignatureScopes.{IsScoped, IsScopedContext, IsScopedSignature}
 use Rattle.core_terms.specs.Meanings.{tree_of, tele_of}
+use Rattle.core_terms.specs.Bounds.{most_height}
 use Rattle.kernel_reduce.specs.Reduction.{most_variables, nesting}
 use Rattle.kernel_check.specs.declared.scope.Scope.{Scope, Given, Under'}
+
+-- 2 ^ 31: a context that is given has fewer types
+abbrev pub context_limit : ℕ
+context_limit = 2147483648
 
 abbrev pub scope_of : Scope → Context
 scope_of (Given types) = context_behind [] (tele_of types.now)
 scope_of (Under' a p outer) = tree_of a.now ∷ scope_of outer
 
--- the types of binders that were entered are no higher than 2,000
+-- the types of binders that were entered are no higher than terms may be
 abbrev pub AreLow : Scope → Type 0
 AreLow (Given types) = Unit {0}
-AreLow (Under' a p outer) = (tree.height (tree_of a.now) ≤ 2000) × AreLow outer
+AreLow (Under' a p outer) = (tree.height (tree_of a.now) ≤ most_height) × AreLow outer
 
 -- Signature, context and term are scoped. With as many binders more as calls may be open, the variables are few enough
 -- for numbers of 32 bits.

@@ -1,30 +1,16 @@
 -- The types of symbols, looked up in the signature.
-use Rattle.std.specs.Prelude.{ℕ, Bool, false, cond, ◌&&◌, ◌==◌, Option, Some, None, option_map, option_and_then, slice_get}
+use Rattle.std.specs.Prelude.{cond, Option, Some, None, option_map, option_and_then, slice_get}
 use Rattle.std.specs.List.{list_any}
 use Rattle.theory.specs.Terms.{Term, Const, Fam, Con, Elim, AxiomK}
 use Rattle.theory.specs.Families.{family_type, constructor_type}
 use Rattle.theory.specs.Eliminators.{eliminator_type}
-use Rattle.theory.specs.Signatures.{Entry, EliminatorAt, AxiomKAt, Definition, Signature, axiom_k_type}
+use Rattle.theory.specs.Signatures.{Entry, Definition, Signature, axiom_k_type}
+use Rattle.core_sig.specs.Instances.{is_eliminator, is_axiom_k}
 use Rattle.kernel_reduce.specs.Entries.{family_at}
 
 abbrev pub type_in : Entry → Option Term
 type_in (Definition name type body) = Some type
 type_in _ = None
-
--- the entry is the eliminator of family n into Type m
-abbrev pub is_eliminator : ℕ → ℕ → Entry → Bool
-is_eliminator n m (EliminatorAt f l) = (f == n) && (l == m)
-is_eliminator n m _ = false
-
--- the entry is the axiom K of Eq.i into Type m
-abbrev pub is_axiom_k : ℕ → ℕ → Entry → Bool
-is_axiom_k i m (AxiomKAt j l) = (j == i) && (l == m)
-is_axiom_k i m _ = false
-
--- an entry is there and passes the test
-abbrev pub passes : (Entry → Bool) → Option Entry → Bool
-passes test (Some e) = test e
-passes test None = false
 
 -- the type of a constant, family, constructor, eliminator or K, or None where the signature lacks it
 abbrev pub symbol_type : Signature → Term → Option Term

@@ -4,6 +4,7 @@ ghost use Rattle.theory.specs.Signatures as spec;
 ghost use Rattle.core_terms.specs.Answers.{Gives};
 ghost use Rattle.core_terms.specs.Meanings.{tree_of};
 
+use core_sig::equality;
 use core_terms::{Stop, Term};
 use std::alloc::Global;
 
@@ -23,7 +24,7 @@ fn applied(alloc: Global, function: Term, argument: Term) -> Result<Term, Stop>
 fn reflexive_equation(alloc: Global, i: u8, ty: u32, x: u32) -> Result<Term, Stop>
     ensures { Gives tree_of result (Ok (spec.equation i (tree.Var ty) (tree.Var x) (tree.Var x))) }
 {
-    let family = applied(alloc, Term::Fam(i as u32 + 1), Term::Var(ty))?;
+    let family = applied(alloc, Term::Fam(equality(i)), Term::Var(ty))?;
     let from = applied(alloc, family, Term::Var(x))?;
     applied(alloc, from, Term::Var(x))
 }
@@ -32,7 +33,7 @@ fn reflexive_equation(alloc: Global, i: u8, ty: u32, x: u32) -> Result<Term, Sto
 fn reflexivity(alloc: Global, i: u8, ty: u32, x: u32) -> Result<Term, Stop>
     ensures { Gives tree_of result (Ok (spec.reflexivity i (tree.Var ty) (tree.Var x))) }
 {
-    let constructor = applied(alloc, Term::Con(i as u32 + 1, 0), Term::Var(ty))?;
+    let constructor = applied(alloc, Term::Con(equality(i), 0), Term::Var(ty))?;
     applied(alloc, constructor, Term::Var(x))
 }
 

@@ -1,6 +1,7 @@
 ghost use Rattle.std.specs.Prelude.{◌≡◌, ◌≤◌, ◌+◌};
 ghost use Rattle.theory.specs.Terms as tree;
 ghost use Rattle.core_terms.specs.Answers.{Gives, Runs};
+ghost use Rattle.core_terms.specs.Bounds.{most_height};
 ghost use Rattle.core_terms.specs.Meanings.{tree_of, verdict_of};
 ghost use Rattle.kernel_check.specs.Checking as checking;
 ghost use Rattle.kernel_check.specs.Scopes.{AreLow, CanCheck, scope_of};
@@ -26,6 +27,7 @@ pub(crate) fn infer_in(
     requires { CanCheck sig.now room scope.now (tree_of t.now) }
     ensures meant { Runs verdict_of result units.new.left (checking.infer_of sig.now room (scope_of scope.now) (tree_of t.now) units.old.left) }
     ensures total { units.new.left + units.new.spent ≡ units.old.left + units.old.spent }
+    ensures spends { units.new.left ≤ units.old.left }
 {
     if room == 0 || t.height() > MAX_HEIGHT {
         return Err(Stop::Deep);
@@ -45,9 +47,10 @@ fn infer_form(
     units: &mut Units,
 ) -> Result<Verdict, Stop>
     requires can { CanCheck sig.now (room + 1) scope.now (tree_of t.now) }
-    requires low { tree.height (tree_of t.now) ≤ 2000 }
+    requires low { tree.height (tree_of t.now) ≤ most_height }
     ensures meant { Runs verdict_of result units.new.left (checking.infer_form sig.now (checking.infer_of sig.now room) (checking.infer_sort_of sig.now room) (checking.check_of sig.now room) (scope_of scope.now) (tree_of t.now) units.old.left) }
     ensures total { units.new.left + units.new.spent ≡ units.old.left + units.old.spent }
+    ensures spends { units.new.left ≤ units.old.left }
 {
     match t {
         Term::Pi(a, b) => infer_product(alloc, sig, scope, a, b, room, units),
@@ -69,9 +72,10 @@ fn infer_product(
     units: &mut Units,
 ) -> Result<Verdict, Stop>
     requires can { CanCheck sig.now (room + 1) scope.now (tree.Pi (tree_of a.now) (tree_of b.now)) }
-    requires low { tree.height (tree_of a.now) ≤ 2000 }
+    requires low { tree.height (tree_of a.now) ≤ most_height }
     ensures meant { Runs verdict_of result units.new.left (checking.infer_product (checking.infer_sort_of sig.now room) (scope_of scope.now) (tree_of a.now) (tree_of b.now) units.old.left) }
     ensures total { units.new.left + units.new.spent ≡ units.old.left + units.old.spent }
+    ensures spends { units.new.left ≤ units.old.left }
 {
     let i = match behind(0, infer_sort_in(alloc, sig, scope, a, room, units)?)? {
         Verdict::Yes(i) => i,
@@ -105,9 +109,10 @@ fn infer_function(
     units: &mut Units,
 ) -> Result<Verdict, Stop>
     requires can { CanCheck sig.now (room + 1) scope.now (tree.Lam (tree_of a.now) (tree_of b.now)) }
-    requires low { tree.height (tree_of a.now) ≤ 2000 }
+    requires low { tree.height (tree_of a.now) ≤ most_height }
     ensures meant { Runs verdict_of result units.new.left (checking.infer_function (checking.infer_of sig.now room) (checking.infer_sort_of sig.now room) (scope_of scope.now) (tree_of a.now) (tree_of b.now) units.old.left) }
     ensures total { units.new.left + units.new.spent ≡ units.old.left + units.old.spent }
+    ensures spends { units.new.left ≤ units.old.left }
 {
     match behind(0, infer_sort_in(alloc, sig, scope, a, room, units)?)? {
         Verdict::Yes(_) => {}
@@ -144,6 +149,7 @@ fn infer_application(
     requires can { CanCheck sig.now (room + 1) scope.now (tree.App (tree_of f.now) (tree_of u.now)) }
     ensures meant { Runs verdict_of result units.new.left (checking.infer_application sig.now (checking.infer_of sig.now room) (checking.infer_sort_of sig.now room) (checking.check_of sig.now room) (scope_of scope.now) (tree_of f.now) (tree_of u.now) units.old.left) }
     ensures total { units.new.left + units.new.spent ≡ units.old.left + units.old.spent }
+    ensures spends { units.new.left ≤ units.old.left }
 {
     let ty = match behind(0, infer_in(alloc, sig, scope, f, room, units)?)? {
         Verdict::Yes(ty) => ty,
@@ -168,6 +174,7 @@ fn product_of(
     requires { CanCheck sig.now (room + 1) scope.now (tree_of ty) }
     ensures meant { Runs verdict_of result units.new.left (checking.product_of sig.now (checking.infer_sort_of sig.now room) (scope_of scope.now) (tree_of ty) units.old.left) }
     ensures total { units.new.left + units.new.spent ≡ units.old.left + units.old.spent }
+    ensures spends { units.new.left ≤ units.old.left }
 {
     if matches!(ty, Term::Pi(_, _)) {
         return Ok(Verdict::Yes(ty));
@@ -189,6 +196,7 @@ fn reduced_product(
     requires { CanCheck sig.now room scope.now (tree_of reduced) }
     ensures meant { Runs verdict_of result units.new.left (checking.reduced_product (checking.infer_sort_of sig.now room) (scope_of scope.now) (tree_of reduced) units.old.left) }
     ensures total { units.new.left + units.new.spent ≡ units.old.left + units.old.spent }
+    ensures spends { units.new.left ≤ units.old.left }
 {
     if !matches!(reduced, Term::Pi(_, _)) {
         return deny(alloc, scope, Reason::NotAProduct { found: reduced });
@@ -214,6 +222,7 @@ fn apply_product(
     requires function { CanCheck sig.now (room + 1) scope.now (tree_of product) }
     ensures meant { Runs verdict_of result units.new.left (checking.apply_product (checking.check_of sig.now room) (scope_of scope.now) (tree_of u.now) (tree_of product) units.old.left) }
     ensures total { units.new.left + units.new.spent ≡ units.old.left + units.old.spent }
+    ensures spends { units.new.left ≤ units.old.left }
 {
     let (domain, codomain) = match product {
         Term::Pi(domain, codomain) => (domain, codomain),
@@ -239,6 +248,7 @@ fn infer_local(
     requires can { CanCheck sig.now (room + 1) scope.now (tree.Let (tree_of a.now) (tree_of v.now) (tree_of b.now)) }
     ensures meant { Runs verdict_of result units.new.left (checking.infer_local (checking.infer_of sig.now room) (checking.infer_sort_of sig.now room) (checking.check_of sig.now room) (scope_of scope.now) (tree_of a.now) (tree_of v.now) (tree_of b.now) units.old.left) }
     ensures total { units.new.left + units.new.spent ≡ units.old.left + units.old.spent }
+    ensures spends { units.new.left ≤ units.old.left }
 {
     match behind(0, infer_sort_in(alloc, sig, scope, a, room, units)?)? {
         Verdict::Yes(_) => {}
@@ -265,6 +275,7 @@ pub(crate) fn infer_sort_in(
     requires { CanCheck sig.now room scope.now (tree_of t.now) }
     ensures meant { Runs verdict_of result units.new.left (checking.infer_sort_of sig.now room (scope_of scope.now) (tree_of t.now) units.old.left) }
     ensures total { units.new.left + units.new.spent ≡ units.old.left + units.old.spent }
+    ensures spends { units.new.left ≤ units.old.left }
 {
     if room == 0 {
         return Err(Stop::Deep);
@@ -302,6 +313,7 @@ pub(crate) fn check_in(
     requires wanted { CanCheck sig.now room scope.now (tree_of wanted.now) }
     ensures meant { Runs verdict_of result units.new.left (checking.check_of sig.now room (scope_of scope.now) (tree_of t.now) (tree_of wanted.now) units.old.left) }
     ensures total { units.new.left + units.new.spent ≡ units.old.left + units.old.spent }
+    ensures spends { units.new.left ≤ units.old.left }
 {
     if room == 0 {
         return Err(Stop::Deep);
@@ -323,7 +335,7 @@ fn compared(
     holds: bool,
 ) -> Result<Verdict, Stop>
     requires bound { AreLow scope.now }
-    requires low { tree.height (tree_of wanted.now) ≤ 2000 }
+    requires low { tree.height (tree_of wanted.now) ≤ most_height }
     ensures { Gives verdict_of result (checking.compared (scope_of scope.now) (tree_of found) (tree_of wanted.now) holds) }
 {
     if holds {

@@ -1,5 +1,5 @@
 //! What the checker's answers mean.
-ghost use Rattle.kernel_check.specs.Laws.{InferIsSound, InferSortIsSound, CheckIsSound, InferSpends, InferSortSpends, CheckSpends, InferScoped, InferSortScoped, CheckScoped};
+ghost use Rattle.kernel_check.specs.Laws.{InferIsSound, InferSortIsSound, CheckIsSound, InferIsLow, InferSortIsLow, CheckIsLow, InferSortIsSort, InferSpends, InferSortSpends, CheckSpends, InferScoped, InferSortScoped, CheckScoped};
 
 /// A type that is inferred has a derivation, and is a sort or has one.
 pub fn infer_is_sound()
@@ -14,6 +14,26 @@ pub fn infer_sort_is_sound()
 /// A term that is checked against a type has it.
 pub fn check_is_sound()
     ensures { CheckIsSound }
+{}
+
+/// A type that is inferred is no higher than 2,000, and neither is its term.
+pub fn infer_is_low()
+    ensures { InferIsLow }
+{}
+
+/// A sort that is inferred is no higher than 2,000, and neither is its type.
+pub fn infer_sort_is_low()
+    ensures { InferSortIsLow }
+{}
+
+/// A term that is checked is no higher than 2,000, and neither is the type that is found.
+pub fn check_is_low()
+    ensures { CheckIsLow }
+{}
+
+/// What is inferred for a type is a sort.
+pub fn infer_sort_is_sort()
+    ensures { InferSortIsSort }
 {}
 
 /// Inference gives no units back.

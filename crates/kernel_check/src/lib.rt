@@ -11,5 +11,4 @@ mod typing;
 mod verdicts;
 
 pub use axiom_k::axiom_k_type;
-pub use symbols::{is_axiom_k, is_eliminator};
 pub use typing::{check, infer, infer_sort};

@@ -1,5 +1,4 @@
-ghost use Rattle.std.specs.Prelude.{◌≡◌, ℕ, true, false, length, take, cond, slice_get};
-ghost use Rattle.std.specs.List.{list_any};
+ghost use Rattle.std.specs.Prelude.{◌≡◌};
 ghost use Rattle.theory.specs.Terms.{Const, Fam, Con, Elim, AxiomK};
 ghost use Rattle.theory.specs.SignatureScopes.{IsScopedSignature};
 ghost use Rattle.core_terms.specs.Answers.{Gives};
@@ -14,52 +13,6 @@ use crate::verdicts::deny;
 use core_sig::{Entry, Signature, con_type, elim_type, family_type};
 use core_terms::{Reason, Stop, Term, Verdict, copy};
 use std::alloc::Global;
-
-/// Whether entry `at` is the eliminator of family `n` at level `m`.
-pub fn is_eliminator(sig: &Signature, at: u32, n: u32, m: u8) -> bool
-    ensures { result ≡ spec.passes (spec.is_eliminator n m) (slice_get sig.now.entries at) }
-{
-    match sig.entry(at) {
-        Some(Entry::Elim(fam, level)) => *fam == n && *level == m,
-        _ => false,
-    }
-}
-
-/// Whether entry `at` is the axiom K of `Eq.i` at level `m`.
-pub fn is_axiom_k(sig: &Signature, at: u32, i: u8, m: u8) -> bool
-    ensures { result ≡ spec.passes (spec.is_axiom_k i m) (slice_get sig.now.entries at) }
-{
-    match sig.entry(at) {
-        Some(Entry::AxiomK(identity, level)) => *identity == i && *level == m,
-        _ => false,
-    }
-}
-
-/// Whether the eliminator of family `n` has its instance at level `m`.
-#[tactic(auto, using(crate::proofs::Instances::passed, crate::proofs::Instances::not_passed))]
-fn has_eliminator(sig: &Signature, n: u32, m: u8) -> bool
-    ensures { result ≡ list_any (spec.is_eliminator n m) sig.now.entries }
-{
-    for at in 0..sig.len() {
-        if is_eliminator(sig, at, n, m) {
-            return true;
-        }
-    }
-    false
-}
-
-/// Whether the axiom K of `Eq.i` has its instance at level `m`.
-#[tactic(auto, using(crate::proofs::Instances::passed, crate::proofs::Instances::not_passed))]
-fn has_axiom_k(sig: &Signature, i: u8, m: u8) -> bool
-    ensures { result ≡ list_any (spec.is_axiom_k i m) sig.now.entries }
-{
-    for at in 0..sig.len() {
-        if is_axiom_k(sig, at, i, m) {
-            return true;
-        }
-    }
-    false
-}
 
 /// The type of a constant.
 pub(crate) fn constant_type(
@@ -125,7 +78,7 @@ pub(crate) fn eliminator_type(
     ensures { Gives verdict_of result (given_type (scope_of scope.now) (spec.symbol_type sig.now (Elim n m))) }
 {
     match sig.entry(n) {
-        Some(Entry::Family(family)) if has_eliminator(sig, n, m) => {
+        Some(Entry::Family(family)) if sig.eliminator(n, m).is_some() => {
             Ok(Verdict::Yes(elim_type(alloc, n, family, m)?))
         }
         _ => deny(alloc, scope, Reason::NoSuchInstance),
@@ -143,7 +96,7 @@ pub(crate) fn axiom_k_type(
     requires { AreLow scope.now }
     ensures { Gives verdict_of result (given_type (scope_of scope.now) (spec.symbol_type sig.now (AxiomK i m))) }
 {
-    if has_axiom_k(sig, i, m) {
+    if sig.axiom_k(i, m).is_some() {
         Ok(Verdict::Yes(axiom_k::axiom_k_type(alloc, i, m)?))
     } else {
         deny(alloc, scope, Reason::NoSuchInstance)

@@ -1,4 +1,4 @@
-ghost use Rattle.std.specs.Prelude.{◌≡◌, ◌<◌, ◌+◌, [], length, IfOk};
+ghost use Rattle.std.specs.Prelude.{◌≡◌, ◌≤◌, ◌<◌, ◌+◌, [], length, IfOk};
 ghost use Rattle.theory.specs.Telescopes.{context_behind};
 ghost use Rattle.theory.specs.SignatureScopes.{IsScoped, IsScopedSignature, IsScopedTelescope};
 ghost use Rattle.theory.specs.Typing.{IsContext, IsType};
@@ -7,16 +7,15 @@ ghost use Rattle.core_terms.specs.Answers.{Runs};
 ghost use Rattle.core_terms.specs.Meanings.{tree_of, tele_of, verdict_of};
 ghost use Rattle.kernel_reduce.specs.Reduction.{nesting};
 ghost use Rattle.kernel_check.specs.Checking.{infer_of, infer_sort_of, check_of};
-ghost use Rattle.kernel_check.specs.Laws.{HasType, HasUniverse, HasWanted, IfYes, IsScopedVerdict};
+ghost use Rattle.kernel_check.specs.Laws.{AreBothLow, HasType, HasUniverse, HasWanted, IfYes, IsScopedVerdict, IsSort};
+ghost use Rattle.kernel_check.specs.Scopes.{context_limit};
 
 use crate::checking::{check_in, infer_in, infer_sort_in};
 use crate::scope::Scope;
 use core_sig::Signature;
 use core_terms::{Stop, Tele, Term, Units, Verdict};
+use kernel_reduce::NESTING;
 use std::alloc::Global;
-
-/// How many calls may be open at once.
-const NESTING: u32 = 2000;
 
 /// A type of the term in the context, which lists its types from the outermost on.
 pub fn infer(
@@ -29,11 +28,13 @@ pub fn infer(
     requires signature { IsScopedSignature sig.now }
     requires context { IsScopedTelescope sig.now 0 (tele_of ctx.now) }
     requires term { IsScoped sig.now (length ctx.now) (tree_of t.now) }
-    requires few { length ctx.now < 2147483648 }
+    requires few { length ctx.now < context_limit }
     ensures answer { Runs verdict_of result units.new.left (infer_of sig.now nesting (context_behind [] (tele_of ctx.now)) (tree_of t.now) units.old.left) }
     ensures sum { units.new.left + units.new.spent ≡ units.old.left + units.old.spent }
+    ensures spends { units.new.left ≤ units.old.left }
     ensures sound { IsTyped sig.now → IsContext sig.now (context_behind [] (tele_of ctx.now)) → IfOk result (λ v. IfYes (verdict_of v) (HasType sig.now (context_behind [] (tele_of ctx.now)) (tree_of t.now))) }
     ensures scoped { IfOk result (λ v. IsScopedVerdict sig.now (length ctx.now) (verdict_of v)) }
+    ensures low { IfOk result (λ v. IfYes (verdict_of v) (AreBothLow (tree_of t.now))) }
 {
     infer_in(alloc, sig, &Scope::Given(ctx.as_slice()), t, NESTING, units)
 }
@@ -49,11 +50,14 @@ pub fn infer_sort(
     requires signature { IsScopedSignature sig.now }
     requires context { IsScopedTelescope sig.now 0 (tele_of ctx.now) }
     requires term { IsScoped sig.now (length ctx.now) (tree_of t.now) }
-    requires few { length ctx.now < 2147483648 }
+    requires few { length ctx.now < context_limit }
     ensures answer { Runs verdict_of result units.new.left (infer_sort_of sig.now nesting (context_behind [] (tele_of ctx.now)) (tree_of t.now) units.old.left) }
     ensures sum { units.new.left + units.new.spent ≡ units.old.left + units.old.spent }
+    ensures spends { units.new.left ≤ units.old.left }
     ensures sound { IsTyped sig.now → IsContext sig.now (context_behind [] (tele_of ctx.now)) → IfOk result (λ v. IfYes (verdict_of v) (HasUniverse sig.now (context_behind [] (tele_of ctx.now)) (tree_of t.now))) }
+    ensures sort { IfOk result (λ v. IfYes (verdict_of v) IsSort) }
     ensures scoped { IfOk result (λ v. IsScopedVerdict sig.now (length ctx.now) (verdict_of v)) }
+    ensures low { IfOk result (λ v. IfYes (verdict_of v) (AreBothLow (tree_of t.now))) }
 {
     infer_sort_in(alloc, sig, &Scope::Given(ctx.as_slice()), t, NESTING, units)
 }
@@ -71,11 +75,13 @@ pub fn check(
     requires context { IsScopedTelescope sig.now 0 (tele_of ctx.now) }
     requires term { IsScoped sig.now (length ctx.now) (tree_of t.now) }
     requires wanted { IsScoped sig.now (length ctx.now) (tree_of wanted.now) }
-    requires few { length ctx.now < 2147483648 }
+    requires few { length ctx.now < context_limit }
     ensures answer { Runs verdict_of result units.new.left (check_of sig.now nesting (context_behind [] (tele_of ctx.now)) (tree_of t.now) (tree_of wanted.now) units.old.left) }
     ensures sum { units.new.left + units.new.spent ≡ units.old.left + units.old.spent }
+    ensures spends { units.new.left ≤ units.old.left }
     ensures sound { IsTyped sig.now → IsContext sig.now (context_behind [] (tele_of ctx.now)) → IsType sig.now (context_behind [] (tele_of ctx.now)) (tree_of wanted.now) → IfOk result (λ v. IfYes (verdict_of v) (HasWanted sig.now (context_behind [] (tele_of ctx.now)) (tree_of t.now) (tree_of wanted.now))) }
     ensures scoped { IfOk result (λ v. IsScopedVerdict sig.now (length ctx.now) (verdict_of v)) }
+    ensures low { IfOk result (λ v. IfYes (verdict_of v) (AreBothLow (tree_of t.now))) }
 {
     check_in(
         alloc,

@@ -3,7 +3,8 @@ use Rattle.theory.specs.Telescopes.{context_behind}
 use Rattle.core_terms.specs.Meanings.{tree_of, tele_of}
 use Rattle.kernel_reduce.specs.Reduction.{nesting}
 use Rattle.kernel_check.specs.Checking.{check_of}
-use Rattle.kernel_check.specs.Laws.{HasWanted, IfYes}
+use Rattle.kernel_check.specs.Laws.{AreBothLow, HasWanted, IfYes}
+use Rattle.kernel_check.proofs.AnswerHeights.{check-is_low}
 use Rattle.kernel_check.proofs.Conditions.{can_given, given_context, given_runs, given_term, said, said_scoped}
 use Rattle.kernel_check.proofs.Scoped.{check-scoped}
 use Rattle.kernel_check.proofs.Soundness.{check-is_sound}
@@ -37,3 +38,8 @@ returns-clause-scoped c =
     (check-scoped c.args.sig.now nesting (context_behind [] (tele_of c.args.ctx.now)) (tree_of c.args.t.now) (tree_of c.args.wanted.now) c.args.units.now.left c.requires.signature
     (given_context c.args.sig.now c.args.ctx.now c.requires.context) (given_term c.args.sig.now c.args.ctx.now (tree_of c.args.t.now) c.requires.term)
     (given_term c.args.sig.now c.args.ctx.now (tree_of c.args.wanted.now) c.requires.wanted))
+
+pub returns-clause-low : goal.returns-clause-low
+returns-clause-low c =
+    said (λ v. IfYes v (AreBothLow (tree_of c.args.t.now))) c.check_in.result _ _ (returns-clause-answer c)
+    (check-is_low c.args.sig.now nesting (context_behind [] (tele_of c.args.ctx.now)) (tree_of c.args.t.now) (tree_of c.args.wanted.now) c.args.units.now.left)

@@ -3,7 +3,8 @@ use Rattle.theory.specs.Telescopes.{context_behind}
 use Rattle.core_terms.specs.Meanings.{tree_of, tele_of}
 use Rattle.kernel_reduce.specs.Reduction.{nesting}
 use Rattle.kernel_check.specs.Checking.{infer_sort_of}
-use Rattle.kernel_check.specs.Laws.{HasUniverse, IfYes}
+use Rattle.kernel_check.specs.Laws.{AreBothLow, HasUniverse, IfYes, IsSort}
+use Rattle.kernel_check.proofs.AnswerHeights.{infer_sort-is_low, infer_sort-is_sort}
 use Rattle.kernel_check.proofs.Conditions.{can_given, given_context, given_runs, given_term, said, said_scoped}
 use Rattle.kernel_check.proofs.Scoped.{infer_sort-scoped}
 use Rattle.kernel_check.proofs.Soundness.{infer_sort-is_sound}
@@ -30,3 +31,13 @@ returns-clause-scoped c =
     said_scoped c.args.sig.now c.args.ctx.now c.infer_sort_in.result _ _ (returns-clause-answer c)
     (infer_sort-scoped c.args.sig.now nesting (context_behind [] (tele_of c.args.ctx.now)) (tree_of c.args.t.now) c.args.units.now.left c.requires.signature
     (given_context c.args.sig.now c.args.ctx.now c.requires.context) (given_term c.args.sig.now c.args.ctx.now (tree_of c.args.t.now) c.requires.term))
+
+pub returns-clause-low : goal.returns-clause-low
+returns-clause-low c =
+    said (λ v. IfYes v (AreBothLow (tree_of c.args.t.now))) c.infer_sort_in.result _ _ (returns-clause-answer c)
+    (infer_sort-is_low c.args.sig.now nesting (context_behind [] (tele_of c.args.ctx.now)) (tree_of c.args.t.now) c.args.units.now.left)
+
+pub returns-clause-sort : goal.returns-clause-sort
+returns-clause-sort c =
+    said (λ v. IfYes v IsSort) c.infer_sort_in.result _ _ (returns-clause-answer c)
+    (infer_sort-is_sort c.args.sig.now nesting (context_behind [] (tele_of c.args.ctx.now)) (tree_of c.args.t.now) c.args.units.now.left)
