@@ -1,12 +1,13 @@
 -- A family that gets its constructors: what holds over the signature that has it without them holds over the one that has
 -- it with them. A family without constructors takes part in no iota step, and no instance of its eliminator stands there.
-use Rattle.std.proofs.Common.{◌≡◌, ℕ, List, [], ◌∷◌, length, Some, slice_get, sym, ap, ◌∙◌, subst as transport, inl, inr, arith}
+use Rattle.std.proofs.Common.{◌≡◌, ℕ, List, [], ◌∷◌, length, Some, slice_get, refl, sym, ap, ◌∙◌, subst as transport, inl, inr, arith}
 use Rattle.std.proofs.lemmas.Option.{none-some, slice_get_within}
 use Rattle.theory.specs.Terms.{Term}
 use Rattle.theory.specs.Terms.Term.{Fam}
 use Rattle.theory.specs.Telescopes.{Context, Telescope}
 use Rattle.theory.specs.Families.{Constructor, Family, family_type}
-use Rattle.theory.specs.Signatures.{Signature, Entry, FamilyOf, EliminatorAt, IsEntryAt, TypeOf}
+use Rattle.theory.specs.Prelude.{equality_family}
+use Rattle.theory.specs.Signatures.{Signature, Entry, FamilyOf, EliminatorAt, IsEntryAt, TypeOf, equality}
 use Rattle.theory.specs.Signatures.TypeOf.{constant, family, constructor, eliminator, axiom_k}
 use Rattle.theory.specs.Conversion.{Contracts, Step, Converts, Below}
 use Rattle.theory.specs.Conversion.Contracts.{beta, zeta, delta, iota}
@@ -147,4 +148,7 @@ completed S h f bare cs = record { types = types; contracts = contracts }
       | inl earlier ↦ iota n m number g c ps P ms is qs us (kept n _ earlier) chosen redex method
       | inr (place, e) ↦ absurd (none_of g number c e chosen)
     ]
-    contracts t u (step_k i m on) = step_k i m on
+    contracts t u (step_k i m on identity) = elim (entry_of-pushed S (FamilyOf f) (equality i) _ identity.entry) [
+      | inl earlier ↦ step_k i m on (record { level = identity.level; entry = kept (equality i) _ earlier })
+      | inr (place, e) ↦ absurd (none_of (equality_family i) 0 _ e refl)
+    ]

@@ -37,6 +37,7 @@ use Rattle.family_check.proofs.Outcomes.{Ends, and_next-has, granted-has, if_new
 use Rattle.family_check.proofs.Shapes.{products-of_parts, IsShaped, targets-shaped, arguments-leveled, arguments-targeted, telescope-of, constructor-typed}
 use Rattle.family_check.proofs.Zips.{zip-firsts, zip-seconds}
 use Rattle.family_check.proofs.Completing.{completed, sort-carried, levels-carried}
+use Rattle.family_check.proofs.PreludeEntries.{identity-there}
 use Rattle.family_check.proofs.NewNames.{DifferFrom, new-differ, first-differs, all-distinct}
 
 -- a sort that is granted has a derivation
@@ -348,7 +349,7 @@ instance-keeps S n f m left h at =
     })))
 
 pub axiom_k-keeps : AxiomKKeepsWellFormed
-axiom_k-keeps S i m left h on =
+axiom_k-keeps S i m left h on prelude =
     there-keeps S (position (is_axiom_k i m) S.entries) (enter_instance S (AxiomKAt i m) (nat_lt i top && nat_lt m top) (axiom_k_type i m)) left h (λ absent.
     instance-enters S (AxiomKAt i m) (nat_lt i top && nat_lt m top) (axiom_k_type i m) left h refl (λ fits type.
     let levels = both-true (nat_lt i top) (nat_lt m top) fits in
@@ -356,7 +357,7 @@ axiom_k-keeps S i m left h on =
     let motive_fits = levels.1 in
     axiom_k (record {
       on = on;
-      identity_level = grind (arith, nat_tests);
+      identity = identity-there S i prelude (grind (arith, nat_tests));
       level = grind (arith, nat_tests);
       type = type;
       new = not-found (is_axiom_k i m) S.entries (AxiomKAt i m) absent (both-same i m);
