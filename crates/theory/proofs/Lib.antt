@@ -36,3 +36,4 @@ pub mod Validity
 pub mod Weakening
 pub mod WellFormedness
 pub mod Widening
+pub mod WithoutAxiomK

@@ -34,7 +34,7 @@ family_of (family_entry h) = h
 eliminator_of : {S : Signature} {n m : ℕ} → IsEntry S (EliminatorAt n m) → (f : Family) × IsEliminator S n m f
 eliminator_of (eliminator_entry f h) = (f, h)
 
-axiom_k_of : {S : Signature} {i m : ℕ} → IsEntry S (AxiomKAt i m) → IsAxiomK S i m
+pub axiom_k_of : {S : Signature} {i m : ℕ} → IsEntry S (AxiomKAt i m) → IsAxiomK S i m
 axiom_k_of (axiom_k_entry h) = h
 
 record_in : Family → Entry → Family
