@@ -10,7 +10,7 @@ use Rattle.theory.specs.Signatures.TypeOf.{constant, family, constructor, elimin
 use Rattle.theory.specs.Typing.{Has, HasSort}
 use Rattle.theory.specs.WellFormed.{pushed, first_entries, provisional, IsEntry, IsWellFormed}
 use Rattle.theory.specs.WellFormed.IsWellFormedSoFar.{whole, with_provisional}
-use Rattle.theory.specs.SignatureLaws.{PushIsLonger, PrefixTransitive, PushIsWellFormed, EmptyIsWellFormed, NamesOfPush, FirstEntriesAreWellFormed, SoFarIsTyped}
+use Rattle.theory.specs.SignatureLaws.{PushIsLonger, PrefixReflexive, PrefixTransitive, CutToPrefix, PushIsWellFormed, EmptyIsWellFormed, NamesOfPush, FirstEntriesAreWellFormed, SoFarIsTyped}
 use Rattle.theory.proofs.Lists.{slice_get-pushed, slice_get-take}
 use Rattle.theory.proofs.Widening.{prefix_keeps, has-wider, sort-wider}
 use Rattle.theory.proofs.WellFormedness.{well_formed_typed}
@@ -115,6 +115,17 @@ pub so_far_typed : SoFarIsTyped
 so_far_typed S (whole h) = well_formed_typed S h
 so_far_typed _ (with_provisional S name type h distinct sorted) =
     record { types = provisional-types S name type h sorted; bodies = λ at. provisional-bodies S name type h _ _ _ _ at }
+
+pub prefix_reflexive : PrefixReflexive
+prefix_reflexive S = record { more = []; entries = sym (append-nil S.entries); has_k = refl }
+
+-- a longer signature that is cut to the length of the shorter one
+pub cut_to_prefix : CutToPrefix
+cut_to_prefix S T h =
+    λ i. record {
+      entries = (ap (take (length S.entries)) h.entries ∙ take_at S.entries h.more (length S.entries) refl) i;
+      has_k = h.has_k i;
+    }
 
 -- a prefix of a prefix
 pub prefix_transitive : PrefixTransitive
