@@ -18,6 +18,7 @@ pub mod Products
 pub mod Pushing
 pub mod RecordScopes
 pub mod Renaming
+pub mod Rules
 pub mod ScopedEntries
 pub mod ScopedTerms
 pub mod ScopedTypes

@@ -1,6 +1,6 @@
 -- Without K: no entry is an instance of it, and no term that has a type holds it.
-use Rattle.std.proofs.Common.{◌≡◌, ℕ, false, sym, ◌∙◌, true≢false, subst as transport, inl, inr, arith}
-use Rattle.theory.specs.Terms.{Term, subst}
+use Rattle.std.proofs.Common.{◌≡◌, ℕ, false, sym, ◌∙◌, true≢false, inl, inr, arith}
+use Rattle.theory.specs.Terms.{Term}
 use Rattle.theory.specs.Terms.Term.{Var, Sort, Pi, Lam, App, Let, AxiomK}
 use Rattle.theory.specs.Substitutions.{ups, inst, extend}
 use Rattle.theory.specs.Telescopes.{Context}
@@ -12,7 +12,6 @@ use Rattle.theory.specs.Typing.IsType.{is_sort, has_sort}
 use Rattle.theory.specs.WellFormed.{IsWellFormed}
 use Rattle.theory.specs.WellFormed.IsWellFormedSoFar.{whole, with_provisional}
 use Rattle.theory.specs.AxiomKLaws.{LacksAxiomK, NoAxiomKEntry, NoAxiomKInDerivations}
-use Rattle.theory.proofs.Shifts.{subst-is_extend}
 use Rattle.theory.proofs.WellFormedness.{axiom_k_of}
 use Rattle.theory.proofs.Pushing.{entry_of-pushed, so_far_typed}
 use Rattle.theory.proofs.Validity.{valid}
@@ -51,7 +50,7 @@ lacks-term none (product i j da db) = (lacks-term none da, lacks-term none db)
 lacks-term none (function i j da db dc) = (lacks-term none da, lacks-term none db)
 lacks-term none (application df du) = (lacks-term none df, lacks-term none du)
 lacks-term none (local {t = t} {b = b} i da dt db) =
-    (lacks-term none da, lacks-term none dt, lacks-before (extend Var t) b (transport LacksAxiomK (subst-is_extend b t) (lacks-term none db)))
+    (lacks-term none da, lacks-term none dt, lacks-before (extend Var t) b (lacks-term none db))
 lacks-term none (symbol context type) = lacks-symbol none type
 lacks-term none (below i dt le db) = lacks-term none dt
 lacks-term none (below_sort i dt le) = lacks-term none dt
