@@ -1,7 +1,9 @@
 mod Examples
 pub mod AllOf
 pub mod Bounds
+pub mod Carrying
 pub mod Commuting
+pub mod Completing
 pub mod Congruence
 pub mod FreeInstances
 pub mod FreeVariables
