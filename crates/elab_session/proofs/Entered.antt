@@ -44,7 +44,7 @@ entry-keeps : (S : Signature) (e : Entry) (left : ℕ) → IsReady S → CanEnte
 entry-keeps S (FamilyOf f) left ready can = declare-keeps S (family_shown (length S.entries) f) left ready.well_formed
 entry-keeps S (EliminatorAt n m) left ready can =
     eliminator-has (λ x. IsWellFormed x.signature) S n m (slice_get S.entries n) left (λ f is. instance-keeps S n f m left ready.well_formed is)
-entry-keeps S (AxiomKAt i m) left ready can = axiom_k-keeps S i m left ready.well_formed can
+entry-keeps S (AxiomKAt i m) left ready can = axiom_k-keeps S i m left ready.well_formed can ready.prelude
 entry-keeps S (Definition name type body) left ready can = define-keeps S name type body left ready.well_formed
 
 entry-settles : (S : Signature) (e : Entry) (left : ℕ) → IsReady S → CanEnter S e → Ends (λ x. IsSettled x.signature) (checked_entry S e left)

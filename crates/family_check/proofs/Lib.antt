@@ -1,5 +1,4 @@
 pub mod Answered
-pub mod Completing
 pub mod ConstructorLoops
 pub mod Declaring
 pub mod DomainHeights

@@ -6,20 +6,23 @@ use Rattle.std.proofs.lemmas.Option.{same_Some}
 use Rattle.theory.specs.Terms.{Term, Const, top}
 use Rattle.theory.specs.Families.{Family}
 use Rattle.theory.specs.Prelude.{empty_family, equality_family, unit_family, pair_family, at_levels, prelude}
-use Rattle.theory.specs.Signatures.{Entry, FamilyOf, Definition, Signature, equality}
+use Rattle.theory.specs.Signatures.{Entry, FamilyOf, Definition, Signature, HasIdentity, equality}
 use Rattle.theory.specs.SignatureScopes.{IsConstructorNumber}
 use Rattle.theory.proofs.Lists.{slice_get-longer}
 use Rattle.theory.proofs.PreludeWellFormed.{equality_at}
 use Rattle.kernel_reduce.proofs.ScopedSignatures.{prelude-scoped}
 use Rattle.family_check.specs.Scopes.{HasPrelude, IsSettled}
 
+pub identity-there : (S : Signature) (i : ℕ) → HasPrelude S → i < top → HasIdentity S i
+identity-there S i h low = record {
+  level = low;
+  entry =
+      ap (λ es. slice_get es (equality i)) h.entries
+      ∙ slice_get-longer (prelude S.has_k).entries h.more (equality i) (FamilyOf (equality_family i)) (equality_at top i low);
+}
+
 pub equality-there : (S : Signature) (i : ℕ) → HasPrelude S → i < top → IsConstructorNumber S (equality i) 0
-equality-there S i h low = (
-  equality_family i,
-  ap (λ es. slice_get es (equality i)) h.entries
-      ∙ slice_get-longer (prelude S.has_k).entries h.more (equality i) (FamilyOf (equality_family i)) (equality_at top i low),
-  omega arith,
-)
+equality-there S i h low = (equality_family i, (identity-there S i h low).entry, omega arith)
 
 abbrev IsFamilyEntry : Entry → Type 0
 IsFamilyEntry (FamilyOf f) = Unit {0}

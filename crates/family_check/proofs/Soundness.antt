@@ -18,7 +18,8 @@ use Rattle.theory.specs.WellFormed.IsEntry.{family, eliminator, axiom_k, definit
 use Rattle.theory.proofs.Generation.{parts, telescope_formation, telescope_generation}
 use Rattle.theory.proofs.Pushing.{push_is_longer, push_well_formed, names_of_push}
 use Rattle.theory.proofs.WellFormedness.{well_formed_typed}
-use Rattle.theory.proofs.Widening.{prefix_keeps, sort-wider}
+use Rattle.theory.proofs.Carrying.{sort-carried}
+use Rattle.theory.proofs.Widening.{prefix_carries}
 use Rattle.core_sig.specs.Raw.{RawConstructor, RawFamily, raw_names}
 use Rattle.kernel_reduce.specs.Reduction.{nesting}
 use Rattle.kernel_reduce.proofs.StepLaws.{both-true}
@@ -36,7 +37,7 @@ use Rattle.family_check.specs.Laws.{DeclareKeepsWellFormed, InstanceKeepsWellFor
 use Rattle.family_check.proofs.Outcomes.{Ends, and_next-has, granted-has, if_new-has}
 use Rattle.family_check.proofs.Shapes.{products-of_parts, IsShaped, targets-shaped, arguments-leveled, arguments-targeted, telescope-of, constructor-typed}
 use Rattle.family_check.proofs.Zips.{zip-firsts, zip-seconds}
-use Rattle.family_check.proofs.Completing.{completed, sort-carried, levels-carried}
+use Rattle.family_check.proofs.PreludeEntries.{identity-there}
 use Rattle.family_check.proofs.NewNames.{DifferFrom, new-differ, first-differs, all-distinct}
 
 -- a sort that is granted has a derivation
@@ -234,27 +235,20 @@ record IsDeclared (S : Signature) (raw : RawFamily) (f : Family) : Type 0 where
   pub names : names_of (FamilyOf f) ≡ raw_names raw
   pub formed : IsFamily S f
 
-family-complete : (S : Signature) → IsWellFormed S → (raw : RawFamily) (f : Family) (cs : List Constructor) → IsBare S raw f
+family-complete : (S : Signature) (raw : RawFamily) (f : Family) (cs : List Constructor) → IsBare S raw f
     → AreFormed (pushed S (FamilyOf f)) (length S.entries) f raw.constructors cs → IsDeclared S raw (with_constructors f cs)
-family-complete S h raw f cs b k =
-    let carries = completed S h f b.bare cs in
-    record {
-      names = ap₂ ◌∷◌ b.name k.names;
-      formed = record {
-        level = b.formed.level;
-        type = b.formed.type;
-        indices = b.formed.indices;
-        constructors = λ i d w.
-            let c = k.formed i d w in
-            record {
-              type = sort-carried carries c.type;
-              levels = levels-carried carries c.levels;
-              targets = c.targets;
-              argument_targets = c.argument_targets;
-            };
-        positive = k.positive;
-      };
-    }
+family-complete S raw f cs b k = record {
+  names = ap₂ ◌∷◌ b.name k.names;
+  formed = record {
+    level = b.formed.level;
+    type = b.formed.type;
+    indices = b.formed.indices;
+    constructors =
+        transport (λ T. All (IsConstructor T (length S.entries) (with_constructors f cs)) cs)
+        (ap (λ empty. pushed S (FamilyOf (with_constructors f empty))) b.bare) k.formed;
+    positive = k.positive;
+  };
+}
 
 family-sound : (S : Signature) → IsWellFormed S → (raw : RawFamily) (left : ℕ) → DifferFrom S (raw_names raw)
     → Ends (IsDeclared S raw) (declare_family S raw left)
@@ -264,7 +258,7 @@ family-sound S h raw left new =
     let T = pushed S (FamilyOf f) in
     and_next-has (AreFormed T (length S.entries) f raw.constructors) (IsDeclared S raw) (declare_constructors T (length S.entries) f 0 raw.constructors rest) _
     (constructors-sound T (half-typed f b) (length S.entries) f 0 raw.constructors rest (half-context f b)) (λ cs end k.
-    family-complete S h raw f cs b k))
+    family-complete S raw f cs b k))
   where
     half : (f : Family) → IsBare S raw f → IsWellFormed (pushed S (FamilyOf f))
     half f b = enters S (FamilyOf f) h (family b.formed)
@@ -274,7 +268,7 @@ family-sound S h raw left new =
     half-typed f b = well_formed_typed (pushed S (FamilyOf f)) (half f b)
 
     half-context : (f : Family) → IsBare S raw f → IsContext (pushed S (FamilyOf f)) (context_behind [] f.parameters)
-    half-context f b = (telescope_generation (pushed S (FamilyOf f)) [] f.parameters (products (index_types f) (Sort f.level)) (sort-wider (prefix_keeps (push_is_longer S (FamilyOf f))) b.formed.type)).0
+    half-context f b = (telescope_generation (pushed S (FamilyOf f)) [] f.parameters (products (index_types f) (Sort f.level)) (sort-carried (prefix_carries (push_is_longer S (FamilyOf f))) b.formed.type)).0
 
 pub declare-keeps : DeclareKeepsWellFormed
 declare-keeps S raw left h =
@@ -348,7 +342,7 @@ instance-keeps S n f m left h at =
     })))
 
 pub axiom_k-keeps : AxiomKKeepsWellFormed
-axiom_k-keeps S i m left h on =
+axiom_k-keeps S i m left h on prelude =
     there-keeps S (position (is_axiom_k i m) S.entries) (enter_instance S (AxiomKAt i m) (nat_lt i top && nat_lt m top) (axiom_k_type i m)) left h (λ absent.
     instance-enters S (AxiomKAt i m) (nat_lt i top && nat_lt m top) (axiom_k_type i m) left h refl (λ fits type.
     let levels = both-true (nat_lt i top) (nat_lt m top) fits in
@@ -356,7 +350,7 @@ axiom_k-keeps S i m left h on =
     let motive_fits = levels.1 in
     axiom_k (record {
       on = on;
-      identity_level = grind (arith, nat_tests);
+      identity = identity-there S i prelude (grind (arith, nat_tests));
       level = grind (arith, nat_tests);
       type = type;
       new = not-found (is_axiom_k i m) S.entries (AxiomKAt i m) absent (both-same i m);

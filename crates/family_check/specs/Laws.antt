@@ -25,7 +25,7 @@ InstanceKeepsWellFormed =
 
 abbrev pub AxiomKKeepsWellFormed : Type 0
 AxiomKKeepsWellFormed =
-    (S : Signature) (i m left : ℕ) → IsWellFormed S → IsTrue S.has_k →
+    (S : Signature) (i m left : ℕ) → IsWellFormed S → IsTrue S.has_k → HasPrelude S →
     IfOk (axiom_k_of S i m left).0 (λ e. IsWellFormed e.signature)
 
 abbrev pub DefineKeepsWellFormed : Type 0

@@ -9,11 +9,12 @@ use Rattle.theory.specs.Conversion.{Converts, Below}
 use Rattle.theory.specs.Conversion.Below.{converts}
 use Rattle.theory.specs.Typing.{IsContext, Has, HasSort, IsType}
 use Rattle.theory.specs.Typing.IsContext.{bind}
-use Rattle.theory.specs.Typing.Has.{variable, sort, product, function, application, local, symbol, below, below_sort}
+use Rattle.theory.specs.Typing.Has.{sort, product, function, symbol, below, below_sort}
 use Rattle.theory.specs.Typing.IsType.{is_sort, has_sort}
 use Rattle.theory.specs.WellFormed.{IsTyped}
 use Rattle.theory.proofs.Generation.{parts}
-use Rattle.theory.proofs.Validity.{variable_sort, product_sort, valid}
+use Rattle.theory.proofs.Validity.{product_sort, valid}
+use Rattle.theory.proofs.Rules.{variable-lift, lift-sort, application-subst, local-subst}
 use Rattle.theory.proofs.TermSorts.{sorts_of_term, sorts_of_symbol_type}
 use Rattle.theory.proofs.SortLevels.{sorts_raised, sorts_of_subst}
 use Rattle.core_terms.specs.Answers.{Spent, bounded, and_next, is_low}
@@ -76,7 +77,7 @@ variable-sound : (S : Signature) → IsTyped S → (G : Context) (n : ℕ) (o : 
 unfolding NoClaim
 variable-sound S typed G n (Some a) e ctx =
     typed-splits (HasType S G (Var n)) NoClaim (lift a (n + 1) 0)
-    (has_type typed (variable n ctx e) (levels-of (variable_sort typed n a ctx e).1))
+    (has_type typed (variable-lift n ctx e) (levels-of (lift-sort typed n a ctx e).1))
 variable-sound S typed G n None e ctx = tt
 
 universe-sound : (S : Signature) → IsTyped S → (G : Context) (i : ℕ) → IsContext S G → IfOk (universe_type G i) (Splits (HasType S G (Sort i)) NoClaim)
@@ -177,7 +178,7 @@ apply-sound S typed check h G f u (Pi a b) left ctx hf =
     child-says (HasWanted S G u a) (HasType S G (App f u)) 1 (check G u a left) _
     (h G u a left ctx (domain-type (valid typed hf.derivation))) (λ found end hu.
     typed-splits (HasType S G (App f u)) NoClaim (subst b 0 u)
-    (has_type typed (application hf.derivation hu.derivation) (sorts_of_subst b 0 u (top + 1) hf.levels.1 (levels-of hu.derivation))))
+    (has_type typed (application-subst hf.derivation hu.derivation) (sorts_of_subst b 0 u (top + 1) hf.levels.1 (levels-of hu.derivation))))
 apply-sound S typed check h G f u (Var n) left ctx hf = tt
 apply-sound S typed check h G f u _ left ctx hf = tt
 
@@ -203,7 +204,7 @@ local-sound S typed infer infer_sort check h k l G a t b left ctx =
     child-says (HasUniverse S G a) (HasType S G (Let a t b)) 0 (infer_sort G a left) _ (k G a left ctx) (λ i rest hi.
     child-says (HasWanted S G t a) (HasType S G (Let a t b)) 1 (check G t a rest) _
     (l G t a rest ctx (has_sort hi.level hi.derivation)) (λ found end ht.
-    weaker (λ c hc. record { derivation = local hi.level hi.derivation ht.derivation hc.derivation; is_type = hc.is_type; levels = hc.levels })
+    weaker (λ c hc. record { derivation = local-subst hi.level hi.derivation ht.derivation hc.derivation; is_type = hc.is_type; levels = hc.levels })
     (infer_body infer G (subst b 0 t) end) (body-sound S infer h G (subst b 0 t) end ctx)))
 
 symbol-sound : (S : Signature) → IsTyped S → (G : Context) (s : Term) (o : Option Term) → IfSome o (TypeOf S s) → IsContext S G

@@ -1,11 +1,11 @@
 -- What has a derivation is scoped: each number in it was looked up.
-use Rattle.std.proofs.Common.{ℕ, List, [], ◌∷◌, map, subst as transport}
+use Rattle.std.proofs.Common.{ℕ, List, [], ◌∷◌, map}
 use Rattle.std.proofs.lemmas.List.Elements.{All-nil, All-cons, All-head, All-tail}
 use Rattle.std.proofs.lemmas.Option.{slice_get_within}
 use Rattle.std.specs.List.{All}
-use Rattle.theory.specs.Terms.{Term, subst_var}
+use Rattle.theory.specs.Terms.{Term}
 use Rattle.theory.specs.Terms.Term.{Var, Sort, Pi, Lam, App, Let}
-use Rattle.theory.specs.Substitutions.{weaken, ups, inst}
+use Rattle.theory.specs.Substitutions.{weaken, ups, inst, extend}
 use Rattle.theory.specs.Telescopes.{Context, Telescope, products, applied}
 use Rattle.theory.specs.Families.{recursive_type}
 use Rattle.theory.specs.Signatures.{Signature, TypeOf}
@@ -15,7 +15,6 @@ use Rattle.theory.specs.Typing.{Has}
 use Rattle.theory.specs.Typing.IsContext.{empty, bind}
 use Rattle.theory.specs.Typing.Has.{variable, sort, product, function, application, local, symbol, below, below_sort}
 use Rattle.theory.proofs.Scoping.{term_scoped}
-use Rattle.theory.proofs.Shifts.{subst-is_inst}
 use Rattle.kernel_reduce.specs.SignatureLaws.{TypedTermScoped, TypedContextScoped}
 
 -- an instance keeps the numbers of its term
@@ -44,7 +43,7 @@ derivation-entries (application df du) = (derivation-entries df, derivation-entr
 derivation-entries {S} (local {t = t} {b = b} i da dt db) = (
   derivation-entries da,
   derivation-entries dt,
-  entries-before_inst S (λ v. subst_var v 0 t) b (transport (HasEntries S) (subst-is_inst b 0 t) (derivation-entries db)),
+  entries-before_inst S (extend Var t) b (derivation-entries db),
 )
 derivation-entries (symbol context type) = symbol-entries type
 derivation-entries (below i dt le db) = derivation-entries dt

@@ -10,8 +10,9 @@ use Rattle.theory.specs.Families.{Family, Constructor}
 use Rattle.theory.specs.Eliminators.{iota_right}
 use Rattle.theory.specs.Signatures.{Entry, FamilyOf, EliminatorAt, AxiomKAt, Definition, Signature, IsEntryAt, equality}
 use Rattle.theory.specs.Conversion.{IsIotaRedex, Step}
-use Rattle.theory.specs.Conversion.Contracts.{beta, zeta, delta as delta_step, iota, axiom_k}
+use Rattle.theory.specs.Conversion.Contracts.{delta as delta_step, iota, axiom_k}
 use Rattle.theory.specs.Conversion.Step.{here, function, argument}
+use Rattle.theory.proofs.Rules.{beta-subst, zeta-subst}
 use Rattle.theory.proofs.Spines.{applied-spine}
 use Rattle.kernel_reduce.specs.Entries.{is_constant, body_in, body_at, family_in, family_at}
 use Rattle.kernel_reduce.specs.Identities.{has_k_at}
@@ -189,7 +190,7 @@ elimination-steps S f u inner h =
     (contraction-steps S (head_of f) (spine_of f) (head_of u) (spine_of u) full)))
 
 beta-steps : (S : Signature) (f u : Term) → IfSome (beta_step f u) (Step S (App f u))
-beta-steps S (Lam a b) u = here beta
+beta-steps S (Lam a b) u = here beta-subst
 beta-steps S (Var x) u = tt
 beta-steps S _ u = tt
 
@@ -207,6 +208,6 @@ application-steps S f u None inner h k =
 pub step-steps : (S : Signature) (delta : Bool) (t : Term) → IfSome (step_of S delta t) (Step S t)
 step-steps S delta (App f u) =
     application-steps S f u (step_of S delta f) (step_of S delta u) (step-steps S delta f) (step-steps S delta u)
-step-steps S delta (Let a t b) = here zeta
+step-steps S delta (Let a t b) = here zeta-subst
 step-steps S delta (Const n) = delta-steps S n delta
 step-steps S delta _ = tt

@@ -1,6 +1,6 @@
 -- A well-formed signature is scoped, also with a provisional entry at its end.
 use Rattle.std.proofs.Common.{◌≡◌, ℕ, zero, suc, ◌+◌, ◌<◌, ◌≤◌, Some, List, [], ◌∷◌, ◌++◌, length, map, take, slice_get, inl, inr, refl, sym, ap, ◌∙◌, subst as transport, get_or, arith}
-use Rattle.std.proofs.lemmas.List.{length-take, length-append, take-append-le, take_all}
+use Rattle.std.proofs.lemmas.List.{length-take, length-append}
 use Rattle.std.proofs.lemmas.List.Elements.{All-nil, All-cons, All-head, All-tail}
 use Rattle.std.proofs.lemmas.Option.{none-some, same_Some, slice_get_within}
 use Rattle.std.specs.List.{All}
@@ -17,8 +17,9 @@ use Rattle.theory.specs.WellFormed.{pushed, first_entries, HasLevels, IsConstruc
 use Rattle.theory.specs.WellFormed.HasLevels.{none, more}
 use Rattle.theory.specs.WellFormed.IsEntry.{family as family_entry, eliminator as eliminator_entry, axiom_k as axiom_k_entry, definition as definition_entry}
 use Rattle.theory.specs.WellFormed.IsWellFormedSoFar.{whole, with_provisional}
+use Rattle.theory.proofs.Pushing.{cut_to_prefix, push_is_longer}
 use Rattle.theory.proofs.RecordScopes.{records_scoped}
-use Rattle.theory.proofs.WellFormedness.{well_formed_typed}
+use Rattle.theory.proofs.WellFormedness.{well_formed_typed, constructor-whole}
 use Rattle.kernel_reduce.specs.SignatureLaws.{WellFormedWhole, WellFormedScoped, SoFarScoped}
 use Rattle.kernel_reduce.proofs.DerivationScopes.{entries-before_inst, derivation-entries, typed_term-scoped, products-entries, applied-entries, recursive-entries}
 use Rattle.kernel_reduce.proofs.ScopedSignatures.{pushed-scoped}
@@ -109,7 +110,7 @@ family-scoped S h n f at k =
       constructors =
           transport (λ X. All (IsScopedConstructor X (length f.parameters) (length f.indices)) f.constructors) (through S n (FamilyOf f) at)
           (λ number d low.
-          constructor-scoped (pushed T (FamilyOf f)) (length T.entries) f (get_or f.constructors number d) k.level (closed.constructors number d low) (k.constructors number d low));
+          constructor-scoped (pushed T (FamilyOf f)) (length T.entries) f (get_or f.constructors number d) k.level (closed.constructors number d low) (constructor-whole S h n f _ (k.constructors number d low)));
     }
 
 entry-scoped : (S : Signature) → IsWellFormed S → (n : ℕ) (e : Entry) → IsEntryAt S n e → IsEntry (first_entries S n) e → IsScopedEntry S n e
@@ -135,17 +136,12 @@ well_formed-whole S h n name type body at e =
     let low = slice_get_within (take n S.entries) n _ names.3 in
     omega (arith, length-take n S.entries)
 
-first-all : (S : Signature) (e : Entry) → first_entries (pushed S e) (length S.entries) ≡ S
-first-all S e =
-    ap (λ es. record { entries = es; has_k = S.has_k })
-    (take-append-le (length S.entries) S.entries (e ∷ []) (omega arith) ∙ take_all (length S.entries) S.entries (omega arith))
-
 pub so_far-scoped : SoFarScoped
 so_far-scoped S (whole h) = well_formed-scoped S h
 so_far-scoped _ (with_provisional S name type h distinct sort) =
     let body = Const (length S.entries) in
     let e = Definition name type body in
     pushed-scoped S e (well_formed-scoped S h) (well_formed-whole S h) (
-      transport (λ X. IsScoped X 0 type) (sym (first-all S e)) (typed_term-scoped S [] type _ sort.1),
+      transport (λ X. IsScoped X 0 type) (sym (cut_to_prefix S (pushed S e) (push_is_longer S e))) (typed_term-scoped S [] type _ sort.1),
       inr (record { itself = refl; last = length-append S.entries (e ∷ []) }),
     )

@@ -3,7 +3,7 @@ use Rattle.std.proofs.Common.{ℕ, zero, suc, ◌+◌, ◌<◌, ◌≤◌, List,
 use Rattle.std.proofs.lemmas.List.Elements.{All-nil, All-cons, All-head, All-tail}
 use Rattle.theory.specs.Terms.{Term, free_of}
 use Rattle.theory.specs.Terms.Term.{Var, Pi, Lam, App, Let}
-use Rattle.theory.specs.Substitutions.{up, weaken, inst, ups, extend, fill}
+use Rattle.theory.specs.Substitutions.{up, weaken, inst, ups, extend, put, fill}
 use Rattle.theory.specs.Telescopes.{weaken_by, variables}
 use Rattle.theory.specs.InstanceLaws.{FreeOfRen, FreeOfInst}
 use Rattle.theory.proofs.Bounds.{IsBound}
@@ -83,6 +83,11 @@ pub free_of-extend : (s : ℕ → Term) (u : Term) (k n : ℕ) → ((i : ℕ) �
     → i < k + 1 → free_of (extend s u i) ≤ n
 free_of-extend s u k n each h zero lt = h
 free_of-extend s u k n each h (suc i) lt = each i (omega arith)
+
+-- a term put for the nearest variable
+pub free_of-put : (t u : Term) (n : ℕ) → free_of t ≤ n + 1 → free_of u ≤ n → free_of (put u t) ≤ n
+free_of-put t u n h k =
+    free_of-inst (extend Var u) t (n + 1) n h (free_of-extend Var u n n (λ i lt. omega arith) k)
 
 -- the terms of a list more
 pub free_of-fill : (s : ℕ → Term) (us : List Term) (k n : ℕ) → ((i : ℕ) → i < k → free_of (s i) ≤ n)

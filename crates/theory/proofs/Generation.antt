@@ -1,7 +1,8 @@
 -- Generation: what a derivation is made of, by the form of its term.
 use Rattle.std.proofs.Common.{[], ◌∷◌, max}
-use Rattle.theory.specs.Terms.{Term, subst}
+use Rattle.theory.specs.Terms.{Term}
 use Rattle.theory.specs.Terms.Term.{Var, Sort, Pi, Lam, App, Let, Const, Fam, Con, Elim, AxiomK}
+use Rattle.theory.specs.Substitutions.{put}
 use Rattle.theory.specs.Telescopes.{Context, Telescope, context_behind}
 use Rattle.theory.specs.Signatures.{Signature, TypeOf}
 use Rattle.theory.specs.Signatures.TypeOf.{constant, family, constructor, eliminator, axiom_k}
@@ -47,7 +48,7 @@ raise (App f u) le carry p = record {
   order = trans p.order le;
 }
 raise (Let a t b) le carry p =
-    record { level = p.level; declared = p.declared; value = p.value; body = carry (subst b 0 t) p.body }
+    record { level = p.level; declared = p.declared; value = p.value; body = carry (put t b) p.body }
 raise (Const c) le carry p = record { given = p.given; type_of = p.type_of; order = trans p.order le }
 raise (Fam f) le carry p = record { given = p.given; type_of = p.type_of; order = trans p.order le }
 raise (Con f c) le carry p = record { given = p.given; type_of = p.type_of; order = trans p.order le }

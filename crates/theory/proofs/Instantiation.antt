@@ -2,14 +2,13 @@
 use Rattle.std.proofs.Common.{◌≡◌, ℕ, zero, suc, ◌+◌, ◌<◌, ◌≤◌, List, [], ◌∷◌, ◌++◌, map, length, refl, ap, ap₂, sym, ◌∙◌, arith}
 use Rattle.std.proofs.lemmas.List.{map-append}
 use mathlib.Core.Path.{fun_ext}
-use Rattle.theory.specs.Terms.{Term, subst, free_of, IsClosed}
+use Rattle.theory.specs.Terms.{Term, free_of, IsClosed}
 use Rattle.theory.specs.Terms.Term.{Var, Pi, Lam, App, Let, Elim}
-use Rattle.theory.specs.Substitutions.{inst, ups, weaken, extend, fill}
+use Rattle.theory.specs.Substitutions.{inst, ups, weaken, extend, put, fill}
 use Rattle.theory.specs.Telescopes.{Telescope, products, applied, arrows, inst_telescope}
 use Rattle.theory.specs.Families.{Argument, Plain, Recursive}
 use Rattle.theory.specs.Eliminators.{hypothesis, hypotheses, iota_right, no_variable}
 use Rattle.theory.proofs.Instances.{ap₃, inst-same, inst-var, inst-ren, ren-inst, inst-inst, ups-ups}
-use Rattle.theory.proofs.Shifts.{subst-is_extend}
 
 ups-fixes : (s : ℕ → Term) (n : ℕ) → ((i : ℕ) → i < n → s i ≡ Var i) → (i : ℕ) → i < n + 1 → ups s i ≡ Var i
 ups-fixes s n fixes zero lt = refl
@@ -42,20 +41,17 @@ extend-ups s u zero = refl
 extend-ups s u (suc n) = inst-ren (extend Var u) suc (s n) ∙ inst-var (s n)
 
 -- a term for the nearest variable behind an instantiation under a binder
-pub subst-ups : (s : ℕ → Term) (b u : Term) → subst (inst (ups s) b) 0 u ≡ inst (extend s u) b
-subst-ups s b u =
-    subst-is_extend (inst (ups s) b) u ∙ (inst-inst (extend Var u) (ups s) b ∙ inst-same b (extend-ups s u))
+put-ups : (s : ℕ → Term) (b u : Term) → put u (inst (ups s) b) ≡ inst (extend s u) b
+put-ups s b u = inst-inst (extend Var u) (ups s) b ∙ inst-same b (extend-ups s u)
 
 -- an instantiation passes one term more
 pub inst-extend : (p s : ℕ → Term) (u : Term) (n : ℕ) → inst p (extend s u n) ≡ extend (λ m. inst p (s m)) (inst p u) n
 inst-extend p s u zero = refl
 inst-extend p s u (suc n) = refl
 
--- an instantiation passes a substitution for the nearest variable
-pub inst-subst : (s : ℕ → Term) (b u : Term) → inst s (subst b 0 u) ≡ subst (inst (ups s) b) 0 (inst s u)
-inst-subst s b u =
-    ap (inst s) (subst-is_extend b u)
-    ∙ (inst-inst s (extend Var u) b ∙ (inst-same b (inst-extend s Var u) ∙ sym (subst-ups s b (inst s u))))
+-- an instantiation passes a term put for the nearest variable
+pub inst-put : (s : ℕ → Term) (b u : Term) → inst s (put u b) ≡ put (inst s u) (inst (ups s) b)
+inst-put s b u = inst-inst s (extend Var u) b ∙ (inst-same b (inst-extend s Var u) ∙ sym (put-ups s b (inst s u)))
 
 -- an instantiation passes a spine
 pub inst-applied : (s : ℕ → Term) (head : Term) (spine : List Term)

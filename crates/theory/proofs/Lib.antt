@@ -1,7 +1,9 @@
 mod Examples
 pub mod AllOf
 pub mod Bounds
+pub mod Carrying
 pub mod Commuting
+pub mod Completing
 pub mod Congruence
 pub mod FreeInstances
 pub mod FreeVariables
@@ -18,6 +20,7 @@ pub mod Products
 pub mod Pushing
 pub mod RecordScopes
 pub mod Renaming
+pub mod Rules
 pub mod ScopedEntries
 pub mod ScopedTerms
 pub mod ScopedTypes
@@ -36,3 +39,4 @@ pub mod Validity
 pub mod Weakening
 pub mod WellFormedness
 pub mod Widening
+pub mod WithoutAxiomK

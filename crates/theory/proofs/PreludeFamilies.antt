@@ -3,7 +3,7 @@ use Rattle.std.proofs.Common.{ℕ, ◌+◌, ◌<◌, length, refl, lit<, le_refl
 use Rattle.std.proofs.lemmas.List.Elements.{All-nil}
 use Rattle.theory.specs.Terms.{Var, Fam, top}
 use Rattle.theory.specs.Telescopes.{Context}
-use Rattle.theory.specs.Families.{Plain, Family, Lacks, IsPositiveArgument, IsPositiveConstructor, family_type}
+use Rattle.theory.specs.Families.{Plain, Family, Lacks, IsPositiveArgument, IsPositiveConstructor, family_type, without_constructors}
 use Rattle.theory.specs.Signatures.{Signature, FamilyOf, family}
 use Rattle.theory.specs.Typing.{Has, IsContext, empty, bind, variable, sort, application, symbol}
 use Rattle.theory.specs.WellFormed.{pushed, IsFamily, IsConstructor, HasTargets, none, more}
@@ -12,9 +12,9 @@ use Rattle.theory.proofs.Lists.{slice_get-last, only, both}
 use Rattle.theory.proofs.Products.{pi}
 
 -- the family that was just declared is a symbol of the signature
-pub new_family : (S : Signature) (f : Family) {G : Context} → IsContext (pushed S (FamilyOf f)) G
-    → Has (pushed S (FamilyOf f)) G (Fam (length S.entries)) (family_type f)
-new_family S f c = symbol c (family (length S.entries) (slice_get-last S.entries (FamilyOf f)))
+pub new_family : (S : Signature) (f : Family) {G : Context} → IsContext (pushed S (FamilyOf (without_constructors f))) G
+    → Has (pushed S (FamilyOf (without_constructors f))) G (Fam (length S.entries)) (family_type f)
+new_family S f c = symbol c (family (length S.entries) (slice_get-last S.entries (FamilyOf (without_constructors f))))
 
 pub empty_is_family : (S : Signature) → IsFamily S empty_family
 empty_is_family S = record {
@@ -33,7 +33,7 @@ equality_is_family S i h = record {
       let c1 = bind (i + 1) empty (sort i empty h) in
       let c2 = bind i c1 (variable 0 c1 refl) in
       more (variable 1 c2 refl) (le_refl i) none;
-  constructors = only (IsConstructor (pushed S (FamilyOf (equality_family i))) (length S.entries) (equality_family i)) _ (record {
+  constructors = only (IsConstructor (pushed S (FamilyOf (without_constructors (equality_family i)))) (length S.entries) (equality_family i)) _ (record {
     type = (
       _,
       pi (i + 1) _ empty (sort i empty h) λ c1. pi i i c1 (variable 0 c1 refl) λ c2.
@@ -51,7 +51,7 @@ unit_is_family S i h = record {
   level = h;
   type = (i + 1, sort i empty h);
   indices = none;
-  constructors = only (IsConstructor (pushed S (FamilyOf (unit_family i))) (length S.entries) (unit_family i)) _ (record {
+  constructors = only (IsConstructor (pushed S (FamilyOf (without_constructors (unit_family i)))) (length S.entries) (unit_family i)) _ (record {
     type = (i, new_family S (unit_family i) empty);
     levels = none;
     targets = refl;
@@ -65,7 +65,7 @@ pair_is_family S i h = record {
   level = h;
   type = (_, pi (i + 1) _ empty (sort i empty h) λ c1. pi (i + 1) (i + 1) c1 (sort i c1 h) λ c2. sort i c2 h);
   indices = none;
-  constructors = only (IsConstructor (pushed S (FamilyOf (pair_family i))) (length S.entries) (pair_family i)) _ (record {
+  constructors = only (IsConstructor (pushed S (FamilyOf (without_constructors (pair_family i)))) (length S.entries) (pair_family i)) _ (record {
     type = (
       _,
       pi (i + 1) _ empty (sort i empty h) λ c1. pi (i + 1) _ c1 (sort i c1 h) λ c2. pi i _ c2 (variable 1 c2 refl) λ c3.

@@ -10,9 +10,10 @@ use Rattle.theory.specs.Signatures.TypeOf.{constant, family, constructor, elimin
 use Rattle.theory.specs.Typing.{Has, HasSort}
 use Rattle.theory.specs.WellFormed.{pushed, first_entries, provisional, IsEntry, IsWellFormed}
 use Rattle.theory.specs.WellFormed.IsWellFormedSoFar.{whole, with_provisional}
-use Rattle.theory.specs.SignatureLaws.{PushIsLonger, PrefixTransitive, PushIsWellFormed, EmptyIsWellFormed, NamesOfPush, FirstEntriesAreWellFormed, SoFarIsTyped}
+use Rattle.theory.specs.SignatureLaws.{PushIsLonger, PrefixReflexive, PrefixTransitive, CutToPrefix, PushIsWellFormed, EmptyIsWellFormed, NamesOfPush, FirstEntriesAreWellFormed, SoFarIsTyped}
 use Rattle.theory.proofs.Lists.{slice_get-pushed, slice_get-take}
-use Rattle.theory.proofs.Widening.{prefix_keeps, has-wider, sort-wider}
+use Rattle.theory.proofs.Widening.{prefix_carries}
+use Rattle.theory.proofs.Carrying.{has-carried, sort-carried}
 use Rattle.theory.proofs.WellFormedness.{well_formed_typed}
 
 -- a signature is a prefix of what is pushed on it
@@ -75,8 +76,8 @@ body_in t _ = t
 provisional-types : (S : Signature) (name : List ℕ) (type : Term) → IsWellFormed S → HasSort S [] type → {t a : Term} → TypeOf (provisional S name type) t a → HasSort (provisional S name type) [] a
 unfolding is_definition type_in
 provisional-types S name type h sorted of = elim (split of) [
-  | inl old ↦ sort-wider (prefix_keeps into) ((well_formed_typed S h).types old)
-  | inr same ↦ transport (HasSort (provisional S name type) []) same (sort-wider (prefix_keeps into) sorted)
+  | inl old ↦ sort-carried (prefix_carries into) ((well_formed_typed S h).types old)
+  | inr same ↦ transport (HasSort (provisional S name type) []) same (sort-carried (prefix_carries into) sorted)
 ]
   where
     own : Term
@@ -102,7 +103,7 @@ provisional-bodies S name type h n name' type' body at =
     elim (entry_of-pushed S (Definition name type own) n (Definition name' type' body) at) [
       | inl before ↦ elim ((well_formed_typed S h).bodies before) [
         | inl same ↦ inl same
-        | inr d ↦ inr (has-wider (prefix_keeps (push_is_longer S (Definition name type own))) d)
+        | inr d ↦ inr (has-carried (prefix_carries (push_is_longer S (Definition name type own))) d)
       ]
       | inr (place, same) ↦ inl (sym (ap (body_in body) same) ∙ ap Const (sym place))
     ]
@@ -115,6 +116,17 @@ pub so_far_typed : SoFarIsTyped
 so_far_typed S (whole h) = well_formed_typed S h
 so_far_typed _ (with_provisional S name type h distinct sorted) =
     record { types = provisional-types S name type h sorted; bodies = λ at. provisional-bodies S name type h _ _ _ _ at }
+
+pub prefix_reflexive : PrefixReflexive
+prefix_reflexive S = record { more = []; entries = sym (append-nil S.entries); has_k = refl }
+
+-- a longer signature that is cut to the length of the shorter one
+pub cut_to_prefix : CutToPrefix
+cut_to_prefix S T h =
+    λ i. record {
+      entries = (ap (take (length S.entries)) h.entries ∙ take_at S.entries h.more (length S.entries) refl) i;
+      has_k = h.has_k i;
+    }
 
 -- a prefix of a prefix
 pub prefix_transitive : PrefixTransitive

@@ -15,17 +15,13 @@ use Rattle.theory.specs.Signatures.TypeOf.{constant, family, constructor, elimin
 use Rattle.theory.specs.WellFormed.{first_entries}
 use Rattle.theory.specs.SignatureScopes.{IsFamilyNumber, IsConstructorNumber, IsScoped, IsScopedTelescope, IsScopedArguments, IsScopedConstructor, IsScopedFamily, IsProvisional, IsScopedSignature}
 use Rattle.theory.specs.SignatureScopeLaws.{TypesScoped, BodiesScoped, IotaScoped}
-use Rattle.theory.proofs.ScopedTerms.{entries-of_first, pi-scoped, lam-scoped, app-scoped, var-scoped, sort-scoped, scoped_over_more, scoped_over_all, ren-scoped, weaken-scoped, ups-scoped, inst-scoped, applied-scoped}
+use Rattle.theory.proofs.ScopedTerms.{first-numbers, telescope-wider, pi-scoped, lam-scoped, app-scoped, var-scoped, sort-scoped, scoped_over_more, scoped_over_all, ren-scoped, weaken-scoped, ups-scoped, inst-scoped, applied-scoped}
 
 -- s has a scoped term over m variables for each of n variables
 Covers : Signature → (ℕ → Term) → ℕ → ℕ → Type 0
 Covers S s n m = (v : ℕ) → v < n → IsScoped S m (s v)
 
 -- from the first entries to all
-
-telescope-over_all : (S : Signature) (count n : ℕ) (tele : Telescope) → IsScopedTelescope (first_entries S count) n tele → IsScopedTelescope S n tele
-telescope-over_all S count n [] h = tt
-telescope-over_all S count n (a ∷ tele) h = (scoped_over_all S count n a h.0, telescope-over_all S count (n + 1) tele h.1)
 
 terms-over_all : (S : Signature) (count n : ℕ) (us : List Term) → All (IsScoped (first_entries S count) n) us → All (IsScoped S n) us
 terms-over_all S count n us h = All-weaker (IsScoped (first_entries S count) n) (IsScoped S n) (λ t. scoped_over_all S count n t) us h
@@ -35,7 +31,7 @@ arguments-over_all S count n [] h = tt
 arguments-over_all S count n (Plain type level ∷ arguments) h =
     ((scoped_over_all S count n type h.0.0, h.0.1), arguments-over_all S count (n + 1) arguments h.1)
 arguments-over_all S count n (Recursive inner targets level ∷ arguments) h = (
-  (telescope-over_all S count n inner h.0.0, terms-over_all S count (n + length inner) targets h.0.1, h.0.2),
+  (telescope-wider (first-numbers S count) n inner h.0.0, terms-over_all S count (n + length inner) targets h.0.1, h.0.2),
   arguments-over_all S count (n + 1) arguments h.1,
 )
 
@@ -232,8 +228,8 @@ family-parts S n f scoped at =
     let h : IsScopedFamily S n f = scoped n (FamilyOf f) at in
     record {
       at = at;
-      parameters = telescope-over_all S n 0 f.parameters h.parameters;
-      indices = telescope-over_all S n (length f.parameters) (index_types f) h.indices;
+      parameters = telescope-wider (first-numbers S n) 0 f.parameters h.parameters;
+      indices = telescope-wider (first-numbers S n) (length f.parameters) (index_types f) h.indices;
       constructors =
           All-weaker (IsScopedConstructor (first_entries S (n + 1)) (length f.parameters) (length f.indices))
           (IsScopedConstructor S (length f.parameters) (length f.indices))
@@ -314,7 +310,7 @@ eliminator_type-scoped S n m f h =
     (omega arith)
 
 constructor-of_first : (S : Signature) (count n c : ℕ) → IsConstructorNumber (first_entries S count) n c → IsConstructorNumber S n c
-constructor-of_first S count n c h = entries-of_first S count (Con n c) h
+constructor-of_first S count n c h = (first-numbers S count).constructors n c h
 
 axiom_k_type-scoped : (S : Signature) (i m : ℕ) → IsConstructorNumber S (equality i) 0 → IsScoped S 0 (axiom_k_type i m)
 axiom_k_type-scoped S i m con =

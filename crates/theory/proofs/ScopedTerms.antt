@@ -1,5 +1,5 @@
 -- Renaming and instantiation keep terms scoped, and so do more variables and more entries.
-use Rattle.std.proofs.Common.{◌≡◌, ℕ, zero, suc, ◌+◌, ◌<◌, ◌⊎◌, inl, inr, Some, List, [], ◌∷◌, length, take, slice_get, refl, sym, subst as transport, arith}
+use Rattle.std.proofs.Common.{◌≡◌, ℕ, zero, suc, ◌+◌, ◌<◌, ◌⊎◌, inl, inr, List, [], ◌∷◌, length, refl, sym, subst as transport, arith}
 use Rattle.std.proofs.lemmas.List.Elements.{All-nil, All-cons, All-head, All-tail, All-append}
 use Rattle.std.specs.List.{All}
 use Rattle.theory.specs.Terms.{Term, lift_var, subst_var, free_of}
@@ -9,9 +9,11 @@ use Rattle.theory.specs.Telescopes.{Context, Telescope, applied, context_behind}
 use Rattle.theory.specs.Spines.{head_of, spine_of}
 use Rattle.theory.specs.Signatures.{Signature}
 use Rattle.theory.specs.WellFormed.{first_entries}
-use Rattle.theory.specs.SignatureScopes.{HasEntries, IsScoped, IsScopedTelescope, IsScopedContext}
+use Rattle.theory.specs.SignatureScopes.{IsConstantNumber, IsFamilyNumber, IsConstructorNumber, HasEntries, IsScoped, IsScopedTelescope, IsScopedContext}
 use Rattle.theory.specs.SignatureScopeLaws.{ScopedOverMore, ScopedOverAll, RenScoped, InstScoped, LiftScoped, SubstScoped, ContextScoped}
 use Rattle.theory.proofs.Shifts.{compare, lift_var-tells, subst_var-below, subst_var-at, subst_var-above, lift-is_ren, subst-is_inst}
+use Rattle.theory.proofs.Widening.{Keeps, prefix_keeps}
+use Rattle.theory.proofs.WellFormedness.{first_is_prefix}
 
 -- the parts of a scoped term
 pub scoped-pi : {S : Signature} {n : ℕ} {a b : Term} → IsScoped S n (Pi a b) → IsScoped S n a × IsScoped S (n + 1) b
@@ -119,29 +121,48 @@ subst-scoped S n at t u low h k =
     each v below (inr (inl eq)) = transport (IsScoped S n) (sym (subst_var-at v at u eq)) k
     each v below (inr (inr gt)) = transport (IsScoped S n) (sym (subst_var-above v at u gt)) (var-scoped (omega arith))
 
--- an entry of the first ones is one of all
-taken-at : {X : Type 0} (xs : List X) (count n : ℕ) (x : X) → slice_get (take count xs) n ≡ Some x → slice_get xs n ≡ Some x
-taken-at [] zero n x e = e
-taken-at [] (suc count) n x e = e
-taken-at (y ∷ xs) zero n x e = absurd (grind arith)
-taken-at (y ∷ xs) (suc count) zero x e = e
-taken-at (y ∷ xs) (suc count) (suc n) x e = taken-at xs count n x e
+-- T has a definition, a family and a constructor at each number that has one in S
+pub record HasNumbers (S T : Signature) : Type 0 where
+  pub constants : (n : ℕ) → IsConstantNumber S n → IsConstantNumber T n
+  pub families : (n : ℕ) → IsFamilyNumber S n → IsFamilyNumber T n
+  pub constructors : (n c : ℕ) → IsConstructorNumber S n c → IsConstructorNumber T n c
 
-pub entries-of_first : (S : Signature) (count : ℕ) (t : Term) → HasEntries (first_entries S count) t → HasEntries S t
-entries-of_first S count (Pi a b) h = (entries-of_first S count a h.0, entries-of_first S count b h.1)
-entries-of_first S count (Lam a b) h = (entries-of_first S count a h.0, entries-of_first S count b h.1)
-entries-of_first S count (App f a) h = (entries-of_first S count f h.0, entries-of_first S count a h.1)
-entries-of_first S count (Let a t b) h =
-    (entries-of_first S count a h.0, entries-of_first S count t h.1, entries-of_first S count b h.2)
-entries-of_first S count (Const n) h = (h.0, h.1, h.2, taken-at S.entries count n _ h.3)
-entries-of_first S count (Fam n) h = (h.0, taken-at S.entries count n _ h.1)
-entries-of_first S count (Con n c) h = (h.0, taken-at S.entries count n _ h.1, h.2)
-entries-of_first S count (Elim n m) h = (h.0, taken-at S.entries count n _ h.1)
-entries-of_first S count (Var n) h = tt
-entries-of_first S count _ h = tt
+pub keeps-numbers : {S T : Signature} → Keeps S T → HasNumbers S T
+keeps-numbers h = record {
+  constants = λ n (name, type, body, at). (name, type, body, h.entry n _ at);
+  families = λ n (f, at). (f, h.entry n _ at);
+  constructors = λ n c (f, at, low). (f, h.entry n _ at, low);
+}
+
+entries-wider : {S T : Signature} → HasNumbers S T → (t : Term) → HasEntries S t → HasEntries T t
+entries-wider m (Pi a b) h = (entries-wider m a h.0, entries-wider m b h.1)
+entries-wider m (Lam a b) h = (entries-wider m a h.0, entries-wider m b h.1)
+entries-wider m (App f a) h = (entries-wider m f h.0, entries-wider m a h.1)
+entries-wider m (Let a t b) h = (entries-wider m a h.0, entries-wider m t h.1, entries-wider m b h.2)
+entries-wider m (Const n) h = m.constants n h
+entries-wider m (Fam n) h = m.families n h
+entries-wider m (Con n c) h = m.constructors n c h
+entries-wider m (Elim n l) h = m.families n h
+entries-wider m (Var n) h = tt
+entries-wider m _ h = tt
+
+-- what is scoped over S is scoped over T
+pub scoped-wider : {S T : Signature} → HasNumbers S T → {n : ℕ} {t : Term} → IsScoped S n t → IsScoped T n t
+scoped-wider m {n} {t} h = record { variables = h.variables; entries = entries-wider m t h.entries }
+
+pub telescope-wider : {S T : Signature} → HasNumbers S T → (n : ℕ) (tele : Telescope) → IsScopedTelescope S n tele → IsScopedTelescope T n tele
+telescope-wider m n [] h = tt
+telescope-wider m n (a ∷ tele) h = (scoped-wider m h.0, telescope-wider m (n + 1) tele h.1)
+
+pub scoped_context-wider : {S T : Signature} → HasNumbers S T → (G : Context) → IsScopedContext S G → IsScopedContext T G
+scoped_context-wider m [] h = tt
+scoped_context-wider m (a ∷ G) h = (scoped-wider m h.0, scoped_context-wider m G h.1)
+
+pub first-numbers : (S : Signature) (count : ℕ) → HasNumbers (first_entries S count) S
+first-numbers S count = keeps-numbers (prefix_keeps (first_is_prefix S count))
 
 pub scoped_over_all : ScopedOverAll
-scoped_over_all S count n t h = record { variables = h.variables; entries = entries-of_first S count t h.entries }
+scoped_over_all S count n t h = scoped-wider (first-numbers S count) h
 
 -- a head applied to arguments
 pub applied-scoped : (S : Signature) (n : ℕ) (h : Term) (us : List Term) → IsScoped S n h → All (IsScoped S n) us → IsScoped S n (applied h us)

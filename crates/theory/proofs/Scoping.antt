@@ -1,8 +1,8 @@
 -- The context of a derivation is well formed, and its term and type are scoped in it.
-use Rattle.std.proofs.Common.{◌≡◌, ℕ, ◌+◌, ◌-◌, ◌≤◌, zero, suc, Some, slice_get, inl, inr, length, refl, ap, arith}
+use Rattle.std.proofs.Common.{◌≡◌, ℕ, ◌+◌, ◌-◌, ◌≤◌, zero, suc, Some, slice_get, inl, inr, length, refl, ap, subst as transport, arith}
 use Rattle.std.proofs.lemmas.Option.{slice_get_within, none-some}
 use Rattle.std.proofs.lemmas.Bool.Decides.{nat_tests}
-use Rattle.theory.specs.Terms.{Term, lift, free_of, IsClosed}
+use Rattle.theory.specs.Terms.{Term, free_of, IsClosed}
 use Rattle.theory.specs.Telescopes.{Context}
 use Rattle.theory.specs.Signatures.{Signature, TypeOf, HasClosedBodies}
 use Rattle.theory.specs.Signatures.TypeOf.{constant, family, constructor, eliminator, axiom_k}
@@ -11,7 +11,9 @@ use Rattle.theory.specs.Typing.IsContext.{empty, bind}
 use Rattle.theory.specs.Typing.Has.{variable, sort, product, function, application, local, symbol, below, below_sort}
 use Rattle.theory.specs.WellFormed.{IsTyped}
 use Rattle.theory.proofs.Lists.{some_is}
-use Rattle.theory.proofs.FreeVariables.{free_before_subst, free_of-subst, free_of-lift}
+use Rattle.theory.proofs.FreeVariables.{free_before_subst}
+use Rattle.theory.proofs.FreeInstances.{free_of-weaken_by, free_of-put}
+use Rattle.theory.proofs.Shifts.{put-is_subst}
 
 -- a derivation stands in a context
 pub context_of : {S : Signature} {G : Context} {t a : Term} → Has S G t a → IsContext S G
@@ -43,14 +45,11 @@ term_scoped (application df du) = let hf = term_scoped df in let hu = term_scope
 term_scoped {G = G} (local {t = t} {b = b} i da dt db) =
     let ha = term_scoped da in
     let ht = term_scoped dt in
-    let hb = free_before_subst b 0 t (length G) (omega arith) (term_scoped db) in
+    let hb = free_before_subst b 0 t (length G) (omega arith) (transport (λ x. free_of x ≤ length G) (put-is_subst t b) (term_scoped db)) in
     omega arith
 term_scoped (symbol context type) = let h = symbol_closed type in omega arith
 term_scoped (below i dt le db) = term_scoped dt
 term_scoped (below_sort i dt le) = term_scoped dt
-
-raised-closed : (a : Term) (m n : ℕ) → free_of a ≤ n → free_of (lift a m 0) ≤ n + m
-raised-closed a m n h = let e = free_of-lift a m 0 in grind (arith, nat_tests)
 
 -- a type of a context is scoped in what is behind it
 pub context_scoped : {S : Signature} {G : Context} (n : ℕ) {a : Term} → IsContext S G → slice_get G n ≡ Some a → free_of a + n + 1 ≤ length G
@@ -66,7 +65,7 @@ context_scoped (suc n) (bind i context da) at = let h = context_scoped n context
 pub type_scoped : {S : Signature} {G : Context} {t a : Term} → IsTyped S → Has S G t a → free_of a ≤ length G
 type_scoped {G = G} typed (variable {a = a} n context at) =
     let h = context_scoped n context at in
-    let k = raised-closed a (n + 1) (length G - (n + 1)) (omega arith) in
+    let k = free_of-weaken_by (n + 1) a (length G - (n + 1)) (omega arith) in
     omega arith
 type_scoped typed (sort i context limit) = omega arith
 type_scoped typed (product i j da db) = omega arith
@@ -74,7 +73,7 @@ type_scoped typed (function i j da db dc) = let ha = term_scoped da in let hc = 
 type_scoped {G = G} typed (application {u = u} {b = b} df du) =
     let hf = type_scoped typed df in
     let hu = term_scoped du in
-    free_of-subst b 0 u (length G) (omega arith) (omega arith) hu
+    free_of-put b u (length G) (omega arith) hu
 type_scoped typed (local i da dt db) = type_scoped typed db
 type_scoped typed (symbol context type) = let (i, d) = typed.types type in let h = term_scoped d in omega arith
 type_scoped typed (below i dt le db) = term_scoped db

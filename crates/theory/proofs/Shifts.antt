@@ -3,7 +3,8 @@ use Rattle.std.proofs.Common.{◌≡◌, ℕ, zero, suc, ◌+◌, ◌-◌, ◌<�
 use Rattle.std.proofs.lemmas.Bool.Decides.{nat_tests}
 use Rattle.theory.specs.Terms.{Term, lift, lift_var, subst, subst_var}
 use Rattle.theory.specs.Terms.Term.{Var, Pi, Lam, App, Let}
-use Rattle.theory.specs.Substitutions.{ren, up, inst, ups, extend}
+use Rattle.theory.specs.Substitutions.{ren, up, inst, ups, extend, put}
+use Rattle.theory.specs.Telescopes.{weaken_by}
 use Rattle.theory.specs.TermLaws.{LiftIsRen, LiftIsWeaken, SubstIsInst, SubstIsExtend}
 use Rattle.theory.proofs.Instances.{ren-same, inst-same, inst-inst, ren-is_inst, ap₃}
 
@@ -86,6 +87,13 @@ extend-put u (suc n) = subst_var-above (suc n) 0 u (omega arith) ∙ ap Var (ome
 -- substitution for the nearest variable
 pub subst-is_extend : SubstIsExtend
 subst-is_extend t u = subst-is_inst t 0 u ∙ inst-same t (extend-put u)
+
+pub put-is_subst : (u t : Term) → put u t ≡ subst t 0 u
+put-is_subst u t = sym (subst-is_extend t u)
+
+-- going binders further in is lifting everything
+pub weaken_by-is_lift : (k : ℕ) (t : Term) → weaken_by k t ≡ lift t k 0
+weaken_by-is_lift k t = ren-same t (λ n. sym (lift_var-above n k 0 (omega arith))) ∙ sym (lift-is_ren t k 0)
 
 -- lifting instantiates each variable by a variable
 pub lift-is_inst : (t : Term) (by from : ℕ) → lift t by from ≡ inst (λ n. Var (lift_var n by from)) t

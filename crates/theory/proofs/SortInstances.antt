@@ -3,7 +3,7 @@ use Rattle.std.proofs.Common.{ℕ, zero, suc, ◌<◌, List, [], ◌∷◌, map,
 use Rattle.std.proofs.lemmas.List.Elements.{All-nil, All-cons, All-head, All-tail}
 use Rattle.theory.specs.Terms.{Term, SortsBelow}
 use Rattle.theory.specs.Terms.Term.{Var, Sort, Pi, Lam, App, Let}
-use Rattle.theory.specs.Substitutions.{ren, up, weaken, inst, ups}
+use Rattle.theory.specs.Substitutions.{ren, up, weaken, inst, ups, extend, put}
 use Rattle.theory.specs.Telescopes.{Telescope, products}
 use Rattle.theory.specs.Families.{Argument, Plain, Recursive, Constructor, Family, argument_type, argument_types, recursive_type, constructor_type, family_head}
 use Rattle.theory.specs.InstanceLaws.{SortsOfRen, SortsOfInst, SortsBeforeInst}
@@ -36,7 +36,15 @@ sorts_of_inst s (Let a t b) n h each =
     (sorts_of_inst s a n h.0 each, sorts_of_inst s t n h.1 each, sorts_of_inst (ups s) b n h.2 (sorts_of_ups s n each))
 sorts_of_inst s _ n h each = tt
 
--- and drops none
+-- a term put for the nearest variable
+pub sorts_of_put : (t u : Term) (n : ℕ) → SortsBelow n t → SortsBelow n u → SortsBelow n (put u t)
+sorts_of_put t u n h k = sorts_of_inst (extend Var u) t n h each
+  where
+    each : (i : ℕ) → SortsBelow n (extend Var u i)
+    each zero = k
+    each (suc i) = tt
+
+-- an instantiation drops no sorts
 pub sorts_before_inst : SortsBeforeInst
 sorts_before_inst s (Sort i) n h = h
 sorts_before_inst s (Pi a b) n h = (sorts_before_inst s a n h.0, sorts_before_inst (ups s) b n h.1)

@@ -14,7 +14,7 @@ use Rattle.theory.specs.Conversion.Step.{here, domain, codomain, annotation, bod
 use Rattle.theory.specs.Conversion.Converts.{same, forwards, backwards}
 use Rattle.theory.specs.Conversion.Below.{converts, sorts, products, trans}
 use Rattle.theory.proofs.Instances.{ren-is_inst}
-use Rattle.theory.proofs.Instantiation.{inst-closed, inst-subst, inst-applied, inst-iota_right}
+use Rattle.theory.proofs.Instantiation.{inst-closed, inst-put, inst-applied, inst-iota_right}
 
 -- an eliminator with all its arguments at a constructor with all its arguments
 abbrev iota_left : ℕ → ℕ → ℕ → List Term → Term → List Term → List Term → List Term → List Term → Term
@@ -46,8 +46,8 @@ redex-inst s {ps = ps} {ms = ms} {is = is} {qs = qs} {us = us} h = record {
 -- an instantiation keeps what a redex steps to
 pub contracts-inst : (S : Signature) → HasClosedBodies S → (s : ℕ → Term) {t u : Term} → Contracts S t u
     → Contracts S (inst s t) (inst s u)
-contracts-inst S closed s (beta {a} {b} {u}) = rw (inst-subst s b u) beta
-contracts-inst S closed s (zeta {a} {t} {b}) = rw (inst-subst s b t) zeta
+contracts-inst S closed s (beta {a} {b} {u}) = rw (inst-put s b u) beta
+contracts-inst S closed s (zeta {a} {t} {b}) = rw (inst-put s b t) zeta
 contracts-inst S closed s (delta n {name} {type} {body = value} at new) =
     rw (inst-closed s value (closed n name type value at)) (delta n at new)
 contracts-inst S closed s (iota n m number f c ps P ms is qs us {method} at constructor redex chosen) =

@@ -8,8 +8,7 @@ use Rattle.theory.specs.Conversion.Contracts.{beta, zeta, delta, iota, axiom_k}
 use Rattle.theory.specs.Conversion.Step.{here, domain, codomain, annotation, body, function, argument, let_type, let_value, let_body}
 use Rattle.theory.specs.ScopeLaws.{FreeOfIota, FreeOfStep}
 use Rattle.theory.proofs.Bounds.{HasTerms, iota_right-kept, iota-kept}
-use Rattle.theory.proofs.FreeVariables.{free_of-subst}
-use Rattle.theory.proofs.FreeInstances.{free_bound}
+use Rattle.theory.proofs.FreeInstances.{free_bound, free_of-put}
 
 any_term : (a : Argument) → HasTerms (λ t. Unit {0}) a
 any_term (Plain type level) = tt
@@ -26,8 +25,8 @@ free_of-iota family level n ps P ms arguments method us hp hP hm hmethod hu =
 
 free_of-contracts : (S : Signature) → HasClosedBodies S → (n : ℕ) {t u : Term} → Contracts S t u → free_of t ≤ n
     → free_of u ≤ n
-free_of-contracts S closed n (beta {a} {b} {u}) h = free_of-subst b 0 u n (omega arith) (omega arith) (omega arith)
-free_of-contracts S closed n (zeta {a} {t} {b}) h = free_of-subst b 0 t n (omega arith) (omega arith) (omega arith)
+free_of-contracts S closed n (beta {a} {b} {u}) h = free_of-put b u n (omega arith) (omega arith)
+free_of-contracts S closed n (zeta {a} {t} {b}) h = free_of-put b t n (omega arith) (omega arith)
 free_of-contracts S closed n (delta k {name} {type} {body = value} at new) h = omega (arith, closed k name type value at)
 free_of-contracts S closed n (iota k m number f c ps P ms is qs us {method} at chosen redex method_at) h =
     iota-kept (λ t. Unit {0}) (λ j t. free_of t ≤ j) free_bound n k m number ps P ms is qs us number method c.arguments

@@ -10,8 +10,8 @@ use Rattle.theory.specs.Conversion.Contracts.{beta, zeta, delta, iota, axiom_k}
 use Rattle.theory.specs.Conversion.Step.{here, domain, codomain, annotation, body, function, argument, let_type, let_value, let_body}
 use Rattle.theory.specs.WellFormed.{IsTyped}
 use Rattle.theory.specs.SortLaws.{SortsOfStep}
-use Rattle.theory.proofs.SortLevels.{sorts_raised, sorts_of_subst}
-use Rattle.theory.proofs.SortInstances.{sorts_bound, sorts_before_constructor}
+use Rattle.theory.proofs.SortLevels.{sorts_raised}
+use Rattle.theory.proofs.SortInstances.{sorts_of_put, sorts_bound, sorts_before_constructor}
 use Rattle.theory.proofs.Bounds.{HasTerms, iota-kept}
 use Rattle.theory.proofs.TermSorts.{sorts_of_term}
 
@@ -25,8 +25,8 @@ terms-raised n m le (Recursive inner targets level) h =
 
 sorts_of_contracts : (S : Signature) → IsTyped S → (n : ℕ) → top ≤ n → {t u : Term} → Contracts S t u → SortsBelow n t
     → SortsBelow n u
-sorts_of_contracts S typed n le (beta {a} {b} {u}) h = sorts_of_subst b 0 u n h.0.1 h.1
-sorts_of_contracts S typed n le (zeta {a} {t} {b}) h = sorts_of_subst b 0 t n h.2 h.1
+sorts_of_contracts S typed n le (beta {a} {b} {u}) h = sorts_of_put b u n h.0.1 h.1
+sorts_of_contracts S typed n le (zeta {a} {t} {b}) h = sorts_of_put b t n h.2 h.1
 sorts_of_contracts S typed n le (delta k {body = value} at new) h = elim (typed.bodies at) [
   | inl own ↦ absurd (new own)
   | inr type ↦ sorts_raised value top n le (sorts_of_term type)

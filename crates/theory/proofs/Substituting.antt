@@ -1,33 +1,34 @@
 -- Instantiation keeps derivations, and so does the substitution for the nearest variable.
 use Rattle.std.proofs.Common.{◌≡◌, ℕ, zero, suc, ◌+◌, Some, subst as transport, subst₂, sym, refl, ap, ◌∙◌, ◌∷◌}
-use Rattle.theory.specs.Terms.{Term, lift, subst}
+use Rattle.theory.specs.Terms.{Term}
 use Rattle.theory.specs.Terms.Term.{Var, App}
-use Rattle.theory.specs.Substitutions.{weaken, inst, ups, extend}
-use Rattle.theory.specs.Telescopes.{Context}
+use Rattle.theory.specs.Substitutions.{weaken, inst, ups, extend, put}
+use Rattle.theory.specs.Telescopes.{Context, weaken_by}
 use Rattle.theory.specs.Signatures.{Signature}
 use Rattle.theory.specs.Typing.{IsContext, Has}
 use Rattle.theory.specs.Typing.IsContext.{bind}
 use Rattle.theory.specs.Typing.Has.{variable, sort, product, function, application, local, symbol, below, below_sort}
 use Rattle.theory.specs.WellFormed.{IsTyped}
 use Rattle.theory.specs.TypingLaws.{Replaces, Substitution}
-use Rattle.theory.proofs.Commuting.{subst_cancels}
-use Rattle.theory.proofs.Instantiation.{inst-weaken, inst-subst, inst-closed}
+use Rattle.theory.proofs.Instances.{inst-ren, inst-var}
+use Rattle.theory.proofs.Renaming.{weaken_by-one, weaken_by-next}
+use Rattle.theory.proofs.Instantiation.{inst-weaken, inst-put, inst-closed}
 use Rattle.theory.proofs.Lists.{some_is}
 use Rattle.theory.proofs.Scoping.{context_of, symbol_closed, symbol_type_closed, closed_bodies}
-use Rattle.theory.proofs.Shifts.{lift-one, subst-is_extend}
+use Rattle.theory.proofs.Shifts.{subst-is_extend}
 use Rattle.theory.proofs.Stability.{below-inst}
-use Rattle.theory.proofs.Weakening.{has-ren, lift-next, renames-suc}
+use Rattle.theory.proofs.Weakening.{has-ren, renames-suc}
 
 -- under a binder
 pub replaces_up : {S : Signature} → IsTyped S → (s : ℕ → Term) (G D : Context) (a : Term) → Replaces S s G D → IsContext S (inst s a ∷ D) → Replaces S (ups s) (a ∷ G) (inst s a ∷ D)
 replaces_up {S} typed s G D a h into = each
   where
-    near : (c : Term) → Some a ≡ Some c → lift (inst s a) (0 + 1) 0 ≡ inst (ups s) (lift c (0 + 1) 0)
+    near : (c : Term) → Some a ≡ Some c → weaken_by (0 + 1) (inst s a) ≡ inst (ups s) (weaken_by (0 + 1) c)
     near c at =
-        lift-one (inst s a) ∙ (sym (inst-weaken s a) ∙ ap (inst (ups s)) (sym (lift-one a) ∙ ap (λ x. lift x 1 0) (some_is at)))
+        weaken_by-one (inst s a) ∙ (sym (inst-weaken s a) ∙ ap (inst (ups s)) (sym (weaken_by-one a) ∙ ap (weaken_by 1) (some_is at)))
 
-    next : (n : ℕ) (c : Term) → weaken (inst s (lift c (n + 1) 0)) ≡ inst (ups s) (lift c (suc n + 1) 0)
-    next n c = sym (inst-weaken s (lift c (n + 1) 0)) ∙ ap (inst (ups s)) (sym (lift-next c n))
+    next : (n : ℕ) (c : Term) → weaken (inst s (weaken_by (n + 1) c)) ≡ inst (ups s) (weaken_by (suc n + 1) c)
+    next n c = sym (inst-weaken s (weaken_by (n + 1) c)) ∙ ap (inst (ups s)) (sym (weaken_by-next c n))
 
     each : Replaces S (ups s) (a ∷ G) (inst s a ∷ D)
     each zero c at = transport (Has S (inst s a ∷ D) (Var 0)) (near c at) (variable 0 into refl)
@@ -49,11 +50,11 @@ has-inst typed (function {G = G} {a = a} i j da db dc) s D h into =
     function i j ea (has-inst typed db (ups s) (inst s a ∷ D) (replaces_up typed s G D a h under) under)
     (has-inst typed dc (ups s) (inst s a ∷ D) (replaces_up typed s G D a h under) under)
 has-inst {S} typed (application {f = f} {u = u} {b = b} df du) s D h into =
-    transport (Has S D (App (inst s f) (inst s u))) (sym (inst-subst s b u))
+    transport (Has S D (App (inst s f) (inst s u))) (sym (inst-put s b u))
     (application (has-inst typed df s D h into) (has-inst typed du s D h into))
 has-inst {S} typed (local {t = t} {b = b} {c = c} i da dt db) s D h into =
     local i (has-inst typed da s D h into) (has-inst typed dt s D h into)
-    (transport (λ x. Has S D x (inst s c)) (inst-subst s b t) (has-inst typed db s D h into))
+    (transport (λ x. Has S D x (inst s c)) (inst-put s b t) (has-inst typed db s D h into))
 has-inst {S} typed (symbol {t = t} {a = a} context type) s D h into =
     subst₂ (Has S D) (sym (inst-closed s t (symbol_closed type))) (sym (inst-closed s a (symbol_type_closed typed type)))
     (symbol into type)
@@ -66,20 +67,24 @@ has-inst {S} typed (below_sort i dt le) s D h into =
 pub replaces-extend : {S : Signature} {G : Context} {a u : Term} → Has S G u a → Replaces S (extend Var u) (a ∷ G) G
 replaces-extend {S} {G} {a} {u} du = each
   where
-    drop : (x : Term) → inst (extend Var u) (weaken x) ≡ x
-    drop x = sym (subst-is_extend (weaken x) u) ∙ (ap (λ y. subst y 0 u) (sym (lift-one x)) ∙ subst_cancels x 0 u)
+    drop : (x : Term) → put u (weaken x) ≡ x
+    drop x = inst-ren (extend Var u) suc x ∙ inst-var x
 
-    near : (c : Term) → Some a ≡ Some c → a ≡ inst (extend Var u) (lift c (0 + 1) 0)
-    near c at = some_is at ∙ (sym (drop c) ∙ ap (inst (extend Var u)) (sym (lift-one c)))
+    near : (c : Term) → Some a ≡ Some c → a ≡ put u (weaken_by (0 + 1) c)
+    near c at = some_is at ∙ (sym (drop c) ∙ ap (put u) (sym (weaken_by-one c)))
 
     each : Replaces S (extend Var u) (a ∷ G) G
     each zero c at = transport (Has S G u) (near c at) du
     each (suc n) c at =
-        transport (Has S G (Var n)) (sym (drop (lift c (n + 1) 0)) ∙ ap (inst (extend Var u)) (sym (lift-next c n)))
+        transport (Has S G (Var n)) (sym (drop (weaken_by (n + 1) c)) ∙ ap (put u) (sym (weaken_by-next c n)))
         (variable n (context_of du) at)
 
 -- a term may be put for the nearest variable
+pub has-put : {S : Signature} → IsTyped S → {G : Context} {t u a b : Term} → Has S (a ∷ G) t b → Has S G u a → Has S G (put u t) (put u b)
+has-put typed {G} {u = u} dt du = has-inst typed dt (extend Var u) G (replaces-extend du) (context_of du)
+
+-- the same by `subst`
 pub substitution : Substitution
 substitution S G t u a b typed dt du =
     subst₂ (Has S G) (sym (subst-is_extend t u)) (sym (subst-is_extend b u))
-    (has-inst typed dt (extend Var u) G (replaces-extend du) (context_of du))
+    (has-put typed dt du)

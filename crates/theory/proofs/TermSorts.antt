@@ -1,12 +1,14 @@
 -- A term with a derivation has sorts below top, and so has the type of a symbol.
 use Rattle.std.proofs.Common.{List}
 use Rattle.theory.specs.Terms.{Term, SortsBelow, top}
+use Rattle.theory.specs.Terms.Term.{Var}
+use Rattle.theory.specs.Substitutions.{extend}
 use Rattle.theory.specs.Signatures.{Signature, TypeOf}
 use Rattle.theory.specs.Signatures.TypeOf.{constant, family, constructor, eliminator, axiom_k}
 use Rattle.theory.specs.Typing.{Has}
 use Rattle.theory.specs.Typing.Has.{variable, sort, product, function, application, local, symbol, below, below_sort}
 use Rattle.theory.specs.SortLaws.{SortsOfDerivation, SortsOfSymbolType}
-use Rattle.theory.proofs.SortLevels.{sorts_before_subst}
+use Rattle.theory.proofs.SortInstances.{sorts_before_inst}
 
 sorts_of_symbol : {S : Signature} {t a : Term} → TypeOf S t a → SortsBelow top t
 sorts_of_symbol (constant n at) = tt
@@ -23,7 +25,7 @@ sorts_of_term (product i j da db) = (sorts_of_term da, sorts_of_term db)
 sorts_of_term (function i j da db dc) = (sorts_of_term da, sorts_of_term db)
 sorts_of_term (application df du) = (sorts_of_term df, sorts_of_term du)
 sorts_of_term (local {t = t} {b = b} i da dt db) =
-    (sorts_of_term da, sorts_of_term dt, sorts_before_subst b 0 t top (sorts_of_term db))
+    (sorts_of_term da, sorts_of_term dt, sorts_before_inst (extend Var t) b top (sorts_of_term db))
 sorts_of_term (symbol context type) = sorts_of_symbol type
 sorts_of_term (below i dt le db) = sorts_of_term dt
 sorts_of_term (below_sort i dt le) = sorts_of_term dt

@@ -1,9 +1,9 @@
 -- Validity: every derived type is a sort or has one.
 use Rattle.std.proofs.Common.{◌≡◌, ℕ, zero, suc, ◌+◌, Some, [], ◌∷◌, slice_get, subst as transport, sym, ap, ◌∙◌}
 use Rattle.std.proofs.lemmas.Option.{none-some}
-use Rattle.theory.specs.Terms.{Term, lift, IsClosed}
+use Rattle.theory.specs.Terms.{Term, IsClosed}
 use Rattle.theory.specs.Terms.Term.{Sort, Pi}
-use Rattle.theory.specs.Telescopes.{Context}
+use Rattle.theory.specs.Telescopes.{Context, weaken_by}
 use Rattle.theory.specs.Signatures.{Signature}
 use Rattle.theory.specs.Typing.{IsContext, Has, HasSort, IsType}
 use Rattle.theory.specs.Typing.IsContext.{empty, bind}
@@ -12,25 +12,24 @@ use Rattle.theory.specs.Typing.Has.{variable, sort, product, function, applicati
 use Rattle.theory.specs.WellFormed.{IsTyped}
 use Rattle.theory.specs.TypingLaws.{Subsumption, FunctionTypes}
 use Rattle.theory.proofs.Generation.{parts}
-use Rattle.theory.proofs.Renaming.{ren-closed}
+use Rattle.theory.proofs.Renaming.{weaken_by-one, weaken_by-next, ren-closed}
 use Rattle.theory.proofs.Lists.{some_is}
 use Rattle.theory.proofs.Scoping.{symbol_type_closed}
-use Rattle.theory.proofs.Shifts.{lift-one}
-use Rattle.theory.proofs.Substituting.{substitution}
-use Rattle.theory.proofs.Weakening.{has-ren, lift-next, renames-suc}
+use Rattle.theory.proofs.Substituting.{has-put}
+use Rattle.theory.proofs.Weakening.{has-ren, renames-suc}
 
 -- the type of a variable has a sort in the whole context
-pub variable_sort : {S : Signature} {G : Context} → IsTyped S → (n : ℕ) (a : Term) → IsContext S G → slice_get G n ≡ Some a → HasSort S G (lift a (n + 1) 0)
+pub variable_sort : {S : Signature} {G : Context} → IsTyped S → (n : ℕ) (a : Term) → IsContext S G → slice_get G n ≡ Some a → HasSort S G (weaken_by (n + 1) a)
 variable_sort typed n a empty at = absurd (none-some a at)
 variable_sort {S} typed zero a (bind {G = G} {a = b} i context db) at = (
   i,
-  transport (λ x. Has S (b ∷ G) x (Sort i)) (sym (lift-one b) ∙ ap (λ x. lift x 1 0) (some_is at))
+  transport (λ x. Has S (b ∷ G) x (Sort i)) (sym (weaken_by-one b) ∙ ap (weaken_by 1) (some_is at))
       (has-ren typed db suc (b ∷ G) (renames-suc b G) (bind i context db)),
 )
 variable_sort {S} typed (suc n) a (bind {G = G} {a = b} i context db) at =
     let (j, d) = variable_sort typed n a context at in (
       j,
-      transport (λ x. Has S (b ∷ G) x (Sort j)) (sym (lift-next a n))
+      transport (λ x. Has S (b ∷ G) x (Sort j)) (sym (weaken_by-next a n))
           (has-ren typed d suc (b ∷ G) (renames-suc b G) (bind i context db)),
     )
 
@@ -53,7 +52,7 @@ valid typed (function i j da db dc) = has_sort _ (product i j da dc)
 valid {S} typed (application {G = G} {u = u} {a = a} {b = b} df du) =
     let (i, d) = product_sort (valid typed df) in
     let p = parts d in
-    has_sort p.codomain_level (substitution S G b u a (Sort p.codomain_level) typed p.codomain du)
+    has_sort p.codomain_level (has-put typed p.codomain du)
 valid typed (local i da dt db) = valid typed db
 valid typed (symbol context type) =
     let (i, d) = typed.types type in has_sort i (has-anywhere typed (symbol_type_closed typed type) i context d)

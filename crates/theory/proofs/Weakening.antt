@@ -1,50 +1,44 @@
 -- Renaming keeps derivations: weakening of contexts.
 use Rattle.std.proofs.Common.{◌≡◌, ℕ, zero, suc, ◌+◌, Some, slice_get, subst as transport, subst₂, sym, refl, ap, ◌∙◌, [], ◌∷◌, ◌++◌, length, arith}
 use mathlib.Core.Path.{fun_ext}
-use Rattle.theory.specs.Terms.{Term, lift, lift_var}
+use Rattle.theory.specs.Terms.{Term, lift_var}
 use Rattle.theory.specs.Terms.Term.{Var, Sort, App}
 use Rattle.theory.specs.Substitutions.{ren, up, weaken}
-use Rattle.theory.specs.Telescopes.{Context, lift_context}
+use Rattle.theory.specs.Telescopes.{Context, lift_context, weaken_by}
 use Rattle.theory.specs.Signatures.{Signature}
 use Rattle.theory.specs.Typing.{IsContext, Has}
 use Rattle.theory.specs.Typing.IsContext.{bind}
 use Rattle.theory.specs.Typing.Has.{variable, sort, product, function, application, local, symbol, below, below_sort}
 use Rattle.theory.specs.WellFormed.{IsTyped}
 use Rattle.theory.specs.TypingLaws.{Renames, Weakening, WeakeningOfContexts}
-use Rattle.theory.proofs.Commuting.{lift_merge}
-use Rattle.theory.proofs.Shifts.{lift-one, lift-is_ren, lift_var-above, up-shift}
-use Rattle.theory.proofs.Renaming.{lift-more, ren-weaken, ren-subst, ren-closed}
+use Rattle.theory.proofs.Instances.{ren-same, ren-ren}
+use Rattle.theory.proofs.Shifts.{lift-is_ren, lift_var-above, up-shift}
+use Rattle.theory.proofs.Renaming.{weaken_by-one, weaken_by-next, ren-weaken, ren-put, ren-closed}
 use Rattle.theory.proofs.Lists.{some_is}
 use Rattle.theory.proofs.Scoping.{context_of, symbol_closed, symbol_type_closed, closed_bodies}
 use Rattle.theory.proofs.Stability.{below-ren}
 
--- a lift by one more, as a renaming under a binder needs it
-pub lift-next : (a : Term) (n : ℕ) → lift a (suc n + 1) 0 ≡ weaken (lift a (n + 1) 0)
-lift-next a n = let e : suc n + 1 ≡ n + 1 + 1 = omega arith in ap (λ k. lift a k 0) e ∙ lift-more a (n + 1)
-
 -- weakening renames each variable to the next one
 pub renames-suc : (a : Term) (G : Context) → Renames suc G (a ∷ G)
-renames-suc a G n c at = (c, at, lift-next c n)
+renames-suc a G n c at = (c, at, weaken_by-next c n)
 
 -- under a binder
 pub renames_up : (r : ℕ → ℕ) (G D : Context) (a : Term) → Renames r G D → Renames (up r) (a ∷ G) (ren r a ∷ D)
 renames_up r G D a h = each
   where
     each : (n : ℕ) (c : Term) → slice_get (a ∷ G) n ≡ Some c
-        → (b : Term) × (slice_get (ren r a ∷ D) (up r n) ≡ Some b) × (lift b (up r n + 1) 0 ≡ ren (up r) (lift c (n + 1) 0))
+        → (b : Term) × (slice_get (ren r a ∷ D) (up r n) ≡ Some b) × (weaken_by (up r n + 1) b ≡ ren (up r) (weaken_by (n + 1) c))
     each zero c at =
-        (ren r a, refl, lift-one (ren r a) ∙ (sym (ren-weaken r a) ∙ ap (ren (up r)) (sym (lift-one a) ∙ ap (λ x. lift x 1 0) (some_is at))))
+        (ren r a, refl, weaken_by-one (ren r a) ∙ (sym (ren-weaken r a) ∙ ap (ren (up r)) (sym (weaken_by-one a) ∙ ap (weaken_by 1) (some_is at))))
     each (suc n) c at =
         let (b, found, same) = h n c at in
         (b, found, next b same)
       where
-        next : (b : Term) → lift b (r n + 1) 0 ≡ ren r (lift c (n + 1) 0) → lift b (suc (r n) + 1) 0 ≡ ren (up r) (lift c (suc n + 1) 0)
+        next : (b : Term) → weaken_by (r n + 1) b ≡ ren r (weaken_by (n + 1) c)
+            → weaken_by (suc (r n) + 1) b ≡ ren (up r) (weaken_by (suc n + 1) c)
         next b same =
-            ap (λ k. lift b k 0) (omega arith)
-            ∙ (lift-more b (r n + 1)
-            ∙ (ap weaken same
-            ∙ (sym (ren-weaken r (lift c (n + 1) 0))
-            ∙ ap (ren (up r)) (sym (lift-more c (n + 1)) ∙ ap (λ k. lift c k 0) (omega arith)))))
+            weaken_by-next b (r n)
+            ∙ (ap weaken same ∙ (sym (ren-weaken r (weaken_by (n + 1) c)) ∙ ap (ren (up r)) (sym (weaken_by-next c n))))
 
 -- a renaming keeps a derivation
 pub has-ren : {S : Signature} → IsTyped S → {G : Context} {t a : Term} → Has S G t a → (r : ℕ → ℕ) (D : Context) → Renames r G D → IsContext S D → Has S D (ren r t) (ren r a)
@@ -59,11 +53,11 @@ has-ren typed (function {G = G} {a = a} i j da db dc) r D h into =
     function i j ea (has-ren typed db (up r) (ren r a ∷ D) (renames_up r G D a h) (bind i into ea))
     (has-ren typed dc (up r) (ren r a ∷ D) (renames_up r G D a h) (bind i into ea))
 has-ren {S} typed (application {f = f} {u = u} {b = b} df du) r D h into =
-    transport (Has S D (App (ren r f) (ren r u))) (sym (ren-subst r b u))
+    transport (Has S D (App (ren r f) (ren r u))) (sym (ren-put r b u))
     (application (has-ren typed df r D h into) (has-ren typed du r D h into))
 has-ren {S} typed (local {t = t} {b = b} {c = c} i da dt db) r D h into =
     local i (has-ren typed da r D h into) (has-ren typed dt r D h into)
-    (transport (λ x. Has S D x (ren r c)) (ren-subst r b t) (has-ren typed db r D h into))
+    (transport (λ x. Has S D x (ren r c)) (ren-put r b t) (has-ren typed db r D h into))
 has-ren {S} typed (symbol {t = t} {a = a} context type) r D h into =
     subst₂ (Has S D) (sym (ren-closed r t (symbol_closed type))) (sym (ren-closed r a (symbol_type_closed typed type)))
     (symbol into type)
@@ -82,10 +76,11 @@ behind (a ∷ new) G n =
 pub renames-lift : (near new G : Context) → Renames (λ n. lift_var n (length new) (length near)) (near ++ G) (lift_context near (length new) ++ (new ++ G))
 renames-lift [] new G = each
   where
-    same : (n : ℕ) (a : Term) → lift a (lift_var n (length new) 0 + 1) 0 ≡ ren (λ m. lift_var m (length new) 0) (lift a (n + 1) 0)
+    same : (n : ℕ) (a : Term) → weaken_by (lift_var n (length new) 0 + 1) a ≡ ren (λ m. lift_var m (length new) 0) (weaken_by (n + 1) a)
     same n a =
-        ap (λ k. lift a k 0) (ap (λ k. k + 1) (lift_var-above n (length new) 0 (omega arith)) ∙ omega arith)
-        ∙ (sym (lift_merge a (n + 1) 0 (length new) 0 (omega arith) (omega arith)) ∙ lift-is_ren (lift a (n + 1) 0) (length new) 0)
+        ren-same a (λ m.
+        omega (arith, lift_var-above (m + (n + 1)) (length new) 0 (omega arith), lift_var-above n (length new) 0 (omega arith)))
+        ∙ sym (ren-ren (λ m. lift_var m (length new) 0) (λ m. m + (n + 1)) a)
 
     each : Renames (λ n. lift_var n (length new) 0) G (new ++ G)
     each n a at = (a, ap (slice_get (new ++ G)) (lift_var-above n (length new) 0 (omega arith)) ∙ (behind new G n ∙ at), same n a)

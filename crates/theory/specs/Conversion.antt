@@ -1,6 +1,7 @@
 -- Reduction at any place, conversion and cumulativity, on untyped terms.
 use Rattle.std.specs.Prelude.{Some, ◌≡◌, ◌≢◌, ℕ, ◌≤◌, IsTrue, List, [], ◌∷◌, ◌++◌, length, slice_get}
-use Rattle.theory.specs.Terms.{Term, Sort, Pi, Lam, App, Let, Const, Con, Elim, AxiomK, subst}
+use Rattle.theory.specs.Terms.{Term, Sort, Pi, Lam, App, Let, Const, Con, Elim, AxiomK}
+use Rattle.theory.specs.Substitutions.{put}
 use Rattle.theory.specs.Telescopes.{applied}
 use Rattle.theory.specs.Families.{Family, Constructor}
 use Rattle.theory.specs.Eliminators.{iota_right}
@@ -16,8 +17,8 @@ pub record IsIotaRedex (f : Family) (c : Constructor) (ps ms is qs us : List Ter
 
 -- what a redex steps to
 pub data Contracts (S : Signature) : Term → Term → Type 0 where
-  beta : {a b u : Term} → Contracts S (App (Lam a b) u) (subst b 0 u)
-  zeta : {a t b : Term} → Contracts S (Let a t b) (subst b 0 t)
+  beta : {a b u : Term} → Contracts S (App (Lam a b) u) (put u b)
+  zeta : {a t b : Term} → Contracts S (Let a t b) (put t b)
   delta : (n : ℕ) {name : List ℕ} {type body : Term} → IsEntryAt S n (Definition name type body) → body ≢ Const n
       → Contracts S (Const n) body
   iota : (n m number : ℕ) (f : Family) (c : Constructor) (ps : List Term) (P : Term) (ms is qs us : List Term) {method : Term}

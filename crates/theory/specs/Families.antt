@@ -28,6 +28,10 @@ pub record Family : Type 0 where
   pub level : ℕ
   pub constructors : List Constructor
 
+-- the family as it stands before it has constructors
+abbrev pub without_constructors : Family → Family
+without_constructors f = record f { constructors = [] }
+
 abbrev pub level_of : Argument → ℕ
 level_of (Plain type level) = level
 level_of (Recursive inner targets level) = level

@@ -1,7 +1,8 @@
 -- What the derivations of each form of term are made of.
 use Rattle.std.specs.Prelude.{Some, ◌≡◌, ℕ, ◌+◌, ◌<◌, ◌∷◌, max, slice_get}
-use Rattle.theory.specs.Terms.{Term, Var, Sort, Pi, Lam, App, Let, Const, Fam, Con, Elim, AxiomK, lift, subst, top}
-use Rattle.theory.specs.Telescopes.{Context}
+use Rattle.theory.specs.Terms.{Term, Var, Sort, Pi, Lam, App, Let, Const, Fam, Con, Elim, AxiomK, top}
+use Rattle.theory.specs.Substitutions.{put}
+use Rattle.theory.specs.Telescopes.{Context, weaken_by}
 use Rattle.theory.specs.Signatures.{Signature, TypeOf}
 use Rattle.theory.specs.Conversion.{Below}
 use Rattle.theory.specs.Typing.{Has}
@@ -10,7 +11,7 @@ use Rattle.theory.specs.Typing.{Has}
 pub record OfVariable (S : Signature) (G : Context) (n : ℕ) (type : Term) : Type 0 where
   pub declared : Term
   pub at : slice_get G n ≡ Some declared
-  pub order : Below S (lift declared (n + 1) 0) type
+  pub order : Below S (weaken_by (n + 1) declared) type
 
 -- a sort has the next one as its type
 pub record OfSort (S : Signature) (i : ℕ) (type : Term) : Type 0 where
@@ -41,14 +42,14 @@ pub record OfApplication (S : Signature) (G : Context) (f u type : Term) : Type 
   pub codomain : Term
   pub function : Has S G f (Pi domain codomain)
   pub argument : Has S G u domain
-  pub order : Below S (subst codomain 0 u) type
+  pub order : Below S (put u codomain) type
 
 -- a local definition has its type, and what follows has the type with the definition in the variable's place
 pub record OfLet (S : Signature) (G : Context) (a t b type : Term) : Type 0 where
   pub level : ℕ
   pub declared : Has S G a (Sort level)
   pub value : Has S G t a
-  pub body : Has S G (subst b 0 t) type
+  pub body : Has S G (put t b) type
 
 -- a symbol has the type that the signature gives it
 pub record OfSymbol (S : Signature) (t type : Term) : Type 0 where

@@ -1,3 +1,4 @@
+pub mod AxiomKLaws
 pub mod Conversion
 pub mod ConversionLaws
 pub mod Eliminators

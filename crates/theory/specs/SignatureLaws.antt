@@ -1,9 +1,9 @@
 -- The laws of signatures: what a longer one keeps, what a well-formed one has, and how it grows.
-use Rattle.std.specs.Prelude.{◌≡◌, ◌≢◌, ℕ, Bool, List, [], ◌++◌, AllPairs}
+use Rattle.std.specs.Prelude.{◌≡◌, ◌≢◌, ℕ, Bool, List, [], ◌++◌, length, AllPairs}
 use Rattle.theory.specs.Terms.{Term}
 use Rattle.theory.specs.Telescopes.{Context, Telescope}
 use Rattle.theory.specs.Families.{Family, Constructor}
-use Rattle.theory.specs.Signatures.{Signature, Entry, IsPrefix, TypeOf, names, names_of}
+use Rattle.theory.specs.Signatures.{Signature, Entry, IsEntryAt, IsPrefix, TypeOf, names, names_of}
 use Rattle.theory.specs.Conversion.{Converts, Below}
 use Rattle.theory.specs.Typing.{IsContext, Has, HasSort}
 use Rattle.theory.specs.WellFormed.{HasLevels, IsConstructor, IsDefinition, IsEntry, IsWellFormed, IsWellFormedSoFar, IsTyped, pushed, first_entries}
@@ -16,10 +16,21 @@ PushIsLonger = (S : Signature) (e : Entry) → IsPrefix S (pushed S e)
 abbrev pub FirstEntriesArePrefix : Type 0
 FirstEntriesArePrefix = (S : Signature) (n : ℕ) → IsPrefix (first_entries S n) S
 
+abbrev pub PrefixReflexive : Type 0
+PrefixReflexive = (S : Signature) → IsPrefix S S
+
 abbrev pub PrefixTransitive : Type 0
 PrefixTransitive = (S T U : Signature) → IsPrefix S T → IsPrefix T U → IsPrefix S U
 
+-- a longer signature that is cut to the length of the shorter one is that one
+abbrev pub CutToPrefix : Type 0
+CutToPrefix = (S T : Signature) → IsPrefix S T → first_entries T (length S.entries) ≡ S
+
 -- Weakening of signatures: what holds over a signature holds over a longer one.
+
+-- entries keep their numbers
+abbrev pub EntriesOverLonger : Type 0
+EntriesOverLonger = (S T : Signature) → IsPrefix S T → (n : ℕ) (e : Entry) → IsEntryAt S n e → IsEntryAt T n e
 
 abbrev pub TypesOverLonger : Type 0
 TypesOverLonger = (S T : Signature) → IsPrefix S T → (t a : Term) → TypeOf S t a → TypeOf T t a

@@ -2,10 +2,10 @@
 use Rattle.std.specs.Prelude.{◌≡◌, Some, ℕ, ◌+◌, ◌≤◌, ◌<◌, ◌↔◌, List, [], slice_get, All}
 use Rattle.theory.specs.Terms.{Term, lift, subst}
 use Rattle.theory.specs.Substitutions.{ren, inst}
-use Rattle.theory.specs.Telescopes.{Telescope, context_behind}
+use Rattle.theory.specs.Telescopes.{Context, Telescope, context_behind}
 use Rattle.theory.specs.Families.{Family, Constructor}
 use Rattle.theory.specs.Eliminators.{iota_right}
-use Rattle.theory.specs.Signatures.{Signature, FamilyOf, Definition, IsEntryAt, TypeOf}
+use Rattle.theory.specs.Signatures.{Signature, FamilyOf, Definition, IsEntryAt, IsPrefix, TypeOf}
 use Rattle.theory.specs.WellFormed.{first_entries}
 use Rattle.theory.specs.SignatureScopes.{IsScoped, IsScopedTelescope, IsScopedContext, IsScopedSignature}
 
@@ -16,6 +16,18 @@ ScopedOverMore = (S : Signature) (n m : ℕ) (t : Term) → n ≤ m → IsScoped
 -- what is scoped over the first entries of a signature is scoped over all of them
 abbrev pub ScopedOverAll : Type 0
 ScopedOverAll = (S : Signature) (count n : ℕ) (t : Term) → IsScoped (first_entries S count) n t → IsScoped S n t
+
+-- and what is scoped over a signature is scoped over a longer one
+
+abbrev pub ScopedOverLonger : Type 0
+ScopedOverLonger = (S T : Signature) → IsPrefix S T → (n : ℕ) (t : Term) → IsScoped S n t → IsScoped T n t
+
+abbrev pub ScopedTelescopesOverLonger : Type 0
+ScopedTelescopesOverLonger =
+    (S T : Signature) → IsPrefix S T → (n : ℕ) (tele : Telescope) → IsScopedTelescope S n tele → IsScopedTelescope T n tele
+
+abbrev pub ScopedContextsOverLonger : Type 0
+ScopedContextsOverLonger = (S T : Signature) → IsPrefix S T → (G : Context) → IsScopedContext S G → IsScopedContext T G
 
 abbrev pub RenScoped : Type 0
 RenScoped =

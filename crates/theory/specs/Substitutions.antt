@@ -51,6 +51,10 @@ abbrev pub extend : (ℕ → Term) → Term → ℕ → Term
 extend s u zero = u
 extend s u (suc n) = s n
 
+-- `u` put for the nearest variable
+abbrev pub put : Term → Term → Term
+put u t = inst (extend Var u) t
+
 -- an instantiation with the terms of a list more, the last of them for the nearest variable
 abbrev pub fill : (ℕ → Term) → List Term → ℕ → Term
 fill s [] n = s n

@@ -2,7 +2,7 @@
 use Rattle.std.specs.Prelude.{Some, ◌≡◌, ℕ, ◌+◌, ◌≤◌, ◌∷◌, ◌++◌, length, slice_get}
 use Rattle.theory.specs.Terms.{Term, Pi, lift, subst, free_of}
 use Rattle.theory.specs.Substitutions.{ren, inst}
-use Rattle.theory.specs.Telescopes.{Context, Telescope, context_behind, products, lift_context}
+use Rattle.theory.specs.Telescopes.{Context, Telescope, context_behind, products, lift_context, weaken_by}
 use Rattle.theory.specs.Signatures.{Signature, HasClosedBodies}
 use Rattle.theory.specs.Conversion.{Below}
 use Rattle.theory.specs.Generation.{Parts}
@@ -29,11 +29,11 @@ BodiesClosed = (S : Signature) → IsTyped S → HasClosedBodies S
 abbrev pub Renames : (ℕ → ℕ) → Context → Context → Type 0
 Renames r G D =
     (n : ℕ) (a : Term) → slice_get G n ≡ Some a
-    → (b : Term) × (slice_get D (r n) ≡ Some b) × (lift b (r n + 1) 0 ≡ ren r (lift a (n + 1) 0))
+    → (b : Term) × (slice_get D (r n) ≡ Some b) × (weaken_by (r n + 1) b ≡ ren r (weaken_by (n + 1) a))
 
 -- s puts for each variable of G a term that has in D the instantiated type
 abbrev pub Replaces : Signature → (ℕ → Term) → Context → Context → Type 0
-Replaces S s G D = (n : ℕ) (a : Term) → slice_get G n ≡ Some a → Has S D (s n) (inst s (lift a (n + 1) 0))
+Replaces S s G D = (n : ℕ) (a : Term) → slice_get G n ≡ Some a → Has S D (s n) (inst s (weaken_by (n + 1) a))
 
 -- renaming keeps derivations
 abbrev pub Renaming : Type 0

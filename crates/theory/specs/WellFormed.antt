@@ -2,7 +2,7 @@
 use Rattle.std.specs.Prelude.{◌≡◌, ◌≢◌, ◌⊎◌, ℕ, ◌≤◌, ◌<◌, IsTrue, List, [], ◌∷◌, ◌++◌, map, length, take, AllPairs, All, Contains}
 use Rattle.theory.specs.Terms.{Term, Sort, Const, top}
 use Rattle.theory.specs.Telescopes.{Context, Telescope, context_behind}
-use Rattle.theory.specs.Families.{Argument, Plain, Recursive, Constructor, Family, IsPositive, level_of, index_types, family_type, constructor_type, constructor_telescope}
+use Rattle.theory.specs.Families.{Argument, Plain, Recursive, Constructor, Family, IsPositive, without_constructors, level_of, index_types, family_type, constructor_type, constructor_telescope}
 use Rattle.theory.specs.Eliminators.{eliminator_type}
 use Rattle.theory.specs.Signatures.{Signature, Entry, FamilyOf, EliminatorAt, AxiomKAt, Definition, IsEntryAt, TypeOf, HasIdentity, names, axiom_k_type}
 use Rattle.theory.specs.Typing.{Has, HasSort}
@@ -33,12 +33,12 @@ pub record IsConstructor (S : Signature) (n : ℕ) (f : Family) (c : Constructor
   pub targets : length c.targets ≡ length f.indices
   pub argument_targets : All (HasTargets f) c.arguments
 
--- a family over the signature before it
+-- A family over the signature before it. Its constructors are typed where it has none yet.
 pub record IsFamily (S : Signature) (f : Family) : Type 0 where
   pub level : f.level < top
   pub type : HasSort S [] (family_type f)
   pub indices : HasLevels S f.level (context_behind [] f.parameters) (index_types f) (map (λ i. i.1) f.indices)
-  pub constructors : All (IsConstructor (pushed S (FamilyOf f)) (length S.entries) f) f.constructors
+  pub constructors : All (IsConstructor (pushed S (FamilyOf (without_constructors f))) (length S.entries) f) f.constructors
   pub positive : IsPositive (length S.entries) f
 
 pub record IsEliminator (S : Signature) (n m : ℕ) (f : Family) : Type 0 where

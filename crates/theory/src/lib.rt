@@ -2,6 +2,7 @@
 //! hold of them. `specs/` has the definitions; each function here has one law as its contract, and an empty body.
 #![tactic(auto)]
 
+pub mod axiom_k_laws;
 pub mod conversion_laws;
 pub mod instance_laws;
 pub mod prelude_laws;

@@ -1,5 +1,5 @@
 //! The laws of signatures: longer ones, well-formed ones, and how they grow.
-ghost use Rattle.theory.specs.SignatureLaws.{PushIsLonger, FirstEntriesArePrefix, PrefixTransitive, TypesOverLonger, ConversionOverLonger, BelowOverLonger, ContextsOverLonger, DerivationsOverLonger, SortsOverLonger, LevelsOverLonger, ConstructorsOverLonger, DefinitionsOverLonger, WellFormedIsTyped, SoFarIsTyped, EmptyIsWellFormed, PushIsWellFormed, NamesOfPush, FirstEntriesAreWellFormed};
+ghost use Rattle.theory.specs.SignatureLaws.{PushIsLonger, FirstEntriesArePrefix, PrefixReflexive, PrefixTransitive, CutToPrefix, EntriesOverLonger, TypesOverLonger, ConversionOverLonger, BelowOverLonger, ContextsOverLonger, DerivationsOverLonger, SortsOverLonger, LevelsOverLonger, ConstructorsOverLonger, DefinitionsOverLonger, WellFormedIsTyped, SoFarIsTyped, EmptyIsWellFormed, PushIsWellFormed, NamesOfPush, FirstEntriesAreWellFormed};
 
 /// A signature is a prefix of what is pushed on it.
 pub fn push_is_longer()
@@ -11,9 +11,24 @@ pub fn first_entries_are_prefix()
     ensures { FirstEntriesArePrefix }
 {}
 
+/// A signature is a prefix of itself.
+pub fn prefix_reflexive()
+    ensures { PrefixReflexive }
+{}
+
 /// A prefix of a prefix is a prefix.
 pub fn prefix_transitive()
     ensures { PrefixTransitive }
+{}
+
+/// A longer signature that is cut to the length of the shorter one is that one.
+pub fn cut_to_prefix()
+    ensures { CutToPrefix }
+{}
+
+/// Entries keep their numbers in a longer signature.
+pub fn entries_over_longer()
+    ensures { EntriesOverLonger }
 {}
 
 /// A longer signature gives symbols the same types.

@@ -1,5 +1,5 @@
 //! The laws of scoping: what keeps terms scoped, and which terms are scoped with a signature.
-ghost use Rattle.theory.specs.SignatureScopeLaws.{ScopedOverMore, ScopedOverAll, RenScoped, InstScoped, LiftScoped, SubstScoped, ContextScoped, TypesScoped, BodiesScoped, IotaScoped};
+ghost use Rattle.theory.specs.SignatureScopeLaws.{ScopedOverMore, ScopedOverAll, ScopedOverLonger, ScopedTelescopesOverLonger, ScopedContextsOverLonger, RenScoped, InstScoped, LiftScoped, SubstScoped, ContextScoped, TypesScoped, BodiesScoped, IotaScoped};
 
 /// What is scoped is scoped over more variables.
 pub fn scoped_over_more()
@@ -9,6 +9,21 @@ pub fn scoped_over_more()
 /// What is scoped over the first entries is scoped over all.
 pub fn scoped_over_all()
     ensures { ScopedOverAll }
+{}
+
+/// Terms stay scoped over a longer signature.
+pub fn scoped_over_longer()
+    ensures { ScopedOverLonger }
+{}
+
+/// Telescopes stay scoped over a longer signature.
+pub fn scoped_telescopes_over_longer()
+    ensures { ScopedTelescopesOverLonger }
+{}
+
+/// Contexts stay scoped over a longer signature.
+pub fn scoped_contexts_over_longer()
+    ensures { ScopedContextsOverLonger }
 {}
 
 /// A renaming keeps terms scoped.

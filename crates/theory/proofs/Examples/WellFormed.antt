@@ -7,10 +7,11 @@ use Rattle.std.proofs.lemmas.List.Elements.{All-cons, All-nil}
 use Rattle.std.proofs.lemmas.List.Kept.{AllPairs-cons}
 use Rattle.std.proofs.lemmas.Option.{none-some, same_Some}
 use Rattle.std.proofs.lemmas.Slice.Eq.{bytes_eq-Decides}
-use Rattle.theory.specs.Terms.{Const, Var, Sort}
-use Rattle.theory.specs.Families.{Family, Plain, Recursive}
+use Rattle.theory.specs.Terms.{Term, Const, Var, Sort}
+use Rattle.theory.specs.Families.{Family, Plain, Recursive, without_constructors}
+use Rattle.theory.specs.Telescopes.{Context}
 use Rattle.theory.specs.Signatures.{Signature, Entry, FamilyOf, EliminatorAt, AxiomKAt, Definition, IsEntryAt, IsPrefix, names}
-use Rattle.theory.specs.Typing.{empty, bind, variable, sort}
+use Rattle.theory.specs.Typing.{IsContext, Has, empty, bind, variable, sort, application}
 use Rattle.theory.specs.WellFormed.{pushed, first_entries, HasTargets, HasLevels, none, more, IsConstructor, IsFamily, IsEntry, family, eliminator, axiom_k, definition, IsWellFormed, IsWellFormedSoFar, with_provisional, IsTyped}
 use Rattle.theory.proofs.Lists.{only, both}
 use Rattle.theory.proofs.Products.{pi}
@@ -18,40 +19,51 @@ use Rattle.theory.proofs.Pushing.{so_far_typed}
 use Rattle.theory.proofs.PreludeFamilies.{empty_is_family, equality_is_family, new_family}
 use Rattle.theory.proofs.Examples.Sample.{nat, vec, tree, Nat, Vec, zero_constructor, suc_constructor, nil, cons, node, nat_family, vec_family, tree_family, two, defined, sample}
 use Rattle.theory.proofs.Examples.Positivity.{nat_is_positive, vec_is_positive, tree_is_positive}
-use Rattle.theory.proofs.Examples.Eliminators.{nat_in, zero_in, suc_in, vec_in, nat_eliminator_sort, vec_eliminator_sort, k_sort}
+use Rattle.theory.proofs.Examples.Eliminators.{nat_in, zero_in, suc_in, nat_eliminator_sort, vec_eliminator_sort, k_sort}
 
 nat_is_family : IsFamily (first_entries defined nat) nat_family
 nat_is_family =
-    let T = pushed (first_entries defined nat) (FamilyOf nat_family) in
+    let S = first_entries defined nat in
     record {
       level = lit< tt;
       type = (1, sort 0 empty (lit< tt));
       indices = none;
-      constructors = both (IsConstructor T nat nat_family) zero_constructor suc_constructor
-          (record { type = (0, nat_in T refl empty); levels = none; targets = refl; argument_targets = All-nil _ })
+      constructors = both (IsConstructor (pushed S (FamilyOf (without_constructors nat_family))) nat nat_family) zero_constructor suc_constructor
+          (record { type = (0, new_family S nat_family empty); levels = none; targets = refl; argument_targets = All-nil _ })
           (record {
-            type = (0, pi 0 0 empty (nat_in T refl empty) (nat_in T refl));
-            levels = more (nat_in T refl empty) (le_refl 0) none;
+            type = (0, pi 0 0 empty (new_family S nat_family empty) (λ c. new_family S nat_family c));
+            levels = more (new_family S nat_family empty) (le_refl 0) none;
             targets = refl;
             argument_targets = only (HasTargets nat_family) (Recursive [] [] 0) refl;
           });
       positive = nat_is_positive;
     }
 
+-- the signature in which the constructors of Vec are typed
+bare_vec : Signature
+bare_vec = pushed (first_entries defined vec) (FamilyOf (without_constructors vec_family))
+
+new_vec : {G : Context} {A n : Term} → IsContext bare_vec G → Has bare_vec G A (Sort 0) → Has bare_vec G n Nat
+    → Has bare_vec G (Vec A n) (Sort 0)
+unfolding bare_vec
+new_vec c A n = application (application (new_family (first_entries defined vec) vec_family c) A) n
+
 -- the levels of cons's arguments: Nat, A and Vec A n are in Type 0
-cons_levels : (S : Signature) → IsEntryAt S nat (FamilyOf nat_family) → IsEntryAt S vec (FamilyOf vec_family)
-    → HasLevels S 0 (Sort 0 ∷ []) (Nat ∷ Var 1 ∷ Vec (Var 2) (Var 1) ∷ []) (0 ∷ 0 ∷ 0 ∷ [])
-cons_levels S nat_at vec_at =
+cons_levels : HasLevels bare_vec 0 (Sort 0 ∷ []) (Nat ∷ Var 1 ∷ Vec (Var 2) (Var 1) ∷ []) (0 ∷ 0 ∷ 0 ∷ [])
+unfolding bare_vec
+cons_levels =
+    let S = bare_vec in
     let c1 = bind 1 empty (sort 0 empty (lit< tt)) in
-    let c2 = bind 0 c1 (nat_in S nat_at c1) in
+    let c2 = bind 0 c1 (nat_in S refl c1) in
     let c3 = bind 0 c2 (variable 1 c2 refl) in
-    more (nat_in S nat_at c1) (le_refl 0) (more (variable 1 c2 refl) (le_refl 0)
-    (more (vec_in S nat_at vec_at c3 (variable 2 c3 refl) (variable 1 c3 refl)) (le_refl 0) none))
+    more (nat_in S refl c1) (le_refl 0) (more (variable 1 c2 refl) (le_refl 0)
+    (more (new_vec c3 (variable 2 c3 refl) (variable 1 c3 refl)) (le_refl 0) none))
 
 vec_is_family : IsFamily (first_entries defined vec) vec_family
+unfolding bare_vec
 vec_is_family =
     let S = first_entries defined vec in
-    let T = pushed S (FamilyOf vec_family) in
+    let T = bare_vec in
     let A = bind 1 empty (sort 0 empty (lit< tt)) in
     record {
       level = lit< tt;
@@ -59,7 +71,7 @@ vec_is_family =
       indices = more (nat_in S refl A) (le_refl 0) none;
       constructors = both (IsConstructor T vec vec_family) nil cons
           (record {
-            type = (1, pi 1 0 empty (sort 0 empty (lit< tt)) λ c. vec_in T refl refl c (variable 0 c refl) (zero_in T refl c));
+            type = (1, pi 1 0 empty (sort 0 empty (lit< tt)) λ c. new_vec c (variable 0 c refl) (zero_in T refl c));
             levels = none;
             targets = refl;
             argument_targets = All-nil _;
@@ -68,10 +80,10 @@ vec_is_family =
             type = (
               1,
               pi 1 0 empty (sort 0 empty (lit< tt)) λ c1. pi 0 0 c1 (nat_in T refl c1) λ c2. pi 0 0 c2 (variable 1 c2 refl) λ c3.
-                  pi 0 0 c3 (vec_in T refl refl c3 (variable 2 c3 refl) (variable 1 c3 refl)) λ c4.
-                  vec_in T refl refl c4 (variable 3 c4 refl) (suc_in T refl c4 (variable 2 c4 refl)),
+                  pi 0 0 c3 (new_vec c3 (variable 2 c3 refl) (variable 1 c3 refl)) λ c4.
+                  new_vec c4 (variable 3 c4 refl) (suc_in T refl c4 (variable 2 c4 refl)),
             );
-            levels = cons_levels T refl refl;
+            levels = cons_levels;
             targets = refl;
             argument_targets = All-cons (HasTargets vec_family) (Plain Nat 0) (Plain (Var 1) 0 ∷ Recursive [] (Var 1 ∷ []) 0 ∷ []) tt
                 (both (HasTargets vec_family) (Plain (Var 1) 0) (Recursive [] (Var 1 ∷ []) 0) tt refl);
@@ -81,7 +93,7 @@ vec_is_family =
 
 tree_is_family : IsFamily (first_entries defined tree) tree_family
 tree_is_family =
-    let T = pushed (first_entries defined tree) (FamilyOf tree_family) in
+    let T = pushed (first_entries defined tree) (FamilyOf (without_constructors tree_family)) in
     record {
       level = lit< tt;
       type = (1, sort 0 empty (lit< tt));

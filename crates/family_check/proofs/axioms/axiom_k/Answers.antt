@@ -16,7 +16,7 @@ returns-clause-longer c =
 pub returns-clause-well_formed : goal.returns-clause-well_formed
 returns-clause-well_formed c = λ h.
     stays IsWellFormed _ _ _ _ _ c.find_or_enter_axiom_k.ensures.answer c.find_or_enter_axiom_k.ensures.err
-    (axiom_k-keeps c.args.sig.now c.args.i c.args.m c.args.units.now.left h c.requires.on) h
+    (axiom_k-keeps c.args.sig.now c.args.i c.args.m c.args.units.now.left h c.requires.on c.requires.prelude) h
 
 pub returns-clause-settled : goal.returns-clause-settled
 returns-clause-settled c =

@@ -1,5 +1,6 @@
-use Rattle.theory.proofs.Widening.{prefix_keeps, constructor-wider}
+use Rattle.theory.proofs.Widening.{prefix_carries}
+use Rattle.theory.proofs.Carrying.{constructor-carried}
 use Rattle.theory.proofs.signature_laws.constructors_over_longer.Goals as goal
 
 pub returns : goal.returns
-returns c = λ S T h n f c d. constructor-wider (prefix_keeps h) d
+returns c = λ S T h n f c d. constructor-carried (prefix_carries h) d
