@@ -20,7 +20,7 @@ use Rattle.family_check.specs.Outcomes.{ended}
 use Rattle.family_check.specs.Scopes.{IsSettled, IsScopedRaw, site_signature, IsScopedStop}
 use Rattle.family_check.proofs.Given.{IsGiven, type-given, family-given}
 use Rattle.family_check.proofs.NewNames.{none-passes, both-false, not-true, new-differ}
-use Rattle.family_check.proofs.Outcomes.{Splits}
+use Rattle.core_terms.proofs.Answers.{Splits}
 use Rattle.family_check.proofs.Scoped.{IsBareScoped, type-scoped}
 use Rattle.family_check.proofs.ScopedEntering.{OverBare, over-bare}
 use Rattle.family_check.proofs.ShapeLoops.{kinds-whole}

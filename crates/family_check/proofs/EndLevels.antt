@@ -5,13 +5,14 @@ use Rattle.theory.specs.Terms.{Term, top}
 use Rattle.theory.specs.Terms.Term.{Var, Sort, Pi}
 use Rattle.theory.specs.Telescopes.{Context}
 use Rattle.theory.specs.Signatures.{Signature}
-use Rattle.core_terms.specs.Answers.{Spent}
+use Rattle.core_terms.specs.Answers.{Spent, is_low}
 use Rattle.core_terms.specs.Verdicts.{Denial, Verdict}
 use Rattle.core_terms.specs.Verdicts.Verdict.{Yes, No}
 use Rattle.core_terms.specs.Verdicts.Reason.{LevelTooHigh}
 use Rattle.core_terms.specs.declared.stop.Stop.{Stop}
-use Rattle.kernel_reduce.specs.Reduction.{is_low, whnf_of}
-use Rattle.kernel_reduce.proofs.Answers.{Answers, and_then-has, charge-has, if_low-has}
+use Rattle.kernel_reduce.specs.Reduction.{whnf_of}
+use Rattle.core_terms.proofs.Answers.{Answers, and_next-has}
+use Rattle.kernel_reduce.proofs.Answers.{charge-has, if_low-has}
 use Rattle.kernel_check.specs.Checking.{typed, denied, universe_type, greater_sort, sort_of, infer_form, infer_of, infer_sort_of, check_of}
 use Rattle.kernel_check.specs.Laws.{IfYes}
 use Rattle.kernel_check.proofs.Parts.{Splits, if_typed-splits, child-splits}
@@ -78,7 +79,7 @@ mutual
   infer_sort-ends S zero G t left = tt
   infer_sort-ends S (suc room) G t left =
       if_typed-splits (EndsBelow t) (EndsBelow t) NoClaim (infer_of S room G t left) _ (infer-ends S room G t left) (λ c rest h.
-      and_then-has AnyType (Splits (EndsBelow t) NoClaim) (whnf_of S true rest c) _ (any (whnf_of S true rest c).0) (λ u end k.
+      and_next-has AnyType (Splits (EndsBelow t) NoClaim) (whnf_of S true rest c) _ (any (whnf_of S true rest c).0) (λ u end k.
       every (EndsBelow t) (λ type. h) (sort_of G u)))
 
 pub sort-ends : (S : Signature) (room : ℕ) (G : Context) (t : Term) (left : ℕ)

@@ -11,7 +11,8 @@ use Rattle.family_check.specs.Asking.{sort_in, type_in}
 use Rattle.family_check.specs.Entering.{Entered, are_new, enter_instance, unless_there, check_definition, declare_of, instance_of, axiom_k_of, define_of}
 use Rattle.family_check.specs.Families.{declare_family}
 use Rattle.family_check.specs.Outcomes.{OfType, OfBody, FamilyStop, Outcome}
-use Rattle.family_check.proofs.Outcomes.{Ends, and_next-has, if_new-has}
+use Rattle.core_terms.proofs.Answers.{Answers, and_next-has}
+use Rattle.family_check.proofs.Outcomes.{if_new-has}
 
 abbrev Extends : Signature → Entered → Type 0
 Extends S e = IsPrefix S e.signature
@@ -25,40 +26,40 @@ longer S e = record { more = e ∷ []; entries = refl; has_k = refl }
 abbrev Any : {A : Type 0} → A → Type 0
 Any a = Unit {0}
 
-any : {A : Type 0} (r : Outcome A) → Ends Any r
+any : {A : Type 0} (r : Outcome A) → Answers Any r
 any {A} r = go r.0
   where
     go : (x : Result A FamilyStop) → IfOk x Any
     go (Ok a) = tt
     go (Err e) = tt
 
-pub define-extends : (S : Signature) (name : List ℕ) (type body : Term) (left : ℕ) → Ends (Extends S) (define_of S name type body left)
+pub define-extends : (S : Signature) (name : List ℕ) (type body : Term) (left : ℕ) → Answers (Extends S) (define_of S name type body left)
 define-extends S name type body left =
     if_new-has (Extends S) (are_new S (name ∷ [])) (check_definition S name type body) left (λ test.
     and_next-has Any (Extends S) (sort_in S OfType [] type left) _ (any (sort_in S OfType [] type left)) (λ sort rest u.
     and_next-has Any (Extends S) (type_in S OfBody [] body type rest) _ (any (type_in S OfBody [] body type rest)) (λ found end v.
     longer S (Definition name type body))))
 
-pub declare-extends : (S : Signature) (raw : RawFamily) (left : ℕ) → Ends (Extends S) (declare_of S raw left)
+pub declare-extends : (S : Signature) (raw : RawFamily) (left : ℕ) → Answers (Extends S) (declare_of S raw left)
 declare-extends S raw left =
     if_new-has (Extends S) (are_new S (raw_names raw)) _ left (λ test.
     and_next-has Any (Extends S) (declare_family S raw left) _ (any (declare_family S raw left)) (λ f end u. longer S (FamilyOf f)))
 
-there-extends : (S : Signature) (place : Option ℕ) (enter : ℕ → Outcome Entered) (left : ℕ) → Ends (Extends S) (enter left) → Ends (Extends S) (unless_there S place enter left)
+there-extends : (S : Signature) (place : Option ℕ) (enter : ℕ → Outcome Entered) (left : ℕ) → Answers (Extends S) (enter left) → Answers (Extends S) (unless_there S place enter left)
 there-extends S (Some n) enter left h = itself S
 there-extends S None enter left h = h
 
-entry-extends : (S : Signature) (e : Entry) (fits : Bool) (type : Term) (left : ℕ) → Ends (Extends S) (enter_instance S e fits type left)
+entry-extends : (S : Signature) (e : Entry) (fits : Bool) (type : Term) (left : ℕ) → Answers (Extends S) (enter_instance S e fits type left)
 entry-extends S e false type left = tt
 entry-extends S e true type left =
     and_next-has Any (Extends S) (sort_in S OfType [] type left) _ (any (sort_in S OfType [] type left)) (λ sort end u. longer S e)
 
-pub instance-extends : (S : Signature) (n : ℕ) (f : Family) (m left : ℕ) → Ends (Extends S) (instance_of S n f m left)
+pub instance-extends : (S : Signature) (n : ℕ) (f : Family) (m left : ℕ) → Answers (Extends S) (instance_of S n f m left)
 instance-extends S n f m left =
     there-extends S (position (is_eliminator n m) S.entries) (enter_instance S (EliminatorAt n m) (nat_lt m top) (eliminator_type n f m)) left
     (entry-extends S (EliminatorAt n m) (nat_lt m top) (eliminator_type n f m) left)
 
-pub axiom_k-extends : (S : Signature) (i m left : ℕ) → Ends (Extends S) (axiom_k_of S i m left)
+pub axiom_k-extends : (S : Signature) (i m left : ℕ) → Answers (Extends S) (axiom_k_of S i m left)
 axiom_k-extends S i m left =
     there-extends S (position (is_axiom_k i m) S.entries) (enter_instance S (AxiomKAt i m) (nat_lt i top && nat_lt m top) (axiom_k_type i m)) left
     (entry-extends S (AxiomKAt i m) (nat_lt i top && nat_lt m top) (axiom_k_type i m) left)

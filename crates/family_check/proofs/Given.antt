@@ -16,7 +16,8 @@ use Rattle.family_check.specs.Families.{Role, level_in, levels_of, family_level,
 use Rattle.family_check.specs.Families.Role.{Parameter, Index, ArgumentOf}
 use Rattle.family_check.specs.Entering.{Entered, entered, are_new}
 use Rattle.family_check.specs.Laws.{IsAsDeclared, DeclareEntersGiven}
-use Rattle.family_check.proofs.Outcomes.{Ends, and_next-has, if_new-has}
+use Rattle.core_terms.proofs.Answers.{Answers, and_next-has}
+use Rattle.family_check.proofs.Outcomes.{if_new-has}
 use Rattle.family_check.proofs.Shapes.{products-of_parts, IsShaped, targets-shaped, constructor-typed}
 use Rattle.family_check.proofs.Zips.{zip-firsts}
 
@@ -28,7 +29,7 @@ any-answer (Ok a) = tt
 any-answer (Err e) = tt
 
 pub levels-counted : (S : Signature) (role : Role) (count : ℕ) (G : Context) (tele : Telescope) (left : ℕ)
-    → Ends (λ levels. length levels ≡ length tele) (levels_of S role count G tele left)
+    → Answers (λ levels. length levels ≡ length tele) (levels_of S role count G tele left)
 levels-counted S role count G [] left = refl
 levels-counted S role count G (a ∷ tele) left =
     and_next-has Any (λ levels. length levels ≡ length (a ∷ tele)) (level_in S role (count + 1) G a left) _ (any-answer (level_in S role (count + 1) G a left).0) (λ level rest any.
@@ -47,7 +48,7 @@ ends (Sort level) = refl
 ends (Const n) = tt
 ends _ = tt
 
-pub type-given : (S : Signature) (raw : RawFamily) (left : ℕ) → Ends (IsGiven raw) (declare_type S raw left)
+pub type-given : (S : Signature) (raw : RawFamily) (left : ℕ) → Answers (IsGiven raw) (declare_type S raw left)
 unfolding sort_in
 type-given S raw left =
     let G = context_behind [] raw.parameters in
@@ -70,7 +71,7 @@ record IsGivenConstructor (n : ℕ) (f : Family) (raw : RawConstructor) (c : Con
   pub type : constructor_type n f c ≡ products f.parameters raw.type
 
 constructor-given : (S : Signature) (n : ℕ) (f : Family) (number : ℕ) (raw : RawConstructor) (left : ℕ)
-    → Ends (IsGivenConstructor n f raw) (declare_constructor S n f number raw left)
+    → Answers (IsGivenConstructor n f raw) (declare_constructor S n f number raw left)
 unfolding sort_in
 constructor-given S n f number raw left =
     let G = context_behind [] f.parameters in
@@ -89,7 +90,7 @@ record AreGiven (n : ℕ) (f : Family) (raws : List RawConstructor) (cs : List C
   pub types : map (constructor_type n f) cs ≡ map (λ r. products f.parameters r.type) raws
 
 constructors-given : (S : Signature) (n : ℕ) (f : Family) (number : ℕ) (raws : List RawConstructor) (left : ℕ)
-    → Ends (AreGiven n f raws) (declare_constructors S n f number raws left)
+    → Answers (AreGiven n f raws) (declare_constructors S n f number raws left)
 constructors-given S n f number [] left = record { names = refl; types = refl }
 constructors-given S n f number (raw ∷ raws) left =
     and_next-has (IsGivenConstructor n f raw) (AreGiven n f (raw ∷ raws)) (declare_constructor S n f number raw left) _
@@ -98,7 +99,7 @@ constructors-given S n f number (raw ∷ raws) left =
     (constructors-given S n f (number + 1) raws rest) (λ cs end k.
     record { names = ap₂ ◌∷◌ h.name k.names; types = ap₂ ◌∷◌ h.type k.types }))
 
-pub family-given : (S : Signature) (raw : RawFamily) (left : ℕ) → Ends (IsAsDeclared (length S.entries) raw) (declare_family S raw left)
+pub family-given : (S : Signature) (raw : RawFamily) (left : ℕ) → Answers (IsAsDeclared (length S.entries) raw) (declare_family S raw left)
 family-given S raw left =
     let n = length S.entries in
     and_next-has (IsGiven raw) (IsAsDeclared n raw) (declare_type S raw left) _ (type-given S raw left) (λ f rest h.

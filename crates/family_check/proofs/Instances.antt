@@ -4,13 +4,12 @@ use Rattle.std.proofs.lemmas.Bool.Decides.{nat_tests}
 use Rattle.theory.specs.Terms.{Term, height}
 use Rattle.theory.specs.Families.{Family}
 use Rattle.theory.specs.Signatures.{Entry, FamilyOf, Signature, IsEntryAt}
-use Rattle.core_terms.specs.Answers.{bounded}
-use Rattle.core_terms.specs.Verdicts.{LevelTooHigh}
+use Rattle.core_terms.specs.Answers.{bounded, and_next}
 use Rattle.core_terms.specs.declared.stop.Stop as stop
 use Rattle.core_terms.specs.declared.stop.Stop.TheVariants.{Memory, Deep}
 use Rattle.family_check.specs.Entering.{entered, entered_at, enter_instance}
 use Rattle.family_check.specs.Meanings.{Yields, stop_of}
-use Rattle.family_check.specs.Outcomes.{OfType, Denied, Stopped, and_next, ended}
+use Rattle.family_check.specs.Outcomes.{OfType, Stopped, ended}
 use Rattle.family_check.specs.declared.stop.FamilyStop.{FamilyStop}
 use Rattle.family_check.specs.declared.stop.FamilyStop.TheVariants.{Stop}
 use Rattle.family_check.proofs.Lowness.{sort-deep}
@@ -19,12 +18,6 @@ use Rattle.family_check.proofs.Lowness.{sort-deep}
 pub fits-yields : (S T : Signature) (e : Entry) (fits : Bool) (type : Term) (r : Result ℕ FamilyStop) (left l : ℕ) → fits ≡ true
     → Yields (entered_at T) r left (enter_instance S e true type l) → Yields (entered_at T) r left (enter_instance S e fits type l)
 fits-yields S T e fits type r left l is h = transport (λ b. Yields (entered_at T) r left (enter_instance S e b type l)) (sym is) h
-
--- they do not
-pub unfit-yields : (S T : Signature) (e : Entry) (fits : Bool) (type : Term) (s : FamilyStop) (l : ℕ) → fits ≡ false
-    → stop_of s ≡ Denied OfType (record { place = []; ctx = []; reason = LevelTooHigh }) → Yields (entered_at T) (Err s) l (enter_instance S e fits type l)
-unfit-yields S T e fits type s l is at =
-    transport (λ b. Yields (entered_at T) (Err s) l (enter_instance S e b type l)) (sym is) (λ q. ap (λ x. ended (Err x) l) at)
 
 deep-instance : (S : Signature) (e : Entry) (type : Term) (l : ℕ) → 2000 < height type → enter_instance S e true type l ≡ ended (Err (Stopped Deep)) l
 deep-instance S e type l high = ap (λ x. and_next x (λ sort end. ended (Ok (entered S e)) end)) (sort-deep S OfType [] type l high)

@@ -24,7 +24,6 @@ pub mod ScopedTelescopes
 pub mod Settling
 pub mod ShapeLoops
 pub mod Shapes
-pub mod SoFar
 pub mod Soundness
 pub mod Spending
 pub mod Zips

@@ -8,13 +8,15 @@ use Rattle.core_terms.specs.Verdicts.{Verdict}
 use Rattle.core_terms.specs.Verdicts.Verdict.{Yes, No}
 use Rattle.core_terms.specs.declared.stop.Stop.{Stop}
 use Rattle.core_terms.specs.declared.stop.Stop.TheVariants.{Deep}
-use Rattle.kernel_reduce.specs.Reduction.{answered, charge, if_low, is_low, nesting, whnf_of, and_then}
-use Rattle.kernel_reduce.proofs.Answers.{Answers, and_then-has, if_low-has, low-is}
+use Rattle.core_terms.specs.Answers.{and_next, is_low}
+use Rattle.kernel_reduce.specs.Reduction.{answered, charge, if_low, nesting, whnf_of}
+use Rattle.core_terms.proofs.Answers.{Answers, and_next-has, low-is}
+use Rattle.kernel_reduce.proofs.Answers.{if_low-has}
 use Rattle.kernel_check.specs.Checking.{infer_form, infer_of, infer_sort_of, check_of, if_typed, sort_of}
 use Rattle.kernel_check.specs.Laws.{IfYes}
 use Rattle.family_check.specs.Asking.{sort_in}
 use Rattle.family_check.specs.Outcomes.{Site, Stopped, ended, granted}
-use Rattle.family_check.proofs.Outcomes.{Ends, granted-has}
+use Rattle.family_check.proofs.Outcomes.{granted-has}
 
 -- what holds anyway
 anyway : {A : Type 0} (P : Type 0) (r : Result A Stop) → P → IfOk r (λ a. P)
@@ -30,7 +32,7 @@ infer-low S (suc room) G t left =
 infer_sort-low : (S : Signature) (room : ℕ) (G : Context) (t : Term) (left : ℕ) → Answers (λ v. height t ≤ 2000) (infer_sort_of S room G t left)
 infer_sort-low S zero G t left = tt
 infer_sort-low S (suc room) G t left =
-    and_then-has (λ v. height t ≤ 2000) (λ v. height t ≤ 2000) (infer_of S room G t left) _ (infer-low S room G t left) (λ verdict rest low.
+    and_next-has (λ v. height t ≤ 2000) (λ v. height t ≤ 2000) (infer_of S room G t left) _ (infer-low S room G t left) (λ verdict rest low.
     anyway (height t ≤ 2000) _ low)
 
 if_yes : (P : Type 0) (r : Result Verdict Stop) → IfOk r (λ v. P) → IfOk r (λ v. IfYes v (λ type. P))
@@ -38,7 +40,7 @@ if_yes P (Ok (Yes type)) h = h
 if_yes P (Ok (No denial)) h = tt
 if_yes P (Err e) h = tt
 
-pub sort-low : (S : Signature) (site : Site) (G : Context) (t : Term) (left : ℕ) → Ends (λ sort. height t ≤ 2000) (sort_in S site G t left)
+pub sort-low : (S : Signature) (site : Site) (G : Context) (t : Term) (left : ℕ) → Answers (λ sort. height t ≤ 2000) (sort_in S site G t left)
 unfolding sort_in
 sort-low S site G t left =
     granted-has (λ sort. height t ≤ 2000) site (infer_sort_of S nesting G t left)
@@ -53,7 +55,7 @@ infer-deep S room under G t left is high =
 infer_sort-deep : (S : Signature) (room under : ℕ) (G : Context) (t : Term) (left : ℕ) → room ≡ suc (suc under) → 2000 < height t → infer_sort_of S room G t left ≡ answered (Err Deep) left
 infer_sort-deep S room under G t left is high =
     ap (λ r. infer_sort_of S r G t left) is
-    ∙ ap (λ r. if_typed r (λ c rest. and_then (whnf_of S true rest c) (λ u end. answered (sort_of G u) end))) (infer-deep S (suc under) under G t left refl high)
+    ∙ ap (λ r. if_typed r (λ c rest. and_next (whnf_of S true rest c) (λ u end. answered (sort_of G u) end))) (infer-deep S (suc under) under G t left refl high)
 
 pub sort-deep : (S : Signature) (site : Site) (G : Context) (t : Term) (left : ℕ) → 2000 < height t → sort_in S site G t left ≡ ended (Err (Stopped Deep)) left
 unfolding sort_in

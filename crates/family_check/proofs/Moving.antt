@@ -2,12 +2,12 @@
 use Rattle.std.proofs.Common.{◌≡◌, ℕ, ◌+◌, List, [], ◌∷◌, length, sym, ap, ◌∙◌, subst as transport, inl, inr, arith}
 use Rattle.theory.specs.Terms.{Term}
 use Rattle.theory.specs.Terms.Term.{Var, Pi, Lam, App, Let, Const, Fam, Con, Elim}
-use Rattle.theory.specs.Telescopes.{Context, Telescope}
+use Rattle.theory.specs.Telescopes.{Telescope}
 use Rattle.theory.specs.Families.{Argument, Family}
 use Rattle.theory.specs.Families.Argument.{Plain, Recursive}
 use Rattle.theory.specs.Signatures.{Signature, Entry, FamilyOf, EliminatorAt, AxiomKAt, Definition, IsEntryAt}
 use Rattle.theory.specs.WellFormed.{pushed}
-use Rattle.theory.specs.SignatureScopes.{IsConstantNumber, IsFamilyNumber, IsConstructorNumber, HasEntries, IsScoped, IsScopedTelescope, IsScopedContext, IsScopedArguments}
+use Rattle.theory.specs.SignatureScopes.{IsConstantNumber, IsFamilyNumber, IsConstructorNumber, HasEntries, IsScoped, IsScopedTelescope, IsScopedArguments}
 use Rattle.theory.proofs.Lists.{slice_get-last, slice_get-longer}
 use Rattle.theory.proofs.Pushing.{entry_of-pushed}
 use Rattle.core_terms.specs.Verdicts.{Reason, Denial}
@@ -38,10 +38,6 @@ scoped-moved {S} {T} m {n} {t} h = record { variables = h.variables; entries = e
 pub telescope-moved : {S T : Signature} → Moves S T → (n : ℕ) (tele : Telescope) → IsScopedTelescope S n tele → IsScopedTelescope T n tele
 telescope-moved m n [] h = tt
 telescope-moved m n (a ∷ tele) h = (scoped-moved m h.0, telescope-moved m (n + 1) tele h.1)
-
-pub context-moved : {S T : Signature} → Moves S T → (G : Context) → IsScopedContext S G → IsScopedContext T G
-context-moved m [] h = tt
-context-moved m (a ∷ G) h = (scoped-moved m h.0, context-moved m G h.1)
 
 reason-moved : {S T : Signature} → Moves S T → (n : ℕ) (reason : Reason) → IsScopedReason S n reason → IsScopedReason T n reason
 reason-moved m n (Mismatch found wanted) h = (scoped-moved m h.0, scoped-moved m h.1)

@@ -3,7 +3,7 @@ use Rattle.std.proofs.Common.{◌≡◌, ℕ, ◌+◌, ◌<◌, ◌≤◌, Resul
 use Rattle.std.proofs.lemmas.List.{length-map}
 use Rattle.std.proofs.lemmas.List.Elements.{All-nil, All-cons}
 use Rattle.theory.specs.Terms.{Term}
-use Rattle.theory.specs.Terms.Term.{Var, Sort, Pi, Lam, App, Fam, Con}
+use Rattle.theory.specs.Terms.Term.{Var, Sort, Pi, App, Fam, Con}
 use Rattle.theory.specs.Telescopes.{Telescope}
 use Rattle.theory.specs.Prelude.{prelude, empty_family}
 use Rattle.theory.specs.Signatures.{FamilyOf, Signature, names_of}
@@ -34,9 +34,6 @@ con-scoped S m n c h = record { variables = omega arith; entries = h }
 
 pub pi-scoped : (S : Signature) (m : ℕ) (a b : Term) → IsScoped S m a → IsScoped S (m + 1) b → IsScoped S m (Pi a b)
 pi-scoped S m a b h k = let v = h.variables in let w = k.variables in record { variables = omega arith; entries = (h.entries, k.entries) }
-
-pub lam-scoped : (S : Signature) (m : ℕ) (a b : Term) → IsScoped S m a → IsScoped S (m + 1) b → IsScoped S m (Lam a b)
-lam-scoped S m a b h k = let v = h.variables in let w = k.variables in record { variables = omega arith; entries = (h.entries, k.entries) }
 
 pub app-scoped : (S : Signature) (m : ℕ) (f a : Term) → IsScoped S m f → IsScoped S m a → IsScoped S m (App f a)
 app-scoped S m f a h k = let v = h.variables in let w = k.variables in record { variables = omega arith; entries = (h.entries, k.entries) }
@@ -123,16 +120,6 @@ alone-scoped r params n ty one other first second p t c none is is' =
     (transport (λ (ps : List Term). IsScoped (with_raw S (raw_of x)) (length ps) (tree_of second.ty)) (sym (ap tele_of none)) (transport (λ u. IsScoped (with_raw S (raw_of x)) 0 (tree_of u)) (sym is') k)))
 
 -- the types of constructors that the tests declare
-
-pub identity_type-scoped : (S : Signature) (t : Term) → t ≡ Pi (Sort 0) (Pi (Var 0) (Var 1)) → IsScoped S 0 t
-identity_type-scoped S t is =
-    transport (IsScoped S 0) (sym is)
-    (pi-scoped S 0 (Sort 0) (Pi (Var 0) (Var 1)) (sort-scoped S 0 0) (pi-scoped S 1 (Var 0) (Var 1) (var-scoped S 1 0 (omega arith)) (var-scoped S 2 1 (omega arith))))
-
-pub identity-scoped : (S : Signature) (t : Term) → t ≡ Lam (Sort 0) (Lam (Var 0) (Var 0)) → IsScoped S 0 t
-identity-scoped S t is =
-    transport (IsScoped S 0) (sym is)
-    (lam-scoped S 0 (Sort 0) (Lam (Var 0) (Var 0)) (sort-scoped S 0 0) (lam-scoped S 1 (Var 0) (Var 0) (var-scoped S 1 0 (omega arith)) (var-scoped S 2 0 (omega arith))))
 
 pub vec-scoped : (S : Signature) (m v : ℕ) (a n : Term) → IsFamilyNumber S v → IsScoped S m a → IsScoped S m n → IsScoped S m (App (App (Fam v) a) n)
 vec-scoped S m v a n h k l = app-scoped S m (App (Fam v) a) n (app-scoped S m (Fam v) a (family-scoped S m v h) k) l

@@ -26,7 +26,7 @@ use Rattle.family_check.specs.Families.{Role, site_of, fitting, sort_level, leve
 use Rattle.family_check.specs.Families.Role.{Parameter, Index, ArgumentOf}
 use Rattle.family_check.specs.Scopes.{IsSettled, IsScopedRaw, site_signature, IsScopedStop}
 use Rattle.family_check.proofs.EndLevels.{EndsBelow, sort-ends}
-use Rattle.family_check.proofs.Outcomes.{Splits, and_next-splits}
+use Rattle.core_terms.proofs.Answers.{Splits, and_next-splits}
 use Rattle.family_check.proofs.ScopedShapes.{domains-scoped}
 use Rattle.family_check.proofs.Settling.{first-all}
 use Rattle.family_check.proofs.Zips.{zip-firsts}

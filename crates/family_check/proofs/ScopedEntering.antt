@@ -32,7 +32,7 @@ use Rattle.family_check.specs.Scopes.{IsSettled, IsScopedRaw, site_signature, Is
 use Rattle.family_check.specs.Entering.{Entered, if_new, are_new, enter_instance, unless_there, check_definition}
 use Rattle.family_check.specs.Laws.{DeclareKeepsSettled, InstanceKeepsSettled, AxiomKKeepsSettled, DefineKeepsSettled}
 use Rattle.family_check.proofs.Moving.{Moves, scoped-moved, telescope-moved, denial-moved, longer-moves, eliminator-moves, axiom_k-moves, family-moves, arguments-moved}
-use Rattle.family_check.proofs.Outcomes.{Splits, and_next-splits, split-parts}
+use Rattle.core_terms.proofs.Answers.{Splits, and_next-splits, split-parts}
 use Rattle.family_check.proofs.Scoped.{Any, any-type, granted-splits, AreWithin, levels-within, length-behind, IsBareScoped, type-scoped}
 use Rattle.family_check.proofs.ScopedShapes.{domains-scoped, targets-scoped, arguments-scoped}
 use Rattle.family_check.proofs.Settling.{first-all, first-whole, push-settled}

@@ -1,8 +1,7 @@
 -- The parts of a family and of a constructor, as far as a loop along their types has come.
-use Rattle.std.proofs.Common.{◌≡◌, ℕ, zero, suc, ◌+◌, ◌<◌, ◌≤◌, true, false, cond, Bool, Option, Some, None, IfSome, Ok, Err, List, [], ◌∷◌, ◌++◌, map, length, drop, get_or, zip, refl, ap, ap₂, sym, ◌∙◌, append_assoc, All, subst as transport, arith}
+use Rattle.std.proofs.Common.{◌≡◌, ℕ, ◌+◌, ◌<◌, ◌≤◌, true, false, cond, Bool, Option, Some, None, IfSome, Ok, Err, List, [], ◌∷◌, ◌++◌, map, length, drop, get_or, zip, refl, ap, ap₂, sym, ◌∙◌, append_assoc, subst as transport, arith}
 use Rattle.std.specs.Option.{is_some}
-use Rattle.std.proofs.lemmas.List.{drop_all, length-append, map-append}
-use Rattle.std.proofs.lemmas.List.Elements.{All-append, All-cons, All-nil}
+use Rattle.std.proofs.lemmas.List.{length-append, map-append}
 use Rattle.theory.specs.Terms.{Term}
 use Rattle.theory.specs.Spines.{spine_of}
 use Rattle.theory.specs.Telescopes.{Telescope, weaken_by}
@@ -21,7 +20,7 @@ use Rattle.family_check.specs.Kinds.{is_recursive}
 use Rattle.family_check.specs.Outcomes.{NotPositive}
 use Rattle.family_check.specs.Shapes.{domains_of, end_of, targets_of, arguments, is_positive, first_offender, unless_offender, constructor_targets}
 use Rattle.family_check.proofs.KindShapes.{kind-takes, end-tells, targets-behind, not-product}
-use Rattle.family_check.proofs.LevelLoops.{drop-at}
+use Rattle.core_terms.proofs.Lists.{drop-at, get-any, count-more}
 use Rattle.family_check.proofs.Shapes.{IsEnd, targets-found}
 
 -- an index and the level of its type
@@ -100,9 +99,6 @@ pub offender-here : (n : ℕ) (f : Family) (types : Telescope) (k : ℕ) (a : Te
 offender-here n f types k a whole before lt is test =
     sym (before ∙ (offender-step n f types k a lt is ∙ ap (λ b. cond b (first_offender n f (k + 1) (drop (k + 1) types)) (Some (k + 1))) test))
 
-pub offender-none : (n : ℕ) (f : Family) (types : Telescope) (k : ℕ) (whole : Option ℕ) → whole ≡ first_offender n f k (drop k types) → length types ≤ k → None ≡ whole
-offender-none n f types k whole before le = sym (before ∙ ap (first_offender n f k) (drop_all k types le))
-
 none-of : {A : Type 0} (o : Option A) → is_some o ≡ false → o ≡ None
 none-of None h = refl
 none-of (Some a) h = absurd (grind arith)
@@ -136,21 +132,6 @@ pub long-end : (n : ℕ) (f : Family) (k : ℕ) (kind : ArgKind) (end : Term) �
     → length f.parameters ≤ length (spine_of end)
 long-end n f k kind end ended h is = end-long n f k end (end-is n f k kind end true ended h is)
 
--- an argument offends
-pub offends-first : (n : ℕ) (f : Family) (number : ℕ) (t : Term) (types : Telescope) (end : Term) (k : ℕ) → domains_of t ≡ types → end_of t ≡ end → Some k ≡ first_offender n f 0 types
-    → Err (NotPositive number k) ≡ on_targets number (constructor_targets n f t)
-offends-first n f number t types end k domains ends is =
-    sym (ap (on_targets number) (targets-by n f t types end (Some k) (targets_of n f (length types) end) domains ends (sym is) refl))
-
--- within the list the default does not matter
-get-any : {A : Type 0} (xs : List A) (k : ℕ) (d e : A) → k < length xs → get_or xs k d ≡ get_or xs k e
-get-any [] k d e lt = absurd (omega arith)
-get-any (x ∷ xs) zero d e lt = refl
-get-any (x ∷ xs) (suc k) d e lt = get-any xs k d e (omega arith)
-
-pub count-more : {A : Type 0} (xs ys : List A) (x : A) → ys ≡ xs ++ x ∷ [] → length xs + 1 ≡ length ys
-count-more xs ys x is = let count = ap length is in omega (arith, length-append xs (x ∷ []))
-
 pub arguments-on : (n : ℕ) (f : Family) (types : Telescope) (levels : List ℕ) (whole : List pure.Argument) (args view more : List Arg) (ty : code.Term) (kind : ArgKind) (p : ℕ)
     → p ≡ length f.parameters → whole ≡ map (argument_of p) args ++ arguments n f (length args) (drop (length args) types) (drop (length args) levels)
     → view ≡ args → more ≡ args ++ record { ty = ty; level = get_or levels (length view) 0; kind = kind } ∷ [] → length args < length types
@@ -183,9 +164,6 @@ zip-on types levels whole args view more i ty before viewed is typed leveled lt 
     ∙ ap₂ (λ xs j. xs ++ zip (drop j types) (drop j levels))
     (ap (λ x. map index_parts args ++ x ∷ []) (sym parts) ∙ (sym (map-append index_parts args (i ∷ [])) ∙ ap (map index_parts) (sym is)))
     (count-more args more i is))
-
-pub all-more : {A : Type 0} (P : A → Type 0) (xs ys : List A) (x : A) → ys ≡ xs ++ x ∷ [] → All P xs → P x → All P ys
-all-more P xs ys x is h k = transport (All P) (sym is) (All-append P xs (x ∷ []) h (All-cons P x [] k (All-nil P)))
 
 pub kinds-on : (n : ℕ) (f : Family) (args view more : List Arg) (a : Arg) → view ≡ args → more ≡ args ++ a ∷ [] → HaveKinds n f 0 args → HasKind n f (length view) a.kind (tree_of a.ty)
     → HaveKinds n f 0 more

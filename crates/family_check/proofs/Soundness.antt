@@ -34,7 +34,8 @@ use Rattle.family_check.specs.Families.{Role, site_of, fitting, sort_level, leve
 use Rattle.family_check.specs.Families.Role.{Parameter, Index, ArgumentOf}
 use Rattle.family_check.specs.Entering.{Entered, are_new, enter_instance, unless_there}
 use Rattle.family_check.specs.Laws.{DeclareKeepsWellFormed, InstanceKeepsWellFormed, AxiomKKeepsWellFormed, DefineKeepsWellFormed}
-use Rattle.family_check.proofs.Outcomes.{Ends, and_next-has, granted-has, if_new-has}
+use Rattle.core_terms.proofs.Answers.{Answers, and_next-has}
+use Rattle.family_check.proofs.Outcomes.{granted-has, if_new-has}
 use Rattle.family_check.proofs.Shapes.{products-of_parts, IsShaped, targets-shaped, arguments-leveled, arguments-targeted, telescope-of, constructor-typed}
 use Rattle.family_check.proofs.Zips.{zip-firsts, zip-seconds}
 use Rattle.family_check.proofs.PreludeEntries.{identity-there}
@@ -42,7 +43,7 @@ use Rattle.family_check.proofs.NewNames.{DifferFrom, new-differ, first-differs, 
 
 -- a sort that is granted has a derivation
 sort-granted : (S : Signature) → IsTyped S → (site : Site) (G : Context) (t : Term) (left : ℕ) → IsContext S G
-    → Ends (HasUniverse S G t) (granted site (infer_sort_of S nesting G t left))
+    → Answers (HasUniverse S G t) (granted site (infer_sort_of S nesting G t left))
 sort-granted S typed site G t left context =
     granted-has (HasUniverse S G t) site (infer_sort_of S nesting G t left) (infer_sort-is_sound S typed nesting G t left context)
 
@@ -70,7 +71,7 @@ record IsLevel (S : Signature) (role : Role) (G : Context) (a : Term) (level : �
   pub fits : level ≤ limit_of role
 
 level-sound : (S : Signature) → IsTyped S → (role : Role) (k : ℕ) (G : Context) (a : Term) (left : ℕ) → IsContext S G
-    → Ends (IsLevel S role G a) (level_in S role k G a left)
+    → Answers (IsLevel S role G a) (level_in S role k G a left)
 unfolding sort_in
 level-sound S typed role k G a left context =
     and_next-has (HasUniverse S G a) (IsLevel S role G a) (granted (site_of role k) (infer_sort_of S nesting G a left)) _
@@ -83,7 +84,7 @@ level-sound S typed role k G a left context =
     go u (Err e) h = tt
 
 levels-sound : (S : Signature) → IsTyped S → (role : Role) (count : ℕ) (G : Context) (tele : Telescope) (left : ℕ) → IsContext S G
-    → Ends (HasLevels S (limit_of role) G tele) (levels_of S role count G tele left)
+    → Answers (HasLevels S (limit_of role) G tele) (levels_of S role count G tele left)
 levels-sound S typed role count G [] left context = none
 levels-sound S typed role count G (a ∷ tele) left context =
     and_next-has (IsLevel S role G a) (HasLevels S (limit_of role) G (a ∷ tele)) (level_in S role (count + 1) G a left) _
@@ -149,7 +150,7 @@ bare-family S typed raw parameter_levels levels level params u ends indices =
       positive = All-nil _;
     }
 
-type-sound : (S : Signature) → IsTyped S → (raw : RawFamily) (left : ℕ) → Ends (IsBare S raw) (declare_type S raw left)
+type-sound : (S : Signature) → IsTyped S → (raw : RawFamily) (left : ℕ) → Answers (IsBare S raw) (declare_type S raw left)
 unfolding sort_in
 type-sound S typed raw left =
     let G = context_behind [] raw.parameters in
@@ -193,7 +194,7 @@ constructor-formed T n f raw targets levels context u shaped leveled =
     counted = levels-counted leveled
 
 constructor-sound : (T : Signature) → IsTyped T → (n : ℕ) (f : Family) (number : ℕ) (raw : RawConstructor) (left : ℕ)
-    → IsContext T (context_behind [] f.parameters) → Ends (IsFormed T n f raw.name) (declare_constructor T n f number raw left)
+    → IsContext T (context_behind [] f.parameters) → Answers (IsFormed T n f raw.name) (declare_constructor T n f number raw left)
 unfolding sort_in
 constructor-sound T typed n f number raw left context =
     let G = context_behind [] f.parameters in
@@ -212,7 +213,7 @@ record AreFormed (T : Signature) (n : ℕ) (f : Family) (raws : List RawConstruc
   pub positive : All (IsPositiveConstructor n) cs
 
 constructors-sound : (T : Signature) → IsTyped T → (n : ℕ) (f : Family) (number : ℕ) (raws : List RawConstructor) (left : ℕ)
-    → IsContext T (context_behind [] f.parameters) → Ends (AreFormed T n f raws) (declare_constructors T n f number raws left)
+    → IsContext T (context_behind [] f.parameters) → Answers (AreFormed T n f raws) (declare_constructors T n f number raws left)
 constructors-sound T typed n f number [] left context = record { names = refl; formed = All-nil _; positive = All-nil _ }
 constructors-sound T typed n f number (raw ∷ raws) left context =
     and_next-has (IsFormed T n f raw.name) (AreFormed T n f (raw ∷ raws)) (declare_constructor T n f number raw left) _
@@ -251,7 +252,7 @@ family-complete S raw f cs b k = record {
 }
 
 family-sound : (S : Signature) → IsWellFormed S → (raw : RawFamily) (left : ℕ) → DifferFrom S (raw_names raw)
-    → Ends (IsDeclared S raw) (declare_family S raw left)
+    → Answers (IsDeclared S raw) (declare_family S raw left)
 family-sound S h raw left new =
     and_next-has (IsBare S raw) (IsDeclared S raw) (declare_type S raw left) _
     (type-sound S (well_formed_typed S h) raw left) (λ f rest b.
@@ -315,13 +316,13 @@ both-same : (a b : ℕ) → ((a == a) && (b == b)) ≡ true
 both-same a b = ap₂ ◌&&◌ ((Decides-eqb a a).1 refl) ((Decides-eqb b b).1 refl)
 
 there-keeps : (S : Signature) (place : Option ℕ) (enter : ℕ → Outcome Entered) (left : ℕ) → IsWellFormed S
-    → (place ≡ None → Ends (λ e. IsWellFormed e.signature) (enter left)) → Ends (λ e. IsWellFormed e.signature) (unless_there S place enter left)
+    → (place ≡ None → Answers (λ e. IsWellFormed e.signature) (enter left)) → Answers (λ e. IsWellFormed e.signature) (unless_there S place enter left)
 there-keeps S (Some n) enter left h k = h
 there-keeps S None enter left h k = k refl
 
 -- an instance, which brings no names
 instance-enters : (S : Signature) (e : Entry) (fits : Bool) (type : Term) (left : ℕ) → IsWellFormed S → names_of e ≡ []
-    → (fits ≡ true → HasSort S [] type → IsEntry S e) → Ends (λ x. IsWellFormed x.signature) (enter_instance S e fits type left)
+    → (fits ≡ true → HasSort S [] type → IsEntry S e) → Answers (λ x. IsWellFormed x.signature) (enter_instance S e fits type left)
 unfolding sort_in
 instance-enters S e false type left h nameless made = tt
 instance-enters S e true type left h nameless made =

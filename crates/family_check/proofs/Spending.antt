@@ -11,13 +11,16 @@ use Rattle.kernel_reduce.specs.Reduction.{nesting}
 use Rattle.kernel_check.specs.Symbols.{is_eliminator, is_axiom_k}
 use Rattle.kernel_check.specs.Checking.{infer_sort_of, check_of}
 use Rattle.kernel_check.proofs.Spending.{infer_sort-spends, check-spends}
-use Rattle.family_check.specs.Outcomes.{OfType, OfBody, OfConstructor, Outcome, ended, and_next, granted}
+use Rattle.core_terms.specs.Answers.{and_next}
+use Rattle.family_check.specs.Outcomes.{OfType, OfBody, OfConstructor, Outcome, ended, granted}
 use Rattle.family_check.specs.Asking.{sort_in, type_in}
 use Rattle.family_check.specs.Shapes.{domains_of, end_of, constructor_targets}
 use Rattle.family_check.specs.Families.{Role, Parameter, Index, ArgumentOf, site_of, level_in, levels_of, family_level, declare_type, on_targets, declare_constructor, declare_constructors, declare_family}
 use Rattle.family_check.specs.Entering.{Entered, entered, are_new, enter_instance, unless_there, check_definition}
 use Rattle.family_check.specs.Laws.{DeclareSpends, InstanceSpends, AxiomKSpends, DefineSpends}
-use Rattle.family_check.proofs.Outcomes.{and_next-spends, if_new-spends}
+use Rattle.core_terms.proofs.Answers.{and_next-spends}
+use Rattle.core_terms.proofs.Loops.{each-spends}
+use Rattle.family_check.proofs.Outcomes.{if_new-spends}
 
 level-spends : (S : Signature) (role : Role) (k : ℕ) (G : Context) (a : Term) (left : ℕ) → (level_in S role k G a left).1 ≤ left
 unfolding sort_in
@@ -25,11 +28,8 @@ level-spends S role k G a left =
     and_next-spends (granted (site_of role k) (infer_sort_of S nesting G a left)) _ left (infer_sort-spends S nesting G a left) (λ sort rest. omega arith)
 
 levels-spends : (S : Signature) (role : Role) (count : ℕ) (G : Context) (tele : Telescope) (left : ℕ) → (levels_of S role count G tele left).1 ≤ left
-levels-spends S role count G [] left = omega arith
-levels-spends S role count G (a ∷ tele) left =
-    and_next-spends (level_in S role (count + 1) G a left) _ left (level-spends S role (count + 1) G a left) (λ level rest.
-    and_next-spends (levels_of S role (count + 1) (a ∷ G) tele rest) _ rest (levels-spends S role (count + 1) (a ∷ G) tele rest) (λ levels end.
-    omega arith))
+levels-spends S role count G tele left =
+    each-spends (λ G k a. level_in S role (k + 1) G a) (λ G a. a ∷ G) (λ G k a left. level-spends S role (k + 1) G a left) G count tele left
 
 type-spends : (S : Signature) (raw : RawFamily) (left : ℕ) → (declare_type S raw left).1 ≤ left
 unfolding sort_in
@@ -51,11 +51,8 @@ constructor-spends S n f number raw left =
     omega arith)))
 
 constructors-spends : (S : Signature) (n : ℕ) (f : Family) (number : ℕ) (raws : List RawConstructor) (left : ℕ) → (declare_constructors S n f number raws left).1 ≤ left
-constructors-spends S n f number [] left = omega arith
-constructors-spends S n f number (raw ∷ raws) left =
-    and_next-spends (declare_constructor S n f number raw left) _ left (constructor-spends S n f number raw left) (λ c rest.
-    and_next-spends (declare_constructors S n f (number + 1) raws rest) _ rest (constructors-spends S n f (number + 1) raws rest) (λ cs end.
-    omega arith))
+constructors-spends S n f number raws left =
+    each-spends {S = Unit {0}} (λ s k raw. declare_constructor S n f k raw) (λ s raw. s) (λ s k raw left. constructor-spends S n f k raw left) tt number raws left
 
 family-spends : (S : Signature) (raw : RawFamily) (left : ℕ) → (declare_family S raw left).1 ≤ left
 family-spends S raw left =

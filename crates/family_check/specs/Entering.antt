@@ -11,7 +11,8 @@ use Rattle.core_terms.specs.Verdicts.{LevelTooHigh}
 use Rattle.core_sig.specs.Names.{find}
 use Rattle.core_sig.specs.Raw.{RawFamily, raw_names}
 use Rattle.kernel_check.specs.Symbols.{is_eliminator, is_axiom_k}
-use Rattle.family_check.specs.Outcomes.{OfType, OfBody, Denied, Duplicate, Outcome, ended, and_next}
+use Rattle.core_terms.specs.Answers.{and_next}
+use Rattle.family_check.specs.Outcomes.{OfType, OfBody, Denied, Duplicate, Outcome, ended}
 use Rattle.family_check.specs.Asking.{sort_in, type_in}
 use Rattle.family_check.specs.Families.{declare_family}
 
@@ -36,6 +37,10 @@ has_repeat (name ∷ names) = list_any (bytes_eq name) names || has_repeat names
 -- the signature knows none of the names, and none of them stands twice
 abbrev pub are_new : Signature → List (List ℕ) → Bool
 are_new S names = not (list_any (λ name. is_some (find S name)) names || has_repeat names)
+
+-- the signature knows the name, or the name stands among those before it
+abbrev pub is_taken : Signature → List (List ℕ) → List ℕ → Bool
+is_taken S before name = is_some (find S name) || list_any (bytes_eq name) before
 
 -- `go` on where names are new
 abbrev pub if_new : {A : Type 0} → Bool → (ℕ → Outcome A) → ℕ → Outcome A

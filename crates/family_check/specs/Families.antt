@@ -8,7 +8,9 @@ use Rattle.theory.specs.Families.{Constructor, Family}
 use Rattle.theory.specs.Signatures.{Signature, FamilyOf}
 use Rattle.theory.specs.WellFormed.{pushed}
 use Rattle.core_sig.specs.Raw.{RawConstructor, RawFamily}
-use Rattle.family_check.specs.Outcomes.{Site, OfType, OfParameter, OfConstructor, FamilyStop, NotPositive, TooLarge, BadFamily, Outcome, ended, and_next}
+use Rattle.core_terms.specs.Answers.{and_next}
+use Rattle.core_terms.specs.Loops.{for_each}
+use Rattle.family_check.specs.Outcomes.{Site, OfType, OfParameter, OfConstructor, FamilyStop, NotPositive, TooLarge, BadFamily, Outcome, ended}
 use Rattle.family_check.specs.Asking.{sort_in}
 use Rattle.family_check.specs.Shapes.{domains_of, end_of, arguments, constructor_targets}
 
@@ -41,10 +43,7 @@ level_in S role k G a left =
 
 -- the levels of the types of a telescope from the left, where `count` types stand before them
 abbrev pub levels_of : Signature → Role → ℕ → Context → Telescope → ℕ → Outcome (List ℕ)
-levels_of S role count G [] left = ended (Ok []) left
-levels_of S role count G (a ∷ tele) left =
-    and_next (level_in S role (count + 1) G a left) (λ level rest.
-    and_next (levels_of S role (count + 1) (a ∷ G) tele rest) (λ levels end. ended (Ok (level ∷ levels)) end))
+levels_of S role count G tele left = for_each (λ G k a. level_in S role (k + 1) G a) (λ G a. a ∷ G) G count tele left
 
 -- the level of a family, where its type ends in a sort
 abbrev pub family_level : Term → Result ℕ FamilyStop
@@ -98,11 +97,7 @@ declare_constructor S n f number raw left =
 
 -- all constructors, the first of them with the given number
 abbrev pub declare_constructors : Signature → ℕ → Family → ℕ → List RawConstructor → ℕ → Outcome (List Constructor)
-declare_constructors S n f number [] left = ended (Ok []) left
-declare_constructors S n f number (raw ∷ raws) left =
-    and_next (declare_constructor S n f number raw left) (λ c rest.
-    and_next (declare_constructors S n f (number + 1) raws rest) (λ constructors end.
-    ended (Ok (c ∷ constructors)) end))
+declare_constructors S n f number raws left = for_each {S = Unit {0}} (λ s k raw. declare_constructor S n f k raw) (λ s raw. s) tt number raws left
 
 abbrev pub with_constructors : Family → List Constructor → Family
 with_constructors f constructors = record f { constructors = constructors }

@@ -1,9 +1,10 @@
 -- What refusals of the code stand for, and how the answers of calls are tied to outcomes.
-use Rattle.std.specs.Prelude.{◌≡◌, ◌≢◌, ℕ, Result, Ok, Err}
+use Rattle.std.specs.Prelude.{◌≡◌, ℕ, Result, Ok, Err}
+use Rattle.core_terms.specs.Answers.{StandsFor, SpendsFor}
 use Rattle.core_terms.specs.Meanings.{denial_of}
 use Rattle.core_terms.specs.declared.stop.Stop.TheVariants.{Memory}
 use Rattle.family_check.specs.Outcomes as pure
-use Rattle.family_check.specs.Outcomes.{Outcome, ended}
+use Rattle.family_check.specs.Outcomes.{Outcome}
 use Rattle.family_check.specs.declared.stop.Site.{Site}
 use Rattle.family_check.specs.declared.stop.Site.TheVariants.{Ty, Body, Param, Con}
 use Rattle.family_check.specs.declared.stop.FamilyStop.{FamilyStop}
@@ -28,12 +29,14 @@ abbrev pub answer_of : {A B : Type 0} (f : A → B) → Result A FamilyStop → 
 answer_of f (Ok a) = Ok (f a)
 answer_of f (Err e) = Err (stop_of e)
 
+-- the refusals that nothing rules out: want of memory alone
+abbrev pub IsUnforeseen : FamilyStop → Type 0
+IsUnforeseen e = e ≡ Stop Memory
+
 -- the answer with the units that are `left` stands for `meant` by way of `f`, unless memory ran out
-abbrev pub Yields : {A B : Type 0} (f : A → B) → Result A FamilyStop → ℕ → Outcome B → Type 0
-Yields f (Ok a) left meant = ended (Ok (f a)) left ≡ meant
-Yields f (Err e) left meant = e ≢ Stop Memory → ended (Err (stop_of e)) left ≡ meant
+abbrev pub Yields : {A B : Type 0} → (A → B) → Result A FamilyStop → ℕ → Outcome B → Type 0
+Yields f result left meant = SpendsFor IsUnforeseen stop_of f result left meant
 
 -- the same where no units are spent
-abbrev pub Tells : {A B : Type 0} (f : A → B) → Result A FamilyStop → Result B pure.FamilyStop → Type 0
-Tells f (Ok a) meant = Ok (f a) ≡ meant
-Tells f (Err e) meant = e ≢ Stop Memory → Err (stop_of e) ≡ meant
+abbrev pub Tells : {A B : Type 0} → (A → B) → Result A FamilyStop → Result B pure.FamilyStop → Type 0
+Tells f result meant = StandsFor IsUnforeseen stop_of f result meant

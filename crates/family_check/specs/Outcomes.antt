@@ -1,7 +1,7 @@
 -- Why an entry does not enter, and answers with the units that are left behind them.
 use Rattle.std.specs.Prelude.{ℕ, Option, Result, Ok, Err}
 use Rattle.theory.specs.Terms.{Term}
-use Rattle.core_terms.specs.Answers.{Spent}
+use Rattle.core_terms.specs.Answers.{Spent, SpentOr}
 use Rattle.core_terms.specs.Verdicts.{Denial, Verdict, Yes, No}
 use Rattle.core_terms.specs.declared.stop.Stop.{Stop}
 
@@ -24,18 +24,10 @@ pub data FamilyStop : Type 0 where
 
 -- an answer with the units that are left behind it
 abbrev pub Outcome : Type 0 → Type 0
-Outcome A = Result A FamilyStop × ℕ
+Outcome A = SpentOr FamilyStop A
 
 abbrev pub ended : {A : Type 0} → Result A FamilyStop → ℕ → Outcome A
 ended answer left = (answer, left)
-
--- `go` on with the first answer, unless that is a refusal
-abbrev pub on_result : {A B : Type 0} → Result A FamilyStop → ℕ → (A → ℕ → Outcome B) → Outcome B
-on_result (Ok a) left go = go a left
-on_result (Err e) left go = ended (Err e) left
-
-abbrev pub and_next : {A B : Type 0} → Outcome A → (A → ℕ → Outcome B) → Outcome B
-and_next first go = on_result first.0 first.1 go
 
 -- the type that a verdict on a written part holds
 abbrev pub on_part : Site → Result Verdict Stop → Result Term FamilyStop

@@ -20,6 +20,9 @@ use kernel_check::is_eliminator;
 use std::alloc::Global;
 
 /// Adds the eliminator of the family with number `fam` into `Type m`, unless it is there, and answers its number.
+///
+/// Its type costs the units of one call of `infer_sort`; an eliminator that is there costs none. After an error, which is
+/// LevelTooHigh for too high a level or what the checker says of the type, the signature stands as before.
 pub fn instance(
     alloc: Global,
     sig: &mut Signature,
@@ -82,12 +85,13 @@ fn enter_eliminator(
 
 /// The type of the eliminator of family `fam` into `Type m`.
 fn type_of_eliminator(alloc: Global, sig: &Signature, fam: u32, m: u8) -> Result<Term, Stop>
-    requires { IsScopedSignature sig.now }
+    requires signature { IsScopedSignature sig.now }
+    requires family { IsFamilyNumber sig.now fam }
     ensures { (f : pure.Family) → IsEntryAt sig.now fam (FamilyOf f) → Gives tree_of result (bounded (eliminator_type fam f m)) }
 {
     match sig.entry(fam) {
         Some(Entry::Family(family)) => elim_type(alloc, fam, family, m),
-        _ => Err(Stop::Memory),
+        _ => unreachable!(),
     }
 }
 

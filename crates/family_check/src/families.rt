@@ -4,7 +4,7 @@ ghost use Rattle.theory.specs.SignatureScopes.{IsScoped, IsScopedSignature, IsSc
 ghost use Rattle.theory.specs.Telescopes.{context_behind};
 ghost use Rattle.theory.specs.Terms as tree;
 ghost use Rattle.theory.specs.WellFormed.{IsWellFormed, pushed};
-ghost use Rattle.core_terms.specs.Answers.{Gives};
+ghost use Rattle.core_terms.specs.Answers.{Gives, and_next};
 ghost use Rattle.core_terms.specs.Meanings.{tree_of, tele_of};
 ghost use Rattle.core_sig.specs.Kinds.{HasKinds, HaveKinds};
 ghost use Rattle.core_sig.specs.Meanings.{constructor_of, family_of};
@@ -15,7 +15,7 @@ ghost use Rattle.family_check.specs.Families as spec;
 ghost use Rattle.family_check.specs.Kinds.{IsBare};
 ghost use Rattle.family_check.specs.Laws.{EntersAsDeclared};
 ghost use Rattle.family_check.specs.Meanings.{Yields, answer_of, stop_of};
-ghost use Rattle.family_check.specs.Outcomes.{and_next, ended};
+ghost use Rattle.family_check.specs.Outcomes.{ended};
 ghost use Rattle.family_check.specs.Scopes.{IsSettled, IsScopedRaw, IsScopedStop, site_signature};
 
 use crate::asking::sort_in;
@@ -34,8 +34,11 @@ const MOST_PARAMETERS: usize = 2147481648;
 /// The greatest number of a constructor fits 32 bits.
 const MOST_CONSTRUCTORS: usize = 4294967295;
 
-/// Adds a family as declared and answers its number. Memory is also answered where the parameters or the constructors are
-/// too many to be counted.
+/// Adds a family as declared and answers its number.
+///
+/// Each written type costs the units of one call of `infer_sort`, and each type of a parameter, an index or an argument those
+/// of one more. After an error, the first in the order of the text, the signature stands as before; Duplicate comes before all
+/// others. Memory is also answered where the parameters or the constructors are too many to be counted.
 pub fn declare(
     alloc: Global,
     sig: &mut Signature,
@@ -74,7 +77,7 @@ fn enter_family(
     {
         return Err(FamilyStop::Stop(Stop::Memory));
     }
-    if !are_new(sig, &raw) {
+    if !are_new(alloc, sig, &raw)? {
         return Err(FamilyStop::Duplicate);
     }
     let family = declare_family(alloc, sig, raw, units)?;

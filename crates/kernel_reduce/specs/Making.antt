@@ -1,17 +1,18 @@
 -- How a term that is made is tied to the one that is meant, and instantiation in the form in which the code makes it.
-use Rattle.std.specs.Prelude.{◌≡◌, ◌≢◌, ℕ, ◌+◌, ◌-◌, ◌<◌, nat_lt, cond, List, Result, Ok, Err}
+use Rattle.std.specs.Prelude.{◌≡◌, ℕ, ◌+◌, ◌-◌, ◌<◌, nat_lt, cond, List, Result, Ok, Err}
 use Rattle.theory.specs.Terms.{Term, Var, Sort, Pi, Lam, App, Let, Const, Fam, Con, Elim, AxiomK, lift, height}
 use Rattle.theory.specs.Substitutions.{fill}
 use Rattle.theory.specs.Eliminators.{no_variable}
+use Rattle.core_terms.specs.Answers.{IsUnforeseen, Unless}
 use Rattle.core_terms.specs.Meanings.{tree_of}
 use Rattle.core_terms.specs.declared.stop.Stop.{Stop}
-use Rattle.core_terms.specs.declared.stop.Stop.TheVariants.{Memory, Deep}
+use Rattle.core_terms.specs.declared.stop.Stop.TheVariants.{Deep}
 use Rattle.core_terms.specs.declared.term.Term as code
 
 -- the term that is meant, or Deep only where it is too high below so many binders, or want of memory
 abbrev pub MakesUnder : ℕ → Result code.Term Stop → Term → Type 0
 MakesUnder under (Ok t) meant = tree_of t ≡ meant
-MakesUnder under (Err e) meant = e ≢ Memory → (e ≡ Deep) × (2000 < under + height meant)
+MakesUnder under (Err e) meant = Unless (IsUnforeseen e) ((e ≡ Deep) × (2000 < under + height meant))
 
 abbrev pub Makes : Result code.Term Stop → Term → Type 0
 Makes result meant = MakesUnder 0 result meant

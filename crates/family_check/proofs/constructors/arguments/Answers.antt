@@ -4,8 +4,8 @@ use Rattle.std.proofs.lemmas.Iterator.Consumers.{YieldsList-turn}
 use Rattle.std.proofs.lemmas.List.{length-map, length-append}
 use Rattle.core_terms.specs.Meanings.{tree_of, tele_of}
 use Rattle.core_sig.specs.Meanings.{family_of}
-use Rattle.family_check.proofs.LevelLoops.{map-item}
-use Rattle.family_check.proofs.ShapeLoops.{arguments-on, count-more, kinds-on}
+use Rattle.core_terms.proofs.Lists.{map-item, count-more}
+use Rattle.family_check.proofs.ShapeLoops.{arguments-on, kinds-on}
 use Rattle.family_check.proofs.constructors.arguments.Goals as goal
 
 pub loop-ty-preserved : goal.loop-ty-preserved

@@ -1,16 +1,16 @@
-use Rattle.std.proofs.Common.{◌≡◌, ◌+◌, ◌<◌, [], ◌∷◌, length, map, get_or, sym, ap, ◌∙◌, subst as transport, arith}
+use Rattle.std.proofs.Common.{◌≡◌, ◌+◌, ◌<◌, [], ◌∷◌, length, get_or, sym, ap, ◌∙◌, subst as transport, arith}
 use Rattle.std.proofs.lemmas.Iterator.Adapters.{YieldsList-from_vec}
 use Rattle.std.proofs.lemmas.Iterator.Consumers.{YieldsList-turn}
 use Rattle.std.proofs.lemmas.List.{length-append}
 use Rattle.theory.specs.SignatureScopes.{IsScoped}
 use Rattle.core_terms.specs.Meanings.{tree_of}
 use Rattle.core_sig.specs.Kinds.{HaveKinds}
-use Rattle.core_sig.specs.Meanings.{constructor_of, family_of}
+use Rattle.core_sig.specs.Meanings.{family_of}
 use Rattle.core_sig.specs.declared.family.Constructor.{Constructor}
 use Rattle.family_check.specs.Meanings.{stop_of}
 use Rattle.family_check.proofs.Answered.{passes_on}
 use Rattle.family_check.proofs.ConstructorLoops.{made-on, made-stop}
-use Rattle.family_check.proofs.ShapeLoops.{all-more, count-more}
+use Rattle.core_terms.proofs.Lists.{all-more, count-more}
 use Rattle.family_check.proofs.constructors.declare_constructors.Goals as goal
 
 pub declare_constructor-requires-clause-ty : goal.declare_constructor-requires-clause-ty
@@ -24,9 +24,9 @@ returns-in_err-con-clause-answer c =
     let count : length c.loop-raw.yielded ≡ length c.loop-raw.made = sym c.loop-raw.invariant.count in
     let lt : length c.loop-raw.made < length c.args.raws.items = omega (arith, turn.0) in
     passes_on _ c.from_residual.result c.in_err-con.field-0.0 _ _ c.from_residual.ensures.1 (λ q.
-    made-stop c.args.sig.now c.args.n (family_of c.args.f.now) c.args.raws.items (length c.loop-raw.made) c.in-Some.raw c.loop-raw.units.left (map (constructor_of (length c.args.f.now.params)) c.loop-raw.made)
-    _ _ (stop_of c.in_err-con.field-0.0) _ c.loop-raw.invariant.answer (ap length c.as_slice.ensures) lt
-    (turn.1 ∙ ap (λ k. get_or c.args.raws.items k c.in-Some.raw) count) (c.in_err-con.ensures.answer q))
+    made-stop c.args.sig.now c.args.n (family_of c.args.f.now) c.args.raws.items (length c.args.f.now.params) c.in-Some.raw c.loop-raw.units.left c.loop-raw.made _ _
+    c.loop-raw.invariant.answer (ap length c.as_slice.ensures) lt (turn.1 ∙ ap (λ k. get_or c.args.raws.items k c.in-Some.raw) count)
+    (stop_of c.in_err-con.field-0.0) _ (c.in_err-con.ensures.answer q))
 
 pub loop-raw-preserved : goal.loop-raw-preserved
 loop-raw-preserved c =
@@ -36,8 +36,9 @@ loop-raw-preserved c =
     let lt : length c.loop-raw.made < length c.args.raws.items = omega (arith, turn.0) in
     record {
       count = omega (arith, length-append c.loop-raw.yielded (c.in-Some.raw ∷ []));
-      answer = made-on c.args.sig.now c.args.n (family_of c.args.f.now) c.args.raws.items (length c.args.f.now.params) c.in-Some.raw c.loop-raw.units.left c.loop-raw.made c.push.new.self c.in_ok-con.con _ _ _
-          c.loop-raw.invariant.answer c.in_ok-push.ensures.ok (ap length c.as_slice.ensures) lt (turn.1 ∙ ap (λ k. get_or c.args.raws.items k c.in-Some.raw) count) c.in_ok-con.ensures.answer;
+      answer = made-on c.args.sig.now c.args.n (family_of c.args.f.now) c.args.raws.items (length c.args.f.now.params) c.in-Some.raw c.loop-raw.units.left c.loop-raw.made _ _
+          c.loop-raw.invariant.answer (ap length c.as_slice.ensures) lt (turn.1 ∙ ap (λ k. get_or c.args.raws.items k c.in-Some.raw) count)
+          c.push.new.self c.in_ok-con.con _ c.in_ok-push.ensures.ok c.in_ok-con.ensures.answer;
       kinds = all-more (λ (k : Constructor). HaveKinds c.args.n (family_of c.args.f.now) 0 k.args) c.loop-raw.made c.push.new.self c.in_ok-con.con c.in_ok-push.ensures.ok c.loop-raw.invariant.kinds c.in_ok-con.ensures.kinds;
       sum = omega arith;
     }

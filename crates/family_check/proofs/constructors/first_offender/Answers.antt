@@ -2,7 +2,7 @@ use Rattle.std.proofs.Common.{◌≡◌, ◌<◌, true, false, length, sym, ◌�
 use Rattle.std.proofs.lemmas.List.{length-map}
 use Rattle.core_terms.specs.Meanings.{tree_of, tele_of}
 use Rattle.core_sig.specs.Meanings.{family_of}
-use Rattle.family_check.proofs.LevelLoops.{map-item}
+use Rattle.core_terms.proofs.Lists.{map-item}
 use Rattle.family_check.proofs.ShapeLoops.{offender-on, offender-here}
 use Rattle.family_check.proofs.constructors.first_offender.Goals as goal
 

@@ -1,10 +1,12 @@
 use Rattle.theory.specs.Signatures.{IsPrefix}
 use Rattle.theory.specs.WellFormed.{IsWellFormed}
+use Rattle.core_terms.proofs.Answers.{spends-has}
 use Rattle.core_sig.specs.Raw.{raw_of}
 use Rattle.family_check.specs.Entering.{entered_at}
 use Rattle.family_check.specs.Laws.{EntersAsDeclared}
+use Rattle.family_check.specs.Meanings.{IsUnforeseen, stop_of}
 use Rattle.family_check.specs.Scopes.{IsSettled}
-use Rattle.family_check.proofs.Answered.{said, stays, refuses}
+use Rattle.family_check.proofs.Answered.{stays, refuses}
 use Rattle.family_check.proofs.Extending.{itself, declare-extends}
 use Rattle.family_check.proofs.Given.{declare-gives}
 use Rattle.family_check.proofs.ScopedEntering.{declare-settles}
@@ -13,7 +15,7 @@ use Rattle.family_check.proofs.families.declare.Goals as goal
 
 pub returns-clause-given : goal.returns-clause-given
 returns-clause-given c =
-    said (entered_at _) (EntersAsDeclared c.args.sig.now (raw_of c.args.raw)) _ _ _ c.enter_family.ensures.answer
+    spends-has IsUnforeseen stop_of (entered_at _) (EntersAsDeclared c.args.sig.now (raw_of c.args.raw)) _ _ _ c.enter_family.ensures.answer
     (declare-gives c.args.sig.now (raw_of c.args.raw) c.args.units.now.left)
 
 pub returns-clause-longer : goal.returns-clause-longer

@@ -1,4 +1,4 @@
-use Rattle.std.proofs.Common.{◌≡◌, ◌≢◌, None, length, All, AllPairs, true, sym, ◌∙◌, subst as transport, rules}
+use Rattle.std.proofs.Common.{◌≡◌, ◌≢◌, None, length, All, AllPairs, true, sym, subst as transport}
 use Rattle.theory.specs.Signatures.{FamilyOf, names_of}
 use Rattle.core_sig.specs.Kinds.{HasKinds}
 use Rattle.core_sig.specs.Meanings.{family_of}
@@ -11,7 +11,7 @@ use Rattle.family_check.proofs.families.enter_family.Goals as goal
 pub push-requires-clause-unknown : goal.push-requires-clause-unknown
 push-requires-clause-unknown c =
     let raw = raw_of c.args.raw in
-    let new : are_new c.args.sig.now (raw_names raw) ≡ true = sym c.are_new.ensures ∙ (search rules) in
+    let new : are_new c.args.sig.now (raw_names raw) ≡ true = cc (c.in_ok-are_new.ensures, c.if-not-branch.false) in
     let names = family-names c.args.sig.now raw (family_of c.in_ok-family.family) _ _ c.in_ok-family.ensures.answer in
     transport (λ T. All (λ n. find T n ≡ None) (names_of (FamilyOf (family_of c.in_ok-family.family)))) (sym c.in_ok-family.ensures.kept)
     (transport (All (λ n. find c.args.sig.now n ≡ None)) (sym names) (unknown-names c.args.sig.now (raw_names raw) new))
@@ -19,7 +19,7 @@ push-requires-clause-unknown c =
 pub push-requires-clause-distinct : goal.push-requires-clause-distinct
 push-requires-clause-distinct c =
     let raw = raw_of c.args.raw in
-    let new : are_new c.args.sig.now (raw_names raw) ≡ true = sym c.are_new.ensures ∙ (search rules) in
+    let new : are_new c.args.sig.now (raw_names raw) ≡ true = cc (c.in_ok-are_new.ensures, c.if-not-branch.false) in
     let names = family-names c.args.sig.now raw (family_of c.in_ok-family.family) _ _ c.in_ok-family.ensures.answer in
     transport (AllPairs (λ x y. x ≢ y)) (sym names) (distinct-names c.args.sig.now (raw_names raw) new)
 

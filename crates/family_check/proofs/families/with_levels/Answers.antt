@@ -5,8 +5,8 @@ use Rattle.std.proofs.lemmas.List.{length-map, length-append}
 use Rattle.core_terms.specs.Meanings.{tree_of, tele_of}
 use Rattle.core_sig.specs.declared.family.Arg.{Arg}
 use Rattle.core_sig.specs.declared.family.ArgKind.TheVariants.{Plain}
-use Rattle.family_check.proofs.LevelLoops.{map-item}
-use Rattle.family_check.proofs.ShapeLoops.{zip-on, all-more, count-more}
+use Rattle.core_terms.proofs.Lists.{map-item, all-more, count-more}
+use Rattle.family_check.proofs.ShapeLoops.{zip-on}
 use Rattle.family_check.proofs.families.with_levels.Goals as goal
 
 pub loop-ty-preserved : goal.loop-ty-preserved

@@ -2,11 +2,15 @@ use Rattle.std.proofs.Common.{◌≡◌, ◌+◌, ◌<◌, ◌++◌, [], ◌∷�
 use Rattle.std.proofs.lemmas.List.{length-map, map-append}
 use Rattle.theory.specs.SignatureScopes.{IsScoped, IsScopedTelescope}
 use Rattle.core_terms.specs.Meanings.{tree_of, tele_of}
+use Rattle.theory.specs.Telescopes.{context_behind}
+use Rattle.core_terms.proofs.Lists.{map-item}
+use Rattle.core_terms.proofs.Loops.{each-stops}
+use Rattle.family_check.specs.Families.{level_in}
 use Rattle.family_check.specs.Meanings.{stop_of}
 use Rattle.family_check.specs.Roles.{role_of}
 use Rattle.family_check.proofs.Answered.{passes_on}
 use Rattle.family_check.proofs.Instances.{given-is}
-use Rattle.family_check.proofs.LevelLoops.{map-item, context-more, levels-on, levels-stop}
+use Rattle.family_check.proofs.LevelLoops.{context-more, levels-on}
 use Rattle.family_check.proofs.ScopedTelescopes.{context-so_far, type-so_far, length-so_far}
 use Rattle.family_check.proofs.levels.levels.Goals as goal
 
@@ -46,8 +50,8 @@ returns-in_err-level-clause-answer c =
     let lt : c.loop-at.at < length ts = omega (arith, length-map c.args.types.now tree_of) in
     let item = map-item tree_of c.args.types.now c.loop-at.at c.index-types-at.result c.index-types-at.is in
     passes_on _ c.from_residual-in_err-level.result c.in_err-level.field-0.0 _ _ c.from_residual-in_err-level.ensures.1 (λ q.
-    levels-stop c.args.sig.now (role_of c.args.role) ts c.loop-at.at (tree_of c.index-types-at.result) c.loop-at.levels.items (tele_of c.loop-at.ctx) _ c.loop-at.units.left
-    (stop_of c.in_err-level.field-0.0) _ c.loop-at.invariant.answer lt item (c.in_err-level.ensures.answer q))
+    each-stops (λ G k a. level_in c.args.sig.now (role_of c.args.role) (k + 1) G a) (λ G a. a ∷ G) (context_behind [] (tele_of c.loop-at.ctx)) ts c.loop-at.at (tree_of c.index-types-at.result)
+    c.loop-at.units.left c.loop-at.levels.items _ (stop_of c.in_err-level.field-0.0) _ c.loop-at.invariant.answer lt item (c.in_err-level.ensures.answer q))
 
 pub loop-at-preserved : goal.loop-at-preserved
 loop-at-preserved c =

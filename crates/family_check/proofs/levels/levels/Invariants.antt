@@ -3,7 +3,7 @@ use Rattle.theory.specs.Telescopes.{context_behind}
 use Rattle.core_terms.specs.Meanings.{tele_of}
 use Rattle.family_check.specs.Families.{levels_of}
 use Rattle.family_check.specs.Roles.{role_of}
-use Rattle.family_check.proofs.SoFar.{so_far}
+use Rattle.core_terms.proofs.Loops.{so_far}
 use Rattle.family_check.proofs.levels.levels.Given as goal
 
 abbrev pub invariant-loop-at : goal.invariant-loop-at
