@@ -40,4 +40,5 @@ loop-raw-preserved c =
           c.loop-raw.invariant.answer c.in_ok-push.ensures.ok (ap length c.as_slice.ensures) lt (turn.1 ∙ ap (λ k. get_or c.args.raws.items k c.in-Some.raw) count) c.in_ok-con.ensures.answer;
       kinds = all-more (λ (k : Constructor). HaveKinds c.args.n (family_of c.args.f.now) 0 k.args) c.loop-raw.made c.push.new.self c.in_ok-con.con c.in_ok-push.ensures.ok c.loop-raw.invariant.kinds c.in_ok-con.ensures.kinds;
       sum = omega arith;
+      spends = omega arith;
     }
