@@ -18,5 +18,5 @@ mod testing;
 #[cfg(test)]
 mod tests;
 
-pub use calls::{NESTING, convertible, head_step, normal, subtype, subtype_within, whnf};
+pub use calls::{NESTING, convertible, head_step, normal, subtype, subtype_within, tidy, whnf};
 pub use making::into_spine;
