@@ -6,7 +6,7 @@ use Rattle.theory.specs.Families.{Family}
 use Rattle.theory.specs.Signatures.{Entry, FamilyOf, EliminatorAt, AxiomKAt, Definition, Signature, IsPrefix, axiom_k_type}
 use Rattle.theory.specs.WellFormed.{pushed}
 use Rattle.core_sig.specs.Raw.{RawFamily, raw_names}
-use Rattle.kernel_check.specs.Symbols.{is_eliminator, is_axiom_k}
+use Rattle.core_sig.specs.Instances.{is_eliminator, is_axiom_k}
 use Rattle.family_check.specs.Asking.{sort_in, type_in}
 use Rattle.family_check.specs.Entering.{Entered, are_new, enter_instance, unless_there, check_definition, declare_of, instance_of, axiom_k_of, define_of}
 use Rattle.family_check.specs.Families.{declare_family}

@@ -74,7 +74,7 @@ same-itself t = go (Term-discrete ℕ_discrete t t)
     go (yes e) = refl
     go (no e) = absurd (e refl)
 
-spine-drops : (n : ℕ) (f : Family) (k : ℕ) (targets : List Term)
+pub spine-drops : (n : ℕ) (f : Family) (k : ℕ) (targets : List Term)
     → drop (length f.parameters) (spine_of (applied (weaken_by k (family_head n f)) targets)) ≡ targets
 spine-drops n f k targets =
     ap (drop (length f.parameters)) (spine_of-applied (weaken_by k (family_head n f)) targets)
@@ -85,7 +85,7 @@ spine-drops n f k targets =
 found : ℕ → Family → ℕ → Term → List Term → Option (List Term)
 found n f k t ts = cond (same t (applied (weaken_by k (family_head n f)) ts) && (length ts == length f.indices && all_lack n ts)) (Some ts) None
 
-targets-are : (n : ℕ) (f : Family) (k : ℕ) (t : Term) (targets : List Term) → IsEnd n f k t targets → targets_of n f k t ≡ Some targets
+pub targets-are : (n : ℕ) (f : Family) (k : ℕ) (t : Term) (targets : List Term) → IsEnd n f k t targets → targets_of n f k t ≡ Some targets
 unfolding found
 targets-are n f k t targets is =
     ap (found n f k t) (ap (λ u. drop (length f.parameters) (spine_of u)) is.form ∙ spine-drops n f k targets)

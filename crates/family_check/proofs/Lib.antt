@@ -14,9 +14,9 @@ pub mod Moving
 pub mod NameTests
 pub mod NewNames
 pub mod Outcomes
-pub mod Places
 pub mod PreludeEntries
 pub mod RawScopes
+pub mod SameOffenders
 pub mod Scoped
 pub mod ScopedEntering
 pub mod ScopedShapes

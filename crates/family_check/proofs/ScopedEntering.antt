@@ -19,7 +19,7 @@ use Rattle.core_terms.specs.Verdicts.{Denial}
 use Rattle.core_sig.specs.Raw.{RawConstructor, RawFamily, raw_names}
 use Rattle.kernel_reduce.specs.Reduction.{nesting}
 use Rattle.kernel_reduce.proofs.StepLaws.{both-true}
-use Rattle.kernel_check.specs.Symbols.{is_eliminator, is_axiom_k}
+use Rattle.core_sig.specs.Instances.{is_eliminator, is_axiom_k}
 use Rattle.kernel_check.specs.Checking.{infer_sort_of, check_of}
 use Rattle.kernel_check.specs.Laws.{IsScopedDenial}
 use Rattle.kernel_check.proofs.Scoped.{infer_sort-scoped, check-scoped}

@@ -23,7 +23,7 @@ use Rattle.theory.proofs.Widening.{prefix_carries}
 use Rattle.core_sig.specs.Raw.{RawConstructor, RawFamily, raw_names}
 use Rattle.kernel_reduce.specs.Reduction.{nesting}
 use Rattle.kernel_reduce.proofs.StepLaws.{both-true}
-use Rattle.kernel_check.specs.Symbols.{is_eliminator, is_axiom_k}
+use Rattle.core_sig.specs.Instances.{is_eliminator, is_axiom_k}
 use Rattle.kernel_check.specs.Checking.{infer_sort_of, check_of}
 use Rattle.kernel_check.specs.Laws.{HasUniverse, HasWanted}
 use Rattle.kernel_check.proofs.Soundness.{infer_sort-is_sound, check-is_sound}

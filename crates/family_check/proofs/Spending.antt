@@ -8,7 +8,7 @@ use Rattle.theory.specs.Signatures.{Entry, FamilyOf, EliminatorAt, AxiomKAt, Sig
 use Rattle.theory.specs.WellFormed.{pushed}
 use Rattle.core_sig.specs.Raw.{RawConstructor, RawFamily, raw_names}
 use Rattle.kernel_reduce.specs.Reduction.{nesting}
-use Rattle.kernel_check.specs.Symbols.{is_eliminator, is_axiom_k}
+use Rattle.core_sig.specs.Instances.{is_eliminator, is_axiom_k}
 use Rattle.kernel_check.specs.Checking.{infer_sort_of, check_of}
 use Rattle.kernel_check.proofs.Spending.{infer_sort-spends, check-spends}
 use Rattle.core_terms.specs.Answers.{and_next}

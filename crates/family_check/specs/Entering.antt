@@ -10,7 +10,7 @@ use Rattle.theory.specs.WellFormed.{pushed}
 use Rattle.core_terms.specs.Verdicts.{LevelTooHigh}
 use Rattle.core_sig.specs.Names.{find}
 use Rattle.core_sig.specs.Raw.{RawFamily, raw_names}
-use Rattle.kernel_check.specs.Symbols.{is_eliminator, is_axiom_k}
+use Rattle.core_sig.specs.Instances.{is_eliminator, is_axiom_k}
 use Rattle.core_terms.specs.Answers.{and_next}
 use Rattle.family_check.specs.Outcomes.{OfType, OfBody, Denied, Duplicate, Outcome, ended}
 use Rattle.family_check.specs.Asking.{sort_in, type_in}

@@ -1,15 +1,17 @@
 -- What entering keeps and costs.
-use Rattle.std.specs.Prelude.{◌≡◌, ℕ, Bool, ◌≤◌, ◌<◌, IsTrue, IfOk, IfErr, List, length, map}
+use Rattle.std.specs.Prelude.{◌≡◌, ℕ, Bool, ◌≤◌, ◌<◌, IsTrue, IfOk, IfErr, Some, List, length, map}
 use Rattle.theory.specs.Terms.{Term, top}
-use Rattle.theory.specs.Telescopes.{products}
-use Rattle.theory.specs.Families.{Family, family_type, constructor_type}
+use Rattle.theory.specs.Telescopes.{products, applied, weaken_by}
+use Rattle.theory.specs.Families.{Family, family_head, family_type, constructor_type}
 use Rattle.theory.specs.Prelude.{prelude}
 use Rattle.theory.specs.Signatures.{FamilyOf, Signature, IsEntryAt, names_of, equality}
 use Rattle.theory.specs.WellFormed.{IsWellFormed}
 use Rattle.theory.specs.SignatureScopes.{IsScoped, IsConstructorNumber}
+use Rattle.core_sig.specs.Offenders.{offender_in}
 use Rattle.core_sig.specs.Raw.{RawFamily, raw_names}
 use Rattle.family_check.specs.Scopes.{HasPrelude, IsSettled, IsScopedRaw, site_signature, IsScopedStop}
 use Rattle.family_check.specs.Entering.{Entered, entered, declare_of, instance_of, axiom_k_of, define_of}
+use Rattle.family_check.specs.Shapes.{domains_of, end_of, arguments, unless_offender, constructor_targets}
 
 -- A well-formed signature stays well formed, whatever enters.
 
@@ -86,3 +88,16 @@ EntersAsDeclared S raw e = (f : Family) × (e ≡ entered S (FamilyOf f)) × IsA
 
 abbrev pub DeclareEntersGiven : Type 0
 DeclareEntersGiven = (S : Signature) (raw : RawFamily) (left : ℕ) → IfOk (declare_of S raw left).0 (EntersAsDeclared S raw)
+
+-- Where the end of a constructor's type is the family at one target for each index, what breaks positivity first in the type
+-- does so in the record, by the words of `strictly_positive`.
+abbrev pub SameOffender : Type 0
+SameOffender =
+    (n : ℕ) (f : Family) (t : Term) (name : List ℕ) (levels : List ℕ) (targets : List Term) →
+    length levels ≡ length (domains_of t) →
+    end_of t ≡ applied (weaken_by (length (domains_of t)) (family_head n f)) targets → length targets ≡ length f.indices →
+    constructor_targets n f t
+    ≡ unless_offender
+    (offender_in n (arguments n f 0 (domains_of t) levels) 1
+    (record { name = name; arguments = arguments n f 0 (domains_of t) levels; targets = targets }))
+    (Some targets)

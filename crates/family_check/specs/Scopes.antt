@@ -10,6 +10,10 @@ use Rattle.kernel_check.specs.Laws.{IsScopedDenial}
 use Rattle.family_check.specs.Outcomes.{Site, OfConstructor, FamilyStop, Denied}
 use Rattle.family_check.specs.Families.{family_without}
 
+-- 2 ^ 31 - 2000: with fewer parameters there is room for the variables of any type that the checker takes
+abbrev pub parameter_limit : ℕ
+parameter_limit = 2147481648
+
 -- each entry is scoped over those before it, and each definition has a body
 pub record IsSettled (S : Signature) : Type 0 where
   pub scoped : IsScopedSignature S

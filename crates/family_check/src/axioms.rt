@@ -1,9 +1,8 @@
-ghost use Rattle.std.specs.Prelude.{◌≡◌, ◌+◌, ◌&&◌, nat_lt, position, IfErr, IsTrue, OnErr};
+ghost use Rattle.std.specs.Prelude.{◌≡◌, ◌≤◌, ◌+◌, ◌&&◌, nat_lt, IfErr, IsTrue, OnErr};
 ghost use Rattle.theory.specs.Signatures as signature;
 ghost use Rattle.theory.specs.Signatures.{AxiomKAt, IsPrefix};
 ghost use Rattle.theory.specs.Terms.{top};
 ghost use Rattle.theory.specs.WellFormed.{IsWellFormed};
-ghost use Rattle.kernel_check.specs.Symbols as symbols;
 ghost use Rattle.family_check.specs.Entering as spec;
 ghost use Rattle.family_check.specs.Meanings.{Yields, stop_of};
 ghost use Rattle.family_check.specs.Scopes.{HasPrelude, IsSettled, IsScopedStop};
@@ -12,7 +11,7 @@ use crate::FamilyStop;
 use crate::entering::{enter, too_high};
 use core_sig::{Entry, Signature};
 use core_terms::{TOP, Units};
-use kernel_check::{axiom_k_type, is_axiom_k};
+use kernel_check::axiom_k_type;
 use std::alloc::Global;
 
 /// Adds the axiom K of `Eq.i` into `Type m`, unless it is there, and answers its number.
@@ -29,6 +28,7 @@ pub fn axiom_k(
     ensures answer { Yields (spec.entered_at sig.new) result units.new.left (spec.axiom_k_of sig.old i m units.old.left) }
     ensures err { OnErr result (sig.new ≡ sig.old) }
     ensures sum { units.new.left + units.new.spent ≡ units.old.left + units.old.spent }
+    ensures spends { units.new.left ≤ units.old.left }
     ensures longer { IsPrefix sig.old sig.new }
     ensures well_formed { IsWellFormed sig.old → IsWellFormed sig.new }
     ensures settled { IsSettled sig.new }
@@ -49,8 +49,9 @@ fn find_or_enter_axiom_k(
     ensures answer { Yields (spec.entered_at sig.new) result units.new.left (spec.axiom_k_of sig.old i m units.old.left) }
     ensures err { OnErr result (sig.new ≡ sig.old) }
     ensures sum { units.new.left + units.new.spent ≡ units.old.left + units.old.spent }
+    ensures spends { units.new.left ≤ units.old.left }
 {
-    match axiom_k_place(sig, i, m) {
+    match sig.axiom_k(i, m) {
         Some(at) => Ok(at),
         None => enter_axiom_k(alloc, sig, i, m, units),
     }
@@ -69,23 +70,11 @@ fn enter_axiom_k(
     ensures answer { Yields (spec.entered_at sig.new) result units.new.left (spec.enter_instance sig.old (AxiomKAt i m) (nat_lt i top && nat_lt m top) (signature.axiom_k_type i m) units.old.left) }
     ensures err { OnErr result (sig.new ≡ sig.old) }
     ensures sum { units.new.left + units.new.spent ≡ units.old.left + units.old.spent }
+    ensures spends { units.new.left ≤ units.old.left }
 {
     if i >= TOP || m >= TOP {
         return Err(too_high(alloc));
     }
     let ty = axiom_k_type(alloc, i, m)?;
     enter(alloc, sig, Entry::AxiomK(i, m), &ty, units)
-}
-
-/// The number of the axiom K of `Eq.i` into `Type m`, where it is there.
-#[tactic(auto, using(crate::proofs::Places::found_at, crate::proofs::Places::found_nowhere, kernel_check::proofs::Instances::not_passed))]
-fn axiom_k_place(sig: &Signature, i: u8, m: u8) -> Option<u32>
-    ensures { result ≡ position (symbols.is_axiom_k i m) sig.now.entries }
-{
-    for at in 0..sig.len() {
-        if is_axiom_k(sig, at, i, m) {
-            return Some(at);
-        }
-    }
-    None
 }

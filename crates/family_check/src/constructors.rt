@@ -7,6 +7,7 @@ ghost use Rattle.core_terms.specs.Meanings.{tree_of, tele_of};
 ghost use Rattle.core_sig.specs.Kinds.{HaveKinds};
 ghost use Rattle.core_sig.specs.Meanings.{argument_of, constructor_of, family_of};
 ghost use Rattle.core_sig.specs.Raw.{raw_constructor_of};
+ghost use Rattle.family_check.specs.Scopes.{parameter_limit};
 ghost use Rattle.family_check.specs.Families as spec;
 ghost use Rattle.family_check.specs.Kinds as kinds;
 ghost use Rattle.family_check.specs.Meanings.{Tells, Yields};
@@ -121,11 +122,12 @@ fn declare_constructor(
 ) -> Result<Constructor, FamilyStop>
     requires signature { IsScopedSignature sig.now }
     requires params { IsScopedTelescope sig.now 0 (tele_of f.now.params) }
-    requires few { length f.now.params < 2147481648 }
+    requires few { length f.now.params < parameter_limit }
     requires ty { IsScoped sig.now (length f.now.params) (tree_of raw.ty) }
     ensures answer { Yields (constructor_of (length f.now.params)) result units.new.left (spec.declare_constructor sig.now n (family_of f.now) number (raw_constructor_of raw) units.old.left) }
     ensures kinds { IfOk result (λ c. HaveKinds n (family_of f.now) 0 c.args) }
     ensures sum { units.new.left + units.new.spent ≡ units.old.left + units.old.spent }
+    ensures spends { units.new.left ≤ units.old.left }
 {
     sort_in(alloc, sig, &f.params, &raw.ty, Site::Con(number), units)?;
     shaped_constructor(alloc, sig, n, f, number, raw, units)
@@ -143,12 +145,13 @@ fn shaped_constructor(
 ) -> Result<Constructor, FamilyStop>
     requires signature { IsScopedSignature sig.now }
     requires params { IsScopedTelescope sig.now 0 (tele_of f.now.params) }
-    requires few { length f.now.params < 2147481648 }
+    requires few { length f.now.params < parameter_limit }
     requires ty { IsScoped sig.now (length f.now.params) (tree_of raw.ty) }
     requires low { tree.height (tree_of raw.ty) ≤ 2000 }
     ensures answer { Yields (constructor_of (length f.now.params)) result units.new.left (spec.shaped_constructor sig.now n (family_of f.now) number (raw_constructor_of raw) units.old.left) }
     ensures kinds { IfOk result (λ c. HaveKinds n (family_of f.now) 0 c.args) }
     ensures sum { units.new.left + units.new.spent ≡ units.old.left + units.old.spent }
+    ensures spends { units.new.left ≤ units.old.left }
 {
     let RawCon { name, ty } = raw;
     let mut types = Vec::new(alloc);
@@ -172,12 +175,13 @@ fn leveled_constructor(
     requires signature { IsScopedSignature sig.now }
     requires params { IsScopedTelescope sig.now 0 (tele_of f.now.params) }
     requires types { IsScopedTelescope sig.now (length f.now.params) (tele_of types.items) }
-    requires few { length f.now.params < 2147481648 }
+    requires few { length f.now.params < parameter_limit }
     requires count { length types.items ≤ 2000 }
     requires low { All (λ t. tree.height (tree_of t) ≤ 2000) types.items }
     ensures answer { Yields (constructor_of (length f.now.params)) result units.new.left (spec.leveled_constructor sig.now n (family_of f.now) number name (tele_of types.items) (tele_of targets) units.old.left) }
     ensures kinds { IfOk result (λ c. HaveKinds n (family_of f.now) 0 c.args) }
     ensures sum { units.new.left + units.new.spent ≡ units.old.left + units.old.spent }
+    ensures spends { units.new.left ≤ units.old.left }
 {
     let role = Role::Argument {
         con: number,
@@ -210,12 +214,13 @@ pub(crate) fn declare_constructors(
 ) -> Result<Items<Constructor>, FamilyStop>
     requires signature { IsScopedSignature sig.now }
     requires params { IsScopedTelescope sig.now 0 (tele_of f.now.params) }
-    requires few { length f.now.params < 2147481648 }
+    requires few { length f.now.params < parameter_limit }
     requires types { All (λ c. IsScoped sig.now (length f.now.params) (tree_of c.ty)) raws.items }
     requires count { length raws.items < 2 ^ 32 }
     ensures answer { Yields (map (constructor_of (length f.now.params))) result units.new.left (spec.declare_constructors sig.now n (family_of f.now) 0 (map raw_constructor_of raws.items) units.old.left) }
     ensures kinds { IfOk result (All (λ c. HaveKinds n (family_of f.now) 0 c.args)) }
     ensures sum { units.new.left + units.new.spent ≡ units.old.left + units.old.spent }
+    ensures spends { units.new.left ≤ units.old.left }
 {
     let mut made = Items::new(alloc);
     for raw in raws {

@@ -1,4 +1,4 @@
-ghost use Rattle.std.specs.Prelude.{◌≡◌, ◌+◌, ℕ, List, [], ◌∷◌, IfErr, OnErr};
+ghost use Rattle.std.specs.Prelude.{◌≡◌, ◌≤◌, ◌+◌, ℕ, List, [], ◌∷◌, IfErr, OnErr};
 ghost use Rattle.theory.specs.Signatures.{Definition, IsPrefix};
 ghost use Rattle.theory.specs.SignatureScopes.{IsScoped, IsScopedSignature};
 ghost use Rattle.theory.specs.WellFormed.{IsWellFormed};
@@ -32,6 +32,7 @@ pub fn define(
     ensures answer { Yields (spec.entered_at sig.new) result units.new.left (spec.define_of sig.old name (tree_of ty) (tree_of body) units.old.left) }
     ensures err { OnErr result (sig.new ≡ sig.old) }
     ensures sum { units.new.left + units.new.spent ≡ units.old.left + units.old.spent }
+    ensures spends { units.new.left ≤ units.old.left }
     ensures longer { IsPrefix sig.old sig.new }
     ensures well_formed { IsWellFormed sig.old → IsWellFormed sig.new }
     ensures settled { IsSettled sig.new }
@@ -55,6 +56,7 @@ fn enter_definition(
     ensures answer { Yields (spec.entered_at sig.new) result units.new.left (spec.define_of sig.old name (tree_of ty) (tree_of body) units.old.left) }
     ensures err { OnErr result (sig.new ≡ sig.old) }
     ensures sum { units.new.left + units.new.spent ≡ units.old.left + units.old.spent }
+    ensures spends { units.new.left ≤ units.old.left }
 {
     if sig.find(name.as_slice()).is_some() {
         return Err(FamilyStop::Duplicate);
@@ -76,6 +78,7 @@ fn check_definition(
     requires body { IsScoped sig.now 0 (tree_of body.now) }
     ensures answer { (name : List ℕ) → Yields (λ _. spec.entered sig.now (Definition name (tree_of ty.now) (tree_of body.now))) result units.new.left (spec.check_definition sig.now name (tree_of ty.now) (tree_of body.now) units.old.left) }
     ensures sum { units.new.left + units.new.spent ≡ units.old.left + units.old.spent }
+    ensures spends { units.new.left ≤ units.old.left }
 {
     let ctx = Items::new(alloc);
     sort_in(alloc, sig, &ctx, ty, Site::Ty, units)?;

@@ -1,4 +1,4 @@
-ghost use Rattle.std.specs.Prelude.{◌≡◌, ◌+◌, nat_lt, position, IfErr, OnErr};
+ghost use Rattle.std.specs.Prelude.{◌≡◌, ◌≤◌, ◌+◌, nat_lt, IfErr, OnErr};
 ghost use Rattle.theory.specs.Eliminators.{eliminator_type};
 ghost use Rattle.theory.specs.Families as pure;
 ghost use Rattle.theory.specs.Signatures.{FamilyOf, EliminatorAt, IsEntryAt, IsPrefix};
@@ -7,7 +7,6 @@ ghost use Rattle.theory.specs.Terms.{top};
 ghost use Rattle.theory.specs.WellFormed.{IsWellFormed};
 ghost use Rattle.core_terms.specs.Answers.{Gives, bounded};
 ghost use Rattle.core_terms.specs.Meanings.{tree_of};
-ghost use Rattle.kernel_check.specs.Symbols as symbols;
 ghost use Rattle.family_check.specs.Entering as spec;
 ghost use Rattle.family_check.specs.Meanings.{Yields, stop_of};
 ghost use Rattle.family_check.specs.Scopes.{IsSettled, IsScopedStop};
@@ -16,7 +15,6 @@ use crate::FamilyStop;
 use crate::entering::{enter, too_high};
 use core_sig::{Entry, Signature, elim_type};
 use core_terms::{Stop, TOP, Term, Units};
-use kernel_check::is_eliminator;
 use std::alloc::Global;
 
 /// Adds the eliminator of the family with number `fam` into `Type m`, unless it is there, and answers its number.
@@ -35,6 +33,7 @@ pub fn instance(
     ensures answer { (f : pure.Family) → IsEntryAt sig.old fam (FamilyOf f) → Yields (spec.entered_at sig.new) result units.new.left (spec.instance_of sig.old fam f m units.old.left) }
     ensures err { OnErr result (sig.new ≡ sig.old) }
     ensures sum { units.new.left + units.new.spent ≡ units.old.left + units.old.spent }
+    ensures spends { units.new.left ≤ units.old.left }
     ensures longer { IsPrefix sig.old sig.new }
     ensures well_formed { IsWellFormed sig.old → IsWellFormed sig.new }
     ensures settled { IsSettled sig.new }
@@ -55,8 +54,9 @@ fn find_or_enter_eliminator(
     ensures answer { (f : pure.Family) → IsEntryAt sig.old fam (FamilyOf f) → Yields (spec.entered_at sig.new) result units.new.left (spec.instance_of sig.old fam f m units.old.left) }
     ensures err { OnErr result (sig.new ≡ sig.old) }
     ensures sum { units.new.left + units.new.spent ≡ units.old.left + units.old.spent }
+    ensures spends { units.new.left ≤ units.old.left }
 {
-    match eliminator_place(sig, fam, m) {
+    match sig.eliminator(fam, m) {
         Some(at) => Ok(at),
         None => enter_eliminator(alloc, sig, fam, m, units),
     }
@@ -75,6 +75,7 @@ fn enter_eliminator(
     ensures answer { (f : pure.Family) → IsEntryAt sig.old fam (FamilyOf f) → Yields (spec.entered_at sig.new) result units.new.left (spec.enter_instance sig.old (EliminatorAt fam m) (nat_lt m top) (eliminator_type fam f m) units.old.left) }
     ensures err { OnErr result (sig.new ≡ sig.old) }
     ensures sum { units.new.left + units.new.spent ≡ units.old.left + units.old.spent }
+    ensures spends { units.new.left ≤ units.old.left }
 {
     if m >= TOP {
         return Err(too_high(alloc));
@@ -93,17 +94,4 @@ fn type_of_eliminator(alloc: Global, sig: &Signature, fam: u32, m: u8) -> Result
         Some(Entry::Family(family)) => elim_type(alloc, fam, family, m),
         _ => unreachable!(),
     }
-}
-
-/// The number of the eliminator of family `fam` into `Type m`, where it is there.
-#[tactic(auto, using(crate::proofs::Places::found_at, crate::proofs::Places::found_nowhere, kernel_check::proofs::Instances::not_passed))]
-fn eliminator_place(sig: &Signature, fam: u32, m: u8) -> Option<u32>
-    ensures { result ≡ position (symbols.is_eliminator fam m) sig.now.entries }
-{
-    for at in 0..sig.len() {
-        if is_eliminator(sig, at, fam, m) {
-            return Some(at);
-        }
-    }
-    None
 }

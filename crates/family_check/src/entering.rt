@@ -1,4 +1,4 @@
-ghost use Rattle.std.specs.Prelude.{◌≡◌, ◌+◌, ℕ, true, [], OnErr};
+ghost use Rattle.std.specs.Prelude.{◌≡◌, ◌≤◌, ◌+◌, ℕ, true, [], OnErr};
 ghost use Rattle.theory.specs.Signatures.{names_of};
 ghost use Rattle.theory.specs.SignatureScopes.{IsScoped, IsScopedSignature};
 ghost use Rattle.core_terms.specs.Meanings.{tree_of};
@@ -30,6 +30,7 @@ pub(crate) fn enter(
     ensures answer { Yields (spec.entered_at sig.new) result units.new.left (spec.enter_instance sig.old (entry_of entry) true (tree_of ty.now) units.old.left) }
     ensures err { OnErr result (sig.new ≡ sig.old) }
     ensures sum { units.new.left + units.new.spent ≡ units.old.left + units.old.spent }
+    ensures spends { units.new.left ≤ units.old.left }
 {
     let ctx = Items::new(alloc);
     sort_in(alloc, sig, &ctx, ty, Site::Ty, units)?;

@@ -10,13 +10,14 @@ ghost use Rattle.core_sig.specs.Kinds.{HasKinds, HaveKinds};
 ghost use Rattle.core_sig.specs.Meanings.{constructor_of, family_of};
 ghost use Rattle.core_sig.specs.Names.{find};
 ghost use Rattle.core_sig.specs.Raw.{RawConstructor, raw_constructor_of, raw_names, raw_of};
+ghost use Rattle.kernel_check.specs.Scopes.{context_limit};
 ghost use Rattle.family_check.specs.Entering as entering;
 ghost use Rattle.family_check.specs.Families as spec;
 ghost use Rattle.family_check.specs.Kinds.{IsBare};
 ghost use Rattle.family_check.specs.Laws.{EntersAsDeclared};
 ghost use Rattle.family_check.specs.Meanings.{Yields, answer_of, stop_of};
 ghost use Rattle.family_check.specs.Outcomes.{ended};
-ghost use Rattle.family_check.specs.Scopes.{IsSettled, IsScopedRaw, IsScopedStop, site_signature};
+ghost use Rattle.family_check.specs.Scopes.{IsScopedRaw, IsScopedStop, IsSettled, parameter_limit, site_signature};
 
 use crate::asking::sort_in;
 use crate::constructors::declare_constructors;
@@ -29,7 +30,7 @@ use core_terms::{Items, Name, Stop, Tele, Term, Units, copy_tele, copy_whole};
 use std::alloc::Global;
 
 /// With fewer parameters there is room for the variables of any type that the checker takes.
-const MOST_PARAMETERS: usize = 2147481648;
+const PARAMETER_LIMIT: usize = 2147481648;
 
 /// The greatest number of a constructor fits 32 bits.
 const MOST_CONSTRUCTORS: usize = 4294967295;
@@ -50,6 +51,7 @@ pub fn declare(
     ensures answer { Yields (entering.entered_at sig.new) result units.new.left (entering.declare_of sig.old (raw_of raw) units.old.left) }
     ensures err { OnErr result (sig.new ≡ sig.old) }
     ensures sum { units.new.left + units.new.spent ≡ units.old.left + units.old.spent }
+    ensures spends { units.new.left ≤ units.old.left }
     ensures given { IfOk result (λ n. EntersAsDeclared sig.old (raw_of raw) (entering.entered_at sig.new n)) }
     ensures longer { IsPrefix sig.old sig.new }
     ensures well_formed { IsWellFormed sig.old → IsWellFormed sig.new }
@@ -71,8 +73,9 @@ fn enter_family(
     ensures answer { Yields (entering.entered_at sig.new) result units.new.left (entering.declare_of sig.old (raw_of raw) units.old.left) }
     ensures err { OnErr result (sig.new ≡ sig.old) }
     ensures sum { units.new.left + units.new.spent ≡ units.old.left + units.old.spent }
+    ensures spends { units.new.left ≤ units.old.left }
 {
-    if raw.params.as_slice().len() >= MOST_PARAMETERS
+    if raw.params.as_slice().len() >= PARAMETER_LIMIT
         || raw.cons.as_slice().len() > MOST_CONSTRUCTORS
     {
         return Err(FamilyStop::Stop(Stop::Memory));
@@ -94,12 +97,13 @@ fn declare_family(
     requires signature { IsSettled sig.old }
     requires raw { IsScopedRaw sig.old (raw_of raw) }
     requires new { entering.are_new sig.old (raw_names (raw_of raw)) ≡ true }
-    requires few { length raw.params < 2147481648 }
+    requires few { length raw.params < parameter_limit }
     requires count { length raw.cons < 2 ^ 32 }
     ensures answer { Yields family_of result units.new.left (spec.declare_family sig.old (raw_of raw) units.old.left) }
     ensures kinds { IfOk result (HasKinds (length sig.old.entries)) }
     ensures kept { sig.new ≡ sig.old }
     ensures sum { units.new.left + units.new.spent ≡ units.old.left + units.old.spent }
+    ensures spends { units.new.left ≤ units.old.left }
 {
     let RawFamily {
         name,
@@ -136,7 +140,7 @@ fn over_bare(
 ) -> Result<Items<Constructor>, FamilyStop>
     requires signature { IsScopedSignature (pushed sig.old (FamilyOf (family_of bare.now))) }
     requires params { IsScopedTelescope (pushed sig.old (FamilyOf (family_of bare.now))) 0 (tele_of bare.now.params) }
-    requires few { length bare.now.params < 2147481648 }
+    requires few { length bare.now.params < parameter_limit }
     requires types { All (λ c. IsScoped (pushed sig.old (FamilyOf (family_of bare.now))) (length bare.now.params) (tree_of c.ty)) raws.items }
     requires count { length raws.items < 2 ^ 32 }
     requires bare { IsBare bare.now }
@@ -145,6 +149,7 @@ fn over_bare(
     ensures kinds { IfOk result (All (λ c. HaveKinds (length sig.old.entries) (family_of bare.now) 0 c.args)) }
     ensures kept { sig.new ≡ sig.old }
     ensures sum { units.new.left + units.new.spent ≡ units.old.left + units.old.spent }
+    ensures spends { units.new.left ≤ units.old.left }
 {
     let number = sig.push(Entry::Family(copy_bare(alloc, bare)?))?;
     let made = declare_constructors(alloc, sig, number, bare, raws, units);
@@ -196,10 +201,11 @@ fn declare_type(
     requires signature { IsScopedSignature sig.now }
     requires params { IsScopedTelescope sig.now 0 (tele_of params) }
     requires ty { IsScoped sig.now (length params) (tree_of ty) }
-    requires few { length params < 2147481648 }
+    requires few { length params < parameter_limit }
     ensures answer { (cs : List RawConstructor) → Yields family_of result units.new.left (spec.declare_type sig.now (record { name = name; parameters = tele_of params; type = tree_of ty; constructors = cs }) units.old.left) }
     ensures bare { IfOk result IsBare }
     ensures sum { units.new.left + units.new.spent ≡ units.old.left + units.old.spent }
+    ensures spends { units.new.left ≤ units.old.left }
 {
     let none = Items::new(alloc);
     levels(
@@ -226,11 +232,12 @@ fn bare_family(
     requires signature { IsScopedSignature sig.now }
     requires params { IsScopedTelescope sig.now 0 (tele_of params) }
     requires ty { IsScoped sig.now (length params) (tree_of ty) }
-    requires few { length params < 2147481648 }
+    requires few { length params < parameter_limit }
     requires low { tree.height (tree_of ty) ≤ 2000 }
     ensures answer { (cs : List RawConstructor) → Yields family_of result units.new.left (spec.bare_family sig.now (record { name = name; parameters = tele_of params; type = tree_of ty; constructors = cs }) units.old.left) }
     ensures bare { IfOk result IsBare }
     ensures sum { units.new.left + units.new.spent ≡ units.old.left + units.old.spent }
+    ensures spends { units.new.left ≤ units.old.left }
 {
     let mut types = Vec::new(alloc);
     let end = split_products(&mut types, ty)?;
@@ -267,10 +274,11 @@ fn leveled_indices(
     requires signature { IsScopedSignature sig.now }
     requires params { IsScopedTelescope sig.now 0 (tele_of params.now) }
     requires types { IsScopedTelescope sig.now (length params.now) (tele_of types.items) }
-    requires few { length params.now + length types.items < 2147483648 }
+    requires few { length params.now + length types.items < context_limit }
     ensures answer { Yields (map (λ i. (tree_of i.ty, i.level))) result units.new.left (and_next (spec.levels_of sig.now (spec.Index level) 0 (context_behind [] (tele_of params.now)) (tele_of types.items) units.old.left) (λ levels end. ended (Ok (zip (tele_of types.items) levels)) end)) }
     ensures plain { IfOk result (All (λ i. i.kind ≡ ArgKind.Plain)) }
     ensures sum { units.new.left + units.new.spent ≡ units.old.left + units.old.spent }
+    ensures spends { units.new.left ≤ units.old.left }
 {
     let levels = levels(
         alloc,

@@ -1,5 +1,5 @@
 //! What entering keeps and costs.
-ghost use Rattle.family_check.specs.Laws.{DeclareKeepsWellFormed, InstanceKeepsWellFormed, AxiomKKeepsWellFormed, DefineKeepsWellFormed, DeclareSpends, InstanceSpends, AxiomKSpends, DefineSpends, DeclareKeepsSettled, InstanceKeepsSettled, AxiomKKeepsSettled, DefineKeepsSettled, DeclareEntersGiven, PreludeIsSettled};
+ghost use Rattle.family_check.specs.Laws.{DeclareKeepsWellFormed, InstanceKeepsWellFormed, AxiomKKeepsWellFormed, DefineKeepsWellFormed, DeclareSpends, InstanceSpends, AxiomKSpends, DefineSpends, DeclareKeepsSettled, InstanceKeepsSettled, AxiomKKeepsSettled, DefineKeepsSettled, DeclareEntersGiven, PreludeIsSettled, SameOffender};
 
 /// A signature stays well formed where a family enters.
 pub fn declare_keeps_well_formed()
@@ -69,4 +69,9 @@ pub fn declare_enters_given()
 /// Entries may enter the prelude.
 pub fn prelude_is_settled()
     ensures { PreludeIsSettled }
+{}
+
+/// What breaks positivity first in a declared type does so in the record that is made of it.
+pub fn same_offender()
+    ensures { SameOffender }
 {}

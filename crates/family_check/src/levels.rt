@@ -1,7 +1,8 @@
-ghost use Rattle.std.specs.Prelude.{◌≡◌, ◌<◌, ◌+◌, [], length};
+ghost use Rattle.std.specs.Prelude.{◌≡◌, ◌≤◌, ◌<◌, ◌+◌, [], length};
 ghost use Rattle.theory.specs.Telescopes.{context_behind};
 ghost use Rattle.theory.specs.SignatureScopes.{IsScoped, IsScopedSignature, IsScopedTelescope};
 ghost use Rattle.core_terms.specs.Meanings.{tree_of, tele_of};
+ghost use Rattle.kernel_check.specs.Scopes.{context_limit};
 ghost use Rattle.family_check.specs.Families as spec;
 ghost use Rattle.family_check.specs.Meanings.{Yields, answer_of, site_of, stop_of};
 ghost use Rattle.family_check.specs.Roles.{role_of};
@@ -64,9 +65,10 @@ fn level_in(
     requires signature { IsScopedSignature sig.now }
     requires context { IsScopedTelescope sig.now 0 (tele_of ctx.now) }
     requires ty { IsScoped sig.now (length ctx.now) (tree_of ty.now) }
-    requires few { length ctx.now < 2147483648 }
+    requires few { length ctx.now < context_limit }
     ensures answer { Yields (λ i. i) result units.new.left (spec.level_in sig.now (role_of role) k (context_behind [] (tele_of ctx.now)) (tree_of ty.now) units.old.left) }
     ensures sum { units.new.left + units.new.spent ≡ units.old.left + units.old.spent }
+    ensures spends { units.new.left ≤ units.old.left }
 {
     let sort = sort_in(alloc, sig, ctx, ty, site(role, k), units)?;
     fitting(role, k, sort_level(&sort))
@@ -84,9 +86,10 @@ pub(crate) fn levels(
     requires signature { IsScopedSignature sig.now }
     requires params { IsScopedTelescope sig.now 0 (tele_of params.now) }
     requires types { IsScopedTelescope sig.now (length params.now) (tele_of types.now) }
-    requires few { length params.now + length types.now < 2147483648 }
+    requires few { length params.now + length types.now < context_limit }
     ensures answer { Yields (λ v. v.items) result units.new.left (spec.levels_of sig.now (role_of role) 0 (context_behind [] (tele_of params.now)) (tele_of types.now) units.old.left) }
     ensures sum { units.new.left + units.new.spent ≡ units.old.left + units.old.spent }
+    ensures spends { units.new.left ≤ units.old.left }
 {
     let mut ctx = copy_tele(alloc, params)?;
     let mut levels = Vec::new(alloc);

@@ -3,6 +3,7 @@
 
 mod axiom_k;
 mod checking;
+mod kernel;
 pub mod laws;
 mod leaf;
 mod scope;
@@ -11,4 +12,5 @@ mod typing;
 mod verdicts;
 
 pub use axiom_k::axiom_k_type;
+pub use kernel::Kernel;
 pub use typing::{check, infer, infer_sort};

@@ -8,3 +8,4 @@ pub mod Reduction
 pub mod SignatureLaws
 pub mod Steps
 pub mod Tests
+pub mod Tidying

@@ -3,7 +3,7 @@
 //! Each unit that a call spends moves from `left` to `spent`. A call answers Fuel where it needs a unit and none is left, and
 //! Deep where it is given or makes a term higher than 2,000, or where more than 2,000 calls would be open at once, whichever
 //! comes first. The answers and the units are those of the definitions, unless memory ran out.
-ghost use Rattle.std.specs.Prelude.{◌≡◌, ◌≤◌, ◌+◌, ℕ, IfOk, IfSome, IsTrue, option_map};
+ghost use Rattle.std.specs.Prelude.{◌≡◌, ◌≤◌, ◌+◌, ℕ, IfOk, IfSome, IsTrue, false, option_map};
 ghost use Rattle.core_terms.specs.Answers.{Runs};
 ghost use Rattle.core_terms.specs.Bounds.{most_height};
 ghost use Rattle.core_terms.specs.Meanings.{tree_of};
@@ -13,6 +13,7 @@ ghost use Rattle.theory.specs.Terms as tree;
 ghost use Rattle.kernel_reduce.specs.Comparison.{convertible_of, subtype_of};
 ghost use Rattle.kernel_reduce.specs.Laws.{IsHeadForm};
 ghost use Rattle.kernel_reduce.specs.Reduction.{head_step_of, most_variables, nesting, normal_of, whnf_of};
+ghost use Rattle.kernel_reduce.specs.Tidying.{tidy_of};
 
 use crate::comparing::compare;
 use crate::head_steps::next_step;
@@ -63,6 +64,19 @@ pub fn whnf(
     ensures scoped { (n : ℕ) → IsScoped sig.now n (tree_of t.now) → IfOk result (λ u. IsScoped sig.now n (tree_of u)) }
 {
     head_form(alloc, sig, t, delta, units)
+}
+
+/// The head form of a term without delta.
+pub fn tidy(alloc: Global, sig: &Signature, t: &Term, units: &mut Units) -> Result<Term, Stop>
+    requires signature { IsScopedSignature sig.now }
+    requires scoped { IsScoped sig.now most_variables (tree_of t.now) }
+    ensures answer { Runs tree_of result units.new.left (tidy_of sig.now units.old.left (tree_of t.now)) }
+    ensures sum { units.new.left + units.new.spent ≡ units.old.left + units.old.spent }
+    ensures spends { units.new.left ≤ units.old.left }
+    ensures form { IfOk result (λ u. IsHeadForm sig.now false (tree_of t.now) (tree_of u)) }
+    ensures scoped { (n : ℕ) → IsScoped sig.now n (tree_of t.now) → IfOk result (λ u. IsScoped sig.now n (tree_of u)) }
+{
+    whnf(alloc, sig, t, false, units)
 }
 
 /// The normal form of a term: its head form, with the normal forms of the children from the left.

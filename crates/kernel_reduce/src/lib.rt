@@ -17,5 +17,5 @@ mod spine;
 mod stepping;
 mod testing;
 
-pub use calls::{NESTING, convertible, head_step, normal, subtype, subtype_within, whnf};
+pub use calls::{NESTING, convertible, head_step, normal, subtype, subtype_within, tidy, whnf};
 pub use making::into_spine;

@@ -41,4 +41,5 @@ loop-raw-preserved c =
           c.push.new.self c.in_ok-con.con _ c.in_ok-push.ensures.ok c.in_ok-con.ensures.answer;
       kinds = all-more (λ (k : Constructor). HaveKinds c.args.n (family_of c.args.f.now) 0 k.args) c.loop-raw.made c.push.new.self c.in_ok-con.con c.in_ok-push.ensures.ok c.loop-raw.invariant.kinds c.in_ok-con.ensures.kinds;
       sum = omega arith;
+      spends = omega arith;
     }

@@ -67,4 +67,5 @@ loop-at-preserved c =
       answer = levels-on c.args.sig.now (role_of c.args.role) ts c.loop-at.at (tree_of c.index-types-at.result) c.loop-at.levels.items _ (tele_of c.loop-at.ctx) (tele_of c.push.new.self) _
           c.loop-at.units.left c.in_ok-level.level _ c.loop-at.invariant.answer pushed c.in_ok-push-2.ensures.items lt item c.in_ok-level.ensures.answer;
       sum = omega arith;
+      spends = omega arith;
     }

@@ -1,4 +1,4 @@
-use Rattle.std.proofs.Common.{◌≡◌, ◌+◌, ◌++◌, [], take, drop}
+use Rattle.std.proofs.Common.{◌≡◌, ◌≤◌, ◌+◌, ◌++◌, [], take, drop}
 use Rattle.theory.specs.Telescopes.{context_behind}
 use Rattle.core_terms.specs.Meanings.{tele_of}
 use Rattle.family_check.specs.Families.{levels_of}
@@ -12,4 +12,5 @@ invariant-loop-at l = record {
   answer : levels_of l.sig (role_of l.role) 0 (context_behind [] (tele_of l.params)) (tele_of l.types) l.fn.units.left
       ≡ so_far l.levels.items (levels_of l.sig (role_of l.role) l.at (context_behind [] (tele_of l.ctx)) (drop l.at (tele_of l.types)) l.units.left);
   sum : l.units.left + l.units.spent ≡ l.fn.units.left + l.fn.units.spent;
+  spends : l.units.left ≤ l.fn.units.left;
 }

@@ -1,0 +1,191 @@
+ghost use Rattle.std.specs.Prelude.{◌≡◌, ◌≤◌, ◌<◌, ◌+◌, ℕ, true, false, [], length, IfOk, IsTrue};
+ghost use Rattle.theory.specs.Conversion.{Below, Converts};
+ghost use Rattle.theory.specs.Telescopes.{context_behind};
+ghost use Rattle.theory.specs.Terms as tree;
+ghost use Rattle.theory.specs.SignatureScopes.{IsScoped, IsScopedSignature, IsScopedTelescope};
+ghost use Rattle.theory.specs.Typing.{IsContext, IsType};
+ghost use Rattle.theory.specs.WellFormed.{IsTyped};
+ghost use Rattle.core_terms.specs.Answers.{Runs};
+ghost use Rattle.core_terms.specs.Bounds.{most_height};
+ghost use Rattle.core_terms.specs.Meanings.{tree_of, tele_of, verdict_of};
+ghost use Rattle.kernel_reduce.specs.Comparison.{convertible_of, subtype_of};
+ghost use Rattle.kernel_reduce.specs.Laws.{IsHeadForm};
+ghost use Rattle.kernel_reduce.specs.Reduction.{most_variables, nesting, normal_of, whnf_of};
+ghost use Rattle.kernel_reduce.specs.Tidying.{tidy_of};
+ghost use Rattle.kernel_check.specs.Checking.{check_of, infer_of, infer_sort_of};
+ghost use Rattle.kernel_check.specs.Laws.{AreBothLow, HasType, HasUniverse, HasWanted, IfYes, IsScopedVerdict, IsSort};
+ghost use Rattle.kernel_check.specs.Scopes.{context_limit};
+
+use core_sig::Signature;
+use core_terms::{Stop, Tele, Term, Units, Verdict};
+use std::alloc::Global;
+use std::marker::Model;
+
+/// What terms are reduced, compared and checked with: where memory comes from, a scoped signature, and units.
+///
+/// Each call is the one of its name on trees, over this signature and with these units.
+pub struct Kernel<'a> {
+    alloc: Global,
+    sig: &'a Signature,
+    units: Units,
+}
+
+impl<'a> Model for Kernel<'a> {
+    ghost use Rattle.theory.specs.SignatureScopes.{IsScopedSignature};
+    ghost use Rattle.kernel_check.specs.Kernels.{Kernel, kernel_code};
+
+    ghost Value = { Kernel };
+
+    ghost coded = { kernel_code };
+
+    ghost view = { λ k. record { signature = k.sig.now; left = k.units.left; spent = k.units.spent } };
+
+    ghost invariant = { λ k. IsScopedSignature k.sig.now };
+}
+
+impl<'a> Kernel<'a> {
+    /// A kernel over the signature; takes no memory.
+    pub fn new(alloc: Global, sig: &'a Signature, units: Units) -> Kernel<'a>
+        requires { IsScopedSignature sig.now }
+        ensures { result ≡ record { signature = sig.now; left = units.left; spent = units.spent } }
+    {
+        Kernel { alloc, sig, units }
+    }
+
+    /// Where memory comes from.
+    pub fn alloc(&self) -> Global {
+        self.alloc
+    }
+
+    /// The signature.
+    pub fn sig(&self) -> &'a Signature
+        ensures signature { result.now ≡ self.now.signature }
+        ensures scoped { IsScopedSignature self.now.signature }
+    {
+        self.sig
+    }
+
+    /// The units that are left, and those that were spent.
+    pub fn units(&self) -> Units
+        ensures left { result.left ≡ self.now.left }
+        ensures spent { result.spent ≡ self.now.spent }
+    {
+        self.units
+    }
+
+    /// The head form of a term: head steps until there is none.
+    pub fn whnf(&mut self, t: &Term) -> Result<Term, Stop>
+        requires scoped { IsScoped self.old.signature most_variables (tree_of t.now) }
+        ensures answer { Runs tree_of result self.new.left (whnf_of self.old.signature true self.old.left (tree_of t.now)) }
+        ensures same { self.new.signature ≡ self.old.signature }
+        ensures sum { self.new.left + self.new.spent ≡ self.old.left + self.old.spent }
+        ensures spends { self.new.left ≤ self.old.left }
+        ensures form { IfOk result (λ u. IsHeadForm self.old.signature true (tree_of t.now) (tree_of u)) }
+        ensures scoped { (n : ℕ) → IsScoped self.old.signature n (tree_of t.now) → IfOk result (λ u. IsScoped self.old.signature n (tree_of u)) }
+    {
+        kernel_reduce::whnf(self.alloc, self.sig, t, true, &mut self.units)
+    }
+
+    /// The head form of a term without delta.
+    pub fn tidy(&mut self, t: &Term) -> Result<Term, Stop>
+        requires scoped { IsScoped self.old.signature most_variables (tree_of t.now) }
+        ensures answer { Runs tree_of result self.new.left (tidy_of self.old.signature self.old.left (tree_of t.now)) }
+        ensures same { self.new.signature ≡ self.old.signature }
+        ensures sum { self.new.left + self.new.spent ≡ self.old.left + self.old.spent }
+        ensures spends { self.new.left ≤ self.old.left }
+        ensures form { IfOk result (λ u. IsHeadForm self.old.signature false (tree_of t.now) (tree_of u)) }
+        ensures scoped { (n : ℕ) → IsScoped self.old.signature n (tree_of t.now) → IfOk result (λ u. IsScoped self.old.signature n (tree_of u)) }
+    {
+        kernel_reduce::tidy(self.alloc, self.sig, t, &mut self.units)
+    }
+
+    /// The normal form of a term. Without `delta` constants take no step.
+    pub fn normal(&mut self, t: &Term, delta: bool) -> Result<Term, Stop>
+        requires scoped { IsScoped self.old.signature most_variables (tree_of t.now) }
+        ensures answer { Runs tree_of result self.new.left (normal_of self.old.signature delta nesting (tree_of t.now) self.old.left) }
+        ensures same { self.new.signature ≡ self.old.signature }
+        ensures sum { self.new.left + self.new.spent ≡ self.old.left + self.old.spent }
+        ensures spends { self.new.left ≤ self.old.left }
+        ensures converts { IfOk result (λ u. Converts self.old.signature (tree_of t.now) (tree_of u)) }
+        ensures low { IfOk result (λ u. tree.height (tree_of u) ≤ most_height) }
+        ensures scoped { (n : ℕ) → IsScoped self.old.signature n (tree_of t.now) → IfOk result (λ u. IsScoped self.old.signature n (tree_of u)) }
+    {
+        kernel_reduce::normal(self.alloc, self.sig, t, delta, &mut self.units)
+    }
+
+    /// Whether two terms are found convertible.
+    pub fn convertible(&mut self, a: &Term, b: &Term) -> Result<bool, Stop>
+        requires a { IsScoped self.old.signature most_variables (tree_of a.now) }
+        requires b { IsScoped self.old.signature most_variables (tree_of b.now) }
+        ensures answer { Runs (λ holds. holds) result self.new.left (convertible_of self.old.signature nesting (tree_of a.now) (tree_of b.now) self.old.left) }
+        ensures same { self.new.signature ≡ self.old.signature }
+        ensures sum { self.new.left + self.new.spent ≡ self.old.left + self.old.spent }
+        ensures spends { self.new.left ≤ self.old.left }
+        ensures sound { IfOk result (λ holds. IsTrue holds → Converts self.old.signature (tree_of a.now) (tree_of b.now)) }
+    {
+        kernel_reduce::convertible(self.alloc, self.sig, a, b, &mut self.units)
+    }
+
+    /// Whether the first term is found below the second one.
+    pub fn subtype(&mut self, a: &Term, b: &Term) -> Result<bool, Stop>
+        requires a { IsScoped self.old.signature most_variables (tree_of a.now) }
+        requires b { IsScoped self.old.signature most_variables (tree_of b.now) }
+        ensures answer { Runs (λ holds. holds) result self.new.left (subtype_of self.old.signature nesting (tree_of a.now) (tree_of b.now) self.old.left) }
+        ensures same { self.new.signature ≡ self.old.signature }
+        ensures sum { self.new.left + self.new.spent ≡ self.old.left + self.old.spent }
+        ensures spends { self.new.left ≤ self.old.left }
+        ensures sound { IfOk result (λ holds. IsTrue holds → Below self.old.signature (tree_of a.now) (tree_of b.now)) }
+    {
+        kernel_reduce::subtype(self.alloc, self.sig, a, b, &mut self.units)
+    }
+
+    /// A type of the term in the context, which lists its types from the outermost on.
+    pub fn infer(&mut self, ctx: &Tele, t: &Term) -> Result<Verdict, Stop>
+        requires context { IsScopedTelescope self.old.signature 0 (tele_of ctx.now) }
+        requires few { length ctx.now < context_limit }
+        requires term { IsScoped self.old.signature (length ctx.now) (tree_of t.now) }
+        ensures answer { Runs verdict_of result self.new.left (infer_of self.old.signature nesting (context_behind [] (tele_of ctx.now)) (tree_of t.now) self.old.left) }
+        ensures same { self.new.signature ≡ self.old.signature }
+        ensures sum { self.new.left + self.new.spent ≡ self.old.left + self.old.spent }
+        ensures spends { self.new.left ≤ self.old.left }
+        ensures sound { IsTyped self.old.signature → IsContext self.old.signature (context_behind [] (tele_of ctx.now)) → IfOk result (λ v. IfYes (verdict_of v) (HasType self.old.signature (context_behind [] (tele_of ctx.now)) (tree_of t.now))) }
+        ensures scoped { IfOk result (λ v. IsScopedVerdict self.old.signature (length ctx.now) (verdict_of v)) }
+        ensures low { IfOk result (λ v. IfYes (verdict_of v) (AreBothLow (tree_of t.now))) }
+    {
+        crate::infer(self.alloc, self.sig, ctx, t, &mut self.units)
+    }
+
+    /// The sort of the type `t` in the context. A Yes holds a sort.
+    pub fn infer_sort(&mut self, ctx: &Tele, t: &Term) -> Result<Verdict, Stop>
+        requires context { IsScopedTelescope self.old.signature 0 (tele_of ctx.now) }
+        requires few { length ctx.now < context_limit }
+        requires term { IsScoped self.old.signature (length ctx.now) (tree_of t.now) }
+        ensures answer { Runs verdict_of result self.new.left (infer_sort_of self.old.signature nesting (context_behind [] (tele_of ctx.now)) (tree_of t.now) self.old.left) }
+        ensures same { self.new.signature ≡ self.old.signature }
+        ensures sum { self.new.left + self.new.spent ≡ self.old.left + self.old.spent }
+        ensures spends { self.new.left ≤ self.old.left }
+        ensures sound { IsTyped self.old.signature → IsContext self.old.signature (context_behind [] (tele_of ctx.now)) → IfOk result (λ v. IfYes (verdict_of v) (HasUniverse self.old.signature (context_behind [] (tele_of ctx.now)) (tree_of t.now))) }
+        ensures scoped { IfOk result (λ v. IsScopedVerdict self.old.signature (length ctx.now) (verdict_of v)) }
+        ensures low { IfOk result (λ v. IfYes (verdict_of v) (AreBothLow (tree_of t.now))) }
+        ensures sort { IfOk result (λ v. IfYes (verdict_of v) IsSort) }
+    {
+        crate::infer_sort(self.alloc, self.sig, ctx, t, &mut self.units)
+    }
+
+    /// Whether the term has the type `wanted` in the context. A Yes holds the type that was inferred.
+    pub fn check(&mut self, ctx: &Tele, t: &Term, wanted: &Term) -> Result<Verdict, Stop>
+        requires context { IsScopedTelescope self.old.signature 0 (tele_of ctx.now) }
+        requires few { length ctx.now < context_limit }
+        requires term { IsScoped self.old.signature (length ctx.now) (tree_of t.now) }
+        requires wanted { IsScoped self.old.signature (length ctx.now) (tree_of wanted.now) }
+        ensures answer { Runs verdict_of result self.new.left (check_of self.old.signature nesting (context_behind [] (tele_of ctx.now)) (tree_of t.now) (tree_of wanted.now) self.old.left) }
+        ensures same { self.new.signature ≡ self.old.signature }
+        ensures sum { self.new.left + self.new.spent ≡ self.old.left + self.old.spent }
+        ensures spends { self.new.left ≤ self.old.left }
+        ensures sound { IsTyped self.old.signature → IsContext self.old.signature (context_behind [] (tele_of ctx.now)) → IsType self.old.signature (context_behind [] (tele_of ctx.now)) (tree_of wanted.now) → IfOk result (λ v. IfYes (verdict_of v) (HasWanted self.old.signature (context_behind [] (tele_of ctx.now)) (tree_of t.now) (tree_of wanted.now))) }
+        ensures scoped { IfOk result (λ v. IsScopedVerdict self.old.signature (length ctx.now) (verdict_of v)) }
+        ensures low { IfOk result (λ v. IfYes (verdict_of v) (AreBothLow (tree_of t.now))) }
+    {
+        crate::check(self.alloc, self.sig, ctx, t, wanted, &mut self.units)
+    }
+}
