@@ -1,10 +1,10 @@
 -- Products, functions and spines that are built one by one, and the heights of their parts.
-use Rattle.std.proofs.Common.{◌≡◌, ℕ, ◌+◌, ◌≤◌, List, [], ◌∷◌, ◌++◌, length, Result, Ok, refl, ap, arith}
+use Rattle.std.proofs.Common.{◌≡◌, ℕ, zero, suc, ◌+◌, ◌≤◌, List, [], ◌∷◌, ◌++◌, length, map, Result, Ok, refl, ap, ap₂, arith}
 use Rattle.std.proofs.lemmas.List.{length-append}
 use Rattle.theory.specs.Terms.{Term, height}
-use Rattle.theory.specs.Terms.Term.{Pi, Lam, App}
+use Rattle.theory.specs.Terms.Term.{Var, Pi, Lam, App}
 use Rattle.theory.specs.Spines.{spine_of}
-use Rattle.theory.specs.Telescopes.{Telescope, products, functions, applied}
+use Rattle.theory.specs.Telescopes.{Telescope, products, functions, applied, variables, weaken_by}
 use Rattle.core_terms.specs.declared.stop.Stop.{Stop}
 
 -- a product over one type more
@@ -24,6 +24,13 @@ applied-push head (b ∷ spine) a = applied-push (App head b) spine a
 
 pub length_snoc : (us : List Term) (a : Term) → length (us ++ a ∷ []) ≡ length us + 1
 length_snoc us a = length-append us (a ∷ [])
+
+-- with none before them the nearest variables are themselves
+pub variables-nearest : (k : ℕ) → map (weaken_by 0) (variables k) ≡ variables k
+variables-nearest zero = refl
+variables-nearest (suc k) = ap₂ ◌∷◌ (ap Var (omega arith)) (variables-nearest k)
+
+pub ruleset variable_laws = (variables-nearest)
 
 -- a product is as high as its telescope is long, above its body
 pub height-products : (tele : Telescope) (b : Term) → height b + length tele ≤ height (products tele b)

@@ -74,6 +74,14 @@ pub fn applied_to_variables(alloc: Global, head: Term, from: u32, count: u32) ->
     Ok(whole)
 }
 
+/// `head` applied to the nearest `count` variables, the outermost one first.
+#[tactic(auto, using(crate::proofs::Builders::variable_laws))]
+pub fn applied_to_nearest(alloc: Global, head: Term, count: u32) -> Result<Term, Stop>
+    ensures { Gives tree_of result (Ok (spec.applied (tree_of head) (spec.variables count))) }
+{
+    applied_to_variables(alloc, head, 0, count)
+}
+
 /// The arguments of a term's head, the first one first.
 pub fn into_spine(alloc: Global, t: Term) -> Result<Vec<Term>, Stop>
     ensures { Gives (λ v. tele_of v.items) result (Ok (spine_of (tree_of t))) }

@@ -18,7 +18,8 @@ mod units;
 mod verdict;
 
 pub use building::{
-    applied, applied_to_variables, checked, few, functions, head, into_spine, products, spine_len,
+    applied, applied_to_nearest, applied_to_variables, checked, few, functions, head, into_spine,
+    products, spine_len,
 };
 pub use case_tree::{Branch, Origin, Rule, Step, Tree, Walk};
 pub use copying::{copy, copy_pat, copy_tele, copy_whole};

@@ -6,7 +6,7 @@ use Rattle.std.proofs.lemmas.List.Elements.{All-cons, All-nil}
 use Rattle.theory.specs.Terms.{Term, top}
 use Rattle.theory.specs.Terms.Term.{Sort, Var}
 use Rattle.theory.specs.Telescopes.{Context, Telescope, context_behind, products}
-use Rattle.theory.specs.Families.{Constructor, Family, IsPositiveConstructor, index_types}
+use Rattle.theory.specs.Families.{Constructor, Family, IsPositiveConstructor, index_types, without_constructors}
 use Rattle.theory.specs.Eliminators.{eliminator_type}
 use Rattle.theory.specs.Signatures.{Entry, FamilyOf, EliminatorAt, AxiomKAt, Definition, Signature, names_of, axiom_k_type}
 use Rattle.theory.specs.Typing.{IsContext, Has, HasSort}
@@ -238,18 +238,29 @@ record IsDeclared (S : Signature) (raw : RawFamily) (f : Family) : Type 0 where
 
 family-complete : (S : Signature) (raw : RawFamily) (f : Family) (cs : List Constructor) → IsBare S raw f
     → AreFormed (pushed S (FamilyOf f)) (length S.entries) f raw.constructors cs → IsDeclared S raw (with_constructors f cs)
-family-complete S raw f cs b k = record {
-  names = ap₂ ◌∷◌ b.name k.names;
-  formed = record {
-    level = b.formed.level;
-    type = b.formed.type;
-    indices = b.formed.indices;
-    constructors =
-        transport (λ T. All (IsConstructor T (length S.entries) (with_constructors f cs)) cs)
-        (ap (λ empty. pushed S (FamilyOf (with_constructors f empty))) b.bare) k.formed;
-    positive = k.positive;
-  };
-}
+family-complete S raw f cs b k =
+    let formed = transport (λ g. All (IsConstructor (pushed S (FamilyOf g)) (length S.entries) f) cs) bare k.formed in
+    record {
+      names = ap₂ ◌∷◌ b.name k.names;
+      formed = record {
+        level = b.formed.level;
+        type = b.formed.type;
+        indices = b.formed.indices;
+        constructors = λ i d w.
+            let c = formed i d w in
+            record { type = c.type; levels = c.levels; targets = c.targets; argument_targets = c.argument_targets };
+        positive = k.positive;
+      };
+    }
+  where
+    bare : f ≡ without_constructors (with_constructors f cs)
+    bare = λ i. record {
+      name = f.name;
+      parameters = f.parameters;
+      indices = f.indices;
+      level = f.level;
+      constructors = b.bare i;
+    }
 
 family-sound : (S : Signature) → IsWellFormed S → (raw : RawFamily) (left : ℕ) → DifferFrom S (raw_names raw)
     → Answers (IsDeclared S raw) (declare_family S raw left)

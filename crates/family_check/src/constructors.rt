@@ -18,8 +18,7 @@ use crate::levels::{Role, levels};
 use crate::products::split_products;
 use crate::{FamilyStop, Site};
 use core_sig::{Arg, ArgKind, Constructor, Family, RawCon, Signature, kind_of, mentions};
-use core_terms::{Items, Name, Stop, Tele, Term, Units};
-use kernel_reduce::into_spine;
+use core_terms::{Items, Name, Stop, Tele, Term, Units, into_spine};
 use std::alloc::Global;
 
 fn is_recursive(kind: ArgKind) -> bool

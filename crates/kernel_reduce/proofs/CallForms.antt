@@ -21,7 +21,8 @@ use Rattle.core_sig.specs.declared.family.ArgKind.{ArgKind}
 use Rattle.core_sig.specs.declared.family.ArgKind.TheVariants as kind
 use Rattle.kernel_reduce.specs.Making.{under_binders, instance_of}
 use Rattle.kernel_reduce.specs.Calls.{call_of, recursive_call_of, hypothesis_of, hypothesis_before, hypotheses_of}
-use Rattle.kernel_reduce.proofs.InstanceUnder.{weaken-lifted, ups-under, instance-is_inst, applied_snoc, value-at}
+use Rattle.core_terms.proofs.Builders.{applied-push}
+use Rattle.kernel_reduce.proofs.InstanceUnder.{weaken-lifted, ups-under, instance-is_inst, value-at}
 
 drop-all : {A : Type 0} (xs : List A) (n : ℕ) → length xs ≤ n → drop n xs ≡ []
 drop-all [] zero h = refl
@@ -46,7 +47,7 @@ call-is values p recursor under (App f a) few = go (nat_le p (min (length (spine
     go true e inner =
         let within : p ≤ length (spine_of f) = grind (arith, nat_tests) in
         ap (λ g. App g (instance_of values under a)) inner
-        ∙ (sym (applied_snoc (lift recursor under 0) (map (instance_of values under) (drop p (spine_of f))) (instance_of values under a))
+        ∙ (sym (applied-push (lift recursor under 0) (map (instance_of values under) (drop p (spine_of f))) (instance_of values under a))
         ∙ ap (applied (lift recursor under 0))
         (sym (map-append (instance_of values under) (drop p (spine_of f)) (a ∷ []))
         ∙ ap (map (instance_of values under)) (sym (drop-snoc (spine_of f) a p within))))

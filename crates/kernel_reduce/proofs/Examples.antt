@@ -166,6 +166,12 @@ k_rests : whnf_of (sample false) true 10 by_k ≡ answered (Ok by_k) 10
 unfolding sample number by_k
 k_rests = refl
 
+-- It takes none either where another family stands in the place of Eq.0.
+
+k_elsewhere : whnf_of (record { entries = FamilyOf natural_family ∷ FamilyOf natural_family ∷ []; has_k = true }) true 10 by_k ≡ answered (Ok by_k) 10
+unfolding natural_family number by_k
+k_elsewhere = refl
+
 -- Zeta, with delta and without; the body of a constant; no step of a provisional one.
 
 zeta : convertible_of (sample false) nesting (Let (Sort 1) (Sort 0) (Pi (Var 0) (Var 1))) (Pi (Sort 0) (Sort 0)) 10 ≡ answered (Ok true) 6

@@ -1,11 +1,11 @@
 -- Where K of Eq.i steps by its test, it is on and the signature has Eq.i as the prelude has it.
-use Rattle.std.proofs.Common.{◌≡◌, ℕ, ◌<◌, Bool, true, false, cond, ◌&&◌, ◌==◌, nat_lt, IsTrue, Option, Some, None, List, [], ◌∷◌, ◌++◌, codes, bytes_eq, refl, ap, ap₂, ◌∙◌, subst as transport, arith}
+use Rattle.std.proofs.Common.{◌≡◌, ℕ, Bool, true, ◌&&◌, ◌==◌, nat_lt, IsTrue, Option, Some, None, List, [], ◌∷◌, codes, refl, ap, ap₂, ◌∙◌, subst as transport, arith}
 use Rattle.std.proofs.lemmas.Bool.Decides.{Decides-eqb, nat_tests}
 use Rattle.std.proofs.lemmas.Slice.Eq.{bytes_eq-Decides}
 use Rattle.theory.specs.Terms.{Term, top}
 use Rattle.theory.specs.Terms.Term.{Var, Sort}
 use Rattle.theory.specs.Families.{Argument, Constructor, Family}
-use Rattle.theory.specs.Prelude.{level_text, equality_family}
+use Rattle.theory.specs.Prelude.{equality_family}
 use Rattle.theory.specs.Signatures.{Signature, FamilyOf, IsEntryAt, HasIdentity, equality}
 use Rattle.kernel_reduce.specs.Entries.{family_at}
 use Rattle.kernel_reduce.specs.Identities.{is_sort, is_variable, is_named, has_parameters, has_index, has_no_arguments, has_target, has_reflexivity, is_identity, is_identity_there, has_k_at}

@@ -114,9 +114,12 @@ makes-bounded under r t meant h e = transport (MakesUnder under r) e (by (nat_le
     by false tested (Ok a) g = absurd (grind arith)
     by false tested (Err x) g = λ other. (grind (arith, g other), grind (arith, nat_tests))
 
+<<<<<<< ours
 pub applied_snoc : (h : Term) (us : List Term) (a : Term) → applied h (us ++ a ∷ []) ≡ App (applied h us) a
 applied_snoc h us a = applied-append h us (a ∷ [])
 
+=======
+>>>>>>> theirs
 pub under-low : (under n : ℕ) (s : ℕ → Term) → n < under → Var n ≡ under_binders under s n
 unfolding under_binders
 under-low under n s low = go (nat_lt n under) refl
@@ -124,10 +127,3 @@ under-low under n s low = go (nat_lt n under) refl
     go : (b : Bool) → nat_lt n under ≡ b → Var n ≡ cond b (Var n) (lift (s (n - under)) under 0)
     go true h = refl
     go false h = absurd (grind (arith, nat_tests))
-
-abbrev answer-or : {A : Type 0} → A → Result A Stop → A
-answer-or d (Ok a) = a
-answer-or d (Err e) = d
-
-pub ok_is : {A : Type 0} {x y : A} → ◌≡◌ {A = Result A Stop} (Ok x) (Ok y) → x ≡ y
-ok_is {x = x} e = ap (answer-or x) e

@@ -8,6 +8,3 @@ use Rattle.theory.specs.Spines.{spine_of}
 pub spine_fits : (t : Term) → length (spine_of t) + 1 ≤ height t
 spine_fits (App f a) = let h = spine_fits f in let e = length-append (spine_of f) (a ∷ []) in omega arith
 spine_fits _ = omega arith
-
-pub length_snoc : (us : List Term) (a : Term) → length (us ++ a ∷ []) ≡ length us + 1
-length_snoc us a = length-append us (a ∷ [])

@@ -14,7 +14,7 @@ use Rattle.theory.specs.Conversion.Contracts.{delta as delta_step, iota, axiom_k
 use Rattle.theory.specs.Conversion.Step.{here, function, argument}
 use Rattle.theory.proofs.Rules.{beta-subst, zeta-subst}
 use Rattle.theory.proofs.Spines.{applied-spine}
-use Rattle.kernel_reduce.specs.Entries.{is_constant, body_in, body_at, family_in, family_at}
+use Rattle.kernel_reduce.specs.Entries.{is_constant, body_in, body_at, family_at}
 use Rattle.kernel_reduce.specs.Identities.{has_k_at}
 use Rattle.kernel_reduce.specs.Steps.{beta_step, fills, awaits_scrutinee, method_applied, iota_at, iota_step, k_step, contraction, scrutinee_step, elimination_step, first_of, application_step, step_of}
 pub use Rattle.kernel_reduce.proofs.LookUps.{both-true, family-found}

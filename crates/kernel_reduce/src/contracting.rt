@@ -14,10 +14,9 @@ ghost use Rattle.kernel_reduce.specs.Tests.{eliminator_numbers, meets};
 
 use crate::iota::with_hypotheses;
 use crate::lookup::{constructor, family};
-use crate::making::{applied, into_spine};
 use crate::spine::{constructor_at_head, eliminator_at_head};
 use core_sig::{Constructor, Family, Signature};
-use core_terms::{Stop, Term, copy, copy_tele};
+use core_terms::{Stop, Term, applied, copy, copy_tele, into_spine};
 use std::alloc::Global;
 
 /// The first `count` terms.

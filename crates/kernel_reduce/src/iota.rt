@@ -10,10 +10,9 @@ ghost use Rattle.kernel_reduce.specs.Calls.{call_of, recursive_call_of, hypothes
 ghost use Rattle.kernel_reduce.specs.Making.{Makes, MakesUnder};
 ghost use Rattle.kernel_reduce.specs.Steps.{iota_at};
 
-use crate::making::{applied, applied_to_variables, instance};
-use crate::spine::spine_len;
+use crate::making::instance;
 use core_sig::{Arg, ArgKind, Family};
-use core_terms::{MAX_HEIGHT, Stop, Term, copy, copy_tele, lift};
+use core_terms::{MAX_HEIGHT, Stop, Term, applied_to_nearest, copy, copy_tele, lift, spine_len};
 use std::alloc::Global;
 
 /// The recursor at the targets that stand in `ty`, which ends in a family at `params` parameters and these targets.
@@ -58,7 +57,7 @@ fn recursive_call(
 {
     let f = call(alloc, recursor, values, params, ty, under)?;
     let r = lift(alloc, r, under, 0)?;
-    let r = applied_to_variables(alloc, r, under)?;
+    let r = applied_to_nearest(alloc, r, under)?;
     Term::new_app(alloc, f, r)
 }
 

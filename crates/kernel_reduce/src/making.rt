@@ -12,44 +12,6 @@ ghost use Rattle.kernel_reduce.specs.Making.{MakesUnder, under_binders, instance
 use core_terms::{MAX_HEIGHT, Stop, Term, copy, lift};
 use std::alloc::Global;
 
-/// The arguments of a term's head, the first one first.
-pub fn into_spine(alloc: Global, t: Term) -> Result<Vec<Term>, Stop>
-    ensures { Gives (λ v. tele_of v.items) result (Ok (spine_of (tree_of t))) }
-{
-    match t {
-        Term::App(f, a) => {
-            let mut spine = into_spine(alloc, Box::into_inner(f))?;
-            spine.push(Box::into_inner(a))?;
-            Ok(spine)
-        }
-        _ => Ok(Vec::new(alloc)),
-    }
-}
-
-/// `head` applied to the arguments.
-pub(crate) fn applied(alloc: Global, head: Term, spine: Vec<Term>) -> Result<Term, Stop>
-    ensures { Gives tree_of result (Ok (spec.applied (tree_of head) (tele_of spine.items))) }
-{
-    let mut whole = head;
-    for arg in spine {
-        whole = Term::new_app(alloc, whole, arg)?;
-    }
-    Ok(whole)
-}
-
-/// `head` applied to the nearest `count` variables, the outermost one first.
-pub(crate) fn applied_to_variables(alloc: Global, head: Term, count: u32) -> Result<Term, Stop>
-    ensures { Gives tree_of result (Ok (spec.applied (tree_of head) (spec.variables count))) }
-{
-    let mut whole = head;
-    let mut left = count;
-    while left > 0 {
-        left -= 1;
-        whole = Term::new_app(alloc, whole, Term::Var(left))?;
-    }
-    Ok(whole)
-}
-
 /// Puts a value for every free variable of a term under so many binders: the last one for the nearest variable.
 ///
 /// A variable that no value stands for becomes `Type 0`.

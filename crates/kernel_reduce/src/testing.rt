@@ -7,9 +7,8 @@ ghost use Rattle.kernel_reduce.specs.Tests as tests;
 
 use crate::identity::has_k;
 use crate::lookup::{body, eliminator_arity, family, takes};
-use crate::spine::{head, spine_len};
 use core_sig::Signature;
-use core_terms::Term;
+use core_terms::{Term, head, spine_len};
 
 /// Whether the term is a function.
 pub(crate) fn is_function(t: &Term) -> bool

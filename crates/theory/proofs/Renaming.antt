@@ -1,5 +1,5 @@
 -- Renaming beside weakening, a term put for the nearest variable, and at closed terms.
-use Rattle.std.proofs.Common.{◌≡◌, ℕ, zero, suc, ◌+◌, sym, refl, ap, ◌∙◌, arith}
+use Rattle.std.proofs.Common.{◌≡◌, ℕ, zero, suc, ◌+◌, sym, refl, ◌∙◌, arith}
 use Rattle.theory.specs.Terms.{Term, IsClosed}
 use Rattle.theory.specs.Terms.Term.{Var}
 use Rattle.theory.specs.Substitutions.{ren, up, weaken, extend, put}

@@ -1,7 +1,6 @@
 -- The context of a derivation is well formed, and its term and type are scoped in it.
 use Rattle.std.proofs.Common.{◌≡◌, ℕ, ◌+◌, ◌-◌, ◌≤◌, zero, suc, Some, slice_get, inl, inr, length, refl, ap, subst as transport, arith}
 use Rattle.std.proofs.lemmas.Option.{slice_get_within, none-some}
-use Rattle.std.proofs.lemmas.Bool.Decides.{nat_tests}
 use Rattle.theory.specs.Terms.{Term, free_of, IsClosed}
 use Rattle.theory.specs.Telescopes.{Context}
 use Rattle.theory.specs.Signatures.{Signature, TypeOf, HasClosedBodies}

@@ -1,10 +1,10 @@
 -- Without K: no entry is an instance of it, and no term that has a type holds it.
 use Rattle.std.proofs.Common.{◌≡◌, ℕ, false, sym, ◌∙◌, true≢false, inl, inr, arith}
 use Rattle.theory.specs.Terms.{Term}
-use Rattle.theory.specs.Terms.Term.{Var, Sort, Pi, Lam, App, Let, AxiomK}
+use Rattle.theory.specs.Terms.Term.{Var, Pi, Lam, App, Let, AxiomK}
 use Rattle.theory.specs.Substitutions.{ups, inst, extend}
 use Rattle.theory.specs.Telescopes.{Context}
-use Rattle.theory.specs.Signatures.{Signature, Entry, FamilyOf, EliminatorAt, AxiomKAt, Definition, IsEntryAt, TypeOf}
+use Rattle.theory.specs.Signatures.{Signature, AxiomKAt, IsEntryAt, TypeOf}
 use Rattle.theory.specs.Signatures.TypeOf.{constant, family, constructor, eliminator, axiom_k}
 use Rattle.theory.specs.Typing.{Has, IsType}
 use Rattle.theory.specs.Typing.Has.{variable, sort, product, function, application, local, symbol, below, below_sort}

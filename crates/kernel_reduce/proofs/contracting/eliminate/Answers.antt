@@ -2,7 +2,7 @@ use Rattle.std.proofs.Common.{sym, ap, ◌∙◌}
 use Rattle.core_terms.specs.Meanings.{tree_of, tele_of}
 use Rattle.kernel_reduce.specs.Making.{Makes}
 use Rattle.kernel_reduce.proofs.Contractions.{has-all, contraction-of_spines, spine-free}
-use Rattle.kernel_reduce.proofs.InstanceUnder.{ok_is}
+use Rattle.core_terms.proofs.Builders.{ok_is}
 use Rattle.kernel_reduce.proofs.contracting.eliminate.Goals as goal
 
 pub iota-requires-clause-all : goal.iota-requires-clause-all

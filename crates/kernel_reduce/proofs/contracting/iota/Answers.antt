@@ -2,7 +2,7 @@ use Rattle.std.proofs.Common.{take, drop, length, ap, ◌∙◌, arith}
 use Rattle.std.proofs.lemmas.List.{length-append, length-take, length-drop, length-map}
 use Rattle.core_terms.specs.Meanings.{tree_of, tele_of}
 use Rattle.kernel_reduce.proofs.IotaBounds.{values-free, recursor-free}
-use Rattle.kernel_reduce.proofs.InstanceUnder.{ok_is}
+use Rattle.core_terms.proofs.Builders.{ok_is}
 use Rattle.kernel_reduce.proofs.contracting.iota.Goals as goal
 
 pub with_hypotheses-requires-clause-values : goal.with_hypotheses-requires-clause-values
