@@ -114,12 +114,6 @@ makes-bounded under r t meant h e = transport (MakesUnder under r) e (by (nat_le
     by false tested (Ok a) g = absurd (grind arith)
     by false tested (Err x) g = λ other. (grind (arith, g other), grind (arith, nat_tests))
 
-<<<<<<< ours
-pub applied_snoc : (h : Term) (us : List Term) (a : Term) → applied h (us ++ a ∷ []) ≡ App (applied h us) a
-applied_snoc h us a = applied-append h us (a ∷ [])
-
-=======
->>>>>>> theirs
 pub under-low : (under n : ℕ) (s : ℕ → Term) → n < under → Var n ≡ under_binders under s n
 unfolding under_binders
 under-low under n s low = go (nat_lt n under) refl

@@ -17,9 +17,4 @@ mod spine;
 mod stepping;
 mod testing;
 
-<<<<<<< ours
 pub use calls::{NESTING, convertible, head_step, normal, subtype, subtype_within, tidy, whnf};
-pub use making::into_spine;
-=======
-pub use calls::{convertible, head_step, normal, subtype, subtype_within, whnf};
->>>>>>> theirs
