@@ -10,7 +10,6 @@ use Rattle.theory.specs.Eliminators.{no_variable}
 use Rattle.theory.proofs.Commuting.{lift_merge}
 use Rattle.theory.proofs.Instances.{ap₃, inst-same}
 use Rattle.theory.proofs.Shifts.{lift-one}
-use Rattle.theory.proofs.Spines.{applied-append}
 use Rattle.core_terms.specs.Answers.{Gives, bounded}
 use Rattle.core_terms.specs.Meanings.{tree_of, tele_of}
 use Rattle.core_terms.specs.declared.stop.Stop.{Stop}
