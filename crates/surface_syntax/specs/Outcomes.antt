@@ -21,7 +21,11 @@ TokensSay bytes (Err (NotUtf8 offset)) = IsValidUpTo bytes offset
 TokensSay bytes (Err (BadToken offset)) = IsBadToken bytes offset
 TokensSay bytes (Err _) = ⊥
 
+-- the refusals that nothing rules out: want of memory alone
+abbrev pub IsUnforeseen : SyntaxStop → Type 0
+IsUnforeseen e = e ≡ Memory
+
 -- nothing but this value or want of memory is answered
 abbrev pub GivesOnly : {A : Type 0} → Result A SyntaxStop → A → Type 0
 GivesOnly (Ok a) b = a ≡ b
-GivesOnly (Err e) b = e ≡ Memory
+GivesOnly (Err e) b = IsUnforeseen e

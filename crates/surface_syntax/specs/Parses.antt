@@ -1,11 +1,13 @@
 -- What the parser answers for the tokens of a text.
-use Rattle.std.specs.Prelude.{◌≡◌, ◌≢◌, ℕ, ◌-◌, List, [], ◌∷◌, map, length, drop, Result, Ok, Err}
+use Rattle.std.specs.Prelude.{◌≡◌, ℕ, ◌-◌, List, [], ◌∷◌, map, length, drop, Result, Ok, Err}
+use Rattle.core_terms.specs.Answers.{GivesUnless}
 use Rattle.surface_syntax.specs.Trees as tree
 use Rattle.surface_syntax.specs.Grammar.{File, limit}
 use Rattle.surface_syntax.specs.Machine.{Start}
 use Rattle.surface_syntax.specs.Parsing.{Answer, Read, Wrong, Deep, run}
 use Rattle.surface_syntax.specs.Viable.{GoesWrong}
 use Rattle.surface_syntax.specs.Nesting.{IsNested}
+use Rattle.surface_syntax.specs.Outcomes.{IsUnforeseen}
 use Rattle.surface_syntax.specs.Lexemes.{lexemes_of}
 use Rattle.surface_syntax.specs.TreeMeanings.{decl_of}
 use Rattle.surface_syntax.specs.declared.tree.Decl.{Decl}
@@ -35,8 +37,7 @@ parsed bytes tokens = by_offset (offset_of bytes tokens) (run limit Start (lexem
 
 -- the answer stands for the one that is meant, unless memory runs out
 abbrev pub GivesAnswer : {A B : Type 0} → (A → B) → Result A SyntaxStop → Result B SyntaxStop → Type 0
-GivesAnswer f (Ok a) meant = Ok (f a) ≡ meant
-GivesAnswer f (Err e) meant = e ≢ Memory → Err e ≡ meant
+GivesAnswer f result meant = GivesUnless IsUnforeseen f result meant
 
 -- nothing begins inside 2,000 others
 abbrev pub NotNested : List Lexeme → Type 0

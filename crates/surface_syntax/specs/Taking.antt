@@ -1,5 +1,6 @@
 -- What the parser does with one token, and at the end of the text.
-use Rattle.std.specs.Prelude.{◌≡◌, ◌≢◌, ℕ, List, [], ◌∷◌, ◌++◌, map, Option, Some, None, Result, Ok, Err}
+use Rattle.std.specs.Prelude.{◌≡◌, ℕ, List, [], ◌∷◌, ◌++◌, map, Option, Some, None, Result, Ok, Err}
+use Rattle.core_terms.specs.Answers.{GivesUnless}
 use Rattle.surface_syntax.specs.Trees as tree
 use Rattle.surface_syntax.specs.Machine as machine
 use Rattle.surface_syntax.specs.TreeMeanings.{decl_of}
@@ -10,10 +11,13 @@ use Rattle.surface_syntax.specs.declared.parser.Reading.{Reading}
 use Rattle.surface_syntax.specs.declared.stop.SyntaxStop.{SyntaxStop}
 use Rattle.surface_syntax.specs.declared.stop.SyntaxStop.TheVariants.{Memory, Nested, Syntax}
 
+-- the refusals that nothing rules out: want of memory alone
+abbrev pub IsUnforeseen : Halt → Type 0
+IsUnforeseen e = e ≡ halt.Memory
+
 -- the answer stands for the one that is meant, unless memory runs out
 abbrev pub Halts : {A B : Type 0} → (A → B) → Result A Halt → Result B Halt → Type 0
-Halts f (Ok a) meant = Ok (f a) ≡ meant
-Halts f (Err e) meant = e ≢ halt.Memory → Err e ≡ meant
+Halts f result meant = GivesUnless IsUnforeseen f result meant
 
 -- the offset of a halt, where so many tokens are left
 abbrev pub stop_at : (ℕ → ℕ) → ℕ → Halt → SyntaxStop
