@@ -18,4 +18,5 @@ pub mod PositiveFamilies
 pub mod PreludeEntries
 pub mod RecursiveForms
 pub mod Renumbering
+pub mod ScopeTests
 pub mod SettledFamilies

@@ -10,6 +10,7 @@ pub mod Meanings
 pub mod Names
 pub mod Offenders
 pub mod Raw
+pub mod ScopeTests
 pub mod SettledParts
 pub mod Settling
 pub mod Shapes
