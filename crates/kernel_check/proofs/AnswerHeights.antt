@@ -4,14 +4,15 @@ use Rattle.theory.specs.Terms.{Term, lift, subst, height, top}
 use Rattle.theory.specs.Terms.Term.{Var, Sort, Pi, Lam, App, Let, Const}
 use Rattle.theory.specs.Telescopes.{Context}
 use Rattle.theory.specs.Signatures.{Signature}
-use Rattle.core_terms.specs.Answers.{Spent, bounded}
+use Rattle.core_terms.specs.Answers.{Spent, bounded, is_low}
 use Rattle.core_terms.specs.Verdicts.{Denial, Verdict}
 use Rattle.core_terms.specs.Verdicts.Verdict.{Yes, No}
 use Rattle.core_terms.specs.Verdicts.Reason.{LevelTooHigh}
 use Rattle.core_terms.specs.declared.stop.Stop.{Stop}
-use Rattle.kernel_reduce.specs.Reduction.{answered, is_low, whnf_of}
+use Rattle.kernel_reduce.specs.Reduction.{answered, whnf_of}
 use Rattle.kernel_reduce.specs.Comparison.{subtype_of}
-use Rattle.kernel_reduce.proofs.Answers.{Answers, low-is, and_then-has, charge-has, if_low-has, bounded-has}
+use Rattle.core_terms.proofs.Answers.{Answers, low-is, and_next-has, bounded-has}
+use Rattle.kernel_reduce.proofs.Answers.{charge-has, if_low-has}
 use Rattle.kernel_check.specs.Symbols.{symbol_type}
 use Rattle.kernel_check.specs.Checking.{Asks, Checks, yes_of, typed as of_type, denied, if_typed, behind, variable_type, universe_type, greater_sort, infer_product, is_top, function_type, infer_function, product_of, apply_product, infer_application, infer_local, given_type, leaf_type, infer_form, sort_of, compared, infer_of, infer_sort_of, check_of}
 use Rattle.kernel_check.specs.Laws.{IfYes, AreBothLow, IsSort, InferIsLow, InferSortIsLow, CheckIsLow, InferSortIsSort}
@@ -113,7 +114,7 @@ unfolding AskIsLow
 local-low infer infer_sort check h G a t b left =
     child-low 0 (infer_sort G a left) _ (λ i rest.
     child-low 1 (check G t a rest) _ (λ found end.
-    and_then-has AnyType (Splits IsLow AnyDenial) (answered (bounded (subst b 0 t)) end) _ (any-answer (bounded (subst b 0 t))) (λ body last any.
+    and_next-has AnyType (Splits IsLow AnyDenial) (answered (bounded (subst b 0 t)) end) _ (any-answer (bounded (subst b 0 t))) (λ body last any.
     behind-splits IsLow AnyDenial AnyDenial 2 (infer G body last) (λ denial d. tt) (h G body last))))
 
 form-low : (S : Signature) (infer infer_sort : Asks) (check : Checks) → AskIsLow infer → AskIsLow (infer_form S infer infer_sort check)
@@ -162,7 +163,7 @@ infer_sort-low : (S : Signature) (room : ℕ) (G : Context) (t : Term) (left : �
 infer_sort-low S zero G t left = tt
 infer_sort-low S (suc room) G t left =
     if_typed-splits (AreBothLow t) (LowSort t) AnyDenial (infer_of S room G t left) _ (infer-both_low S room G t left) (λ c rest hc.
-    and_then-has AnyType (Splits (LowSort t) AnyDenial) (whnf_of S true rest c) _ (any-answer (whnf_of S true rest c).0) (λ d end any.
+    and_next-has AnyType (Splits (LowSort t) AnyDenial) (whnf_of S true rest c) _ (any-answer (whnf_of S true rest c).0) (λ d end any.
     sort_of-low G t d hc.term))
 
 compared-low : (G : Context) (t found wanted : Term) (holds : Bool) → AreBothLow t found → IfOk (compared G found wanted holds) (Splits (AreBothLow t) AnyDenial)
@@ -192,5 +193,5 @@ check-is_low S zero G t wanted left = tt
 check-is_low S (suc room) G t wanted left =
     yes-has (AreBothLow t) (AreBothLow t) (check_of S (suc room) G t wanted left).0 (λ type h. h)
     (if_typed-splits (AreBothLow t) (AreBothLow t) AnyDenial (infer_of S room G t left) _ (infer-both_low S room G t left) (λ found rest hf.
-    and_then-has (λ holds. Unit {0}) (Splits (AreBothLow t) AnyDenial) (subtype_of S room found wanted rest) _ (any-answer (subtype_of S room found wanted rest).0)
+    and_next-has (λ holds. Unit {0}) (Splits (AreBothLow t) AnyDenial) (subtype_of S room found wanted rest) _ (any-answer (subtype_of S room found wanted rest).0)
     (λ holds end any. compared-low G t found wanted holds hf)))
