@@ -38,18 +38,18 @@ use Rattle.core_sig.proofs.MethodsByLevels.{AtParameters, none-yet, alike-method
 
 -- ---- the parameters behind the motive and j methods
 
-parameters-there : (p j : ℕ) → map (weaken_by j) (map weaken (variables p)) ≡ run (p + 1 + j) 0 p
+pub parameters-there : (p j : ℕ) → map (weaken_by j) (map weaken (variables p)) ≡ run (p + 1 + j) 0 p
 parameters-there p j =
     ap (λ vs. map (weaken_by j) (map weaken vs)) (sym (run-variables p 0 p (omega arith)))
     ∙ (ap (map (weaken_by j)) (run-weaken p 0 p (omega arith)) ∙ run-further (p + 1) 0 p j (omega arith))
 
 -- a symbol at them
-symbol-there : (p j : ℕ) (symbol : Term) → weaken_by j symbol ≡ symbol → inst (λ v. Var (v + j)) (applied symbol (map weaken (variables p))) ≡ applied symbol (run (p + 1 + j) 0 p)
+pub symbol-there : (p j : ℕ) (symbol : Term) → weaken_by j symbol ≡ symbol → inst (λ v. Var (v + j)) (applied symbol (map weaken (variables p))) ≡ applied symbol (run (p + 1 + j) 0 p)
 symbol-there p j symbol stays =
     sym (ren-is_inst (λ v. v + j) (applied symbol (map weaken (variables p))))
     ∙ (ren-applied (λ v. v + j) symbol (map weaken (variables p)) ∙ ap₂ applied stays (parameters-there p j))
 
-placed-there : (p j : ℕ) → AtParameters p (p + 1 + j) (λ v. Var (suc v + j))
+pub placed-there : (p j : ℕ) → AtParameters p (p + 1 + j) (λ v. Var (suc v + j))
 placed-there p j v lt =
     let e : level_at ((0, p) ∷ []) (p - (v + 1)) ≡ p - (v + 1) = grind (arith, nat_tests) in
     (omega arith, ap Var (omega arith))
@@ -57,7 +57,7 @@ placed-there p j v lt =
 -- ---- the motive and the goal
 
 -- a product over the indices and the family at them, in a context where the parameters are placed
-alike-indices : (n p depth k : ℕ) (s : ℕ → Term) (head : Term) (indices : Telescope) (x y : Term) → k ≡ length indices → IsTelescopeOver p indices → AtParameters p depth s → p ≤ depth → head ≡ applied (Fam n) (run depth 0 p) → Alike x y
+pub alike-indices : (n p depth k : ℕ) (s : ℕ → Term) (head : Term) (indices : Telescope) (x y : Term) → k ≡ length indices → IsTelescopeOver p indices → AtParameters p depth s → p ≤ depth → head ≡ applied (Fam n) (run depth 0 p) → Alike x y
     → Alike (over Product ((0, p) ∷ (depth, k) ∷ []) p depth indices (Pi (family_at n p (depth + k) depth k) x)) (products (inst_telescope s indices) (Pi (applied (weaken_by k head) (variables k)) y))
 alike-indices n p depth k s head indices x y counted scoped placed le is same =
     alike-over Product ((0, p) ∷ (depth, k) ∷ []) p depth s indices _ _ (λ l lt. grind (arith, nat_tests)) (none-yet p depth k s placed) scoped
@@ -80,13 +80,13 @@ map-inst-weaken q [] = refl
 map-inst-weaken q (t ∷ ts) = ap₂ ◌∷◌ (inst-weaken q t) (map-inst-weaken q ts)
 
 -- the goal behind the motive and j methods
-abbrev goal_of : (n p k : ℕ) → Telescope → Term
+abbrev pub goal_of : (n p k : ℕ) → Telescope → Term
 goal_of n p k indices =
     products (inst_telescope (λ v. Var (suc v)) indices)
     (Pi (applied (weaken_by k (applied (Fam n) (map weaken (variables p)))) (variables k))
     (App (applied (Var (k + 1)) (map weaken (variables k))) (Var 0)))
 
-alike-goal : (n p j k : ℕ) (indices : Telescope) → k ≡ length indices → IsTelescopeOver p indices
+pub alike-goal : (n p j k : ℕ) (indices : Telescope) → k ≡ length indices → IsTelescopeOver p indices
     → Alike (over Product ((0, p) ∷ (p + 1 + j, k) ∷ []) p (p + 1 + j) indices (Pi (family_at n p (p + 1 + j + k) (p + 1 + j) k) (App (applied (variable (p + 1 + j + k + 1) p) (run (p + 1 + j + k + 1) (p + 1 + j) k)) (variable (p + 1 + j + k + 1) (p + 1 + j + k)))))
     (weaken_by j (goal_of n p k indices))
 alike-goal n p j k indices counted scoped =
@@ -127,7 +127,7 @@ alike-goal n p j k indices counted scoped =
 
 -- ---- the methods and the whole
 
-alike-methods : (n : ℕ) (f : pure.Family) (number j : ℕ) (cons : List Constructor) (end E : Term) → All (λ c. HaveKinds n f 0 c.args) cons → All (λ c. IsConstructorOver (length f.parameters) (constructor_of (length f.parameters) c)) cons
+pub alike-methods : (n : ℕ) (f : pure.Family) (number j : ℕ) (cons : List Constructor) (end E : Term) → All (λ c. HaveKinds n f 0 c.args) cons → All (λ c. IsConstructorOver (length f.parameters) (constructor_of (length f.parameters) c)) cons
     → Alike end (weaken_by (j + length (map constructor_shape cons)) E)
     → Alike (methods_over n (length f.parameters) (length f.indices) (length f.parameters) number (length f.parameters + 1 + j) (map constructor_shape cons) end)
     (weaken_by j (arrows (method_types (λ v. Var (suc v)) n (map weaken (variables (length f.parameters))) (Var 0) number (map (constructor_of (length f.parameters)) cons)) E))

@@ -82,10 +82,10 @@ alike-from runs size depth motive r start i k s head (a ∷ inner) targets is mo
 
 -- ---- levels among the runs
 
-level-second : (p first at : ℕ) (runs : List (ℕ × ℕ)) (l : ℕ) → p ≤ l → l < p + at → level_at ((0, p) ∷ (first, at) ∷ runs) l ≡ first + (l - p)
+pub level-second : (p first at : ℕ) (runs : List (ℕ × ℕ)) (l : ℕ) → p ≤ l → l < p + at → level_at ((0, p) ∷ (first, at) ∷ runs) l ≡ first + (l - p)
 level-second p first at runs l le lt = grind (arith, nat_tests)
 
-level-third : (p first at start count : ℕ) (runs : List (ℕ × ℕ)) (l : ℕ) → l < count → level_at ((0, p) ∷ (first, at) ∷ (start, count) ∷ runs) (p + at + l) ≡ start + l
+pub level-third : (p first at start count : ℕ) (runs : List (ℕ × ℕ)) (l : ℕ) → l < count → level_at ((0, p) ∷ (first, at) ∷ (start, count) ∷ runs) (p + at + l) ≡ start + l
 level-third p first at start count runs l lt = grind (arith, nat_tests)
 
 -- a run behind those that are used, or a longer one, makes no difference
@@ -111,7 +111,7 @@ height-recursive s head [] targets = omega arith
 height-recursive s head (a ∷ inner) targets = omega (arith, height-recursive (ups s) (weaken head) inner targets)
 
 -- the hypothesis for argument `at`
-alike-hypothesis : (p k motive first at depth count : ℕ) (s : ℕ → Term) (head : Term) (inner : Telescope) (targets : List Term) (t : Term) → t ≡ recursive_type Var head inner targets → length inner ≡ count → length targets ≡ k
+pub alike-hypothesis : (p k motive first at depth count : ℕ) (s : ℕ → Term) (head : Term) (inner : Telescope) (targets : List Term) (t : Term) → t ≡ recursive_type Var head inner targets → length inner ≡ count → length targets ≡ k
     → motive < depth → first + at < depth → IsPlaced ((0, p) ∷ (first, at) ∷ []) (p + at) depth s → IsTelescopeOver (p + at) inner → All (λ u. free_of u ≤ p + at + length inner) targets
     → Alike (hypothesis_type p k motive first at depth count t) (spec.hypothesis_type s (variable depth motive) (variable depth (first + at)) inner targets)
 alike-hypothesis p k motive first at depth count s head inner targets t is inner_count target_count motive_low at_low placed scoped free = by (nat_le count 2000) refl
@@ -148,7 +148,7 @@ pub further : (j : ℕ) (a b : Term) → weaken_by j (Pi a (weaken b)) ≡ Pi (w
 further j a b = ap (Pi (weaken_by j a)) (ren-weaken (λ n. n + j) b ∙ weaken-weaken_by j b)
 
 -- the hypothesis for a recursive argument, behind j others
-hypothesis-behind : (n : ℕ) (f : pure.Family) (motive first at depth j count rest : ℕ) (s : ℕ → Term) (t : Term) (level : ℕ) → (kind : HasKind n f at (Recursive count) t) → IsArgumentOver (length f.parameters + at) (argument_with (length f.parameters) t level (Recursive count))
+pub hypothesis-behind : (n : ℕ) (f : pure.Family) (motive first at depth j count rest : ℕ) (s : ℕ → Term) (t : Term) (level : ℕ) → (kind : HasKind n f at (Recursive count) t) → IsArgumentOver (length f.parameters + at) (argument_with (length f.parameters) t level (Recursive count))
     → depth ≡ first + at + suc rest → motive < first → IsPlaced ((0, length f.parameters) ∷ (first, at) ∷ []) (length f.parameters + at) depth s
     → Alike (hypothesis_type (length f.parameters) (length f.indices) motive first at (depth + j) count t) (weaken_by j (spec.hypothesis_type s (variable depth motive) (Var rest) kind.0 kind.1))
 hypothesis-behind n f motive first at depth j count rest s t level (inner, targets, counted, form) scoped is low placed =

@@ -42,14 +42,14 @@ pub none-yet : (p depth count : ℕ) (s : ℕ → Term) → AtParameters p depth
 none-yet p depth count s placed = placed-kept ((0, p) ∷ []) ((0, p) ∷ (depth, count) ∷ []) p depth s (λ l lt. grind (arith, nat_tests)) placed
 
 -- with all arguments
-all-there : (p first at depth rest : ℕ) (s : ℕ → Term) → depth ≡ first + at + rest → p ≤ depth → IsPlaced ((0, p) ∷ (first, at) ∷ []) (p + at) depth s → IsPlaced ((0, p) ∷ (first, at + rest) ∷ []) (p + (at + rest)) depth (fill s (variables rest))
+pub all-there : (p first at depth rest : ℕ) (s : ℕ → Term) → depth ≡ first + at + rest → p ≤ depth → IsPlaced ((0, p) ∷ (first, at) ∷ []) (p + at) depth s → IsPlaced ((0, p) ∷ (first, at + rest) ∷ []) (p + (at + rest)) depth (fill s (variables rest))
 all-there p first at depth zero s is le placed = subst (λ k. IsPlaced ((0, p) ∷ (first, k) ∷ []) (p + k) depth s) (omega arith) placed
 all-there p first at depth (suc rest) s is le placed =
     subst (λ k. IsPlaced ((0, p) ∷ (first, k) ∷ []) (p + k) depth (fill (extend s (Var rest)) (variables rest))) (omega arith)
     (all-there p first (at + 1) depth rest (extend s (Var rest)) (omega arith) le (placed-argument p first at depth rest s is le placed))
 
 -- the parameters where they are placed
-at-parameters : (p depth : ℕ) (s : ℕ → Term) → AtParameters p depth s → p ≤ depth → map (inst s) (variables p) ≡ run depth 0 p
+pub at-parameters : (p depth : ℕ) (s : ℕ → Term) → AtParameters p depth s → p ≤ depth → map (inst s) (variables p) ≡ run depth 0 p
 at-parameters p depth s placed le = from p 0 (omega arith)
   where
     from : (count start : ℕ) → start + count ≡ p → map (inst s) (variables count) ≡ run depth start count
@@ -61,7 +61,7 @@ at-parameters p depth s placed le = from p 0 (omega arith)
         here e = e ∙ ap (variable depth) (grind (arith, nat_tests))
 
 -- family n at its parameters there
-head-there : (n : ℕ) (f : pure.Family) (depth : ℕ) (s : ℕ → Term) → AtParameters (length f.parameters) depth s → length f.parameters ≤ depth → inst s (weaken_by 0 (family_head n f)) ≡ applied (Fam n) (run depth 0 (length f.parameters))
+pub head-there : (n : ℕ) (f : pure.Family) (depth : ℕ) (s : ℕ → Term) → AtParameters (length f.parameters) depth s → length f.parameters ≤ depth → inst s (weaken_by 0 (family_head n f)) ≡ applied (Fam n) (run depth 0 (length f.parameters))
 head-there n f depth s placed le =
     ap (inst s) (ren-id (λ v. v + 0) (family_head n f) (λ v. omega arith))
     ∙ (inst-applied s (Fam n) (variables (length f.parameters)) ∙ ap (applied (Fam n)) (at-parameters (length f.parameters) depth s placed le))
@@ -69,7 +69,7 @@ head-there n f depth s placed le =
 -- ---- methods
 
 -- the motive at the targets and at the constructor, behind h hypotheses
-alike-conclusion : (n number p motive first a h depth : ℕ) (s : ℕ → Term) (targets : List Term) → depth ≡ first + a → motive < first → p ≤ first → IsPlaced ((0, p) ∷ (first, a) ∷ []) (p + a) depth s → All (λ t. free_of t ≤ p + a) targets
+pub alike-conclusion : (n number p motive first a h depth : ℕ) (s : ℕ → Term) (targets : List Term) → depth ≡ first + a → motive < first → p ≤ first → IsPlaced ((0, p) ∷ (first, a) ∷ []) (p + a) depth s → All (λ t. free_of t ≤ p + a) targets
     → Alike (App (applied (variable (depth + h) motive) (map (place ((0, p) ∷ (first, a) ∷ []) (p + a) (depth + h)) targets)) (applied (applied (Con n number) (run (depth + h) 0 p)) (run (depth + h) first a)))
     (weaken_by h (App (applied (variable depth motive) (map (inst s) targets)) (applied (weaken_by a (applied (Con n number) (run first 0 p))) (variables a))))
 alike-conclusion n number p motive first a h depth s targets is low le placed free =
