@@ -1,10 +1,10 @@
 -- Arguments of the code and those that they stand for, where their kinds are those of their types.
-use Rattle.std.proofs.Common.{◌≡◌, ℕ, zero, suc, ◌+◌, ◌<◌, List, [], ◌∷◌, ◌++◌, map, take, drop, length, get_or, refl, ap, ap₂, sym, ◌∙◌, arith, append-nil, append_assoc, add-one}
-use Rattle.std.proofs.lemmas.List.{length-map, length-append, length-take-le, map-append}
+use Rattle.std.proofs.Common.{◌≡◌, ℕ, zero, suc, ◌+◌, List, [], ◌∷◌, ◌++◌, map, drop, length, refl, ap, ap₂, sym, ◌∙◌, arith, append-nil, append_assoc}
+use Rattle.std.proofs.lemmas.List.{length-append}
 use Rattle.std.proofs.lemmas.Simd.{map-map}
-use Rattle.std.proofs.Math.Seq.{drop-append_seam, take-suc}
+use Rattle.std.proofs.Math.Seq.{drop-append_seam}
 use mathlib.Core.Path.{fun_ext}
-use Rattle.theory.specs.Terms.{Term, lift, lift_var}
+use Rattle.theory.specs.Terms.{Term}
 use Rattle.theory.specs.Terms.Term.{Var, App, Fam}
 use Rattle.theory.specs.Substitutions.{ren, inst, ups, weaken}
 use Rattle.theory.specs.Spines.{spine_of}
@@ -17,6 +17,7 @@ use Rattle.theory.proofs.ScopedTypes.{length-variables}
 use Rattle.core_terms.specs.Meanings.{tree_of}
 use Rattle.core_sig.specs.Kinds.{IsRecursiveType, HasKind, HaveKinds}
 use Rattle.core_sig.specs.Meanings.{domains, behind, argument_with, argument_of, family_of}
+use Rattle.core_sig.specs.Shapes.{argument_shape, types_of}
 use Rattle.core_sig.specs.declared.family.Family.{Family}
 use Rattle.core_sig.specs.declared.family.ArgKind.{ArgKind}
 use Rattle.core_sig.specs.declared.family.ArgKind.TheVariants.{Plain, Recursive}
@@ -91,7 +92,7 @@ pub weaken-weaken_by : (at : ℕ) (t : Term) → weaken (weaken_by at t) ≡ wea
 weaken-weaken_by at t = ren-ren suc (λ n. n + at) t ∙ ren-same t (λ n. omega arith)
 
 -- the telescope of arguments is that of their types, where the head is an instance of the family at its parameters
-pub argument_types-inst : (n : ℕ) (f : pure.Family) (at : ℕ) (s : ℕ → Term) (args : List Arg) → HaveKinds n f at args → argument_types s (inst s (weaken_by at (family_head n f))) (map (argument_of (length f.parameters)) args) ≡ inst_telescope s (map (λ a. tree_of a.ty) args)
+pub argument_types-inst : (n : ℕ) (f : pure.Family) (at : ℕ) (s : ℕ → Term) (args : List Arg) → HaveKinds n f at args → argument_types s (inst s (weaken_by at (family_head n f))) (map (argument_of (length f.parameters)) args) ≡ inst_telescope s (types_of (map argument_shape args))
 argument_types-inst n f at s [] kinds = refl
 argument_types-inst n f at s (a ∷ args) kinds =
     ap₂ ◌∷◌
@@ -106,7 +107,7 @@ pub argument_types-of : (n : ℕ) (f : pure.Family) (args : List Arg) → HaveKi
 argument_types-of n f args kinds =
     ap (λ h. argument_types Var h (map (argument_of (length f.parameters)) args))
     (sym (inst-var (weaken_by 0 (family_head n f)) ∙ ren-id (λ k. k + 0) (family_head n f) (λ k. omega arith)))
-    ∙ (argument_types-inst n f 0 Var args kinds ∙ inst_telescope-var (map (λ a. tree_of a.ty) args))
+    ∙ (argument_types-inst n f 0 Var args kinds ∙ (inst_telescope-var (types_of (map argument_shape args)) ∙ map-map (λ x. x.type) argument_shape args))
 
 -- the types of indices
 pub index_types-of : (f : Family) → index_types (family_of f) ≡ map (λ a. tree_of a.ty) f.indices

@@ -5,7 +5,7 @@ use Rattle.std.proofs.lemmas.Option.{slice_get-map, slice_get-get_or}
 use Rattle.theory.specs.Terms.{Term, height}
 use Rattle.theory.specs.Terms.Term.{App, Fam, Var}
 use Rattle.theory.specs.Substitutions.{ren}
-use Rattle.theory.specs.Telescopes.{Telescope, products, applied, variables, weaken_by}
+use Rattle.theory.specs.Telescopes.{products, applied, variables, weaken_by}
 use Rattle.theory.specs.Families as pure
 use Rattle.theory.specs.Families.{argument_types, family_head}
 use Rattle.theory.proofs.Lists.{some_is}

@@ -1,5 +1,5 @@
 -- Types of eliminators with variables by level are those of the theory.
-use Rattle.std.proofs.Common.{◌≡◌, ℕ, zero, suc, ◌+◌, ◌-◌, ◌<◌, ◌≤◌, List, [], ◌∷◌, map, length, Err, inl, inr, refl, ap, ap₂, sym, ◌∙◌, subst, subst₂, arith, All}
+use Rattle.std.proofs.Common.{◌≡◌, ℕ, zero, suc, ◌+◌, ◌-◌, ◌≤◌, List, [], ◌∷◌, map, length, Err, inl, refl, ap, ap₂, sym, ◌∙◌, subst, subst₂, arith, All}
 use Rattle.std.proofs.lemmas.Bool.Decides.{nat_tests}
 use Rattle.std.proofs.lemmas.List.{length-map}
 use Rattle.std.proofs.lemmas.List.Elements.{All-head, All-tail}
@@ -7,7 +7,7 @@ use Rattle.std.proofs.lemmas.Simd.{map-map}
 use mathlib.Core.Path.{fun_ext}
 use Rattle.theory.specs.Terms.{Term}
 use Rattle.theory.specs.Terms.Term.{Var, Sort, Pi, App, Fam, Con}
-use Rattle.theory.specs.Substitutions.{ren, inst, ups, weaken}
+use Rattle.theory.specs.Substitutions.{inst, ups, weaken}
 use Rattle.theory.specs.Scopes.{IsTelescopeOver, IsConstructorOver, IsClosedFamily}
 use Rattle.theory.specs.Telescopes.{Telescope, products, applied, arrows, variables, weaken_by, inst_telescope}
 use Rattle.theory.specs.Families as pure
@@ -22,7 +22,7 @@ use Rattle.core_terms.specs.declared.levels.Binder.TheVariants.{Product}
 use Rattle.core_terms.specs.Levels.{variable, level_at, over, run}
 use Rattle.core_terms.specs.Meanings.{tree_of, tele_of}
 use Rattle.core_terms.specs.declared.stop.Stop.TheVariants.{Deep}
-use Rattle.core_terms.proofs.Placing.{IsPlaced, Alike, alike-pi, alike-products, alike-over, alike-bounded, deep-unless, run-variables, run-further, run-weaken}
+use Rattle.core_terms.proofs.Placing.{Alike, alike-pi, alike-products, alike-over, alike-bounded, deep-unless, run-variables, run-further, run-weaken}
 use Rattle.core_sig.specs.ByLevels.{family_at, motive_type, goal_type, method_type, methods_over, eliminator_type}
 use Rattle.core_sig.specs.Kinds.{HaveKinds, HasKinds}
 use Rattle.core_sig.specs.Meanings.{constructor_of, family_of}
@@ -38,33 +38,37 @@ use Rattle.core_sig.proofs.MethodsByLevels.{AtParameters, none-yet, alike-method
 
 -- ---- the parameters behind the motive and j methods
 
-parameters-there : (p j : ℕ) → map (weaken_by j) (map weaken (variables p)) ≡ run (p + 1 + j) 0 p
+pub parameters-there : (p j : ℕ) → map (weaken_by j) (map weaken (variables p)) ≡ run (p + 1 + j) 0 p
 parameters-there p j =
     ap (λ vs. map (weaken_by j) (map weaken vs)) (sym (run-variables p 0 p (omega arith)))
     ∙ (ap (map (weaken_by j)) (run-weaken p 0 p (omega arith)) ∙ run-further (p + 1) 0 p j (omega arith))
 
 -- a symbol at them
-symbol-there : (p j : ℕ) (symbol : Term) → weaken_by j symbol ≡ symbol → inst (λ v. Var (v + j)) (applied symbol (map weaken (variables p))) ≡ applied symbol (run (p + 1 + j) 0 p)
+pub symbol-there : (p j : ℕ) (symbol : Term) → weaken_by j symbol ≡ symbol → inst (λ v. Var (v + j)) (applied symbol (map weaken (variables p))) ≡ applied symbol (run (p + 1 + j) 0 p)
 symbol-there p j symbol stays =
     sym (ren-is_inst (λ v. v + j) (applied symbol (map weaken (variables p))))
     ∙ (ren-applied (λ v. v + j) symbol (map weaken (variables p)) ∙ ap₂ applied stays (parameters-there p j))
 
-placed-there : (p j : ℕ) → AtParameters p (p + 1 + j) (λ v. Var (suc v + j))
+pub placed-there : (p j : ℕ) → AtParameters p (p + 1 + j) (λ v. Var (suc v + j))
 placed-there p j v lt =
     let e : level_at ((0, p) ∷ []) (p - (v + 1)) ≡ p - (v + 1) = grind (arith, nat_tests) in
     (omega arith, ap Var (omega arith))
 
 -- ---- the motive and the goal
 
--- the family at its parameters and at the nearest k variables
-domain-there : (n p depth k : ℕ) (s : ℕ → Term) (head : Term) → inst s head ≡ applied (Fam n) (run depth 0 p) → p ≤ depth → inst (ups_by k s) (applied (weaken_by k head) (variables k)) ≡ family_at n p (depth + k) depth k
-domain-there n p depth k s head is le =
-    inst-applied (ups_by k s) (weaken_by k head) (variables k)
-    ∙ ap₂ applied
-    (inst-weaken_by k s head
-    ∙ (ap (weaken_by k) is
-    ∙ (ren-applied (λ v. v + k) (Fam n) (run depth 0 p) ∙ ap (applied (Fam n)) (run-further depth 0 p k (omega arith)))))
-    (inst-variables k s ∙ sym (run-variables (depth + k) depth k refl))
+-- a product over the indices and the family at them, in a context where the parameters are placed
+pub alike-indices : (n p depth k : ℕ) (s : ℕ → Term) (head : Term) (indices : Telescope) (x y : Term) → k ≡ length indices → IsTelescopeOver p indices → AtParameters p depth s → p ≤ depth → head ≡ applied (Fam n) (run depth 0 p) → Alike x y
+    → Alike (over Product ((0, p) ∷ (depth, k) ∷ []) p depth indices (Pi (family_at n p (depth + k) depth k) x)) (products (inst_telescope s indices) (Pi (applied (weaken_by k head) (variables k)) y))
+alike-indices n p depth k s head indices x y counted scoped placed le is same =
+    alike-over Product ((0, p) ∷ (depth, k) ∷ []) p depth s indices _ _ (λ l lt. grind (arith, nat_tests)) (none-yet p depth k s placed) scoped
+    (alike-pi _ _ _ _ (inl (sym domain)) same)
+  where
+    domain : applied (weaken_by k head) (variables k) ≡ family_at n p (depth + k) depth k
+    domain =
+        ap₂ applied
+        (ap (weaken_by k) is
+        ∙ (ren-applied (λ v. v + k) (Fam n) (run depth 0 p) ∙ ap (applied (Fam n)) (run-further depth 0 p k (omega arith))))
+        (sym (run-variables (depth + k) depth k refl))
 
 inst_telescope-inst : (q s : ℕ → Term) (tele : Telescope) → inst_telescope q (inst_telescope s tele) ≡ inst_telescope (λ v. inst q (s v)) tele
 inst_telescope-inst q s [] = refl
@@ -75,32 +79,20 @@ map-inst-weaken : (q : ℕ → Term) (ts : List Term) → map (inst (ups q)) (ma
 map-inst-weaken q [] = refl
 map-inst-weaken q (t ∷ ts) = ap₂ ◌∷◌ (inst-weaken q t) (map-inst-weaken q ts)
 
-next-index : (p depth k : ℕ) (l : ℕ) → l < k → level_at ((0, p) ∷ (depth, k) ∷ []) (p + l) ≡ depth + l
-next-index p depth k l lt = grind (arith, nat_tests)
-
 -- the goal behind the motive and j methods
-abbrev goal_at : (n p depth : ℕ) → Telescope → Term
-goal_at n p depth indices =
-    let k = length indices in
-    over Product ((0, p) ∷ (depth, k) ∷ []) p depth indices
-    (Pi (family_at n p (depth + k) depth k)
-    (App (applied (variable (depth + k + 1) p) (run (depth + k + 1) depth k)) (variable (depth + k + 1) (depth + k))))
-
-abbrev goal_of : (n p k : ℕ) → Telescope → Term
+abbrev pub goal_of : (n p k : ℕ) → Telescope → Term
 goal_of n p k indices =
     products (inst_telescope (λ v. Var (suc v)) indices)
     (Pi (applied (weaken_by k (applied (Fam n) (map weaken (variables p)))) (variables k))
     (App (applied (Var (k + 1)) (map weaken (variables k))) (Var 0)))
 
-alike-goal : (n p j : ℕ) (indices : Telescope) → IsTelescopeOver p indices → Alike (goal_at n p (p + 1 + j) indices) (weaken_by j (goal_of n p (length indices) indices))
-alike-goal n p j indices scoped =
-    subst (Alike (goal_at n p depth indices)) (sym shown)
-    (alike-over Product ((0, p) ∷ (depth, k) ∷ []) p depth (λ v. Var (suc v + j)) indices _ _ (next-index p depth k)
-    (none-yet p depth k (λ v. Var (suc v + j)) (placed-there p j)) scoped (inl refl))
+pub alike-goal : (n p j k : ℕ) (indices : Telescope) → k ≡ length indices → IsTelescopeOver p indices
+    → Alike (over Product ((0, p) ∷ (p + 1 + j, k) ∷ []) p (p + 1 + j) indices (Pi (family_at n p (p + 1 + j + k) (p + 1 + j) k) (App (applied (variable (p + 1 + j + k + 1) p) (run (p + 1 + j + k + 1) (p + 1 + j) k)) (variable (p + 1 + j + k + 1) (p + 1 + j + k)))))
+    (weaken_by j (goal_of n p k indices))
+alike-goal n p j k indices counted scoped =
+    subst (Alike _) (sym shown)
+    (alike-indices n p depth k (λ v. Var (suc v + j)) (inst q head) indices _ _ counted scoped (placed-there p j) (omega arith) (symbol-there p j (Fam n) refl) (inl refl))
   where
-    k : ℕ
-    k = length indices
-
     depth : ℕ
     depth = p + 1 + j
 
@@ -123,50 +115,20 @@ alike-goal n p j indices scoped =
         map-inst-weaken (ups_by k q) (variables k)
         ∙ (ap (map weaken) (inst-variables k q ∙ sym (run-variables (depth + k) depth k refl)) ∙ run-weaken (depth + k) depth k (omega arith))
 
-    goal : inst (ups (ups_by k q)) (App (applied (Var (k + 1)) (map weaken (variables k))) (Var 0)) ≡ App (applied (variable (depth + k + 1) p) (run (depth + k + 1) depth k)) (variable (depth + k + 1) (depth + k))
-    goal =
-        ap₂ App
-        (inst-applied (ups (ups_by k q)) (Var (k + 1)) (map weaken (variables k)) ∙ ap₂ applied motive indices_there)
-        (ap Var (omega arith))
-
-    shown : weaken_by j (goal_of n p k indices) ≡ products (inst_telescope (λ v. Var (suc v + j)) indices) (Pi (family_at n p (depth + k) depth k) (App (applied (variable (depth + k + 1) p) (run (depth + k + 1) depth k)) (variable (depth + k + 1) (depth + k))))
+    shown : weaken_by j (goal_of n p k indices) ≡ products (inst_telescope (λ v. Var (suc v + j)) indices) (Pi (applied (weaken_by k (inst q head)) (variables k)) (App (applied (variable (depth + k + 1) p) (run (depth + k + 1) depth k)) (variable (depth + k + 1) (depth + k))))
     shown =
         ren-is_inst (λ v. v + j) (goal_of n p k indices)
         ∙ (inst-products q (inst_telescope (λ v. Var (suc v)) indices) body
         ∙ ap₂ products (inst_telescope-inst q (λ v. Var (suc v)) indices)
-        (ap (λ i. inst (ups_by i q) body) (length-inst_telescope (λ v. Var (suc v)) indices)
-        ∙ ap₂ Pi (domain-there n p depth k q head (symbol-there p j (Fam n) refl) (omega arith)) goal))
-
--- the type of a motive behind the parameters
-abbrev motive_at : (n p : ℕ) → Telescope → ℕ → Term
-motive_at n p indices m =
-    let k = length indices in
-    over Product ((0, p) ∷ (p, k) ∷ []) p p indices (Pi (family_at n p (p + k) p k) (Sort m))
-
-alike-motive : (n p : ℕ) (indices : Telescope) (m : ℕ) → IsTelescopeOver p indices → Alike (motive_at n p indices m) (products indices (Pi (applied (weaken_by (length indices) (applied (Fam n) (variables p))) (variables (length indices))) (Sort m)))
-alike-motive n p indices m scoped =
-    subst₂ (λ tele d. Alike (motive_at n p indices m) (products tele (Pi d (Sort m)))) (inst_telescope-var indices) (sym domain)
-    (alike-over Product ((0, p) ∷ (p, k) ∷ []) p p Var indices _ _ (next-index p p k) (none-yet p p k Var here) scoped (inl refl))
-  where
-    k : ℕ
-    k = length indices
-
-    here : AtParameters p p Var
-    here v lt =
-        let e : level_at ((0, p) ∷ []) (p - (v + 1)) ≡ p - (v + 1) = grind (arith, nat_tests) in
-        (omega arith, ap Var (omega arith))
-
-    domain : applied (weaken_by k (applied (Fam n) (variables p))) (variables k) ≡ family_at n p (p + k) p k
-    domain =
-        ap₂ applied
-        (ren-applied (λ v. v + k) (Fam n) (variables p)
-        ∙ ap (applied (Fam n)) (ap (map (weaken_by k)) (sym (run-variables p 0 p (omega arith))) ∙ run-further p 0 p k (omega arith)))
-        (sym (run-variables (p + k) p k refl))
+        (ap (λ i. inst (ups_by i q) body) (length-inst_telescope (λ v. Var (suc v)) indices ∙ sym counted)
+        ∙ ap₂ Pi
+        (inst-applied (ups_by k q) (weaken_by k head) (variables k) ∙ ap₂ applied (inst-weaken_by k q head) (inst-variables k q))
+        (ap₂ App (inst-applied (ups (ups_by k q)) (Var (k + 1)) (map weaken (variables k)) ∙ ap₂ applied motive indices_there) (ap Var (omega arith)))))
 
 -- ---- the methods and the whole
 
-alike-methods : (n : ℕ) (f : pure.Family) (number j : ℕ) (cons : List Constructor) (end E : Term) → All (λ c. HaveKinds n f 0 c.args) cons → All (λ c. IsConstructorOver (length f.parameters) (constructor_of (length f.parameters) c)) cons
-    → Alike end (weaken_by (j + length cons) E)
+pub alike-methods : (n : ℕ) (f : pure.Family) (number j : ℕ) (cons : List Constructor) (end E : Term) → All (λ c. HaveKinds n f 0 c.args) cons → All (λ c. IsConstructorOver (length f.parameters) (constructor_of (length f.parameters) c)) cons
+    → Alike end (weaken_by (j + length (map constructor_shape cons)) E)
     → Alike (methods_over n (length f.parameters) (length f.indices) (length f.parameters) number (length f.parameters + 1 + j) (map constructor_shape cons) end)
     (weaken_by j (arrows (method_types (λ v. Var (suc v)) n (map weaken (variables (length f.parameters))) (Var 0) number (map (constructor_of (length f.parameters)) cons)) E))
 alike-methods n f number j [] end E kinds scoped same = subst (λ i. Alike end (weaken_by i E)) (omega arith) same
@@ -219,39 +181,41 @@ pub alike-eliminator : (n : ℕ) (f : Family) (m : ℕ) → HasKinds n f → IsC
 alike-eliminator n f m kinds scoped =
     alike-products (tele_of f.params) _ _
     (alike-pi (motive_type n (shape_of f) m p) (spec.motive_type n (family_of f) m) _ _
-    (subst₂ Alike (ap₂ (λ k tele. over Product ((0, p) ∷ (p, k) ∷ []) p p tele (Pi (family_at n p (p + k) p k) (Sort m))) (sym made_count) (sym made_types))
-    (ap₂ (λ k tele. products tele (Pi (applied (weaken_by k (applied (Fam n) (variables p))) (variables k)) (Sort m))) (sym wanted_count) (sym (index_types-of f)))
-    (alike-motive n p indices m indices_scoped))
-    (subst₂ Alike (ap₂ (λ k d. methods_over n p k p 0 d (map constructor_shape f.cons) goal) (wanted_count ∙ sym made_count) (omega arith))
-    (ren-id (λ v. v + 0) (arrows (method_types (λ v. Var (suc v)) n ps (Var 0) 0 (map (constructor_of p) f.cons)) E) (λ v. omega arith)
-    ∙ ap (λ j. arrows (method_types (λ v. Var (suc v)) n ps (Var 0) 0 (map (constructor_of j) f.cons)) E) counted)
+    (subst (Alike (motive_type n (shape_of f) m p)) (ap₂ (λ i tele. products tele (Pi (applied (weaken_by i (family_head n (family_of f))) (variables i)) (Sort m))) (sym same_count) (inst_telescope-var indices ∙ sym same_types))
+    (alike-indices n p p k Var (family_head n (family_of f)) indices (Sort m) (Sort m) counted indices_scoped here (omega arith) (ap (applied (Fam n)) (sym (run-variables p 0 p (omega arith)))) (inl refl)))
+    (subst₂ Alike (ap₂ (λ i d. methods_over n p i p 0 d (map constructor_shape f.cons) goal) same_count (omega arith))
+    (ren-id (λ v. v + 0) (methods p) (λ v. omega arith) ∙ ap methods parameters_counted)
     (alike-methods n (family_of f) 0 0 f.cons goal E kinds.constructors
-    (subst (λ j. All (λ c. IsConstructorOver p (constructor_of j c)) f.cons) (sym counted) (All-unmap (IsConstructorOver p) (constructor_of (length f.params)) f.cons scoped.constructors))
-    same_goal)))
+    (subst (λ i. All (λ c. IsConstructorOver p (constructor_of i c)) f.cons) (sym parameters_counted) (All-unmap (IsConstructorOver p) (constructor_of (length f.params)) f.cons scoped.constructors))
+    (subst₂ (λ j e. Alike goal (weaken_by j e)) (omega arith) (ap₂ (goal_of n p) (sym same_count) (sym same_types))
+    (alike-goal n p (length (map constructor_shape f.cons)) k indices counted indices_scoped)))))
   where
     p : ℕ
     p = length (tele_of f.params)
 
-    ps : List Term
-    ps = map weaken (variables p)
-
-    counted : p ≡ length f.params
-    counted = length-map f.params tree_of
-
     indices : Telescope
-    indices = map (λ a. tree_of a.ty) f.indices
+    indices = types_of (map argument_shape f.indices)
+
+    k : ℕ
+    k = length (map argument_shape f.indices)
+
+    counted : k ≡ length indices
+    counted = sym (length-map (map argument_shape f.indices) (λ x. x.type))
+
+    parameters_counted : p ≡ length f.params
+    parameters_counted = length-map f.params tree_of
+
+    same_count : length (family_of f).indices ≡ k
+    same_count = length-map f.indices (λ i. (tree_of i.ty, i.level)) ∙ sym (length-map f.indices argument_shape)
+
+    same_types : index_types (family_of f) ≡ indices
+    same_types = index_types-of f ∙ sym (map-map (λ x. x.type) argument_shape f.indices)
 
     indices_scoped : IsTelescopeOver p indices
-    indices_scoped = subst (IsTelescopeOver p) (index_types-of f) scoped.indices
+    indices_scoped = subst (IsTelescopeOver p) same_types scoped.indices
 
-    made_types : types_of (map argument_shape f.indices) ≡ indices
-    made_types = map-map (λ x. x.type) argument_shape f.indices
-
-    made_count : length (map argument_shape f.indices) ≡ length indices
-    made_count = length-map f.indices argument_shape ∙ sym (length-map f.indices (λ a. tree_of a.ty))
-
-    wanted_count : length (family_of f).indices ≡ length indices
-    wanted_count = length-map f.indices (λ i. (tree_of i.ty, i.level)) ∙ sym (length-map f.indices (λ a. tree_of a.ty))
+    here : AtParameters p p Var
+    here v lt = let e : level_at ((0, p) ∷ []) (p - (v + 1)) ≡ p - (v + 1) = grind (arith, nat_tests) in (omega arith, ap Var (omega arith))
 
     E : Term
     E = goal_of n p (length (family_of f).indices) (index_types (family_of f))
@@ -259,20 +223,8 @@ alike-eliminator n f m kinds scoped =
     goal : Term
     goal = goal_type n (shape_of f) p (p + 1 + length (map constructor_shape f.cons))
 
-    same_goal : Alike goal (weaken_by (0 + length f.cons) E)
-    same_goal =
-        subst₂ Alike
-        (ap₂ (λ k tele. made k tele (p + 1 + length f.cons)) (sym made_count) (sym made_types)
-        ∙ ap (λ c. made (length (map argument_shape f.indices)) (types_of (map argument_shape f.indices)) (p + 1 + c)) (sym (length-map f.cons constructor_shape)))
-        (ap₂ (λ k tele. weaken_by (length f.cons) (goal_of n p k tele)) (sym wanted_count) (sym (index_types-of f))
-        ∙ ap (λ j. weaken_by j E) (omega arith))
-        (alike-goal n p (length f.cons) indices indices_scoped)
-      where
-        made : ℕ → Telescope → ℕ → Term
-        made k tele depth =
-            over Product ((0, p) ∷ (depth, k) ∷ []) p depth tele
-            (Pi (family_at n p (depth + k) depth k)
-            (App (applied (variable (depth + k + 1) p) (run (depth + k + 1) depth k)) (variable (depth + k + 1) (depth + k))))
+    methods : ℕ → Term
+    methods i = arrows (method_types (λ v. Var (suc v)) n (map weaken (variables p)) (Var 0) 0 (map (constructor_of i) f.cons)) E
 
 -- what a call answers for it
 pub eliminator-bounded : (n : ℕ) (f : Family) (m : ℕ) → HasKinds n f → IsClosedFamily (family_of f) → bounded (eliminator_type n (shape_of f) m) ≡ bounded (spec.eliminator_type n (family_of f) m)

@@ -1,10 +1,10 @@
 -- Hypotheses with variables by level are those of the theory.
-use Rattle.std.proofs.Common.{◌≡◌, ℕ, zero, suc, ◌+◌, ◌-◌, ◌<◌, ◌≤◌, Bool, true, false, nat_lt, nat_le, cond, if◌then◌else◌, List, [], ◌∷◌, ◌++◌, map, length, inl, inr, refl, ap, ap₂, sym, ◌∙◌, subst, subst₂, arith, All}
+use Rattle.std.proofs.Common.{◌≡◌, ℕ, suc, ◌+◌, ◌-◌, ◌<◌, ◌≤◌, Bool, true, false, nat_le, if◌then◌else◌, List, [], ◌∷◌, map, length, inl, inr, refl, ap, ap₂, sym, ◌∙◌, subst, subst₂, arith, All}
 use Rattle.std.proofs.lemmas.Bool.Decides.{nat_tests}
 use mathlib.Core.Path.{fun_ext}
 use Rattle.theory.specs.Terms.{Term, height, free_of}
 use Rattle.theory.specs.Terms.Term.{Var, Pi, App}
-use Rattle.theory.specs.Substitutions.{ren, inst, ups, weaken, extend}
+use Rattle.theory.specs.Substitutions.{inst, ups, weaken, extend}
 use Rattle.theory.specs.Scopes.{IsTelescopeOver, IsArgumentOver, AreArgumentsOver}
 use Rattle.theory.specs.Telescopes.{Telescope, applied, arrows, variables, weaken_by}
 use Rattle.theory.specs.Families as pure
@@ -21,7 +21,7 @@ use Rattle.core_terms.proofs.Placing.{IsPlaced, Alike, alike-pi, alike-app, alik
 use Rattle.core_sig.specs.ByLevels.{applied_to_targets, hypothesis_from, hypothesis_type, hypotheses_over}
 use Rattle.core_sig.specs.Kinds.{HasKind, HaveKinds}
 use Rattle.core_sig.specs.Meanings.{argument_with, argument_of}
-use Rattle.core_sig.specs.Shapes.{ArgumentShape, argument_shape, recursive_count}
+use Rattle.core_sig.specs.Shapes.{argument_shape, recursive_count}
 use Rattle.core_sig.specs.declared.family.ArgKind.{ArgKind}
 use Rattle.core_sig.specs.declared.family.ArgKind.TheVariants.{Plain, Recursive}
 use Rattle.core_sig.specs.declared.family.Arg.{Arg}
@@ -82,13 +82,10 @@ alike-from runs size depth motive r start i k s head (a ∷ inner) targets is mo
 
 -- ---- levels among the runs
 
-level-first : (p : ℕ) (runs : List (ℕ × ℕ)) (l : ℕ) → l < p → level_at ((0, p) ∷ runs) l ≡ l
-level-first p runs l lt = grind (arith, nat_tests)
-
-level-second : (p first at : ℕ) (runs : List (ℕ × ℕ)) (l : ℕ) → p ≤ l → l < p + at → level_at ((0, p) ∷ (first, at) ∷ runs) l ≡ first + (l - p)
+pub level-second : (p first at : ℕ) (runs : List (ℕ × ℕ)) (l : ℕ) → p ≤ l → l < p + at → level_at ((0, p) ∷ (first, at) ∷ runs) l ≡ first + (l - p)
 level-second p first at runs l le lt = grind (arith, nat_tests)
 
-level-third : (p first at start count : ℕ) (runs : List (ℕ × ℕ)) (l : ℕ) → l < count → level_at ((0, p) ∷ (first, at) ∷ (start, count) ∷ runs) (p + at + l) ≡ start + l
+pub level-third : (p first at start count : ℕ) (runs : List (ℕ × ℕ)) (l : ℕ) → l < count → level_at ((0, p) ∷ (first, at) ∷ (start, count) ∷ runs) (p + at + l) ≡ start + l
 level-third p first at start count runs l lt = grind (arith, nat_tests)
 
 -- a run behind those that are used, or a longer one, makes no difference
@@ -114,7 +111,7 @@ height-recursive s head [] targets = omega arith
 height-recursive s head (a ∷ inner) targets = omega (arith, height-recursive (ups s) (weaken head) inner targets)
 
 -- the hypothesis for argument `at`
-alike-hypothesis : (p k motive first at depth count : ℕ) (s : ℕ → Term) (head : Term) (inner : Telescope) (targets : List Term) (t : Term) → t ≡ recursive_type Var head inner targets → length inner ≡ count → length targets ≡ k
+pub alike-hypothesis : (p k motive first at depth count : ℕ) (s : ℕ → Term) (head : Term) (inner : Telescope) (targets : List Term) (t : Term) → t ≡ recursive_type Var head inner targets → length inner ≡ count → length targets ≡ k
     → motive < depth → first + at < depth → IsPlaced ((0, p) ∷ (first, at) ∷ []) (p + at) depth s → IsTelescopeOver (p + at) inner → All (λ u. free_of u ≤ p + at + length inner) targets
     → Alike (hypothesis_type p k motive first at depth count t) (spec.hypothesis_type s (variable depth motive) (variable depth (first + at)) inner targets)
 alike-hypothesis p k motive first at depth count s head inner targets t is inner_count target_count motive_low at_low placed scoped free = by (nat_le count 2000) refl
@@ -151,7 +148,7 @@ pub further : (j : ℕ) (a b : Term) → weaken_by j (Pi a (weaken b)) ≡ Pi (w
 further j a b = ap (Pi (weaken_by j a)) (ren-weaken (λ n. n + j) b ∙ weaken-weaken_by j b)
 
 -- the hypothesis for a recursive argument, behind j others
-hypothesis-behind : (n : ℕ) (f : pure.Family) (motive first at depth j count rest : ℕ) (s : ℕ → Term) (t : Term) (level : ℕ) → (kind : HasKind n f at (Recursive count) t) → IsArgumentOver (length f.parameters + at) (argument_with (length f.parameters) t level (Recursive count))
+pub hypothesis-behind : (n : ℕ) (f : pure.Family) (motive first at depth j count rest : ℕ) (s : ℕ → Term) (t : Term) (level : ℕ) → (kind : HasKind n f at (Recursive count) t) → IsArgumentOver (length f.parameters + at) (argument_with (length f.parameters) t level (Recursive count))
     → depth ≡ first + at + suc rest → motive < first → IsPlaced ((0, length f.parameters) ∷ (first, at) ∷ []) (length f.parameters + at) depth s
     → Alike (hypothesis_type (length f.parameters) (length f.indices) motive first at (depth + j) count t) (weaken_by j (spec.hypothesis_type s (variable depth motive) (Var rest) kind.0 kind.1))
 hypothesis-behind n f motive first at depth j count rest s t level (inner, targets, counted, form) scoped is low placed =
@@ -180,21 +177,21 @@ hypothesis-behind n f motive first at depth j count rest s t level (inner, targe
 
 -- what follows an argument, once it is known of those behind it
 step : (n : ℕ) (f : pure.Family) (motive first at depth j : ℕ) (rest : List Arg) (s : ℕ → Term) (end E : Term) (t : Term) (level : ℕ) (kind : ArgKind) → HasKind n f at kind t → IsArgumentOver (length f.parameters + at) (argument_with (length f.parameters) t level kind)
-    → depth ≡ first + at + suc (length rest) → motive < first → IsPlaced ((0, length f.parameters) ∷ (first, at) ∷ []) (length f.parameters + at) depth s
+    → depth ≡ first + at + suc (length (map argument_shape rest)) → motive < first → IsPlaced ((0, length f.parameters) ∷ (first, at) ∷ []) (length f.parameters + at) depth s
     → Alike end (weaken_by (j + recursive_count (record { type = t; level = level; kind = kind } ∷ map argument_shape rest)) E)
     → ((i : ℕ) → Alike end (weaken_by (i + recursive_count (map argument_shape rest)) E)
     → Alike (hypotheses_over Product (length f.parameters) (length f.indices) motive first (at + 1) (depth + i) (map argument_shape rest) end)
-    (weaken_by i (arrows (hypothesis_types (extend s (Var (length rest))) (variable depth motive) (map (argument_of (length f.parameters)) rest) (variables (length rest))) E)))
+    (weaken_by i (arrows (hypothesis_types (extend s (Var (length (map argument_shape rest)))) (variable depth motive) (map (argument_of (length f.parameters)) rest) (variables (length (map argument_shape rest)))) E)))
     → Alike (hypotheses_over Product (length f.parameters) (length f.indices) motive first at (depth + j) (record { type = t; level = level; kind = kind } ∷ map argument_shape rest) end)
-    (weaken_by j (arrows (hypothesis_types s (variable depth motive) (argument_with (length f.parameters) t level kind ∷ map (argument_of (length f.parameters)) rest) (variables (suc (length rest)))) E))
+    (weaken_by j (arrows (hypothesis_types s (variable depth motive) (argument_with (length f.parameters) t level kind ∷ map (argument_of (length f.parameters)) rest) (variables (suc (length (map argument_shape rest))))) E))
 step n f motive first at depth j rest s end E t level Plain kind scoped is low placed same others = others j same
 step n f motive first at depth j rest s end E t level (Recursive count) kind scoped is low placed same others =
     subst (Alike (Pi (hypothesis_type p k motive first at (depth + j) count t) (hypotheses_over Product p k motive first (at + 1) (depth + j + 1) (map argument_shape rest) end)))
-    (sym (ap (λ a. weaken_by j (arrows (hypothesis_types s (variable depth motive) (a ∷ map (argument_of p) rest) (variables (suc (length rest)))) E)) (argument_with-recursive n f at count kind.0 kind.1 t level kind.2 kind.3)
-    ∙ further j (spec.hypothesis_type s (variable depth motive) (Var (length rest)) kind.0 kind.1) behind))
-    (alike-pi (hypothesis_type p k motive first at (depth + j) count t) (weaken_by j (spec.hypothesis_type s (variable depth motive) (Var (length rest)) kind.0 kind.1))
+    (sym (ap (λ a. weaken_by j (arrows (hypothesis_types s (variable depth motive) (a ∷ map (argument_of p) rest) (variables (suc (length (map argument_shape rest))))) E)) (argument_with-recursive n f at count kind.0 kind.1 t level kind.2 kind.3)
+    ∙ further j (spec.hypothesis_type s (variable depth motive) (Var (length (map argument_shape rest))) kind.0 kind.1) behind))
+    (alike-pi (hypothesis_type p k motive first at (depth + j) count t) (weaken_by j (spec.hypothesis_type s (variable depth motive) (Var (length (map argument_shape rest))) kind.0 kind.1))
     (hypotheses_over Product p k motive first (at + 1) (depth + j + 1) (map argument_shape rest) end) (weaken_by (j + 1) behind)
-    (hypothesis-behind n f motive first at depth j count (length rest) s t level kind scoped is low placed)
+    (hypothesis-behind n f motive first at depth j count (length (map argument_shape rest)) s t level kind scoped is low placed)
     (subst (λ d. Alike (hypotheses_over Product p k motive first (at + 1) d (map argument_shape rest) end) (weaken_by (j + 1) behind)) (omega arith)
     (others (j + 1) (subst (λ i. Alike end (weaken_by i E)) (omega arith) same))))
   where
@@ -205,18 +202,18 @@ step n f motive first at depth j rest s end E t level (Recursive count) kind sco
     k = length f.indices
 
     behind : Term
-    behind = arrows (hypothesis_types (extend s (Var (length rest))) (variable depth motive) (map (argument_of p) rest) (variables (length rest))) E
+    behind = arrows (hypothesis_types (extend s (Var (length (map argument_shape rest)))) (variable depth motive) (map (argument_of p) rest) (variables (length (map argument_shape rest)))) E
 
 -- the hypotheses for arguments behind `at` others, behind j hypotheses
 pub alike-hypotheses : (n : ℕ) (f : pure.Family) (motive first at depth j : ℕ) (args : List Arg) (s : ℕ → Term) (end E : Term) → HaveKinds n f at args → AreArgumentsOver (length f.parameters + at) (map (argument_of (length f.parameters)) args)
-    → depth ≡ first + at + length args → motive < first → length f.parameters ≤ first → IsPlaced ((0, length f.parameters) ∷ (first, at) ∷ []) (length f.parameters + at) depth s
+    → depth ≡ first + at + length (map argument_shape args) → motive < first → length f.parameters ≤ first → IsPlaced ((0, length f.parameters) ∷ (first, at) ∷ []) (length f.parameters + at) depth s
     → Alike end (weaken_by (j + recursive_count (map argument_shape args)) E)
     → Alike (hypotheses_over Product (length f.parameters) (length f.indices) motive first at (depth + j) (map argument_shape args) end)
-    (weaken_by j (arrows (hypothesis_types s (variable depth motive) (map (argument_of (length f.parameters)) args) (variables (length args))) E))
+    (weaken_by j (arrows (hypothesis_types s (variable depth motive) (map (argument_of (length f.parameters)) args) (variables (length (map argument_shape args)))) E))
 alike-hypotheses n f motive first at depth j [] s end E kinds scoped is low le placed same =
     subst (λ i. Alike end (weaken_by i E)) (omega arith) same
 alike-hypotheses n f motive first at depth j (a ∷ args) s end E kinds scoped is low le placed same =
     step n f motive first at depth j args s end E (tree_of a.ty) a.level a.kind kinds.0 scoped.0 is low placed same
-    (λ i here. alike-hypotheses n f motive first (at + 1) depth i args (extend s (Var (length args))) end E kinds.1
+    (λ i here. alike-hypotheses n f motive first (at + 1) depth i args (extend s (Var (length (map argument_shape args)))) end E kinds.1
     (subst (λ m. AreArgumentsOver m (map (argument_of (length f.parameters)) args)) (omega arith) scoped.1) (omega arith) low le
-    (placed-argument (length f.parameters) first at depth (length args) s is (omega arith) placed) here)
+    (placed-argument (length f.parameters) first at depth (length (map argument_shape args)) s is (omega arith) placed) here)

@@ -4,6 +4,7 @@ pub mod ConstructorTypes
 pub mod DraftTerms
 pub mod EliminatorsByLevels
 pub mod EntryInstances
+mod Examples
 pub mod FewParts
 pub mod HypothesesByLevels
 pub mod Instances

@@ -1,6 +1,6 @@
 -- What is made of a family's shape, with variables by level: the parameters have the levels from 0 on, and whatever stands
 -- at a depth stands behind so many binders.
-use Rattle.std.specs.Prelude.{ℕ, zero, suc, ◌+◌, ◌-◌, nat_le, if◌then◌else◌, List, [], ◌∷◌, map, length}
+use Rattle.std.specs.Prelude.{ℕ, suc, ◌+◌, ◌-◌, nat_le, if◌then◌else◌, List, [], ◌∷◌, map, length}
 use Rattle.theory.specs.Terms.{Term, Sort, Pi, App, Fam, Con}
 use Rattle.theory.specs.Telescopes.{Telescope, products, applied}
 use Rattle.core_terms.specs.Levels.{variable, run, place, bind, over}

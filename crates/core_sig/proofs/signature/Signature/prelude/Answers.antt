@@ -1,4 +1,4 @@
-use Rattle.std.proofs.Common.{◌+◌, ◌*◌, ◌≤◌, ◌<◌, ℕ, Bool, length, ap, sym, ◌∙◌, subst, arith}
+use Rattle.std.proofs.Common.{◌+◌, ◌*◌, ◌≤◌, ◌<◌, ℕ, Bool, length, sym, subst, arith}
 use Rattle.theory.specs.Terms.{top}
 use Rattle.theory.specs.Prelude.{prelude}
 use Rattle.theory.proofs.PreludeWellFormed.{length_to}
