@@ -1,6 +1,7 @@
 ghost use Rattle.std.specs.Prelude.{◌≡◌, ◌≤◌, ◌<◌, ◌+◌, ◌++◌, Ok, Some, true, length, take, drop, get_or, map, slice_get, IfSome};
 ghost use Rattle.std.specs.List.{All};
 ghost use Rattle.core_terms.specs.Answers.{Gives};
+ghost use Rattle.core_terms.specs.Bounds.{most_height};
 ghost use Rattle.core_terms.specs.Meanings.{tree_of, tele_of};
 ghost use Rattle.core_sig.specs.Meanings.{family_of};
 ghost use Rattle.theory.specs.Families as pure;
@@ -9,6 +10,7 @@ ghost use Rattle.theory.specs.Telescopes as spec;
 ghost use Rattle.theory.specs.Terms as tree;
 ghost use Rattle.kernel_reduce.specs.Calls.{HasAllArguments, iota_made};
 ghost use Rattle.kernel_reduce.specs.Making.{Makes};
+ghost use Rattle.kernel_reduce.specs.Reduction.{most_inner_variables};
 ghost use Rattle.kernel_reduce.specs.Steps.{awaits_scrutinee, contraction};
 ghost use Rattle.kernel_reduce.specs.Tests.{eliminator_numbers, meets};
 
@@ -94,8 +96,8 @@ fn iota(
     us: &[Term],
 ) -> Result<Term, Stop>
     requires all { HasAllArguments family.now constructor.now number (tele_of args.now) (tele_of us.now) }
-    requires args_free { All (λ v. tree.free_of v ≤ 3221225472) (tele_of args.now) }
-    requires us_free { All (λ v. tree.free_of v ≤ 3221225472) (tele_of us.now) }
+    requires args_free { All (λ v. tree.free_of v ≤ most_inner_variables) (tele_of args.now) }
+    requires us_free { All (λ v. tree.free_of v ≤ most_inner_variables) (tele_of us.now) }
     ensures { Makes result (iota_made n m (length family.now.params) (length family.now.cons) number (tele_of args.now) (tele_of us.now) constructor.now.args) }
 {
     let params = family.params.as_slice().len();
@@ -119,9 +121,9 @@ fn eliminate(alloc: Global, sig: &Signature, n: u32, m: u8, f: Term, u: Term) ->
     requires head { Some (n, m) ≡ eliminator_numbers (head_of (tree_of f)) }
     requires awaits { awaits_scrutinee sig.now (head_of (tree_of f)) (spine_of (tree_of f)) ≡ true }
     requires meets { meets sig.now (head_of (tree_of f)) (head_of (tree_of u)) (length (spine_of (tree_of u))) ≡ true }
-    requires low { tree.height (tree_of f) ≤ 2000 }
-    requires f_free { tree.free_of (tree_of f) ≤ 3221225472 }
-    requires u_free { tree.free_of (tree_of u) ≤ 3221225472 }
+    requires low { tree.height (tree_of f) ≤ most_height }
+    requires f_free { tree.free_of (tree_of f) ≤ most_inner_variables }
+    requires u_free { tree.free_of (tree_of u) ≤ most_inner_variables }
     ensures { IfSome (contraction sig.now (head_of (tree_of f)) (spine_of (tree_of f)) (head_of (tree_of u)) (spine_of (tree_of u))) (Makes result) }
 {
     let Some(number) = constructor_at_head(&u) else {
@@ -161,9 +163,9 @@ fn last_argument(f: Term) -> Term
 pub(crate) fn contract(alloc: Global, sig: &Signature, f: Term, u: Term) -> Result<Term, Stop>
     requires awaits { awaits_scrutinee sig.now (head_of (tree_of f)) (spine_of (tree_of f)) ≡ true }
     requires meets { meets sig.now (head_of (tree_of f)) (head_of (tree_of u)) (length (spine_of (tree_of u))) ≡ true }
-    requires low { tree.height (tree_of f) ≤ 2000 }
-    requires f_free { tree.free_of (tree_of f) ≤ 3221225472 }
-    requires u_free { tree.free_of (tree_of u) ≤ 3221225472 }
+    requires low { tree.height (tree_of f) ≤ most_height }
+    requires f_free { tree.free_of (tree_of f) ≤ most_inner_variables }
+    requires u_free { tree.free_of (tree_of u) ≤ most_inner_variables }
     ensures { IfSome (contraction sig.now (head_of (tree_of f)) (spine_of (tree_of f)) (head_of (tree_of u)) (spine_of (tree_of u))) (Makes result) }
 {
     match eliminator_at_head(&f) {

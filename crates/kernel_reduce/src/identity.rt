@@ -7,7 +7,7 @@ ghost use Rattle.kernel_reduce.specs.Entries.{family_at};
 ghost use Rattle.kernel_reduce.specs.Identities as spec;
 
 use crate::lookup::family;
-use core_sig::{Arg, Constructor, Family, Signature};
+use core_sig::{Arg, Constructor, Family, Signature, equality};
 use core_terms::{TOP, Term};
 
 /// Whether K of `Eq.i` steps: it is on, and the signature has `Eq.i` as the prelude has it.
@@ -21,7 +21,7 @@ fn is_there(sig: &Signature, i: u8) -> bool
     requires { i < 100 }
     ensures { result ≡ spec.is_identity_there i (family_at sig.now (equality i)) }
 {
-    match family(sig, i as u32 + 1) {
+    match family(sig, equality(i)) {
         Some(f) => is_identity(f, i),
         None => false,
     }

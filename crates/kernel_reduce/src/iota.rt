@@ -1,6 +1,7 @@
 ghost use Rattle.std.specs.Prelude.{◌≡◌, ◌≤◌, ◌<◌, ◌+◌, ◌++◌, [], Ok, Some, length, take, drop, map, slice_get, get_or};
 ghost use Rattle.std.specs.List.{All};
 ghost use Rattle.core_terms.specs.Answers.{Gives};
+ghost use Rattle.core_terms.specs.Bounds.{most_height};
 ghost use Rattle.core_terms.specs.Meanings.{tree_of, tele_of};
 ghost use Rattle.core_sig.specs.Meanings.{family_of};
 ghost use Rattle.theory.specs.Families as pure;
@@ -8,6 +9,7 @@ ghost use Rattle.theory.specs.Telescopes as spec;
 ghost use Rattle.theory.specs.Terms as tree;
 ghost use Rattle.kernel_reduce.specs.Calls.{call_of, recursive_call_of, hypothesis_of, hypothesis_before, hypotheses_of};
 ghost use Rattle.kernel_reduce.specs.Making.{Makes, MakesUnder};
+ghost use Rattle.kernel_reduce.specs.Reduction.{most_inner_variables};
 ghost use Rattle.kernel_reduce.specs.Steps.{iota_at};
 
 use crate::making::instance;
@@ -24,9 +26,9 @@ fn call(
     ty: &Term,
     under: u32,
 ) -> Result<Term, Stop>
-    requires values { All (λ v. tree.free_of v ≤ 3221225472) (tele_of values.now) }
-    requires recursor { tree.free_of (tree_of recursor.now) ≤ 3221225472 }
-    requires under { under ≤ 2000 }
+    requires values { All (λ v. tree.free_of v ≤ most_inner_variables) (tele_of values.now) }
+    requires recursor { tree.free_of (tree_of recursor.now) ≤ most_inner_variables }
+    requires under { under ≤ most_height }
     ensures { MakesUnder under result (call_of (tele_of values.now) params (tree_of recursor.now) under (tree_of ty.now)) }
 {
     match ty {
@@ -49,10 +51,10 @@ fn recursive_call(
     ty: &Term,
     under: u32,
 ) -> Result<Term, Stop>
-    requires values { All (λ v. tree.free_of v ≤ 3221225472) (tele_of values.now) }
-    requires recursor { tree.free_of (tree_of recursor.now) ≤ 3221225472 }
-    requires r { tree.free_of (tree_of r.now) ≤ 3221225472 }
-    requires under { under ≤ 2000 }
+    requires values { All (λ v. tree.free_of v ≤ most_inner_variables) (tele_of values.now) }
+    requires recursor { tree.free_of (tree_of recursor.now) ≤ most_inner_variables }
+    requires r { tree.free_of (tree_of r.now) ≤ most_inner_variables }
+    requires under { under ≤ most_height }
     ensures { MakesUnder under result (recursive_call_of (tele_of values.now) params (tree_of recursor.now) (tree_of r.now) under (tree_of ty.now)) }
 {
     let f = call(alloc, recursor, values, params, ty, under)?;
@@ -72,9 +74,9 @@ fn hypothesis(
     inner: u32,
     under: u32,
 ) -> Result<Term, Stop>
-    requires values { All (λ v. tree.free_of v ≤ 3221225472) (tele_of values.now) }
-    requires recursor { tree.free_of (tree_of recursor.now) ≤ 3221225472 }
-    requires r { tree.free_of (tree_of r.now) ≤ 3221225472 }
+    requires values { All (λ v. tree.free_of v ≤ most_inner_variables) (tele_of values.now) }
+    requires recursor { tree.free_of (tree_of recursor.now) ≤ most_inner_variables }
+    requires r { tree.free_of (tree_of r.now) ≤ most_inner_variables }
     ensures { MakesUnder under result (hypothesis_of (tele_of values.now) params (tree_of recursor.now) (tree_of r.now) inner under (tree_of ty.now)) }
 {
     if under > MAX_HEIGHT {
@@ -102,8 +104,8 @@ fn hypothesis_at(
     known: usize,
     inner: u32,
 ) -> Result<Term, Stop>
-    requires values { All (λ v. tree.free_of v ≤ 3221225472) (tele_of values.now) }
-    requires recursor { tree.free_of (tree_of recursor.now) ≤ 3221225472 }
+    requires values { All (λ v. tree.free_of v ≤ most_inner_variables) (tele_of values.now) }
+    requires recursor { tree.free_of (tree_of recursor.now) ≤ most_inner_variables }
     requires known { known < length values.now }
     ensures { Makes result (hypothesis_of (take known (tele_of values.now)) params (tree_of recursor.now) (get_or (tele_of values.now) known (tree.Sort 0)) inner 0 (tree_of ty.now)) }
 {
@@ -122,8 +124,8 @@ fn with_hypothesis(
     known: usize,
     whole: Term,
 ) -> Result<Term, Stop>
-    requires values { All (λ v. tree.free_of v ≤ 3221225472) (tele_of values.now) }
-    requires recursor { tree.free_of (tree_of recursor.now) ≤ 3221225472 }
+    requires values { All (λ v. tree.free_of v ≤ most_inner_variables) (tele_of values.now) }
+    requires recursor { tree.free_of (tree_of recursor.now) ≤ most_inner_variables }
     requires known { known < length values.now }
     ensures { Makes result (spec.applied (tree_of whole) (hypothesis_before (tele_of values.now) params (tree_of recursor.now) known (tree_of arg.now.ty) arg.now.kind [])) }
 {
@@ -147,8 +149,8 @@ pub(crate) fn with_hypotheses(
     known: usize,
     whole: Term,
 ) -> Result<Term, Stop>
-    requires values { All (λ v. tree.free_of v ≤ 3221225472) (tele_of values.now) }
-    requires recursor { tree.free_of (tree_of recursor.now) ≤ 3221225472 }
+    requires values { All (λ v. tree.free_of v ≤ most_inner_variables) (tele_of values.now) }
+    requires recursor { tree.free_of (tree_of recursor.now) ≤ most_inner_variables }
     requires known { known + length args.now ≤ length values.now }
     ensures { Makes result (spec.applied (tree_of whole) (hypotheses_of (tele_of values.now) params (tree_of recursor.now) known args.now)) }
 {

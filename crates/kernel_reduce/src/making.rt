@@ -1,6 +1,7 @@
 ghost use Rattle.std.specs.Prelude.{◌≡◌, ◌≤◌, ◌<◌, ◌+◌, ◌++◌, [], length, map, drop, Ok, IfOk, OnErr};
 ghost use Rattle.std.specs.List.{All};
 ghost use Rattle.core_terms.specs.Answers.{Gives};
+ghost use Rattle.core_terms.specs.Bounds.{most_height};
 ghost use Rattle.core_terms.specs.Meanings.{tree_of, tele_of};
 ghost use Rattle.theory.specs.Spines.{spine_of};
 ghost use Rattle.theory.specs.Substitutions.{fill};
@@ -8,6 +9,7 @@ ghost use Rattle.theory.specs.Eliminators.{no_variable};
 ghost use Rattle.theory.specs.Telescopes as spec;
 ghost use Rattle.theory.specs.Terms as tree;
 ghost use Rattle.kernel_reduce.specs.Making.{MakesUnder, under_binders, instance_of};
+ghost use Rattle.kernel_reduce.specs.Reduction.{most_inner_variables};
 
 use core_terms::{MAX_HEIGHT, Stop, Term, copy, lift};
 use std::alloc::Global;
@@ -16,7 +18,7 @@ use std::alloc::Global;
 ///
 /// A variable that no value stands for becomes `Type 0`.
 pub(crate) fn instance(alloc: Global, values: &[Term], t: &Term, under: u32) -> Result<Term, Stop>
-    requires values { All (λ v. tree.free_of v ≤ 3221225472) (tele_of values.now) }
+    requires values { All (λ v. tree.free_of v ≤ most_inner_variables) (tele_of values.now) }
     ensures { MakesUnder under result (instance_of (tele_of values.now) under (tree_of t.now)) }
 {
     if under > MAX_HEIGHT {
@@ -56,8 +58,8 @@ pub(crate) fn instance(alloc: Global, values: &[Term], t: &Term, under: u32) -> 
 
 /// What stands for a variable under so many binders.
 fn value(alloc: Global, values: &[Term], n: u32, under: u32) -> Result<Term, Stop>
-    requires values { All (λ v. tree.free_of v ≤ 3221225472) (tele_of values.now) }
-    requires under { under ≤ 2000 }
+    requires values { All (λ v. tree.free_of v ≤ most_inner_variables) (tele_of values.now) }
+    requires under { under ≤ most_height }
     ensures { MakesUnder under result (under_binders under (fill no_variable (tele_of values.now)) n) }
 {
     if n < under {

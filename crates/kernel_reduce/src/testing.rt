@@ -1,4 +1,5 @@
 ghost use Rattle.std.specs.Prelude.{◌≡◌, ◌≤◌, is_some, length, true};
+ghost use Rattle.core_terms.specs.Bounds.{most_height};
 ghost use Rattle.core_terms.specs.Meanings.{tree_of};
 ghost use Rattle.theory.specs.Spines.{head_of, spine_of};
 ghost use Rattle.theory.specs.Terms as tree;
@@ -7,7 +8,7 @@ ghost use Rattle.kernel_reduce.specs.Tests as tests;
 
 use crate::identity::has_k;
 use crate::lookup::{body, eliminator_arity, family, takes};
-use core_sig::Signature;
+use core_sig::{Signature, equality};
 use core_terms::{Term, head, spine_len};
 
 /// Whether the term is a function.
@@ -19,7 +20,7 @@ pub(crate) fn is_function(t: &Term) -> bool
 
 /// Whether the term is an eliminator, or K where it steps, with all its arguments but the scrutinee.
 pub(crate) fn awaits_scrutinee(sig: &Signature, f: &Term) -> bool
-    requires low { tree.height (tree_of f.now) ≤ 2000 }
+    requires low { tree.height (tree_of f.now) ≤ most_height }
     ensures { result ≡ steps.awaits_scrutinee sig.now (head_of (tree_of f.now)) (spine_of (tree_of f.now)) }
 {
     match head(f) {
@@ -34,7 +35,7 @@ pub(crate) fn awaits_scrutinee(sig: &Signature, f: &Term) -> bool
 
 /// Whether `f`, that awaits its scrutinee, contracts at `u`.
 pub(crate) fn contracts(sig: &Signature, f: &Term, u: &Term) -> bool
-    requires low { tree.height (tree_of u.now) ≤ 2000 }
+    requires low { tree.height (tree_of u.now) ≤ most_height }
     ensures { result ≡ tests.meets sig.now (head_of (tree_of f.now)) (head_of (tree_of u.now)) (length (spine_of (tree_of u.now))) }
 {
     match (head(f), head(u)) {
@@ -43,7 +44,7 @@ pub(crate) fn contracts(sig: &Signature, f: &Term, u: &Term) -> bool
             None => false,
         },
         (Term::AxiomK(i, _), Term::Con(g, number)) => {
-            *g == *i as u32 + 1 && *number == 0 && spine_len(u) == 2
+            *g == equality(*i) && *number == 0 && spine_len(u) == 2
         }
         _ => false,
     }
@@ -52,7 +53,7 @@ pub(crate) fn contracts(sig: &Signature, f: &Term, u: &Term) -> bool
 /// Whether the term takes a head step.
 #[tactic(auto, using(crate::proofs::StepTests::application_tested))]
 pub(crate) fn has_step(sig: &Signature, t: &Term, delta: bool) -> bool
-    requires low { tree.height (tree_of t.now) ≤ 2000 }
+    requires low { tree.height (tree_of t.now) ≤ most_height }
     ensures { result ≡ is_some (steps.step_of sig.now delta (tree_of t.now)) }
 {
     match t {
