@@ -9,9 +9,8 @@ ghost use Rattle.core_sig.specs.Kinds.{HasKinds};
 ghost use Rattle.core_sig.specs.Meanings.{family_of};
 ghost use Rattle.core_sig.specs.Shapes.{HaveFewArguments, IsFew, constructor_shape, shape_of};
 
-use crate::by_levels::{
-    Motive, arguments_over, conclusion, goal_type, hypotheses_over, motive_type,
-};
+use crate::by_levels::{arguments_over, goal_type, motive_type};
+use crate::hypotheses::{Motive, conclusion, hypotheses_over};
 use crate::shapes::{is_few, recursive_count};
 use crate::{Constructor, Family};
 use core_terms::{Binder, Stop, Term, checked, copy_tele, products};

@@ -6,6 +6,7 @@ mod by_levels;
 mod eliminator;
 mod entry;
 mod family;
+mod hypotheses;
 mod instance_place;
 mod kinds;
 mod name_index;
@@ -20,13 +21,11 @@ mod shapes;
 mod signature;
 mod types;
 
-pub use by_levels::{
-    Motive, arguments_over, conclusion, family_at, goal_type, hypotheses_over, hypothesis_type,
-    motive_type,
-};
+pub use by_levels::{arguments_over, family_at, goal_type, motive_type};
 pub use eliminator::elim_type;
 pub use entry::{Draft, Entry, Found};
 pub use family::{Arg, ArgKind, Constructor, Family};
+pub use hypotheses::{Motive, conclusion, hypotheses_over, hypothesis_type};
 pub use kinds::kind_of;
 pub use name_set::NameSet;
 pub use positivity::{mentions, strictly_positive};

@@ -1,5 +1,5 @@
 use Rattle.std.proofs.Common.{length}
-use Rattle.core_sig.proofs.by_levels.+hypotheses_over.Given as goal
+use Rattle.core_sig.proofs.hypotheses.+hypotheses_over.Given as goal
 
 abbrev pub decreases-hypotheses_over : goal.decreases-hypotheses_over
 decreases-hypotheses_over l = length l.args.now
