@@ -1,10 +1,10 @@
 -- Whatever enters stands behind the entries that are there.
-use Rattle.std.proofs.Common.{ℕ, Bool, true, false, ◌&&◌, nat_lt, position, Option, Some, None, Result, Ok, Err, IfOk, List, [], ◌∷◌, append-nil, refl, sym}
+use Rattle.std.proofs.Common.{ℕ, Bool, true, false, ◌&&◌, nat_lt, position, Option, Some, None, Result, Ok, Err, IfOk, List, [], ◌∷◌}
 use Rattle.theory.specs.Terms.{Term, top}
 use Rattle.theory.specs.Eliminators.{eliminator_type}
 use Rattle.theory.specs.Families.{Family}
 use Rattle.theory.specs.Signatures.{Entry, FamilyOf, EliminatorAt, AxiomKAt, Definition, Signature, IsPrefix, axiom_k_type}
-use Rattle.theory.specs.WellFormed.{pushed}
+use Rattle.theory.proofs.Pushing.{prefix_reflexive, push_is_longer}
 use Rattle.core_sig.specs.Raw.{RawFamily, raw_names}
 use Rattle.core_sig.specs.Instances.{is_eliminator, is_axiom_k}
 use Rattle.family_check.specs.Asking.{sort_in, type_in}
@@ -16,12 +16,6 @@ use Rattle.family_check.proofs.Outcomes.{if_new-has}
 
 abbrev Extends : Signature → Entered → Type 0
 Extends S e = IsPrefix S e.signature
-
-pub itself : (S : Signature) → IsPrefix S S
-itself S = record { more = []; entries = sym (append-nil S.entries); has_k = refl }
-
-longer : (S : Signature) (e : Entry) → IsPrefix S (pushed S e)
-longer S e = record { more = e ∷ []; entries = refl; has_k = refl }
 
 abbrev Any : {A : Type 0} → A → Type 0
 Any a = Unit {0}
@@ -38,21 +32,21 @@ define-extends S name type body left =
     if_new-has (Extends S) (are_new S (name ∷ [])) (check_definition S name type body) left (λ test.
     and_next-has Any (Extends S) (sort_in S OfType [] type left) _ (any (sort_in S OfType [] type left)) (λ sort rest u.
     and_next-has Any (Extends S) (type_in S OfBody [] body type rest) _ (any (type_in S OfBody [] body type rest)) (λ found end v.
-    longer S (Definition name type body))))
+    push_is_longer S (Definition name type body))))
 
 pub declare-extends : (S : Signature) (raw : RawFamily) (left : ℕ) → Answers (Extends S) (declare_of S raw left)
 declare-extends S raw left =
     if_new-has (Extends S) (are_new S (raw_names raw)) _ left (λ test.
-    and_next-has Any (Extends S) (declare_family S raw left) _ (any (declare_family S raw left)) (λ f end u. longer S (FamilyOf f)))
+    and_next-has Any (Extends S) (declare_family S raw left) _ (any (declare_family S raw left)) (λ f end u. push_is_longer S (FamilyOf f)))
 
 there-extends : (S : Signature) (place : Option ℕ) (enter : ℕ → Outcome Entered) (left : ℕ) → Answers (Extends S) (enter left) → Answers (Extends S) (unless_there S place enter left)
-there-extends S (Some n) enter left h = itself S
+there-extends S (Some n) enter left h = prefix_reflexive S
 there-extends S None enter left h = h
 
 entry-extends : (S : Signature) (e : Entry) (fits : Bool) (type : Term) (left : ℕ) → Answers (Extends S) (enter_instance S e fits type left)
 entry-extends S e false type left = tt
 entry-extends S e true type left =
-    and_next-has Any (Extends S) (sort_in S OfType [] type left) _ (any (sort_in S OfType [] type left)) (λ sort end u. longer S e)
+    and_next-has Any (Extends S) (sort_in S OfType [] type left) _ (any (sort_in S OfType [] type left)) (λ sort end u. push_is_longer S e)
 
 pub instance-extends : (S : Signature) (n : ℕ) (f : Family) (m left : ℕ) → Answers (Extends S) (instance_of S n f m left)
 instance-extends S n f m left =

@@ -1,5 +1,5 @@
 -- The check of a declared type and that of the record that is made of it find the same first offender.
-use Rattle.std.proofs.Common.{◌≡◌, ℕ, suc, ◌+◌, Bool, true, false, cond, not, ◌||◌, if◌then◌else◌, Option, Some, None, IfSome, Result, Ok, Err, List, [], ◌∷◌, length, drop, All, refl, ap, ap₂, sym, ◌∙◌, subst as transport, arith}
+use Rattle.std.proofs.Common.{◌≡◌, ℕ, ◌+◌, Bool, true, false, cond, not, ◌||◌, if◌then◌else◌, Option, Some, None, IfSome, Err, List, [], ◌∷◌, length, drop, All, refl, ap, ap₂, sym, ◌∙◌, subst as transport, arith}
 use Rattle.std.specs.List.{list_any}
 use Rattle.std.specs.Option.{is_some}
 use Rattle.std.proofs.lemmas.List.Folds.{list_any_none}
@@ -10,7 +10,7 @@ use Rattle.theory.specs.Families.{Constructor, Family, family_head, mentions, La
 use Rattle.core_sig.specs.Kinds.{IsRecursiveType}
 use Rattle.core_sig.specs.Offenders.{offends, offender_in}
 use Rattle.family_check.specs.Laws.{SameOffender}
-use Rattle.family_check.specs.Shapes.{domains_of, end_of, targets_of, recursive_parts, argument_of, arguments, is_positive, first_offender, unless_offender, constructor_targets}
+use Rattle.family_check.specs.Shapes.{domains_of, end_of, targets_of, recursive_parts, argument_of, arguments, is_positive, first_offender, unless_offender}
 use Rattle.family_check.proofs.KindShapes.{spine-drops, targets-are}
 use Rattle.family_check.proofs.NewNames.{none-passes}
 use Rattle.family_check.proofs.Shapes.{IsEnd, targets-found, recursive-found}

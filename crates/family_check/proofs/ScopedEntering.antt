@@ -31,7 +31,8 @@ use Rattle.family_check.specs.Families.Role.{ArgumentOf}
 use Rattle.family_check.specs.Scopes.{IsSettled, IsScopedRaw, site_signature, IsScopedStop}
 use Rattle.family_check.specs.Entering.{Entered, if_new, are_new, enter_instance, unless_there, check_definition}
 use Rattle.family_check.specs.Laws.{DeclareKeepsSettled, InstanceKeepsSettled, AxiomKKeepsSettled, DefineKeepsSettled}
-use Rattle.family_check.proofs.Moving.{Moves, scoped-moved, telescope-moved, denial-moved, longer-moves, eliminator-moves, axiom_k-moves, family-moves, arguments-moved}
+use Rattle.theory.proofs.ScopedTerms.{HasNumbers, scoped-wider, telescope-wider}
+use Rattle.family_check.proofs.Moving.{denial-moved, longer-moves, eliminator-moves, axiom_k-moves, family-moves, arguments-moved}
 use Rattle.core_terms.proofs.Answers.{Splits, and_next-splits, split-parts}
 use Rattle.family_check.proofs.Scoped.{Any, any-type, granted-splits, AreWithin, levels-within, length-behind, IsBareScoped, type-scoped}
 use Rattle.family_check.proofs.ScopedShapes.{domains-scoped, targets-scoped, arguments-scoped}
@@ -100,10 +101,10 @@ constructors-split over T n f number (raw ∷ raws) left h types =
     (constructors-split over T n f (number + 1) raws rest h (All-tail Typed raw raws types)) (λ cs end all.
     All-cons Made c cs made all))
 
-constructor-moved : {T U : Signature} → Moves T U → (p count : ℕ) (c : Constructor) → IsScopedConstructor T p count c → IsScopedConstructor U p count c
+constructor-moved : {T U : Signature} → HasNumbers T U → (p count : ℕ) (c : Constructor) → IsScopedConstructor T p count c → IsScopedConstructor U p count c
 constructor-moved m p count c h = record {
   arguments = arguments-moved m p c.arguments h.arguments;
-  targets = λ k d w. scoped-moved m (h.targets k d w);
+  targets = λ k d w. scoped-wider m (h.targets k d w);
   target_count = h.target_count;
 }
 
@@ -125,10 +126,10 @@ pub over-bare : (S : Signature) → IsSettled S → (raw : RawFamily) (f : Famil
 over-bare S settled raw f h b = record {
   settled = bare-settled S raw f settled b;
   parameters = transport (IsScopedTelescope (pushed S (FamilyOf f)) 0) (sym b.parameters)
-      (telescope-moved (longer-moves S (FamilyOf f)) 0 raw.parameters h.parameters);
+      (telescope-wider (longer-moves S (FamilyOf f)) 0 raw.parameters h.parameters);
   types = λ k d w.
       transport (λ ps. IsScoped (pushed S (FamilyOf f)) (length ps) (get_or raw.constructors k d).type) (sym b.parameters)
-      (scoped-moved (family-moves S (family_without raw [] 0) f refl) (h.constructors k d w));
+      (scoped-wider (family-moves S (family_without raw [] 0) f refl) (h.constructors k d w));
 }
 
 whole-scoped : (S : Signature) (raw : RawFamily) (f : Family) (cs : List Constructor) → IsBareScoped S raw f
@@ -258,7 +259,7 @@ eliminator-settled S n m f settled at low =
 -- the type of an eliminator is scoped
 pub eliminator-scoped : (S : Signature) (n m : ℕ) (f : Family) → IsSettled S → IsEntryAt S n (FamilyOf f) → m < top → IsScoped S 0 (eliminator_type n f m)
 eliminator-scoped S n m f settled at low =
-    scoped-moved (eliminator-moves S n m) (types-scoped (pushed S (EliminatorAt n m)) (Elim n m) (eliminator_type n f m) (eliminator-settled S n m f settled at low).scoped
+    scoped-wider (eliminator-moves S n m) (types-scoped (pushed S (EliminatorAt n m)) (Elim n m) (eliminator_type n f m) (eliminator-settled S n m f settled at low).scoped
     (eliminator n m (length S.entries) (slice_get-longer S.entries (EliminatorAt n m ∷ []) n (FamilyOf f) at) (slice_get-last S.entries (EliminatorAt n m))))
 
 pub instance-settles : InstanceKeepsSettled
@@ -284,7 +285,7 @@ axiom_k-settled S i m settled identity low motive_low =
 -- the type of axiom K is scoped
 pub axiom_k-scoped : (S : Signature) (i m : ℕ) → IsSettled S → HasEquality S i → i < top → m < top → IsScoped S 0 (axiom_k_type i m)
 axiom_k-scoped S i m settled identity low motive_low =
-    scoped-moved (axiom_k-moves S i m) (types-scoped (pushed S (AxiomKAt i m)) (AxiomK i m) (axiom_k_type i m) (axiom_k-settled S i m settled identity low motive_low).scoped
+    scoped-wider (axiom_k-moves S i m) (types-scoped (pushed S (AxiomKAt i m)) (AxiomK i m) (axiom_k_type i m) (axiom_k-settled S i m settled identity low motive_low).scoped
     (axiom_k i m (length S.entries) (slice_get-last S.entries (AxiomKAt i m))))
 
 pub axiom_k-settles : AxiomKKeepsSettled

@@ -2,7 +2,8 @@ use Rattle.theory.specs.Signatures.{IsPrefix}
 use Rattle.theory.specs.WellFormed.{IsWellFormed}
 use Rattle.family_check.specs.Scopes.{IsSettled}
 use Rattle.family_check.proofs.Answered.{stays, refuses}
-use Rattle.family_check.proofs.Extending.{itself, axiom_k-extends}
+use Rattle.theory.proofs.Pushing.{prefix_reflexive}
+use Rattle.family_check.proofs.Extending.{axiom_k-extends}
 use Rattle.family_check.proofs.PreludeEntries.{equality-there}
 use Rattle.family_check.proofs.ScopedEntering.{axiom_k-settles}
 use Rattle.family_check.proofs.Soundness.{axiom_k-keeps}
@@ -11,7 +12,7 @@ use Rattle.family_check.proofs.axioms.axiom_k.Goals as goal
 pub returns-clause-longer : goal.returns-clause-longer
 returns-clause-longer c =
     stays (IsPrefix c.args.sig.now) _ _ _ _ _ c.find_or_enter_axiom_k.ensures.answer c.find_or_enter_axiom_k.ensures.err
-    (axiom_k-extends c.args.sig.now c.args.i c.args.m c.args.units.now.left) (itself c.args.sig.now)
+    (axiom_k-extends c.args.sig.now c.args.i c.args.m c.args.units.now.left) (prefix_reflexive c.args.sig.now)
 
 pub returns-clause-well_formed : goal.returns-clause-well_formed
 returns-clause-well_formed c = λ h.

@@ -3,7 +3,8 @@ use Rattle.theory.specs.WellFormed.{IsWellFormed}
 use Rattle.core_terms.specs.Meanings.{tree_of}
 use Rattle.family_check.specs.Scopes.{IsSettled}
 use Rattle.family_check.proofs.Answered.{stays, refuses}
-use Rattle.family_check.proofs.Extending.{itself, define-extends}
+use Rattle.theory.proofs.Pushing.{prefix_reflexive}
+use Rattle.family_check.proofs.Extending.{define-extends}
 use Rattle.family_check.proofs.ScopedEntering.{define-settles}
 use Rattle.family_check.proofs.Soundness.{define-keeps}
 use Rattle.family_check.proofs.definitions.define.Goals as goal
@@ -11,7 +12,7 @@ use Rattle.family_check.proofs.definitions.define.Goals as goal
 pub returns-clause-longer : goal.returns-clause-longer
 returns-clause-longer c =
     stays (IsPrefix c.args.sig.now) _ _ _ _ _ c.enter_definition.ensures.answer c.enter_definition.ensures.err
-    (define-extends c.args.sig.now c.args.name (tree_of c.args.ty) (tree_of c.args.body) c.args.units.now.left) (itself c.args.sig.now)
+    (define-extends c.args.sig.now c.args.name (tree_of c.args.ty) (tree_of c.args.body) c.args.units.now.left) (prefix_reflexive c.args.sig.now)
 
 pub returns-clause-well_formed : goal.returns-clause-well_formed
 returns-clause-well_formed c = λ h.

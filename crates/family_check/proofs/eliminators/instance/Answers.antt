@@ -2,7 +2,8 @@ use Rattle.theory.specs.Signatures.{IsPrefix}
 use Rattle.theory.specs.WellFormed.{IsWellFormed}
 use Rattle.family_check.specs.Scopes.{IsSettled}
 use Rattle.family_check.proofs.Answered.{stays, refuses}
-use Rattle.family_check.proofs.Extending.{itself, instance-extends}
+use Rattle.theory.proofs.Pushing.{prefix_reflexive}
+use Rattle.family_check.proofs.Extending.{instance-extends}
 use Rattle.family_check.proofs.ScopedEntering.{instance-settles}
 use Rattle.family_check.proofs.Soundness.{instance-keeps}
 use Rattle.family_check.proofs.eliminators.instance.Goals as goal
@@ -12,7 +13,7 @@ returns-clause-longer c =
     let f = c.requires.family.0 in
     let at = c.requires.family.1 in
     stays (IsPrefix c.args.sig.now) _ _ _ _ _ (c.find_or_enter_eliminator.ensures.answer f at) c.find_or_enter_eliminator.ensures.err
-    (instance-extends c.args.sig.now c.args.fam f c.args.m c.args.units.now.left) (itself c.args.sig.now)
+    (instance-extends c.args.sig.now c.args.fam f c.args.m c.args.units.now.left) (prefix_reflexive c.args.sig.now)
 
 pub returns-clause-well_formed : goal.returns-clause-well_formed
 returns-clause-well_formed c = λ h.

@@ -7,7 +7,8 @@ use Rattle.family_check.specs.Laws.{EntersAsDeclared}
 use Rattle.family_check.specs.Meanings.{IsUnforeseen, stop_of}
 use Rattle.family_check.specs.Scopes.{IsSettled}
 use Rattle.family_check.proofs.Answered.{stays, refuses}
-use Rattle.family_check.proofs.Extending.{itself, declare-extends}
+use Rattle.theory.proofs.Pushing.{prefix_reflexive}
+use Rattle.family_check.proofs.Extending.{declare-extends}
 use Rattle.family_check.proofs.Given.{declare-gives}
 use Rattle.family_check.proofs.ScopedEntering.{declare-settles}
 use Rattle.family_check.proofs.Soundness.{declare-keeps}
@@ -21,7 +22,7 @@ returns-clause-given c =
 pub returns-clause-longer : goal.returns-clause-longer
 returns-clause-longer c =
     stays (IsPrefix c.args.sig.now) _ _ _ _ _ c.enter_family.ensures.answer c.enter_family.ensures.err
-    (declare-extends c.args.sig.now (raw_of c.args.raw) c.args.units.now.left) (itself c.args.sig.now)
+    (declare-extends c.args.sig.now (raw_of c.args.raw) c.args.units.now.left) (prefix_reflexive c.args.sig.now)
 
 pub returns-clause-well_formed : goal.returns-clause-well_formed
 returns-clause-well_formed c = λ h.

@@ -1,7 +1,7 @@
 use Rattle.std.proofs.Common.{IfOk, subst as transport}
 use Rattle.theory.specs.Signatures.{IsPrefix}
 use Rattle.surface_syntax.specs.TreeMeanings.{decl_of}
-use Rattle.family_check.proofs.Extending.{itself}
+use Rattle.theory.proofs.Pushing.{prefix_reflexive}
 use Rattle.elab_session.specs.Declaring.{declared_in}
 use Rattle.elab_session.specs.Laws.{IsAsWritten}
 use Rattle.elab_session.specs.Sessions.{IsReady, Session}
@@ -23,7 +23,7 @@ pub returns-clause-longer : goal.returns-clause-longer
 returns-clause-longer c =
     transport (λ (s : Session). IsPrefix s.signature c.declare.new.sig) c.self.view_is
     (stays (IsPrefix c.self.inside.sig) _ _ _ _ c.declare.ensures.answer c.declare.ensures.err
-    (declare-extends c.self.inside.sig c.self.inside.fuel (decl_of c.args.d.now)) (itself c.self.inside.sig))
+    (declare-extends c.self.inside.sig c.self.inside.fuel (decl_of c.args.d.now)) (prefix_reflexive c.self.inside.sig))
 
 pub returns-clause-written : goal.returns-clause-written
 returns-clause-written c =

@@ -1,7 +1,7 @@
 use Rattle.std.proofs.Common.{sym, subst as transport}
 use Rattle.theory.specs.Signatures.{IsPrefix}
 use Rattle.core_sig.specs.Meanings.{entry_of}
-use Rattle.family_check.proofs.Extending.{itself}
+use Rattle.theory.proofs.Pushing.{prefix_reflexive}
 use Rattle.elab_session.specs.Entering.{CanEnter, Enters, enter_of}
 use Rattle.elab_session.specs.Sessions.{IsReady, Session}
 use Rattle.elab_session.proofs.Entered.{enter-extends, enter-ready, entry-stays}
@@ -30,4 +30,4 @@ pub returns-clause-longer : goal.returns-clause-longer
 returns-clause-longer c =
     transport (λ (s : Session). IsPrefix s.signature c.enter.new.sig) c.self.view_is
     (entry-stays (IsPrefix c.self.inside.sig) _ _ _ _ c.enter.ensures.answer c.enter.ensures.err
-    (enter-extends c.self.inside.sig c.self.inside.fuel (entry_of c.args.entry)) (itself c.self.inside.sig))
+    (enter-extends c.self.inside.sig c.self.inside.fuel (entry_of c.args.entry)) (prefix_reflexive c.self.inside.sig))
