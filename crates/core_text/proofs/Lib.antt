@@ -20,7 +20,6 @@ pub mod LinesBack
 pub mod LinesGoOn
 pub mod LinesRead
 pub mod LinesSpelled
-pub mod ListTests
 pub mod NamesAgree
 pub mod NamesFound
 pub mod NamesGoOn

@@ -3,7 +3,8 @@
 use Rattle.std.specs.Prelude.{ℕ, zero, suc, ◌+◌, ◌==◌, Bool, false, not, ◌&&◌, if◌then◌else◌, List, [], ◌∷◌, ◌++◌, length, take, drop, codes, Option, Some, None, Result, Ok}
 use Rattle.std.specs.List.{list_any}
 use Rattle.theory.specs.Terms.{Term, Fam, top}
-use Rattle.theory.specs.Signatures.{Entry, EliminatorAt, AxiomKAt, Signature}
+use Rattle.theory.specs.Signatures.{Entry, Signature}
+use Rattle.core_sig.specs.Instances.{is_eliminator, is_axiom_k}
 use Rattle.core_sig.specs.Names.{find}
 use Rattle.core_sig.specs.Raw.{RawConstructor}
 use Rattle.core_text.specs.DeclaredNames.{new_name}
@@ -44,14 +45,6 @@ family_found _ start rest = wrong start
 abbrev pub family_name : Signature → List ℕ → Reading ℕ
 family_name S rest =
     let n = run_len rest in family_found (found_symbol S (find S (take n rest))) rest (drop n rest)
-
-abbrev pub is_eliminator : ℕ → ℕ → Entry → Bool
-is_eliminator n m (EliminatorAt family level) = (family == n) && (level == m)
-is_eliminator n m _ = false
-
-abbrev pub is_axiom_k : ℕ → ℕ → Entry → Bool
-is_axiom_k i m (AxiomKAt j level) = (j == i) && (level == m)
-is_axiom_k i m _ = false
 
 -- the entry is the instance with the level in the series of those of one family, or of K for one identity family
 abbrev pub is_instance : Series → ℕ → Entry → Bool

@@ -1,12 +1,11 @@
 ghost use Rattle.std.specs.Prelude.{◌≡◌, not, IfOk, OnErr};
 ghost use Rattle.std.specs.List.{list_any};
-ghost use Rattle.core_sig.specs.Meanings.{entry_of};
 ghost use Rattle.core_text.specs.LineReading as spec;
 ghost use Rattle.core_text.specs.declared.halt.Halt.TheVariants.{Memory};
 
 use crate::halt::Halt;
 use crate::scanning::some_left;
-use core_sig::{Entry, Signature};
+use core_sig::Signature;
 use core_terms::TOP;
 use std::alloc::Global;
 
@@ -17,31 +16,14 @@ pub(crate) enum Series {
     AxiomK(u8),
 }
 
-/// Whether the entry is the instance of the series with the level.
-fn is_instance(series: Series, level: u8, entry: &Entry) -> bool
-    ensures { result ≡ spec.is_instance series level (entry_of entry.now) }
-{
-    match (series, entry) {
-        (Series::Elim(family), Entry::Elim(at, m)) => *at == family && *m == level,
-        (Series::AxiomK(i), Entry::AxiomK(at, m)) => *at == i && *m == level,
-        (Series::Elim(_), Entry::Family(_) | Entry::AxiomK(..) | Entry::Def { .. }) => false,
-        (Series::AxiomK(_), Entry::Family(_) | Entry::Elim(..) | Entry::Def { .. }) => false,
-    }
-}
-
 /// Whether the signature has the instance.
 fn has_instance(sig: &Signature, series: Series, level: u8) -> bool
     ensures { result ≡ list_any (spec.is_instance series level) sig.now.entries }
 {
-    let mut at = 0;
-    while at < sig.len() {
-        let entry = sig.entry(at).unwrap();
-        if is_instance(series, level, entry) {
-            return true;
-        }
-        at += 1;
+    match series {
+        Series::Elim(family) => sig.eliminator(family, level).is_some(),
+        Series::AxiomK(i) => sig.axiom_k(i, level).is_some(),
     }
-    false
 }
 
 /// The levels at which the series has no instance yet.

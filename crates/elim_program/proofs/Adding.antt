@@ -8,10 +8,10 @@ use Rattle.theory.specs.Terms.{Term, top}
 use Rattle.theory.specs.Eliminators.{eliminator_type}
 use Rattle.theory.specs.Signatures.{Entry, FamilyOf, EliminatorAt, AxiomKAt, Definition, Signature, IsPrefix, axiom_k_type}
 use Rattle.theory.specs.WellFormed.{IsWellFormed}
-use Rattle.core_text.specs.LineReading.{is_eliminator, is_axiom_k}
+use Rattle.core_sig.specs.Instances.{is_eliminator, is_axiom_k}
 use Rattle.core_text.specs.RawEntries.{RawEntry, RawFamilyOf, RawEliminator, RawAxiomK, RawDefinition}
 use Rattle.core_text.specs.ReadLaws.{IsReadEntry}
-use Rattle.kernel_check.specs.Symbols as symbols
+use Rattle.core_sig.proofs.Instances.{none-position}
 use Rattle.family_check.specs.Asking.{sort_in, type_in}
 use Rattle.family_check.specs.Entering.{Entered, are_new, check_definition, declare_of, define_of, enter_instance, entered, unless_there}
 use Rattle.family_check.specs.Laws.{EntersAsDeclared}
@@ -78,48 +78,12 @@ missing-enters : (S : Signature) (e : Entry) (fits : Bool) (type : Term) (left :
 missing-enters S e fits type left None h = instance-enters S e fits type left
 missing-enters S e fits type left (Some n) h = cc
 
-eliminator-enters : (S : Signature) (n m left : ℕ) (o : Option Entry) → position (symbols.is_eliminator n m) S.entries ≡ None → Ends (λ x. x ≡ entered S (EliminatorAt n m)) (eliminator_in S n m o left)
-eliminator-enters S n m left (Some (FamilyOf f)) h = missing-enters S (EliminatorAt n m) (nat_lt m top) (eliminator_type n f m) left (position (symbols.is_eliminator n m) S.entries) h
+eliminator-enters : (S : Signature) (n m left : ℕ) (o : Option Entry) → position (is_eliminator n m) S.entries ≡ None → Ends (λ x. x ≡ entered S (EliminatorAt n m)) (eliminator_in S n m o left)
+eliminator-enters S n m left (Some (FamilyOf f)) h = missing-enters S (EliminatorAt n m) (nat_lt m top) (eliminator_type n f m) left (position (is_eliminator n m) S.entries) h
 eliminator-enters S n m left (Some (EliminatorAt g k)) h = tt
 eliminator-enters S n m left (Some (AxiomKAt i k)) h = tt
 eliminator-enters S n m left (Some (Definition name type body)) h = tt
 eliminator-enters S n m left None h = tt
-
-same-eliminator : (n m : ℕ) (e : Entry) → is_eliminator n m e ≡ symbols.is_eliminator n m e
-same-eliminator n m (FamilyOf f) = refl
-same-eliminator n m (EliminatorAt g k) = refl
-same-eliminator n m (AxiomKAt i k) = refl
-same-eliminator n m (Definition name type body) = refl
-
-same-axiom_k : (i m : ℕ) (e : Entry) → is_axiom_k i m e ≡ symbols.is_axiom_k i m e
-same-axiom_k i m (FamilyOf f) = refl
-same-axiom_k i m (EliminatorAt g k) = refl
-same-axiom_k i m (AxiomKAt j k) = refl
-same-axiom_k i m (Definition name type body) = refl
-
--- what no element is has no position
-no-place : (p q : Entry → Bool) → ((e : Entry) → p e ≡ q e) → (es : List Entry) → list_any p es ≡ false → position_or_len q es ≡ length es
-no-place p q same [] h = refl
-no-place p q same (e ∷ es) h =
-    let parts = neither (p e) (list_any p es) h in
-    let other : not (q e) ≡ true = ap not (sym (same e) ∙ parts.0) in
-    ap (λ b. cond b (1 + position_or_len q es) 0) other ∙ ap (λ n. 1 + n) (no-place p q same es parts.1) ∙ one-more (length es)
-  where
-    neither : (a b : Bool) → (a || b) ≡ false → (a ≡ false) × (b ≡ false)
-    neither true b k = absurd (false≢true (sym k))
-    neither false b k = (refl, k)
-
-    one-more : (n : ℕ) → 1 + n ≡ suc n
-    one-more n = omega arith
-
-no-position : (p q : Entry → Bool) → ((e : Entry) → p e ≡ q e) → (es : List Entry) → list_any p es ≡ false → position q es ≡ None
-no-position p q same es h =
-    let place = no-place p q same es h in
-    let none : nat_lt (position_or_len q es) (length es) ≡ false = ap (λ n. nat_lt n (length es)) place ∙ not-below (length es) in
-    ap (λ b. cond b (Some (position_or_len q es)) None) none
-  where
-    not-below : (n : ℕ) → nat_lt n n ≡ false
-    not-below n = grind (arith, nat_tests)
 
 added : (S : Signature) (raw : RawEntry) (e : Entry) → Adds S raw (entered S e).signature → (x : Entered) → x ≡ entered S e → Adds S raw x.signature
 added S raw e adds x is = subst (λ y. Adds S raw y.signature) (sym is) adds
@@ -131,11 +95,11 @@ adds-read S fuel (RawFamilyOf raw) missing =
 adds-read S fuel (RawEliminator n m) missing =
     answered-has (λ x. Adds S (RawEliminator n m) x.signature) _ (checked_entry S (EliminatorAt n m) fuel).0
     (if-ok-map (λ x. x ≡ entered S (EliminatorAt n m)) (λ x. Adds S (RawEliminator n m) x.signature) (checked_entry S (EliminatorAt n m) fuel).0 (added S (RawEliminator n m) (EliminatorAt n m) (eliminator n m))
-    (eliminator-enters S n m fuel (slice_get S.entries n) (no-position (is_eliminator n m) (symbols.is_eliminator n m) (same-eliminator n m) S.entries missing)))
+    (eliminator-enters S n m fuel (slice_get S.entries n) (none-position (is_eliminator n m) S.entries missing)))
 adds-read S fuel (RawAxiomK i m) missing =
     answered-has (λ x. Adds S (RawAxiomK i m) x.signature) _ (checked_entry S (AxiomKAt i m) fuel).0
     (if-ok-map (λ x. x ≡ entered S (AxiomKAt i m)) (λ x. Adds S (RawAxiomK i m) x.signature) (checked_entry S (AxiomKAt i m) fuel).0 (added S (RawAxiomK i m) (AxiomKAt i m) (axiom_k i m))
-    (missing-enters S (AxiomKAt i m) _ (axiom_k_type i m) fuel (position (symbols.is_axiom_k i m) S.entries) (no-position (is_axiom_k i m) (symbols.is_axiom_k i m) (same-axiom_k i m) S.entries missing)))
+    (missing-enters S (AxiomKAt i m) _ (axiom_k_type i m) fuel (position (is_axiom_k i m) S.entries) (none-position (is_axiom_k i m) S.entries missing)))
 adds-read S fuel (RawDefinition name type body) missing =
     answered-has (λ x. Adds S (RawDefinition name type body) x.signature) _ (checked_entry S (Definition name type body) fuel).0
     (if-ok-map (λ x. x ≡ entered S (Definition name type body)) (λ x. Adds S (RawDefinition name type body) x.signature) (checked_entry S (Definition name type body) fuel).0 (added S (RawDefinition name type body) (Definition name type body) (definition name type body))

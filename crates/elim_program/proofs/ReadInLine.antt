@@ -17,7 +17,8 @@ use Rattle.surface_syntax.specs.declared.token.Piece.{Piece}
 use Rattle.surface_syntax.specs.declared.token.Piece.TheVariants.{Gap, Found, Bad}
 use Rattle.surface_syntax.specs.declared.token.TokenKind.TheVariants.{Plain, Dotted, Number, Keyword, Mark}
 use Rattle.core_text.specs.EntryReading.{behind_notes, shows_entry, shown_by, entry_at, next_entry, with_offset, entry_from}
-use Rattle.core_text.specs.LineReading.{whole_term, is_eliminator, is_axiom_k, ended, definition_at, family_name, level_list, levels_left, identities_left, eliminator_at, axiom_k_line, behind_item, collected, parameters_at, constructor_at, separated, next_constructor, constructors_at, family_behind, family_at, line_at}
+use Rattle.core_sig.specs.Instances.{is_eliminator, is_axiom_k}
+use Rattle.core_text.specs.LineReading.{whole_term, ended, definition_at, family_name, level_list, levels_left, identities_left, eliminator_at, axiom_k_line, behind_item, collected, parameters_at, constructor_at, separated, next_constructor, constructors_at, family_behind, family_at, line_at}
 use Rattle.core_text.specs.Lines.{is_in_line, AreInLine}
 use Rattle.core_text.specs.NameRuns.{are_name_chars, is_name_char, name_char_len, run_behind, run_len, width}
 use Rattle.core_text.specs.RawEntries.{RawEntry, RawFamilyOf, RawEliminator, RawAxiomK, RawDefinition}

@@ -14,7 +14,10 @@ use core_terms::{TOP, Units};
 use kernel_check::axiom_k_type;
 use std::alloc::Global;
 
-/// Adds the axiom K of `Eq.i` into `Type m`, unless it is there, and answers its number.
+/// Adds the axiom K of `Eq.i` into `Type m`, unless it is there, and answers its number. An instance that is there costs no unit;
+/// else the checker asks for the sort of its type.
+///
+/// A level that is too high is Denied, and so is what the checker denies. After an error the signature stands as before.
 pub fn axiom_k(
     alloc: Global,
     sig: &mut Signature,

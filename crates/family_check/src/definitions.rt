@@ -13,7 +13,11 @@ use core_sig::{Entry, Signature};
 use core_terms::{Items, Name, Term, Units};
 use std::alloc::Global;
 
-/// Adds a definition and answers its number.
+/// Adds a definition and answers its number. The checker asks for the sort of its type, and then for the type of its body, with
+/// units.
+///
+/// A name that is known is Duplicate, and what the checker denies is Denied with its part. After an error the signature stands as
+/// before.
 ///
 /// Its type costs the units of one call of `infer_sort`, and its body those of one call of `check`. After an error, which
 /// is Duplicate for a name that is known or what the checker says of the type and then of the body, the signature stands as

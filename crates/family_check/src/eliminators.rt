@@ -17,7 +17,10 @@ use core_sig::{Entry, Signature, elim_type};
 use core_terms::{Stop, TOP, Term, Units};
 use std::alloc::Global;
 
-/// Adds the eliminator of the family with number `fam` into `Type m`, unless it is there, and answers its number.
+/// Adds the eliminator of the family with number `fam` into `Type m`, unless it is there, and answers its number. An instance that
+/// is there costs no unit; else the checker asks for the sort of its type.
+///
+/// A level that is too high is Denied, and so is what the checker denies. After an error the signature stands as before.
 ///
 /// Its type costs the units of one call of `infer_sort`; an eliminator that is there costs none. After an error, which is
 /// LevelTooHigh for too high a level or what the checker says of the type, the signature stands as before.

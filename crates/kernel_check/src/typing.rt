@@ -1,3 +1,8 @@
+//! The public calls: a type of a term, the sort of a type, and a check against a type, with units.
+//!
+//! Each unit that a call spends moves from `left` to `spent`. A call answers Fuel where it needs a unit and none is left, and
+//! Deep where it is given or makes a term higher than 2,000, or where more than 2,000 calls would be open at once, whichever
+//! comes first. What is denied is a No with its place, its context and its reason.
 ghost use Rattle.std.specs.Prelude.{◌≡◌, ◌≤◌, ◌<◌, ◌+◌, [], length, IfOk};
 ghost use Rattle.theory.specs.Telescopes.{context_behind};
 ghost use Rattle.theory.specs.SignatureScopes.{IsScoped, IsScopedSignature, IsScopedTelescope};
