@@ -3,14 +3,14 @@ use Rattle.std.proofs.Common.{◌≡◌, ℕ, ◌+◌, ◌<◌, ◌≤◌, List,
 use Rattle.std.proofs.Math.ListN.{drop_of_length-le}
 use Rattle.std.proofs.lemmas.List.{map-append}
 use Rattle.theory.specs.Terms.{Term}
-use Rattle.resolve.specs.declared.low.Low.{Low}
+use Rattle.core_terms.specs.declared.low.Low.{Low}
 use Rattle.resolve.specs.declared.stop.ResolveStop.{ResolveStop}
 use Rattle.surface_syntax.specs.declared.tree.Word.{Word}
 use Rattle.resolve.specs.Binding.{closed}
-use Rattle.resolve.specs.Low.{low_of}
+use Rattle.core_terms.specs.Low.{low_of}
 use Rattle.resolve.specs.Names.{Scope, name_of}
 use Rattle.resolve.specs.Resolving.{Answer, binding, group, low}
-use Rattle.resolve.proofs.Collecting.{item_behind}
+use Rattle.core_terms.proofs.Lists.{drop-at}
 
 -- one type more, bound nearest to what stands under it
 pub closed_more : (make : Term → Term → Term) (types : List Term) (a : Term) (inner : Answer) → closed make (types ++ a ∷ []) inner ≡ closed make types (binding make (Ok a) inner)
@@ -28,7 +28,7 @@ pub group_step : (make : Term → Term → Term) (names : List (Option Word)) (k
     → closed make (map low_of types) (group make (drop k names) type inner scope)
     ≡ closed make (map low_of more) (group make (drop (k + 1) names) type inner (name_of x ∷ scope))
 group_step make names k x type inner scope types more a lt is answer pushed =
-    ap (λ xs. closed make (map low_of types) (group make xs type inner scope)) (item_behind names k x lt is)
+    ap (λ xs. closed make (map low_of types) (group make xs type inner scope)) (drop-at names k x lt is)
     ∙ (ap (λ r. closed make (map low_of types) (binding make r (group make (drop (k + 1) names) type inner (name_of x ∷ scope)))) (sym answer)
     ∙ (sym (closed_more make (map low_of types) (low_of a) (group make (drop (k + 1) names) type inner (name_of x ∷ scope)))
     ∙ ap (λ ts. closed make ts (group make (drop (k + 1) names) type inner (name_of x ∷ scope))) (sym (ap (map low_of) pushed ∙ map-append low_of types (a ∷ [])))))
@@ -38,7 +38,7 @@ pub group_stop : (make : Term → Term → Term) (names : List (Option Word)) (k
     → k < length names → x ≡ get_or names k x → Err e ≡ type scope
     → closed make types (group make (drop k names) type inner scope) ≡ Err e
 group_stop make names k x type inner scope types e lt is answer =
-    ap (λ xs. closed make types (group make xs type inner scope)) (item_behind names k x lt is)
+    ap (λ xs. closed make types (group make xs type inner scope)) (drop-at names k x lt is)
     ∙ (ap (λ r. closed make types (binding make r (group make (drop (k + 1) names) type inner (name_of x ∷ scope)))) (sym answer)
     ∙ closed_stop make types e)
 

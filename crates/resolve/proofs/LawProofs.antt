@@ -1,5 +1,5 @@
 -- The laws of declarations and of calls.
-use Rattle.std.proofs.Common.{◌≡◌, ℕ, List, length, Result, Ok, Err, IfOk, sym, ap, ◌∙◌, subst}
+use Rattle.std.proofs.Common.{◌≡◌, ℕ, List, length, Result, Ok, IfOk, sym, ap, ◌∙◌, subst}
 use Rattle.theory.specs.Terms.{Term}
 use Rattle.theory.specs.Signatures.{Signature, IsPrefix}
 use Rattle.theory.specs.SignatureScopes.{IsFamilyNumber, IsConstantNumber}
@@ -9,7 +9,8 @@ use Rattle.surface_syntax.specs.Trees as surf
 use Rattle.surface_syntax.specs.declared.tree.Word.{Word}
 use Rattle.resolve.specs.declared.fun_core.FunCore.{FunCore}
 use Rattle.resolve.specs.declared.stop.ResolveStop.{ResolveStop}
-use Rattle.resolve.specs.Answers.{Gives}
+use Rattle.core_terms.proofs.Answers.{stands-has}
+use Rattle.resolve.specs.Answers.{IsUnforeseen, Gives}
 use Rattle.resolve.specs.Families.{family}
 use Rattle.resolve.specs.Functions.{function}
 use Rattle.resolve.specs.Laws.{TermsResolve, FamiliesResolve, FunctionsResolve}
@@ -41,11 +42,6 @@ functions-resolve S T (surf.Decide name f d) p at = tt
 functions-resolve S T (surf.Mutual params members f tag tags) p at = tt
 functions-resolve S T (surf.Data name params ty cons) p at = tt
 
--- what holds of the answer that is meant holds of the one that stands for it
-pub gives_has : {A B : Type 0} (f : A → B) (result : Result A ResolveStop) (meant : Result B ResolveStop) (P : B → Type 0) → Gives f result meant → IfOk meant P → IfOk result (λ a. P (f a))
-gives_has f (Ok a) meant P g h = subst (λ r. IfOk r P) (sym g) h
-gives_has f (Err e) meant P g h = tt
-
 -- a term that is answered under names
 pub term_is : (S : Signature) (names given : List (List ℕ)) (t : surf.Surf) (a : Term) → given ≡ names → Ok a ≡ resolve (known_in S) t (scope_of given) → IsResolved S (length names) a
 term_is S names given t a same is =
@@ -53,8 +49,8 @@ term_is S names given t a same is =
 
 pub family_has : (S T : Signature) → IsPrefix S T → IsFamilyNumber T (length S.entries) → (x : Word) (params : List surf.Typed) (ty : surf.Surf) (cons : List surf.Typed) (result : Result RawFamily ResolveStop)
     → Gives raw_of result (family S x params ty cons) → IfOk result (λ raw. IsResolvedFamily S T (raw_of raw))
-family_has S T p at x params ty cons result g = gives_has raw_of result (family S x params ty cons) (IsResolvedFamily S T) g (family_resolved S T p at x params ty cons)
+family_has S T p at x params ty cons result g = stands-has IsUnforeseen (λ e. e) raw_of (IsResolvedFamily S T) result (family S x params ty cons) g (family_resolved S T p at x params ty cons)
 
 pub function_has : (S T : Signature) → IsPrefix S T → IsConstantNumber T (length S.entries) → (x : Word) (ty : surf.Surf) (ws : surf.Clauses) (result : Result FunCore ResolveStop)
     → Gives fun_of result (function S x ty ws) → IfOk result (λ f. IsResolvedFunction S T (fun_of f))
-function_has S T p at x ty ws result g = gives_has fun_of result (function S x ty ws) (IsResolvedFunction S T) g (function_resolved S T p at x ty ws)
+function_has S T p at x ty ws result g = stands-has IsUnforeseen (λ e. e) fun_of (IsResolvedFunction S T) result (function S x ty ws) g (function_resolved S T p at x ty ws)

@@ -5,7 +5,6 @@ pub mod Counts
 mod Examples
 pub mod KnownNames
 pub mod LawProofs
-pub mod NamesShown
 pub mod Nearest
 pub mod ScopedFamilies
 pub mod ScopedFunctions
@@ -13,6 +12,5 @@ pub mod ScopedPatterns
 pub mod ScopedTerms
 pub mod Sizes
 pub mod Spines
-pub mod Variables
 pub mod Vectors
 pub mod Walking

@@ -1,6 +1,6 @@
 -- How the map of last places changes with a binder more.
 use Rattle.std.proofs.Common.{◌≡◌, ℕ, suc, ◌+◌, ◌-◌, ◌≤◌, ◌<◌, Bool, true, false, cond, List, [], ◌∷◌, ◌++◌, length, reverse, Option, Some, None, option_map, Result, Ok, bytes_eq, Vec, refl, ap, ap₂, sym, ◌∙◌, true≢false, arith}
-use Rattle.std.proofs.lemmas.List.{reverse-append, length-reverse, length-append}
+use Rattle.std.proofs.lemmas.List.{length-reverse}
 use Rattle.std.proofs.lemmas.Slice.Eq.{bytes_eq-Decides}
 use Rattle.std.specs.declared.alloc.Global.{Global}
 use Rattle.indexmap.specs.IndexMap.{insert_entry}
@@ -9,6 +9,7 @@ use Rattle.theory.proofs.Lists.{some_is}
 use Rattle.resolve.specs.declared.stop.ResolveStop.{ResolveStop}
 use Rattle.resolve.specs.Names.{Scope, has_name, variable_of}
 use Rattle.resolve.specs.Nearest.{last_of}
+use Rattle.core_sig.proofs.NamesShown.{bytes_eq-swap}
 
 abbrev Places : Type 0
 Places = List (Vec ℕ Global × ℕ)
@@ -42,33 +43,9 @@ last-insert name (p ∷ places) key at = go (last-insert name places key at) (by
         ap (cond (bytes_eq name p.0.items) (Some p.1)) behind
         ∙ apart (bytes_eq name key.items) (bytes_eq name p.0.items) (last_of name places) (both e)
 
--- names are equal in both orders
-pub bytes_eq-swap : (xs ys : List ℕ) → bytes_eq xs ys ≡ bytes_eq ys xs
-bytes_eq-swap xs ys = go (bytes_eq xs ys) (bytes_eq ys xs) refl refl
-  where
-    go : (b c : Bool) → bytes_eq xs ys ≡ b → bytes_eq ys xs ≡ c → b ≡ c
-    go true true e f = refl
-    go false false e f = refl
-    go true false e f = absurd (true≢false (sym ((bytes_eq-Decides ys xs).1 (sym ((bytes_eq-Decides xs ys).0 e))) ∙ f))
-    go false true e f = absurd (true≢false (sym ((bytes_eq-Decides xs ys).1 (sym ((bytes_eq-Decides ys xs).0 f))) ∙ e))
-
 -- the place of a variable, counted from the outermost of n binders
 abbrev pub from_outermost : ℕ → Option ℕ → Option ℕ
 from_outermost n found = option_map (λ k. n - (k + 1)) found
-
--- with a binder more, it has the last place or the names have those that they had
-pub nearest-more : (name : List ℕ) (names : List (Option (List ℕ))) (x : Option (List ℕ))
-    → from_outermost (length (names ++ x ∷ [])) (variable_of name (reverse (names ++ x ∷ [])))
-    ≡ cond (has_name name x) (Some (length names)) (from_outermost (length names) (variable_of name (reverse names)))
-nearest-more name names x =
-    ap (λ n. from_outermost n (variable_of name (reverse (names ++ x ∷ [])))) (length-append names (x ∷ []))
-    ∙ (ap (λ s. from_outermost (length names + 1) (variable_of name s)) (reverse-append names (x ∷ []))
-    ∙ go (has_name name x) (variable_of name (reverse names)))
-  where
-    go : (b : Bool) (found : Option ℕ) → from_outermost (length names + 1) (cond b (Some 0) (option_map (λ k. k + 1) found)) ≡ cond b (Some (length names)) (from_outermost (length names) found)
-    go true found = ap Some (omega arith)
-    go false (Some k) = ap Some (omega arith)
-    go false None = refl
 
 -- a variable is one of the binders
 pub variable-within : (name : List ℕ) (scope : Scope) (n : ℕ) → variable_of name scope ≡ Some n → n < length scope

@@ -21,7 +21,8 @@ use Rattle.resolve.specs.Resolving.{resolve}
 use Rattle.resolve.specs.Patterns as spec
 use Rattle.resolve.specs.Scoping.{IsResolved, HasArguments, IsPattern, ArePatterns, binds, binds_all, count}
 use Rattle.resolve.proofs.KnownNames.{IsKnown, IsFound, is_found}
-use Rattle.resolve.proofs.ScopedTerms.{then_has, term_resolved}
+use Rattle.core_terms.proofs.Answers.{and_then-has}
+use Rattle.resolve.proofs.ScopedTerms.{term_resolved}
 
 no_constructor : theory.Constructor
 no_constructor = record { name = []; arguments = []; targets = [] }
@@ -95,22 +96,22 @@ mutual
   pub pattern_resolved : (S T : Signature) → IsPrefix S T → (known : Known) → IsKnown T known → (scope : Scope) (before : List (List ℕ)) (p : surf.Pat)
       → IfOk (spec.pattern S known scope before p) (StandsOne S T (length scope) p)
   pattern_resolved S T e known k scope before (surf.Name x) =
-      then_has (λ h. (h ≡ spec.constructor S x.text) × HasHead T 0 h) (StandsOne S T (length scope) (surf.Name x)) (spec.head 0 before x (spec.constructor S x.text)) _
+      and_then-has (λ h. (h ≡ spec.constructor S x.text) × HasHead T 0 h) (StandsOne S T (length scope) (surf.Name x)) (spec.head 0 before x (spec.constructor S x.text)) _
       (head_known T 0 before x (spec.constructor S x.text) (constructor_known S T e x.text))
       (λ h is.
       let s = headed_stands S T (length scope) x surf.no_pat (spec.constructor S x.text) h core.nil is.0 is.1 (record { patterns = tt; variables = refl; many = refl }) in
       record { pattern = s.0; variables = s.1 ∙ ap length (append-nil (spec.variable 0 x (spec.constructor S x.text))) })
   pattern_resolved S T e known k scope before surf.Wild = record { pattern = tt; variables = refl }
   pattern_resolved S T e known k scope before (surf.Dot t) =
-      then_has (IsResolved T (length scope)) (StandsOne S T (length scope) (surf.Dot t)) (resolve known t scope) _ (term_resolved T known k t scope)
+      and_then-has (IsResolved T (length scope)) (StandsOne S T (length scope) (surf.Dot t)) (resolve known t scope) _ (term_resolved T known k t scope)
       (λ t h. record { pattern = h; variables = refl })
   pattern_resolved S T e known k scope before surf.Void = record { pattern = tt; variables = refl }
   pattern_resolved S T e known k scope before (surf.Con x args) =
       let after = before ++ spec.variable (spec.count args) x (spec.constructor S x.text) in
-      then_has (λ h. (h ≡ spec.constructor S x.text) × HasHead T (spec.count args) h) (StandsOne S T (length scope) (surf.Con x args)) (spec.head (spec.count args) before x (spec.constructor S x.text)) _
+      and_then-has (λ h. (h ≡ spec.constructor S x.text) × HasHead T (spec.count args) h) (StandsOne S T (length scope) (surf.Con x args)) (spec.head (spec.count args) before x (spec.constructor S x.text)) _
       (head_known T (spec.count args) before x (spec.constructor S x.text) (constructor_known S T e x.text))
       (λ h is.
-      then_has (Stands S T (length scope) args) (StandsOne S T (length scope) (surf.Con x args)) (spec.patterns S known scope after args) _
+      and_then-has (Stands S T (length scope) args) (StandsOne S T (length scope) (surf.Con x args)) (spec.patterns S known scope after args) _
       (patterns_resolved S T e known k scope after args)
       (λ qs s.
       let stands = headed_stands S T (length scope) x args (spec.constructor S x.text) h qs is.0 is.1 s in
@@ -120,8 +121,8 @@ mutual
       → IfOk (spec.patterns S known scope before ps) (Stands S T (length scope) ps)
   patterns_resolved S T e known k scope before surf.no_pat = record { patterns = tt; variables = refl; many = refl }
   patterns_resolved S T e known k scope before (surf.arg p ps) =
-      then_has (StandsOne S T (length scope) p) (Stands S T (length scope) (surf.arg p ps)) (spec.pattern S known scope before p) _ (pattern_resolved S T e known k scope before p) (λ q x.
-      then_has (Stands S T (length scope) ps) (Stands S T (length scope) (surf.arg p ps)) (spec.patterns S known scope (before ++ spec.bound S p) ps) _
+      and_then-has (StandsOne S T (length scope) p) (Stands S T (length scope) (surf.arg p ps)) (spec.pattern S known scope before p) _ (pattern_resolved S T e known k scope before p) (λ q x.
+      and_then-has (Stands S T (length scope) ps) (Stands S T (length scope) (surf.arg p ps)) (spec.patterns S known scope (before ++ spec.bound S p) ps) _
       (patterns_resolved S T e known k scope (before ++ spec.bound S p) ps)
       (λ qs y. record {
         patterns = (x.pattern, y.patterns);

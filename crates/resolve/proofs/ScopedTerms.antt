@@ -1,5 +1,5 @@
 -- Resolved terms are scoped over the names around them.
-use Rattle.std.proofs.Common.{◌≡◌, ℕ, suc, ◌+◌, ◌<◌, ◌≤◌, Bool, true, false, nat_le, List, [], ◌∷◌, length, Option, Some, None, option_map, Result, Ok, Err, IfOk, IfSome, refl, arith}
+use Rattle.std.proofs.Common.{◌≡◌, ℕ, suc, ◌+◌, ◌<◌, ◌≤◌, Bool, true, false, nat_le, List, [], ◌∷◌, length, Option, Some, None, option_map, Ok, Err, IfOk, IfSome, refl, arith}
 use Rattle.std.specs.Prelude.{if◌then◌else◌}
 use Rattle.std.proofs.lemmas.Bool.Decides.{nat_tests}
 use Rattle.theory.specs.Terms as tree
@@ -8,18 +8,12 @@ use Rattle.theory.specs.Signatures.{Signature}
 use Rattle.theory.specs.SignatureScopes.{IsScoped}
 use Rattle.surface_syntax.specs.Trees as surf
 use Rattle.surface_syntax.specs.declared.tree.Word.{Word}
-use Rattle.resolve.specs.declared.stop.ResolveStop.{ResolveStop}
 use Rattle.resolve.specs.declared.stop.ResolveStop.TheVariants.{Deep}
-use Rattle.resolve.specs.Answers.{and_then}
+use Rattle.core_terms.proofs.Answers.{and_then-has}
 use Rattle.resolve.specs.Names.{Known, Scope, has_name, name_of, variable_of, named_term}
 use Rattle.resolve.specs.Resolving.{Answer, low, binding, group, resolve, telescope, applied}
 use Rattle.resolve.specs.Scoping.{IsResolved}
 use Rattle.resolve.proofs.KnownNames.{IsKnown}
-
-pub then_has : {A B : Type 0} (P : A → Type 0) (Q : B → Type 0) (r : Result A ResolveStop) (go : A → Result B ResolveStop)
-    → IfOk r P → ((a : A) → P a → IfOk (go a) Q) → IfOk (and_then r go) Q
-then_has P Q (Ok a) go h k = k a h
-then_has P Q (Err e) go h k = tt
 
 low_resolved : (T : Signature) (n : ℕ) (t : Term) → IsScoped T n t → IfOk (low t) (IsResolved T n)
 low_resolved T n t scoped = go (nat_le (tree.height t) 2000) (λ e. grind (arith, nat_tests))
@@ -41,8 +35,8 @@ lam_binds T n a b x y = record { variables = omega (arith, x.variables, y.variab
 binding_resolved : (T : Signature) (make : Term → Term → Term) → Binds T make → (n : ℕ) (first second : Answer) → IfOk first (IsResolved T n) → IfOk second (IsResolved T (suc n))
     → IfOk (binding make first second) (IsResolved T n)
 binding_resolved T make binds n first second p q =
-    then_has (IsResolved T n) (IsResolved T n) first _ p (λ a x.
-    then_has (IsResolved T (suc n)) (IsResolved T n) second _ q (λ b y. low_resolved T n (make a b) (binds n a b x.scoped y.scoped)))
+    and_then-has (IsResolved T n) (IsResolved T n) first _ p (λ a x.
+    and_then-has (IsResolved T (suc n)) (IsResolved T n) second _ q (λ b y. low_resolved T n (make a b) (binds n a b x.scoped y.scoped)))
 
 -- what an answer under the names of any scope owes
 abbrev Owes : Signature → (Scope → Answer) → Type 0
@@ -77,13 +71,13 @@ mutual
   term_resolved T known k (surf.Arrow a b) scope =
       binding_resolved T tree.Pi (pi_binds T) (length scope) (resolve known a scope) (resolve known b (None ∷ scope)) (term_resolved T known k a scope) (term_resolved T known k b (None ∷ scope))
   term_resolved T known k (surf.App f args) scope =
-      then_has (IsResolved T (length scope)) (IsResolved T (length scope)) (resolve known f scope) _ (term_resolved T known k f scope)
+      and_then-has (IsResolved T (length scope)) (IsResolved T (length scope)) (resolve known f scope) _ (term_resolved T known k f scope)
       (λ f h. applied_resolved T known k args scope f h)
   term_resolved T known k (surf.Let x a t b) scope =
       let n : ℕ = length scope in
-      then_has (IsResolved T n) (IsResolved T n) (resolve known a scope) _ (term_resolved T known k a scope) (λ a p.
-      then_has (IsResolved T n) (IsResolved T n) (resolve known t scope) _ (term_resolved T known k t scope) (λ t q.
-      then_has (IsResolved T (suc n)) (IsResolved T n) (resolve known b (Some x.text ∷ scope)) _ (term_resolved T known k b (Some x.text ∷ scope)) (λ b r.
+      and_then-has (IsResolved T n) (IsResolved T n) (resolve known a scope) _ (term_resolved T known k a scope) (λ a p.
+      and_then-has (IsResolved T n) (IsResolved T n) (resolve known t scope) _ (term_resolved T known k t scope) (λ t q.
+      and_then-has (IsResolved T (suc n)) (IsResolved T n) (resolve known b (Some x.text ∷ scope)) _ (term_resolved T known k b (Some x.text ∷ scope)) (λ b r.
       low_resolved T n (tree.Let a t b) (record {
         variables = omega (arith, p.scoped.variables, q.scoped.variables, r.scoped.variables);
         entries = (p.scoped.entries, q.scoped.entries, r.scoped.entries);
@@ -104,7 +98,7 @@ mutual
   applied_resolved T known k surf.nil scope f h = h
   applied_resolved T known k (surf.cons a args) scope f h =
       let n : ℕ = length scope in
-      then_has (IsResolved T n) (IsResolved T n) (resolve known a scope) _ (term_resolved T known k a scope) (λ a p.
-      then_has (IsResolved T n) (IsResolved T n) (low (tree.App f a)) _
+      and_then-has (IsResolved T n) (IsResolved T n) (resolve known a scope) _ (term_resolved T known k a scope) (λ a p.
+      and_then-has (IsResolved T n) (IsResolved T n) (low (tree.App f a)) _
       (low_resolved T n (tree.App f a) (record { variables = omega (arith, h.scoped.variables, p.scoped.variables); entries = (h.scoped.entries, p.scoped.entries) }))
       (λ f q. applied_resolved T known k args scope f q))

@@ -26,15 +26,6 @@ abbrev mutual
   pub size_binder : surf.Binder → ℕ
   size_binder (surf.Group names a) = 1 + length names + size a
 
-pub size_positive : (t : surf.Surf) → 0 < size t
-size_positive (surf.Lam bs b) = omega arith
-size_positive (surf.Pi bs b) = omega arith
-size_positive (surf.Arrow a b) = omega arith
-size_positive (surf.App f args) = omega arith
-size_positive (surf.Let x a t b) = omega arith
-size_positive (surf.Sort i) = omega arith
-size_positive (surf.Named x) = omega arith
-
 -- an argument is no larger than all of them
 pub size_at : (args : List Surf) (k : ℕ) (d : Surf) → k < length args → size (surf_of (get_or args k d)) ≤ size_args (surf.surfs (map surf_of args))
 size_at [] k d lt = absurd (omega arith)

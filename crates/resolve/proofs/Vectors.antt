@@ -5,7 +5,7 @@ use Rattle.core_terms.specs.Patterns as pattern
 use Rattle.core_terms.specs.Clauses as clause
 use Rattle.surface_syntax.specs.Trees as surf
 use Rattle.resolve.specs.declared.stop.ResolveStop.{ResolveStop}
-use Rattle.resolve.specs.Answers.{and_then}
+use Rattle.core_terms.specs.Answers.{and_then}
 use Rattle.resolve.specs.Names.{Known, Scope}
 use Rattle.resolve.specs.Patterns as spec
 use Rattle.resolve.specs.Functions as function
@@ -37,11 +37,6 @@ patterns_step S known scope before p ps qs q is =
     ap (λ r. ahead qs (and_then r (λ q. and_then (spec.patterns S known scope (before ++ spec.bound S p) ps) (λ qs. Ok (pattern.cons q qs))))) (sym is)
     ∙ ahead_more qs q (spec.patterns S known scope (before ++ spec.bound S p) ps)
 
-pub patterns_stop : (S : Signature) (known : Known) (scope : Scope) (before : List (List ℕ)) (p : surf.Pat) (ps : surf.Pats) (qs : List pattern.Pat) (e : ResolveStop)
-    → Err e ≡ spec.pattern S known scope before p → ahead qs (spec.patterns S known scope before (surf.arg p ps)) ≡ Err e
-patterns_stop S known scope before p ps qs e is =
-    ap (λ r. ahead qs (and_then r (λ q. and_then (spec.patterns S known scope (before ++ spec.bound S p) ps) (λ qs. Ok (pattern.cons q qs))))) (sym is)
-
 abbrev pub joined_clauses : List clause.Clause → clause.Clauses → clause.Clauses
 joined_clauses [] rest = rest
 joined_clauses (c ∷ cs) rest = clause.cons c (joined_clauses cs rest)
@@ -68,8 +63,3 @@ pub clauses_step : (S : Signature) (known : Known) (own : List ℕ) (allowed : O
 clauses_step S known own allowed w ws cs c is =
     ap (λ r. ahead_clauses cs (and_then r (λ c. and_then (function.clauses S known own allowed ws) (λ cs. Ok (clause.cons c cs))))) (sym is)
     ∙ ahead_clauses_more cs c (function.clauses S known own allowed ws)
-
-pub clauses_stop : (S : Signature) (known : Known) (own : List ℕ) (allowed : Option ℕ) (w : surf.Clause) (ws : surf.Clauses) (cs : List clause.Clause) (e : ResolveStop)
-    → Err e ≡ function.clause S known own allowed w → ahead_clauses cs (function.clauses S known own allowed (surf.also w ws)) ≡ Err e
-clauses_stop S known own allowed w ws cs e is =
-    ap (λ r. ahead_clauses cs (and_then r (λ c. and_then (function.clauses S known own allowed ws) (λ cs. Ok (clause.cons c cs))))) (sym is)

@@ -1,8 +1,9 @@
 -- What binds a list of types, and how a part of a telescope goes on it.
-use Rattle.std.specs.Prelude.{◌≡◌, ◌≢◌, List, [], ◌∷◌, ◌++◌, Result, Ok, Err}
+use Rattle.std.specs.Prelude.{◌≡◌, List, [], ◌∷◌, ◌++◌, Result, Ok, Err}
 use Rattle.theory.specs.Terms as tree
 use Rattle.resolve.specs.declared.stop.ResolveStop.{ResolveStop}
-use Rattle.resolve.specs.declared.stop.ResolveStop.TheVariants.{Memory}
+use Rattle.core_terms.specs.Answers.{Unless}
+use Rattle.resolve.specs.Answers.{IsUnforeseen}
 use Rattle.resolve.specs.Names.{Scope}
 use Rattle.resolve.specs.Resolving.{Answer, binding}
 
@@ -17,4 +18,4 @@ abbrev pub IsBound : (tree.Term → tree.Term → tree.Term) → ((Scope → Ans
 IsBound make wraps outer types names more further (Ok _) =
     (inner : Scope → Answer) → closed make types (wraps inner (names ++ outer)) ≡ closed make more (inner (further ++ outer))
 IsBound make wraps outer types names more further (Err e) =
-    e ≢ Memory → (inner : Scope → Answer) → closed make types (wraps inner (names ++ outer)) ≡ Err e
+    Unless (IsUnforeseen e) ((inner : Scope → Answer) → closed make types (wraps inner (names ++ outer)) ≡ Err e)

@@ -9,7 +9,7 @@ use Rattle.surface_syntax.specs.Trees as surf
 use Rattle.surface_syntax.specs.declared.tree.Word.{Word}
 use Rattle.resolve.specs.declared.stop.ResolveStop.{ResolveStop}
 use Rattle.resolve.specs.declared.stop.ResolveStop.TheVariants.{Memory, Duplicate}
-use Rattle.resolve.specs.Answers.{and_then}
+use Rattle.core_terms.specs.Answers.{and_then}
 use Rattle.resolve.specs.Names.{Known, Scope, scope_of, known_in, with_name}
 use Rattle.resolve.specs.Resolving.{resolve}
 

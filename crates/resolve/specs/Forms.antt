@@ -1,12 +1,7 @@
--- What terms with their heights stand for.
+-- The two forms that bind a variable without giving it a value.
 use Rattle.theory.specs.Terms as tree
-use Rattle.core_terms.specs.Meanings.{tree_of}
-use Rattle.resolve.specs.declared.low.Form.{Form}
-use Rattle.resolve.specs.declared.low.Form.TheVariants.{Pi, Lam}
-use Rattle.resolve.specs.declared.low.Low.{Low}
-
-abbrev pub low_of : Low → tree.Term
-low_of l = tree_of l.term
+use Rattle.resolve.specs.declared.forming.Form.{Form}
+use Rattle.resolve.specs.declared.forming.Form.TheVariants.{Pi, Lam}
 
 abbrev pub former : Form → tree.Term → tree.Term → tree.Term
 former Pi = tree.Pi

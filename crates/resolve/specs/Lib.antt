@@ -1,9 +1,10 @@
 pub mod Answers
 pub mod Binding
 pub mod Families
+pub mod Forms
 pub mod Functions
 pub mod Laws
-pub mod Low
+pub mod Named
 pub mod Names
 pub mod Nearest
 pub mod PatternMeanings

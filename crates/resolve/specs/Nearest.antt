@@ -1,10 +1,14 @@
 -- How a map finds the nearest binder of each name.
-use Rattle.std.specs.Prelude.{◌≡◌, ℕ, ◌+◌, ◌-◌, List, Option, option_map, length, reverse, bytes_eq}
+use Rattle.std.specs.Prelude.{◌≡◌, ℕ, ◌+◌, ◌-◌, List, [], map, Option, option_map, unwrap_or, length, reverse, bytes_eq}
 use Rattle.std.specs.Prelude.{Vec}
 use Rattle.std.specs.Map.{lookup}
 use Rattle.std.specs.declared.alloc.Global.{Global}
 use Rattle.resolve.specs.declared.binders.Binders.TheInside.{Inside}
-use Rattle.resolve.specs.Names.{variable_of}
+use Rattle.resolve.specs.Names.{Scope, variable_of}
+
+-- the names of binders, from the outermost on, where each has one
+abbrev pub names_in : Scope → List (List ℕ)
+names_in scope = reverse (map (λ x. unwrap_or x []) scope)
 
 -- what stands at the name
 abbrev pub last_of : List ℕ → List (Vec ℕ Global × ℕ) → Option ℕ

@@ -1,12 +1,12 @@
 -- The core terms that written terms stand for, or the first refusal in the order of the text.
-use Rattle.std.specs.Prelude.{ℕ, nat_le, if◌then◌else◌, List, [], ◌∷◌, Option, Some, None, Result, Ok, Err}
+use Rattle.std.specs.Prelude.{ℕ, if◌then◌else◌, List, [], ◌∷◌, Option, Some, None, Result, Ok, Err}
 use Rattle.theory.specs.Terms as tree
 use Rattle.theory.specs.Signatures.{Signature}
 use Rattle.surface_syntax.specs.declared.tree.Word.{Word}
 use Rattle.surface_syntax.specs.Trees as surf
 use Rattle.resolve.specs.declared.stop.ResolveStop.{ResolveStop}
 use Rattle.resolve.specs.declared.stop.ResolveStop.TheVariants.{Deep}
-use Rattle.resolve.specs.Answers.{and_then}
+use Rattle.core_terms.specs.Answers.{and_then, is_low}
 use Rattle.resolve.specs.Names.{Known, Scope, scope_of, name_of, known_in, named}
 
 abbrev pub Answer : Type 0
@@ -14,7 +14,7 @@ Answer = Result tree.Term ResolveStop
 
 -- a term that has just been made of its parts, Deep where it is higher than 2,000
 abbrev pub low : tree.Term → Answer
-low t = if nat_le (tree.height t) 2000 then Ok t else Err Deep
+low t = if is_low t then Ok t else Err Deep
 
 -- a product or a function over two parts, the second of which stands under the binder
 abbrev pub binding : (tree.Term → tree.Term → tree.Term) → Answer → Answer → Answer

@@ -5,8 +5,7 @@ ghost use Rattle.resolve.specs.Names.{has_name, name_of, variable_of};
 ghost use Rattle.resolve.specs.Nearest.{last_of};
 
 use crate::ResolveStop;
-use crate::names::copy_name;
-use core_terms::Name;
+use core_terms::{Name, copy_name};
 use indexmap::IndexMap;
 use std::alloc::Global;
 use std::marker::Model;
@@ -69,6 +68,15 @@ impl Binders {
         ensures memory { OnErr result (result ≡ Err Memory) }
     {
         add(self.alloc, &mut self.names, &mut self.last, x)
+    }
+
+    /// Adds a binder with a name inside the others.
+    pub(crate) fn push_name(&mut self, name: &Name) -> Result<(), ResolveStop>
+        ensures ok { OnOk result (self.new ≡ Some name.now ∷ self.old) }
+        ensures err { OnErr result (self.new ≡ self.old) }
+        ensures memory { OnErr result (result ≡ Err Memory) }
+    {
+        add_named(self.alloc, &mut self.names, &mut self.last, name)
     }
 }
 

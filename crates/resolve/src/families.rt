@@ -10,13 +10,13 @@ ghost use Rattle.resolve.specs.Scoping.{IsResolvedFamily};
 ghost use Rattle.resolve.specs.Scopes.{names_of, known_of};
 
 use crate::ResolveStop;
-use crate::name_set::NameSet;
-use crate::names::{copy_name, declare};
+use crate::names::declare;
 use crate::scope::Scope;
 use crate::symbols::{Own, Symbols};
 use crate::terms::resolve;
-use core_sig::{RawCon, RawFamily, Signature};
-use core_terms::{Items, Name, Tele};
+use crate::variables::Variables;
+use core_sig::{NameSet, RawCon, RawFamily, Signature};
+use core_terms::{Items, Tele};
 use std::alloc::Global;
 use surface_syntax::{Decl, Surf, SurfCon, SurfParam, Word};
 
@@ -54,9 +54,9 @@ fn family<'a>(
         sig,
         own: Own::Unnamed,
     };
-    let mut names = Items::new(alloc);
+    let mut names = Variables::new(alloc);
     let params = parameters(alloc, &unnamed, params, &mut names)?;
-    let scope = Scope::Given(names.as_slice());
+    let scope = Scope::Given(&names);
     let ty = resolve(alloc, &unnamed, ty, &scope)?;
     let known = Symbols {
         sig,
@@ -76,16 +76,16 @@ fn parameters(
     alloc: Global,
     known: &Symbols,
     params: &[SurfParam],
-    names: &mut Items<Name>,
+    names: &mut Variables,
 ) -> Result<Tele, ResolveStop>
     ensures types { Gives tele_of result (spec.parameters (known_of known.now) names.old (map param_of params.now)) }
     ensures names { OnOk result (names.new ≡ names.old ++ spec.names_of (map param_of params.now)) }
 {
     let mut types = Items::new(alloc);
     for param in params {
-        let ty = resolve(alloc, known, &param.ty, &Scope::Given(names.as_slice()))?;
+        let ty = resolve(alloc, known, &param.ty, &Scope::Given(&*names))?;
         types.push(ty.term)?;
-        names.push(copy_name(alloc, &param.name.text)?)?;
+        names.push(&param.name.text)?;
     }
     Ok(types)
 }

@@ -1,7 +1,9 @@
-ghost use Rattle.std.specs.Prelude.{◌≡◌, ◌<◌, ◌≤◌, ◌+◌, ◌^◌, map, length, Some, IfOk, OnErr};
+ghost use Rattle.std.specs.Prelude.{◌≡◌, ◌<◌, ◌≤◌, ◌+◌, ◌^◌, [], map, length, Some, Ok, IfOk};
 ghost use Rattle.theory.specs.Signatures.{Signature, IsPrefix};
 ghost use Rattle.theory.specs.SignatureScopes.{IsConstantNumber};
 ghost use Rattle.theory.specs.Terms as tree;
+ghost use Rattle.core_terms.specs.Answers.{and_then};
+ghost use Rattle.core_terms.specs.Clauses as core;
 ghost use Rattle.core_terms.specs.Meanings.{tree_of};
 ghost use Rattle.core_terms.specs.PatternMeanings.{clause_of, clauses_of, right_of};
 ghost use Rattle.surface_syntax.specs.Trees as surf;
@@ -9,22 +11,23 @@ ghost use Rattle.surface_syntax.specs.TreeMeanings as written;
 ghost use Rattle.surface_syntax.specs.TreeMeanings.{surf_of, decl_of};
 ghost use Rattle.resolve.specs.Answers.{Gives};
 ghost use Rattle.resolve.specs.Functions as spec;
+ghost use Rattle.resolve.specs.Names.{scope_of};
+ghost use Rattle.resolve.specs.Patterns as pattern;
 ghost use Rattle.resolve.specs.PatternMeanings.{fun_of};
 ghost use Rattle.resolve.specs.Scoping.{IsResolvedFunction};
 ghost use Rattle.resolve.specs.Scopes.{names_of, known_of};
-ghost use Rattle.resolve.specs.declared.stop.ResolveStop.TheVariants.{Memory};
 
-use crate::name_set::NameSet;
-use crate::names::{copy_name, declare};
+use crate::names::declare;
 use crate::patterns::{add_variables, patterns};
 use crate::scope::Scope;
 use crate::symbols::{Own, Symbols};
 use crate::terms::resolve;
+use crate::variables::Variables;
 use crate::{FunCore, ResolveStop};
-use core_sig::Signature;
-use core_terms::{Clause, Items, Name, Right, Term};
+use core_sig::{NameSet, Signature};
+use core_terms::{Clause, Items, Name, Right, Term, copy_name, number_of};
 use std::alloc::Global;
-use surface_syntax::{Decl, Surf, SurfClause, SurfRight, Word};
+use surface_syntax::{Decl, Surf, SurfClause, SurfPat, SurfRight, Word};
 
 /// The function that a declaration of a function stands for.
 pub fn resolve_fun(alloc: Global, sig: &Signature, d: &Decl) -> Result<FunCore, ResolveStop>
@@ -53,7 +56,7 @@ fn function<'a>(
         sig,
         own: Own::Unnamed,
     };
-    let ty = resolve(alloc, &unnamed, ty, &Scope::Given(&[]))?;
+    let ty = resolve(alloc, &unnamed, ty, &Scope::Given(&Variables::new(alloc)))?;
     let arity = arity_of(&ty.term, list);
     let known = Symbols {
         sig,
@@ -67,17 +70,6 @@ fn function<'a>(
         arity: number_of(arity)?,
         clauses,
     })
-}
-
-/// A count as a number of 32 bits, or Memory where it does not fit.
-fn number_of(count: usize) -> Result<u32, ResolveStop>
-    ensures ok { IfOk result (λ n. n ≡ count) }
-    ensures memory { OnErr result (result ≡ Err Memory) }
-{
-    match u32::try_from(count) {
-        Ok(number) => Ok(number),
-        Err(_) => Err(ResolveStop::Memory),
-    }
 }
 
 /// How many products the type begins with.
@@ -145,13 +137,30 @@ fn clause(
 {
     let pats = given.pats.as_slice();
     let count = check_head(alloc, own, allowed, pats.len(), &given.head)?;
-    let mut names = Items::new(alloc);
-    add_variables(alloc, known.sig, pats, &mut names)?;
-    let binds = number_of(names.as_slice().len())?;
-    let scope = Scope::Given(names.as_slice());
+    let mut names = Variables::new(alloc);
+    add_variables(known.sig, pats, &mut names)?;
+    clause_over(alloc, known, own, &names, count, pats, &given.right)
+}
+
+/// The clause with the variables, so many patterns and the right side.
+#[cycle(clause)]
+fn clause_over(
+    alloc: Global,
+    known: &Symbols,
+    own: &Name,
+    names: &Variables,
+    count: usize,
+    pats: &[SurfPat],
+    right: &SurfRight,
+) -> Result<Clause, ResolveStop>
+    requires { count + 1 < 2 ^ 64 }
+    ensures { Gives clause_of result (and_then (pattern.patterns known.now.sig.now (known_of known.now) (scope_of names.now) [] (surf.pats (map written.pat_of pats.now))) (λ qs. and_then (spec.right_side known.now.sig.now (known_of known.now) own.now (scope_of names.now) count (written.right_of right.now)) (λ r. Ok (core.Is qs (length names.now) r)))) }
+{
+    let binds = number_of(names.len())?;
+    let scope = Scope::Given(names);
     let mut before = NameSet::new(alloc);
     let pats = patterns(alloc, known, &scope, &mut before, pats)?;
-    let right = right_side(alloc, known, own, &scope, count, &given.right)?;
+    let right = right_side(alloc, known, own, &scope, count, right)?;
     Ok(Clause { pats, binds, right })
 }
 

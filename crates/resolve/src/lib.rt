@@ -4,17 +4,17 @@
 mod binders;
 mod constructors;
 mod families;
+mod forming;
 mod fun_core;
 mod functions;
 mod laws;
-mod low;
-mod name_set;
 mod names;
 mod patterns;
 mod scope;
 mod stop;
 mod symbols;
 mod terms;
+mod variables;
 
 pub use families::resolve_data;
 pub use fun_core::FunCore;

@@ -10,13 +10,12 @@ ghost use Rattle.resolve.specs.declared.stop.ResolveStop.TheVariants.{Memory};
 
 use crate::ResolveStop;
 use crate::constructors::{Constructor, find_constructor};
-use crate::name_set::NameSet;
-use crate::names::copy_name;
 use crate::scope::Scope;
 use crate::symbols::Symbols;
 use crate::terms::resolve;
-use core_sig::Signature;
-use core_terms::{Items, Name, Pat};
+use crate::variables::Variables;
+use core_sig::{NameSet, Signature};
+use core_terms::{Items, Pat, copy_name};
 use std::alloc::Global;
 use surface_syntax::{SurfPat, Word};
 
@@ -30,17 +29,16 @@ fn count(pats: &[SurfPat]) -> usize
 
 /// Adds the name where, with so many arguments, it is a variable.
 fn add_variable(
-    alloc: Global,
     sig: &Signature,
     arguments: usize,
     x: &Word,
-    names: &mut Items<Name>,
+    names: &mut Variables,
 ) -> Result<(), ResolveStop>
     ensures names { OnOk result (names.new ≡ names.old ++ spec.variable arguments x.now (spec.constructor sig.now x.now.text)) }
     ensures memory { OnErr result (result ≡ Err Memory) }
 {
     if find_constructor(sig, &x.text).is_none() && arguments == 0 {
-        names.push(copy_name(alloc, &x.text)?)?;
+        names.push(&x.text)?;
     }
     Ok(())
 }
@@ -48,19 +46,18 @@ fn add_variable(
 /// Adds the variables that the pattern binds, in the order of the text.
 #[cycle(variables)]
 fn add_variables_of(
-    alloc: Global,
     sig: &Signature,
     pat: &SurfPat,
-    names: &mut Items<Name>,
+    names: &mut Variables,
 ) -> Result<(), ResolveStop>
     ensures names { OnOk result (names.new ≡ names.old ++ spec.bound sig.now (written.pat_of pat.now)) }
     ensures memory { OnErr result (result ≡ Err Memory) }
 {
     match pat {
-        SurfPat::Named(x) => add_variable(alloc, sig, 0, x, names),
+        SurfPat::Named(x) => add_variable(sig, 0, x, names),
         SurfPat::Con(x, args) => {
-            add_variable(alloc, sig, count(args.as_slice()), x, names)?;
-            add_variables(alloc, sig, args.as_slice(), names)
+            add_variable(sig, count(args.as_slice()), x, names)?;
+            add_variables(sig, args.as_slice(), names)
         }
         SurfPat::Wild => Ok(()),
         SurfPat::Dot(_) => Ok(()),
@@ -71,16 +68,15 @@ fn add_variables_of(
 /// Adds the variables that the patterns bind, in the order of the text.
 #[cycle(variables)]
 pub(crate) fn add_variables(
-    alloc: Global,
     sig: &Signature,
     pats: &[SurfPat],
-    names: &mut Items<Name>,
+    names: &mut Variables,
 ) -> Result<(), ResolveStop>
     ensures names { OnOk result (names.new ≡ names.old ++ spec.bound_all sig.now (surf.pats (map written.pat_of pats.now))) }
     ensures memory { OnErr result (result ≡ Err Memory) }
 {
     for pat in pats {
-        add_variables_of(alloc, sig, pat, names)?;
+        add_variables_of(sig, pat, names)?;
     }
     Ok(())
 }

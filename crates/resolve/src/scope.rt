@@ -6,13 +6,14 @@ ghost use Rattle.resolve.specs.Scopes.{names_of};
 
 use crate::ResolveStop;
 use crate::binders::Binders;
-use core_terms::Name;
+use crate::variables::Variables;
+use core_terms::{Name, number_of};
 
 /// The names of the binders around a term.
 #[derive(Drop)]
 pub(crate) enum Scope<'a> {
     /// The names that were given, from the outermost on.
-    Given(&'a [Name]),
+    Given(&'a Variables),
     /// A binder more, where `None` stands for `_`.
     Under(Option<&'a Name>, &'a Scope<'a>),
     /// The binders of a telescope more.
@@ -33,7 +34,7 @@ impl<'a> Scope<'a> {
                 further(outer.variable(name)?, 1)
             }
             Scope::Behind(binders, outer) => match binders.variable(name) {
-                Some(n) => number_of(n),
+                Some(n) => some_number(n),
                 None => further(outer.variable(name)?, binders.len()),
             },
         }
@@ -47,23 +48,12 @@ fn has_name(x: Option<&Name>, name: &[u8]) -> bool
     x.is_some_and(|other| other.as_slice() == name)
 }
 
-/// The place of the last of the names that is `name`, counted from the end.
-fn place_among(names: &[Name], name: &[u8]) -> Option<usize>
-    ensures { result ≡ position (λ other. bytes_eq other name.now) (reverse names.now) }
-{
-    names
-        .iter()
-        .rev()
-        .position(|other| other.as_slice() == name)
-}
-
-/// The number of the variable that has the name, where the names are listed from the outermost on.
-#[tactic(auto, using(crate::proofs::Variables::variable_position))]
-fn variable_among(names: &[Name], name: &[u8]) -> Result<Option<u32>, ResolveStop>
+/// The number of the variable that has the name.
+fn variable_among(names: &Variables, name: &[u8]) -> Result<Option<u32>, ResolveStop>
     ensures { Gives (λ found. found) result (Ok (variable_of name.now (scope_of names.now))) }
 {
-    match place_among(names, name) {
-        Some(at) => number_of(at),
+    match names.variable(name) {
+        Some(at) => some_number(at),
         None => Ok(None),
     }
 }
@@ -74,7 +64,7 @@ fn further(found: Option<u32>, binders: usize) -> Result<Option<u32>, ResolveSto
 {
     match found {
         Some(n) => match binders.checked_add(n as usize) {
-            Some(at) => number_of(at),
+            Some(at) => some_number(at),
             None => Err(ResolveStop::Memory),
         },
         None => Ok(None),
@@ -82,11 +72,8 @@ fn further(found: Option<u32>, binders: usize) -> Result<Option<u32>, ResolveSto
 }
 
 /// The number of a variable that is there.
-fn number_of(at: usize) -> Result<Option<u32>, ResolveStop>
+fn some_number(at: usize) -> Result<Option<u32>, ResolveStop>
     ensures { Gives (λ found. found) result (Ok (Some at)) }
 {
-    match u32::try_from(at) {
-        Ok(number) => Ok(Some(number)),
-        Err(_) => Err(ResolveStop::Memory),
-    }
+    Ok(Some(number_of(at)?))
 }

@@ -5,7 +5,8 @@ ghost use Rattle.surface_syntax.specs.Trees as surf;
 ghost use Rattle.surface_syntax.specs.TreeMeanings.{surf_of, binder_of};
 ghost use Rattle.resolve.specs.Answers.{Gives};
 ghost use Rattle.resolve.specs.Binding.{IsBound, closed};
-ghost use Rattle.resolve.specs.Low.{low_of, former};
+ghost use Rattle.core_terms.specs.Low.{low_of};
+ghost use Rattle.resolve.specs.Forms.{former};
 ghost use Rattle.resolve.specs.Names.{named};
 ghost use Rattle.resolve.specs.Resolving as spec;
 ghost use Rattle.resolve.specs.Scoping.{IsResolved};
@@ -13,12 +14,12 @@ ghost use Rattle.resolve.specs.Scopes.{names_of, known_of};
 
 use crate::ResolveStop;
 use crate::binders::Binders;
-use crate::low::{Form, Low};
-use crate::names::copy_name;
+use crate::forming::{Form, application, binding, local};
 use crate::scope::Scope;
 use crate::symbols::{Own, Symbols};
+use crate::variables::named_variables;
 use core_sig::Signature;
-use core_terms::{Items, Name, Term};
+use core_terms::{Items, Low, Name, Term, copy_name};
 use std::alloc::Global;
 use surface_syntax::{Binder, Surf, Word};
 
@@ -36,7 +37,8 @@ pub fn resolve_term(
         sig,
         own: Own::Unnamed,
     };
-    let low = resolve(alloc, &known, t, &Scope::Given(scope.as_slice()))?;
+    let variables = named_variables(alloc, scope.as_slice())?;
+    let low = resolve(alloc, &known, t, &Scope::Given(&variables))?;
     Ok(low.term)
 }
 
@@ -56,7 +58,7 @@ pub(crate) fn resolve(
         Surf::Arrow(a, b) => {
             let domain = resolve(alloc, known, a, scope)?;
             let codomain = resolve(alloc, known, b, &Scope::Under(None, &*scope))?;
-            Low::binding(alloc, Form::Pi, domain, codomain)
+            binding(alloc, Form::Pi, domain, codomain)
         }
         Surf::App(f, args) => {
             let f = resolve(alloc, known, f, scope)?;
@@ -66,7 +68,7 @@ pub(crate) fn resolve(
             let ty = resolve(alloc, known, ty, scope)?;
             let value = resolve(alloc, known, value, scope)?;
             let body = resolve(alloc, known, body, &Scope::Under(Some(&x.text), &*scope))?;
-            Low::local(alloc, ty, value, body)
+            local(alloc, ty, value, body)
         }
         Surf::Sort(i) => Ok(Low::leaf(Term::Sort(*i))),
         Surf::Named(x) => named(alloc, known, x, scope),
@@ -86,7 +88,7 @@ fn applied(
 {
     let mut made = f;
     for arg in args {
-        made = Low::app(alloc, made, resolve(alloc, known, arg, scope)?)?;
+        made = application(alloc, made, resolve(alloc, known, arg, scope)?)?;
     }
     Ok(made)
 }
@@ -140,7 +142,7 @@ fn bind(alloc: Global, form: Form, types: Vec<Low>, inner: Low) -> Result<Low, R
     let mut types = types;
     let mut made = inner;
     while let Some(ty) = types.pop() {
-        made = Low::binding(alloc, form, ty, made)?;
+        made = binding(alloc, form, ty, made)?;
     }
     Ok(made)
 }

@@ -14,10 +14,13 @@ invariant-clauses-loop-given l =
     ≡ ahead_clauses (map clause_of l.resolved) (spec.clauses l.known.sig.now (known_of l.known) l.own l.allowed (surf.clauses (map written.clause_of (drop l.given-index l.list))))
 
 abbrev pub decreases-clause : goal.decreases-clause
-decreases-clause l = 2 * size_clause (written.clause_of l.given.now)
+decreases-clause l = 3 * size_clause (written.clause_of l.given.now)
+
+abbrev pub decreases-clause_over : goal.decreases-clause_over
+decreases-clause_over l = 3 * size_right (written.right_of l.right.now) + 2
 
 abbrev pub decreases-right_side : goal.decreases-right_side
-decreases-right_side l = 2 * size_right (written.right_of l.right.now) + 1
+decreases-right_side l = 3 * size_right (written.right_of l.right.now) + 1
 
 abbrev pub decreases-clauses : goal.decreases-clauses
-decreases-clauses l = 2 * size_clauses (surf.clauses (map written.clause_of l.list.now)) + 1
+decreases-clauses l = 3 * size_clauses (surf.clauses (map written.clause_of l.list.now)) + 1

@@ -3,7 +3,8 @@ use Rattle.std.proofs.lemmas.Result.{err_from_is_err_and}
 use Rattle.surface_syntax.specs.Trees as surf
 use Rattle.surface_syntax.specs.TreeMeanings.{surf_of, binder_of}
 use Rattle.resolve.specs.Binding.{closed}
-use Rattle.resolve.specs.Low.{low_of, former}
+use Rattle.core_terms.specs.Low.{low_of}
+use Rattle.resolve.specs.Forms.{former}
 use Rattle.resolve.specs.Resolving.{group, resolve, telescope}
 use Rattle.resolve.specs.Scopes.{names_of, known_of}
 use Rattle.resolve.proofs.Bound.{closed_stop, group_done, group_step, group_stop}

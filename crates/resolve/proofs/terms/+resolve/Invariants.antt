@@ -2,7 +2,8 @@ use Rattle.std.proofs.Common.{◌≡◌, ◌+◌, ◌*◌, ◌++◌, map, drop, 
 use Rattle.surface_syntax.specs.Trees as surf
 use Rattle.surface_syntax.specs.TreeMeanings.{surf_of, binder_of}
 use Rattle.resolve.specs.Binding.{closed}
-use Rattle.resolve.specs.Low.{former, low_of}
+use Rattle.core_terms.specs.Low.{low_of}
+use Rattle.resolve.specs.Forms.{former}
 use Rattle.resolve.specs.Names.{Scope}
 use Rattle.resolve.specs.Resolving as spec
 use Rattle.resolve.specs.Scopes.{names_of, known_of}

@@ -1,6 +1,6 @@
 use Rattle.std.proofs.Common.{sym, ◌∙◌}
 use Rattle.std.proofs.lemmas.Result.{err_from_is_err_and}
-use Rattle.resolve.specs.Low.{former}
+use Rattle.resolve.specs.Forms.{former}
 use Rattle.resolve.proofs.Bound.{bind_step, bind_stop}
 use Rattle.resolve.proofs.terms.bind.Goals as goal
 

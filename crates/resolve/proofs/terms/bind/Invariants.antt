@@ -1,6 +1,7 @@
 use Rattle.std.proofs.Common.{◌≡◌, Ok, map, length}
 use Rattle.resolve.specs.Binding.{closed}
-use Rattle.resolve.specs.Low.{low_of, former}
+use Rattle.core_terms.specs.Low.{low_of}
+use Rattle.resolve.specs.Forms.{former}
 use Rattle.resolve.proofs.terms.bind.Given as goal
 
 abbrev pub invariant-loop-ty : goal.invariant-loop-ty

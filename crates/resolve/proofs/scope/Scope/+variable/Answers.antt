@@ -10,9 +10,9 @@ returns-in-Some t c =
     let name = c.args.name.now in
     let near = c.in-Behind.binders.now in
     let far = names_of c.in-Behind.outer.now in
-    subst (λ r. Gives (λ found. found) c.number_of.result (Ok r))
+    subst (λ r. Gives (λ found. found) c.some_number.result (Ok r))
     (sym (ap (λ s. variable_of name (names_of s)) c.in-Behind.is ∙ variable-near name near far c.in-Some.n (sym c.variable-in-Behind.ensures ∙ c.in-Some.is)))
-    c.number_of.ensures
+    c.some_number.ensures
 
 pub returns-in_ok-variable-in-None : goal.returns-in_ok-variable-in-None
 returns-in_ok-variable-in-None t c =
