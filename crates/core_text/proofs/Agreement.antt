@@ -89,12 +89,6 @@ alike-same ahead f g same alike = record {
   told = λ rest. subst (Told ahead g rest) (same rest) (told-same ahead f g rest (f rest) same (alike.told rest));
 }
 
-pub told-ahead : {A : Type 0} (f : List ℕ → Reading A) (rest : List ℕ) (m : Reading A) → Told false f rest m → Told true f rest m
-told-ahead f rest (Ok p) t = record { front = t.front; is = t.is; again = λ y same. t.again y (λ no. absurd (cc)) }
-told-ahead f rest (Err (Wrong left)) t = t
-told-ahead f rest (Err (Nested left)) t = tt
-told-ahead f rest (Err Memory) t = tt
-
 -- no more bytes are left than there were
 pub told-within : {A : Type 0} (ahead : Bool) (f : List ℕ → Reading A) (rest : List ℕ) (a : A) (r : List ℕ) → Passed ahead f rest a r → length r ≤ length rest
 told-within ahead f rest a r t = omega (arith, ap length t.is, length-append t.front r)

@@ -21,7 +21,3 @@ collected_more next k found rest a end some is =
 pub collected_end : {A : Type 0} (next : List A → List ℕ → Reading (Option A)) (k : ℕ) (found : List A) (rest end : List ℕ) → 0 < k → Ok (None, end) ≡ next found rest → Ok (found, end) ≡ collected next k found rest
 collected_end next k found rest end some is =
     ap (λ m. and_then m (behind_item (collected next (k - 1)) found)) is ∙ collected_step next k found rest some
-
-pub collected_none : {A : Type 0} (next : List A → List ℕ → Reading (Option A)) (k : ℕ) (found : List A) (rest : List ℕ) → k ≡ 0 → Err (Wrong (length rest)) ≡ collected next k found rest
-collected_none next zero found rest none = refl
-collected_none next (suc k) found rest none = absurd (omega (arith, none))

@@ -115,13 +115,6 @@ meets-ensures P Q V whole (Err (Wrong left)) so h = h
 meets-ensures P Q V whole (Err Memory) so h = tt
 meets-ensures P Q V whole (Err (Nested left)) so h = h
 
--- the same reading, with a text before it
-pub meets-behind : {A : Type 0} (P Q : A → List ℕ → Type 0) (U V : List ℕ → Type 0) (text rest whole : List ℕ) (m : Reading A) → whole ≡ text ++ rest → ((x : List ℕ) → U x → IsFront V (text ++ x)) → ((a : A) (r : List ℕ) → P a r → Q a r) → Meets P U rest m → Meets Q V whole m
-meets-behind P Q U V text rest whole (Ok p) at over k h = k p.0 p.1 h
-meets-behind P Q U V text rest whole (Err (Wrong left)) at over k h = begun-behind U V text rest whole left at over h
-meets-behind P Q U V text rest whole (Err Memory) at over k h = tt
-meets-behind P Q U V text rest whole (Err (Nested left)) at over k h = begun-behind U V text rest whole left at over h
-
 -- A part is read behind a text, and then more. Where the part is wrong, its text is one with the property U, and behind `text`
 -- that is the front of one with the property V.
 pub meets-then : {A B : Type 0} (P : A → List ℕ → Type 0) (Q : B → List ℕ → Type 0) (U V : List ℕ → Type 0) (text rest whole : List ℕ) (m : Reading A) (next : A → List ℕ → Reading B) → whole ≡ text ++ rest → ((x : List ℕ) → U x → IsFront V (text ++ x)) → Meets P U rest m → ((a : A) (r : List ℕ) → P a r → Meets Q V whole (next a r)) → Meets Q V whole (and_then m next)

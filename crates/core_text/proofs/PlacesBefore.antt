@@ -78,9 +78,6 @@ abbrev IsUnfinished : Bool → List ℕ → Type 0
 IsUnfinished false rest = Unfinished rest
 IsUnfinished true rest = UnfinishedInside rest
 
-abbrev wrong-is : Halt → Halt → Type 0
-wrong-is e f = ◌≡◌ {A = Halt} e f
-
 halt-is : {A : Type 0} {e f : Halt} → ◌≡◌ {A = Result A Halt} (Err e) (Err f) → e ≡ f
 halt-is same = cc
 

@@ -181,17 +181,5 @@ left-of S text from p e = by (next_entry S (drop from text)) refl e
       refused = entry-refused S (drop from text) left is;
     }
 
-refused-within : (S : Signature) (rest : List ℕ) (left : ℕ) → EntryRefused S rest left → left ≤ length rest
-refused-within S rest left (refused_at front back is size refused) = omega (arith, ap length is, length-append front back)
-refused-within S rest left (no_record front back is size reads) = omega (arith, ap length is, length-append front back)
-
--- the place lies in the text, behind its first bytes
-pub place-within : (S : Signature) (text : List ℕ) (from p : ℕ) → from ≤ length text → entry_from S text from ≡ Err (NotCoreText p) → (from ≤ p) × (p ≤ length text)
-place-within S text from p le e =
-    let l = left-of S text from p e in
-    let few = refused-within S (drop from text) l.left l.refused in
-    let place = l.place in
-    (omega (arith, length-drop from text), omega arith)
-
 pub places-told : (S : Signature) (text : List ℕ) (from p : ℕ) → from ≤ length text → entry_from S text from ≡ Err (NotCoreText p) → from ≤ p → p ≤ length text → IsWrongCharacter S text from p ⊎ IsWrongName S text from p ⊎ ReadsNoRecord S (drop p text)
 places-told S text from p le e behind within = let l = left-of S text from p e in place-told S text from p le within l.left l.place l.refused

@@ -182,10 +182,6 @@ shows-record n f raw level b params indices ends tests =
     counted : length f.indices ≡ length (domains_of (tree_of raw.ty))
     counted = sym (length-map f.indices (λ a. tree_of a.ty)) ∙ ap length (types-read f.indices (domains_of (tree_of raw.ty)) indices)
 
-pub no-level : (n : ℕ) (raw : RawFamilyOfCode) → end_level (tree_of raw.ty) ≡ None → shows_record n (raw_of raw) ≡ false
-no-level n raw ends =
-    ap (λ o. is_some o && list_all (λ c. ends_in_family n (length (tele_of raw.params)) (length (domains_of (tree_of raw.ty))) 0 c.type) (map raw_constructor_of raw.cons)) ends
-
 -- ---- levels
 
 level_of-argument : (p : ℕ) (t : Term) (level : ℕ) (kind : ArgKind) → level_of (argument_with p t level kind) ≡ level

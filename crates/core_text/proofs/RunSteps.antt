@@ -32,9 +32,6 @@ pub run_end : (bytes : List ℕ) → name_char_len bytes ≡ 0 → run_len bytes
 run_end [] is = refl
 run_end (b ∷ bytes) is = rw is refl
 
-pub run_past : (bytes : List ℕ) (n : ℕ) → length bytes ≤ n → run_len (drop n bytes) ≡ 0
-run_past bytes n past = ap run_len (drop_all n bytes past)
-
 -- what was taken stands before the rest
 pub taken-front : (k : ℕ) (xs : List ℕ) → xs ≡ take k xs ++ drop (length (take k xs)) xs
 taken-front zero xs = refl

@@ -1,6 +1,7 @@
 -- Reading the next entry of a core file, with offsets.
-use Rattle.std.specs.Prelude.{◌≡◌, ◌≢◌, ℕ, ◌-◌, ◌==◌, Bool, true, false, not, if◌then◌else◌, List, [], ◌∷◌, length, drop, Option, Some, None, option_map, Result, Ok, Err}
+use Rattle.std.specs.Prelude.{◌≡◌, ℕ, ◌-◌, ◌==◌, Bool, true, false, not, if◌then◌else◌, List, [], ◌∷◌, length, drop, Option, Some, None, option_map, Result, Ok, Err}
 use Rattle.theory.specs.Signatures.{Signature}
+use Rattle.core_terms.specs.Answers.{GivesUnless}
 use Rattle.core_sig.specs.Meanings.{entry_of}
 use Rattle.core_sig.specs.declared.entry.Entry.{Entry}
 use Rattle.core_text.specs.LineReading.{line_at}
@@ -56,7 +57,10 @@ entry_from S text from = with_offset (length text) (next_entry S (drop from text
 abbrev pub shown_with : ℕ → Entry × ℕ → RawEntry × ℕ
 shown_with n p = (entry_shown n (entry_of p.0), p.1)
 
+-- the refusals that nothing rules out: want of memory alone
+abbrev pub IsUnforeseen : CoreTextStop → Type 0
+IsUnforeseen e = e ≡ Memory
+
 -- the answer of the code shows what is read, unless memory ran out
 abbrev pub ReadsEntry : ℕ → Result (Option (Entry × ℕ)) CoreTextStop → Result (Option (RawEntry × ℕ)) CoreTextStop → Type 0
-ReadsEntry n (Ok o) meant = Ok (option_map (shown_with n) o) ≡ meant
-ReadsEntry n (Err e) meant = e ≢ Memory → Err e ≡ meant
+ReadsEntry n result meant = GivesUnless IsUnforeseen (option_map (shown_with n)) result meant

@@ -7,16 +7,11 @@ use Rattle.core_text.specs.RawEntries.{RawEntry, RawFamilyOf, RawEliminator, Raw
 use Rattle.core_text.specs.declared.line.Line.{Line}
 use Rattle.core_text.specs.declared.line.Line.TheVariants.{Family, Elim, AxiomK, Def}
 use Rattle.core_text.specs.SymbolLookup.{symbol}
-use Rattle.core_text.specs.declared.measured.Measured.{Measured}
 use Rattle.core_text.specs.declared.scope.Scope.{Scope}
 
 -- what names stand for where the reader is
 abbrev pub look_of : Scope → List ℕ → Option tree.Term
 look_of scope name = symbol scope.sig.now scope.own.now name
-
--- a term without the height that goes with it
-abbrev pub measured_of : Measured → tree.Term
-measured_of m = tree_of m.term
 
 abbrev pub line_of : Line → RawEntry
 line_of (Family f) = RawFamilyOf (raw_of f)

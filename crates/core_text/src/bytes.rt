@@ -32,14 +32,3 @@ pub(crate) fn write_number(out: &mut Vec<u8>, n: u64) -> Result<(), Stop>
     out.push(b'0' + (n % 10) as u8)?;
     Ok(())
 }
-
-/// A length as a number of 32 bits, or Memory where it does not fit.
-pub(crate) fn number_of(len: usize) -> Result<u32, Stop>
-    ensures ok { IfOk result (λ n. n ≡ len) }
-    ensures memory { OnErr result (result ≡ Err Memory) }
-{
-    match u32::try_from(len) {
-        Ok(number) => Ok(number),
-        Err(_) => Err(Stop::Memory),
-    }
-}

@@ -10,13 +10,13 @@ ghost use Rattle.core_sig.specs.Meanings.{constructor_of, entry_of, family_of};
 ghost use Rattle.core_text.specs.EntryText.{constructor_type_shown, constructors_text, entry_line, entry_text, family_text, type_shown};
 ghost use Rattle.core_text.specs.TermText.{term_text};
 
-use crate::bytes::{number_of, write, write_numbered};
+use crate::bytes::{write, write_numbered};
 use crate::names::name_at;
 use crate::spines::{write_spaced, write_variables};
 use crate::telescopes::{close_products, open_products, write_parameters};
 use crate::term_printer::write_term;
 use core_sig::{Constructor, Entry, Family, Signature};
-use core_terms::{Items, Stop};
+use core_terms::{Items, Stop, number_of};
 use std::alloc::Global;
 
 /// The line of an entry, with the line feed that ends it. Memory is also answered where a constructor has more

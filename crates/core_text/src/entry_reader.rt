@@ -8,10 +8,11 @@ ghost use Rattle.core_text.specs.EntryReading.{ReadsEntry, entry_from};
 ghost use Rattle.core_text.specs.LineReading.{line_at};
 ghost use Rattle.core_text.specs.RawEntries.{entry_shown};
 ghost use Rattle.core_text.specs.ReadLaws.{IsReadEntry};
-ghost use Rattle.core_text.specs.Reading.{Behind, Reads};
+ghost use Rattle.core_text.specs.Reading.{Behind, IsUnforeseen, Reads};
 ghost use Rattle.core_text.specs.Records.{HasEntryLevelsZero};
 ghost use Rattle.core_text.specs.Scopes.{line_of};
-ghost use Rattle.core_text.specs.declared.halt.Halt.TheVariants.{Memory, Wrong};
+ghost use Rattle.core_terms.specs.Answers.{Unless};
+ghost use Rattle.core_text.specs.declared.halt.Halt.TheVariants.{Wrong};
 
 use crate::CoreTextStop;
 use crate::halt::Halt;
@@ -116,7 +117,7 @@ fn shown_entry(scope: &Scope, line: Line, start: usize) -> Result<Entry, Halt>
     ensures shown { IfOk result (λ e. entry_shown (length scope.now.sig.now.entries) (entry_of e) ≡ line_of line) }
     ensures kinds { IfOk result (HasEntryKinds (length scope.now.sig.now.entries)) }
     ensures levels { IfOk result (λ e. HasEntryLevelsZero (entry_of e)) }
-    ensures err { IfErr result (λ e. e ≢ Memory → (e ≡ Wrong start) × (spec.shows_entry (length scope.now.sig.now.entries) (line_of line) ≡ false)) }
+    ensures err { IfErr result (λ e. Unless (IsUnforeseen e) ((e ≡ Wrong start) × (spec.shows_entry (length scope.now.sig.now.entries) (line_of line) ≡ false))) }
 {
     match line {
         Line::Family(raw) => {

@@ -13,7 +13,6 @@ mod laws;
 mod line;
 mod line_reader;
 mod lookup;
-mod measured;
 mod names;
 mod records;
 mod runs;

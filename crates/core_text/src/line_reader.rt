@@ -3,7 +3,7 @@ ghost use Rattle.core_terms.specs.Meanings.{tree_of, tele_of};
 ghost use Rattle.core_sig.specs.Raw.{raw_constructor_of};
 ghost use Rattle.core_text.specs.LineReading as spec;
 ghost use Rattle.core_text.specs.Reading.{Reads};
-ghost use Rattle.core_text.specs.Scopes.{measured_of, line_of};
+ghost use Rattle.core_text.specs.Scopes.{line_of};
 ghost use Rattle.core_text.specs.declared.halt.Halt.TheVariants.{Memory};
 
 use crate::data_reader::read_family;

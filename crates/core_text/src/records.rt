@@ -1,4 +1,4 @@
-ghost use Rattle.std.specs.Prelude.{◌≡◌, ◌≢◌, ◌<◌, ◌+◌, ◌++◌, ◌^◌, ℕ, true, false, map, length, All, IfOk, IfErr, OnOk, OnErr};
+ghost use Rattle.std.specs.Prelude.{◌≡◌, ◌<◌, ◌+◌, ◌++◌, ◌^◌, ℕ, true, false, map, length, All, IfOk, IfErr, OnOk, OnErr};
 ghost use Rattle.std.specs.List.{list_all};
 ghost use Rattle.theory.specs.Telescopes.{applied};
 ghost use Rattle.theory.specs.Terms as tree;
@@ -10,6 +10,8 @@ ghost use Rattle.core_sig.specs.Raw.{raw_constructor_of, raw_of};
 ghost use Rattle.core_sig.specs.declared.family.ArgKind.TheVariants.{Plain};
 ghost use Rattle.core_text.specs.RawEntries as spec;
 ghost use Rattle.core_text.specs.Records.{HasLevelsZero, with_level_zero, constructor_shown, typed};
+ghost use Rattle.core_terms.specs.Answers.{Unless};
+ghost use Rattle.core_text.specs.Reading.{IsUnforeseen};
 ghost use Rattle.core_text.specs.declared.halt.Halt.TheVariants.{Memory, Wrong};
 
 use crate::halt::Halt;
@@ -221,7 +223,7 @@ pub(crate) fn family_record(
     ensures shown { IfOk result (λ f. spec.family_shown n (family_of f) ≡ raw_of raw) }
     ensures kinds { IfOk result (HasKinds n) }
     ensures levels { IfOk result (λ f. HasLevelsZero (family_of f)) }
-    ensures err { IfErr result (λ e. e ≢ Memory → (e ≡ Wrong line) × (spec.shows_record n (raw_of raw) ≡ false)) }
+    ensures err { IfErr result (λ e. Unless (IsUnforeseen e) ((e ≡ Wrong line) × (spec.shows_record n (raw_of raw) ≡ false))) }
 {
     let RawFamily {
         name,

@@ -1,36 +1,36 @@
 ghost use Rattle.std.specs.Prelude.{◌≡◌, ◌+◌, ◌<◌, ◌^◌};
+ghost use Rattle.core_terms.specs.Low.{low_of};
 ghost use Rattle.core_terms.specs.Meanings.{tree_of};
 ghost use Rattle.theory.specs.Terms as tree;
 ghost use Rattle.core_text.specs.NameRuns.{run_len};
 ghost use Rattle.core_text.specs.Reading.{Reads};
-ghost use Rattle.core_text.specs.Scopes.{look_of, measured_of};
+ghost use Rattle.core_text.specs.Scopes.{look_of};
 ghost use Rattle.core_text.specs.TermReading as spec;
 
 use crate::halt::Halt;
 use crate::lookup::symbol;
-use crate::measured::{Measured, application, function, leaf, let_in, product};
 use crate::runs::run_len;
 use crate::scanning::{begins, behind, first, read_index, read_level, skip};
 use crate::scope::Scope;
-use core_terms::{MAX_HEIGHT, Term};
+use core_terms::{Low, MAX_HEIGHT, Term};
 
 const SORT_LEVELS: [bool; 16] = [true; 16];
 
 /// The term, where it is not too high.
-fn limited(term: Term, height: u32, rest: &[u8]) -> Result<(Measured, &[u8]), Halt>
+fn limited(term: Term, height: u32, rest: &[u8]) -> Result<(Low, &[u8]), Halt>
     requires { height ≡ tree.height (tree_of term) }
-    ensures { Reads measured_of result (spec.limited (tree_of term) rest.now) }
+    ensures { Reads low_of result (spec.limited (tree_of term) rest.now) }
 {
     if height > MAX_HEIGHT {
         return Err(Halt::Nested(rest.len()));
     }
-    Ok((Measured { term, height }, rest))
+    Ok((Low { term, height }, rest))
 }
 
 /// The term and the parenthesis that closes it.
-fn close(term: Term, height: u32, rest: &[u8]) -> Result<(Measured, &[u8]), Halt>
+fn close(term: Term, height: u32, rest: &[u8]) -> Result<(Low, &[u8]), Halt>
     requires { height ≡ tree.height (tree_of term) }
-    ensures { Reads measured_of result (spec.closed_by (tree_of term) rest.now) }
+    ensures { Reads low_of result (spec.closed_by (tree_of term) rest.now) }
 {
     limited(term, height, behind(b")", rest)?)
 }
@@ -45,26 +45,26 @@ fn is_application(t: &Term) -> bool
     }
 }
 
-fn read_variable(under: u32, rest: &[u8]) -> Result<(Measured, &[u8]), Halt>
-    ensures { Reads measured_of result (spec.variable_at under rest.now) }
+fn read_variable(under: u32, rest: &[u8]) -> Result<(Low, &[u8]), Halt>
+    ensures { Reads low_of result (spec.variable_at under rest.now) }
 {
     if under == 0 {
         return Err(Halt::Wrong(rest.len()));
     }
     let (index, rest) = read_index(under, skip(rest, 1))?;
-    Ok((leaf(Term::Var(index)), rest))
+    Ok((Low::leaf(Term::Var(index)), rest))
 }
 
-fn read_sort(rest: &[u8]) -> Result<(Measured, &[u8]), Halt>
-    ensures { Reads measured_of result (spec.sort_at rest.now) }
+fn read_sort(rest: &[u8]) -> Result<(Low, &[u8]), Halt>
+    ensures { Reads low_of result (spec.sort_at rest.now) }
 {
     let (level, rest) = read_level(&SORT_LEVELS, behind(b" ", rest)?)?;
-    Ok((leaf(Term::Sort(level)), rest))
+    Ok((Low::leaf(Term::Sort(level)), rest))
 }
 
 /// A sort or a symbol.
-fn read_named<'t>(scope: &Scope, rest: &'t [u8]) -> Result<(Measured, &'t [u8]), Halt>
-    ensures { Reads measured_of result (spec.named (look_of scope.now) (run_len rest.now) rest.now) }
+fn read_named<'t>(scope: &Scope, rest: &'t [u8]) -> Result<(Low, &'t [u8]), Halt>
+    ensures { Reads low_of result (spec.named (look_of scope.now) (run_len rest.now) rest.now) }
 {
     let len = run_len(rest);
     let name = &rest[..len];
@@ -73,7 +73,7 @@ fn read_named<'t>(scope: &Scope, rest: &'t [u8]) -> Result<(Measured, &'t [u8]),
         return read_sort(more);
     }
     match symbol(scope, name) {
-        Some(term) => Ok((leaf(term), more)),
+        Some(term) => Ok((Low::leaf(term), more)),
         None => Err(Halt::Wrong(rest.len())),
     }
 }
@@ -85,9 +85,9 @@ pub(crate) fn read_term<'t>(
     under: u32,
     room: u32,
     rest: &'t [u8],
-) -> Result<(Measured, &'t [u8]), Halt>
+) -> Result<(Low, &'t [u8]), Halt>
     requires { under + room < 2 ^ 32 }
-    ensures { Reads measured_of result (spec.read_term (look_of scope.now) room under rest.now) }
+    ensures { Reads low_of result (spec.read_term (look_of scope.now) room under rest.now) }
 {
     if room == 0 {
         return Err(Halt::Nested(rest.len()));
@@ -109,9 +109,9 @@ pub(crate) fn read_after<'t>(
     under: u32,
     room: u32,
     rest: &'t [u8],
-) -> Result<(Measured, &'t [u8]), Halt>
+) -> Result<(Low, &'t [u8]), Halt>
     requires { under + room < 2 ^ 32 }
-    ensures { Reads measured_of result (spec.term_after (spec.read_term (look_of scope.now) room) word.now under rest.now) }
+    ensures { Reads low_of result (spec.term_after (spec.read_term (look_of scope.now) room) word.now under rest.now) }
 {
     read_term(scope, under, room, behind(word, rest)?)
 }
@@ -123,9 +123,9 @@ fn read_enclosed<'t>(
     under: u32,
     room: u32,
     rest: &'t [u8],
-) -> Result<(Measured, &'t [u8]), Halt>
+) -> Result<(Low, &'t [u8]), Halt>
     requires { under + room + 1 < 2 ^ 32 }
-    ensures { Reads measured_of result (spec.enclosed_at (spec.read_term (look_of scope.now) room) under rest.now) }
+    ensures { Reads low_of result (spec.enclosed_at (spec.read_term (look_of scope.now) room) under rest.now) }
 {
     if first(rest) == b'\\' {
         read_function(scope, under, room, skip(rest, 1))
@@ -143,13 +143,13 @@ fn read_function<'t>(
     under: u32,
     room: u32,
     rest: &'t [u8],
-) -> Result<(Measured, &'t [u8]), Halt>
+) -> Result<(Low, &'t [u8]), Halt>
     requires { under + room + 1 < 2 ^ 32 }
-    ensures { Reads measured_of result (spec.function_at (spec.read_term (look_of scope.now) room) under rest.now) }
+    ensures { Reads low_of result (spec.function_at (spec.read_term (look_of scope.now) room) under rest.now) }
 {
     let (domain, rest) = read_term(scope, under, room, rest)?;
     let (body, rest) = read_after(scope, b" . ", under + 1, room, rest)?;
-    let (term, height) = function(scope.alloc, domain, body)?;
+    let (term, height) = Low::lam(scope.alloc, domain, body)?;
     close(term, height, rest)
 }
 
@@ -159,14 +159,14 @@ fn read_let<'t>(
     under: u32,
     room: u32,
     rest: &'t [u8],
-) -> Result<(Measured, &'t [u8]), Halt>
+) -> Result<(Low, &'t [u8]), Halt>
     requires { under + room + 1 < 2 ^ 32 }
-    ensures { Reads measured_of result (spec.let_at (spec.read_term (look_of scope.now) room) under rest.now) }
+    ensures { Reads low_of result (spec.let_at (spec.read_term (look_of scope.now) room) under rest.now) }
 {
     let (ty, rest) = read_term(scope, under, room, rest)?;
     let (value, rest) = read_after(scope, b" = ", under, room, rest)?;
     let (body, rest) = read_after(scope, b" . ", under + 1, room, rest)?;
-    let (term, height) = let_in(scope.alloc, ty, value, body)?;
+    let (term, height) = Low::local(scope.alloc, ty, value, body)?;
     close(term, height, rest)
 }
 
@@ -174,13 +174,13 @@ fn read_let<'t>(
 #[cycle(read_term)]
 fn read_behind_first<'t>(
     scope: &Scope,
-    head: Measured,
+    head: Low,
     under: u32,
     room: u32,
     rest: &'t [u8],
-) -> Result<(Measured, &'t [u8]), Halt>
+) -> Result<(Low, &'t [u8]), Halt>
     requires { under + room + 1 < 2 ^ 32 }
-    ensures { Reads measured_of result (spec.behind_first (spec.read_term (look_of scope.now) room) (tree_of head.term) under rest.now) }
+    ensures { Reads low_of result (spec.behind_first (spec.read_term (look_of scope.now) room) (tree_of head.term) under rest.now) }
 {
     let rest = behind(b" ", rest)?;
     if first(rest) == b'-' {
@@ -196,16 +196,16 @@ fn read_behind_first<'t>(
 #[cycle(read_term)]
 fn read_product<'t>(
     scope: &Scope,
-    domain: Measured,
+    domain: Low,
     under: u32,
     room: u32,
     rest: &'t [u8],
-) -> Result<(Measured, &'t [u8]), Halt>
+) -> Result<(Low, &'t [u8]), Halt>
     requires { under + room + 1 < 2 ^ 32 }
-    ensures { Reads measured_of result (spec.product_from (spec.read_term (look_of scope.now) room) (tree_of domain.term) under rest.now) }
+    ensures { Reads low_of result (spec.product_from (spec.read_term (look_of scope.now) room) (tree_of domain.term) under rest.now) }
 {
     let (codomain, rest) = read_after(scope, b"-> ", under + 1, room, rest)?;
-    let (term, height) = product(scope.alloc, domain, codomain)?;
+    let (term, height) = Low::pi(scope.alloc, domain, codomain)?;
     close(term, height, rest)
 }
 
@@ -213,13 +213,13 @@ fn read_product<'t>(
 #[cycle(read_term)]
 fn read_arguments<'t>(
     scope: &Scope,
-    head: Measured,
+    head: Low,
     under: u32,
     room: u32,
     from: &'t [u8],
-) -> Result<(Measured, &'t [u8]), Halt>
+) -> Result<(Low, &'t [u8]), Halt>
     requires { under + room + 1 < 2 ^ 32 }
-    ensures { Reads measured_of result (spec.arguments_from (spec.read_term (look_of scope.now) room) 2000 (tree_of head.term) under from.now) }
+    ensures { Reads low_of result (spec.arguments_from (spec.read_term (look_of scope.now) room) 2000 (tree_of head.term) under from.now) }
 {
     let mut whole = head;
     let mut rest = from;
@@ -240,15 +240,15 @@ fn read_arguments<'t>(
 #[cycle(read_term)]
 fn read_argument<'t>(
     scope: &Scope,
-    head: Measured,
+    head: Low,
     under: u32,
     room: u32,
     rest: &'t [u8],
-) -> Result<(Measured, &'t [u8]), Halt>
+) -> Result<(Low, &'t [u8]), Halt>
     requires { under + room + 1 < 2 ^ 32 }
-    ensures { Reads measured_of result (spec.argument_of (spec.read_term (look_of scope.now) room) (tree_of head.term) under rest.now) }
+    ensures { Reads low_of result (spec.argument_of (spec.read_term (look_of scope.now) room) (tree_of head.term) under rest.now) }
 {
     let (argument, rest) = read_term(scope, under, room, rest)?;
-    let (term, height) = application(scope.alloc, head, argument)?;
+    let (term, height) = Low::app(scope.alloc, head, argument)?;
     limited(term, height, rest)
 }

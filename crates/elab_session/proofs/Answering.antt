@@ -18,11 +18,6 @@ use Rattle.elab_session.specs.declared.accepted.Accepted.{Accepted}
 use Rattle.elab_session.specs.declared.refusal.Refusal.{Refusal}
 use Rattle.elab_session.specs.declared.refusal.Refusal.TheVariants.{Memory}
 
--- an entry entered,
-pub enters : (S T : Signature) (x : Word) (refusal : pure.FamilyStop → Refusal) (n left : ℕ) (meant : Outcome Entered) (a : Accepted)
-    → ended (Ok (entered_at T n)) left ≡ meant → declared_in T a ≡ accepted_as x.text S T → Ok (declared_in T a) ≡ on_entered S x refusal meant.0
-enters S T x refusal n left meant a is same = transport (λ m. Ok (declared_in T a) ≡ on_entered S x refusal m.0) is (ap Ok same)
-
 -- or was refused
 pub refuses : (S : Signature) (x : Word) (over : Site → Signature) (names : List (List ℕ)) (fuel left : ℕ) (s : FamilyStop) (r : Refusal) (meant : Outcome Entered)
     → (s ≢ Stop memory.Memory → ended (Err (stop_of s)) left ≡ meant) → (r ≢ Memory → r ≡ unentered over names x fuel (stop_of s))

@@ -7,7 +7,7 @@ use Rattle.family_check.specs.Entering.{Entered, instance_of}
 use Rattle.family_check.specs.Outcomes.{FamilyStop}
 use Rattle.family_check.specs.Scopes.{IsSettled}
 use Rattle.family_check.proofs.Extending.{axiom_k-extends, declare-extends, define-extends, instance-extends}
-use Rattle.family_check.proofs.Outcomes.{Ends}
+use Rattle.core_terms.proofs.Answers.{Answers}
 use Rattle.family_check.proofs.PreludeEntries.{equality-there}
 use Rattle.family_check.proofs.ScopedEntering.{axiom_k-settles, declare-settles, define-settles, instance-settles}
 use Rattle.family_check.proofs.Soundness.{axiom_k-keeps, declare-keeps, define-keeps, instance-keeps}
@@ -23,14 +23,14 @@ answered-has P refusal (Ok e) h = h
 answered-has P refusal (Err e) h = tt
 
 eliminator-has : (P : Entered → Type 0) (S : Signature) (n m : ℕ) (o : Option Entry) (left : ℕ)
-    → ((f : Family) → o ≡ Some (FamilyOf f) → Ends P (instance_of S n f m left)) → Ends P (eliminator_in S n m o left)
+    → ((f : Family) → o ≡ Some (FamilyOf f) → Answers P (instance_of S n f m left)) → Answers P (eliminator_in S n m o left)
 eliminator-has P S n m (Some (FamilyOf f)) left h = h f refl
 eliminator-has P S n m (Some (EliminatorAt g k)) left h = tt
 eliminator-has P S n m (Some (AxiomKAt i k)) left h = tt
 eliminator-has P S n m (Some (Definition name type body)) left h = tt
 eliminator-has P S n m None left h = tt
 
-entry-extends : (S : Signature) (e : Entry) (left : ℕ) → Ends (λ x. IsPrefix S x.signature) (checked_entry S e left)
+entry-extends : (S : Signature) (e : Entry) (left : ℕ) → Answers (λ x. IsPrefix S x.signature) (checked_entry S e left)
 entry-extends S (FamilyOf f) left = declare-extends S (family_shown (length S.entries) f) left
 entry-extends S (EliminatorAt n m) left =
     eliminator-has (λ x. IsPrefix S x.signature) S n m (slice_get S.entries n) left (λ f is. instance-extends S n f m left)
@@ -40,14 +40,14 @@ entry-extends S (Definition name type body) left = define-extends S name type bo
 pub enter-extends : EnterExtends
 enter-extends S fuel e = answered-has (λ x. IsPrefix S x.signature) _ (checked_entry S e fuel).0 (entry-extends S e fuel)
 
-entry-keeps : (S : Signature) (e : Entry) (left : ℕ) → IsReady S → CanEnter S e → Ends (λ x. IsWellFormed x.signature) (checked_entry S e left)
+entry-keeps : (S : Signature) (e : Entry) (left : ℕ) → IsReady S → CanEnter S e → Answers (λ x. IsWellFormed x.signature) (checked_entry S e left)
 entry-keeps S (FamilyOf f) left ready can = declare-keeps S (family_shown (length S.entries) f) left ready.well_formed
 entry-keeps S (EliminatorAt n m) left ready can =
     eliminator-has (λ x. IsWellFormed x.signature) S n m (slice_get S.entries n) left (λ f is. instance-keeps S n f m left ready.well_formed is)
 entry-keeps S (AxiomKAt i m) left ready can = axiom_k-keeps S i m left ready.well_formed can ready.prelude
 entry-keeps S (Definition name type body) left ready can = define-keeps S name type body left ready.well_formed
 
-entry-settles : (S : Signature) (e : Entry) (left : ℕ) → IsReady S → CanEnter S e → Ends (λ x. IsSettled x.signature) (checked_entry S e left)
+entry-settles : (S : Signature) (e : Entry) (left : ℕ) → IsReady S → CanEnter S e → Answers (λ x. IsSettled x.signature) (checked_entry S e left)
 entry-settles S (FamilyOf f) left ready can = (declare-settles S (family_shown (length S.entries) f) left ready.settled can.0).0
 entry-settles S (EliminatorAt n m) left ready can =
     eliminator-has (λ x. IsSettled x.signature) S n m (slice_get S.entries n) left (λ f is. (instance-settles S n f m left ready.settled is).0)

@@ -16,10 +16,6 @@ use Rattle.elab_session.specs.Refusals.{unentered}
 use Rattle.elab_session.specs.declared.refusal.Refusal.{Refusal}
 use Rattle.elab_session.specs.declared.refusal.Refusal.TheVariants.{Memory}
 
-pub entry-enters : (T : Signature) (n left : ℕ) (refusal : pure.FamilyStop → Refusal) (meant : Outcome Entered)
-    → ended (Ok (entered_at T n)) left ≡ meant → Ok (entered_at T n) ≡ answered refusal meant.0
-entry-enters T n left refusal meant is = transport (λ m. Ok (entered_at T n) ≡ answered refusal m.0) is refl
-
 pub entry-refuses : (over : Site → Signature) (names : List (List ℕ)) (x : Word) (fuel left : ℕ) (s : FamilyStop) (r : Refusal) (meant : Outcome Entered)
     → (s ≢ Stop memory.Memory → ended (Err (stop_of s)) left ≡ meant) → (r ≢ Memory → r ≡ unentered over names x fuel (stop_of s))
     → r ≢ Memory → Err r ≡ answered (unentered over names x fuel) meant.0
@@ -33,15 +29,6 @@ same-word x w text start = ap₂ word text start
   where
     word : List ℕ → ℕ → Word
     word t s = record { text = t; start = s }
-
--- over the signature that stands as before, under a name that was copied
-pub plain-refused : (S U : Signature) (x w : Word) (fuel left : ℕ) (s : FamilyStop) (r : Refusal) (meant : Outcome Entered)
-    → U ≡ S → x.text ≡ w.text → x.start ≡ w.start → (s ≢ Stop memory.Memory → ended (Err (stop_of s)) left ≡ meant)
-    → (r ≢ Memory → r ≡ unentered (λ site. U) [] x fuel (stop_of s))
-    → r ≢ Memory → Err r ≡ answered (unentered (λ site. S) [] w fuel) meant.0
-plain-refused S U x w fuel left s r meant same text start stops says =
-    entry-refuses (λ site. S) [] w fuel left s r meant stops
-    (λ other. says other ∙ ap₂ (λ V y. unentered (λ site. V) [] y fuel (stop_of s)) same (same-word x w text start))
 
 pub family-entered : (S T : Signature) (r : Result ℕ Refusal) (raw shown : RawFamily) (given names : List (List ℕ)) (x w : Word) (fuel : ℕ)
     → raw ≡ shown → given ≡ names → x.text ≡ w.text → x.start ≡ w.start

@@ -6,7 +6,6 @@ use Rattle.theory.specs.WellFormed.{IsEntry, IsWellFormed, pushed}
 use Rattle.theory.proofs.Lists.{slice_get-last}
 use Rattle.theory.proofs.Pushing.{prefix_transitive}
 use Rattle.surface_syntax.specs.declared.tree.Word.{Word}
-use Rattle.resolve.specs.Answers.{and_then}
 use Rattle.resolve.specs.Families.{declared}
 use Rattle.resolve.specs.declared.stop.ResolveStop.{ResolveStop}
 use Rattle.family_check.specs.Entering.{Entered}
@@ -15,11 +14,6 @@ use Rattle.family_check.specs.Scopes.{HasPrelude}
 use Rattle.family_check.proofs.Settling.{first-all}
 use Rattle.elab_session.specs.Declaring.{Declared, accepted_as, on_entered, on_resolved}
 use Rattle.elab_session.specs.declared.refusal.Refusal.{Refusal}
-
-pub and_then-has : {A B : Type 0} (P : B → Type 0) (r : Result A ResolveStop) (go : A → Result B ResolveStop)
-    → ((a : A) → r ≡ Ok a → IfOk (go a) P) → IfOk (and_then r go) P
-and_then-has P (Ok a) go h = h a refl
-and_then-has P (Err e) go h = tt
 
 pub on_resolved-has : {A : Type 0} (Q : A → Type 0) (P : Declared → Type 0) (r : Result A ResolveStop) (go : A → Result Declared Refusal)
     → IfOk r Q → ((a : A) → Q a → IfOk (go a) P) → IfOk (on_resolved r go) P

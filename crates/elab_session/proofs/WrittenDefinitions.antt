@@ -15,14 +15,15 @@ use Rattle.family_check.specs.Entering.{Entered, are_new, check_definition, defi
 use Rattle.family_check.specs.Outcomes.{OfType, OfBody, FamilyStop, Outcome}
 use Rattle.family_check.specs.Scopes.{IsSettled}
 use Rattle.family_check.proofs.Extending.{define-extends}
-use Rattle.family_check.proofs.Outcomes.{Ends, and_next-has, if_new-has}
+use Rattle.core_terms.proofs.Answers.{Answers, and_next-has, and_then-is}
+use Rattle.family_check.proofs.Outcomes.{if_new-has}
 use Rattle.family_check.proofs.ScopedEntering.{define-settles}
 use Rattle.family_check.proofs.Soundness.{define-keeps}
 use Rattle.elab_session.specs.Declaring as session
 use Rattle.elab_session.specs.Declaring.{Declared, accepted_as, declare_definition, enter_definition, resolve_definition}
 use Rattle.elab_session.specs.Laws.{IsWrittenDefinition}
 use Rattle.elab_session.specs.Sessions.{IsReady}
-use Rattle.elab_session.proofs.Resolved.{and_then-has, last-entry, name-declared, on_entered-has, on_resolved-has, prelude-stays, together}
+use Rattle.elab_session.proofs.Resolved.{last-entry, name-declared, on_entered-has, on_resolved-has, prelude-stays, together}
 
 -- a definition that is resolved, part by part
 record IsResolvedDefinition (S : Signature) (x : Word) (ty body : surf.Surf) (d : session.Definition) : Type 0 where
@@ -33,9 +34,9 @@ record IsResolvedDefinition (S : Signature) (x : Word) (ty body : surf.Surf) (d 
 resolved : (S : Signature) (x : Word) (ty body : surf.Surf) → IfOk (resolve_definition S x ty body) (IsResolvedDefinition S x ty body)
 resolved S x ty body =
     let P = IsResolvedDefinition S x ty body in
-    and_then-has P (declared S [] x) _ (λ name named.
-    and_then-has P (resolve_term S [] ty) _ (λ type typed.
-    and_then-has P (resolve_term S [] body) _ (λ term is.
+    and_then-is P (declared S [] x) _ (λ name named.
+    and_then-is P (resolve_term S [] ty) _ (λ type typed.
+    and_then-is P (resolve_term S [] body) _ (λ term is.
     record { name = name-declared S x name named; type = typed; term = is })))
 
 term-resolved : (S : Signature) (t : surf.Surf) (r : Term) → resolve_term S [] t ≡ Ok r → IsResolved S 0 r
@@ -44,7 +45,7 @@ term-resolved S t r is = transport (λ x. IfOk x (IsResolved S 0)) is (terms-res
 abbrev Any : {A : Type 0} → A → Type 0
 Any a = Unit {0}
 
-any : {A : Type 0} (r : Outcome A) → Ends Any r
+any : {A : Type 0} (r : Outcome A) → Answers Any r
 any {A} r = go r.0
   where
     go : (x : Result A FamilyStop) → IfOk x Any
@@ -53,7 +54,7 @@ any {A} r = go r.0
 
 -- the entry that enters
 define-enters : (S : Signature) (name : List ℕ) (type body : Term) (left : ℕ)
-    → Ends (λ e. e ≡ entered S (Definition name type body)) (define_of S name type body left)
+    → Answers (λ e. e ≡ entered S (Definition name type body)) (define_of S name type body left)
 define-enters S name type body left =
     if_new-has (λ e. e ≡ entered S (Definition name type body)) (are_new S (name ∷ [])) (check_definition S name type body) left (λ test.
     and_next-has Any (λ e. e ≡ entered S (Definition name type body)) (sort_in S OfType [] type left) _ (any (sort_in S OfType [] type left)) (λ sort rest u.
@@ -62,7 +63,7 @@ define-enters S name type body left =
 
 declare_definition-has : (P : Declared → Type 0) (S : Signature) (fuel : ℕ) (x : Word) (ty body : surf.Surf)
     → ((d : session.Definition) → IsResolvedDefinition S x ty body d
-    → Ends (λ e. P (accepted_as x.text S e.signature)) (define_of S d.name d.type d.body fuel))
+    → Answers (λ e. P (accepted_as x.text S e.signature)) (define_of S d.name d.type d.body fuel))
     → IfOk (declare_definition S fuel x ty body) P
 declare_definition-has P S fuel x ty body h =
     on_resolved-has (IsResolvedDefinition S x ty body) P (resolve_definition S x ty body) (enter_definition S fuel x) (resolved S x ty body)

@@ -27,13 +27,13 @@ use Rattle.family_check.specs.Laws.{EntersAsDeclared}
 use Rattle.family_check.specs.Scopes.{IsScopedRaw, IsSettled, with_raw}
 use Rattle.family_check.proofs.Extending.{declare-extends}
 use Rattle.family_check.proofs.Given.{declare-gives}
-use Rattle.family_check.proofs.Outcomes.{Ends}
+use Rattle.core_terms.proofs.Answers.{Answers, and_then-is}
 use Rattle.family_check.proofs.ScopedEntering.{declare-settles}
 use Rattle.family_check.proofs.Soundness.{declare-keeps}
 use Rattle.elab_session.specs.Declaring.{Declared, IsFamilyNamed, accepted_as, declare_family, enter_family}
 use Rattle.elab_session.specs.Laws.{IsWrittenFamily}
 use Rattle.elab_session.specs.Sessions.{IsReady}
-use Rattle.elab_session.proofs.Resolved.{and_then-has, last-entry, name-declared, on_entered-has, on_resolved-has, prelude-stays, together}
+use Rattle.elab_session.proofs.Resolved.{last-entry, name-declared, on_entered-has, on_resolved-has, prelude-stays, together}
 
 -- a family that is resolved has the name that is written, which is new
 pub record IsNewFamily (S : Signature) (x : Word) (raw : RawFamily) : Type 0 where
@@ -48,10 +48,10 @@ new-family : (S : Signature) (x : Word) (params : List surf.Typed) (ty : surf.Su
     → IfOk (family S x params ty cons) (IsNewFamily S x)
 new-family S x params ty cons =
     let P = IsNewFamily S x in
-    and_then-has P (declared S [] x) _ (λ own named.
-    and_then-has P (parameters (known_in S) [] params) _ (λ types typed.
-    and_then-has P (resolve (known_in S) ty (scope_of (names_of params))) _ (λ type is.
-    and_then-has P (constructors S (with_name own (Fam (length S.entries)) (known_in S)) (scope_of (names_of params)) (own ∷ []) cons) _ (λ list made.
+    and_then-is P (declared S [] x) _ (λ own named.
+    and_then-is P (parameters (known_in S) [] params) _ (λ types typed.
+    and_then-is P (resolve (known_in S) ty (scope_of (names_of params))) _ (λ type is.
+    and_then-is P (constructors S (with_name own (Fam (length S.entries)) (known_in S)) (scope_of (names_of params)) (own ∷ []) cons) _ (λ list made.
     record { name = name-declared S x own named; new = unknown (find S x.text) _ x.text own named }))))
 
 pub family-named : (S : Signature) (x : Word) (d : surf.Decl) (raw : RawFamily) → IsFamilyNamed x d → resolve_data S d ≡ Ok raw → IsNewFamily S x raw
@@ -83,7 +83,7 @@ ok-itself (Ok a) = refl
 ok-itself (Err e) = tt
 
 declare_family-has : (P : Declared → Type 0) (S : Signature) (fuel : ℕ) (x : Word) (params : List surf.Typed) (ty : surf.Surf) (cons : List surf.Typed)
-    → ((raw : RawFamily) → family S x params ty cons ≡ Ok raw → Ends (λ e. P (accepted_as x.text S e.signature)) (declare_of S raw fuel))
+    → ((raw : RawFamily) → family S x params ty cons ≡ Ok raw → Answers (λ e. P (accepted_as x.text S e.signature)) (declare_of S raw fuel))
     → IfOk (declare_family S fuel x params ty cons) P
 declare_family-has P S fuel x params ty cons h =
     on_resolved-has (λ raw. family S x params ty cons ≡ Ok raw) P (family S x params ty cons) (enter_family S fuel x cons)

@@ -1,23 +1,23 @@
 -- One declaration over a signature, phase by phase: its names, then what the checker says of each written part, with one
 -- count of units that starts at the fuel. The first refusal in this order is the answer.
-use Rattle.std.specs.Prelude.{◌≡◌, ◌≢◌, ℕ, List, [], ◌∷◌, length, Result, Ok, Err}
+use Rattle.std.specs.Prelude.{◌≡◌, ℕ, List, [], ◌∷◌, length, Result, Ok, Err}
 use Rattle.theory.specs.Terms.{Term}
 use Rattle.theory.specs.Signatures.{Signature}
 use Rattle.core_sig.specs.Raw.{RawFamily}
 use Rattle.surface_syntax.specs.Trees as surf
 use Rattle.surface_syntax.specs.declared.tree.Word.{Word}
 use Rattle.resolve.specs.declared.stop.ResolveStop.{ResolveStop}
-use Rattle.resolve.specs.Answers.{and_then}
+use Rattle.core_terms.specs.Answers.{GivesUnless, and_then}
 use Rattle.resolve.specs.Families.{declared, family, names_of}
 use Rattle.resolve.specs.Resolving.{resolve_term}
 use Rattle.family_check.specs.Entering.{Entered}
 use Rattle.family_check.specs.Entering as entering
 use Rattle.family_check.specs.Outcomes.{FamilyStop}
 use Rattle.family_check.specs.Scopes.{site_signature}
-use Rattle.elab_session.specs.Refusals.{unresolved, unentered}
+use Rattle.elab_session.specs.Refusals.{IsUnforeseen, unresolved, unentered}
 use Rattle.elab_session.specs.declared.accepted.Accepted.{Accepted}
 use Rattle.elab_session.specs.declared.refusal.Refusal.{Refusal}
-use Rattle.elab_session.specs.declared.refusal.Refusal.TheVariants.{Memory, NotYet}
+use Rattle.elab_session.specs.declared.refusal.Refusal.TheVariants.{NotYet}
 
 -- what was accepted, and the signature that has it
 pub record Declared : Type 0 where
@@ -91,5 +91,4 @@ declare_of S fuel (surf.Fun x ty clauses) = Err (NotYet x.start)
 
 -- the answer of a call that leaves the signature T stands for `meant`, unless memory ran out
 abbrev pub Answers : Signature → Result Accepted Refusal → Result Declared Refusal → Type 0
-Answers T (Ok accepted) meant = Ok (declared_in T accepted) ≡ meant
-Answers T (Err e) meant = e ≢ Memory → Err e ≡ meant
+Answers T result meant = GivesUnless IsUnforeseen (declared_in T) result meant

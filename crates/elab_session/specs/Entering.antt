@@ -1,7 +1,8 @@
 -- One entry of a core file over a signature: what the checker says of it, with one count of units that starts at the fuel.
-use Rattle.std.specs.Prelude.{◌≡◌, ◌≢◌, ℕ, IsTrue, List, [], map, length, Option, Some, None, Result, Ok, Err, slice_get}
+use Rattle.std.specs.Prelude.{◌≡◌, ℕ, IsTrue, List, [], map, length, Option, Some, None, Result, Ok, Err, slice_get}
 use Rattle.theory.specs.Signatures.{Entry, FamilyOf, EliminatorAt, AxiomKAt, Definition, Signature}
 use Rattle.theory.specs.SignatureScopes.{IsFamilyNumber, IsScoped}
+use Rattle.core_terms.specs.Answers.{GivesUnless}
 use Rattle.core_terms.specs.declared.stop.Stop.TheVariants as stop
 use Rattle.core_sig.specs.Names.{find}
 use Rattle.core_text.specs.RawEntries.{family_shown}
@@ -9,9 +10,8 @@ use Rattle.surface_syntax.specs.declared.tree.Word.{Word}
 use Rattle.family_check.specs.Entering.{Entered, axiom_k_of, declare_of, define_of, entered_at, instance_of}
 use Rattle.family_check.specs.Outcomes.{FamilyStop, Outcome, Site, Stopped, ended}
 use Rattle.family_check.specs.Scopes.{IsScopedRaw, site_signature}
-use Rattle.elab_session.specs.Refusals.{unentered}
+use Rattle.elab_session.specs.Refusals.{IsUnforeseen, unentered}
 use Rattle.elab_session.specs.declared.refusal.Refusal.{Refusal}
-use Rattle.elab_session.specs.declared.refusal.Refusal.TheVariants.{Memory}
 
 -- the eliminator into Type m of what stands at number n, which is a family
 abbrev pub eliminator_in : Signature → ℕ → ℕ → Option Entry → ℕ → Outcome Entered
@@ -56,5 +56,4 @@ CanEnter S (Definition name type body) = IsScoped S 0 type × IsScoped S 0 body
 
 -- the answer of a call that leaves the signature T stands for `meant`, unless memory ran out
 abbrev pub Enters : Signature → Result ℕ Refusal → Result Entered Refusal → Type 0
-Enters T (Ok n) meant = Ok (entered_at T n) ≡ meant
-Enters T (Err e) meant = e ≢ Memory → Err e ≡ meant
+Enters T result meant = GivesUnless IsUnforeseen (entered_at T) result meant

@@ -1,5 +1,5 @@
 -- What refuses a declaration: refusals of resolution and of entering, with the names and the texts that they show.
-use Rattle.std.specs.Prelude.{ℕ, List, [], Some, None, slice_get, unwrap_or}
+use Rattle.std.specs.Prelude.{◌≡◌, ℕ, List, [], Some, None, slice_get, unwrap_or}
 use Rattle.theory.specs.Signatures.{Signature}
 use Rattle.core_terms.specs.Verdicts.{Denial}
 use Rattle.core_terms.specs.declared.stop.Stop.{Stop}
@@ -14,6 +14,10 @@ use Rattle.elab_session.specs.declared.refusal.PartName.{PartName}
 use Rattle.elab_session.specs.declared.refusal.PartName.TheVariants.{Ty, Body, Param, Con}
 use Rattle.elab_session.specs.declared.refusal.Refusal.{Refusal}
 use Rattle.elab_session.specs.declared.refusal.Refusal.TheVariants.{Memory, Fuel, Deep, UnknownName, Duplicate, WrongArity, NotLinear, BadFamily, NotPositive, IndexTooLarge, IllTyped}
+
+-- the refusals that nothing rules out: want of memory alone
+abbrev pub IsUnforeseen : Refusal → Type 0
+IsUnforeseen e = e ≡ Memory
 
 -- a refusal of resolution
 abbrev pub unresolved : ResolveStop → Refusal

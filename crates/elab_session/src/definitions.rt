@@ -8,10 +8,10 @@ ghost use Rattle.elab_session.specs.Declaring as spec;
 ghost use Rattle.elab_session.specs.Meanings.{definition_of};
 ghost use Rattle.elab_session.specs.Sessions.{IsReady};
 
-use crate::refusing::{copy_name, refusal};
+use crate::refusing::refusal;
 use crate::{Accepted, Refusal};
 use core_sig::Signature;
-use core_terms::{Items, Name, Term, Units};
+use core_terms::{Items, Name, Term, Units, copy_name};
 use resolve::{ResolveStop, resolve_term};
 use std::alloc::Global;
 use surface_syntax::{Surf, Word};

@@ -13,10 +13,10 @@ ghost use Rattle.elab_session.specs.Sessions.{IsReady};
 
 use crate::Refusal;
 use crate::families::enter_raw;
-use crate::refusing::{copy_name, refusal};
+use crate::refusing::refusal;
 use crate::shown::family_shown;
 use core_sig::{Constructor, Entry, Family, Signature};
-use core_terms::{Items, Name, Stop, Term, Units};
+use core_terms::{Items, Name, Stop, Term, Units, copy_name};
 use family_check::{axiom_k, define, instance};
 use std::alloc::{AllocError, Global};
 use surface_syntax::Word;

@@ -1,8 +1,8 @@
-ghost use Rattle.std.specs.Prelude.{◌≡◌, ◌≢◌, [], None, map, Ok, IfOk, OnErr};
+ghost use Rattle.std.specs.Prelude.{◌≡◌, [], None, map, Ok, IfOk, OnErr};
 ghost use Rattle.theory.specs.Families as pure;
 ghost use Rattle.theory.specs.Signatures.{FamilyOf};
 ghost use Rattle.theory.specs.WellFormed.{pushed};
-ghost use Rattle.core_terms.specs.Answers.{Gives};
+ghost use Rattle.core_terms.specs.Answers.{Gives, Unless};
 ghost use Rattle.core_terms.specs.Meanings.{denial_of};
 ghost use Rattle.core_sig.specs.Names.{find};
 ghost use Rattle.core_sig.specs.Raw as plain;
@@ -16,12 +16,11 @@ ghost use Rattle.elab_session.specs.Declaring as spec;
 ghost use Rattle.elab_session.specs.Entering as entering;
 ghost use Rattle.elab_session.specs.Refusals as refusals;
 ghost use Rattle.elab_session.specs.Sessions.{IsReady};
-ghost use Rattle.elab_session.specs.declared.refusal.Refusal.TheVariants.{Memory};
 
-use crate::refusing::{copy_name, denied_part, refusal};
+use crate::refusing::{denied_part, refusal};
 use crate::{Accepted, Refusal};
 use core_sig::{Entry, Family, RawFamily, Signature};
-use core_terms::{Denial, Items, Name, Stop, Units};
+use core_terms::{Denial, Items, Name, Stop, Units, copy_name};
 use family_check::{FamilyStop, Site, declare};
 use resolve::resolve_data;
 use std::alloc::{AllocError, Global};
@@ -127,7 +126,7 @@ fn refuse_family(
     stop: FamilyStop,
 ) -> Refusal
     requires new { find sig.old x.now.text ≡ None }
-    ensures answer { (raw : plain.RawFamily) → raw.name ≡ x.now.text → result ≢ Memory → result ≡ refusals.unentered (site_signature sig.old raw) names.now x.now fuel (stop_of stop) }
+    ensures answer { (raw : plain.RawFamily) → raw.name ≡ x.now.text → Unless (refusals.IsUnforeseen result) (result ≡ refusals.unentered (site_signature sig.old raw) names.now x.now fuel (stop_of stop)) }
     ensures kept { sig.new ≡ sig.old }
 {
     match stop {
@@ -146,7 +145,7 @@ fn deny_part(
     denial: Denial,
 ) -> Refusal
     requires new { find sig.old x.now.text ≡ None }
-    ensures answer { (raw : plain.RawFamily) → raw.name ≡ x.now.text → result ≢ Memory → result ≡ refusals.ill_typed (site_signature sig.old raw (site_of part)) (refusals.part_of names.now (site_of part)) (denial_of denial) }
+    ensures answer { (raw : plain.RawFamily) → raw.name ≡ x.now.text → Unless (refusals.IsUnforeseen result) (result ≡ refusals.ill_typed (site_signature sig.old raw (site_of part)) (refusals.part_of names.now (site_of part)) (denial_of denial)) }
     ensures kept { sig.new ≡ sig.old }
 {
     let denied = match part {

@@ -1,23 +1,16 @@
-ghost use Rattle.std.specs.Prelude.{◌≡◌, ◌≢◌, Ok, IfOk};
-ghost use Rattle.core_terms.specs.Answers.{Gives};
+ghost use Rattle.std.specs.Prelude.{◌≡◌, Ok};
+ghost use Rattle.core_terms.specs.Answers.{Gives, Unless};
 ghost use Rattle.core_terms.specs.Meanings.{denial_of};
 ghost use Rattle.family_check.specs.Meanings.{site_of, stop_of};
 ghost use Rattle.elab_session.specs.Refusals as spec;
-ghost use Rattle.elab_session.specs.declared.refusal.Refusal.TheVariants.{Memory};
 
 use crate::texts::{context_text, reason_text};
 use crate::{PartName, Refusal};
 use core_sig::Signature;
-use core_terms::{Denial, Name, Stop};
+use core_terms::{Denial, Name, Stop, copy_name};
 use family_check::{FamilyStop, Site};
-use std::alloc::{AllocError, Global};
+use std::alloc::Global;
 use surface_syntax::Word;
-
-pub(crate) fn copy_name(alloc: Global, name: &Name) -> Result<Name, AllocError>
-    ensures { IfOk result (λ copied. copied ≡ name.now) }
-{
-    Ok(Name::from_vec(name.as_slice().to_vec(alloc)?))
-}
 
 /// What stops a declaration that may spend `fuel` units.
 fn stopped(fuel: u64, stop: Stop) -> Refusal
@@ -120,7 +113,7 @@ pub(crate) fn refusal(
     fuel: u64,
     stop: FamilyStop,
 ) -> Refusal
-    ensures { result ≢ Memory → result ≡ spec.unentered (λ site. sig.now) names.now x.now fuel (stop_of stop) }
+    ensures { Unless (spec.IsUnforeseen result) (result ≡ spec.unentered (λ site. sig.now) names.now x.now fuel (stop_of stop)) }
 {
     match unentered(alloc, sig, names, x, fuel, stop) {
         Ok(refusal) => refusal,

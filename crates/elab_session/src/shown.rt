@@ -10,9 +10,10 @@ ghost use Rattle.core_sig.specs.Raw.{raw_constructor_of, raw_of};
 ghost use Rattle.core_text.specs.RawEntries.{family_shown};
 ghost use Rattle.elab_session.specs.Shown.{shown, shown_constructor};
 
-use crate::refusing::copy_name;
 use core_sig::{Constructor, Family, RawCon, RawFamily, types_of};
-use core_terms::{Items, Stop, Term, applied, applied_to_variables, copy_tele, products};
+use core_terms::{
+    Items, Stop, Term, applied, applied_to_variables, copy_name, copy_tele, number_of, products,
+};
 use std::alloc::Global;
 
 /// The family as its line shows it.
@@ -32,16 +33,6 @@ pub(crate) fn family_shown(alloc: Global, number: u32, f: &Family) -> Result<Raw
         ty,
         cons,
     })
-}
-
-fn number_of(len: usize) -> Result<u32, Stop>
-    ensures ok { IfOk result (λ n. n ≡ len) }
-    ensures memory { OnErr result (result ≡ Err Memory) }
-{
-    match u32::try_from(len) {
-        Ok(number) => Ok(number),
-        Err(_) => Err(Stop::Memory),
-    }
 }
 
 /// The constructors of the family with the number and so many parameters.

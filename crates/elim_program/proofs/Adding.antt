@@ -19,7 +19,8 @@ use Rattle.family_check.specs.Outcomes.{OfType, OfBody, FamilyStop, Outcome}
 use Rattle.family_check.specs.Scopes.{IsSettled}
 use Rattle.family_check.proofs.Extending.{declare-extends}
 use Rattle.family_check.proofs.Given.{declare-gives}
-use Rattle.family_check.proofs.Outcomes.{Ends, and_next-has, if_new-has}
+use Rattle.core_terms.proofs.Answers.{Answers, and_next-has}
+use Rattle.family_check.proofs.Outcomes.{if_new-has}
 use Rattle.family_check.proofs.ScopedEntering.{declare-settles}
 use Rattle.family_check.proofs.Soundness.{declare-keeps}
 use Rattle.elab_session.specs.Entering.{answered, checked_entry, eliminator_in}
@@ -52,7 +53,7 @@ ready-read S fuel (RawDefinition name type body) ready is = enter-ready S fuel (
 abbrev Any : {A : Type 0} → A → Type 0
 Any a = Unit {0}
 
-any : {A : Type 0} (r : Outcome A) → Ends Any r
+any : {A : Type 0} (r : Outcome A) → Answers Any r
 any {A} r = go r.0
   where
     go : (x : Result A FamilyStop) → IfOk x Any
@@ -63,22 +64,22 @@ if-ok-map : {A E : Type 0} (P Q : A → Type 0) (r : Result A E) → ((a : A) �
 if-ok-map P Q (Ok a) f h = f a h
 if-ok-map P Q (Err e) f h = tt
 
-define-enters : (S : Signature) (name : List ℕ) (type body : Term) (left : ℕ) → Ends (λ e. e ≡ entered S (Definition name type body)) (define_of S name type body left)
+define-enters : (S : Signature) (name : List ℕ) (type body : Term) (left : ℕ) → Answers (λ e. e ≡ entered S (Definition name type body)) (define_of S name type body left)
 define-enters S name type body left =
     if_new-has (λ e. e ≡ entered S (Definition name type body)) (are_new S (name ∷ [])) (check_definition S name type body) left (λ test.
     and_next-has Any (λ e. e ≡ entered S (Definition name type body)) (sort_in S OfType [] type left) _ (any (sort_in S OfType [] type left)) (λ sort rest u.
     and_next-has Any (λ e. e ≡ entered S (Definition name type body)) (type_in S OfBody [] body type rest) _ (any (type_in S OfBody [] body type rest)) (λ found end v.
     refl)))
 
-instance-enters : (S : Signature) (e : Entry) (fits : Bool) (type : Term) (left : ℕ) → Ends (λ x. x ≡ entered S e) (enter_instance S e fits type left)
+instance-enters : (S : Signature) (e : Entry) (fits : Bool) (type : Term) (left : ℕ) → Answers (λ x. x ≡ entered S e) (enter_instance S e fits type left)
 instance-enters S e true type left = and_next-has Any (λ x. x ≡ entered S e) (sort_in S OfType [] type left) _ (any (sort_in S OfType [] type left)) (λ sort end u. refl)
 instance-enters S e false type left = tt
 
-missing-enters : (S : Signature) (e : Entry) (fits : Bool) (type : Term) (left : ℕ) (o : Option ℕ) → o ≡ None → Ends (λ x. x ≡ entered S e) (unless_there S o (enter_instance S e fits type) left)
+missing-enters : (S : Signature) (e : Entry) (fits : Bool) (type : Term) (left : ℕ) (o : Option ℕ) → o ≡ None → Answers (λ x. x ≡ entered S e) (unless_there S o (enter_instance S e fits type) left)
 missing-enters S e fits type left None h = instance-enters S e fits type left
 missing-enters S e fits type left (Some n) h = cc
 
-eliminator-enters : (S : Signature) (n m left : ℕ) (o : Option Entry) → position (is_eliminator n m) S.entries ≡ None → Ends (λ x. x ≡ entered S (EliminatorAt n m)) (eliminator_in S n m o left)
+eliminator-enters : (S : Signature) (n m left : ℕ) (o : Option Entry) → position (is_eliminator n m) S.entries ≡ None → Answers (λ x. x ≡ entered S (EliminatorAt n m)) (eliminator_in S n m o left)
 eliminator-enters S n m left (Some (FamilyOf f)) h = missing-enters S (EliminatorAt n m) (nat_lt m top) (eliminator_type n f m) left (position (is_eliminator n m) S.entries) h
 eliminator-enters S n m left (Some (EliminatorAt g k)) h = tt
 eliminator-enters S n m left (Some (AxiomKAt i k)) h = tt

@@ -59,13 +59,6 @@ is_long bytes e = λ _. too_long (go (nat_lt 1048576 (length bytes)) refl e)
     go true h e = grind (arith, nat_tests)
     go false h e = cc
 
-pub is_short : (bytes known : List ℕ) → Some known ≡ limited bytes → known ≡ bytes
-is_short bytes known e = go (nat_lt 1048576 (length bytes)) e
-  where
-    go : (b : Bool) → Some known ≡ (if b then None else Some bytes) → known ≡ bytes
-    go true e = cc
-    go false e = cc
-
 pub none_found : (o : Option ℕ) → ((x : ℕ) → o ≡ Some x → ⊥) → o ≡ None
 none_found None h = refl
 none_found (Some x) h = absurd (h x refl)

@@ -78,17 +78,6 @@ Tells before after r b = (text : List ℕ) × Appends before after text × Told 
 pub no_block : (before : Option (List ℕ)) (status : Status) (b : Block) → status ≡ NoMemory → Tells before before (Err status) b
 no_block before status b e = ([], appends-nothing before, ((text_of b.lines, refl), subst (λ s. Failed s [] (text_of b.lines)) (sym e) tt))
 
-pub part_of_block : (before after : Option (List ℕ)) (status : Status) (s : Shown) (b : Block) (bytes : List ℕ) → s ≡ shown_block b → bytes ≡ s.text →
-    ((text : List ℕ) × Appends before after text × Sent (Err status) text bytes) → Tells before after (Err status) b
-part_of_block before after status s b bytes e eb sent =
-    let same : bytes ≡ text_of b.lines = eb ∙ ap (λ x. x.text) e in
-    let P : List ℕ → Type 0 = λ whole. (text : List ℕ) × Appends before after text × Sent (Err status) text whole in
-    subst P same sent
-
-pub whole_block : (before after : Option (List ℕ)) (u : Unit {0}) (s : Shown) (b : Block) (bytes : List ℕ) → s ≡ shown_block b → bytes ≡ s.text →
-    ((text : List ℕ) × Appends before after text × (text ≡ bytes)) → Tells before after (Ok s.refused) b
-whole_block before after u s b bytes e eb sent = (sent.0, sent.1, (sent.2 ∙ eb ∙ ap (λ x. x.text) e, ap (λ x. x.refused) e))
-
 -- Blocks one by one: what went out so far, where the lines of `rest` are still to come for those of `whole`.
 pub record IsTelling (before now : Option (List ℕ)) (whole rest : Block) : Type 0 where
   pub text : List ℕ
@@ -127,13 +116,6 @@ told_last before middle after whole b rest t one =
       ),
     )
 
-front_of : (b rest : Block) (x : List ℕ) → IsFront x (text_of b.lines) → IsFront x (text_of (followed b rest).lines)
-front_of b rest x f = go b.refused
-  where
-    go : (r : Bool) → IsFront x (text_of (if r then b else record { lines = b.lines ++ rest.lines; refused = rest.refused }).lines)
-    go true = f
-    go false = (f.0 ++ text_of rest.lines, text_both b.lines rest.lines ∙ ap (λ l. l ++ text_of rest.lines) f.1 ∙ append_assoc x f.0 (text_of rest.lines))
-
 no_items : (l : List ℕ) → length l ≡ 0 → l ≡ []
 no_items [] e = refl
 no_items (x ∷ xs) e = absurd (omega (arith, e))
@@ -145,14 +127,6 @@ not_more x y z f h e =
     let l2 : length y ≡ length x + length f.0 = ap length f.1 ∙ length-append x f.0 in
     let none : f.0 ≡ [] = no_items f.0 (omega (arith, l1, l2)) in
     h (sym (f.1 ∙ ap (λ l. x ++ l) none ∙ append-nil x))
-
-lost_of : (status : Status) (x y : List ℕ) → Failed status x y → IsLost status
-lost_of WriteFault x y h = inl refl
-lost_of NoMemory x y h = inr refl
-lost_of Done x y h = absurd h
-lost_of Refused x y h = absurd h
-lost_of Usage x y h = absurd h
-lost_of ReadFault x y h = absurd h
 
 -- what failed of a part fails of the whole
 failed_part : (status : Status) (front x y z whole : List ℕ) → IsFront x y → Failed status x y → whole ≡ front ++ (y ++ z) → Failed status (front ++ x) whole
@@ -259,15 +233,6 @@ body_whole k b before middle after refused bytes eb head told =
     says_whole : (r : Bool) → r ≡ b.refused → head.0 ++ told.0 ≡ text_of (compiled k b).lines → Says (ending r) (compiled k b) (head.0 ++ told.0)
     says_whole true e all = (all, ap (λ x. if x then Refused else Done) (sym e))
     says_whole false e all = (all, ap (λ x. if x then Refused else Done) (sym e))
-
-pub usage_part : (out : Output) (before after : Option (List ℕ)) (status : Status) → ((text : List ℕ) × Appends before after text × Sent (Err status) text (text_of out.lines)) →
-    Follows out before after status
-usage_part out before after status sent = record {
-  text = sent.0;
-  appended = sent.1;
-  front = sent.2.0;
-  says = says_lost status out sent.0 sent.2.1;
-}
 
 pub usage_whole : (out : Output) (before after : Option (List ℕ)) (status : Status) → (status ≡ out.status) → ((text : List ℕ) × Appends before after text × (text ≡ text_of out.lines)) →
     (out.status ≡ Usage) → Follows out before after status

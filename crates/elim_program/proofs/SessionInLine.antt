@@ -17,7 +17,7 @@ use Rattle.core_text.specs.TermText.{term_text}
 use Rattle.core_text.proofs.Feeds.{both, decimal-in, spelled-in}
 use Rattle.surface_syntax.specs.Trees as surf
 use Rattle.surface_syntax.specs.declared.tree.Word.{Word}
-use Rattle.resolve.specs.Answers.{and_then}
+use Rattle.core_terms.specs.Answers.{and_then}
 use Rattle.core_sig.specs.Raw.{RawFamily, RawConstructor, raw_names}
 use Rattle.resolve.specs.Families.{declared, parameters, constructors}
 use Rattle.resolve.specs.Families as resolve_family

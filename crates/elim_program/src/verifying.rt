@@ -1,5 +1,6 @@
 ghost use Rattle.std.specs.Prelude.{◌≡◌, ◌≢◌, ◌≤◌, ℕ, List, length, suc, true, Some, IfSome, IfOk, Err, OnErr, OnOk};
 ghost use Rattle.std.specs.Io.KnownBytes.{Appends};
+ghost use Rattle.core_terms.specs.Answers.{Unless};
 ghost use Rattle.core_terms.specs.Count.{Rose};
 ghost use Rattle.core_sig.specs.Kinds.{HasEntryKinds};
 ghost use Rattle.core_sig.specs.Meanings.{entry_of};
@@ -7,7 +8,7 @@ ghost use Rattle.core_terms.specs.Meanings.{tree_of};
 ghost use Rattle.core_text.specs.RawEntries.{entry_shown};
 ghost use Rattle.core_text.specs.ReadLaws.{IsReadEntry};
 ghost use Rattle.core_text.specs.TermText.{term_text};
-ghost use Rattle.core_text.specs.declared.stop.CoreTextStop.TheVariants.{Memory};
+ghost use Rattle.core_text.specs.EntryReading.{IsUnforeseen};
 ghost use Rattle.elab_session.specs.Entering.{enter_of};
 ghost use Rattle.elim_program.specs.Blocks.{Makes};
 ghost use Rattle.elim_program.specs.Outputs as outputs;
@@ -21,18 +22,11 @@ use crate::running::{head, send, tell_stop};
 use crate::text_stop::{is_memory, unread};
 use crate::{Block, Command, Status, TextStop};
 use core_sig::{Entry, Signature};
-use core_terms::{Items, Name, Term};
+use core_terms::{Items, Name, Term, copy_name};
 use core_text::{CoreTextStop, print_term, read_entry, read_head};
 use elab_session::{Refusal, Session};
 use elim_ports::Sink;
 use std::alloc::Global;
-
-fn copy_name(alloc: Global, name: &Name) -> Result<Name, Status>
-    ensures ok { IfOk result (λ copied. copied ≡ name.now) }
-    ensures memory { OnErr result (result ≡ Err Status.NoMemory) }
-{
-    Ok(Name::from_vec(name.as_slice().to_vec(alloc)?))
-}
 
 /// How a symbol is spelled.
 fn spelled(alloc: Global, sig: &Signature, symbol: &Term) -> Result<Name, Status>
@@ -49,10 +43,10 @@ fn read_name(alloc: Global, sig: &Signature, entry: &Entry) -> Result<Name, Stat
     ensures memory { OnErr result (result ≡ Err Status.NoMemory) }
 {
     match entry {
-        Entry::Family(family) => copy_name(alloc, &family.name),
+        Entry::Family(family) => Ok(copy_name(alloc, &family.name)?),
         Entry::Elim(family, m) => spelled(alloc, sig, &Term::Elim(*family, *m)),
         Entry::AxiomK(i, m) => spelled(alloc, sig, &Term::AxiomK(*i, *m)),
-        Entry::Def { name, .. } => copy_name(alloc, name),
+        Entry::Def { name, .. } => Ok(copy_name(alloc, name)?),
     }
 }
 
@@ -102,7 +96,7 @@ fn tell_entry<K: Sink>(
 
 /// Writes the line of core text that is not read.
 fn tell_unread<K: Sink>(alloc: Global, stop: CoreTextStop, sink: &mut K) -> Result<bool, Status>
-    ensures told { (meant : outputs.Block) → (stop ≢ Memory → spec.unread_block stop ≡ meant)
+    ensures told { (meant : outputs.Block) → Unless (IsUnforeseen stop) (spec.unread_block stop ≡ meant)
         → (text : List ℕ) × Appends (K.written sink.old) (K.written sink.new) text × Told result meant text }
     ensures fault { result ≡ Err Status.WriteFault → Rose (K.faults sink.old) (K.faults sink.new) }
     ensures never_falls { K.faults sink.old ≤ K.faults sink.new }
