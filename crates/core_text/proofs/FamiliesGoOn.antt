@@ -73,6 +73,10 @@ constructors-more S own p before [] c are new over = (subst (λ f. IsNewName S o
 constructors-more S own p before (d ∷ found) c are new over =
     (are.0, are.1, constructors-more S own p (before ++ d ∷ []) found c are.2 (subst (λ f. IsNewName S own f c.name) (sym (append_assoc before (d ∷ []) found)) new) over)
 
+parameters-append : (T : Signature) (xs : List Term) (a : Term) → parameters_text T (xs ++ a ∷ []) ≡ parameters_text T xs ++ (codes " (" ++ (term_text T a ++ codes ")"))
+parameters-append T [] a = simp (append_assoc, append-nil)
+parameters-append T (x ∷ xs) a = ap (λ r. codes " (" ++ term_text T x ++ codes ")" ++ r) (parameters-append T xs a) ∙ simp append_assoc
+
 abbrev constructor_text : Signature → RawConstructor → List ℕ
 constructor_text T c = c.name ++ (codes " : " ++ term_text T c.type)
 
@@ -112,8 +116,14 @@ module _ (S : Signature) (name : List ℕ) (new : IsNewName S [] [] name) where
   abbrev Parameters : List Term → Type 0
   Parameters found = AreTypesOver S 0 found
 
+  zero-text : List ℕ
+  zero-text = term_text T (Sort 0)
+
   plain-over : (parameters : List Term) → Parameters parameters → (type : Term) → IsTermOver S false (length parameters) type → IsFamilyOver S (raw_family name parameters type [])
   plain-over parameters are type over = record { name = new; parameters = are; type = over; constructors = tt }
+
+  five : (a b c d e : List ℕ) → (((a ++ b) ++ c) ++ d) ++ e ≡ a ++ (b ++ (c ++ (d ++ e)))
+  five a b c d e = simp append_assoc
 
   -- with the type
   type-front : (parameters : List Term) → Parameters parameters → (type : Term) → IsTermOver S false (length parameters) type → IsFront (Goes S) (((head parameters ++ codes " : ") ++ term_text T type) ++ codes " {")
@@ -134,6 +144,9 @@ module _ (S : Signature) (name : List ℕ) (new : IsNewName S [] [] name) where
 
   head-front : (parameters : List Term) → Parameters parameters → IsFront (Goes S) (head parameters)
   head-front parameters are = front-less (Goes S) (head parameters) (codes " : ") (colon-front parameters are)
+
+  head-more : (found : List Term) (a : Term) → head (found ++ a ∷ []) ≡ head found ++ (codes " (" ++ (term_text T a ++ codes ")"))
+  head-more found a = ap (λ p. (codes "data " ++ name) ++ p) (parameters-append T found a) ∙ sym (append_assoc (codes "data " ++ name) (parameters_text T found) _)
 
   module _ (whole : List ℕ) (short : length whole < 2 ^ 33) where
     few : (found : List Term) (rest : List ℕ) → whole ≡ head found ++ rest → length found < 2 ^ 33

@@ -115,6 +115,29 @@ module _ (levels : List Bool) (V : List ℕ → Type 0) (text whole : List ℕ) 
   abbrev pub Levelled : List ℕ → ℕ → List ℕ → Type 0
   Levelled rest v r = (rest ≡ decimal v ++ r) × (is_left levels v ≡ true)
 
+  -- behind the first digit
+  digit-front : (b : ℕ) → is_digit b ≡ true → begins_level levels (b - 48) ≡ true → IsFront V (text ++ b ∷ [])
+  digit-front b digit begun = by (is_left levels (b - 48)) refl begun
+    where
+      by : (c : Bool) → is_left levels (b - 48) ≡ c → (c || (nat_lt 0 (b - 48) && some_left levels (10 * (b - 48)) 10)) ≡ true → IsFront V (text ++ b ∷ [])
+      by true left e = subst (λ ds. IsFront V (text ++ ds)) (sym (decimal-one b [] digit ∙ nothing (decimal (b - 48)))) (fronts (b - 48) left)
+        where
+          nothing : (xs : List ℕ) → xs ++ [] ≡ xs
+          nothing xs = append-nil xs
+      by false left e =
+          let bounds = digit-bounds b digit in
+          let parts = and_parts (nat_lt 0 (b - 48)) (some_left levels (10 * (b - 48)) 10) e in
+          let some = lt-told 0 (b - 48) parts.0 in
+          let found = some-of levels (10 * (b - 48)) 10 parts.1 in
+          let v = found.0 in
+          let front : v / 10 ≡ b - 48 = omega (arith, found.2, found.3) in
+          let one : decimal (b - 48) ≡ b ∷ [] = sym (decimal-one b [] digit ∙ append-nil (decimal (b - 48))) in
+          front-less V (text ++ b ∷ []) ((48 + v % 10) ∷ [])
+          (subst (IsFront V)
+          (ap (λ ds. text ++ ds) (decimal_step v (omega (arith, some, found.2)) (omega (arith, bounds.1, found.3)) ∙ ap₂ (λ w ds. w ++ ds) (ap decimal front ∙ one) refl)
+          ∙ sym (append_assoc text (b ∷ []) ((48 + v % 10) ∷ [])))
+          (fronts v found.1))
+
   module _ (b : ℕ) (rest : List ℕ) (at : whole ≡ text ++ b ∷ rest) (digit : is_digit b ≡ true) (begun : begins_level levels (b - 48) ≡ true) where
     one-meets : Meets (Levelled (b ∷ rest)) V whole (one_digit levels (b - 48) rest)
     one-meets =

@@ -192,6 +192,15 @@ module _ (T S : Signature) (has : Has T S) where
 
   -- ---- constructors of the family `own`
 
+  abbrev constructor_text : List RawConstructor → RawConstructor → List ℕ
+  constructor_text found c = separator found ++ (c.name ++ (codes " : " ++ term_text T c.type))
+
+  constructors-listed : (found new : List RawConstructor) → listed constructor_text found new ≡ raw_constructors T (separator found) new
+  constructors-listed found [] = refl
+  constructors-listed found (c ∷ new) =
+      ap (λ r. (separator found ++ (c.name ++ (codes " : " ++ term_text T c.type))) ++ r) (constructors-listed (found ++ c ∷ []) new ∙ ap (λ b. raw_constructors T b new) (sym (separator-more found c)))
+      ∙ simp append_assoc
+
   module _ (own : List ℕ) (p : ℕ) (is_own : nat_lt 0 (length own) ≡ true → name_at T (length S.entries) ≡ own) (few : p < 2 ^ 33) where
     -- a constructor behind what separates it from the others
     constructor-writes : (found : List RawConstructor) (rest front r : List ℕ) → front ≡ separator found → rest ≡ front ++ r → Ensures (Item constructor_text (codes " }") found rest) (constructor_at S own p found r)

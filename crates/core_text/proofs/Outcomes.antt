@@ -1,17 +1,18 @@
 -- What holds of what is read, if anything is.
-use Rattle.std.proofs.Common.{◌≡◌, ℕ, ◌-◌, ◌≤◌, Bool, true, false, List, length, drop, IfOk, refl, arith}
+use Rattle.std.proofs.Common.{◌≡◌, ℕ, ◌-◌, ◌≤◌, Bool, true, false, List, length, drop, refl, arith}
 use Rattle.std.specs.Prelude.{◌==◌, if◌then◌else◌, Ok, Err}
 use Rattle.std.proofs.lemmas.List.{length-drop}
-use Rattle.core_terms.proofs.Answers.{and_then-has}
 use Rattle.core_text.specs.Heads.{shared}
 use Rattle.core_text.specs.Reading.{Reading, and_then, after, behind}
 use Rattle.core_text.specs.declared.halt.Halt.TheVariants.{Wrong}
 
 abbrev pub Ensures : {A : Type 0} → (A → List ℕ → Type 0) → Reading A → Type 0
-Ensures P m = IfOk m (λ p. P p.0 p.1)
+Ensures P (Ok p) = P p.0 p.1
+Ensures P (Err e) = Unit {0}
 
 pub ensures-then : {A B : Type 0} (P : A → List ℕ → Type 0) (Q : B → List ℕ → Type 0) (m : Reading A) (next : A → List ℕ → Reading B) → Ensures P m → ((a : A) (r : List ℕ) → P a r → Ensures Q (next a r)) → Ensures Q (and_then m next)
-ensures-then P Q m next h k = and_then-has (λ p. P p.0 p.1) (λ p. Q p.0 p.1) m (λ p. next p.0 p.1) h (λ p. k p.0 p.1)
+ensures-then P Q (Ok p) next h k = k p.0 p.1 h
+ensures-then P Q (Err e) next h k = tt
 
 pub ensures-if : {A : Type 0} (Q : A → List ℕ → Type 0) (b : Bool) (x y : Reading A) → (b ≡ true → Ensures Q x) → (b ≡ false → Ensures Q y) → Ensures Q (if b then x else y)
 ensures-if Q true x y first second = first refl

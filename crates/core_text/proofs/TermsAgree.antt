@@ -72,6 +72,17 @@ closed-starts t r = word-starts 41 [] (limited t) r (omega arith)
 
 -- ---- the word `let`
 
+l-run : (rest : List ℕ) → (first rest == 108) ≡ true → 0 < run_len rest
+l-run rest e =
+    let is = first-is 108 rest (omega arith) e in
+    let more = run_more (108 ∷ drop 1 rest) 1 (some-char 108 (drop 1 rest) refl letters.0) (omega arith) in
+    omega (arith, ap run_len is, more)
+
+-- no `let ` begins with another letter
+no-l : (y : List ℕ) → (first y == 108) ≡ false → begins (codes "let ") y ≡ false
+no-l [] e = refl
+no-l (c ∷ y) e = ap (λ t. (if t then 1 + shared y (101 ∷ 116 ∷ 32 ∷ []) else 0) == 4) e
+
 -- the same name with the same character behind it is the same word
 let-same : (z y : List ℕ) → 0 < run_len z → SameName z y → begins (codes "let ") y ≡ true → begins (codes "let ") z ≡ true
 let-same z y some same e =
@@ -226,6 +237,47 @@ module _ (inner : ℕ → List ℕ → Reading Term) (alike : (n : ℕ) → Alik
   -- by the word `let `, or a term
   abbrev let_or_first : ℕ → List ℕ → Reading Term
   let_or_first n x = if begins (codes "let ") x then let_at inner n (drop 4 x) else first_and_more n x
+
+  other-first : (n : ℕ) (x : List ℕ) → begins (codes "let ") x ≡ false → let_or_first n x ≡ first_and_more n x
+  other-first n x e = ap (λ b. if b then let_at inner n (drop 4 x) else first_and_more n x) e
+
+  -- no text that agrees begins with `let ` where this one does not
+  no-let-passed : (n : ℕ) (rest v r y : List ℕ) (a : Term) → begins (codes "let ") rest ≡ false → rest ≡ v ++ r → first_and_more n (v ++ y) ≡ Ok (a, y) → begins (codes "let ") (v ++ y) ≡ false
+  no-let-passed n rest v r y a none is e = by (begins (codes "let ") (v ++ y)) refl
+    where
+      by : (b : Bool) → begins (codes "let ") (v ++ y) ≡ b → begins (codes "let ") (v ++ y) ≡ false
+      by true f = begins-front (codes "let ") v y r (let-passed n v y a f e) ∙ (ap (begins (codes "let ")) (sym is) ∙ none)
+      by false f = f
+
+  no-let-stopped : (n : ℕ) (rest v r y : List ℕ) → begins (codes "let ") rest ≡ false → rest ≡ v ++ r → 0 < length v → first_and_more n (v ++ y) ≡ wrong y → begins (codes "let ") (v ++ y) ≡ false
+  no-let-stopped n rest v r y none is some e = by (begins (codes "let ") (v ++ y)) refl
+    where
+      at : (4 ≤ length v) ⊎ (length v ≡ 0) → begins (codes "let ") (v ++ y) ≡ false
+      at (inl four) = begins-front (codes "let ") v y r four ∙ (ap (begins (codes "let ")) (sym is) ∙ none)
+      at (inr none) = absurd (omega arith)
+
+      by : (b : Bool) → begins (codes "let ") (v ++ y) ≡ b → begins (codes "let ") (v ++ y) ≡ false
+      by true f = at (let-stopped n v y f e)
+      by false f = f
+
+  -- at the first byte
+  refused-start : (n : ℕ) (z : List ℕ) → begins (codes "let ") z ≡ false → Refused (first_and_more n) z → Refused (let_or_first n) z
+  refused-start n z none refused = by (first z == 108) refl
+    where
+      other : 0 < run_len z → (y : List ℕ) → SameName z y → begins (codes "let ") y ≡ false
+      other some y same = at (begins (codes "let ") y) refl
+        where
+          at : (b : Bool) → begins (codes "let ") y ≡ b → begins (codes "let ") y ≡ false
+          at true f = absurd (false≢true (sym none ∙ let-same z y some same f))
+          at false f = f
+
+      by_run : 0 < run_len z → Refused (first_and_more n) z → (y : List ℕ) → SameName z y → first_and_more n y ≡ wrong y
+      by_run some (by_character k) y same = k y (same-named z y some same).character
+      by_run some (by_name more k) y same = k y same
+
+      by : (b : Bool) → (first z == 108) ≡ b → Refused (let_or_first n) z
+      by true e = let some = l-run z e in by_name some (λ y same. other-first n y (other some y same) ∙ by_run some refused y same)
+      by false e = refused-map (first_and_more n) (let_or_first n) z (λ y same is. other-first n y (no-l y (ap (λ b. b == 108) (sym (first-same z y same)) ∙ e)) ∙ is) refused
 
   let-told : (n : ℕ) (rest : List ℕ) → Told true (let_or_first n) rest (let_or_first n rest)
   let-told n rest = by (begins (codes "let ") rest) refl

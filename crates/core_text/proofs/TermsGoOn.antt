@@ -76,6 +76,11 @@ closed-meets T S own n front t rest whole at text over =
 
 -- ---- compound terms, where `inner` reads terms
 
+-- terms inside are read under at most as many binders
+abbrev pub ReadsInside : Signature → Signature → Bool → ℕ → (ℕ → List ℕ → Reading Term) → Type 0
+ReadsInside T S own bound inner =
+    (n : ℕ) (rest : List ℕ) → n ≤ bound → Meets (ReadsTerm T S own n rest) (IsText T S own n) rest (inner n rest)
+
 module _ (T S : Signature) (own : Bool) (bound : ℕ) (inner : ℕ → List ℕ → Reading Term) (inside : ReadsInside T S own (bound + 1) inner) where
   function-meets : (n : ℕ) (rest whole : List ℕ) → n ≤ bound → whole ≡ codes "(\\" ++ rest → Meets (ReadsTerm T S own n whole) (IsText T S own n) whole (function_at inner n rest)
   function-meets n rest whole le at =

@@ -1,7 +1,7 @@
 -- Reading from the front of bytes: what stands there and the bytes behind it, or where reading stops.
 use Rattle.std.specs.Prelude.{◌≡◌, ℕ, zero, suc, ◌+◌, ◌-◌, ◌*◌, ◌==◌, nat_le, nat_lt, Bool, false, ◌&&◌, ◌||◌, if◌then◌else◌, List, [], ◌∷◌, length, drop, Result, Ok, Err, slice_get, slice_index, unwrap_or}
 use Rattle.std.specs.Borrow.{Bor}
-use Rattle.core_terms.specs.Answers as answers
+use Rattle.core_terms.specs.Answers.{GivesUnless}
 use Rattle.core_text.specs.Heads.{shared}
 use Rattle.core_text.specs.declared.halt.Halt.{Halt}
 use Rattle.core_text.specs.declared.halt.Halt.TheVariants.{Memory, Wrong}
@@ -16,7 +16,8 @@ wrong rest = Err (Wrong (length rest))
 
 -- goes on behind what was read
 abbrev pub and_then : {A B : Type 0} → Reading A → (A → List ℕ → Reading B) → Reading B
-and_then first next = answers.and_then first (λ p. next p.0 p.1)
+and_then (Ok p) next = next p.0 p.1
+and_then (Err e) next = Err e
 
 -- the bytes behind a word, or the first byte with which the word does not go on
 abbrev pub behind : List ℕ → List ℕ → Result (List ℕ) Halt
@@ -25,7 +26,8 @@ behind word rest =
 
 -- goes on behind a word
 abbrev pub after : {B : Type 0} → Result (List ℕ) Halt → (List ℕ → Reading B) → Reading B
-after first next = answers.and_then first next
+after (Ok rest) next = next rest
+after (Err e) next = Err e
 
 -- the first byte, or 0
 abbrev pub first : List ℕ → ℕ
@@ -88,7 +90,7 @@ IsUnforeseen e = e ≡ Memory
 
 -- the answer of the code stands for what is read, by way of f, unless memory ran out
 abbrev pub Reads : {A B : Type 0} → (A → B) → Result (A × Bor (List ℕ)) Halt → Reading B → Type 0
-Reads f result meant = answers.GivesUnless IsUnforeseen (λ p. (f p.0, p.1.now)) result meant
+Reads f result meant = GivesUnless IsUnforeseen (λ p. (f p.0, p.1.now)) result meant
 
 -- the same of what stands behind a word
 abbrev pub Behind : Result (Bor (List ℕ)) Halt → Result (List ℕ) Halt → Type 0

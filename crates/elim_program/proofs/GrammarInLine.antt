@@ -60,7 +60,17 @@ DeclInLine (surf.Data x params ty cons) = WordIn x × Each TypedIn params × Use
 DeclInLine (surf.Decide x f e) = WordIn x
 DeclInLine _ = ⊥
 
+applied-in : (h : surf.Surf) (args : List surf.Surf) → UsesInLine h → AllInLine (surf.surfs args) → UsesInLine (g.applied h args)
+applied-in h [] p q = p
+applied-in h (a ∷ args) p q = (p, q)
+
 module _ (allows : ℕ → ℕ → Bool) where
+  names-in : {ts rest : List Lexeme} {ns : List (Option Word)} → g.Names allows ts rest ns → Each IsGood ts → Each IsGood rest
+  names-in g.name h = h.1
+  names-in g.blank h = h.1
+  names-in (g.names n) h = names-in n h.1
+  names-in (g.blanks n) h = names-in n h.1
+
   mutual
     term-in : {d : ℕ} {ts rest : List Lexeme} {t : surf.Surf} → g.Term allows d ts rest t → Each IsGood ts → UsesInLine t × Each IsGood rest
     term-in (g.lam m bs b) h = let p = binders-in bs h.1 in let q = term-in b p.1.1 in ((p.0, q.0), q.1)
