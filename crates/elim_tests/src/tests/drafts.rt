@@ -1,4 +1,7 @@
 // Drafts: the names of generated constants get their numbers.
+ghost use Rattle.std.specs.Prelude.{◌≡◌, None};
+ghost use Rattle.core_sig.specs.Names.{find};
+
 use core_sig::{Draft, Entry, Signature, settle};
 use core_terms::{Items, Name, Stop, Term};
 use std::alloc::Global;
@@ -23,24 +26,35 @@ fn draft(alloc: Global, text: &[u8]) -> Result<Draft, Stop> {
     })
 }
 
-/// Adds a definition of that name, where it is new.
-fn with_definition(alloc: Global, mut sig: Signature, text: &[u8]) -> Result<Signature, Fail> {
-    if sig.find(text).is_some() {
-        return Err(Fail::new("a name that is known"));
-    }
+fn define(alloc: Global, sig: &mut Signature, name: &[u8]) -> Result<(), Fail>
+    requires { find sig.old name.now ≡ None }
+{
     sig.push(Entry::Def {
-        name: name(alloc, text)?,
+        name: Name::from_vec(Vec::from_slice(alloc, name)?),
         ty: Term::Sort(1),
         body: Term::Sort(0),
     })?;
+    Ok(())
+}
+
+/// The prelude with two definitions behind it.
+fn two_definitions(alloc: Global) -> Result<Signature, Fail> {
+    let mut sig = Signature::prelude(alloc, false)?;
+    if sig.find(b"a").is_some() {
+        return Err(Fail::new("a name of the prelude"));
+    }
+    define(alloc, &mut sig, b"a")?;
+    if sig.find(b"b").is_some() {
+        return Err(Fail::new("a name of the prelude"));
+    }
+    define(alloc, &mut sig, b"b")?;
     Ok(sig)
 }
 
 #[test]
 fn settles(rt: HostRuntime) -> Result<(), Fail> {
     let alloc = rt.alloc();
-    let sig = with_definition(alloc, Signature::prelude(alloc, false)?, b"a")?;
-    let sig = with_definition(alloc, sig, b"b")?;
+    let sig = two_definitions(alloc)?;
     for (text, number) in [(b"a".as_slice(), 46), (b"b".as_slice(), 47)] {
         let Entry::Def { body, .. } = settle(alloc, &sig, &draft(alloc, text)?)? else {
             return Err(Fail::new("no definition"));

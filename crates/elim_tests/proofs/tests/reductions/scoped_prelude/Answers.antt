@@ -1,4 +1,4 @@
-use Rattle.std.proofs.Common.{◌≡◌, sym, subst as transport}
+use Rattle.std.proofs.Common.{◌≡◌, false, sym, subst as transport}
 use Rattle.std.proofs.lemmas.Result.{IfOk-weaker}
 use Rattle.theory.specs.Prelude.{prelude}
 use Rattle.theory.specs.SignatureScopes.{IsScopedSignature}
