@@ -3,6 +3,7 @@ mod bytes;
 mod clauses;
 mod devices;
 mod drafts;
+mod nesting;
 mod ports;
 mod reductions;
 mod sessions;
