@@ -1,0 +1,5 @@
+pub mod Congruences
+pub mod Dependences
+pub mod Environments
+pub mod Items
+pub mod TelescopicEquality
