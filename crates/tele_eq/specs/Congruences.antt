@@ -1,8 +1,8 @@
 -- Congruence: terms f over a telescope X that inhabit a telescope Y, at two lists of terms with equations, are equal.
-use Rattle.std.specs.Prelude.{ℕ, zero, suc, List, map, length}
+use Rattle.std.specs.Prelude.{ℕ, zero, suc, List, length}
 use Rattle.std.specs.List.{range_with_len}
 use Rattle.theory.specs.Terms.{Term}
-use Rattle.tele_eq.specs.Items.{Item, term_at, level_at, greatest_level}
+use Rattle.tele_eq.specs.Items.{Item, term_at, level_at, greatest_level, each_position}
 use Rattle.tele_eq.specs.Environments.{Environment, outside, put}
 use Rattle.tele_eq.specs.TelescopicEquality.{reflexive, equation, telescopic_j, left_sides}
 
@@ -30,4 +30,4 @@ congruence_below (suc n) X Y f u z e depth j =
 -- congs(X, Y; f; es): a congruence for each position of Y
 abbrev pub congruences : (X Y : List Item) (f left right eqs : List Term) → List Term
 congruences X Y f left right eqs =
-    map (congruence_below (length Y) X Y f (outside left) (outside right) (outside eqs) 0) (positions_of Y)
+    each_position (congruence_below (length Y) X Y f (outside left) (outside right) (outside eqs) 0) 0 (length Y)

@@ -1,7 +1,10 @@
 -- A telescope whose types have levels.
-use Rattle.std.specs.Prelude.{ℕ, max, List, [], ◌∷◌, map, get_or}
-use Rattle.theory.specs.Terms.{Term, Sort}
+use Rattle.std.specs.Prelude.{ℕ, zero, suc, ◌+◌, max, ◌≤◌, Bool, true, ◌&&◌, if◌then◌else◌, List, [], ◌∷◌, map, get_or, Result, Ok, Err}
+use Rattle.theory.specs.Terms.{Term, Sort, height, free_of}
+use Rattle.core_terms.specs.Answers.{is_low}
 use Rattle.core_terms.specs.Meanings.{tree_of}
+use Rattle.core_terms.specs.declared.stop.Stop.{Stop}
+use Rattle.core_terms.specs.declared.stop.Stop.TheVariants.{Deep}
 use Rattle.tele_eq.specs.declared.item.Item as code
 
 -- a type, over the variables of the items before it, and its level
@@ -30,3 +33,28 @@ level_at tele position = get_or (map (λ item. item.level) tele) position 0
 abbrev pub greatest_level : List Item → ℕ → List ℕ → ℕ
 greatest_level tele level [] = level
 greatest_level tele level (position ∷ positions) = greatest_level tele (max level (level_at tele position)) positions
+
+-- a term for each of `count` positions from j on
+abbrev pub each_position : (ℕ → Term) → (j count : ℕ) → List Term
+each_position f j zero = []
+each_position f j (suc count) = f j ∷ each_position f (j + 1) count
+
+abbrev pub are_low : List Term → Bool
+are_low [] = true
+are_low (t ∷ terms) = is_low t && are_low terms
+
+-- the terms themselves, or Deep where one of them is too high
+abbrev pub bounded_terms : List Term → Result (List Term) Stop
+bounded_terms terms = if are_low terms then Ok terms else Err Deep
+
+-- a term with a bound for its height and for its free variables
+abbrev pub IsSmall : Term → Type 0
+IsSmall t = (height t ≤ 2000) × (free_of t ≤ 2147483648)
+
+abbrev pub AreSmallTerms : List Term → Type 0
+AreSmallTerms [] = Unit {0}
+AreSmallTerms (t ∷ terms) = IsSmall t × AreSmallTerms terms
+
+-- the types of a telescope are small
+abbrev pub AreSmall : List Item → Type 0
+AreSmall tele = AreSmallTerms (map (λ item. item.type) tele)

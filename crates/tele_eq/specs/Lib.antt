@@ -1,3 +1,4 @@
+pub mod CodeEnvironments
 pub mod Congruences
 pub mod Dependences
 pub mod Environments

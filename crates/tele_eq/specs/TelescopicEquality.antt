@@ -3,15 +3,14 @@
 --
 -- u stands for the left terms, z for what they are equal to, and e for the equations: e_j : Eq.i_j A_j[z] w_j z_j, where w_j is
 -- u_j, transported to the type A_j[z].
-use Rattle.std.specs.Prelude.{ℕ, zero, suc, ◌+◌, ◌*◌, List, [], ◌∷◌, map, length}
-use Rattle.std.specs.List.{range_with_len}
-use Rattle.theory.specs.Terms.{Term, Var, Pi, Lam, App, Elim}
+use Rattle.std.specs.Prelude.{ℕ, zero, suc, ◌+◌, ◌*◌, nat_le, if◌then◌else◌, List, [], ◌∷◌, length}
+use Rattle.theory.specs.Terms.{Term, Var, Sort, Pi, Lam, App, Elim}
 use Rattle.theory.specs.Telescopes.{Telescope}
 use Rattle.theory.specs.Signatures.{equality, equation as equation_of, reflexivity}
 use Rattle.core_terms.specs.Levels.{variable, bind}
 use Rattle.core_terms.specs.declared.levels.Binder.{Binder}
 use Rattle.core_terms.specs.declared.levels.Binder.TheVariants.{Product, Function}
-use Rattle.tele_eq.specs.Items.{Item, type_at, level_at, greatest_level}
+use Rattle.tele_eq.specs.Items.{Item, type_at, level_at, greatest_level, each_position}
 use Rattle.tele_eq.specs.Dependences.{dependences}
 use Rattle.tele_eq.specs.Environments.{Environment, outside, inside, put}
 
@@ -57,7 +56,8 @@ motive X u w C s positions depth =
     (equations_over Product X w positions z e (depth + 2) (C z e (depth + 2 + 2 * length positions))))
 
 -- The telescopic J: a term of the goal at z and e, from a base for the goal at u and the reflexivities, by the eliminator into
--- Type m of one equation after the other. A position stands behind those that its type depends on.
+-- Type m of one equation after the other. A position stands behind those that its type depends on. Behind more than 10,000
+-- binders nothing is made, since no answer has it.
 --
 -- tj(s, t ..) = Eq.i_s!elim.m A_s u_s motive (\z_t e_t .. . tj(t ..)) z_s e_s z_t e_t ..
 abbrev pub telescopic_j : List Item → (u : Environment) → Lefts → (m : ℕ) → Goal → (base : ℕ → Term) (positions : List ℕ)
@@ -69,7 +69,9 @@ telescopic_j X u w m C base (s ∷ positions) z e depth =
     let rest = telescopic_j X u w m C base positions z' e' (depth + 2 * length positions) in
     let method = equations_over Function X w positions z' e' depth rest in
     let head = App (App (Elim (equality (level_at X s)) m) (type_with X u depth s)) (u depth s) in
-    applied_to_pairs (App (App head (motive X u w C s positions depth)) method) (s ∷ positions) z e depth
+    if nat_le depth 10000
+    then applied_to_pairs (App (App head (motive X u w C s positions depth)) method) (s ∷ positions) z e depth
+    else Sort 0
 
 -- A_j[u] -> A_j[z]
 abbrev pub transport_type : List Item → (u : Environment) → (j : ℕ) → Goal
@@ -105,7 +107,7 @@ as_bound depth j = variable depth j
 -- eqs(X; u; v): the telescope of the equations between two lists of terms, each over those before it
 abbrev pub equations : List Item → (left right : List Term) → Telescope
 equations X left right =
-    map (λ j. equation X (left_sides X (outside left)) (outside right) as_bound j j) (range_with_len 0 (length X))
+    each_position (λ j. equation X (left_sides X (outside left)) (outside right) as_bound j j) 0 (length X)
 
 -- the left term at position j, transported along the equations that its type depends on
 abbrev pub transport : List Item → (j : ℕ) (left right eqs : List Term) → Term
@@ -115,4 +117,4 @@ transport X j left right eqs =
 
 -- refls(X; u): refl.i_j A_j[u] u_j for each position
 abbrev pub reflexivities : List Item → (terms : List Term) → List Term
-reflexivities X terms = map (reflexive X (outside terms) 0) (range_with_len 0 (length X))
+reflexivities X terms = each_position (reflexive X (outside terms) 0) 0 (length X)
