@@ -1,7 +1,7 @@
 -- Equations, transports and congruences of some telescopes, as they stand in the types of no confusion.
 use Rattle.std.proofs.Common.{◌≡◌, ℕ, List, [], ◌∷◌, refl}
 use Rattle.theory.specs.Terms.{Term}
-use Rattle.theory.specs.Terms.Term.{Var, Sort, Pi, Lam, App, Fam, Con, Elim}
+use Rattle.theory.specs.Terms.Term.{Var, Pi, Lam, App, Fam, Con, Elim}
 use Rattle.theory.specs.Signatures.{equality, equation, reflexivity}
 use Rattle.tele_eq.specs.Items.{Item}
 use Rattle.tele_eq.specs.Dependences.{dependences}

@@ -1,5 +1,5 @@
 -- What the environments of the code stand for.
-use Rattle.std.specs.Prelude.{ℕ, ◌+◌, ◌*◌, ◌≤◌, List, length}
+use Rattle.std.specs.Prelude.{◌+◌, ◌*◌, ◌≤◌, List, length}
 use Rattle.core_terms.specs.Meanings.{tele_of}
 use Rattle.tele_eq.specs.Environments as pure
 use Rattle.theory.specs.Terms.{Term}

@@ -2,7 +2,7 @@
 use Rattle.std.specs.Prelude.{ℕ, zero, suc, List, length}
 use Rattle.std.specs.List.{range_with_len}
 use Rattle.theory.specs.Terms.{Term}
-use Rattle.tele_eq.specs.Items.{Item, term_at, level_at, greatest_level, each_position}
+use Rattle.tele_eq.specs.Items.{Item, term_at, greatest_level, each_position}
 use Rattle.tele_eq.specs.Environments.{Environment, outside, put}
 use Rattle.tele_eq.specs.TelescopicEquality.{reflexive, equation, telescopic_j, left_sides}
 

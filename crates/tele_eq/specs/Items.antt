@@ -55,6 +55,11 @@ abbrev pub AreSmallTerms : List Term → Type 0
 AreSmallTerms [] = Unit {0}
 AreSmallTerms (t ∷ terms) = IsSmall t × AreSmallTerms terms
 
+-- the positions have a bound
+abbrev pub AreUpTo : ℕ → List ℕ → Type 0
+AreUpTo n [] = Unit {0}
+AreUpTo n (position ∷ positions) = (position ≤ n) × AreUpTo n positions
+
 -- the types of a telescope are small
 abbrev pub AreSmall : List Item → Type 0
 AreSmall tele = AreSmallTerms (map (λ item. item.type) tele)

@@ -104,10 +104,13 @@ left_sides X u = left_below (length X) X u
 abbrev pub as_bound : Environment
 as_bound depth j = variable depth j
 
+-- the equation of u_j and v_j behind those of the earlier positions, with the left sides that n levels of transports give
+abbrev pub equation_behind : (n : ℕ) → List Item → (left right : List Term) → (j : ℕ) → Term
+equation_behind n X left right j = equation X (left_below n X (outside left)) (outside right) as_bound j j
+
 -- eqs(X; u; v): the telescope of the equations between two lists of terms, each over those before it
 abbrev pub equations : List Item → (left right : List Term) → Telescope
-equations X left right =
-    each_position (λ j. equation X (left_sides X (outside left)) (outside right) as_bound j j) 0 (length X)
+equations X left right = each_position (equation_behind (length X) X left right) 0 (length X)
 
 -- the left term at position j, transported along the equations that its type depends on
 abbrev pub transport : List Item → (j : ℕ) (left right eqs : List Term) → Term

@@ -2,7 +2,7 @@ ghost use Rattle.std.specs.Prelude.{◌≡◌, ◌≤◌, ◌<◌, ◌+◌, ◌^
 ghost use Rattle.core_terms.specs.Answers.{Gives};
 ghost use Rattle.core_terms.specs.Meanings.{tree_of};
 ghost use Rattle.tele_eq.specs.Dependences as spec;
-ghost use Rattle.tele_eq.specs.Items.{AreSmall, items_of, type_at};
+ghost use Rattle.tele_eq.specs.Items.{AreSmall, AreUpTo, items_of, type_at};
 ghost use Rattle.theory.specs.Terms as tree;
 
 use crate::Item;
@@ -67,9 +67,12 @@ fn closed(
     at: u32,
     mut found: Vec<u32>,
 ) -> Result<Vec<u32>, Stop>
-    requires { AreSmall (items_of tele.now) }
+    requires small { AreSmall (items_of tele.now) }
+    requires at { at ≤ 2000 }
+    requires found { AreUpTo 2000 found.items }
     ensures is { Gives (λ v. v.items) result (Ok (spec.closed (items_of tele.now) j at found.items)) }
     ensures few { IfOk result (λ v. length v.items ≤ length found.items + at) }
+    ensures low { IfOk result (λ v. AreUpTo 2000 v.items) }
 {
     if at == 0 {
         return Ok(found);
@@ -84,9 +87,11 @@ fn closed(
 
 /// The earlier positions that the type at position `j` depends on.
 pub(crate) fn dependences(alloc: Global, tele: &[Item], j: u32) -> Result<Vec<u32>, Stop>
-    requires { AreSmall (items_of tele.now) }
+    requires small { AreSmall (items_of tele.now) }
+    requires position { j ≤ 2000 }
     ensures is { Gives (λ v. v.items) result (Ok (spec.dependences (items_of tele.now) j)) }
-    ensures few { IfOk result (λ v. length v.items ≤ j) }
+    ensures few { IfOk result (λ v. length v.items ≤ 2000) }
+    ensures low { IfOk result (λ v. AreUpTo 2000 v.items) }
 {
     closed(alloc, tele, j, j, Vec::new(alloc))
 }
