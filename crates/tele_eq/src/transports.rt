@@ -11,6 +11,7 @@ use crate::dependences::dependences;
 use crate::environment::{Environment, at, outside};
 use crate::equations::{Equations, equation_term};
 use crate::typing::{greatest_level, level_at, type_with};
+use core_sig::equality;
 use core_terms::{Binder, Items, Stop, Tele, Term, bind, checked, variable};
 use std::alloc::Global;
 
@@ -93,7 +94,7 @@ pub(crate) fn equation(
     requires depth { depth ≤ 1000000 }
     ensures { Gives tree_of result (Ok (spec.equation (items_of tele.now) (spec.left_below n (items_of tele.now) (environments.outside (tele_of left.now))) (environment_of z.entry) (equations_of (items_of tele.now) (tele_of left.now) e.entry) depth j)) }
 {
-    let head = Term::Fam(level_at(tele, j) as u32 + 1);
+    let head = Term::Fam(equality(level_at(tele, j)));
     let head = Term::new_app(alloc, head, type_with(alloc, tele, z, depth, j)?)?;
     let w = left_below(alloc, n, tele, left, z, e, depth, j)?;
     let head = Term::new_app(alloc, head, w)?;
@@ -238,7 +239,7 @@ fn telescopic_j(
                 base,
             )?;
             let motive = motive(alloc, n, tele, left, j, *s, rest, positions, depth)?;
-            let head = Term::Elim(level_at(tele, *s) as u32 + 1, m);
+            let head = Term::Elim(equality(level_at(tele, *s)), m);
             let u = Environment::Outside(left);
             let head = Term::new_app(alloc, head, type_with(alloc, tele, u, depth, *s)?)?;
             let head = Term::new_app(alloc, head, outside(alloc, left, depth, *s)?)?;
@@ -286,7 +287,7 @@ fn motive(
         depth + 2,
         goal,
     )?;
-    let first = Term::Fam(level_at(tele, s) as u32 + 1);
+    let first = Term::Fam(equality(level_at(tele, s)));
     let first = Term::new_app(alloc, first, type_with(alloc, tele, u, depth + 1, s)?)?;
     let first = Term::new_app(alloc, first, outside(alloc, left, depth + 1, s)?)?;
     let first = Term::new_app(alloc, first, variable(depth + 1, depth))?;

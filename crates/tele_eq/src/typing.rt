@@ -9,6 +9,7 @@ ghost use Rattle.tele_eq.specs.TelescopicEquality as spec;
 
 use crate::Item;
 use crate::environment::{Environment, outside, put};
+use core_sig::equality;
 use core_terms::{Stop, Term};
 use std::alloc::Global;
 
@@ -83,7 +84,7 @@ pub(crate) fn reflexive(
     ensures { Gives tree_of result (Ok (spec.reflexive (items_of tele.now) (environments.outside (tele_of terms.now)) depth j)) }
 {
     let ty = type_with(alloc, tele, Environment::Outside(terms), depth, j)?;
-    let head = Term::Con(level_at(tele, j) as u32 + 1, 0);
+    let head = Term::Con(equality(level_at(tele, j)), 0);
     let head = Term::new_app(alloc, head, ty)?;
     Term::new_app(alloc, head, outside(alloc, terms, depth, j)?)
 }
