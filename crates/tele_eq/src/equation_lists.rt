@@ -1,0 +1,67 @@
+ghost use Rattle.std.specs.Prelude.{◌≡◌, ◌≤◌, ◌+◌, ◌++◌, Ok, length};
+ghost use Rattle.core_terms.specs.Answers.{Gives};
+ghost use Rattle.core_terms.specs.Meanings.{tele_of};
+ghost use Rattle.tele_eq.specs.Environments.{outside};
+ghost use Rattle.tele_eq.specs.Items.{AreSmall, AreSmallTerms, bounded_terms, each_position, items_of};
+ghost use Rattle.tele_eq.specs.TelescopicEquality as spec;
+
+use crate::Item;
+use crate::environment::Environment;
+use crate::equations::Equations;
+use crate::lists::bounded_terms;
+use crate::transports::equation;
+use core_terms::{Items, Stop, Tele, Term};
+use std::alloc::Global;
+
+/// The equations at `count` positions from `j` on, behind those that are made.
+#[tactic(auto, using(crate::proofs::Growing::growing))]
+fn equations_from(
+    alloc: Global,
+    n: u32,
+    tele: &[Item],
+    left: &[Term],
+    right: &[Term],
+    j: u32,
+    count: u32,
+    mut made: Tele,
+) -> Result<Tele, Stop>
+    requires items { AreSmall (items_of tele.now) }
+    requires left { AreSmallTerms (tele_of left.now) }
+    requires right { AreSmallTerms (tele_of right.now) }
+    requires positions { j + count ≤ 2000 }
+    ensures { Gives tele_of result (Ok (tele_of made ++ each_position (spec.equation_behind n (items_of tele.now) (tele_of left.now) (tele_of right.now)) j count)) }
+{
+    if count == 0 {
+        return Ok(made);
+    }
+    let z = Environment::Outside(right);
+    made.push(equation(alloc, n, tele, left, z, Equations::Bound, j, j)?)?;
+    equations_from(alloc, n, tele, left, right, j + 1, count - 1, made)
+}
+
+/// The telescope of the equations between two lists of terms, or Deep where one of them is too high.
+pub fn tele_equations(
+    alloc: Global,
+    tele: &Items<Item>,
+    left: &Tele,
+    right: &Tele,
+) -> Result<Tele, Stop>
+    requires few { length tele.now ≤ 2000 }
+    requires items { AreSmall (items_of tele.now) }
+    requires left { AreSmallTerms (tele_of left.now) }
+    requires right { AreSmallTerms (tele_of right.now) }
+    ensures { Gives tele_of result (bounded_terms (spec.equations (items_of tele.now) (tele_of left.now) (tele_of right.now))) }
+{
+    let count = tele.as_slice().len() as u32;
+    let made = equations_from(
+        alloc,
+        count,
+        tele.as_slice(),
+        left.as_slice(),
+        right.as_slice(),
+        0,
+        count,
+        Items::new(alloc),
+    )?;
+    bounded_terms(made)
+}
