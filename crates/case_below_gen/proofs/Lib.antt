@@ -1,0 +1,3 @@
+mod Examples
+pub mod FewCases
+pub mod ShapesOfCode

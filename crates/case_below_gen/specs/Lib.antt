@@ -1,0 +1,3 @@
+pub mod CaseEntries
+pub mod Drafts
+pub mod FamilyShapes

@@ -1,0 +1,55 @@
+ghost use Rattle.std.specs.Prelude.{◌≡◌, ◌≤◌, ◌+◌};
+ghost use Rattle.core_terms.specs.Answers.{Gives};
+ghost use Rattle.core_terms.specs.Meanings.{tree_of, tele_of};
+ghost use Rattle.core_sig.specs.Shapes.{IsFew, shape_of};
+ghost use Rattle.case_below_gen.specs.CaseEntries as spec;
+
+use core_sig::{Family, arguments_over, family_at};
+use core_terms::{
+    Binder, Stop, Term, applied_to_run, bind, copy_tele, functions, products, variable,
+};
+use std::alloc::Global;
+
+/// Binds a telescope around `end`.
+pub fn closed_over(alloc: Global, binder: Binder, tele: &[Term], end: Term) -> Result<Term, Stop>
+    ensures { Gives tree_of result (Ok (spec.closed_over binder (tele_of tele.now) (tree_of end))) }
+{
+    let tele = copy_tele(alloc, tele)?.into_vec();
+    match binder {
+        Binder::Product => products(alloc, tele, end),
+        Binder::Function => functions(alloc, tele, end),
+    }
+}
+
+/// Binds the indices and the scrutinee around `end`, at a depth.
+pub fn scrutinee_over(
+    alloc: Global,
+    binder: Binder,
+    fam: u32,
+    f: &Family,
+    depth: u32,
+    end: Term,
+) -> Result<Term, Stop>
+    requires few { IsFew (shape_of f.now) }
+    requires depth { depth ≤ 100000 }
+    ensures { Gives tree_of result (Ok (spec.scrutinee_over binder fam (shape_of f.now) depth (tree_of end))) }
+{
+    let params = f.params.as_slice().len() as u32;
+    let indices = f.indices.as_slice();
+    let count = indices.len() as u32;
+    let domain = family_at(alloc, fam, params, depth + count, depth, count)?;
+    let end = bind(alloc, binder, domain, end)?;
+    let runs = [(0, params), (depth, count)];
+    arguments_over(alloc, binder, &runs, params, depth, indices, end)
+}
+
+/// `head` applied to the indices and the scrutinee, which are the last variables.
+pub fn at_scrutinee(alloc: Global, count: u32, depth: u32, head: Term) -> Result<Term, Stop>
+    requires count { count ≤ 2000 }
+    requires depth { depth ≤ 100000 }
+    ensures { Gives tree_of result (Ok (spec.at_scrutinee count depth (tree_of head))) }
+{
+    let inside = depth + count + 1;
+    let head = applied_to_run(alloc, head, inside, depth, count)?;
+    Term::new_app(alloc, head, variable(inside, depth + count))
+}

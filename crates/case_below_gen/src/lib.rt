@@ -1,0 +1,10 @@
+//! Generated entries for case analysis: `D!case.m` of each family.
+#![tactic(auto)]
+
+mod binding;
+mod branches;
+mod cases;
+mod drafts;
+
+pub use cases::case_entry;
+pub use drafts::{drafted, generated_name};
