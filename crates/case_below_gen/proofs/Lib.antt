@@ -1,3 +1,4 @@
+pub mod CaseTypes
 mod Examples
 pub mod FewCases
 pub mod ShapesOfCode

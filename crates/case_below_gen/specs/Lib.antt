@@ -1,3 +1,4 @@
 pub mod CaseEntries
+pub mod CaseLaws
 pub mod Drafts
 pub mod FamilyShapes

@@ -5,6 +5,7 @@ mod binding;
 mod branches;
 mod cases;
 mod drafts;
+pub mod laws;
 
 pub use cases::case_entry;
 pub use drafts::{drafted, generated_name};
