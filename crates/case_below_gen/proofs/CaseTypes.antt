@@ -15,7 +15,6 @@ use Rattle.theory.specs.Eliminators.{hypothesis_types, method_types}
 use Rattle.theory.proofs.Instances.{ren-is_inst}
 use Rattle.theory.proofs.Scopes.{scoped-arguments}
 use Rattle.theory.proofs.ScopedTypes.{scoped-head}
-use Rattle.core_terms.specs.Answers.{bounded}
 use Rattle.core_terms.specs.declared.levels.Binder.TheVariants.{Product}
 use Rattle.core_terms.specs.Levels.{variable, level_at, run}
 use Rattle.core_terms.proofs.Placing.{IsPlaced, Alike, alike-pi, alike-products, alike-over, alike-bounded, placed-further, run-variables}
@@ -211,7 +210,7 @@ alike-case n f m scoped =
     depth = p + 1 + length (map (constructor_shape n f) f.constructors)
 
     goal : Term
-    goal = scrutinee_over Product n (family_shape n f) depth (at_scrutinee k depth (variable (depth + k + 1) p))
+    goal = scrutinee_over Product n (family_shape n f) depth (at_scrutinee (depth + k + 1) depth k (variable (depth + k + 1) p))
 
     methods : Term
     methods = arrows (method_types (λ v. Var (suc v)) n (map weaken (variables p)) (Var 0) 0 (map (plain_constructor n f) f.constructors)) E

@@ -1,25 +1,10 @@
 -- Entries of case analysis, as a reader would write them.
-use Rattle.std.proofs.Common.{◌≡◌, ℕ, List, [], ◌∷◌, codes, refl}
+use Rattle.std.proofs.Common.{◌≡◌, ℕ, refl}
 use Rattle.theory.specs.Terms.{Term}
 use Rattle.theory.specs.Terms.Term.{Var, Sort, Pi, Lam, App, Fam, Con, Elim}
-use Rattle.theory.specs.Families.{Family, Argument, Plain, Recursive}
 use Rattle.case_below_gen.specs.CaseEntries.{case_type, case_term}
 use Rattle.case_below_gen.specs.FamilyShapes.{family_shape}
-
--- entry 2: Nat, with zero and suc
-abbrev Nat : Term
-Nat = Fam 2
-
-abbrev nat : Family
-nat = record {
-  name = codes "Nat";
-  parameters = [];
-  indices = [];
-  level = 0;
-  constructors =
-      record { name = codes "zero"; arguments = []; targets = [] }
-      ∷ record { name = codes "suc"; arguments = Recursive [] [] 0 ∷ []; targets = [] } ∷ [];
-}
+use Rattle.case_below_gen.proofs.Samples.{Nat, nat, Vec, vec, ord, acc}
 
 -- (P : Nat -> Type m) -> P zero -> ((n : Nat) -> P (suc n)) -> (n : Nat) -> P n
 nat_case_type : (m : ℕ) → case_type 2 (family_shape 2 nat) m
@@ -38,25 +23,6 @@ nat_case_term : (m : ℕ) → case_term 2 (family_shape 2 nat) m
     (Lam Nat
     (App (App (App (App (Elim 2 m) (Var 3)) (Var 2)) (Lam Nat (Lam (App (Var 4) (Var 0)) (App (Var 3) (Var 1))))) (Var 0)))))
 nat_case_term m = refl
-
--- entry 3: Vec A : Nat -> Type 0, with nil : Vec A zero and cons : (n : Nat) -> A -> Vec A n -> Vec A (suc n)
-abbrev Vec : Term → Term → Term
-Vec A n = App (App (Fam 3) A) n
-
-abbrev vec : Family
-vec = record {
-  name = codes "Vec";
-  parameters = Sort 0 ∷ [];
-  indices = (Nat, 0) ∷ [];
-  level = 0;
-  constructors =
-      record { name = codes "nil"; arguments = []; targets = Con 2 0 ∷ [] }
-      ∷ record {
-        name = codes "cons";
-        arguments = Plain Nat 0 ∷ Plain (Var 1) 0 ∷ Recursive [] (Var 1 ∷ []) 0 ∷ [];
-        targets = App (Con 2 1) (Var 2) ∷ [];
-      } ∷ [];
-}
 
 abbrev cons : Term → Term → Term → Term → Term
 cons A n a v = App (App (App (App (Con 3 1) A) n) a) v
@@ -85,16 +51,6 @@ vec_case_term : (m : ℕ) → case_term 3 (family_shape 3 vec) m
     (Var 1)) (Var 0)))))))
 vec_case_term m = refl
 
--- entry 4: Ord, with lim : Nat -> (Nat -> Ord) -> Ord
-abbrev ord : Family
-ord = record {
-  name = codes "Ord";
-  parameters = [];
-  indices = [];
-  level = 0;
-  constructors = record { name = codes "lim"; arguments = Plain Nat 0 ∷ Recursive (Nat ∷ []) [] 0 ∷ []; targets = [] } ∷ [];
-}
-
 -- \P l o. Ord!elim.m P (\n f h. l n f) o, with h : (i : Nat) -> P (f i)
 ord_case_term : (m : ℕ) → case_term 4 (family_shape 4 ord) m
     ≡ Lam (Pi (Fam 4) (Sort m))
@@ -104,21 +60,6 @@ ord_case_term : (m : ℕ) → case_term 4 (family_shape 4 ord) m
     (Lam Nat (Lam (Pi Nat (Fam 4)) (Lam (Pi Nat (App (Var 5) (App (Var 1) (Var 0)))) (App (App (Var 4) (Var 2)) (Var 1))))))
     (Var 0))))
 ord_case_term m = refl
-
--- entry 5: Acc (A : Type 0) (R : A -> A -> Type 0) : A -> Type 0,
--- with acc : (x : A) -> ((y : A) -> R y x -> Acc A R y) -> Acc A R x
-abbrev acc : Family
-acc = record {
-  name = codes "Acc";
-  parameters = Sort 0 ∷ Pi (Var 0) (Pi (Var 1) (Sort 0)) ∷ [];
-  indices = (Var 1, 0) ∷ [];
-  level = 0;
-  constructors = record {
-    name = codes "acc";
-    arguments = Plain (Var 1) 0 ∷ Recursive (Var 2 ∷ App (App (Var 2) (Var 0)) (Var 1) ∷ []) (Var 1 ∷ []) 0 ∷ [];
-    targets = Var 1 ∷ [];
-  } ∷ [];
-}
 
 abbrev Acc : Term → Term → Term → Term
 Acc A R x = App (App (App (Fam 5) A) R) x

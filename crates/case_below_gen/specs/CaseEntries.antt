@@ -64,9 +64,9 @@ case_over binder n f m end =
     (branches_over binder n p p 0 (p + 1) f.constructors
     (scrutinee_over binder n f (p + 1 + length f.constructors) end)))
 
--- `head` applied to the indices and the scrutinee, which are the last variables
-abbrev pub at_scrutinee : (k depth : ℕ) → Term → Term
-at_scrutinee k depth head = App (applied head (run (depth + k + 1) depth k)) (variable (depth + k + 1) (depth + k))
+-- `head` applied to k indices, whose levels begin with `start`, and to the scrutinee behind them, at a depth
+abbrev pub at_scrutinee : (depth start k : ℕ) → Term → Term
+at_scrutinee depth start k head = App (applied head (run depth start k)) (variable depth (start + k))
 
 -- the eliminator's type without hypotheses: (p) -> (P : (I) -> D p I -> Type m) -> methods -> (I) -> (x : D p I) -> P I x
 abbrev pub case_type : (n : ℕ) (f : Shape) (m : ℕ) → Term
@@ -74,7 +74,7 @@ case_type n f m =
     let p = length f.parameters in
     let k = length f.indices in
     let depth = p + 1 + length f.constructors in
-    case_over Product n f m (at_scrutinee k depth (variable (depth + k + 1) p))
+    case_over Product n f m (at_scrutinee (depth + k + 1) depth k (variable (depth + k + 1) p))
 
 -- \p P methods I x. D!elim.m p P methods' I x, with methods' that drop the hypotheses
 abbrev pub case_term : (n : ℕ) (f : Shape) (m : ℕ) → Term
@@ -84,7 +84,7 @@ case_term n f m =
     let depth = p + 1 + length f.constructors in
     let inside = depth + k + 1 in
     case_over Function n f m
-    (at_scrutinee k depth
+    (at_scrutinee inside depth k
     (applied_to_droppings p k p (p + 1) inside (App (applied (Elim n m) (run inside 0 p)) (variable inside p)) f.constructors))
 
 -- the entry for a family with a name and a shape, over `base` entries

@@ -1,6 +1,6 @@
 -- The shape of a family of the theory: each recursive argument with its whole type.
 use Rattle.std.specs.Prelude.{ℕ, ◌+◌, List, [], ◌∷◌, map, length}
-use Rattle.theory.specs.Terms.{Term, Var}
+use Rattle.theory.specs.Terms.{Var}
 use Rattle.theory.specs.Telescopes.{weaken_by}
 use Rattle.theory.specs.Families.{Argument, Plain, Recursive, Constructor, Family, level_of, family_head, argument_type}
 use Rattle.core_sig.specs.Shapes.{ArgumentShape, ConstructorShape, Shape}

@@ -43,13 +43,17 @@ pub fn scrutinee_over(
     arguments_over(alloc, binder, &runs, params, depth, indices, end)
 }
 
-/// `head` applied to the indices and the scrutinee, which are the last variables.
-pub fn at_scrutinee(alloc: Global, count: u32, depth: u32, head: Term) -> Result<Term, Stop>
-    requires count { count ≤ 2000 }
-    requires depth { depth ≤ 100000 }
-    ensures { Gives tree_of result (Ok (spec.at_scrutinee count depth (tree_of head))) }
+/// `head` applied to `count` indices, whose levels begin with `start`, and to the scrutinee behind them, at a depth.
+pub fn at_scrutinee(
+    alloc: Global,
+    depth: u32,
+    start: u32,
+    count: u32,
+    head: Term,
+) -> Result<Term, Stop>
+    requires { start + count ≤ 1000000 }
+    ensures { Gives tree_of result (Ok (spec.at_scrutinee depth start count (tree_of head))) }
 {
-    let inside = depth + count + 1;
-    let head = applied_to_run(alloc, head, inside, depth, count)?;
-    Term::new_app(alloc, head, variable(inside, depth + count))
+    let head = applied_to_run(alloc, head, depth, start, count)?;
+    Term::new_app(alloc, head, variable(depth, start + count))
 }

@@ -50,7 +50,8 @@ fn case_type(alloc: Global, fam: u32, f: &Family, m: u8) -> Result<Term, Stop>
     let params = f.params.as_slice().len() as u32;
     let count = f.indices.as_slice().len() as u32;
     let depth = params + 1 + f.cons.as_slice().len() as u32;
-    let end = at_scrutinee(alloc, count, depth, variable(depth + count + 1, params))?;
+    let inside = depth + count + 1;
+    let end = at_scrutinee(alloc, inside, depth, count, variable(inside, params))?;
     case_over(alloc, Binder::Product, fam, f, m, end)
 }
 
@@ -68,7 +69,7 @@ fn case_term(alloc: Global, fam: u32, f: &Family, m: u8) -> Result<Term, Stop>
     let head = Term::new_app(alloc, head, variable(inside, params))?;
     let motive = motive_of(f);
     let head = applied_to_droppings(alloc, motive, params + 1, inside, head, cons)?;
-    let end = at_scrutinee(alloc, count, depth, head)?;
+    let end = at_scrutinee(alloc, inside, depth, count, head)?;
     case_over(alloc, Binder::Function, fam, f, m, end)
 }
 

@@ -1,6 +1,6 @@
 use Rattle.std.proofs.Common.{◌≡◌, Some, sym, ap, ap₂, ◌∙◌, length, subst as transport}
 use Rattle.theory.specs.Families as pure
-use Rattle.theory.specs.Signatures.{Entry, FamilyOf}
+use Rattle.theory.specs.Signatures.{FamilyOf}
 use Rattle.core_terms.specs.Answers.{Gives}
 use Rattle.core_sig.specs.Kinds.{HasEntryKinds}
 use Rattle.core_sig.specs.Meanings.{entry_of, family_of}
