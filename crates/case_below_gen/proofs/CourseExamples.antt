@@ -3,7 +3,9 @@ use Rattle.std.proofs.Common.{◌≡◌, ℕ, ◌+◌, refl}
 use Rattle.theory.specs.Terms.Term.{Var, Sort, Pi, Lam, App, Const, Fam, Con, Elim}
 use Rattle.theory.specs.Prelude.{unit_type, pair_type}
 use Rattle.case_below_gen.specs.CourseEntries.{course_of, below_type, below_term, aux_type, aux_term}
+use Rattle.case_below_gen.specs.declared.sides.Side.TheVariants.{First, Second}
 use Rattle.case_below_gen.specs.FamilyShapes.{family_shape}
+use Rattle.case_below_gen.specs.Projections.{side_entry_type, side_entry_term}
 use Rattle.case_below_gen.proofs.Samples.{nat, vec, ord, acc}
 
 -- (P : Nat -> Type m) -> Nat -> Type m
@@ -60,3 +62,33 @@ vec_aux_term m b = refl
 acc_aux_term : (m b : ℕ) → aux_term 5 (family_shape 5 acc) (course_of (family_shape 5 acc) m b)
     ≡ Lam (Sort 0) (Lam (Pi (Var 0) (Pi (Var 1) (Sort 0))) (Lam (Pi (Var 1) (Pi (App (App (App (Fam 5) (Var 2)) (Var 1)) (Var 0)) (Sort m))) (Lam (Pi (Var 2) (Pi (App (App (App (Fam 5) (Var 3)) (Var 2)) (Var 0)) (Pi (App (App (App (App (App (Const b) (Var 4)) (Var 3)) (Var 2)) (Var 1)) (Var 0)) (App (App (Var 3) (Var 2)) (Var 1))))) (Lam (Var 3) (Lam (App (App (App (Fam 5) (Var 4)) (Var 3)) (Var 0)) (App (App (App (App (App (App (Elim 5 m) (Var 5)) (Var 4)) (Lam (Var 5) (Lam (App (App (App (Fam 5) (Var 6)) (Var 5)) (Var 0)) (App (App (Fam (pair_type m)) (App (App (Var 5) (Var 1)) (Var 0))) (App (App (App (App (App (Const b) (Var 7)) (Var 6)) (Var 5)) (Var 1)) (Var 0)))))) (Lam (Var 5) (Lam (Pi (Var 6) (Pi (App (App (Var 6) (Var 0)) (Var 1)) (App (App (App (Fam 5) (Var 8)) (Var 7)) (Var 1)))) (Lam (Pi (Var 7) (Pi (App (App (Var 7) (Var 0)) (Var 2)) (App (App (Fam (pair_type m)) (App (App (Var 7) (Var 1)) (App (App (Var 2) (Var 1)) (Var 0)))) (App (App (App (App (App (Const b) (Var 9)) (Var 8)) (Var 7)) (Var 1)) (App (App (Var 2) (Var 1)) (Var 0)))))) (App (App (App (App (Con (pair_type m) 0) (App (App (Var 6) (Var 2)) (App (App (App (App (Con 5 0) (Var 8)) (Var 7)) (Var 2)) (Var 1)))) (App (App (App (App (App (Const b) (Var 8)) (Var 7)) (Var 6)) (Var 2)) (App (App (App (App (Con 5 0) (Var 8)) (Var 7)) (Var 2)) (Var 1)))) (App (App (App (Var 5) (Var 2)) (App (App (App (App (Con 5 0) (Var 8)) (Var 7)) (Var 2)) (Var 1))) (App (App (App (App (Con (pair_type m) 0) (Pi (Var 8) (Pi (App (App (Var 8) (Var 0)) (Var 3)) (App (App (Fam (pair_type m)) (App (App (Var 8) (Var 1)) (App (App (Var 3) (Var 1)) (Var 0)))) (App (App (App (App (App (Const b) (Var 10)) (Var 9)) (Var 8)) (Var 1)) (App (App (Var 3) (Var 1)) (Var 0))))))) (Fam (unit_type m))) (Var 0)) (Con (unit_type m) 0)))) (App (App (App (App (Con (pair_type m) 0) (Pi (Var 8) (Pi (App (App (Var 8) (Var 0)) (Var 3)) (App (App (Fam (pair_type m)) (App (App (Var 8) (Var 1)) (App (App (Var 3) (Var 1)) (Var 0)))) (App (App (App (App (App (Const b) (Var 10)) (Var 9)) (Var 8)) (Var 1)) (App (App (Var 3) (Var 1)) (Var 0))))))) (Fam (unit_type m))) (Var 0)) (Con (unit_type m) 0))))))) (Var 1)) (Var 0)))))))
 acc_aux_term m b = refl
+
+-- (P : Nat -> Type m) -> (s : (n : Nat) -> Nat!below.m P n -> P n) -> (n : Nat) -> P n
+nat_rec_type : (m b : ℕ) → side_entry_type First 2 (family_shape 2 nat) (course_of (family_shape 2 nat) m b)
+    ≡ Pi (Pi (Fam 2) (Sort m)) (Pi (Pi (Fam 2) (Pi (App (App (Const b) (Var 1)) (Var 0)) (App (Var 2) (Var 1)))) (Pi (Fam 2) (App (Var 2) (Var 0))))
+nat_rec_type m b = refl
+
+-- \P s n. the first side of Nat!aux.m P s n
+nat_rec_term : (m b : ℕ) → side_entry_term First 2 (family_shape 2 nat) (course_of (family_shape 2 nat) m b) (b + 1)
+    ≡ Lam (Pi (Fam 2) (Sort m)) (Lam (Pi (Fam 2) (Pi (App (App (Const b) (Var 1)) (Var 0)) (App (Var 2) (Var 1)))) (Lam (Fam 2) (App (App (App (App (App (Elim (pair_type m) m) (App (Var 2) (Var 0))) (App (App (Const b) (Var 2)) (Var 0))) (Lam (App (App (Fam (pair_type m)) (App (Var 2) (Var 0))) (App (App (Const b) (Var 2)) (Var 0))) (App (Var 3) (Var 1)))) (Lam (App (Var 2) (Var 0)) (Lam (App (App (Const b) (Var 3)) (Var 1)) (Var 1)))) (App (App (App (Const (b + 1)) (Var 2)) (Var 1)) (Var 0)))))
+nat_rec_term m b = refl
+
+-- the first side of Vec!aux.m A P s n v
+vec_rec_term : (m b : ℕ) → side_entry_term First 3 (family_shape 3 vec) (course_of (family_shape 3 vec) m b) (b + 1)
+    ≡ Lam (Sort 0) (Lam (Pi (Fam 2) (Pi (App (App (Fam 3) (Var 1)) (Var 0)) (Sort m))) (Lam (Pi (Fam 2) (Pi (App (App (Fam 3) (Var 2)) (Var 0)) (Pi (App (App (App (App (Const b) (Var 3)) (Var 2)) (Var 1)) (Var 0)) (App (App (Var 3) (Var 2)) (Var 1))))) (Lam (Fam 2) (Lam (App (App (Fam 3) (Var 3)) (Var 0)) (App (App (App (App (App (Elim (pair_type m) m) (App (App (Var 3) (Var 1)) (Var 0))) (App (App (App (App (Const b) (Var 4)) (Var 3)) (Var 1)) (Var 0))) (Lam (App (App (Fam (pair_type m)) (App (App (Var 3) (Var 1)) (Var 0))) (App (App (App (App (Const b) (Var 4)) (Var 3)) (Var 1)) (Var 0))) (App (App (Var 4) (Var 2)) (Var 1)))) (Lam (App (App (Var 3) (Var 1)) (Var 0)) (Lam (App (App (App (App (Const b) (Var 5)) (Var 4)) (Var 2)) (Var 1)) (Var 1)))) (App (App (App (App (App (Const (b + 1)) (Var 4)) (Var 3)) (Var 2)) (Var 1)) (Var 0)))))))
+vec_rec_term m b = refl
+
+-- (A) -> (P) -> (s) -> (n : Nat) -> (v : Vec A n) -> Vec!below.m A P n v
+vec_all_type : (m b : ℕ) → side_entry_type Second 3 (family_shape 3 vec) (course_of (family_shape 3 vec) m b)
+    ≡ Pi (Sort 0) (Pi (Pi (Fam 2) (Pi (App (App (Fam 3) (Var 1)) (Var 0)) (Sort m))) (Pi (Pi (Fam 2) (Pi (App (App (Fam 3) (Var 2)) (Var 0)) (Pi (App (App (App (App (Const b) (Var 3)) (Var 2)) (Var 1)) (Var 0)) (App (App (Var 3) (Var 2)) (Var 1))))) (Pi (Fam 2) (Pi (App (App (Fam 3) (Var 3)) (Var 0)) (App (App (App (App (Const b) (Var 4)) (Var 3)) (Var 1)) (Var 0))))))
+vec_all_type m b = refl
+
+-- the second side of Vec!aux.m A P s n v
+vec_all_term : (m b : ℕ) → side_entry_term Second 3 (family_shape 3 vec) (course_of (family_shape 3 vec) m b) (b + 1)
+    ≡ Lam (Sort 0) (Lam (Pi (Fam 2) (Pi (App (App (Fam 3) (Var 1)) (Var 0)) (Sort m))) (Lam (Pi (Fam 2) (Pi (App (App (Fam 3) (Var 2)) (Var 0)) (Pi (App (App (App (App (Const b) (Var 3)) (Var 2)) (Var 1)) (Var 0)) (App (App (Var 3) (Var 2)) (Var 1))))) (Lam (Fam 2) (Lam (App (App (Fam 3) (Var 3)) (Var 0)) (App (App (App (App (App (Elim (pair_type m) m) (App (App (Var 3) (Var 1)) (Var 0))) (App (App (App (App (Const b) (Var 4)) (Var 3)) (Var 1)) (Var 0))) (Lam (App (App (Fam (pair_type m)) (App (App (Var 3) (Var 1)) (Var 0))) (App (App (App (App (Const b) (Var 4)) (Var 3)) (Var 1)) (Var 0))) (App (App (App (App (Const b) (Var 5)) (Var 4)) (Var 2)) (Var 1)))) (Lam (App (App (Var 3) (Var 1)) (Var 0)) (Lam (App (App (App (App (Const b) (Var 5)) (Var 4)) (Var 2)) (Var 1)) (Var 0)))) (App (App (App (App (App (Const (b + 1)) (Var 4)) (Var 3)) (Var 2)) (Var 1)) (Var 0)))))))
+vec_all_term m b = refl
+
+-- the second side of Acc!aux.m A R P s x q
+acc_all_term : (m b : ℕ) → side_entry_term Second 5 (family_shape 5 acc) (course_of (family_shape 5 acc) m b) (b + 1)
+    ≡ Lam (Sort 0) (Lam (Pi (Var 0) (Pi (Var 1) (Sort 0))) (Lam (Pi (Var 1) (Pi (App (App (App (Fam 5) (Var 2)) (Var 1)) (Var 0)) (Sort m))) (Lam (Pi (Var 2) (Pi (App (App (App (Fam 5) (Var 3)) (Var 2)) (Var 0)) (Pi (App (App (App (App (App (Const b) (Var 4)) (Var 3)) (Var 2)) (Var 1)) (Var 0)) (App (App (Var 3) (Var 2)) (Var 1))))) (Lam (Var 3) (Lam (App (App (App (Fam 5) (Var 4)) (Var 3)) (Var 0)) (App (App (App (App (App (Elim (pair_type m) m) (App (App (Var 3) (Var 1)) (Var 0))) (App (App (App (App (App (Const b) (Var 5)) (Var 4)) (Var 3)) (Var 1)) (Var 0))) (Lam (App (App (Fam (pair_type m)) (App (App (Var 3) (Var 1)) (Var 0))) (App (App (App (App (App (Const b) (Var 5)) (Var 4)) (Var 3)) (Var 1)) (Var 0))) (App (App (App (App (App (Const b) (Var 6)) (Var 5)) (Var 4)) (Var 2)) (Var 1)))) (Lam (App (App (Var 3) (Var 1)) (Var 0)) (Lam (App (App (App (App (App (Const b) (Var 6)) (Var 5)) (Var 4)) (Var 2)) (Var 1)) (Var 0)))) (App (App (App (App (App (App (Const (b + 1)) (Var 5)) (Var 4)) (Var 3)) (Var 2)) (Var 1)) (Var 0))))))))
+acc_all_term m b = refl

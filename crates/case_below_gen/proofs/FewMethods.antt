@@ -19,6 +19,8 @@ use Rattle.case_below_gen.specs.declared.components.Ending.TheVariants.{Level, B
 use Rattle.case_below_gen.specs.CaseEntries.{scrutinee_over, at_scrutinee}
 use Rattle.case_below_gen.specs.Components.{components_over, tuple_type}
 use Rattle.case_below_gen.specs.CourseEntries.{course_of, applied_to_methods, eliminator_at, below_method, below_type, below_term, below_of_shape, aux_pair, aux_method, aux_goal, step_type, aux_type, aux_term, aux_of_shape}
+use Rattle.case_below_gen.specs.Projections.{HasFewBinders, projection, side_mark, side_entry_type, side_entry_term, side_of_shape}
+use Rattle.case_below_gen.specs.declared.sides.Side.{Side}
 use Rattle.case_below_gen.specs.Drafts.{Draft, drafted, generated_name}
 
 height-functions : (tele : Telescope) (b : Term) → height b + length tele ≤ height (functions tele b)
@@ -117,3 +119,26 @@ pub aux-deep : (base : ℕ) (name : List ℕ) (n : ℕ) (f : Shape) (m : ℕ) �
 aux-deep base name n f m many =
     drafted-deep (generated_name name (codes "!aux.") m) base (generated_name name (codes "!below.") m ∷ [])
     (aux_type n f (course_of f m base)) (aux_term n f (course_of f m base)) (λ low. many (few-aux n f m base low))
+
+-- ---- rec and all
+
+few-steps : (n : ℕ) (f : Shape) (depth : ℕ) (motive step kept : Term) → height (functions f.parameters (Lam motive (Lam step (scrutinee_over Function n f depth kept)))) ≤ 2000 → HasFewBinders f
+few-steps n f depth motive step kept low =
+    let p = length f.parameters in
+    let k = length f.indices in
+    let end = scrutinee_over Function n f depth kept in
+    let outer = height-functions f.parameters (Lam motive (Lam step end)) in
+    let inner = height-over Function ((0, p) ∷ (depth, k) ∷ []) p depth (types_of f.indices) (Lam (family_at n p (depth + k) depth k) kept) in
+    let types = length-map f.indices (λ a. a.type) in
+    record { parameters = omega arith; indices = omega arith }
+
+few-sides : (side : Side) (n : ℕ) (f : Shape) (m below aux : ℕ) → height (side_entry_term side n f (course_of f m below) aux) ≤ 2000 → HasFewBinders f
+few-sides side n f m below aux low =
+    let p = length f.parameters in
+    let q = course_of f m below in
+    few-steps n f (p + 2) (motive_type n f m p) (step_type n f q (p + 1)) (projection side q aux (p + 2 + length f.indices + 1) (p + 2)) low
+
+pub side-deep : (side : Side) (base : ℕ) (name : List ℕ) (n : ℕ) (f : Shape) (m : ℕ) → ¬ HasFewBinders f → Err Deep ≡ side_of_shape side base name n f m
+side-deep side base name n f m many =
+    drafted-deep (generated_name name (side_mark side) m) base (generated_name name (codes "!below.") m ∷ generated_name name (codes "!aux.") m ∷ [])
+    (side_entry_type side n f (course_of f m base)) (side_entry_term side n f (course_of f m base) (base + 1)) (λ low. many (few-sides side n f m base (base + 1) low))

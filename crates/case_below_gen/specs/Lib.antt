@@ -4,3 +4,4 @@ pub mod Components
 pub mod CourseEntries
 pub mod Drafts
 pub mod FamilyShapes
+pub mod Projections

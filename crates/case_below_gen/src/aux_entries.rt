@@ -9,15 +9,15 @@ ghost use Rattle.theory.specs.Terms.{top};
 ghost use Rattle.case_below_gen.specs.CourseEntries as spec;
 ghost use Rattle.case_below_gen.specs.Drafts.{draft_of};
 
-use crate::binding::{at_scrutinee, closed_over, scrutinee_over};
-use crate::components::{Course, Ending, below_at, components_over, pair_of, pair_with, tuple};
+use crate::binding::{at_scrutinee, scrutinee_over};
+use crate::components::{Course, Ending, below_at, components_over, pair_with, tuple};
 use crate::courses::{at_constructor, course_of, eliminator_at, only_name};
 use crate::drafts::{drafted, generated_name};
+use crate::steps::{aux_goal, step_over};
 use core_sig::{
-    Constructor, Draft, Entry, Family, Signature, arguments_over, is_few, motive_type,
-    recursive_count,
+    Constructor, Draft, Entry, Family, Signature, arguments_over, is_few, recursive_count,
 };
-use core_terms::{Binder, Stop, Term, bind, variable};
+use core_terms::{Binder, Stop, Term, variable};
 use std::alloc::Global;
 
 /// The entry `D!aux.m` for family number `fam`: from a step, the motive into `Type m` at a term and at each of its strict parts.
@@ -72,56 +72,6 @@ fn aux_term(alloc: Global, fam: u32, f: &Family, m: u8, below: u32) -> Result<Te
     let head = applied_to_aux_methods(alloc, fam, q, inside, 0, head, f.cons.as_slice())?;
     let end = at_scrutinee(alloc, inside, start, q.indices, head)?;
     step_over(alloc, Binder::Function, fam, f, q, end)
-}
-
-/// Binds the parameters, the motive, the step, the indices and the scrutinee around `end`.
-fn step_over(
-    alloc: Global,
-    binder: Binder,
-    fam: u32,
-    f: &Family,
-    q: Course,
-    end: Term,
-) -> Result<Term, Stop>
-    requires few { IsFew (shape_of f.now) }
-    requires params { q.params ≤ 2000 }
-    requires indices { q.indices ≤ 2000 }
-    ensures { Gives tree_of result (Ok (spec.step_over binder fam (shape_of f.now) q (tree_of end))) }
-{
-    let end = scrutinee_over(alloc, binder, fam, f, q.params + 2, end)?;
-    let step = step_type(alloc, fam, f, q, q.params + 1)?;
-    let end = bind(alloc, binder, step, end)?;
-    let motive = motive_type(alloc, fam, f, q.m, q.params)?;
-    let end = bind(alloc, binder, motive, end)?;
-    closed_over(alloc, binder, f.params.as_slice(), end)
-}
-
-/// The type of a step, at a depth.
-fn step_type(alloc: Global, fam: u32, f: &Family, q: Course, depth: u32) -> Result<Term, Stop>
-    requires few { IsFew (shape_of f.now) }
-    requires indices { q.indices ≤ 2000 }
-    requires depth { depth ≤ 20000 }
-    ensures { Gives tree_of result (Ok (spec.step_type fam (shape_of f.now) q depth)) }
-{
-    let inside = depth + q.indices + 1;
-    let below = below_at(alloc, q, inside)?;
-    let below = at_scrutinee(alloc, inside, depth, q.indices, below)?;
-    let motive = variable(inside + 1, q.params);
-    let goal = at_scrutinee(alloc, inside + 1, depth, q.indices, motive)?;
-    let end = Term::new_pi(alloc, below, goal)?;
-    scrutinee_over(alloc, Binder::Product, fam, f, depth, end)
-}
-
-/// The pair of the motive and `D!below.m` at the indices, whose levels begin with `start`, and at the scrutinee.
-fn aux_goal(alloc: Global, q: Course, depth: u32, start: u32) -> Result<Term, Stop>
-    requires { start + q.indices ≤ 1000000 }
-    ensures { Gives tree_of result (Ok (spec.aux_goal q depth start)) }
-{
-    let motive = variable(depth, q.params);
-    let first = at_scrutinee(alloc, depth, start, q.indices, motive)?;
-    let below = below_at(alloc, q, depth)?;
-    let second = at_scrutinee(alloc, depth, start, q.indices, below)?;
-    pair_of(alloc, q.m, first, second)
 }
 
 /// `head` applied to the methods for the constructors from `number` on, at a depth.

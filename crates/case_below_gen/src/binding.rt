@@ -1,8 +1,9 @@
 ghost use Rattle.std.specs.Prelude.{◌≡◌, ◌≤◌, ◌+◌};
 ghost use Rattle.core_terms.specs.Answers.{Gives};
 ghost use Rattle.core_terms.specs.Meanings.{tree_of, tele_of};
-ghost use Rattle.core_sig.specs.Shapes.{IsFew, shape_of};
+ghost use Rattle.core_sig.specs.Shapes.{shape_of};
 ghost use Rattle.case_below_gen.specs.CaseEntries as spec;
+ghost use Rattle.case_below_gen.specs.Projections.{HasFewBinders};
 
 use core_sig::{Family, arguments_over, family_at};
 use core_terms::{
@@ -30,7 +31,7 @@ pub fn scrutinee_over(
     depth: u32,
     end: Term,
 ) -> Result<Term, Stop>
-    requires few { IsFew (shape_of f.now) }
+    requires few { HasFewBinders (shape_of f.now) }
     requires depth { depth ≤ 100000 }
     ensures { Gives tree_of result (Ok (spec.scrutinee_over binder fam (shape_of f.now) depth (tree_of end))) }
 {

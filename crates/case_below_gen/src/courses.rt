@@ -2,8 +2,9 @@ ghost use Rattle.std.specs.Prelude.{◌≡◌, ◌≤◌, ◌+◌, ◌∷◌, []
 ghost use Rattle.core_terms.specs.Answers.{Gives};
 ghost use Rattle.core_terms.specs.Meanings.{tree_of};
 ghost use Rattle.core_terms.specs.declared.stop.Stop.TheVariants.{Memory};
-ghost use Rattle.core_sig.specs.Shapes.{IsFew, constructor_shape, shape_of};
+ghost use Rattle.core_sig.specs.Shapes.{constructor_shape, shape_of};
 ghost use Rattle.case_below_gen.specs.CourseEntries as spec;
+ghost use Rattle.case_below_gen.specs.Projections.{HasFewBinders};
 
 use crate::components::Course;
 use core_sig::{Constructor, Family};
@@ -12,7 +13,7 @@ use std::alloc::Global;
 
 /// A family's recursion into `Type m`, where `D!below.m` is the constant `below`.
 pub fn course_of(f: &Family, m: u8, below: u32) -> Course
-    requires { IsFew (shape_of f.now) }
+    requires { HasFewBinders (shape_of f.now) }
     ensures { result ≡ spec.course_of (shape_of f.now) m below }
 {
     Course {

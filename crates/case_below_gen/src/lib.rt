@@ -10,8 +10,11 @@ mod components;
 mod courses;
 mod drafts;
 pub mod laws;
+mod sides;
+mod steps;
 
 pub use aux_entries::aux_entry;
 pub use below_entries::below_entry;
 pub use cases::case_entry;
 pub use drafts::{drafted, generated_name};
+pub use sides::{all_entry, rec_entry};
