@@ -1,11 +1,13 @@
 -- Entries of course-of-values recursion.
-use Rattle.std.proofs.Common.{◌≡◌, ℕ, ◌+◌, refl}
+use Rattle.std.proofs.Common.{◌≡◌, ℕ, ◌+◌, [], ◌∷◌, Ok, codes, refl}
 use Rattle.theory.specs.Terms.Term.{Var, Sort, Pi, Lam, App, Const, Fam, Con, Elim}
 use Rattle.theory.specs.Prelude.{unit_type, pair_type}
-use Rattle.case_below_gen.specs.CourseEntries.{course_of, below_type, below_term, aux_type, aux_term}
+use Rattle.theory.specs.Signatures.{Definition}
+use Rattle.case_below_gen.specs.CourseEntries.{course_of, below_type, below_term, aux_type, aux_term, aux_entry}
 use Rattle.case_below_gen.specs.declared.sides.Side.TheVariants.{First, Second}
+use Rattle.case_below_gen.specs.Drafts.{generated_name}
 use Rattle.case_below_gen.specs.FamilyShapes.{family_shape}
-use Rattle.case_below_gen.specs.Projections.{side_entry_type, side_entry_term}
+use Rattle.case_below_gen.specs.Projections.{side_mark, side_entry_type, side_entry_term}
 use Rattle.case_below_gen.proofs.Samples.{nat, vec, ord, acc}
 
 -- (P : Nat -> Type m) -> Nat -> Type m
@@ -92,3 +94,18 @@ vec_all_term m b = refl
 acc_all_term : (m b : ℕ) → side_entry_term Second 5 (family_shape 5 acc) (course_of (family_shape 5 acc) m b) (b + 1)
     ≡ Lam (Sort 0) (Lam (Pi (Var 0) (Pi (Var 1) (Sort 0))) (Lam (Pi (Var 1) (Pi (App (App (App (Fam 5) (Var 2)) (Var 1)) (Var 0)) (Sort m))) (Lam (Pi (Var 2) (Pi (App (App (App (Fam 5) (Var 3)) (Var 2)) (Var 0)) (Pi (App (App (App (App (App (Const b) (Var 4)) (Var 3)) (Var 2)) (Var 1)) (Var 0)) (App (App (Var 3) (Var 2)) (Var 1))))) (Lam (Var 3) (Lam (App (App (App (Fam 5) (Var 4)) (Var 3)) (Var 0)) (App (App (App (App (App (Elim (pair_type m) m) (App (App (Var 3) (Var 1)) (Var 0))) (App (App (App (App (App (Const b) (Var 5)) (Var 4)) (Var 3)) (Var 1)) (Var 0))) (Lam (App (App (Fam (pair_type m)) (App (App (Var 3) (Var 1)) (Var 0))) (App (App (App (App (App (Const b) (Var 5)) (Var 4)) (Var 3)) (Var 1)) (Var 0))) (App (App (App (App (App (Const b) (Var 6)) (Var 5)) (Var 4)) (Var 2)) (Var 1)))) (Lam (App (App (Var 3) (Var 1)) (Var 0)) (Lam (App (App (App (App (App (Const b) (Var 6)) (Var 5)) (Var 4)) (Var 2)) (Var 1)) (Var 0)))) (App (App (App (App (App (App (Const (b + 1)) (Var 5)) (Var 4)) (Var 3)) (Var 2)) (Var 1)) (Var 0))))))))
 acc_all_term m b = refl
+
+-- a whole draft, and the names of others
+nat_aux_entry : aux_entry 50 2 nat 1
+    ≡ Ok (record {
+      entry = Definition (codes "Nat!aux.1") (aux_type 2 (family_shape 2 nat) (course_of (family_shape 2 nat) 1 50)) (aux_term 2 (family_shape 2 nat) (course_of (family_shape 2 nat) 1 50));
+      base = 50;
+      names = codes "Nat!below.1" ∷ [];
+    })
+nat_aux_entry = refl
+
+name_of_case : generated_name (codes "Nat") (codes "!case.") 0 ≡ codes "Nat!case.0"
+name_of_case = refl
+
+name_of_all : generated_name (codes "Vec") (side_mark Second) 13 ≡ codes "Vec!all.13"
+name_of_all = refl

@@ -1,10 +1,13 @@
 -- The shape of a family as the code holds it is that of the family it stands for.
-use Rattle.std.proofs.Common.{◌≡◌, ℕ, ◌+◌, List, [], ◌∷◌, map, length, All, refl, ap, ap₂, sym, ◌∙◌}
+use Rattle.std.proofs.Common.{subst, ◌≡◌, ℕ, ◌+◌, List, [], ◌∷◌, map, length, Result, Some, All, refl, ap, ap₂, sym, ◌∙◌}
 use Rattle.std.proofs.lemmas.List.{length-map}
 use Rattle.std.proofs.lemmas.List.Elements.{All-head, All-tail}
 use Rattle.theory.specs.Terms.{Term}
 use Rattle.theory.specs.Families as pure
+use Rattle.theory.specs.Signatures.{FamilyOf}
+use Rattle.core_terms.specs.Answers.{Gives}
 use Rattle.core_terms.specs.Meanings.{tree_of}
+use Rattle.core_terms.specs.declared.stop.Stop.{Stop}
 use Rattle.core_sig.specs.Kinds.{HasKind, HaveKinds, HasKinds}
 use Rattle.core_sig.specs.Meanings.{argument_with, argument_of, constructor_of, family_of}
 use Rattle.core_sig.specs.Shapes as shape
@@ -15,6 +18,8 @@ use Rattle.core_sig.specs.declared.family.Arg.{Arg}
 use Rattle.core_sig.specs.declared.family.Constructor.{Constructor}
 use Rattle.core_sig.specs.declared.family.Family.{Family}
 use Rattle.core_sig.proofs.Arguments.{argument_with-recursive, argument_type-of}
+use Rattle.core_sig.specs.declared.entry.Draft.{Draft as DraftOfCode}
+use Rattle.case_below_gen.specs.Drafts.{Draft, draft_of}
 use Rattle.case_below_gen.specs.FamilyShapes.{kind_of, argument_shapes, constructor_shape, family_shape}
 
 abbrev argument : Term → ℕ → ArgKind → ArgumentShape
@@ -59,3 +64,11 @@ shape-is n f kinds =
     (indices-are f.indices kinds.indices)
     (ap (λ p. map (constructor_shape n (family_of f)) (map (constructor_of p) f.cons)) (sym (length-map f.params tree_of))
     ∙ constructors-are n (family_of f) f.cons kinds.constructors)
+
+-- what is answered for the family that the code holds is the entry of the family that the signature has
+pub entry-is : (D : List ℕ → Shape → Result Draft Stop) (result : Result DraftOfCode Stop) (n : ℕ) (f : pure.Family) (code : Family) → HasKinds n code
+    → Some (FamilyOf (family_of code)) ≡ Some (FamilyOf f) → Gives draft_of result (D code.name (shape_of code)) → Gives draft_of result (D f.name (family_shape n f))
+entry-is D result n f code kinds same given =
+    let is : family_of code ≡ f = cc in
+    subst (λ g. Gives draft_of result (D g.name (family_shape n g))) is
+    (subst (λ s. Gives draft_of result (D code.name s)) (sym (shape-is n code kinds)) given)

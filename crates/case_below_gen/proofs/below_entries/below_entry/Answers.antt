@@ -1,24 +1,17 @@
-use Rattle.std.proofs.Common.{◌≡◌, Some, sym, ap, ap₂, ◌∙◌, length, subst as transport}
-use Rattle.theory.specs.Families as pure
-use Rattle.theory.specs.Signatures.{FamilyOf}
+use Rattle.std.proofs.Common.{Some, sym, ap, ◌∙◌, length, subst}
 use Rattle.core_terms.specs.Answers.{Gives}
 use Rattle.core_sig.specs.Kinds.{HasEntryKinds}
-use Rattle.core_sig.specs.Meanings.{entry_of, family_of}
-use Rattle.case_below_gen.specs.CourseEntries.{below_entry, below_of_shape}
+use Rattle.core_sig.specs.Meanings.{entry_of}
+use Rattle.core_sig.specs.Shapes.{shape_of}
+use Rattle.case_below_gen.specs.CourseEntries.{below_of_shape}
 use Rattle.case_below_gen.specs.Drafts.{draft_of}
-use Rattle.case_below_gen.proofs.ShapesOfCode.{shape-is}
+use Rattle.case_below_gen.proofs.ShapesOfCode.{entry-is}
 use Rattle.case_below_gen.proofs.below_entries.below_entry.Goals as goal
-
-same-family : (f g : pure.Family) → Some (FamilyOf f) ≡ Some (FamilyOf g) → f ≡ g
-same-family f g e = cc
 
 pub returns : goal.returns
 returns c = λ f at.
+    let family = c.in-Some-Family.family in
     let found = sym c.in-Some-Family.ensures.entry ∙ ap (λ e. Some (entry_of e)) c.in-Some-Family.field-0-is in
-    let base = length c.args.sig.now.entries in
-    let name = (family_of c.in-Some-Family.family).name in
-    let shape = shape-is c.args.fam c.in-Some-Family.family (transport (HasEntryKinds c.args.fam) c.in-Some-Family.field-0-is c.in-Some-Family.ensures.kinds) in
-    let meant = ap₂ (λ b s. below_of_shape b name c.args.fam s c.args.m) c.len.ensures (sym shape) in
-    transport (λ g. Gives draft_of c.below_of_family.result (below_entry base c.args.fam g c.args.m))
-    (same-family (family_of c.in-Some-Family.family) f (sym found ∙ at))
-    (transport (Gives draft_of c.below_of_family.result) meant c.below_of_family.ensures)
+    entry-is (λ name shape. below_of_shape (length c.args.sig.now.entries) name c.args.fam shape c.args.m) c.below_of_family.result c.args.fam f family
+    (subst (HasEntryKinds c.args.fam) c.in-Some-Family.field-0-is c.in-Some-Family.ensures.kinds) (sym found ∙ at)
+    (subst (λ b. Gives draft_of c.below_of_family.result (below_of_shape b family.name c.args.fam (shape_of family) c.args.m)) c.len.ensures c.below_of_family.ensures)
