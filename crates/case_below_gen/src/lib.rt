@@ -1,4 +1,5 @@
-//! Generated entries for case analysis: `D!case.m` of each family.
+//! Generated entries of each family: case analysis `D!case.m`, and course-of-values recursion `D!below.m`, `D!aux.m`, `D!rec.m` and
+//! `D!all.m`, as drafts.
 #![tactic(auto)]
 
 mod aux_entries;
