@@ -1,0 +1,11 @@
+use Rattle.std.proofs.Common.{subst}
+use Rattle.std.proofs.lemmas.Bool.{false≢true}
+use Rattle.std.specs.Bool.{IsTrue}
+use Rattle.core_sig.specs.Shapes.{shape_of}
+use Rattle.case_below_gen.proofs.FewMethods.{below-deep}
+use Rattle.case_below_gen.proofs.below_entries.below_of_family.Goals as goal
+
+pub returns-then-not-is_few : goal.returns-then-not-is_few
+returns-then-not-is_few c foreseen =
+    below-deep c.args.base c.args.f.now.name c.args.fam (shape_of c.args.f.now) c.args.m
+    (λ few. let yes = subst IsTrue c.if-not-is_few.true (c.is_few.ensures.1 few) in absurd (false≢true yes))

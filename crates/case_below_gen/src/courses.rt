@@ -1,0 +1,68 @@
+ghost use Rattle.std.specs.Prelude.{◌≡◌, ◌≤◌, ◌+◌, ◌∷◌, [], length, map, IfOk, OnErr};
+ghost use Rattle.core_terms.specs.Answers.{Gives};
+ghost use Rattle.core_terms.specs.Meanings.{tree_of};
+ghost use Rattle.core_terms.specs.declared.stop.Stop.TheVariants.{Memory};
+ghost use Rattle.core_sig.specs.Shapes.{constructor_shape, shape_of};
+ghost use Rattle.case_below_gen.specs.CourseEntries as spec;
+ghost use Rattle.case_below_gen.specs.Projections.{HasFewBinders};
+
+use crate::components::Course;
+use core_sig::{Constructor, Family};
+use core_terms::{Items, Name, Stop, Term, applied_to_places, applied_to_run};
+use std::alloc::Global;
+
+/// A family's recursion into `Type m`, where `D!below.m` is the constant `below`.
+pub fn course_of(f: &Family, m: u8, below: u32) -> Course
+    requires { HasFewBinders (shape_of f.now) }
+    ensures { result ≡ spec.course_of (shape_of f.now) m below }
+{
+    Course {
+        m,
+        params: f.params.as_slice().len() as u32,
+        indices: f.indices.as_slice().len() as u32,
+        below,
+    }
+}
+
+/// The eliminator into `Type l` at the parameters.
+pub fn eliminator_at(alloc: Global, fam: u32, l: u8, params: u32, depth: u32) -> Result<Term, Stop>
+    ensures { Gives tree_of result (Ok (spec.eliminator_at fam l params depth)) }
+{
+    applied_to_run(alloc, Term::Elim(fam, l), depth, 0, params)
+}
+
+/// `head` at the targets of constructor `number` and at the constructor, at a depth.
+pub fn at_constructor(
+    alloc: Global,
+    fam: u32,
+    params: u32,
+    number: u32,
+    first: u32,
+    depth: u32,
+    head: Term,
+    con: &Constructor,
+) -> Result<Term, Stop>
+    requires params { params ≤ 2000 }
+    requires first { first ≤ 100000 }
+    requires few { length con.now.args ≤ 2000 }
+    requires depth { depth ≤ 1000000 }
+    ensures { Gives tree_of result (Ok (spec.at_constructor fam params number first depth (tree_of head) (constructor_shape con.now))) }
+{
+    let count = con.args.as_slice().len() as u32;
+    let runs = [(0, params), (first, count)];
+    let targets = con.targets.as_slice();
+    let head = applied_to_places(alloc, head, &runs, params + count, depth, targets)?;
+    let scrutinee = applied_to_run(alloc, Term::Con(fam, number), depth, 0, params)?;
+    let scrutinee = applied_to_run(alloc, scrutinee, depth, first, count)?;
+    Term::new_app(alloc, head, scrutinee)
+}
+
+/// A list of one name.
+pub fn only_name(alloc: Global, name: Name) -> Result<Items<Name>, Stop>
+    ensures ok { IfOk result (λ names. names ≡ name ∷ []) }
+    ensures memory { OnErr result (result ≡ Err Memory) }
+{
+    let mut names = Items::new(alloc);
+    names.push(name)?;
+    Ok(names)
+}

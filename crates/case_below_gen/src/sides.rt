@@ -1,0 +1,234 @@
+ghost use Rattle.std.specs.Prelude.{◌≡◌, ◌≤◌, ◌<◌, ◌+◌, ◌∷◌, [], ◌↔◌, IsTrue, IfOk, OnErr, length};
+ghost use Rattle.core_terms.specs.Answers.{Gives};
+ghost use Rattle.core_terms.specs.Meanings.{tree_of};
+ghost use Rattle.core_terms.specs.declared.stop.Stop.TheVariants.{Memory};
+ghost use Rattle.core_sig.specs.Shapes.{shape_of};
+ghost use Rattle.theory.specs.Families as pure;
+ghost use Rattle.theory.specs.Signatures.{FamilyOf, IsEntryAt};
+ghost use Rattle.theory.specs.SignatureScopes.{IsFamilyNumber};
+ghost use Rattle.theory.specs.Terms.{top};
+ghost use Rattle.theory.specs.Terms as tree;
+ghost use Rattle.case_below_gen.specs.CourseEntries.{aux_goal, course_of};
+ghost use Rattle.case_below_gen.specs.declared.sides.Side.TheVariants.{First, Second};
+ghost use Rattle.case_below_gen.specs.Projections as spec;
+ghost use Rattle.case_below_gen.specs.Projections.{HasFewBinders};
+ghost use Rattle.case_below_gen.specs.Drafts.{draft_of, generated_name};
+
+use crate::binding::at_scrutinee;
+use crate::components::{Course, below_at};
+use crate::courses::course_of;
+use crate::drafts::{drafted, generated_name};
+use crate::steps::{aux_goal, step_over};
+use core_sig::{Draft, Entry, Family, Signature, pair};
+use core_terms::{
+    Binder, Items, MAX_HEIGHT, Name, Stop, Term, applied_to_run, number_of, variable,
+};
+use std::alloc::Global;
+
+/// A side of `D!aux.m`: the motive at a term, or at each of its strict parts.
+#[derive(Clone, Copy, Debug, PartialEq, Eq)]
+pub enum Side {
+    First,
+    Second,
+}
+
+/// The entry `D!rec.m` for family number `fam`: from a step, the motive into `Type m` at a term. Deep where its type or its term
+/// is too high.
+pub fn rec_entry(alloc: Global, sig: &Signature, fam: u32, m: u8) -> Result<Draft, Stop>
+    requires family { IsFamilyNumber sig.now fam }
+    requires level { m + 1 < top }
+    ensures { (f : pure.Family) → IsEntryAt sig.now fam (FamilyOf f) → Gives draft_of result (spec.rec_entry (length sig.now.entries) fam f m) }
+{
+    side_entry(alloc, Side::First, sig, fam, m)
+}
+
+/// The entry `D!all.m` for family number `fam`: from a step, the motive into `Type m` at each strict part of a term. Deep where
+/// its type or its term is too high.
+pub fn all_entry(alloc: Global, sig: &Signature, fam: u32, m: u8) -> Result<Draft, Stop>
+    requires family { IsFamilyNumber sig.now fam }
+    requires level { m + 1 < top }
+    ensures { (f : pure.Family) → IsEntryAt sig.now fam (FamilyOf f) → Gives draft_of result (spec.all_entry (length sig.now.entries) fam f m) }
+{
+    side_entry(alloc, Side::Second, sig, fam, m)
+}
+
+fn side_entry(alloc: Global, side: Side, sig: &Signature, fam: u32, m: u8) -> Result<Draft, Stop>
+    requires family { IsFamilyNumber sig.now fam }
+    requires level { m + 1 < top }
+    ensures { (f : pure.Family) → IsEntryAt sig.now fam (FamilyOf f) → Gives draft_of result (spec.side_entry side (length sig.now.entries) fam f m) }
+{
+    match sig.entry(fam) {
+        Some(Entry::Family(family)) => side_of_family(alloc, side, sig.len(), fam, family, m),
+        _ => unreachable!(),
+    }
+}
+
+fn side_of_family(
+    alloc: Global,
+    side: Side,
+    base: u32,
+    fam: u32,
+    f: &Family,
+    m: u8,
+) -> Result<Draft, Stop>
+    requires { m + 1 < top }
+    ensures { Gives draft_of result (spec.side_of_shape side base f.now.name fam (shape_of f.now) m) }
+{
+    if !has_few_binders(f) {
+        return Err(Stop::Deep);
+    }
+    let name = side_name(alloc, side, &f.name, m)?;
+    let below = generated_name(alloc, &f.name, b"!below.", m)?;
+    let aux = generated_name(alloc, &f.name, b"!aux.", m)?;
+    let names = two_names(alloc, below, aux)?;
+    let ty = side_entry_type(alloc, side, fam, f, m, base)?;
+    let body = side_entry_term(alloc, side, fam, f, m, base)?;
+    drafted(name, base, names, ty, body)
+}
+
+/// Whether a family has at most 2,000 parameters and indices.
+fn has_few_binders(f: &Family) -> bool
+    ensures { IsTrue result ↔ HasFewBinders (shape_of f.now) }
+{
+    let most = MAX_HEIGHT as usize;
+    f.params.as_slice().len() <= most && f.indices.as_slice().len() <= most
+}
+
+fn side_name(alloc: Global, side: Side, family: &Name, m: u8) -> Result<Name, Stop>
+    requires { m < 100 }
+    ensures ok { IfOk result (λ name. name ≡ generated_name family.now (spec.side_mark side) m) }
+    ensures memory { OnErr result (result ≡ Err Memory) }
+{
+    match side {
+        Side::First => generated_name(alloc, family, b"!rec.", m),
+        Side::Second => generated_name(alloc, family, b"!all.", m),
+    }
+}
+
+/// A list of two names.
+fn two_names(alloc: Global, first: Name, second: Name) -> Result<Items<Name>, Stop>
+    ensures ok { IfOk result (λ names. names ≡ first ∷ second ∷ []) }
+    ensures memory { OnErr result (result ≡ Err Memory) }
+{
+    let mut names = Items::new(alloc);
+    names.push(first)?;
+    names.push(second)?;
+    Ok(names)
+}
+
+fn side_entry_type(
+    alloc: Global,
+    side: Side,
+    fam: u32,
+    f: &Family,
+    m: u8,
+    below: u32,
+) -> Result<Term, Stop>
+    requires { HasFewBinders (shape_of f.now) }
+    ensures { Gives tree_of result (Ok (spec.side_entry_type side fam (shape_of f.now) (course_of (shape_of f.now) m below))) }
+{
+    let q = course_of(f, m, below);
+    let start = q.params + 2;
+    let end = side_type(alloc, side, q, start + q.indices + 1, start)?;
+    step_over(alloc, Binder::Product, fam, f, q, end)
+}
+
+fn side_entry_term(
+    alloc: Global,
+    side: Side,
+    fam: u32,
+    f: &Family,
+    m: u8,
+    below: u32,
+) -> Result<Term, Stop>
+    requires { HasFewBinders (shape_of f.now) }
+    ensures { Gives tree_of result (Ok (spec.side_entry_term side fam (shape_of f.now) (course_of (shape_of f.now) m below) (below + 1))) }
+{
+    let q = course_of(f, m, below);
+    let start = q.params + 2;
+    let aux = number_of(below as usize + 1)?;
+    let end = projection(alloc, side, q, aux, start + q.indices + 1, start)?;
+    step_over(alloc, Binder::Function, fam, f, q, end)
+}
+
+fn side_type(alloc: Global, side: Side, q: Course, depth: u32, start: u32) -> Result<Term, Stop>
+    requires { start + q.indices ≤ 1000000 }
+    ensures { Gives tree_of result (Ok (spec.side_type side q depth start)) }
+{
+    let head = match side {
+        Side::First => variable(depth, q.params),
+        Side::Second => below_at(alloc, q, depth)?,
+    };
+    at_scrutinee(alloc, depth, start, q.indices, head)
+}
+
+fn side_variable(side: Side) -> Term
+    ensures { tree_of result ≡ spec.side_variable side }
+{
+    match side {
+        Side::First => Term::Var(1),
+        Side::Second => Term::Var(0),
+    }
+}
+
+fn aux_at(alloc: Global, q: Course, aux: u32, depth: u32) -> Result<Term, Stop>
+    requires { q.params ≤ 2000 }
+    ensures { Gives tree_of result (Ok (spec.aux_at q aux depth)) }
+{
+    let head = applied_to_run(alloc, Term::Const(aux), depth, 0, q.params)?;
+    let head = Term::new_app(alloc, head, variable(depth, q.params))?;
+    Term::new_app(alloc, head, variable(depth, q.params + 1))
+}
+
+/// The side of `D!aux.m` at the indices, whose levels begin with `start`, and at the scrutinee.
+fn projection(
+    alloc: Global,
+    side: Side,
+    q: Course,
+    aux: u32,
+    depth: u32,
+    start: u32,
+) -> Result<Term, Stop>
+    requires params { q.params ≤ 2000 }
+    requires start { start + q.indices ≤ 1000000 }
+    requires depth { depth ≤ 1000000 }
+    ensures { Gives tree_of result (Ok (spec.projection side q aux depth start)) }
+{
+    let head = Term::Elim(pair(q.m), q.m);
+    let head = Term::new_app(alloc, head, side_type(alloc, Side::First, q, depth, start)?)?;
+    let head = Term::new_app(
+        alloc,
+        head,
+        side_type(alloc, Side::Second, q, depth, start)?,
+    )?;
+    let motive = side_motive(alloc, side, q, depth, start)?;
+    let head = Term::new_app(alloc, head, motive)?;
+    let method = side_method(alloc, side, q, depth, start)?;
+    let head = Term::new_app(alloc, head, method)?;
+    let both = aux_at(alloc, q, aux, depth)?;
+    let both = at_scrutinee(alloc, depth, start, q.indices, both)?;
+    Term::new_app(alloc, head, both)
+}
+
+fn side_motive(alloc: Global, side: Side, q: Course, depth: u32, start: u32) -> Result<Term, Stop>
+    requires start { start + q.indices ≤ 1000000 }
+    requires depth { depth ≤ 1000000 }
+    ensures { Gives tree_of result (Ok (tree.Lam (aux_goal q depth start) (spec.side_type side q (depth + 1) start))) }
+{
+    let domain = aux_goal(alloc, q, depth, start)?;
+    Term::new_lam(alloc, domain, side_type(alloc, side, q, depth + 1, start)?)
+}
+
+fn side_method(alloc: Global, side: Side, q: Course, depth: u32, start: u32) -> Result<Term, Stop>
+    requires start { start + q.indices ≤ 1000000 }
+    requires depth { depth ≤ 1000000 }
+    ensures { Gives tree_of result (Ok (tree.Lam (spec.side_type First q depth start) (tree.Lam (spec.side_type Second q (depth + 1) start) (spec.side_variable side)))) }
+{
+    let second = side_type(alloc, Side::Second, q, depth + 1, start)?;
+    let inside = Term::new_lam(alloc, second, side_variable(side))?;
+    Term::new_lam(
+        alloc,
+        side_type(alloc, Side::First, q, depth, start)?,
+        inside,
+    )
+}
