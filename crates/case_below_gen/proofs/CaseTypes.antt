@@ -23,11 +23,11 @@ use Rattle.core_sig.specs.Shapes.{ArgumentShape, types_of}
 use Rattle.core_sig.proofs.Arguments.{ups-same_var, weaken-weaken_by, inst_telescope-var}
 use Rattle.core_sig.proofs.EliminatorsByLevels.{symbol-there, placed-there, alike-indices, goal_of, alike-goal}
 use Rattle.core_sig.proofs.EntryInstances.{ren-id, inst-method_type}
-use Rattle.core_sig.proofs.HypothesesByLevels.{further}
+use Rattle.core_sig.proofs.MethodsByLevels.{further}
 use Rattle.core_sig.proofs.MethodsByLevels.{AtParameters, none-yet, all-there, alike-conclusion}
 use Rattle.case_below_gen.specs.CaseEntries.{branch_type, branches_over, scrutinee_over, at_scrutinee, case_type}
 use Rattle.case_below_gen.specs.CaseLaws.{plain_arguments, plain_constructor, without_recursion, CaseTypeWithoutHypotheses}
-use Rattle.case_below_gen.specs.FamilyShapes.{argument_shapes, constructor_shape, family_shape}
+use Rattle.core_sig.specs.FamilyShapes.{argument_shapes, constructor_shape, family_shape}
 
 -- ---- arguments
 

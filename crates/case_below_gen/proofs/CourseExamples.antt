@@ -5,8 +5,8 @@ use Rattle.theory.specs.Prelude.{unit_type, pair_type}
 use Rattle.theory.specs.Signatures.{Definition}
 use Rattle.case_below_gen.specs.CourseEntries.{course_of, below_type, below_term, aux_type, aux_term, aux_entry}
 use Rattle.case_below_gen.specs.declared.sides.Side.TheVariants.{First, Second}
-use Rattle.case_below_gen.specs.Drafts.{generated_name}
-use Rattle.case_below_gen.specs.FamilyShapes.{family_shape}
+use Rattle.core_sig.specs.Drafts.{generated_name}
+use Rattle.core_sig.specs.FamilyShapes.{family_shape}
 use Rattle.case_below_gen.specs.Projections.{side_mark, side_entry_type, side_entry_term}
 use Rattle.case_below_gen.proofs.Samples.{nat, vec, ord, acc}
 

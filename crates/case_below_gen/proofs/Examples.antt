@@ -3,7 +3,7 @@ use Rattle.std.proofs.Common.{◌≡◌, ℕ, refl}
 use Rattle.theory.specs.Terms.{Term}
 use Rattle.theory.specs.Terms.Term.{Var, Sort, Pi, Lam, App, Fam, Con, Elim}
 use Rattle.case_below_gen.specs.CaseEntries.{case_type, case_term}
-use Rattle.case_below_gen.specs.FamilyShapes.{family_shape}
+use Rattle.core_sig.specs.FamilyShapes.{family_shape}
 use Rattle.case_below_gen.proofs.Samples.{Nat, nat, Vec, vec, ord, acc}
 
 -- (P : Nat -> Type m) -> P zero -> ((n : Nat) -> P (suc n)) -> (n : Nat) -> P n

@@ -14,7 +14,7 @@ use Rattle.core_terms.proofs.Placing.{height-over, deep-unless}
 use Rattle.core_sig.specs.ByLevels.{family_at, motive_type, conclusion}
 use Rattle.core_sig.specs.Shapes.{ConstructorShape, Shape, types_of, HaveFewArguments, IsFew}
 use Rattle.case_below_gen.specs.CaseEntries.{branches_over, scrutinee_over, at_scrutinee, case_type, case_term, case_of_shape}
-use Rattle.case_below_gen.specs.Drafts.{Draft, generated_name}
+use Rattle.core_sig.specs.Drafts.{Draft, generated_name}
 
 few-branches : (n p motive number depth : ℕ) (cs : List ConstructorShape) (end : Term) → height (branches_over Product n p motive number depth cs end) ≤ 2000
     → HaveFewArguments cs × (length cs + height end ≤ height (branches_over Product n p motive number depth cs end))

@@ -21,13 +21,13 @@ use Rattle.case_below_gen.specs.Components.{components_over, tuple_type}
 use Rattle.case_below_gen.specs.CourseEntries.{course_of, applied_to_methods, eliminator_at, below_method, below_type, below_term, below_of_shape, aux_pair, aux_method, aux_goal, step_type, aux_type, aux_term, aux_of_shape}
 use Rattle.case_below_gen.specs.Projections.{HasFewBinders, projection, side_mark, side_entry_type, side_entry_term, side_of_shape}
 use Rattle.case_below_gen.specs.declared.sides.Side.{Side}
-use Rattle.case_below_gen.specs.Drafts.{Draft, drafted, generated_name}
+use Rattle.core_sig.specs.Drafts.{Draft, drafted, generated_name}
 
-height-functions : (tele : Telescope) (b : Term) → height b + length tele ≤ height (functions tele b)
+pub height-functions : (tele : Telescope) (b : Term) → height b + length tele ≤ height (functions tele b)
 height-functions [] b = omega arith
 height-functions (a ∷ tele) b = omega (arith, height-functions tele b)
 
-few-methods : (method : ℕ → ConstructorShape → Term) (number : ℕ) (head : Term) (cs : List ConstructorShape) → ((i : ℕ) (c : ConstructorShape) → length c.arguments ≤ height (method i c))
+pub few-methods : (method : ℕ → ConstructorShape → Term) (number : ℕ) (head : Term) (cs : List ConstructorShape) → ((i : ℕ) (c : ConstructorShape) → length c.arguments ≤ height (method i c))
     → height (applied_to_methods method number head cs) ≤ 2000 → HaveFewArguments cs × (height head + length cs ≤ height (applied_to_methods method number head cs))
 few-methods method number head [] least low = (tt, omega arith)
 few-methods method number head (c ∷ cs) least low =
@@ -65,7 +65,7 @@ abbrev with_term : (name : List ℕ) (base : ℕ) (names : List (List ℕ)) (typ
 with_term name base names type term =
     and_then (bounded type) (λ t. and_then term (λ u. Ok (record { entry = Definition name t u; base = base; names = names })))
 
-drafted-deep : (name : List ℕ) (base : ℕ) (names : List (List ℕ)) (type term : Term) → ¬ (height term ≤ 2000) → Err Deep ≡ drafted name base names type term
+pub drafted-deep : (name : List ℕ) (base : ℕ) (names : List (List ℕ)) (type term : Term) → ¬ (height term ≤ 2000) → Err Deep ≡ drafted name base names type term
 drafted-deep name base names type term high =
     sym (ap (with_term name base names type) (deep-unless term high) ∙ deep-behind type)
 

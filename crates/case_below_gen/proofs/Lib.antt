@@ -1,7 +1,24 @@
+pub mod AlongSpines
 pub mod CaseTypes
+pub mod Computing
 mod CourseExamples
+pub mod Deeper
+pub mod DeeperMethods
 mod Examples
 pub mod FewCases
 pub mod FewMethods
+pub mod Filling
+pub mod Functions
+pub mod Hypotheses
+mod IndexedExamples
+mod LeftExamples
+pub mod PartTests
+pub mod Placements
 mod Samples
-pub mod ShapesOfCode
+pub mod ScopedCases
+pub mod ScopedCourses
+pub mod ScopedEntries
+pub mod ScopedLeft
+pub mod ShapeLevels
+pub mod StepForms
+pub mod Unfolding

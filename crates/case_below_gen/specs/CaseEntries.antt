@@ -10,8 +10,8 @@ use Rattle.core_terms.specs.declared.levels.Binder.TheVariants.{Product, Functio
 use Rattle.core_terms.specs.declared.stop.Stop.{Stop}
 use Rattle.core_sig.specs.ByLevels.{family_at, motive_type, hypotheses_over, conclusion}
 use Rattle.core_sig.specs.Shapes.{ConstructorShape, Shape, types_of, recursive_count}
-use Rattle.case_below_gen.specs.Drafts.{Draft, drafted, generated_name}
-use Rattle.case_below_gen.specs.FamilyShapes.{family_shape}
+use Rattle.core_sig.specs.Drafts.{Draft, drafted, generated_name}
+use Rattle.core_sig.specs.FamilyShapes.{family_shape}
 
 -- (tele) -> end, or \tele. end
 abbrev pub closed_over : Binder → Telescope → Term → Term

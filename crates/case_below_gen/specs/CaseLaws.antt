@@ -7,7 +7,7 @@ use Rattle.theory.specs.Eliminators.{eliminator_type}
 use Rattle.theory.specs.Scopes.{IsClosedFamily}
 use Rattle.core_terms.specs.Answers.{bounded}
 use Rattle.case_below_gen.specs.CaseEntries.{case_type}
-use Rattle.case_below_gen.specs.FamilyShapes.{family_shape}
+use Rattle.core_sig.specs.FamilyShapes.{family_shape}
 
 -- arguments behind `at` others, each taken as plain: a recursive one with its whole type
 abbrev pub plain_arguments : (n : ℕ) (f : Family) (at : ℕ) → List Argument → List Argument

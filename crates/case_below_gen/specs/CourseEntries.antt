@@ -14,8 +14,8 @@ use Rattle.case_below_gen.specs.declared.components.Course.{Course}
 use Rattle.case_below_gen.specs.declared.components.Ending.TheVariants.{Level, Beside, Folded}
 use Rattle.case_below_gen.specs.CaseEntries.{closed_over, scrutinee_over, at_scrutinee}
 use Rattle.case_below_gen.specs.Components.{pair_of, pair_with, below_at, components_over, tuple_type, tuple}
-use Rattle.case_below_gen.specs.Drafts.{Draft, drafted, generated_name}
-use Rattle.case_below_gen.specs.FamilyShapes.{family_shape}
+use Rattle.core_sig.specs.Drafts.{Draft, drafted, generated_name}
+use Rattle.core_sig.specs.FamilyShapes.{family_shape}
 
 -- a family's recursion into Type m, where `D!below.m` is a constant
 abbrev pub course_of : (f : Shape) (m below : ℕ) → Course

@@ -2,6 +2,9 @@ pub mod CaseEntries
 pub mod CaseLaws
 pub mod Components
 pub mod CourseEntries
-pub mod Drafts
-pub mod FamilyShapes
+pub mod CourseLaws
+pub mod LeftEntries
+pub mod PartTests
+pub mod PathSteps
 pub mod Projections
+pub mod StrictParts

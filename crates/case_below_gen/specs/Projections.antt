@@ -14,8 +14,8 @@ use Rattle.case_below_gen.specs.declared.sides.Side.TheVariants.{First, Second}
 use Rattle.case_below_gen.specs.CaseEntries.{at_scrutinee}
 use Rattle.case_below_gen.specs.Components.{below_at}
 use Rattle.case_below_gen.specs.CourseEntries.{course_of, step_over, aux_goal}
-use Rattle.case_below_gen.specs.Drafts.{Draft, drafted, generated_name}
-use Rattle.case_below_gen.specs.FamilyShapes.{family_shape}
+use Rattle.core_sig.specs.Drafts.{Draft, drafted, generated_name}
+use Rattle.core_sig.specs.FamilyShapes.{family_shape}
 
 -- P I x, or D!below.m p P I x, where the levels of I begin with `start`
 abbrev pub side_type : (side : Side) (q : Course) (depth start : ℕ) → Term

@@ -1,21 +1,22 @@
-ghost use Rattle.std.specs.Prelude.{◌≡◌, ◌≤◌, ◌<◌, ◌+◌, length, map};
+ghost use Rattle.std.specs.Prelude.{◌≡◌, ◌≤◌, ◌<◌, ◌+◌, IfOk, length, map};
 ghost use Rattle.core_terms.specs.Answers.{Gives};
 ghost use Rattle.core_terms.specs.Meanings.{tree_of};
 ghost use Rattle.core_sig.specs.Shapes.{HaveFewArguments, IsFew, constructor_shape, shape_of};
 ghost use Rattle.theory.specs.Families as pure;
-ghost use Rattle.theory.specs.Signatures.{FamilyOf, IsEntryAt};
-ghost use Rattle.theory.specs.SignatureScopes.{IsFamilyNumber};
+ghost use Rattle.theory.specs.Signatures.{FamilyOf, IsEntryAt, IsPrefix, Signature};
+ghost use Rattle.theory.specs.Prelude.{prelude};
+ghost use Rattle.theory.specs.SignatureScopes.{IsFamilyNumber, IsScopedSignature};
 ghost use Rattle.theory.specs.Terms.{top};
 ghost use Rattle.case_below_gen.specs.CourseEntries as spec;
-ghost use Rattle.case_below_gen.specs.Drafts.{draft_of};
+ghost use Rattle.core_sig.specs.ScopedDrafts.{IsScopedDraft};
+ghost use Rattle.core_sig.specs.Drafts.{draft_of};
 
 use crate::binding::{at_scrutinee, closed_over, scrutinee_over};
 use crate::components::{Course, Ending, components_over, tuple_type};
 use crate::courses::{course_of, eliminator_at};
-use crate::drafts::{drafted, generated_name};
 use core_sig::{
-    Constructor, Draft, Entry, Family, Signature, arguments_over, is_few, motive_type,
-    recursive_count,
+    Constructor, Draft, Entry, Family, Signature, arguments_over, drafted, generated_name, is_few,
+    motive_type, recursive_count,
 };
 use core_terms::{Binder, Items, Stop, Term, bind};
 use std::alloc::Global;
@@ -25,7 +26,8 @@ use std::alloc::Global;
 pub fn below_entry(alloc: Global, sig: &Signature, fam: u32, m: u8) -> Result<Draft, Stop>
     requires family { IsFamilyNumber sig.now fam }
     requires level { m + 1 < top }
-    ensures { (f : pure.Family) → IsEntryAt sig.now fam (FamilyOf f) → Gives draft_of result (spec.below_entry (length sig.now.entries) fam f m) }
+    ensures answer { (f : pure.Family) → IsEntryAt sig.now fam (FamilyOf f) → Gives draft_of result (spec.below_entry (length sig.now.entries) fam f m) }
+    ensures scoped { (T : Signature) → IsScopedSignature sig.now → IsPrefix (prelude sig.now.has_k) sig.now → IsPrefix sig.now T → IfOk result (λ d. IsScopedDraft T (draft_of d)) }
 {
     match sig.entry(fam) {
         Some(Entry::Family(family)) => below_of_family(alloc, sig.len(), fam, family, m),

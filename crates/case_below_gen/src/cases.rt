@@ -1,18 +1,20 @@
-ghost use Rattle.std.specs.Prelude.{◌≡◌, ◌<◌, length};
+ghost use Rattle.std.specs.Prelude.{◌≡◌, ◌<◌, IfOk, length};
 ghost use Rattle.core_terms.specs.Answers.{Gives};
 ghost use Rattle.core_terms.specs.Meanings.{tree_of};
 ghost use Rattle.core_sig.specs.Shapes.{IsFew, shape_of};
 ghost use Rattle.theory.specs.Families as pure;
-ghost use Rattle.theory.specs.Signatures.{FamilyOf, IsEntryAt};
-ghost use Rattle.theory.specs.SignatureScopes.{IsFamilyNumber};
+ghost use Rattle.theory.specs.Signatures.{FamilyOf, IsEntryAt, IsPrefix, Signature};
+ghost use Rattle.theory.specs.SignatureScopes.{IsFamilyNumber, IsScopedSignature};
 ghost use Rattle.theory.specs.Terms.{top};
 ghost use Rattle.case_below_gen.specs.CaseEntries as spec;
-ghost use Rattle.case_below_gen.specs.Drafts.{draft_of};
+ghost use Rattle.core_sig.specs.ScopedDrafts.{IsScopedDraft};
+ghost use Rattle.core_sig.specs.Drafts.{draft_of};
 
 use crate::binding::{at_scrutinee, closed_over, scrutinee_over};
 use crate::branches::{applied_to_droppings, branches_over};
-use crate::drafts::{drafted, generated_name};
-use core_sig::{Draft, Entry, Family, Motive, Signature, is_few, motive_type};
+use core_sig::{
+    Draft, Entry, Family, Motive, Signature, drafted, generated_name, is_few, motive_type,
+};
 use core_terms::{Binder, Items, Stop, Term, applied_to_run, bind, variable};
 use std::alloc::Global;
 
@@ -21,7 +23,8 @@ use std::alloc::Global;
 pub fn case_entry(alloc: Global, sig: &Signature, fam: u32, m: u8) -> Result<Draft, Stop>
     requires family { IsFamilyNumber sig.now fam }
     requires level { m < top }
-    ensures { (f : pure.Family) → IsEntryAt sig.now fam (FamilyOf f) → Gives draft_of result (spec.case_entry (length sig.now.entries) fam f m) }
+    ensures answer { (f : pure.Family) → IsEntryAt sig.now fam (FamilyOf f) → Gives draft_of result (spec.case_entry (length sig.now.entries) fam f m) }
+    ensures scoped { (T : Signature) → IsScopedSignature sig.now → IsPrefix sig.now T → IfOk result (λ d. IsScopedDraft T (draft_of d)) }
 {
     match sig.entry(fam) {
         Some(Entry::Family(family)) => case_of_family(alloc, sig.len(), fam, family, m),

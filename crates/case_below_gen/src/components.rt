@@ -1,11 +1,10 @@
 ghost use Rattle.std.specs.Prelude.{◌≡◌, ◌≤◌, ◌+◌, ◌∷◌, [], length, map};
 ghost use Rattle.core_terms.specs.Answers.{Gives};
 ghost use Rattle.core_terms.specs.Meanings.{tree_of};
-ghost use Rattle.core_sig.specs.ByLevels.{applied_to_targets};
 ghost use Rattle.core_sig.specs.Shapes.{argument_shape};
 ghost use Rattle.case_below_gen.specs.Components as spec;
 
-use core_sig::{Arg, ArgKind, pair, unit};
+use core_sig::{Arg, ArgKind, applied_to_targets, pair, unit};
 use core_terms::{MAX_HEIGHT, Run, Stop, Term, applied_to_run, copy_whole, place, variable};
 use std::alloc::Global;
 
@@ -59,28 +58,6 @@ pub fn below_at(alloc: Global, q: Course, depth: u32) -> Result<Term, Stop>
 {
     let head = applied_to_run(alloc, Term::Const(q.below), depth, 0, q.params)?;
     Term::new_app(alloc, head, variable(depth, q.params))
-}
-
-/// `head` applied to the last `count` arguments of a term of a record.
-fn applied_to_targets(
-    alloc: Global,
-    runs: &[Run],
-    size: u32,
-    depth: u32,
-    head: Term,
-    count: u32,
-    t: &Term,
-) -> Result<Term, Stop>
-    requires { depth ≤ 1000000 }
-    ensures { Gives tree_of result (Ok (applied_to_targets runs.now size depth (tree_of head) count (tree_of t.now))) }
-{
-    match t {
-        Term::App(function, target) if count > 0 => {
-            let f = applied_to_targets(alloc, runs, size, depth, head, count - 1, function)?;
-            Term::new_app(alloc, f, place(alloc, runs, size, depth, target)?)
-        }
-        _ => Ok(head),
-    }
 }
 
 /// The variable with a level at the inner arguments, whose levels begin with `start`.
@@ -140,8 +117,8 @@ fn behind_inner(
         Ending::Beside => {
             let motive = variable(depth, q.params);
             let first = at_argument(alloc, runs, size, depth, motive, at, q.indices, t)?;
-            let second = at_inner(alloc, depth, at.hypothesis, at.start)?;
-            pair_of(alloc, q.m, first, second)
+            let hypothesis = at_inner(alloc, depth, at.hypothesis, at.start)?;
+            pair_of(alloc, q.m, first, hypothesis)
         }
         Ending::Folded => {
             let motive = variable(depth, q.params);
@@ -191,7 +168,7 @@ fn component_from(
 
 /// The component for argument `at` of a constructor, at a depth. It has the type `ty`, with `count` inner arguments. A type
 /// with more than 2,000 of them stays as it is.
-fn component(
+pub fn component(
     alloc: Global,
     e: Ending,
     q: Course,

@@ -4,22 +4,23 @@ ghost use Rattle.core_terms.specs.Meanings.{tree_of};
 ghost use Rattle.core_terms.specs.declared.stop.Stop.TheVariants.{Memory};
 ghost use Rattle.core_sig.specs.Shapes.{shape_of};
 ghost use Rattle.theory.specs.Families as pure;
-ghost use Rattle.theory.specs.Signatures.{FamilyOf, IsEntryAt};
-ghost use Rattle.theory.specs.SignatureScopes.{IsFamilyNumber};
+ghost use Rattle.theory.specs.Signatures.{FamilyOf, IsEntryAt, IsPrefix, Signature};
+ghost use Rattle.theory.specs.Prelude.{prelude};
+ghost use Rattle.theory.specs.SignatureScopes.{IsFamilyNumber, IsScopedSignature};
 ghost use Rattle.theory.specs.Terms.{top};
 ghost use Rattle.theory.specs.Terms as tree;
 ghost use Rattle.case_below_gen.specs.CourseEntries.{aux_goal, course_of};
 ghost use Rattle.case_below_gen.specs.declared.sides.Side.TheVariants.{First, Second};
 ghost use Rattle.case_below_gen.specs.Projections as spec;
 ghost use Rattle.case_below_gen.specs.Projections.{HasFewBinders};
-ghost use Rattle.case_below_gen.specs.Drafts.{draft_of, generated_name};
+ghost use Rattle.core_sig.specs.ScopedDrafts.{IsScopedDraft};
+ghost use Rattle.core_sig.specs.Drafts.{draft_of, generated_name};
 
 use crate::binding::at_scrutinee;
 use crate::components::{Course, below_at};
 use crate::courses::course_of;
-use crate::drafts::{drafted, generated_name};
 use crate::steps::{aux_goal, step_over};
-use core_sig::{Draft, Entry, Family, Signature, pair};
+use core_sig::{Draft, Entry, Family, Signature, drafted, generated_name, pair};
 use core_terms::{
     Binder, Items, MAX_HEIGHT, Name, Stop, Term, applied_to_run, number_of, variable,
 };
@@ -37,7 +38,8 @@ pub enum Side {
 pub fn rec_entry(alloc: Global, sig: &Signature, fam: u32, m: u8) -> Result<Draft, Stop>
     requires family { IsFamilyNumber sig.now fam }
     requires level { m + 1 < top }
-    ensures { (f : pure.Family) → IsEntryAt sig.now fam (FamilyOf f) → Gives draft_of result (spec.rec_entry (length sig.now.entries) fam f m) }
+    ensures answer { (f : pure.Family) → IsEntryAt sig.now fam (FamilyOf f) → Gives draft_of result (spec.rec_entry (length sig.now.entries) fam f m) }
+    ensures scoped { (T : Signature) → IsScopedSignature sig.now → IsPrefix (prelude sig.now.has_k) sig.now → IsPrefix sig.now T → IfOk result (λ d. IsScopedDraft T (draft_of d)) }
 {
     side_entry(alloc, Side::First, sig, fam, m)
 }
@@ -47,7 +49,8 @@ pub fn rec_entry(alloc: Global, sig: &Signature, fam: u32, m: u8) -> Result<Draf
 pub fn all_entry(alloc: Global, sig: &Signature, fam: u32, m: u8) -> Result<Draft, Stop>
     requires family { IsFamilyNumber sig.now fam }
     requires level { m + 1 < top }
-    ensures { (f : pure.Family) → IsEntryAt sig.now fam (FamilyOf f) → Gives draft_of result (spec.all_entry (length sig.now.entries) fam f m) }
+    ensures answer { (f : pure.Family) → IsEntryAt sig.now fam (FamilyOf f) → Gives draft_of result (spec.all_entry (length sig.now.entries) fam f m) }
+    ensures scoped { (T : Signature) → IsScopedSignature sig.now → IsPrefix (prelude sig.now.has_k) sig.now → IsPrefix sig.now T → IfOk result (λ d. IsScopedDraft T (draft_of d)) }
 {
     side_entry(alloc, Side::Second, sig, fam, m)
 }
@@ -55,7 +58,8 @@ pub fn all_entry(alloc: Global, sig: &Signature, fam: u32, m: u8) -> Result<Draf
 fn side_entry(alloc: Global, side: Side, sig: &Signature, fam: u32, m: u8) -> Result<Draft, Stop>
     requires family { IsFamilyNumber sig.now fam }
     requires level { m + 1 < top }
-    ensures { (f : pure.Family) → IsEntryAt sig.now fam (FamilyOf f) → Gives draft_of result (spec.side_entry side (length sig.now.entries) fam f m) }
+    ensures answer { (f : pure.Family) → IsEntryAt sig.now fam (FamilyOf f) → Gives draft_of result (spec.side_entry side (length sig.now.entries) fam f m) }
+    ensures scoped { (T : Signature) → IsScopedSignature sig.now → IsPrefix (prelude sig.now.has_k) sig.now → IsPrefix sig.now T → IfOk result (λ d. IsScopedDraft T (draft_of d)) }
 {
     match sig.entry(fam) {
         Some(Entry::Family(family)) => side_of_family(alloc, side, sig.len(), fam, family, m),
@@ -162,7 +166,7 @@ fn side_type(alloc: Global, side: Side, q: Course, depth: u32, start: u32) -> Re
     at_scrutinee(alloc, depth, start, q.indices, head)
 }
 
-fn side_variable(side: Side) -> Term
+pub fn side_variable(side: Side) -> Term
     ensures { tree_of result ≡ spec.side_variable side }
 {
     match side {

@@ -4,8 +4,7 @@ use Rattle.std.proofs.lemmas.Bool.Decides.{nat_tests}
 use Rattle.std.proofs.lemmas.List.{length-map}
 use Rattle.std.proofs.lemmas.List.Elements.{All-head, All-tail}
 use Rattle.std.proofs.lemmas.Simd.{map-map}
-use mathlib.Core.Path.{fun_ext}
-use Rattle.theory.specs.Terms.{Term}
+use Rattle.theory.specs.Terms.{Term, height}
 use Rattle.theory.specs.Terms.Term.{Var, Sort, Pi, App, Fam, Con}
 use Rattle.theory.specs.Substitutions.{inst, ups, weaken}
 use Rattle.theory.specs.Scopes.{IsTelescopeOver, IsConstructorOver, IsClosedFamily}
@@ -14,7 +13,7 @@ use Rattle.theory.specs.Families as pure
 use Rattle.theory.specs.Families.{family_head, index_types}
 use Rattle.theory.specs.Eliminators as spec
 use Rattle.theory.specs.Eliminators.{method_types}
-use Rattle.theory.proofs.Instances.{inst-inst, ren-is_inst, ups-ups}
+use Rattle.theory.proofs.Instances.{ren-is_inst}
 use Rattle.theory.proofs.Instantiation.{inst-applied, inst-products, inst-weaken, ups_by}
 use Rattle.theory.proofs.ScopedTypes.{length-inst_telescope}
 use Rattle.core_terms.specs.Answers.{bounded}
@@ -22,19 +21,19 @@ use Rattle.core_terms.specs.declared.levels.Binder.TheVariants.{Product}
 use Rattle.core_terms.specs.Levels.{variable, level_at, over, run}
 use Rattle.core_terms.specs.Meanings.{tree_of, tele_of}
 use Rattle.core_terms.specs.declared.stop.Stop.TheVariants.{Deep}
-use Rattle.core_terms.proofs.Placing.{Alike, alike-pi, alike-products, alike-over, alike-bounded, deep-unless, run-variables, run-further, run-weaken}
-use Rattle.core_sig.specs.ByLevels.{family_at, motive_type, goal_type, method_type, methods_over, eliminator_type}
+use Rattle.core_terms.proofs.Builders.{height-products}
+use Rattle.core_terms.proofs.Placing.{Alike, height-over, alike-pi, alike-products, alike-over, alike-bounded, deep-unless, run-variables, run-further, run-weaken}
+use Rattle.core_sig.specs.ByLevels.{family_at, motive_type, goal_type, hypotheses_over, conclusion, method_type, methods_over, eliminator_type}
 use Rattle.core_sig.specs.Kinds.{HaveKinds, HasKinds}
 use Rattle.core_sig.specs.Meanings.{constructor_of, family_of}
-use Rattle.core_sig.specs.Shapes.{IsFew, argument_shape, constructor_shape, shape_of, types_of}
+use Rattle.core_sig.specs.Shapes.{ConstructorShape, Shape, IsFew, HaveFewArguments, recursive_count, argument_shape, constructor_shape, shape_of, types_of}
 use Rattle.core_sig.specs.declared.family.Constructor.{Constructor}
 use Rattle.core_sig.specs.declared.family.Family.{Family}
 use Rattle.core_sig.proofs.Arguments.{inst_telescope-var, index_types-of}
 use Rattle.core_sig.proofs.ConstructorTypes.{ren-applied}
-use Rattle.core_sig.proofs.EntryInstances.{ren-id, inst-method_type, inst-weaken_by, inst-variables}
-use Rattle.core_sig.proofs.FewParts.{few-eliminator}
-use Rattle.core_sig.proofs.HypothesesByLevels.{further}
-use Rattle.core_sig.proofs.MethodsByLevels.{AtParameters, none-yet, alike-method}
+use Rattle.core_sig.proofs.EntryInstances.{ren-id, inst_telescope-inst, map-inst-weaken, inst-method_type, inst-weaken_by, inst-variables}
+use Rattle.core_sig.proofs.Lists.{all-unmapped}
+use Rattle.core_sig.proofs.MethodsByLevels.{AtParameters, none-yet, further, alike-method}
 
 -- ---- the parameters behind the motive and j methods
 
@@ -69,15 +68,6 @@ alike-indices n p depth k s head indices x y counted scoped placed le is same =
         (ap (weaken_by k) is
         ∙ (ren-applied (λ v. v + k) (Fam n) (run depth 0 p) ∙ ap (applied (Fam n)) (run-further depth 0 p k (omega arith))))
         (sym (run-variables (depth + k) depth k refl))
-
-inst_telescope-inst : (q s : ℕ → Term) (tele : Telescope) → inst_telescope q (inst_telescope s tele) ≡ inst_telescope (λ v. inst q (s v)) tele
-inst_telescope-inst q s [] = refl
-inst_telescope-inst q s (a ∷ tele) =
-    ap₂ ◌∷◌ (inst-inst q s a) (inst_telescope-inst (ups q) (ups s) tele ∙ ap (λ p. inst_telescope p tele) (fun_ext (ups-ups q s)))
-
-map-inst-weaken : (q : ℕ → Term) (ts : List Term) → map (inst (ups q)) (map weaken ts) ≡ map weaken (map (inst q) ts)
-map-inst-weaken q [] = refl
-map-inst-weaken q (t ∷ ts) = ap₂ ◌∷◌ (inst-weaken q t) (map-inst-weaken q ts)
 
 -- the goal behind the motive and j methods
 abbrev pub goal_of : (n p k : ℕ) → Telescope → Term
@@ -170,12 +160,6 @@ alike-methods n f number j (c ∷ cons) end E kinds scoped same =
         ∙ (ap (λ P. spec.method_type (λ v. Var (suc v + j)) (inst q (applied (Fam n) ps)) (inst q (applied (Con n number) ps)) P (constructor_of p c)) (ap Var (omega arith))
         ∙ ap₂ (λ head con. spec.method_type (λ v. Var (suc v + j)) head con (variable depth p) (constructor_of p c)) (symbol-there p j (Fam n) refl) (symbol-there p j (Con n number) refl)))
 
--- what holds of what elements stand for
-pub All-unmap : {X Y : Type 0} (P : Y → Type 0) (f : X → Y) (xs : List X) → All P (map f xs) → All (λ x. P (f x)) xs
-All-unmap P f [] all k d lt = absurd (omega arith)
-All-unmap P f (x ∷ xs) all zero d lt = all 0 (f d) (omega arith)
-All-unmap P f (x ∷ xs) all (suc k) d lt = All-unmap P f xs (All-tail P (f x) (map f xs) all) k d (omega arith)
-
 -- the type of an eliminator
 pub alike-eliminator : (n : ℕ) (f : Family) (m : ℕ) → HasKinds n f → IsClosedFamily (family_of f) → Alike (eliminator_type n (shape_of f) m) (spec.eliminator_type n (family_of f) m)
 alike-eliminator n f m kinds scoped =
@@ -186,7 +170,7 @@ alike-eliminator n f m kinds scoped =
     (subst₂ Alike (ap₂ (λ i d. methods_over n p i p 0 d (map constructor_shape f.cons) goal) same_count (omega arith))
     (ren-id (λ v. v + 0) (methods p) (λ v. omega arith) ∙ ap methods parameters_counted)
     (alike-methods n (family_of f) 0 0 f.cons goal E kinds.constructors
-    (subst (λ i. All (λ c. IsConstructorOver p (constructor_of i c)) f.cons) (sym parameters_counted) (All-unmap (IsConstructorOver p) (constructor_of (length f.params)) f.cons scoped.constructors))
+    (subst (λ i. All (λ c. IsConstructorOver p (constructor_of i c)) f.cons) (sym parameters_counted) (all-unmapped (IsConstructorOver p) (constructor_of (length f.params)) f.cons scoped.constructors))
     (subst₂ (λ j e. Alike goal (weaken_by j e)) (omega arith) (ap₂ (goal_of n p) (sym same_count) (sym same_types))
     (alike-goal n p (length (map constructor_shape f.cons)) k indices counted indices_scoped)))))
   where
@@ -225,6 +209,31 @@ alike-eliminator n f m kinds scoped =
 
     methods : ℕ → Term
     methods i = arrows (method_types (λ v. Var (suc v)) n (map weaken (variables p)) (Var 0) 0 (map (constructor_of i) f.cons)) E
+
+-- a term over more than 2,000 parameters, indices, constructors or arguments is too high
+few-arguments : (n p k motive number depth : ℕ) (cs : List ConstructorShape) (end : Term) → height (methods_over n p k motive number depth cs end) ≤ 2000 → HaveFewArguments cs × (length cs + height end ≤ height (methods_over n p k motive number depth cs end))
+few-arguments n p k motive number depth [] end low = (tt, omega arith)
+few-arguments n p k motive number depth (c ∷ cs) end low =
+    let rest = few-arguments n p k motive (number + 1) (depth + 1) cs end (omega arith) in
+    let count = length c.arguments in
+    let inside = depth + count in
+    let least = height-over Product ((0, p) ∷ (depth, count) ∷ []) p depth (types_of c.arguments) (hypotheses_over Product p k motive depth 0 inside c.arguments (conclusion n p motive number depth (inside + recursive_count c.arguments) c)) in
+    let types = length-map c.arguments (λ a. a.type) in
+    let tail = rest.1 in
+    ((omega arith, rest.0), omega arith)
+
+few-eliminator : (n : ℕ) (f : Shape) (m : ℕ) → height (eliminator_type n f m) ≤ 2000 → IsFew f
+few-eliminator n f m low =
+    let p = length f.parameters in
+    let k = length f.indices in
+    let goal = goal_type n f p (p + 1 + length f.constructors) in
+    let methods = methods_over n p k p 0 (p + 1) f.constructors goal in
+    let outer = height-products f.parameters (Pi (motive_type n f m p) methods) in
+    let motive = height-over Product ((0, p) ∷ (p, k) ∷ []) p p (types_of f.indices) (Pi (family_at n p (p + k) p k) (Sort m)) in
+    let types = length-map f.indices (λ a. a.type) in
+    let inner = few-arguments n p k p 0 (p + 1) f.constructors goal (omega arith) in
+    let tail = inner.1 in
+    record { parameters = omega arith; indices = omega arith; constructors = omega arith; arguments = inner.0 }
 
 -- what a call answers for it
 pub eliminator-bounded : (n : ℕ) (f : Family) (m : ℕ) → HasKinds n f → IsClosedFamily (family_of f) → bounded (eliminator_type n (shape_of f) m) ≡ bounded (spec.eliminator_type n (family_of f) m)

@@ -12,6 +12,16 @@ use Rattle.theory.proofs.Instances.{inst-inst, inst-ren, inst-same, ren-inst, re
 use Rattle.theory.proofs.Instantiation.{inst-weaken, inst-applied, inst-arrows, inst-products, inst-fill, map-inst-inst, ups_by, inst-extend}
 use Rattle.theory.proofs.Scopes.{length-argument_types}
 
+-- instantiations one after the other, in a telescope and behind a binder more
+pub inst_telescope-inst : (q s : ℕ → Term) (tele : Telescope) → inst_telescope q (inst_telescope s tele) ≡ inst_telescope (λ v. inst q (s v)) tele
+inst_telescope-inst q s [] = refl
+inst_telescope-inst q s (a ∷ tele) =
+    ap₂ ◌∷◌ (inst-inst q s a) (inst_telescope-inst (ups q) (ups s) tele ∙ ap (λ p. inst_telescope p tele) (fun_ext (ups-ups q s)))
+
+pub map-inst-weaken : (q : ℕ → Term) (ts : List Term) → map (inst (ups q)) (map weaken ts) ≡ map weaken (map (inst q) ts)
+map-inst-weaken q [] = refl
+map-inst-weaken q (t ∷ ts) = ap₂ ◌∷◌ (inst-weaken q t) (map-inst-weaken q ts)
+
 -- an instantiation passes the type of a recursive argument
 pub inst-recursive_type : (q s : ℕ → Term) (head : Term) (inner : Telescope) (targets : List Term)
     → inst q (recursive_type s head inner targets) ≡ recursive_type (λ n. inst q (s n)) (inst q head) inner targets

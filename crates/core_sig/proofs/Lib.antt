@@ -1,23 +1,26 @@
+mod Examples
 pub mod Arguments
 pub mod ClosedFamilies
 pub mod ConstructorTypes
 pub mod DraftTerms
 pub mod EliminatorsByLevels
 pub mod EntryInstances
-mod Examples
-pub mod FewParts
-pub mod HypothesesByLevels
 pub mod Instances
 pub mod Keeping
 pub mod KindLists
+pub mod Lists
 pub mod Lookups
 pub mod MethodsByLevels
 pub mod NameLists
 pub mod NamesShown
 pub mod NewNames
+pub mod PlacedDrafts
 pub mod PositiveFamilies
 pub mod PreludeEntries
 pub mod RecursiveForms
 pub mod Renumbering
 pub mod ScopeTests
+pub mod ScopedDrafts
 pub mod SettledFamilies
+pub mod ShapeScopes
+pub mod ShapesOfCode

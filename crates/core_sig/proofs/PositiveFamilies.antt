@@ -37,18 +37,6 @@ recursive-fits n f at count t level kind =
     ap (offends n) (argument_with-recursive n f at count kind.0 kind.1 t level kind.2 kind.3)
     ∙ ap₂ ◌||◌ (lacks-any n kind.0 (kind.3).inner_lacks) (lacks-any n kind.1 (kind.3).targets_lack)
 
--- the arguments from one on are that one and those that follow
-drop-at : (args : List Arg) (at : ℕ) (a : Arg) → at < length args → a ≡ get_or args at a → drop at args ≡ a ∷ drop (at + 1) args
-drop-at args at a lt is = drop-cons args at a lt ∙ ap₂ ◌∷◌ (sym is) (ap (λ k. drop k args) (sym (add-one at)))
-
--- from one argument on
-pub offender-step : (n : ℕ) (f : pure.Family) (at : ℕ) (args : List Arg) (a : Arg) (c : pure.Constructor) → at < length args → a ≡ get_or args at a → HaveKinds n f at (drop at args)
-    → HasKind n f at a.kind (tree_of a.ty) × HaveKinds n f (at + 1) (drop (at + 1) args) × (offender_in n (map (argument_of (length f.parameters)) (drop at args)) (at + 1) c ≡ (if offends n (argument_of (length f.parameters) a) then Some (at + 1) else offender_in n (map (argument_of (length f.parameters)) (drop (at + 1) args)) (at + 1 + 1) c))
-offender-step n f at args a c lt is kinds =
-    let split = drop-at args at a lt is in
-    let parts = subst (HaveKinds n f at) split kinds in
-    (parts.0, parts.1, ap (λ xs. offender_in n (map (argument_of (length f.parameters)) xs) (at + 1) c) split)
-
 -- an argument that does not offend is positive
 fits-positive : (n : ℕ) (a : pure.Argument) → offends n a ≡ false → IsPositiveArgument n a
 fits-positive n (pure.Plain type level) e = e
@@ -98,8 +86,3 @@ positive-none n number (c ∷ cs) all =
 pub offender-positive : (n : ℕ) (f : pure.Family) (r : Option (ℕ × ℕ)) → r ≡ first_offender n f → IsNone r ↔ IsPositive n f
 offender-positive n f None is = (λ _. none-positive n 0 f.constructors (sym is), λ _. refl)
 offender-positive n f (Some x) is = (λ no. absurd (true≢false no), λ positive. let none = is ∙ positive-none n 0 f.constructors positive in absurd (cc))
-
--- from one constructor on
-pub among-step : (n number : ℕ) (p : ℕ) (cons : List Constructor) (con : Constructor) → number < length cons → con ≡ get_or cons number con → offender_among n number (map (constructor_of p) (drop number cons)) ≡ option_map_or (λ a. Some (number, a)) (offender_in n (constructor_of p con).arguments 1 (constructor_of p con)) (offender_among n (number + 1) (map (constructor_of p) (drop (number + 1) cons)))
-among-step n number p cons con lt is =
-    ap (λ xs. offender_among n number (map (constructor_of p) xs)) (drop-cons cons number con lt ∙ ap₂ ◌∷◌ (sym is) (ap (λ k. drop k cons) (sym (add-one number))))

@@ -1,7 +1,9 @@
 pub mod ByLevels
 pub mod Codes
 pub mod DraftScopes
+pub mod Drafts
 pub mod EntryTerms
+pub mod FamilyShapes
 pub mod Instances
 pub mod Invariants
 pub mod KindTests
@@ -11,6 +13,7 @@ pub mod Names
 pub mod Offenders
 pub mod Raw
 pub mod ScopeTests
+pub mod ScopedDrafts
 pub mod SettledParts
 pub mod Settling
 pub mod Shapes

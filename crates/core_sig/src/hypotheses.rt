@@ -11,8 +11,8 @@ use core_terms::{
 };
 use std::alloc::Global;
 
-/// `head` applied to the last `count` arguments of a term of a record.
-fn applied_to_targets(
+/// `head` applied to the last `count` arguments of a term of a record, placed in the runs.
+pub fn applied_to_targets(
     alloc: Global,
     runs: &[Run],
     size: u32,

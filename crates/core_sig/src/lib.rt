@@ -3,6 +3,7 @@
 #![tactic(auto)]
 
 mod by_levels;
+mod drafting;
 mod eliminator;
 mod entry;
 mod family;
@@ -22,10 +23,11 @@ mod signature;
 mod types;
 
 pub use by_levels::{arguments_over, family_at, goal_type, motive_type};
+pub use drafting::{drafted, generated_name};
 pub use eliminator::elim_type;
 pub use entry::{Draft, Entry, Found};
 pub use family::{Arg, ArgKind, Constructor, Family};
-pub use hypotheses::{Motive, conclusion, hypotheses_over, hypothesis_type};
+pub use hypotheses::{Motive, applied_to_targets, conclusion, hypotheses_over, hypothesis_type};
 pub use kinds::kind_of;
 pub use name_set::NameSet;
 pub use positivity::{mentions, strictly_positive};

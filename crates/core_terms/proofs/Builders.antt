@@ -3,7 +3,6 @@ use Rattle.std.proofs.Common.{◌≡◌, ℕ, zero, suc, ◌+◌, ◌≤◌, Lis
 use Rattle.std.proofs.lemmas.List.{length-append}
 use Rattle.theory.specs.Terms.{Term, height}
 use Rattle.theory.specs.Terms.Term.{Var, Pi, Lam, App}
-use Rattle.theory.specs.Spines.{spine_of}
 use Rattle.theory.specs.Telescopes.{Telescope, products, functions, applied, variables, weaken_by}
 use Rattle.core_terms.specs.declared.stop.Stop.{Stop}
 

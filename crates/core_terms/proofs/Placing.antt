@@ -1,10 +1,10 @@
 -- Placed terms beside instantiated ones: variables by level are a renaming.
-use Rattle.std.proofs.Common.{◌≡◌, ◌⊎◌, ℕ, zero, suc, ◌+◌, ◌-◌, ◌<◌, ◌≤◌, Bool, true, false, nat_lt, nat_le, cond, if◌then◌else◌, max, List, [], ◌∷◌, ◌++◌, map, length, Ok, Err, inl, inr, refl, ap, ap₂, sym, ◌∙◌, subst, arith, All}
+use Rattle.std.proofs.Common.{◌≡◌, ◌⊎◌, ℕ, zero, suc, ◌+◌, ◌-◌, ◌<◌, ◌≤◌, Bool, true, false, nat_le, if◌then◌else◌, max, List, [], ◌∷◌, ◌++◌, map, length, Ok, Err, inl, inr, refl, ap, ap₂, sym, ◌∙◌, subst, arith, All}
 use Rattle.std.proofs.lemmas.Bool.Decides.{nat_tests}
 use Rattle.std.proofs.lemmas.List.Elements.{All-head, All-tail}
 use Rattle.theory.specs.Terms.{Term, height, free_of}
 use Rattle.theory.specs.Terms.Term.{Var, Pi, Lam, App, Let}
-use Rattle.theory.specs.Substitutions.{ren, inst, ups, weaken, extend, fill}
+use Rattle.theory.specs.Substitutions.{inst, ups, weaken, extend}
 use Rattle.theory.specs.Scopes.{IsTelescopeOver}
 use Rattle.theory.specs.Telescopes.{Telescope, products, functions, applied, variables, weaken_by, inst_telescope}
 use Rattle.theory.proofs.Instances.{ap₃}

@@ -1,11 +1,13 @@
 -- How a substitution is worked out, joined to `subst`.
-use Rattle.std.proofs.Common.{◌≡◌, ℕ, ◌+◌, ◌==◌, cond, refl, ap, ap₂, ◌∙◌, sym, min, arith}
+use Rattle.std.proofs.Common.{◌≡◌, ℕ, ◌+◌, ◌==◌, ◌≤◌, cond, [], ◌∷◌, refl, ap, ap₂, ◌∙◌, sym, min, subst as transport, arith}
 use Rattle.std.proofs.lemmas.Bool.Decides.{nat_tests}
 use Rattle.theory.specs.Terms.{Term, lift, subst, subst_var, height}
 use Rattle.theory.specs.Terms.Term.{Var, Pi, Lam, App, Let}
 use Rattle.theory.proofs.Commuting.{lift_by_none, lift_merge}
 use Rattle.theory.proofs.Heights.{height-lift, height-subst-least}
-use Rattle.core_terms.specs.Substitution.{subst_under, height_with}
+use Rattle.theory.specs.Telescopes.{Telescope}
+use Rattle.core_terms.specs.Substitution.{subst_under, subst_telescope_under, height_with}
+use Rattle.core_terms.specs.Telescopes.{subst_telescope}
 
 -- what is put is lifted by one more under a binder
 put_under : (t : Term) (at : ℕ) (u : Term) (under : ℕ) → subst t at (lift u (under + 1) 0) ≡ subst t at (lift (lift u under 0) 1 0)
@@ -64,4 +66,27 @@ height_with-min _ at put = refl
 
 pub ruleset lift_laws = (height-lift)
 
-pub ruleset subst_laws = (subst_under-none, height-subst, height_with-min, height-subst-least)
+pub height-subst_under : (t : Term) (at : ℕ) (u : Term) (under : ℕ) → height (subst_under t at u under) ≡ height_with t at (height u)
+height-subst_under t at u under =
+    ap height (subst_under-subst t at u under)
+    ∙ (height-subst t at (lift u under 0) ∙ ap (height_with t at) (height-lift u under 0))
+
+pub height-subst_under-least : (t : Term) (at : ℕ) (u : Term) (under : ℕ) → height t ≤ height (subst_under t at u under)
+height-subst_under-least t at u under =
+    transport (λ s. height t ≤ height s) (sym (subst_under-subst t at u under)) (height-subst-least t at (lift u under 0))
+
+pub ruleset subst_laws = (subst_under-none)
+
+pub ruleset height_laws = (height-subst_under, height_with-min, height-subst_under-least)
+
+telescope-put : (tele : Telescope) (at : ℕ) (u : Term) (under : ℕ) → subst_telescope_under tele at u under ≡ subst_telescope tele at (lift u under 0)
+telescope-put [] at u under = refl
+telescope-put (a ∷ tele) at u under =
+    ap₂ ◌∷◌ (subst_under-subst a at u under)
+    (telescope-put tele (at + 1) u (under + 1)
+    ∙ ap (subst_telescope tele (at + 1)) (sym (lift_merge u under 0 1 0 (omega arith) (omega arith))))
+
+pub telescope-put-none : (tele : Telescope) (at : ℕ) (u : Term) → subst_telescope_under tele at u 0 ≡ subst_telescope tele at u
+telescope-put-none tele at u = telescope-put tele at u 0 ∙ ap (subst_telescope tele at) (lift_by_none u 0)
+
+pub ruleset telescope_laws = (telescope-put-none)

@@ -1,7 +1,9 @@
 -- How the answer of a call is tied to the answer that is meant, and how answers are put one behind the other.
-use Rattle.std.specs.Prelude.{◌≡◌, ℕ, Bool, nat_le, if◌then◌else◌, Result, Ok, Err}
+use Rattle.std.specs.Prelude.{◌≡◌, ℕ, ◌<◌, ◌+◌, Bool, true, nat_le, ◌&&◌, if◌then◌else◌, List, [], ◌∷◌, Result, Ok, Err}
 use Rattle.theory.specs.Terms.{Term, height}
 use Rattle.core_terms.specs.Bounds.{most_height}
+use Rattle.core_terms.specs.Meanings.{tree_of}
+use Rattle.core_terms.specs.declared.term.Term as code
 use Rattle.core_terms.specs.declared.stop.Stop.{Stop}
 use Rattle.core_terms.specs.declared.stop.Stop.TheVariants.{Memory, Deep}
 
@@ -61,3 +63,19 @@ is_low t = nat_le (height t) most_height
 -- the term itself, or Deep where it is too high
 abbrev pub bounded : Term → Result Term Stop
 bounded t = if is_low t then Ok t else Err Deep
+
+abbrev pub are_low : List Term → Bool
+are_low [] = true
+are_low (t ∷ terms) = is_low t && are_low terms
+
+-- the terms themselves, or Deep where one of them is too high
+abbrev pub bounded_terms : List Term → Result (List Term) Stop
+bounded_terms terms = if are_low terms then Ok terms else Err Deep
+
+-- the term that is meant, or Deep only where it is too high under so many binders, or want of memory
+abbrev pub MakesUnder : ℕ → Result code.Term Stop → Term → Type 0
+MakesUnder under (Ok t) meant = tree_of t ≡ meant
+MakesUnder under (Err e) meant = Unless (IsUnforeseen e) ((e ≡ Deep) × (2000 < under + height meant))
+
+abbrev pub Makes : Result code.Term Stop → Term → Type 0
+Makes result meant = MakesUnder 0 result meant

@@ -9,3 +9,8 @@ most_height = 2000
 -- than 2,000 binders stand around a variable
 abbrev pub most_free : ℕ
 most_free = 4294965295
+
+-- 3 * 2 ^ 30: so many free variables at most has a term that is put under binders. No index of a term that is made passes 32
+-- bits.
+abbrev pub most_inner_variables : ℕ
+most_inner_variables = 3221225472

@@ -1,7 +1,8 @@
--- Substitution as it is worked out: what is put is lifted once, where it is put. Both functions are joined to `subst`
--- by a law each.
-use Rattle.std.specs.Prelude.{ℕ, ◌+◌, ◌==◌, cond, max}
+-- Substitution as it is worked out: what is put is lifted once, where it is put. Each function is joined to its
+-- definition by a law.
+use Rattle.std.specs.Prelude.{ℕ, ◌+◌, ◌==◌, cond, max, [], ◌∷◌}
 use Rattle.theory.specs.Terms.{Term, Var, Sort, Pi, Lam, App, Let, Const, Fam, Con, Elim, AxiomK, lift, subst_var}
+use Rattle.theory.specs.Telescopes.{Telescope}
 
 -- `u`, lifted by `under`, is put for variable `at`; both numbers grow by one under a binder
 abbrev pub subst_under : Term → ℕ → Term → ℕ → Term
@@ -17,6 +18,11 @@ subst_under (Fam f) at u under = Fam f
 subst_under (Con f c) at u under = Con f c
 subst_under (Elim f m) at u under = Elim f m
 subst_under (AxiomK i m) at u under = AxiomK i m
+
+-- the same through a telescope
+abbrev pub subst_telescope_under : Telescope → ℕ → Term → ℕ → Telescope
+subst_telescope_under [] at u under = []
+subst_telescope_under (a ∷ tele) at u under = subst_under a at u under ∷ subst_telescope_under tele (at + 1) u (under + 1)
 
 -- the height of a term once a term of height `put` stands for variable `at`
 abbrev pub height_with : Term → ℕ → ℕ → ℕ

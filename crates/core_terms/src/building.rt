@@ -1,9 +1,10 @@
-ghost use Rattle.std.specs.Prelude.{◌≡◌, ◌≤◌, ◌<◌, ◌+◌, ◌^◌, length, map, min, IfOk, IfErr};
+ghost use Rattle.std.specs.Prelude.{◌≡◌, ◌≤◌, ◌<◌, ◌+◌, ◌^◌, ◌++◌, length, map, min, IfOk, IfErr, OnOk, OnErr};
 ghost use Rattle.theory.specs.Spines.{head_of, spine_of};
 ghost use Rattle.theory.specs.Telescopes as spec;
 ghost use Rattle.core_terms.specs.Answers.{Gives, bounded};
 ghost use Rattle.core_terms.specs.Meanings.{tree_of, tele_of};
-ghost use Rattle.core_terms.specs.declared.stop.Stop.TheVariants.{Deep};
+ghost use Rattle.core_terms.specs.Telescopes.{domains_of, end_of};
+ghost use Rattle.core_terms.specs.declared.stop.Stop.TheVariants.{Deep, Memory};
 
 use crate::{MAX_HEIGHT, Stop, Term};
 use std::alloc::Global;
@@ -49,6 +50,21 @@ pub fn functions(alloc: Global, mut tele: Vec<Term>, body: Term) -> Result<Term,
         whole = Term::new_lam(alloc, ty, whole)?;
     }
     Ok(whole)
+}
+
+/// Adds the domains of the leading products of the term to the types, and answers what stands behind them.
+pub fn split_products(types: &mut Vec<Term>, t: Term) -> Result<Term, Stop>
+    ensures domains { OnOk result (tele_of types.new.items ≡ tele_of types.old.items ++ domains_of (tree_of t)) }
+    ensures end { IfOk result (λ end. tree_of end ≡ end_of (tree_of t)) }
+    ensures memory { OnErr result (result ≡ Err Memory) }
+{
+    match t {
+        Term::Pi(domain, codomain) => {
+            types.push(Box::into_inner(domain))?;
+            split_products(types, Box::into_inner(codomain))
+        }
+        end => Ok(end),
+    }
 }
 
 /// `head` applied to the arguments; nothing tests the height.

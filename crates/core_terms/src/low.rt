@@ -6,16 +6,6 @@ ghost use Rattle.core_terms.specs.Meanings.{tree_of};
 use crate::{MAX_HEIGHT, Stop, Term};
 use std::alloc::{AllocError, Global};
 
-/// The term itself, or Deep.
-pub fn bounded(t: Term) -> Result<Term, Stop>
-    ensures { Gives tree_of result (bounded (tree_of t)) }
-{
-    if t.height() > MAX_HEIGHT {
-        return Err(Stop::Deep);
-    }
-    Ok(t)
-}
-
 /// A term that is at most 2,000 high, with its height.
 #[derive(Drop)]
 pub struct Low {

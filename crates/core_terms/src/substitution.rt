@@ -17,10 +17,25 @@ pub fn subst(alloc: Global, t: &Term, at: u32, by: &Term) -> Result<Term, Stop>
     requires { tree.free_of (tree_of by.now) ≤ most_free }
     ensures { Gives tree_of result (bounded (tree.subst (tree_of t.now) at (tree_of by.now))) }
 {
+    subst_under(alloc, t, at, by, 0)
+}
+
+/// The same where `by` stands so many binders further out.
+#[tactic(auto, using(crate::proofs::SubstUnder::height_laws))]
+pub(crate) fn subst_under(
+    alloc: Global,
+    t: &Term,
+    at: u32,
+    by: &Term,
+    under: u32,
+) -> Result<Term, Stop>
+    requires { tree.free_of (tree_of by.now) + under ≤ most_free }
+    ensures { Gives tree_of result (bounded (subst_under (tree_of t.now) at (tree_of by.now) under)) }
+{
     if t.height() > MAX_HEIGHT || substituted_height(t, at as u64, by.height()) > MAX_HEIGHT {
         return Err(Stop::Deep);
     }
-    subst_whole(alloc, t, at as u64, by, 0)
+    subst_whole(alloc, t, at as u64, by, under)
 }
 
 /// The height that `t` has once a term of height `put` stands for variable `at`, or `MAX_HEIGHT + 1` where it is greater.

@@ -26,7 +26,7 @@ use Rattle.family_check.specs.Families.{family_without}
 use Rattle.family_check.specs.Laws.{EntersAsDeclared}
 use Rattle.family_check.specs.Scopes.{IsScopedRaw, IsSettled, with_raw}
 use Rattle.family_check.proofs.Extending.{declare-extends}
-use Rattle.family_check.proofs.Given.{declare-gives}
+use Rattle.family_check.proofs.AsDeclared.{declare-gives}
 use Rattle.core_terms.proofs.Answers.{Answers, and_then-is}
 use Rattle.family_check.proofs.ScopedEntering.{declare-settles}
 use Rattle.family_check.proofs.Soundness.{declare-keeps}

@@ -18,7 +18,7 @@ use Rattle.family_check.specs.Laws.{EntersAsDeclared}
 use Rattle.family_check.specs.Outcomes.{OfType, OfBody, FamilyStop, Outcome}
 use Rattle.family_check.specs.Scopes.{IsSettled}
 use Rattle.family_check.proofs.Extending.{declare-extends}
-use Rattle.family_check.proofs.Given.{declare-gives}
+use Rattle.family_check.proofs.AsDeclared.{declare-gives}
 use Rattle.core_terms.proofs.Answers.{Answers, and_next-has}
 use Rattle.family_check.proofs.Outcomes.{if_new-has}
 use Rattle.family_check.proofs.ScopedEntering.{declare-settles}

@@ -1,14 +1,19 @@
 -- What declaring a family needs of its parts.
-use Rattle.std.proofs.Common.{◌≡◌, ◌≢◌, ℕ, true, false, Option, Some, None, Result, Ok, Err, IfOk, List, [], ◌∷◌, length, map, All, AllPairs, sym, ap, ◌∙◌, subst as transport, arith}
+use Rattle.std.proofs.Common.{◌≡◌, ◌≢◌, ℕ, ◌<◌, true, false, Option, Some, None, Result, Ok, Err, IfOk, List, [], ◌∷◌, length, map, All, AllPairs, sym, ap, ◌∙◌, subst as transport, arith}
 use Rattle.std.specs.Option.{is_some}
-use Rattle.std.proofs.lemmas.List.Elements.{All-nil, All-cons, All-head, All-tail, All-weaker}
+use Rattle.std.proofs.lemmas.List.Elements.{All-nil, All-head, All-tail, All-weaker}
 use Rattle.theory.specs.Families as pure
 use Rattle.theory.specs.Signatures.{FamilyOf, Signature, names_of}
 use Rattle.theory.proofs.Lists.{only}
 use Rattle.core_sig.specs.Kinds.{HasKinds, HaveKinds}
 use Rattle.core_sig.specs.Meanings.{constructor_of, family_of}
 use Rattle.core_sig.specs.Names.{find}
-use Rattle.core_sig.specs.Raw.{RawFamily, raw_names}
+use Rattle.core_sig.specs.Raw.{RawConstructor, RawFamily, raw_constructor_of, raw_names}
+use Rattle.core_sig.specs.declared.raw.RawCon.{RawCon}
+use Rattle.core_terms.specs.Meanings.{tree_of}
+use Rattle.theory.specs.SignatureScopes.{IsScoped}
+use Rattle.theory.specs.WellFormed.{pushed}
+use Rattle.kernel_reduce.specs.WellScoped.{AreScoped, AreWellScoped, context_limit}
 use Rattle.core_terms.specs.declared.stop.Stop as stop
 use Rattle.core_sig.specs.declared.family.Constructor.{Constructor}
 use Rattle.core_sig.specs.declared.family.Family.{Family}
@@ -18,25 +23,44 @@ use Rattle.family_check.specs.Kinds.{IsBare}
 use Rattle.family_check.specs.Laws.{IsAsDeclared}
 use Rattle.family_check.specs.Outcomes.{ended}
 use Rattle.family_check.specs.Scopes.{IsSettled, IsScopedRaw, site_signature, IsScopedStop}
-use Rattle.family_check.proofs.Given.{IsGiven, type-given, family-given}
+use Rattle.family_check.proofs.AsDeclared.{IsBareAsDeclared, type-given, family-given}
 use Rattle.family_check.proofs.NewNames.{none-passes, both-false, not-true, new-differ}
 use Rattle.core_terms.proofs.Answers.{Splits}
 use Rattle.family_check.proofs.Scoped.{IsBareScoped, type-scoped}
 use Rattle.family_check.proofs.ScopedEntering.{OverBare, over-bare}
 use Rattle.family_check.proofs.ShapeLoops.{kinds-whole}
 
-pub all-unmapped : {A B : Type 0} (P : B → Type 0) (f : A → B) (xs : List A) → All P (map f xs) → All (λ x. P (f x)) xs
-all-unmapped P f [] h = All-nil (λ x. P (f x))
-all-unmapped P f (x ∷ xs) h =
-    All-cons (λ y. P (f y)) x xs (All-head P (f x) (map f xs) h) (all-unmapped P f xs (All-tail P (f x) (map f xs) h))
-
 -- the family without constructors, once its type is checked
 pub bare-stands : (S : Signature) → IsSettled S → (raw : RawFamily) (f : pure.Family) (left l : ℕ) → IsScopedRaw S raw → ended (Ok f) l ≡ declare_type S raw left → OverBare S raw f
 bare-stands S settled raw f left l h is =
     over-bare S settled raw f h (transport (λ x. Splits (IsBareScoped S raw) (IsScopedStop (site_signature S raw)) x.0) (sym is) (type-scoped S settled raw left h))
 
-pub bare-given : (S : Signature) (raw : RawFamily) (f : pure.Family) (left l : ℕ) → ended (Ok f) l ≡ declare_type S raw left → IsGiven raw f
-bare-given S raw f left l is = transport (λ x. IfOk x.0 (IsGiven raw)) (sym is) (type-given S raw left)
+pub bare-given : (S : Signature) (raw : RawFamily) (f : pure.Family) (left l : ℕ) → ended (Ok f) l ≡ declare_type S raw left → IsBareAsDeclared raw f
+bare-given S raw f left l is = transport (λ x. IfOk x.0 (IsBareAsDeclared raw)) (sym is) (type-given S raw left)
+
+-- and the types of its constructors
+pub constructors-asked : (S : Signature) → IsSettled S → (cons : List RawCon) (raw : RawFamily) (f : pure.Family) (left l : ℕ) → IsScopedRaw S raw
+    → map raw_constructor_of cons ≡ raw.constructors → ended (Ok f) l ≡ declare_type S raw left → length f.parameters < context_limit
+    → AreWellScoped (pushed S (FamilyOf f)) f.parameters (map (λ c. tree_of c.ty) cons)
+constructors-asked S settled cons raw f left l h given is few =
+    let over = bare-stands S settled raw f left l h is in
+    record {
+      signature = over.settled.scoped;
+      context = over.parameters;
+      few = few;
+      terms = types cons (transport (All (λ r. IsScoped T (length f.parameters) r.type)) (sym given) over.types);
+    }
+  where
+    T : Signature
+    T = pushed S (FamilyOf f)
+
+    types : (cs : List RawCon) → All (λ (r : RawConstructor). IsScoped T (length f.parameters) r.type) (map raw_constructor_of cs)
+        → AreScoped T (length f.parameters) (map (λ c. tree_of c.ty) cs)
+    types [] k = tt
+    types (c ∷ cs) k = (
+      All-head (λ (r : RawConstructor). IsScoped T (length f.parameters) r.type) (raw_constructor_of c) (map raw_constructor_of cs) k,
+      types cs (All-tail (λ (r : RawConstructor). IsScoped T (length f.parameters) r.type) (raw_constructor_of c) (map raw_constructor_of cs) k),
+    )
 
 none-of : {A : Type 0} (o : Option A) → is_some o ≡ false → o ≡ None
 none-of None h = cc

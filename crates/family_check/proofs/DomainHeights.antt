@@ -8,8 +8,8 @@ use Rattle.theory.specs.Signatures.{Signature}
 use Rattle.family_check.specs.Asking.{sort_in}
 use Rattle.family_check.specs.Families.{Role, levels_of}
 use Rattle.family_check.specs.Outcomes.{Site, ended}
-use Rattle.family_check.specs.Shapes.{domains_of, end_of}
-use Rattle.family_check.proofs.Given.{levels-counted}
+use Rattle.core_terms.specs.Telescopes.{domains_of, end_of}
+use Rattle.family_check.proofs.AsDeclared.{levels-counted}
 use Rattle.family_check.proofs.Lowness.{sort-low}
 
 pub granted-low : (S : Signature) (site : Site) (G : Context) (t sort : Term) (left l : ℕ) → ended (Ok sort) l ≡ sort_in S site G t left → height t ≤ 2000

@@ -16,7 +16,7 @@ use Rattle.kernel_reduce.proofs.Answers.{charge-has, if_low-has}
 use Rattle.kernel_check.specs.Checking.{typed, denied, universe_type, greater_sort, sort_of, infer_form, infer_of, infer_sort_of, check_of}
 use Rattle.kernel_check.specs.Laws.{IfYes}
 use Rattle.kernel_check.proofs.Parts.{Splits, if_typed-splits, child-splits}
-use Rattle.family_check.specs.Shapes.{end_of}
+use Rattle.core_terms.specs.Telescopes.{end_of}
 use Rattle.family_check.specs.Families.{sort_level}
 
 -- the sort at the end is below top
@@ -45,11 +45,11 @@ any (Err e) = tt
 
 universe-ends : (G : Context) (i : ℕ) → IfOk (universe_type G i) (Splits (EndsBelow (Sort i)) NoClaim)
 unfolding NoClaim
-universe-ends G i = go (nat_lt i top) refl
+universe-ends G i = by_case (nat_lt i top) refl
   where
-    go : (b : Bool) → nat_lt i top ≡ b → IfOk (cond b (typed (Sort (i + 1))) (denied G LevelTooHigh)) (Splits (EndsBelow (Sort i)) NoClaim)
-    go true e = every (EndsBelow (Sort i)) (λ type level same. let k : i ≡ level = ap sort_level same in let lt : i < top = grind (arith, nat_tests) in omega arith) (typed (Sort (i + 1)))
-    go false e = tt
+    by_case : (b : Bool) → nat_lt i top ≡ b → IfOk (cond b (typed (Sort (i + 1))) (denied G LevelTooHigh)) (Splits (EndsBelow (Sort i)) NoClaim)
+    by_case true e = every (EndsBelow (Sort i)) (λ type level same. let k : i ≡ level = ap sort_level same in let lt : i < top = grind (arith, nat_tests) in omega arith) (typed (Sort (i + 1)))
+    by_case false e = tt
 
 -- the type of a term by its form, where the sorts of its children are such
 form-ends : (S : Signature) (room : ℕ) → ((G : Context) (t : Term) (left : ℕ) → Says t (infer_sort_of S room G t left))
@@ -84,9 +84,9 @@ mutual
 
 pub sort-ends : (S : Signature) (room : ℕ) (G : Context) (t : Term) (left : ℕ)
     → IfOk (infer_sort_of S room G t left).0 (λ verdict. IfYes verdict (EndsBelow t))
-sort-ends S room G t left = go (infer_sort_of S room G t left).0 (infer_sort-ends S room G t left)
+sort-ends S room G t left = by_case (infer_sort_of S room G t left).0 (infer_sort-ends S room G t left)
   where
-    go : (r : Result Verdict Stop) → IfOk r (Splits (EndsBelow t) NoClaim) → IfOk r (λ verdict. IfYes verdict (EndsBelow t))
-    go (Ok (Yes type)) h = h
-    go (Ok (No denial)) h = tt
-    go (Err e) h = tt
+    by_case : (r : Result Verdict Stop) → IfOk r (Splits (EndsBelow t) NoClaim) → IfOk r (λ verdict. IfYes verdict (EndsBelow t))
+    by_case (Ok (Yes type)) h = h
+    by_case (Ok (No denial)) h = tt
+    by_case (Err e) h = tt

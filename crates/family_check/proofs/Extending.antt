@@ -21,11 +21,11 @@ abbrev Any : {A : Type 0} → A → Type 0
 Any a = Unit {0}
 
 any : {A : Type 0} (r : Outcome A) → Answers Any r
-any {A} r = go r.0
+any {A} r = by_case r.0
   where
-    go : (x : Result A FamilyStop) → IfOk x Any
-    go (Ok a) = tt
-    go (Err e) = tt
+    by_case : (x : Result A FamilyStop) → IfOk x Any
+    by_case (Ok a) = tt
+    by_case (Err e) = tt
 
 pub define-extends : (S : Signature) (name : List ℕ) (type body : Term) (left : ℕ) → Answers (Extends S) (define_of S name type body left)
 define-extends S name type body left =

@@ -30,11 +30,11 @@ high : (S T : Signature) (entry : Entry) (fits : Bool) (type : Term) (e : stop.S
     → (e ≢ Memory → Err e ≡ bounded type) → Yields (entered_at T) (Err s) l (enter_instance S entry fits type l)
 high S T entry fits type e s l is at why =
     fits-yields S T entry fits type (Err s) l l is
-    (λ q. go (nat_le (height type) 2000) refl (why (λ m. q (at ∙ ap Stop m))))
+    (λ q. by_case (nat_le (height type) 2000) refl (why (λ m. q (at ∙ ap Stop m))))
   where
-    go : (b : Bool) → nat_le (height type) 2000 ≡ b → same_answer (Err e) (cond b (Ok type) (Err Deep)) → ended (Err (stop_of s)) l ≡ enter_instance S entry true type l
-    go true test h = absurd (let f : same_answer (Err e) (Ok type) = h in cc)
-    go false test h =
+    by_case : (b : Bool) → nat_le (height type) 2000 ≡ b → same_answer (Err e) (cond b (Ok type) (Err Deep)) → ended (Err (stop_of s)) l ≡ enter_instance S entry true type l
+    by_case true test h = absurd (let f : same_answer (Err e) (Ok type) = h in cc)
+    by_case false test h =
         let f : same_answer (Err e) (Err Deep) = h in
         let deep : e ≡ Deep = cc in
         ap (λ x. ended (Err (stop_of x)) l) (at ∙ ap Stop deep)
@@ -47,11 +47,11 @@ high_yields S T entry fits type e (Err s) l is at why = high S T entry fits type
 
 -- a term that was made is the one that is meant
 pub made-is : (t u : Term) → same_answer (Ok t) (bounded u) → t ≡ u
-made-is t u h = go (nat_le (height u) 2000) h
+made-is t u h = by_case (nat_le (height u) 2000) h
   where
-    go : (b : Bool) → same_answer (Ok t) (cond b (Ok u) (Err Deep)) → t ≡ u
-    go true e = let f : same_answer (Ok t) (Ok u) = e in cc
-    go false e = absurd (let f : same_answer (Ok t) (Err Deep) = e in cc)
+    by_case : (b : Bool) → same_answer (Ok t) (cond b (Ok u) (Err Deep)) → t ≡ u
+    by_case true e = let f : same_answer (Ok t) (Ok u) = e in cc
+    by_case false e = absurd (let f : same_answer (Ok t) (Err Deep) = e in cc)
 
 pub given-is : (t u : Term) → same_answer (Ok t) (Ok u) → t ≡ u
 given-is t u e = cc

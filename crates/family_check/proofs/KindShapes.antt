@@ -17,7 +17,9 @@ use Rattle.core_sig.specs.declared.family.ArgKind.{ArgKind}
 use Rattle.core_sig.specs.declared.family.ArgKind.TheVariants.{Plain, Recursive}
 use Rattle.core_sig.proofs.Arguments.{argument_with-recursive, length-spine_of-head, spine_of-applied}
 use Rattle.kernel_reduce.specs.Comparison.{same}
-use Rattle.family_check.specs.Shapes.{domains_of, end_of, all_lack, targets_of, recursive_parts, argument_of}
+use Rattle.core_terms.specs.Telescopes.{domains_of, end_of}
+use Rattle.core_terms.proofs.LeadingProducts.{domains-products, end-products, is_product, domains-ended, end-ended}
+use Rattle.family_check.specs.Shapes.{all_lack, targets_of, recursive_parts, argument_of}
 use Rattle.family_check.specs.Kinds.{is_recursive}
 use Rattle.family_check.proofs.Shapes.{IsEnd, recursive_type-products, recursive-found, weaken_by-more}
 
@@ -25,31 +27,6 @@ all-lacks : (n : ℕ) (ts : List Term) → All (Lacks n) ts → all_lack n ts �
 all-lacks n [] h = refl
 all-lacks n (t ∷ ts) h =
     ap₂ (λ a b. not a && b) (All-head (Lacks n) t ts h) (all-lacks n ts (All-tail (Lacks n) t ts h))
-
-domains-products : (tele : Telescope) (body : Term) → domains_of (products tele body) ≡ tele ++ domains_of body
-domains-products [] body = refl
-domains-products (a ∷ tele) body = ap (λ ts. a ∷ ts) (domains-products tele body)
-
-end-products : (tele : Telescope) (body : Term) → end_of (products tele body) ≡ end_of body
-end-products [] body = refl
-end-products (a ∷ tele) body = end-products tele body
-
-abbrev pub is_product : Term → Bool
-is_product (Pi a b) = true
-is_product _ = false
-
--- a term that is no product ends where it begins
-pub domains-ended : (t : Term) → is_product t ≡ false → domains_of t ≡ []
-domains-ended (Pi a b) h = absurd (grind arith)
-domains-ended _ h = refl
-
-end-ended : (t : Term) → is_product t ≡ false → end_of t ≡ t
-end-ended (Pi a b) h = absurd (grind arith)
-end-ended _ h = refl
-
-pub end-ends : (t : Term) → is_product (end_of t) ≡ false
-end-ends (Pi a b) = end-ends b
-end-ends _ = refl
 
 product-ren : (r : ℕ → ℕ) (t : Term) → is_product (ren r t) ≡ is_product t
 product-ren r (Pi a b) = refl
@@ -68,11 +45,11 @@ family-ended n f k j ts =
     ∙ product-applied (Fam n) (variables (length f.parameters)) refl))
 
 same-itself : (t : Term) → same t t ≡ true
-same-itself t = go (Term-discrete ℕ_discrete t t)
+same-itself t = by_case (Term-discrete ℕ_discrete t t)
   where
-    go : (d : Dec (t ≡ t)) → elim d [ yes e ↦ true | no e ↦ false ] ≡ true
-    go (yes e) = refl
-    go (no e) = absurd (e refl)
+    by_case : (d : Dec (t ≡ t)) → elim d [ yes e ↦ true | no e ↦ false ] ≡ true
+    by_case (yes e) = refl
+    by_case (no e) = absurd (e refl)
 
 pub spine-drops : (n : ℕ) (f : Family) (k : ℕ) (targets : List Term)
     → drop (length f.parameters) (spine_of (applied (weaken_by k (family_head n f)) targets)) ≡ targets
@@ -116,11 +93,11 @@ recursive-are n f k inner targets t is =
 
 pub plain-are : (n : ℕ) (f : Family) (k : ℕ) (t : Term) → ((inner : Telescope) (targets : List Term) → ¬ IsRecursiveType n f k inner targets t)
     → recursive_parts n f k t ≡ None
-plain-are n f k t h = go (recursive_parts n f k t) refl (recursive-found n f k t)
+plain-are n f k t h = by_case (recursive_parts n f k t) refl (recursive-found n f k t)
   where
-    go : (o : Option (Telescope × List Term)) → recursive_parts n f k t ≡ o → IfSome o (λ p. IsRecursiveType n f k p.0 p.1 t) → recursive_parts n f k t ≡ None
-    go None e is = e
-    go (Some p) e is = absurd (h p.0 p.1 is)
+    by_case : (o : Option (Telescope × List Term)) → recursive_parts n f k t ≡ o → IfSome o (λ p. IsRecursiveType n f k p.0 p.1 t) → recursive_parts n f k t ≡ None
+    by_case None e is = e
+    by_case (Some p) e is = absurd (h p.0 p.1 is)
 
 -- the kind of an argument tells whether it has the parts of a recursive one
 pub kind-tells : (n : ℕ) (f : Family) (k : ℕ) (kind : ArgKind) (t : Term) → HasKind n f k kind t → is_some (recursive_parts n f k t) ≡ is_recursive kind
@@ -153,14 +130,9 @@ end-tells n f k kind t ended h =
 
 -- where there are targets, they are the arguments behind the parameters
 pub targets-behind : (n : ℕ) (f : Family) (k : ℕ) (t : Term) → is_some (targets_of n f k t) ≡ true → targets_of n f k t ≡ Some (drop (length f.parameters) (spine_of t))
-targets-behind n f k t h = go _ h
+targets-behind n f k t h = by_case _ h
   where
-    go : (b : Bool) → is_some (cond b (Some (drop (length f.parameters) (spine_of t))) None) ≡ true
+    by_case : (b : Bool) → is_some (cond b (Some (drop (length f.parameters) (spine_of t))) None) ≡ true
         → cond b (Some (drop (length f.parameters) (spine_of t))) None ≡ Some (drop (length f.parameters) (spine_of t))
-    go true e = refl
-    go false e = absurd (grind arith)
-
--- a term without a domain is no product
-pub not-product : (t : Term) → domains_of t ≡ [] → is_product t ≡ false
-not-product (Pi a b) h = absurd (grind arith)
-not-product _ h = refl
+    by_case true e = refl
+    by_case false e = absurd (grind arith)

@@ -11,17 +11,17 @@ use Rattle.family_check.specs.Outcomes.{Site, Outcome, on_part, granted}
 use Rattle.family_check.specs.Entering.{if_new}
 
 pub granted-has : (P : Term → Type 0) (site : Site) (asked : Spent Verdict) → IfOk asked.0 (λ verdict. IfYes verdict P) → Answers P (granted site asked)
-granted-has P site asked h = go asked.0 h
+granted-has P site asked h = by_case asked.0 h
   where
-    go : (r : Result Verdict Stop) → IfOk r (λ verdict. IfYes verdict P) → IfOk (on_part site r) P
-    go (Ok (Yes type)) k = k
-    go (Ok (No denial)) k = tt
-    go (Err e) k = tt
+    by_case : (r : Result Verdict Stop) → IfOk r (λ verdict. IfYes verdict P) → IfOk (on_part site r) P
+    by_case (Ok (Yes type)) k = k
+    by_case (Ok (No denial)) k = tt
+    by_case (Err e) k = tt
 
-pub if_new-has : {A : Type 0} (P : A → Type 0) (test : Bool) (go : ℕ → Outcome A) (left : ℕ) → (test ≡ true → Answers P (go left)) → Answers P (if_new test go left)
-if_new-has P true go left h = h refl
-if_new-has P false go left h = tt
+pub if_new-has : {A : Type 0} (P : A → Type 0) (test : Bool) (next : ℕ → Outcome A) (left : ℕ) → (test ≡ true → Answers P (next left)) → Answers P (if_new test next left)
+if_new-has P true next left h = h refl
+if_new-has P false next left h = tt
 
-pub if_new-spends : {A : Type 0} (test : Bool) (go : ℕ → Outcome A) (left : ℕ) → (go left).1 ≤ left → (if_new test go left).1 ≤ left
-if_new-spends true go left h = h
-if_new-spends false go left h = omega arith
+pub if_new-spends : {A : Type 0} (test : Bool) (next : ℕ → Outcome A) (left : ℕ) → (next left).1 ≤ left → (if_new test next left).1 ≤ left
+if_new-spends true next left h = h
+if_new-spends false next left h = omega arith

@@ -1,5 +1,5 @@
 -- The prelude as what a call needs: it is settled, and a signature that begins with it has the identity families.
-use Rattle.std.proofs.Common.{◌≡◌, ℕ, zero, suc, ◌<◌, Bool, Some, Result, Ok, Err, IfOk, List, [], ◌∷◌, ◌++◌, slice_get, All, refl, sym, ap, ◌∙◌, append-nil, subst as transport, arith}
+use Rattle.std.proofs.Common.{◌≡◌, ℕ, zero, suc, ◌<◌, Bool, Some, List, [], ◌∷◌, ◌++◌, slice_get, All, refl, sym, ap, ◌∙◌, append-nil, subst as transport, arith}
 use Rattle.std.specs.List.{range_with_len}
 use Rattle.std.proofs.lemmas.List.Elements.{All-append, All-cons, All-head, All-map, All-tail}
 use Rattle.std.proofs.lemmas.Option.{same_Some}
@@ -49,8 +49,3 @@ prelude-settled k = record { scoped = prelude-scoped k; bodies = λ n name type 
 
 pub prelude-first : (k : Bool) → HasPrelude (prelude k)
 prelude-first k = record { more = []; entries = sym (append-nil (prelude k).entries); has_k = refl }
-
--- what holds of the prelude holds of the answer that is the prelude
-pub prelude_has : {E : Type 0} (P : Signature → Type 0) (k : Bool) (r : Result Signature E) → IfOk r (λ s. s ≡ prelude k) → P (prelude k) → IfOk r P
-prelude_has P k (Ok s) is h = transport P (sym is) h
-prelude_has P k (Err e) is h = tt

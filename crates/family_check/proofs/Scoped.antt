@@ -21,7 +21,7 @@ use Rattle.kernel_check.specs.Laws.{IfYes, IsScopedDenial, IsScopedVerdict}
 use Rattle.kernel_check.proofs.Scoped.{infer_sort-scoped}
 use Rattle.family_check.specs.Outcomes.{Site, OfType, FamilyStop, TooLarge, ended, on_part, granted}
 use Rattle.family_check.specs.Asking.{sort_in}
-use Rattle.family_check.specs.Shapes.{domains_of, end_of}
+use Rattle.core_terms.specs.Telescopes.{domains_of, end_of}
 use Rattle.family_check.specs.Families.{Role, site_of, fitting, sort_level, level_in, levels_of, family_level, family_without, declare_type}
 use Rattle.family_check.specs.Families.Role.{Parameter, Index, ArgumentOf}
 use Rattle.family_check.specs.Scopes.{IsSettled, IsScopedRaw, site_signature, IsScopedStop}
@@ -35,12 +35,12 @@ use Rattle.family_check.proofs.Zips.{zip-firsts}
 pub granted-splits : (P : Term → Type 0) (over : Site → Signature) (T : Signature) (site : Site) (n : ℕ) (asked : Spent Verdict)
     → ((denial : Denial) → IsScopedDenial T denial → IsScopedDenial (over site) denial) → IfOk asked.0 (IsScopedVerdict T n)
     → IfOk asked.0 (λ verdict. IfYes verdict P) → Splits P (IsScopedStop over) (granted site asked).0
-granted-splits P over T site n asked move scoped h = go asked.0 scoped h
+granted-splits P over T site n asked move scoped h = by_case asked.0 scoped h
   where
-    go : (r : Result Verdict Stop) → IfOk r (IsScopedVerdict T n) → IfOk r (λ verdict. IfYes verdict P) → Splits P (IsScopedStop over) (on_part site r)
-    go (Ok (Yes type)) s k = k
-    go (Ok (No denial)) s k = move denial s
-    go (Err e) s k = tt
+    by_case : (r : Result Verdict Stop) → IfOk r (IsScopedVerdict T n) → IfOk r (λ verdict. IfYes verdict P) → Splits P (IsScopedStop over) (on_part site r)
+    by_case (Ok (Yes type)) s k = k
+    by_case (Ok (No denial)) s k = move denial s
+    by_case (Err e) s k = tt
 
 abbrev pub Any : {A : Type 0} → A → Type 0
 Any a = Unit {0}
@@ -58,11 +58,11 @@ IsWithin (ArgumentOf number limit) level = level ≤ limit
 
 limited : (over : Site → Signature) (limit level : ℕ) (e : FamilyStop) → IsScopedStop over e
     → Splits (λ i. i ≤ limit) (IsScopedStop over) (cond (nat_le level limit) (Ok level) (Err e))
-limited over limit level e h = go (nat_le level limit) refl
+limited over limit level e h = by_case (nat_le level limit) refl
   where
-    go : (b : Bool) → nat_le level limit ≡ b → Splits (λ i. i ≤ limit) (IsScopedStop over) (cond b (Ok level) (Err e))
-    go true test = grind (arith, nat_tests)
-    go false test = h
+    by_case : (b : Bool) → nat_le level limit ≡ b → Splits (λ i. i ≤ limit) (IsScopedStop over) (cond b (Ok level) (Err e))
+    by_case true test = grind (arith, nat_tests)
+    by_case false test = h
 
 fitting-within : (over : Site → Signature) (role : Role) (k level : ℕ) → Splits (IsWithin role) (IsScopedStop over) (fitting role k level)
 fitting-within over Parameter k level = tt

@@ -25,14 +25,15 @@ use Rattle.kernel_check.specs.Laws.{IsScopedDenial}
 use Rattle.kernel_check.proofs.Scoped.{infer_sort-scoped, check-scoped}
 use Rattle.family_check.specs.Outcomes.{Site, OfType, OfBody, OfConstructor, FamilyStop, Duplicate, Outcome, ended, granted}
 use Rattle.family_check.specs.Asking.{sort_in, type_in}
-use Rattle.family_check.specs.Shapes.{domains_of, end_of, constructor_targets}
+use Rattle.core_terms.specs.Telescopes.{domains_of, end_of}
+use Rattle.family_check.specs.Shapes.{constructor_targets}
 use Rattle.family_check.specs.Families.{levels_of, family_without, declare_type, on_targets, declare_constructor, declare_constructors, with_constructors, declare_family}
 use Rattle.family_check.specs.Families.Role.{ArgumentOf}
 use Rattle.family_check.specs.Scopes.{IsSettled, IsScopedRaw, site_signature, IsScopedStop}
 use Rattle.family_check.specs.Entering.{Entered, if_new, are_new, enter_instance, unless_there, check_definition}
 use Rattle.family_check.specs.Laws.{DeclareKeepsSettled, InstanceKeepsSettled, AxiomKKeepsSettled, DefineKeepsSettled}
 use Rattle.theory.proofs.ScopedTerms.{HasNumbers, scoped-wider, telescope-wider}
-use Rattle.family_check.proofs.Moving.{denial-moved, longer-moves, eliminator-moves, axiom_k-moves, family-moves, arguments-moved}
+use Rattle.family_check.proofs.OtherSignatures.{denial-wider, pushed-numbers, without_eliminator-numbers, without_axiom_k-numbers, other_family-numbers, arguments-wider}
 use Rattle.core_terms.proofs.Answers.{Splits, and_next-splits, split-parts}
 use Rattle.family_check.proofs.Scoped.{Any, any-type, granted-splits, AreWithin, levels-within, length-behind, IsBareScoped, type-scoped}
 use Rattle.family_check.proofs.ScopedShapes.{domains-scoped, targets-scoped, arguments-scoped}
@@ -41,11 +42,11 @@ use Rattle.family_check.proofs.Shapes.{IsShaped, constructor-shaped, arguments-c
 
 targets-split : (over : Site → Signature) (n : ℕ) (f : Family) (number : ℕ) (t : Term)
     → Splits (IsShaped n f t) (IsScopedStop over) (on_targets number (constructor_targets n f t))
-targets-split over n f number t = go (constructor_targets n f t) (constructor-shaped n f t)
+targets-split over n f number t = by_case (constructor_targets n f t) (constructor-shaped n f t)
   where
-    go : (r : Result (List Term) ℕ) → IfOk r (IsShaped n f t) → Splits (IsShaped n f t) (IsScopedStop over) (on_targets number r)
-    go (Ok targets) h = h
-    go (Err k) h = tt
+    by_case : (r : Result (List Term) ℕ) → IfOk r (IsShaped n f t) → Splits (IsShaped n f t) (IsScopedStop over) (on_targets number r)
+    by_case (Ok targets) h = h
+    by_case (Err k) h = tt
 
 -- T has family number n with the record f, p of its parameters make the context G
 record Stands (over : Site → Signature) (T : Signature) (f : Family) : Type 0 where
@@ -101,9 +102,9 @@ constructors-split over T n f number (raw ∷ raws) left h types =
     (constructors-split over T n f (number + 1) raws rest h (All-tail Typed raw raws types)) (λ cs end all.
     All-cons Made c cs made all))
 
-constructor-moved : {T U : Signature} → HasNumbers T U → (p count : ℕ) (c : Constructor) → IsScopedConstructor T p count c → IsScopedConstructor U p count c
-constructor-moved m p count c h = record {
-  arguments = arguments-moved m p c.arguments h.arguments;
+constructor-wider : {T U : Signature} → HasNumbers T U → (p count : ℕ) (c : Constructor) → IsScopedConstructor T p count c → IsScopedConstructor U p count c
+constructor-wider m p count c h = record {
+  arguments = arguments-wider m p c.arguments h.arguments;
   targets = λ k d w. scoped-wider m (h.targets k d w);
   target_count = h.target_count;
 }
@@ -126,10 +127,10 @@ pub over-bare : (S : Signature) → IsSettled S → (raw : RawFamily) (f : Famil
 over-bare S settled raw f h b = record {
   settled = bare-settled S raw f settled b;
   parameters = transport (IsScopedTelescope (pushed S (FamilyOf f)) 0) (sym b.parameters)
-      (telescope-wider (longer-moves S (FamilyOf f)) 0 raw.parameters h.parameters);
+      (telescope-wider (pushed-numbers S (FamilyOf f)) 0 raw.parameters h.parameters);
   types = λ k d w.
       transport (λ ps. IsScoped (pushed S (FamilyOf f)) (length ps) (get_or raw.constructors k d).type) (sym b.parameters)
-      (scoped-wider (family-moves S (family_without raw [] 0) f refl) (h.constructors k d w));
+      (scoped-wider (other_family-numbers S (family_without raw [] 0) f refl) (h.constructors k d w));
 }
 
 whole-scoped : (S : Signature) (raw : RawFamily) (f : Family) (cs : List Constructor) → IsBareScoped S raw f
@@ -146,7 +147,7 @@ whole-scoped S raw f cs b all =
           transport (λ T. All (IsScopedConstructor T (length f.parameters) (length f.indices)) cs) (first-whole S (FamilyOf g))
           (All-weaker (IsScopedConstructor (pushed S (FamilyOf f)) (length f.parameters) (length f.indices))
           (IsScopedConstructor (pushed S (FamilyOf g)) (length f.parameters) (length f.indices))
-          (λ c. constructor-moved (family-moves S f g b.bare) (length f.parameters) (length f.indices) c) cs all);
+          (λ c. constructor-wider (other_family-numbers S f g b.bare) (length f.parameters) (length f.indices) c) cs all);
     }
   where
     g : Family
@@ -180,13 +181,13 @@ family-settles S settled raw left h =
       scoped = o.settled.scoped;
       low = b.scoped.level;
       context = (context-scoped (pushed S (FamilyOf f)) f.parameters).0 o.parameters;
-      reads = λ number denial. denial-moved (family-moves S f bare b.bare) denial;
+      reads = λ number denial. denial-wider (other_family-numbers S f bare b.bare) denial;
     }
 
-if_new-splits : {A : Type 0} (P : A → Type 0) (N : FamilyStop → Type 0) (test : Bool) (go : ℕ → Outcome A) (left : ℕ)
-    → N Duplicate → Splits P N (go left).0 → Splits P N (if_new test go left).0
-if_new-splits P N true go left d h = h
-if_new-splits P N false go left d h = d
+if_new-splits : {A : Type 0} (P : A → Type 0) (N : FamilyStop → Type 0) (test : Bool) (next : ℕ → Outcome A) (left : ℕ)
+    → N Duplicate → Splits P N (next left).0 → Splits P N (if_new test next left).0
+if_new-splits P N true next left d h = h
+if_new-splits P N false next left d h = d
 
 abbrev StaysSettled : Entered → Type 0
 StaysSettled e = IsSettled e.signature
@@ -259,7 +260,7 @@ eliminator-settled S n m f settled at low =
 -- the type of an eliminator is scoped
 pub eliminator-scoped : (S : Signature) (n m : ℕ) (f : Family) → IsSettled S → IsEntryAt S n (FamilyOf f) → m < top → IsScoped S 0 (eliminator_type n f m)
 eliminator-scoped S n m f settled at low =
-    scoped-wider (eliminator-moves S n m) (types-scoped (pushed S (EliminatorAt n m)) (Elim n m) (eliminator_type n f m) (eliminator-settled S n m f settled at low).scoped
+    scoped-wider (without_eliminator-numbers S n m) (types-scoped (pushed S (EliminatorAt n m)) (Elim n m) (eliminator_type n f m) (eliminator-settled S n m f settled at low).scoped
     (eliminator n m (length S.entries) (slice_get-longer S.entries (EliminatorAt n m ∷ []) n (FamilyOf f) at) (slice_get-last S.entries (EliminatorAt n m))))
 
 pub instance-settles : InstanceKeepsSettled
@@ -285,7 +286,7 @@ axiom_k-settled S i m settled identity low motive_low =
 -- the type of axiom K is scoped
 pub axiom_k-scoped : (S : Signature) (i m : ℕ) → IsSettled S → HasEquality S i → i < top → m < top → IsScoped S 0 (axiom_k_type i m)
 axiom_k-scoped S i m settled identity low motive_low =
-    scoped-wider (axiom_k-moves S i m) (types-scoped (pushed S (AxiomKAt i m)) (AxiomK i m) (axiom_k_type i m) (axiom_k-settled S i m settled identity low motive_low).scoped
+    scoped-wider (without_axiom_k-numbers S i m) (types-scoped (pushed S (AxiomKAt i m)) (AxiomK i m) (axiom_k_type i m) (axiom_k-settled S i m settled identity low motive_low).scoped
     (axiom_k i m (length S.entries) (slice_get-last S.entries (AxiomKAt i m))))
 
 pub axiom_k-settles : AxiomKKeepsSettled

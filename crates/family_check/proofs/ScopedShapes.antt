@@ -1,15 +1,21 @@
 -- The parts of a scoped type are scoped, and so is the constructor that is taken from it.
-use Rattle.std.proofs.Common.{ℕ, ◌+◌, ◌<◌, List, [], ◌∷◌, length, All, sym, ◌∙◌, subst as transport, arith}
+use Rattle.std.proofs.Common.{ℕ, ◌+◌, ◌<◌, ◌≤◌, List, [], ◌∷◌, ◌++◌, length, All, sym, ◌∙◌, subst as transport, arith}
 use Rattle.std.proofs.lemmas.List.Elements.{All-head, All-tail}
-use Rattle.theory.specs.Terms.{Term, top}
+use Rattle.theory.specs.Terms.{Term, height, top}
 use Rattle.theory.specs.Telescopes.{Telescope, products, applied, weaken_by}
 use Rattle.theory.specs.Families.{Family, family_head}
 use Rattle.theory.specs.Signatures.{Signature}
 use Rattle.theory.specs.SignatureScopes.{IsScoped, IsScopedTelescope, IsScopedArgument, IsScopedArguments}
 use Rattle.theory.proofs.Bounds.{applied-parts}
 use Rattle.theory.proofs.ScopedTerms.{scoped-pi, scoped-app, scoped_over_more}
-use Rattle.family_check.specs.Shapes.{domains_of, end_of, recursive_parts, argument_of, arguments}
-use Rattle.family_check.proofs.Shapes.{IsEnd, products-of_parts, recursive_type-products, argument-by}
+use Rattle.kernel_reduce.specs.WellScoped.{AreWellScoped}
+use Rattle.kernel_reduce.proofs.WellScoped.{as_they_stand, first_alone, without_first}
+use Rattle.family_check.specs.Scopes.{parameter_limit}
+use Rattle.family_check.proofs.DomainHeights.{domains-count}
+use Rattle.core_terms.specs.Telescopes.{domains_of, end_of}
+use Rattle.family_check.specs.Shapes.{recursive_parts, argument_of, arguments}
+use Rattle.core_terms.proofs.LeadingProducts.{products-of_parts}
+use Rattle.family_check.proofs.Shapes.{IsEnd, recursive_type-products, argument-by}
 
 -- the domains and the end of products
 pub products-parts : (S : Signature) (n : ℕ) (tele : Telescope) (body : Term) → IsScoped S n (products tele body)
@@ -22,6 +28,13 @@ products-parts S n (a ∷ tele) body h =
 
 pub domains-scoped : (S : Signature) (n : ℕ) (t : Term) → IsScoped S n t → IsScopedTelescope S n (domains_of t) × IsScoped S (n + length (domains_of t)) (end_of t)
 domains-scoped S n t h = products-parts S n (domains_of t) (end_of t) (transport (IsScoped S n) (sym (products-of_parts t)) h)
+
+-- the context with the domains of a type after it, where it leaves room for them
+pub after_domains : {S : Signature} {G : Telescope} (t : Term) {ts : List Term} → AreWellScoped S G (t ∷ ts) → length G < parameter_limit → height t ≤ 2000
+    → AreWellScoped S (G ++ domains_of t) []
+after_domains {S} {G} t {ts} h few low =
+    let count = domains-count t in
+    without_first (as_they_stand (domains_of t) (first_alone h) (domains-scoped S (length G) t h.terms.0).0 (omega arith))
 
 -- the arguments of a spine
 pub spine-parts : (S : Signature) (n : ℕ) (head : Term) (spine : List Term) → IsScoped S n (applied head spine) → All (IsScoped S n) spine

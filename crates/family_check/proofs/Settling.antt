@@ -50,12 +50,12 @@ entry-kept S e settled n (AxiomKAt i m) lt at h =
     (h.0, h.1, transport (λ T. IsConstructorNumber T (equality i) 0) (first-before S e n (omega arith)) h.2)
 entry-kept S e settled n (Definition name type body) lt at h =
     let before = first-before S e n (omega arith) in
-    (transport (λ T. IsScoped T 0 type) before h.0, go before h.1)
+    (transport (λ T. IsScoped T 0 type) before h.0, by_case before h.1)
   where
-    go : first_entries S n ≡ first_entries (pushed S e) n → IsScoped (first_entries S n) 0 body ⊎ IsProvisional S n body
+    by_case : first_entries S n ≡ first_entries (pushed S e) n → IsScoped (first_entries S n) 0 body ⊎ IsProvisional S n body
         → IsScoped (first_entries (pushed S e) n) 0 body ⊎ IsProvisional (pushed S e) n body
-    go before (inl k) = inl (transport (λ T. IsScoped T 0 body) before k)
-    go before (inr p) = absurd (settled.bodies n name type (transport (λ b. IsEntryAt S n (Definition name type b)) p.itself at))
+    by_case before (inl k) = inl (transport (λ T. IsScoped T 0 body) before k)
+    by_case before (inr p) = absurd (settled.bodies n name type (transport (λ b. IsEntryAt S n (Definition name type b)) p.itself at))
 
 pub push-settled : (S : Signature) (e : Entry) → IsSettled S → IsScopedEntry (pushed S e) (length S.entries) e
     → ((name : List ℕ) (type : Term) → e ≢ Definition name type (Const (length S.entries))) → IsSettled (pushed S e)

@@ -18,8 +18,10 @@ use Rattle.core_sig.proofs.Arguments.{length-spine_of-head, spine_of-applied}
 use Rattle.family_check.specs.Families.{on_targets, with_constructors}
 use Rattle.family_check.specs.Kinds.{is_recursive}
 use Rattle.family_check.specs.Outcomes.{NotPositive}
-use Rattle.family_check.specs.Shapes.{domains_of, end_of, targets_of, arguments, is_positive, first_offender, unless_offender, constructor_targets}
-use Rattle.family_check.proofs.KindShapes.{kind-takes, end-tells, targets-behind, not-product}
+use Rattle.core_terms.specs.Telescopes.{domains_of, end_of}
+use Rattle.family_check.specs.Shapes.{targets_of, arguments, is_positive, first_offender, unless_offender, constructor_targets}
+use Rattle.core_terms.proofs.LeadingProducts.{not-product}
+use Rattle.family_check.proofs.KindShapes.{kind-takes, end-tells, targets-behind}
 use Rattle.core_terms.proofs.Lists.{drop-at, get-any, count-more}
 use Rattle.family_check.proofs.Shapes.{IsEnd, targets-found}
 
@@ -79,14 +81,14 @@ targets-by n f t types end o found domains ends offends at =
 
 -- the family at its parameters and targets has as many arguments at least
 pub end-long : (n : ℕ) (f : Family) (k : ℕ) (t : Term) → is_some (targets_of n f k t) ≡ true → length f.parameters ≤ length (spine_of t)
-end-long n f k t h = go (targets_of n f k t) (targets-found n f k t) h
+end-long n f k t h = by_case (targets_of n f k t) (targets-found n f k t) h
   where
-    go : (o : Option (List Term)) → IfSome o (IsEnd n f k t) → is_some o ≡ true → length f.parameters ≤ length (spine_of t)
-    go (Some targets) is test =
+    by_case : (o : Option (List Term)) → IfSome o (IsEnd n f k t) → is_some o ≡ true → length f.parameters ≤ length (spine_of t)
+    by_case (Some targets) is test =
         let e = ap (λ u. length (spine_of u)) is.form in
         let s = ap length (spine_of-applied (weaken_by k (family_head n f)) targets) in
         omega (arith, length-append (spine_of (weaken_by k (family_head n f))) targets, length-spine_of-head n f k)
-    go None is test = absurd (grind arith)
+    by_case None is test = absurd (grind arith)
 
 -- the first offender, as far as a loop has come
 pub offender-on : (n : ℕ) (f : Family) (types : Telescope) (k : ℕ) (a : Term) (whole : Option ℕ) → whole ≡ first_offender n f k (drop k types) → k < length types → a ≡ get_or types k a

@@ -19,12 +19,9 @@ use Rattle.kernel_reduce.specs.Comparison.{same}
 use Rattle.kernel_reduce.proofs.ComparisonLaws.{same-tells}
 use Rattle.kernel_reduce.proofs.StepLaws.{some-cond, some-map, both-true}
 use Rattle.family_check.specs.Families.{on_targets}
-use Rattle.family_check.specs.Shapes.{domains_of, end_of, all_lack, targets_of, recursive_parts, argument_of, arguments, is_positive, first_offender, unless_offender, constructor_targets}
-
--- a term is products over its domains into its end
-pub products-of_parts : (t : Term) → products (domains_of t) (end_of t) ≡ t
-products-of_parts (Pi a b) = ap (Pi a) (products-of_parts b)
-products-of_parts _ = refl
+use Rattle.core_terms.specs.Telescopes.{domains_of, end_of}
+use Rattle.core_terms.proofs.LeadingProducts.{products-of_parts}
+use Rattle.family_check.specs.Shapes.{all_lack, targets_of, recursive_parts, argument_of, arguments, is_positive, first_offender, unless_offender, constructor_targets}
 
 not-true : (b : Bool) → not b ≡ true → b ≡ false
 not-true true h = sym h
@@ -92,11 +89,11 @@ recursive-found n f k t =
 pub argument-by : (P : Argument → Type 0) (n : ℕ) (f : Family) (k : ℕ) (t : Term) (level : ℕ) → (recursive_parts n f k t ≡ None → P (Plain t level))
     → ((inner : Telescope) (targets : List Term) → IsRecursiveType n f k inner targets t → P (Recursive inner targets level))
     → P (argument_of t level (recursive_parts n f k t))
-argument-by P n f k t level plain recursive = go (recursive_parts n f k t) refl (recursive-found n f k t)
+argument-by P n f k t level plain recursive = by_case (recursive_parts n f k t) refl (recursive-found n f k t)
   where
-    go : (o : Option (Telescope × List Term)) → recursive_parts n f k t ≡ o → IfSome o (λ p. IsRecursiveType n f k p.0 p.1 t) → P (argument_of t level o)
-    go None at h = plain at
-    go (Some p) at h = recursive p.0 p.1 h
+    by_case : (o : Option (Telescope × List Term)) → recursive_parts n f k t ≡ o → IfSome o (λ p. IsRecursiveType n f k p.0 p.1 t) → P (argument_of t level o)
+    by_case None at h = plain at
+    by_case (Some p) at h = recursive p.0 p.1 h
 
 argument-typed : (n : ℕ) (f : Family) (k : ℕ) (t : Term) (level : ℕ)
     → argument_type Var (weaken_by k (family_head n f)) (argument_of t level (recursive_parts n f k t)) ≡ t
@@ -156,15 +153,15 @@ arguments-positive : (n : ℕ) (f : Family) (k : ℕ) (types : Telescope) (level
     → All (IsPositiveArgument n) (arguments n f k types levels)
 arguments-positive n f k [] levels h = All-nil (IsPositiveArgument n)
 arguments-positive n f k (t ∷ types) [] h = All-nil (IsPositiveArgument n)
-arguments-positive n f k (t ∷ types) (level ∷ levels) h = go (is_positive n f k t) refl h (arguments-positive n f (k + 1) types levels)
+arguments-positive n f k (t ∷ types) (level ∷ levels) h = by_case (is_positive n f k t) refl h (arguments-positive n f (k + 1) types levels)
   where
-    go : (b : Bool) → is_positive n f k t ≡ b → cond b (first_offender n f (k + 1) types) (Some (k + 1)) ≡ None
+    by_case : (b : Bool) → is_positive n f k t ≡ b → cond b (first_offender n f (k + 1) types) (Some (k + 1)) ≡ None
         → (first_offender n f (k + 1) types ≡ None → All (IsPositiveArgument n) (arguments n f (k + 1) types levels))
         → All (IsPositiveArgument n) (arguments n f k (t ∷ types) (level ∷ levels))
-    go true e none rest =
+    by_case true e none rest =
         All-cons (IsPositiveArgument n) (argument_of t level (recursive_parts n f k t)) (arguments n f (k + 1) types levels)
         (argument-positive n f k t level e) (rest none)
-    go false e none rest = absurd (grind arith)
+    by_case false e none rest = absurd (grind arith)
 
 -- what the targets of a constructor with the type t come with
 pub record IsShaped (n : ℕ) (f : Family) (t : Term) (targets : List Term) : Type 0 where
@@ -173,20 +170,20 @@ pub record IsShaped (n : ℕ) (f : Family) (t : Term) (targets : List Term) : Ty
 
 pub constructor-shaped : (n : ℕ) (f : Family) (t : Term) → IfOk (constructor_targets n f t) (IsShaped n f t)
 constructor-shaped n f t =
-    go (first_offender n f 0 (domains_of t)) refl (targets_of n f (length (domains_of t)) (end_of t)) (targets-found n f (length (domains_of t)) (end_of t))
+    by_case (first_offender n f 0 (domains_of t)) refl (targets_of n f (length (domains_of t)) (end_of t)) (targets-found n f (length (domains_of t)) (end_of t))
   where
-    go : (offender : Option ℕ) → first_offender n f 0 (domains_of t) ≡ offender → (found : Option (List Term))
+    by_case : (offender : Option ℕ) → first_offender n f 0 (domains_of t) ≡ offender → (found : Option (List Term))
         → IfSome found (IsEnd n f (length (domains_of t)) (end_of t)) → IfOk (unless_offender offender found) (IsShaped n f t)
-    go (Some k) e found h = tt
-    go None e (Some targets) h = record { positive = λ levels. arguments-positive n f 0 (domains_of t) levels e; end = h }
-    go None e None h = tt
+    by_case (Some k) e found h = tt
+    by_case None e (Some targets) h = record { positive = λ levels. arguments-positive n f 0 (domains_of t) levels e; end = h }
+    by_case None e None h = tt
 
 pub targets-shaped : (n : ℕ) (f : Family) (number : ℕ) (t : Term) → IfOk (on_targets number (constructor_targets n f t)) (IsShaped n f t)
-targets-shaped n f number t = go (constructor_targets n f t) (constructor-shaped n f t)
+targets-shaped n f number t = by_case (constructor_targets n f t) (constructor-shaped n f t)
   where
-    go : (r : Result (List Term) ℕ) → IfOk r (IsShaped n f t) → IfOk (on_targets number r) (IsShaped n f t)
-    go (Ok targets) h = h
-    go (Err k) h = tt
+    by_case : (r : Result (List Term) ℕ) → IfOk r (IsShaped n f t) → IfOk (on_targets number r) (IsShaped n f t)
+    by_case (Ok targets) h = h
+    by_case (Err k) h = tt
 
 -- the arguments stand for the domains of the type, in the context of the parameters
 pub telescope-of : (n : ℕ) (f : Family) (name : List ℕ) (types : Telescope) (levels : List ℕ) (targets : List Term) → length levels ≡ length types

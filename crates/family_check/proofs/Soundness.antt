@@ -29,14 +29,16 @@ use Rattle.kernel_check.specs.Laws.{HasUniverse, HasWanted}
 use Rattle.kernel_check.proofs.Soundness.{infer_sort-is_sound, check-is_sound}
 use Rattle.family_check.specs.Outcomes.{Site, OfType, OfBody, OfConstructor, FamilyStop, TooLarge, Outcome, ended, granted}
 use Rattle.family_check.specs.Asking.{sort_in, type_in}
-use Rattle.family_check.specs.Shapes.{domains_of, end_of, arguments, constructor_targets}
+use Rattle.core_terms.specs.Telescopes.{domains_of, end_of}
+use Rattle.family_check.specs.Shapes.{arguments, constructor_targets}
 use Rattle.family_check.specs.Families.{Role, site_of, fitting, sort_level, level_in, levels_of, family_level, family_without, declare_type, on_targets, declare_constructor, declare_constructors, with_constructors, declare_family}
 use Rattle.family_check.specs.Families.Role.{Parameter, Index, ArgumentOf}
 use Rattle.family_check.specs.Entering.{Entered, are_new, enter_instance, unless_there}
 use Rattle.family_check.specs.Laws.{DeclareKeepsWellFormed, InstanceKeepsWellFormed, AxiomKKeepsWellFormed, DefineKeepsWellFormed}
 use Rattle.core_terms.proofs.Answers.{Answers, and_next-has}
 use Rattle.family_check.proofs.Outcomes.{granted-has, if_new-has}
-use Rattle.family_check.proofs.Shapes.{products-of_parts, IsShaped, targets-shaped, arguments-leveled, arguments-targeted, telescope-of, constructor-typed}
+use Rattle.core_terms.proofs.LeadingProducts.{products-of_parts}
+use Rattle.family_check.proofs.Shapes.{IsShaped, targets-shaped, arguments-leveled, arguments-targeted, telescope-of, constructor-typed}
 use Rattle.family_check.proofs.Zips.{zip-firsts, zip-seconds}
 use Rattle.family_check.proofs.PreludeEntries.{identity-there}
 use Rattle.family_check.proofs.NewNames.{DifferFrom, new-differ, first-differs, all-distinct}
@@ -54,11 +56,11 @@ limit_of (Index limit) = limit
 limit_of (ArgumentOf number limit) = limit
 
 bounded-level : (limit level : ℕ) (e : FamilyStop) → IfOk (cond (nat_le level limit) (Ok level) (Err e)) (λ i. (i ≡ level) × (i ≤ limit))
-bounded-level limit level e = go (nat_le level limit) refl
+bounded-level limit level e = by_case (nat_le level limit) refl
   where
-    go : (b : Bool) → nat_le level limit ≡ b → IfOk {E = FamilyStop} (cond b (Ok level) (Err e)) (λ i. (i ≡ level) × (i ≤ limit))
-    go true test = (refl, grind (arith, nat_tests))
-    go false test = tt
+    by_case : (b : Bool) → nat_le level limit ≡ b → IfOk {E = FamilyStop} (cond b (Ok level) (Err e)) (λ i. (i ≡ level) × (i ≤ limit))
+    by_case true test = (refl, grind (arith, nat_tests))
+    by_case false test = tt
 
 level-fits : (role : Role) (k level : ℕ) → level ≤ top → IfOk (fitting role k level) (λ i. (i ≡ level) × (i ≤ limit_of role))
 level-fits Parameter k level le = (refl, le)
@@ -77,11 +79,11 @@ level-sound S typed role k G a left context =
     and_next-has (HasUniverse S G a) (IsLevel S role G a) (granted (site_of role k) (infer_sort_of S nesting G a left)) _
     (sort-granted S typed (site_of role k) G a left context) (λ sort rest u.
     let same : sort_level sort ≡ u.level = ap sort_level u.is_sort in
-    go u (fitting role k (sort_level sort)) (transport (λ i. IfOk (fitting role k i) (λ j. (j ≡ u.level) × (j ≤ limit_of role))) (sym same) (level-fits role k u.level u.limit)))
+    by_case u (fitting role k (sort_level sort)) (transport (λ i. IfOk (fitting role k i) (λ j. (j ≡ u.level) × (j ≤ limit_of role))) (sym same) (level-fits role k u.level u.limit)))
   where
-    go : {sort : Term} (u : HasUniverse S G a sort) (r : Result ℕ FamilyStop) → IfOk r (λ j. (j ≡ u.level) × (j ≤ limit_of role)) → IfOk r (IsLevel S role G a)
-    go u (Ok i) (same, fits) = record { derivation = transport (λ j. Has S G a (Sort j)) (sym same) u.derivation; fits = fits }
-    go u (Err e) h = tt
+    by_case : {sort : Term} (u : HasUniverse S G a sort) (r : Result ℕ FamilyStop) → IfOk r (λ j. (j ≡ u.level) × (j ≤ limit_of role)) → IfOk r (IsLevel S role G a)
+    by_case u (Ok i) (same, fits) = record { derivation = transport (λ j. Has S G a (Sort j)) (sym same) u.derivation; fits = fits }
+    by_case u (Err e) h = tt
 
 levels-sound : (S : Signature) → IsTyped S → (role : Role) (count : ℕ) (G : Context) (tele : Telescope) (left : ℕ) → IsContext S G
     → Answers (HasLevels S (limit_of role) G tele) (levels_of S role count G tele left)
@@ -307,12 +309,12 @@ define-keeps S name type body left h =
 -- where a place is not found, no element passes the test
 none-at : {X : Type 0} (p : X → Bool) (xs : List X) → length xs ≤ position_or_len p xs → All (λ x. p x ≡ false) xs
 none-at p [] h = All-nil (λ x. p x ≡ false)
-none-at p (x ∷ xs) h = go (p x) refl h (none-at p xs)
+none-at p (x ∷ xs) h = by_case (p x) refl h (none-at p xs)
   where
-    go : (b : Bool) → p x ≡ b → suc (length xs) ≤ cond (not b) (1 + position_or_len p xs) 0 → (length xs ≤ position_or_len p xs → All (λ y. p y ≡ false) xs)
+    by_case : (b : Bool) → p x ≡ b → suc (length xs) ≤ cond (not b) (1 + position_or_len p xs) 0 → (length xs ≤ position_or_len p xs → All (λ y. p y ≡ false) xs)
         → All (λ y. p y ≡ false) (x ∷ xs)
-    go true e le rest = absurd (omega arith)
-    go false e le rest = All-cons (λ y. p y ≡ false) x xs e (rest (omega arith))
+    by_case true e le rest = absurd (omega arith)
+    by_case false e le rest = All-cons (λ y. p y ≡ false) x xs e (rest (omega arith))
 
 not-found : {X : Type 0} (p : X → Bool) (xs : List X) (x : X) → position p xs ≡ None → p x ≡ true → ¬ Contains xs x
 not-found p xs x absent passes (k, lt, at) =

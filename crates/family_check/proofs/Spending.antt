@@ -14,7 +14,8 @@ use Rattle.kernel_check.proofs.Spending.{infer_sort-spends, check-spends}
 use Rattle.core_terms.specs.Answers.{and_next}
 use Rattle.family_check.specs.Outcomes.{OfType, OfBody, OfConstructor, Outcome, ended, granted}
 use Rattle.family_check.specs.Asking.{sort_in, type_in}
-use Rattle.family_check.specs.Shapes.{domains_of, end_of, constructor_targets}
+use Rattle.core_terms.specs.Telescopes.{domains_of, end_of}
+use Rattle.family_check.specs.Shapes.{constructor_targets}
 use Rattle.family_check.specs.Families.{Role, Parameter, Index, ArgumentOf, site_of, level_in, levels_of, family_level, declare_type, on_targets, declare_constructor, declare_constructors, declare_family}
 use Rattle.family_check.specs.Entering.{Entered, entered, are_new, enter_instance, unless_there, check_definition}
 use Rattle.family_check.specs.Laws.{DeclareSpends, InstanceSpends, AxiomKSpends, DefineSpends}

@@ -42,10 +42,10 @@ are_new S names = not (list_any (λ name. is_some (find S name)) names || has_re
 abbrev pub is_taken : Signature → List (List ℕ) → List ℕ → Bool
 is_taken S before name = is_some (find S name) || list_any (bytes_eq name) before
 
--- `go` on where names are new
+-- `next` goes on where names are new
 abbrev pub if_new : {A : Type 0} → Bool → (ℕ → Outcome A) → ℕ → Outcome A
-if_new true go left = go left
-if_new false go left = ended (Err Duplicate) left
+if_new true next left = next left
+if_new false next left = ended (Err Duplicate) left
 
 -- a family as declared
 abbrev pub declare_of : Signature → RawFamily → ℕ → Outcome Entered

@@ -12,7 +12,8 @@ use Rattle.core_terms.specs.Answers.{and_next}
 use Rattle.core_terms.specs.Loops.{for_each}
 use Rattle.family_check.specs.Outcomes.{Site, OfType, OfParameter, OfConstructor, FamilyStop, NotPositive, TooLarge, BadFamily, Outcome, ended}
 use Rattle.family_check.specs.Asking.{sort_in}
-use Rattle.family_check.specs.Shapes.{domains_of, end_of, arguments, constructor_targets}
+use Rattle.core_terms.specs.Telescopes.{domains_of, end_of}
+use Rattle.family_check.specs.Shapes.{arguments, constructor_targets}
 
 -- what the types of a telescope are: parameters, or indices or arguments of constructor `number`, whose levels have a limit
 pub data Role : Type 0 where

@@ -11,7 +11,8 @@ use Rattle.core_sig.specs.Offenders.{offender_in}
 use Rattle.core_sig.specs.Raw.{RawFamily, raw_names}
 use Rattle.family_check.specs.Scopes.{HasPrelude, IsSettled, IsScopedRaw, site_signature, IsScopedStop}
 use Rattle.family_check.specs.Entering.{Entered, entered, declare_of, instance_of, axiom_k_of, define_of}
-use Rattle.family_check.specs.Shapes.{domains_of, end_of, arguments, unless_offender, constructor_targets}
+use Rattle.core_terms.specs.Telescopes.{domains_of, end_of}
+use Rattle.family_check.specs.Shapes.{arguments, unless_offender, constructor_targets}
 
 -- A well-formed signature stays well formed, whatever enters.
 

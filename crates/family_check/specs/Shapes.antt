@@ -4,21 +4,12 @@
 use Rattle.std.specs.Prelude.{ℕ, ◌+◌, Bool, cond, ◌&&◌, ◌||◌, not, ◌==◌, Option, Some, None, option_map, Result, Ok, Err, List, [], ◌∷◌, length, drop}
 use Rattle.std.specs.List.{list_all}
 use Rattle.std.specs.Option.{is_some}
-use Rattle.theory.specs.Terms.{Term, Pi}
+use Rattle.theory.specs.Terms.{Term}
 use Rattle.theory.specs.Spines.{spine_of}
 use Rattle.theory.specs.Telescopes.{Telescope, applied, weaken_by}
 use Rattle.theory.specs.Families.{Argument, Plain, Recursive, Family, family_head, mentions}
+use Rattle.core_terms.specs.Telescopes.{domains_of, end_of}
 use Rattle.kernel_reduce.specs.Comparison.{same}
-
--- the domains of the leading products of a term
-abbrev pub domains_of : Term → Telescope
-domains_of (Pi a b) = a ∷ domains_of b
-domains_of _ = []
-
--- what stands behind them
-abbrev pub end_of : Term → Term
-end_of (Pi a b) = end_of b
-end_of t = t
 
 -- family n is absent from all the terms
 abbrev pub all_lack : ℕ → List Term → Bool

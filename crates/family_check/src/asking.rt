@@ -1,8 +1,7 @@
-ghost use Rattle.std.specs.Prelude.{◌≡◌, ◌≤◌, ◌<◌, ◌+◌, Ok, [], length};
+ghost use Rattle.std.specs.Prelude.{◌≡◌, ◌≤◌, ◌+◌, Ok, [], ◌∷◌};
 ghost use Rattle.theory.specs.Telescopes.{context_behind};
-ghost use Rattle.theory.specs.SignatureScopes.{IsScoped, IsScopedSignature, IsScopedTelescope};
 ghost use Rattle.core_terms.specs.Meanings.{tree_of, tele_of, verdict_of};
-ghost use Rattle.kernel_check.specs.Scopes.{context_limit};
+ghost use Rattle.kernel_reduce.specs.WellScoped.{AreWellScoped};
 ghost use Rattle.family_check.specs.Asking as spec;
 ghost use Rattle.family_check.specs.Meanings.{Yields, answer_of, site_of};
 ghost use Rattle.family_check.specs.Outcomes.{on_part};
@@ -33,10 +32,7 @@ pub(crate) fn sort_in(
     part: Site,
     units: &mut Units,
 ) -> Result<Term, FamilyStop>
-    requires signature { IsScopedSignature sig.now }
-    requires context { IsScopedTelescope sig.now 0 (tele_of ctx.now) }
-    requires ty { IsScoped sig.now (length ctx.now) (tree_of ty.now) }
-    requires few { length ctx.now < context_limit }
+    requires { AreWellScoped sig.now (tele_of ctx.now) (tree_of ty.now ∷ []) }
     ensures answer { Yields tree_of result units.new.left (spec.sort_in sig.now (site_of part) (context_behind [] (tele_of ctx.now)) (tree_of ty.now) units.old.left) }
     ensures sum { units.new.left + units.new.spent ≡ units.old.left + units.old.spent }
     ensures spends { units.new.left ≤ units.old.left }
@@ -56,11 +52,7 @@ pub(crate) fn type_in(
     part: Site,
     units: &mut Units,
 ) -> Result<Term, FamilyStop>
-    requires signature { IsScopedSignature sig.now }
-    requires context { IsScopedTelescope sig.now 0 (tele_of ctx.now) }
-    requires term { IsScoped sig.now (length ctx.now) (tree_of t.now) }
-    requires wanted { IsScoped sig.now (length ctx.now) (tree_of wanted.now) }
-    requires few { length ctx.now < context_limit }
+    requires { AreWellScoped sig.now (tele_of ctx.now) (tree_of t.now ∷ tree_of wanted.now ∷ []) }
     ensures answer { Yields tree_of result units.new.left (spec.type_in sig.now (site_of part) (context_behind [] (tele_of ctx.now)) (tree_of t.now) (tree_of wanted.now) units.old.left) }
     ensures sum { units.new.left + units.new.spent ≡ units.old.left + units.old.spent }
     ensures spends { units.new.left ≤ units.old.left }

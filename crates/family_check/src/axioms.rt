@@ -14,10 +14,11 @@ use core_terms::{TOP, Units};
 use kernel_check::axiom_k_type;
 use std::alloc::Global;
 
-/// Adds the axiom K of `Eq.i` into `Type m`, unless it is there, and answers its number. An instance that is there costs no unit;
-/// else the checker asks for the sort of its type.
+/// Adds the axiom K of `Eq.i` into `Type m`, unless it is there, and answers its number.
 ///
-/// A level that is too high is Denied, and so is what the checker denies. After an error the signature stands as before.
+/// An instance that is there costs no unit, and else its type those of one call of `infer_sort`. A level of `TOP` or more,
+/// `i` or `m`, is Denied with the part `Ty` and LevelTooHigh; then comes what the checker says of the type: Denied with `Ty`,
+/// Fuel or Deep. After an error the signature stands as before, and the units that were spent stay spent.
 pub fn axiom_k(
     alloc: Global,
     sig: &mut Signature,

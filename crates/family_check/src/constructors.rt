@@ -1,24 +1,24 @@
-ghost use Rattle.std.specs.Prelude.{◌≡◌, ◌<◌, ◌≤◌, ◌+◌, ◌^◌, Ok, [], All, IfOk, drop, length, map};
+ghost use Rattle.std.specs.Prelude.{◌≡◌, ◌<◌, ◌≤◌, ◌+◌, ◌^◌, ◌++◌, Ok, [], ◌∷◌, All, IfOk, drop, length, map};
 ghost use Rattle.theory.specs.Spines.{spine_of};
 ghost use Rattle.theory.specs.Terms as tree;
-ghost use Rattle.theory.specs.SignatureScopes.{IsScoped, IsScopedSignature, IsScopedTelescope};
 ghost use Rattle.core_terms.specs.Answers.{Gives};
 ghost use Rattle.core_terms.specs.Meanings.{tree_of, tele_of};
 ghost use Rattle.core_sig.specs.Kinds.{HaveKinds};
 ghost use Rattle.core_sig.specs.Meanings.{argument_of, constructor_of, family_of};
 ghost use Rattle.core_sig.specs.Raw.{raw_constructor_of};
+ghost use Rattle.kernel_reduce.specs.WellScoped.{AreWellScoped};
 ghost use Rattle.family_check.specs.Scopes.{parameter_limit};
 ghost use Rattle.family_check.specs.Families as spec;
 ghost use Rattle.family_check.specs.Kinds as kinds;
 ghost use Rattle.family_check.specs.Meanings.{Tells, Yields};
+ghost use Rattle.core_terms.specs.Telescopes.{domains_of, end_of};
 ghost use Rattle.family_check.specs.Shapes as shapes;
 
 use crate::asking::sort_in;
 use crate::levels::{Role, levels};
-use crate::products::split_products;
 use crate::{FamilyStop, Site};
 use core_sig::{Arg, ArgKind, Constructor, Family, RawCon, Signature, kind_of, mentions};
-use core_terms::{Items, Name, Stop, Tele, Term, Units, into_spine};
+use core_terms::{Items, Name, Stop, Tele, Term, Units, into_spine, split_products};
 use std::alloc::Global;
 
 fn is_recursive(kind: ArgKind) -> bool
@@ -73,8 +73,8 @@ fn targets(
     requires few { length f.now.params + length types.now + 2000 < 2 ^ 32 }
     requires low { All (λ t. tree.height (tree_of t) ≤ 2000) types.now }
     requires end { tree.height (tree_of end) ≤ 2000 }
-    requires ended { shapes.domains_of (tree_of end) ≡ [] }
-    ensures { (t : tree.Term) → shapes.domains_of t ≡ tele_of types.now → shapes.end_of t ≡ tree_of end → Tells tele_of result (spec.on_targets number (shapes.constructor_targets n (family_of f.now) t)) }
+    requires ended { domains_of (tree_of end) ≡ [] }
+    ensures { (t : tree.Term) → domains_of t ≡ tele_of types.now → end_of t ≡ tree_of end → Tells tele_of result (spec.on_targets number (shapes.constructor_targets n (family_of f.now) t)) }
 {
     if let Some(k) = first_offender(n, f, types) {
         return Err(FamilyStop::NotPositive(number, k));
@@ -119,10 +119,8 @@ fn declare_constructor(
     raw: RawCon,
     units: &mut Units,
 ) -> Result<Constructor, FamilyStop>
-    requires signature { IsScopedSignature sig.now }
-    requires params { IsScopedTelescope sig.now 0 (tele_of f.now.params) }
+    requires asked { AreWellScoped sig.now (tele_of f.now.params) (tree_of raw.ty ∷ []) }
     requires few { length f.now.params < parameter_limit }
-    requires ty { IsScoped sig.now (length f.now.params) (tree_of raw.ty) }
     ensures answer { Yields (constructor_of (length f.now.params)) result units.new.left (spec.declare_constructor sig.now n (family_of f.now) number (raw_constructor_of raw) units.old.left) }
     ensures kinds { IfOk result (λ c. HaveKinds n (family_of f.now) 0 c.args) }
     ensures sum { units.new.left + units.new.spent ≡ units.old.left + units.old.spent }
@@ -142,10 +140,8 @@ fn shaped_constructor(
     raw: RawCon,
     units: &mut Units,
 ) -> Result<Constructor, FamilyStop>
-    requires signature { IsScopedSignature sig.now }
-    requires params { IsScopedTelescope sig.now 0 (tele_of f.now.params) }
+    requires asked { AreWellScoped sig.now (tele_of f.now.params) (tree_of raw.ty ∷ []) }
     requires few { length f.now.params < parameter_limit }
-    requires ty { IsScoped sig.now (length f.now.params) (tree_of raw.ty) }
     requires low { tree.height (tree_of raw.ty) ≤ 2000 }
     ensures answer { Yields (constructor_of (length f.now.params)) result units.new.left (spec.shaped_constructor sig.now n (family_of f.now) number (raw_constructor_of raw) units.old.left) }
     ensures kinds { IfOk result (λ c. HaveKinds n (family_of f.now) 0 c.args) }
@@ -171,11 +167,7 @@ fn leveled_constructor(
     targets: Tele,
     units: &mut Units,
 ) -> Result<Constructor, FamilyStop>
-    requires signature { IsScopedSignature sig.now }
-    requires params { IsScopedTelescope sig.now 0 (tele_of f.now.params) }
-    requires types { IsScopedTelescope sig.now (length f.now.params) (tele_of types.items) }
-    requires few { length f.now.params < parameter_limit }
-    requires count { length types.items ≤ 2000 }
+    requires asked { AreWellScoped sig.now (tele_of f.now.params ++ tele_of types.items) [] }
     requires low { All (λ t. tree.height (tree_of t) ≤ 2000) types.items }
     ensures answer { Yields (constructor_of (length f.now.params)) result units.new.left (spec.leveled_constructor sig.now n (family_of f.now) number name (tele_of types.items) (tele_of targets) units.old.left) }
     ensures kinds { IfOk result (λ c. HaveKinds n (family_of f.now) 0 c.args) }
@@ -211,10 +203,8 @@ pub(crate) fn declare_constructors(
     raws: Vec<RawCon>,
     units: &mut Units,
 ) -> Result<Items<Constructor>, FamilyStop>
-    requires signature { IsScopedSignature sig.now }
-    requires params { IsScopedTelescope sig.now 0 (tele_of f.now.params) }
+    requires asked { AreWellScoped sig.now (tele_of f.now.params) (map (λ c. tree_of c.ty) raws.items) }
     requires few { length f.now.params < parameter_limit }
-    requires types { All (λ c. IsScoped sig.now (length f.now.params) (tree_of c.ty)) raws.items }
     requires count { length raws.items < 2 ^ 32 }
     ensures answer { Yields (map (constructor_of (length f.now.params))) result units.new.left (spec.declare_constructors sig.now n (family_of f.now) 0 (map raw_constructor_of raws.items) units.old.left) }
     ensures kinds { IfOk result (All (λ c. HaveKinds n (family_of f.now) 0 c.args)) }

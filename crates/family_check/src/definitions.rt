@@ -1,8 +1,9 @@
 ghost use Rattle.std.specs.Prelude.{◌≡◌, ◌≤◌, ◌+◌, ℕ, List, [], ◌∷◌, IfErr, OnErr};
 ghost use Rattle.theory.specs.Signatures.{Definition, IsPrefix};
-ghost use Rattle.theory.specs.SignatureScopes.{IsScoped, IsScopedSignature};
+ghost use Rattle.theory.specs.SignatureScopes.{IsScoped};
 ghost use Rattle.theory.specs.WellFormed.{IsWellFormed};
 ghost use Rattle.core_terms.specs.Meanings.{tree_of};
+ghost use Rattle.kernel_reduce.specs.WellScoped.{AreWellScoped};
 ghost use Rattle.family_check.specs.Entering as spec;
 ghost use Rattle.family_check.specs.Meanings.{Yields, stop_of};
 ghost use Rattle.family_check.specs.Scopes.{IsSettled, IsScopedStop};
@@ -13,15 +14,12 @@ use core_sig::{Entry, Signature};
 use core_terms::{Items, Name, Term, Units};
 use std::alloc::Global;
 
-/// Adds a definition and answers its number. The checker asks for the sort of its type, and then for the type of its body, with
-/// units.
+/// Adds a definition and answers its number.
 ///
-/// A name that is known is Duplicate, and what the checker denies is Denied with its part. After an error the signature stands as
-/// before.
-///
-/// Its type costs the units of one call of `infer_sort`, and its body those of one call of `check`. After an error, which
-/// is Duplicate for a name that is known or what the checker says of the type and then of the body, the signature stands as
-/// before.
+/// Its type costs the units of one call of `infer_sort`, and its body those of one call of `check` against the type.
+/// Duplicate for a name that is known costs none and comes first; then comes what denies the type, Denied with the part `Ty`,
+/// and what denies the body, Denied with `Body`. Fuel and Deep are those of the two calls. After an error the signature
+/// stands as before, and the units that were spent stay spent.
 pub fn define(
     alloc: Global,
     sig: &mut Signature,
@@ -54,9 +52,7 @@ fn enter_definition(
     body: Term,
     units: &mut Units,
 ) -> Result<u32, FamilyStop>
-    requires signature { IsScopedSignature sig.old }
-    requires ty { IsScoped sig.old 0 (tree_of ty) }
-    requires body { IsScoped sig.old 0 (tree_of body) }
+    requires { AreWellScoped sig.old [] (tree_of ty ∷ tree_of body ∷ []) }
     ensures answer { Yields (spec.entered_at sig.new) result units.new.left (spec.define_of sig.old name (tree_of ty) (tree_of body) units.old.left) }
     ensures err { OnErr result (sig.new ≡ sig.old) }
     ensures sum { units.new.left + units.new.spent ≡ units.old.left + units.old.spent }
@@ -77,9 +73,7 @@ fn check_definition(
     body: &Term,
     units: &mut Units,
 ) -> Result<(), FamilyStop>
-    requires signature { IsScopedSignature sig.now }
-    requires ty { IsScoped sig.now 0 (tree_of ty.now) }
-    requires body { IsScoped sig.now 0 (tree_of body.now) }
+    requires { AreWellScoped sig.now [] (tree_of ty.now ∷ tree_of body.now ∷ []) }
     ensures answer { (name : List ℕ) → Yields (λ _. spec.entered sig.now (Definition name (tree_of ty.now) (tree_of body.now))) result units.new.left (spec.check_definition sig.now name (tree_of ty.now) (tree_of body.now) units.old.left) }
     ensures sum { units.new.left + units.new.spent ≡ units.old.left + units.old.spent }
     ensures spends { units.new.left ≤ units.old.left }

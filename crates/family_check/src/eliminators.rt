@@ -17,13 +17,12 @@ use core_sig::{Entry, Signature, elim_type};
 use core_terms::{Stop, TOP, Term, Units};
 use std::alloc::Global;
 
-/// Adds the eliminator of the family with number `fam` into `Type m`, unless it is there, and answers its number. An instance that
-/// is there costs no unit; else the checker asks for the sort of its type.
+/// Adds the eliminator of the family with number `fam` into `Type m`, unless it is there, and answers its number.
 ///
-/// A level that is too high is Denied, and so is what the checker denies. After an error the signature stands as before.
-///
-/// Its type costs the units of one call of `infer_sort`; an eliminator that is there costs none. After an error, which is
-/// LevelTooHigh for too high a level or what the checker says of the type, the signature stands as before.
+/// An eliminator that is there costs no unit, and else its type those of one call of `infer_sort`. A level of `TOP` or more
+/// is Denied with the part `Ty` and LevelTooHigh. A type that is too high is Deep before a unit is spent; then comes what the
+/// checker says of it: Denied with `Ty`, Fuel or Deep. After an error the signature stands as before, and the units that were
+/// spent stay spent.
 pub fn instance(
     alloc: Global,
     sig: &mut Signature,

@@ -1,10 +1,10 @@
-ghost use Rattle.std.specs.Prelude.{◌≡◌, ◌≤◌, ◌+◌, ℕ, true, [], OnErr};
+ghost use Rattle.std.specs.Prelude.{◌≡◌, ◌≤◌, ◌+◌, ℕ, true, [], ◌∷◌, OnErr};
 ghost use Rattle.theory.specs.Signatures.{names_of};
-ghost use Rattle.theory.specs.SignatureScopes.{IsScoped, IsScopedSignature};
 ghost use Rattle.core_terms.specs.Meanings.{tree_of};
 ghost use Rattle.core_terms.specs.Verdicts as verdicts;
 ghost use Rattle.core_sig.specs.Kinds.{HasEntryKinds};
 ghost use Rattle.core_sig.specs.Meanings.{entry_of};
+ghost use Rattle.kernel_reduce.specs.WellScoped.{AreWellScoped};
 ghost use Rattle.family_check.specs.Entering as spec;
 ghost use Rattle.family_check.specs.Meanings.{Yields, stop_of};
 ghost use Rattle.family_check.specs.Outcomes as outcomes;
@@ -23,10 +23,9 @@ pub(crate) fn enter(
     ty: &Term,
     units: &mut Units,
 ) -> Result<u32, FamilyStop>
-    requires signature { IsScopedSignature sig.old }
+    requires asked { AreWellScoped sig.old [] (tree_of ty.now ∷ []) }
     requires nameless { names_of (entry_of entry) ≡ [] }
     requires kinds { (n : ℕ) → HasEntryKinds n entry }
-    requires ty { IsScoped sig.old 0 (tree_of ty.now) }
     ensures answer { Yields (spec.entered_at sig.new) result units.new.left (spec.enter_instance sig.old (entry_of entry) true (tree_of ty.now) units.old.left) }
     ensures err { OnErr result (sig.new ≡ sig.old) }
     ensures sum { units.new.left + units.new.spent ≡ units.old.left + units.old.spent }

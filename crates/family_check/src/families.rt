@@ -1,6 +1,5 @@
-ghost use Rattle.std.specs.Prelude.{◌≡◌, ◌<◌, ◌≤◌, ◌+◌, ◌^◌, List, [], None, true, All, IfOk, IfErr, OnErr, length, map, zip};
+ghost use Rattle.std.specs.Prelude.{◌≡◌, ◌<◌, ◌≤◌, ◌+◌, ◌^◌, ◌++◌, List, [], ◌∷◌, None, true, All, IfOk, IfErr, OnErr, length, map, zip};
 ghost use Rattle.theory.specs.Signatures.{FamilyOf, IsPrefix, names_of};
-ghost use Rattle.theory.specs.SignatureScopes.{IsScoped, IsScopedSignature, IsScopedTelescope};
 ghost use Rattle.theory.specs.Telescopes.{context_behind};
 ghost use Rattle.theory.specs.Terms as tree;
 ghost use Rattle.theory.specs.WellFormed.{IsWellFormed, pushed};
@@ -10,7 +9,7 @@ ghost use Rattle.core_sig.specs.Kinds.{HasKinds, HaveKinds};
 ghost use Rattle.core_sig.specs.Meanings.{constructor_of, family_of};
 ghost use Rattle.core_sig.specs.Names.{find};
 ghost use Rattle.core_sig.specs.Raw.{RawConstructor, raw_constructor_of, raw_names, raw_of};
-ghost use Rattle.kernel_check.specs.Scopes.{context_limit};
+ghost use Rattle.kernel_reduce.specs.WellScoped.{AreWellScoped};
 ghost use Rattle.family_check.specs.Entering as entering;
 ghost use Rattle.family_check.specs.Families as spec;
 ghost use Rattle.family_check.specs.Kinds.{IsBare};
@@ -23,10 +22,9 @@ use crate::asking::sort_in;
 use crate::constructors::declare_constructors;
 use crate::levels::{Role, levels};
 use crate::names::are_new;
-use crate::products::split_products;
 use crate::{FamilyStop, Site};
 use core_sig::{Arg, ArgKind, Constructor, Entry, Family, RawCon, RawFamily, Signature};
-use core_terms::{Items, Name, Stop, Tele, Term, Units, copy_tele, copy_whole};
+use core_terms::{Items, Name, Stop, Tele, Term, Units, copy_tele, copy_whole, split_products};
 use std::alloc::Global;
 
 /// With fewer parameters there is room for the variables of any type that the checker takes.
@@ -37,9 +35,12 @@ const MOST_CONSTRUCTORS: usize = 4294967295;
 
 /// Adds a family as declared and answers its number.
 ///
-/// Each written type costs the units of one call of `infer_sort`, and each type of a parameter, an index or an argument those
-/// of one more. After an error, the first in the order of the text, the signature stands as before; Duplicate comes before all
-/// others. Memory is also answered where the parameters or the constructors are too many to be counted.
+/// Each written type, of a parameter, of the family and of a constructor, costs the units of one call of `infer_sort`, and
+/// each type of an index or an argument those of one more, for its level. Duplicate costs none and comes first. All other
+/// errors come in the order of the text: Denied, Fuel or Deep for a type, BadFamily and TooLarge after the type of the
+/// family, NotPositive and then TooLarge after the type of a constructor. After an error the signature stands as before, and
+/// the units that were spent stay spent. Memory is also answered where the parameters or the constructors are too many to be
+/// counted, 2^31 - 2000 and 2^32.
 pub fn declare(
     alloc: Global,
     sig: &mut Signature,
@@ -138,10 +139,8 @@ fn over_bare(
     raws: Vec<RawCon>,
     units: &mut Units,
 ) -> Result<Items<Constructor>, FamilyStop>
-    requires signature { IsScopedSignature (pushed sig.old (FamilyOf (family_of bare.now))) }
-    requires params { IsScopedTelescope (pushed sig.old (FamilyOf (family_of bare.now))) 0 (tele_of bare.now.params) }
+    requires asked { AreWellScoped (pushed sig.old (FamilyOf (family_of bare.now))) (tele_of bare.now.params) (map (λ c. tree_of c.ty) raws.items) }
     requires few { length bare.now.params < parameter_limit }
-    requires types { All (λ c. IsScoped (pushed sig.old (FamilyOf (family_of bare.now))) (length bare.now.params) (tree_of c.ty)) raws.items }
     requires count { length raws.items < 2 ^ 32 }
     requires bare { IsBare bare.now }
     requires unknown { find sig.old bare.now.name ≡ None }
@@ -198,9 +197,7 @@ fn declare_type(
     ty: Term,
     units: &mut Units,
 ) -> Result<Family, FamilyStop>
-    requires signature { IsScopedSignature sig.now }
-    requires params { IsScopedTelescope sig.now 0 (tele_of params) }
-    requires ty { IsScoped sig.now (length params) (tree_of ty) }
+    requires asked { AreWellScoped sig.now (tele_of params) (tree_of ty ∷ []) }
     requires few { length params < parameter_limit }
     ensures answer { (cs : List RawConstructor) → Yields family_of result units.new.left (spec.declare_type sig.now (record { name = name; parameters = tele_of params; type = tree_of ty; constructors = cs }) units.old.left) }
     ensures bare { IfOk result IsBare }
@@ -229,9 +226,7 @@ fn bare_family(
     ty: Term,
     units: &mut Units,
 ) -> Result<Family, FamilyStop>
-    requires signature { IsScopedSignature sig.now }
-    requires params { IsScopedTelescope sig.now 0 (tele_of params) }
-    requires ty { IsScoped sig.now (length params) (tree_of ty) }
+    requires asked { AreWellScoped sig.now (tele_of params) (tree_of ty ∷ []) }
     requires few { length params < parameter_limit }
     requires low { tree.height (tree_of ty) ≤ 2000 }
     ensures answer { (cs : List RawConstructor) → Yields family_of result units.new.left (spec.bare_family sig.now (record { name = name; parameters = tele_of params; type = tree_of ty; constructors = cs }) units.old.left) }
@@ -271,10 +266,7 @@ fn leveled_indices(
     types: Vec<Term>,
     units: &mut Units,
 ) -> Result<Items<Arg>, FamilyStop>
-    requires signature { IsScopedSignature sig.now }
-    requires params { IsScopedTelescope sig.now 0 (tele_of params.now) }
-    requires types { IsScopedTelescope sig.now (length params.now) (tele_of types.items) }
-    requires few { length params.now + length types.items < context_limit }
+    requires { AreWellScoped sig.now (tele_of params.now ++ tele_of types.items) [] }
     ensures answer { Yields (map (λ i. (tree_of i.ty, i.level))) result units.new.left (and_next (spec.levels_of sig.now (spec.Index level) 0 (context_behind [] (tele_of params.now)) (tele_of types.items) units.old.left) (λ levels end. ended (Ok (zip (tele_of types.items) levels)) end)) }
     ensures plain { IfOk result (All (λ i. i.kind ≡ ArgKind.Plain)) }
     ensures sum { units.new.left + units.new.spent ≡ units.old.left + units.old.spent }

@@ -1,8 +1,7 @@
-ghost use Rattle.std.specs.Prelude.{◌≡◌, ◌≤◌, ◌<◌, ◌+◌, [], length};
+ghost use Rattle.std.specs.Prelude.{◌≡◌, ◌≤◌, ◌+◌, ◌++◌, [], ◌∷◌};
 ghost use Rattle.theory.specs.Telescopes.{context_behind};
-ghost use Rattle.theory.specs.SignatureScopes.{IsScoped, IsScopedSignature, IsScopedTelescope};
 ghost use Rattle.core_terms.specs.Meanings.{tree_of, tele_of};
-ghost use Rattle.kernel_check.specs.Scopes.{context_limit};
+ghost use Rattle.kernel_reduce.specs.WellScoped.{AreWellScoped};
 ghost use Rattle.family_check.specs.Families as spec;
 ghost use Rattle.family_check.specs.Meanings.{Yields, answer_of, site_of, stop_of};
 ghost use Rattle.family_check.specs.Roles.{role_of};
@@ -62,10 +61,7 @@ fn level_in(
     ty: &Term,
     units: &mut Units,
 ) -> Result<u8, FamilyStop>
-    requires signature { IsScopedSignature sig.now }
-    requires context { IsScopedTelescope sig.now 0 (tele_of ctx.now) }
-    requires ty { IsScoped sig.now (length ctx.now) (tree_of ty.now) }
-    requires few { length ctx.now < context_limit }
+    requires { AreWellScoped sig.now (tele_of ctx.now) (tree_of ty.now ∷ []) }
     ensures answer { Yields (λ i. i) result units.new.left (spec.level_in sig.now (role_of role) k (context_behind [] (tele_of ctx.now)) (tree_of ty.now) units.old.left) }
     ensures sum { units.new.left + units.new.spent ≡ units.old.left + units.old.spent }
     ensures spends { units.new.left ≤ units.old.left }
@@ -83,10 +79,7 @@ pub(crate) fn levels(
     types: &[Term],
     units: &mut Units,
 ) -> Result<Vec<u8>, FamilyStop>
-    requires signature { IsScopedSignature sig.now }
-    requires params { IsScopedTelescope sig.now 0 (tele_of params.now) }
-    requires types { IsScopedTelescope sig.now (length params.now) (tele_of types.now) }
-    requires few { length params.now + length types.now < context_limit }
+    requires { AreWellScoped sig.now (tele_of params.now ++ tele_of types.now) [] }
     ensures answer { Yields (λ v. v.items) result units.new.left (spec.levels_of sig.now (role_of role) 0 (context_behind [] (tele_of params.now)) (tele_of types.now) units.old.left) }
     ensures sum { units.new.left + units.new.spent ≡ units.old.left + units.old.spent }
     ensures spends { units.new.left ≤ units.old.left }

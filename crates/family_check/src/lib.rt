@@ -11,7 +11,6 @@ mod families;
 pub mod laws;
 mod levels;
 mod names;
-mod products;
 mod stop;
 
 pub use axioms::axiom_k;

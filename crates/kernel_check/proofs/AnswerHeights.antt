@@ -43,28 +43,28 @@ abbrev Lows : Spent Verdict → Type 0
 Lows r = Answers (Splits IsLow AnyDenial) r
 
 of_type-low : (made : Term) → LowOk (of_type made)
-of_type-low made = go (bounded made) (bounded-has IsLow made (λ low. low))
+of_type-low made = by_case (bounded made) (bounded-has IsLow made (λ low. low))
   where
-    go : (r : Result Term Stop) → IfOk r IsLow → LowOk (yes_of r)
-    go (Ok type) k = k
-    go (Err e) k = tt
+    by_case : (r : Result Term Stop) → IfOk r IsLow → LowOk (yes_of r)
+    by_case (Ok type) k = k
+    by_case (Err e) k = tt
 
 -- whatever a child's verdict is
-child-low : (child : ℕ) (asked : Spent Verdict) (go : Term → ℕ → Spent Verdict) → ((type : Term) (rest : ℕ) → Lows (go type rest))
-    → Lows (if_typed (behind child asked) go)
-child-low child asked go k =
-    child-splits AnyType IsLow AnyDenial AnyDenial child asked go (λ denial d. tt) (any-verdict asked.0) (λ type rest any. k type rest)
+child-low : (child : ℕ) (asked : Spent Verdict) (next : Term → ℕ → Spent Verdict) → ((type : Term) (rest : ℕ) → Lows (next type rest))
+    → Lows (if_typed (behind child asked) next)
+child-low child asked next k =
+    child-splits AnyType IsLow AnyDenial AnyDenial child asked next (λ denial d. tt) (any-verdict asked.0) (λ type rest any. k type rest)
 
 variable-low : (G : Context) (n : ℕ) (o : Option Term) → LowOk (variable_type G n o)
 variable-low G n (Some a) = of_type-low (lift a (n + 1) 0)
 variable-low G n None = tt
 
 universe-low : (G : Context) (i : ℕ) → LowOk (universe_type G i)
-universe-low G i = go (nat_lt i top)
+universe-low G i = by_case (nat_lt i top)
   where
-    go : (b : Bool) → LowOk (cond b (of_type (Sort (i + 1))) (denied G LevelTooHigh))
-    go true = of_type-low (Sort (i + 1))
-    go false = tt
+    by_case : (b : Bool) → LowOk (cond b (of_type (Sort (i + 1))) (denied G LevelTooHigh))
+    by_case true = of_type-low (Sort (i + 1))
+    by_case false = tt
 
 given-low : (G : Context) (o : Option Term) → LowOk (given_type G o)
 given-low G (Some a) = of_type-low a
@@ -82,11 +82,11 @@ product-low infer_sort G a b left =
     child-low 1 (infer_sort (a ∷ G) b rest) _ (λ j end. of_type-low (greater_sort i j)))
 
 function_type-low : (G : Context) (a c : Term) → LowOk (function_type G a c)
-function_type-low G a c = go (is_top c)
+function_type-low G a c = by_case (is_top c)
   where
-    go : (b : Bool) → LowOk (cond b (denied G LevelTooHigh) (of_type (Pi a c)))
-    go true = tt
-    go false = of_type-low (Pi a c)
+    by_case : (b : Bool) → LowOk (cond b (denied G LevelTooHigh) (of_type (Pi a c)))
+    by_case true = tt
+    by_case false = of_type-low (Pi a c)
 
 function-low : (infer infer_sort : Asks) (G : Context) (a b : Term) (left : ℕ) → Lows (infer_function infer infer_sort G a b left)
 function-low infer infer_sort G a b left =

@@ -1,10 +1,11 @@
 -- What the calls of the checker need, from what their callers have.
-use Rattle.std.proofs.Common.{◌≡◌, ℕ, zero, suc, ◌&&◌, ◌+◌, ◌≤◌, Bool, true, false, cond, nat_le, ◌∙◌, Result, Ok, Err, IfOk, Some, List, [], length, slice_get, refl, sym, ap, subst as transport, Bor, arith}
+use Rattle.std.proofs.Common.{◌≡◌, ℕ, zero, suc, ◌&&◌, ◌+◌, ◌≤◌, Bool, true, false, cond, nat_le, ◌∙◌, Result, Ok, Err, IfOk, Some, List, [], ◌∷◌, length, slice_get, refl, sym, ap, subst as transport, Bor, arith}
 use Rattle.std.proofs.lemmas.Bool.Decides.{nat_tests}
+use Rattle.std.proofs.lemmas.List.{length-map}
 use Rattle.theory.specs.Terms as tree
 use Rattle.theory.specs.Telescopes.{Context, context_behind}
 use Rattle.theory.specs.Signatures.{Signature}
-use Rattle.theory.specs.SignatureScopes.{IsScoped, IsScopedContext, IsScopedSignature, IsScopedTelescope}
+use Rattle.theory.specs.SignatureScopes.{IsScoped, IsScopedContext}
 use Rattle.theory.proofs.ScopedTerms.{scoped-pi, scoped-lam, scoped-app, scoped-let, scoped_over_more, subst-scoped, context-scoped}
 use Rattle.core_terms.specs.Answers.{Runs, Spent, bounded, is_low}
 use Rattle.core_terms.specs.Bounds.{most_free}
@@ -13,6 +14,7 @@ use Rattle.core_terms.specs.Verdicts as pure
 use Rattle.core_terms.specs.declared.stop.Stop.{Stop}
 use Rattle.core_terms.specs.declared.stop.Stop.TheVariants.{Deep}
 use Rattle.kernel_reduce.specs.Reduction.{charge, if_low, most_variables, nesting, whnf_of}
+use Rattle.kernel_reduce.specs.WellScoped.{AreWellScoped, CanReduce}
 use Rattle.kernel_reduce.specs.Comparison.{on_heads, heads_below, convertible_of, subtype_of}
 use Rattle.core_terms.proofs.Answers.{low-is}
 use Rattle.kernel_reduce.proofs.ScopedReduction.{whnf-scoped}
@@ -69,11 +71,11 @@ ok_is {A} {x} {y} e = ap (λ r. value r) e
 
 -- a term that was made is the one that is meant
 made_is : (t : Term) (u : tree.Term) (r : Result tree.Term Stop) → r ≡ bounded u → Ok (tree_of t) ≡ r → tree_of t ≡ u
-made_is t u r e h = go (nat_le (tree.height u) 2000) (h ∙ e)
+made_is t u r e h = by_case (nat_le (tree.height u) 2000) (h ∙ e)
   where
-    go : (b : Bool) → same_result (Ok (tree_of t)) (cond b (Ok u) (Err Deep)) → tree_of t ≡ u
-    go true k = ok_is k
-    go false k = absurd (grind arith)
+    by_case : (b : Bool) → same_result (Ok (tree_of t)) (cond b (Ok u) (Err Deep)) → tree_of t ≡ u
+    by_case true k = ok_is k
+    by_case false k = absurd (grind arith)
 
 pub can_made : {S : Signature} {room : ℕ} {scope : Scope} {a t b : tree.Term} (made : Term) → CanCheck S (room + 1) scope (tree.Let a t b)
     → Ok (tree_of made) ≡ bounded (tree.subst b 0 t) → CanCheck S room scope (tree_of made)
@@ -102,9 +104,17 @@ inferred_scoped {S} {room} {scope} {t} at l v ty left h is meant =
     yes_scoped S (length (scope_of scope)) (infer_of S at (scope_of scope) t l) v ty left is meant
     (infer-scoped S at (scope_of scope) t l h.signature h.context h.term)
 
-pub inferred_wide : {S : Signature} {room : ℕ} {scope : Scope} {t : tree.Term} (at l : ℕ) (v : Verdict) (ty : Term) (left : ℕ) → CanCheck S room scope t
-    → v ≡ Yes ty → Runs verdict_of (Ok v) left (infer_of S at (scope_of scope) t l) → IsScoped S most_variables (tree_of ty)
-inferred_wide at l v ty left h is meant = wide (tree_of ty) h (inferred_scoped at l v ty left h (ap verdict_of is) meant)
+-- and it can be reduced, and compared
+pub reduce_inferred : {S : Signature} {room : ℕ} {scope : Scope} {t : tree.Term} (at l : ℕ) (v : Verdict) (ty : Term) (left : ℕ) → CanCheck S room scope t
+    → v ≡ Yes ty → Runs verdict_of (Ok v) left (infer_of S at (scope_of scope) t l) → CanReduce S (tree_of ty ∷ [])
+reduce_inferred at l v ty left h is meant =
+    record { signature = h.signature; terms = (wide (tree_of ty) h (inferred_scoped at l v ty left h (ap verdict_of is) meant), tt) }
+
+pub compare_inferred : {S : Signature} {room : ℕ} {scope : Scope} {t wanted : tree.Term} (at l : ℕ) (v : Verdict) (ty : Term) (left : ℕ) → CanCheck S room scope t
+    → CanCheck S room scope wanted → v ≡ Yes ty → Runs verdict_of (Ok v) left (infer_of S at (scope_of scope) t l) → CanReduce S (tree_of ty ∷ wanted ∷ [])
+compare_inferred {wanted = wanted} at l v ty left h k is meant =
+    let found = reduce_inferred at l v ty left h is meant in
+    record { signature = h.signature; terms = (found.terms.0, (wide wanted k k.term, tt)) }
 
 -- a Yes behind a child is the child's
 behind_yes : (child : ℕ) (x : pure.Verdict) (a : tree.Term) → pure.Yes a ≡ verdict_behind child x → x ≡ pure.Yes a
@@ -156,45 +166,50 @@ infer_step S room under l l' left G t r er el low meant =
 pub compared_low : (S : Signature) (room : ℕ) (a b : tree.Term) (l left : ℕ) (holds : Bool) → Runs {A = Bool} (λ x. x) (Ok holds) left (subtype_of S room a b l)
     → tree.height b ≤ 2000
 compared_low S zero a b l left holds e = absurd (grind arith)
-compared_low S (suc room) a b l left holds e = go (is_low a) (is_low b) refl e
+compared_low S (suc room) a b l left holds e = by_case (is_low a) (is_low b) refl e
   where
-    go : (x y : Bool) → is_low b ≡ y → (Ok holds, left) ≡ if_low (x && y) (charge (on_heads S a b (heads_below (convertible_of S room) (subtype_of S room)))) l
+    by_case : (x y : Bool) → is_low b ≡ y → (Ok holds, left) ≡ if_low (x && y) (charge (on_heads S a b (heads_below (convertible_of S room) (subtype_of S room)))) l
         → tree.height b ≤ 2000
-    go x true test k = low-is b test
-    go true false test k = absurd (grind arith)
-    go false false test k = absurd (grind arith)
+    by_case x true test k = low-is b test
+    by_case true false test k = absurd (grind arith)
+    by_case false false test k = absurd (grind arith)
+
+-- the context and the terms of a call from outside
+given_length : (list : List Term) → length (tele_of list) ≡ length (context_behind [] (tele_of list))
+given_length list = length-map list tree_of ∙ context_length list
+
+pub given_context : {S : Signature} {ts : List tree.Term} (list : List Term) → AreWellScoped S (tele_of list) ts → IsScopedContext S (context_behind [] (tele_of list))
+given_context {S} list h = (context-scoped S (tele_of list)).0 h.context
+
+pub given_term : {S : Signature} {t : tree.Term} {ts : List tree.Term} (list : List Term) → AreWellScoped S (tele_of list) (t ∷ ts)
+    → IsScoped S (length (context_behind [] (tele_of list))) t
+given_term {S} {t} list h = transport (λ n. IsScoped S n t) (given_length list) h.terms.0
 
 -- the context of a call from outside
-pub can_given : {S : Signature} (types : Bor (List Term)) (list : List Term) (room : ℕ) (t : tree.Term) → types.now ≡ list → IsScopedSignature S
-    → IsScopedTelescope S 0 (tele_of list) → IsScoped S (length list) t → length list + room ≤ most_variables → room ≤ nesting → CanCheck S room (Given types) t
-can_given {S} types list room t e signature context term few nested =
-    let count : length list ≡ length (context_behind [] (tele_of list)) = context_length list in
+pub can_given : {S : Signature} {ts : List tree.Term} {t : tree.Term} (types : Bor (List Term)) (list : List Term) (room : ℕ) → types.now ≡ list
+    → AreWellScoped S (tele_of list) (t ∷ ts) → room ≤ nesting → CanCheck S room (Given types) t
+can_given {S} {ts} {t} types list room e h nested =
+    let count : length (tele_of list) ≡ length (context_behind [] (tele_of list)) = given_length list in
     record {
-      signature = signature;
-      context = transport (λ xs. IsScopedContext S (context_behind [] (tele_of xs))) (sym e) ((context-scoped S (tele_of list)).0 context);
+      signature = h.signature;
+      context = transport (λ xs. IsScopedContext S (context_behind [] (tele_of xs))) (sym e) (given_context list h);
       bound = tt;
-      term = transport (λ xs. IsScoped S (length (context_behind [] (tele_of xs))) t) (sym e) (transport (λ n. IsScoped S n t) count term);
-      few = transport (λ xs. length (context_behind [] (tele_of xs)) + room ≤ most_variables) (sym e) (omega arith);
+      term = transport (λ xs. IsScoped S (length (context_behind [] (tele_of xs))) t) (sym e) (given_term list h);
+      few = transport (λ xs. length (context_behind [] (tele_of xs)) + room ≤ most_variables) (sym e) (omega (arith, h.few));
       nested = nested;
     }
 
 -- the words of the laws for what the code answers
-pub said : (P : pure.Verdict → Type 0) (r : Result Verdict Stop) (left : ℕ) (meant : Spent pure.Verdict) → Runs verdict_of r left meant
+pub answer-has : (P : pure.Verdict → Type 0) (r : Result Verdict Stop) (left : ℕ) (meant : Spent pure.Verdict) → Runs verdict_of r left meant
     → IfOk meant.0 P → IfOk r (λ v. P (verdict_of v))
-said P (Ok v) left meant e h = transport (λ x. IfOk x.0 P) (sym e) h
-said P (Err stop) left meant e h = tt
+answer-has P (Ok v) left meant e h = transport (λ x. IfOk x.0 P) (sym e) h
+answer-has P (Err stop) left meant e h = tt
 
 pub given_runs : (ask : Context → Spent pure.Verdict) (types : Bor (List Term)) (list : List Term) (r : Result Verdict Stop) (left : ℕ) → types.now ≡ list
     → Runs verdict_of r left (ask (scope_of (Given types))) → Runs verdict_of r left (ask (context_behind [] (tele_of list)))
 given_runs ask types list r left e h = transport (λ xs. Runs verdict_of r left (ask (context_behind [] (tele_of xs)))) e h
 
-pub given_context : (S : Signature) (list : List Term) → IsScopedTelescope S 0 (tele_of list) → IsScopedContext S (context_behind [] (tele_of list))
-given_context S list h = (context-scoped S (tele_of list)).0 h
-
-pub given_term : (S : Signature) (list : List Term) (t : tree.Term) → IsScoped S (length list) t → IsScoped S (length (context_behind [] (tele_of list))) t
-given_term S list t h = transport (λ n. IsScoped S n t) (context_length list) h
-
-pub said_scoped : (S : Signature) (list : List Term) (r : Result Verdict Stop) (left : ℕ) (meant : Spent pure.Verdict) → Runs verdict_of r left meant
+pub answer-scoped : (S : Signature) (list : List Term) (r : Result Verdict Stop) (left : ℕ) (meant : Spent pure.Verdict) → Runs verdict_of r left meant
     → IfOk meant.0 (IsScopedVerdict S (length (context_behind [] (tele_of list)))) → IfOk r (λ v. IsScopedVerdict S (length list) (verdict_of v))
-said_scoped S list r left meant e h =
-    said (IsScopedVerdict S (length list)) r left meant e (transport (λ n. IfOk meant.0 (IsScopedVerdict S n)) (sym (context_length list)) h)
+answer-scoped S list r left meant e h =
+    answer-has (IsScopedVerdict S (length list)) r left meant e (transport (λ n. IfOk meant.0 (IsScopedVerdict S n)) (sym (context_length list)) h)

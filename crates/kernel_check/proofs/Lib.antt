@@ -2,10 +2,11 @@ pub mod AnswerHeights
 pub mod Conditions
 pub mod Contexts
 mod Examples
-pub mod Soundness
-pub mod Scoped
-pub mod Sorts
-pub mod Spending
-pub mod SymbolTypes
 pub mod FamilyScopes
 pub mod Parts
+pub mod Scoped
+pub mod Sorts
+pub mod Soundness
+pub mod Spending
+pub mod SymbolTypes
+pub mod WellScoped

@@ -14,18 +14,18 @@ Splits P N (Yes type) = P type
 Splits P N (No denial) = N denial
 
 pub typed-splits : (P : Term → Type 0) (N : Denial → Type 0) (made : Term) → P made → IfOk (typed made) (Splits P N)
-typed-splits P N made h = go (bounded made) (bounded-has P made (λ low. h))
+typed-splits P N made h = by_case (bounded made) (bounded-has P made (λ low. h))
   where
-    go : (r : Result Term Stop) → IfOk r P → IfOk (yes_of r) (Splits P N)
-    go (Ok type) k = k
-    go (Err e) k = tt
+    by_case : (r : Result Term Stop) → IfOk r P → IfOk (yes_of r) (Splits P N)
+    by_case (Ok type) k = k
+    by_case (Err e) k = tt
 
-pub if_typed-splits : (P Q : Term → Type 0) (N : Denial → Type 0) (first : Spent Verdict) (go : Term → ℕ → Spent Verdict)
-    → Answers (Splits P N) first → ((type : Term) (rest : ℕ) → P type → Answers (Splits Q N) (go type rest))
-    → Answers (Splits Q N) (if_typed first go)
-if_typed-splits P Q N first go h k = and_next-has (Splits P N) (Splits Q N) first _ h on
+pub if_typed-splits : (P Q : Term → Type 0) (N : Denial → Type 0) (first : Spent Verdict) (next : Term → ℕ → Spent Verdict)
+    → Answers (Splits P N) first → ((type : Term) (rest : ℕ) → P type → Answers (Splits Q N) (next type rest))
+    → Answers (Splits Q N) (if_typed first next)
+if_typed-splits P Q N first next h k = and_next-has (Splits P N) (Splits Q N) first _ h on
   where
-    on : (verdict : Verdict) (rest : ℕ) → Splits P N verdict → Answers (Splits Q N) (on_verdict verdict rest go)
+    on : (verdict : Verdict) (rest : ℕ) → Splits P N verdict → Answers (Splits Q N) (on_verdict verdict rest next)
     on (Yes type) rest p = k type rest p
     on (No denial) rest n = n
 
@@ -38,11 +38,11 @@ behind-splits P N M child asked f h = and_next-has (Splits P N) (Splits P M) ask
     on (Yes type) rest p = p
     on (No denial) rest n = f denial n
 
-pub if_typed-spends : (first : Spent Verdict) (go : Term → ℕ → Spent Verdict) (left : ℕ) → first.1 ≤ left
-    → ((type : Term) (rest : ℕ) → (go type rest).1 ≤ rest) → (if_typed first go).1 ≤ left
-if_typed-spends first go left h k = and_next-spends first _ left h on
+pub if_typed-spends : (first : Spent Verdict) (next : Term → ℕ → Spent Verdict) (left : ℕ) → first.1 ≤ left
+    → ((type : Term) (rest : ℕ) → (next type rest).1 ≤ rest) → (if_typed first next).1 ≤ left
+if_typed-spends first next left h k = and_next-spends first _ left h on
   where
-    on : (verdict : Verdict) (rest : ℕ) → (on_verdict verdict rest go).1 ≤ rest
+    on : (verdict : Verdict) (rest : ℕ) → (on_verdict verdict rest next).1 ≤ rest
     on (Yes type) rest = k type rest
     on (No denial) rest = omega arith
 
@@ -50,12 +50,12 @@ pub behind-spends : (child : ℕ) (asked : Spent Verdict) (left : ℕ) → asked
 behind-spends child asked left h = and_next-spends asked _ left h (λ verdict rest. omega arith)
 
 -- both for a child that is asked first
-pub child-spends : (child : ℕ) (asked : Spent Verdict) (go : Term → ℕ → Spent Verdict) (left : ℕ) → asked.1 ≤ left
-    → ((type : Term) (rest : ℕ) → (go type rest).1 ≤ rest) → (if_typed (behind child asked) go).1 ≤ left
-child-spends child asked go left h k = if_typed-spends (behind child asked) go left (behind-spends child asked left h) k
+pub child-spends : (child : ℕ) (asked : Spent Verdict) (next : Term → ℕ → Spent Verdict) (left : ℕ) → asked.1 ≤ left
+    → ((type : Term) (rest : ℕ) → (next type rest).1 ≤ rest) → (if_typed (behind child asked) next).1 ≤ left
+child-spends child asked next left h k = if_typed-spends (behind child asked) next left (behind-spends child asked left h) k
 
-pub child-splits : (P Q : Term → Type 0) (N M : Denial → Type 0) (child : ℕ) (asked : Spent Verdict) (go : Term → ℕ → Spent Verdict)
+pub child-splits : (P Q : Term → Type 0) (N M : Denial → Type 0) (child : ℕ) (asked : Spent Verdict) (next : Term → ℕ → Spent Verdict)
     → ((denial : Denial) → N denial → M (record denial { place = child ∷ denial.place })) → Answers (Splits P N) asked
-    → ((type : Term) (rest : ℕ) → P type → Answers (Splits Q M) (go type rest)) → Answers (Splits Q M) (if_typed (behind child asked) go)
-child-splits P Q N M child asked go f h k =
-    if_typed-splits P Q M (behind child asked) go (behind-splits P N M child asked f h) k
+    → ((type : Term) (rest : ℕ) → P type → Answers (Splits Q M) (next type rest)) → Answers (Splits Q M) (if_typed (behind child asked) next)
+child-splits P Q N M child asked next f h k =
+    if_typed-splits P Q M (behind child asked) next (behind-splits P N M child asked f h) k

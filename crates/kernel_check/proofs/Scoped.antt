@@ -50,10 +50,10 @@ Scopes S n r = Answers (Splits (IsScoped S n) (IsScopedDenial S)) r
 of_type-scopes : (S : Signature) (n : ℕ) (made : Term) → IsScoped S n made → ScopesOk S n (of_type made)
 of_type-scopes S n made h = typed-splits (IsScoped S n) (IsScopedDenial S) made h
 
-child-scopes : (S : Signature) (m n child : ℕ) (asked : Spent Verdict) (go : Term → ℕ → Spent Verdict) → Scopes S m asked
-    → ((type : Term) (rest : ℕ) → IsScoped S m type → Scopes S n (go type rest)) → Scopes S n (if_typed (behind child asked) go)
-child-scopes S m n child asked go h k =
-    child-splits (IsScoped S m) (IsScoped S n) (IsScopedDenial S) (IsScopedDenial S) child asked go (λ denial d. d) h k
+child-scopes : (S : Signature) (m n child : ℕ) (asked : Spent Verdict) (next : Term → ℕ → Spent Verdict) → Scopes S m asked
+    → ((type : Term) (rest : ℕ) → IsScoped S m type → Scopes S n (next type rest)) → Scopes S n (if_typed (behind child asked) next)
+child-scopes S m n child asked next h k =
+    child-splits (IsScoped S m) (IsScoped S n) (IsScopedDenial S) (IsScopedDenial S) child asked next (λ denial d. d) h k
 
 AskScopes : Signature → Asks → Type 0
 AskScopes S ask = (G : Context) (t : Term) (left : ℕ) → IsScopedContext S G → IsScoped S (length G) t → Scopes S (length G) (ask G t left)
@@ -82,11 +82,11 @@ variable-scopes S G n (Some a) e ctx =
 variable-scopes S G n None e ctx = denied-scoped S G NoSuchInstance ctx tt
 
 universe-scopes : (S : Signature) (G : Context) (i : ℕ) → IsScopedContext S G → ScopesOk S (length G) (universe_type G i)
-universe-scopes S G i ctx = go (nat_lt i top)
+universe-scopes S G i ctx = by_case (nat_lt i top)
   where
-    go : (b : Bool) → ScopesOk S (length G) (cond b (of_type (Sort (i + 1))) (denied G LevelTooHigh))
-    go true = of_type-scopes S (length G) (Sort (i + 1)) (sort-scoped (i + 1))
-    go false = denied-scoped S G LevelTooHigh ctx tt
+    by_case : (b : Bool) → ScopesOk S (length G) (cond b (of_type (Sort (i + 1))) (denied G LevelTooHigh))
+    by_case true = of_type-scopes S (length G) (Sort (i + 1)) (sort-scoped (i + 1))
+    by_case false = denied-scoped S G LevelTooHigh ctx tt
 
 greater-scoped : (S : Signature) (n : ℕ) (i j : Term) → IsScoped S n i → IsScoped S n (greater_sort i j)
 greater-scoped S n (Sort i) (Sort j) h = sort-scoped (max i j)
@@ -106,11 +106,11 @@ product-scopes S infer_sort h G a b left ctx ht =
 
 function_type-scopes : (S : Signature) (G : Context) (a c : Term) → IsScopedContext S G → IsScoped S (length G) a
     → IsScoped S (length (a ∷ G)) c → ScopesOk S (length G) (function_type G a c)
-function_type-scopes S G a c ctx ha hc = go (is_top c)
+function_type-scopes S G a c ctx ha hc = by_case (is_top c)
   where
-    go : (b : Bool) → ScopesOk S (length G) (cond b (denied G LevelTooHigh) (of_type (Pi a c)))
-    go true = denied-scoped S G LevelTooHigh ctx tt
-    go false =
+    by_case : (b : Bool) → ScopesOk S (length G) (cond b (denied G LevelTooHigh) (of_type (Pi a c)))
+    by_case true = denied-scoped S G LevelTooHigh ctx tt
+    by_case false =
         let e : length (a ∷ G) ≡ length G + 1 = omega arith in
         of_type-scopes S (length G) (Pi a c) (pi-scoped ha (transport (λ n. IsScoped S n c) e hc))
 

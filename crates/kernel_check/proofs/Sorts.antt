@@ -16,11 +16,11 @@ without_units-sorts : (n : ℕ) (t : Term) (step : Option Term) → SortsBelow n
 without_units-sorts n t None h = h
 without_units-sorts n t (Some u) h = tt
 
-with_unit-sorts : (S : Signature) (n : ℕ) (t : Term) (left : ℕ) (go : Term → Spent Term) (step : Option Term) → IsTyped S → top ≤ n
-    → IfSome step (Step S t) → SortsBelow n t → ((u : Term) → SortsBelow n u → Answers (SortsBelow n) (go u))
-    → Answers (SortsBelow n) (with_unit t left go step)
-with_unit-sorts S n t left go None typed bound steps h k = h
-with_unit-sorts S n t left go (Some u) typed bound steps h k = k u (sorts_of_step S typed n bound t u steps h)
+with_unit-sorts : (S : Signature) (n : ℕ) (t : Term) (left : ℕ) (next : Term → Spent Term) (step : Option Term) → IsTyped S → top ≤ n
+    → IfSome step (Step S t) → SortsBelow n t → ((u : Term) → SortsBelow n u → Answers (SortsBelow n) (next u))
+    → Answers (SortsBelow n) (with_unit t left next step)
+with_unit-sorts S n t left next None typed bound steps h k = h
+with_unit-sorts S n t left next (Some u) typed bound steps h k = k u (sorts_of_step S typed n bound t u steps h)
 
 pub whnf-sorts : (S : Signature) (n left : ℕ) (t : Term) → IsTyped S → top ≤ n → SortsBelow n t → Answers (SortsBelow n) (whnf_of S true left t)
 whnf-sorts S n zero t typed bound h =

@@ -43,18 +43,18 @@ NoClaim denial = Unit {0}
 abbrev Says : (Term → Type 0) → Spent Verdict → Type 0
 Says P r = Answers (Splits P NoClaim) r
 
-child-says : (P Q : Term → Type 0) (child : ℕ) (asked : Spent Verdict) (go : Term → ℕ → Spent Verdict) → Says P asked
-    → ((type : Term) (rest : ℕ) → P type → Says Q (go type rest)) → Says Q (if_typed (behind child asked) go)
+child-says : (P Q : Term → Type 0) (child : ℕ) (asked : Spent Verdict) (next : Term → ℕ → Spent Verdict) → Says P asked
+    → ((type : Term) (rest : ℕ) → P type → Says Q (next type rest)) → Says Q (if_typed (behind child asked) next)
 unfolding NoClaim
-child-says P Q child asked go h k = child-splits P Q NoClaim NoClaim child asked go (λ denial n. tt) h k
+child-says P Q child asked next h k = child-splits P Q NoClaim NoClaim child asked next (λ denial n. tt) h k
 
 weaker : {P Q : Term → Type 0} → ((type : Term) → P type → Q type) → (r : Spent Verdict) → Says P r → Says Q r
-weaker {P} {Q} f r h = go r.0 h
+weaker {P} {Q} f r h = by_case r.0 h
   where
-    go : (x : Result Verdict Stop) → IfOk x (Splits P NoClaim) → IfOk x (Splits Q NoClaim)
-    go (Ok (Yes type)) k = f type k
-    go (Ok (No denial)) k = k
-    go (Err e) k = tt
+    by_case : (x : Result Verdict Stop) → IfOk x (Splits P NoClaim) → IfOk x (Splits Q NoClaim)
+    by_case (Ok (Yes type)) k = f type k
+    by_case (Ok (No denial)) k = k
+    by_case (Err e) k = tt
 
 abbrev AskIsSound : Signature → Asks → Type 0
 AskIsSound S ask = (G : Context) (t : Term) (left : ℕ) → IsContext S G → Says (HasType S G t) (ask G t left)
@@ -82,13 +82,13 @@ variable-sound S typed G n None e ctx = tt
 
 universe-sound : (S : Signature) → IsTyped S → (G : Context) (i : ℕ) → IsContext S G → IfOk (universe_type G i) (Splits (HasType S G (Sort i)) NoClaim)
 unfolding NoClaim
-universe-sound S typed G i ctx = go (nat_lt i top) refl
+universe-sound S typed G i ctx = by_case (nat_lt i top) refl
   where
-    go : (b : Bool) → nat_lt i top ≡ b → IfOk (cond b (of_type (Sort (i + 1))) (denied G LevelTooHigh)) (Splits (HasType S G (Sort i)) NoClaim)
-    go true e =
+    by_case : (b : Bool) → nat_lt i top ≡ b → IfOk (cond b (of_type (Sort (i + 1))) (denied G LevelTooHigh)) (Splits (HasType S G (Sort i)) NoClaim)
+    by_case true e =
         let low : i < top = grind (arith, nat_tests) in
         typed-splits (HasType S G (Sort i)) NoClaim (Sort (i + 1)) (has_type typed (sort i ctx low) (omega arith))
-    go false e = tt
+    by_case false e = tt
 
 -- the sort of a product, from those of its parts
 product-type : {S : Signature} {G : Context} {a b i j : Term} → IsTyped S → HasUniverse S G a i → HasUniverse S (a ∷ G) b j
@@ -122,11 +122,11 @@ codomain-sort ctx (has_sort i d) levels e = (i, d)
 function_type-sound : (S : Signature) → IsTyped S → (G : Context) (a b c : Term) (i : ℕ) → IsContext S G → Has S G a (Sort i) → HasType S (a ∷ G) b c
     → IfOk (function_type G a c) (Splits (HasType S G (Lam a b)) NoClaim)
 unfolding NoClaim
-function_type-sound S typed G a b c i ctx ha hb = go (is_top c) refl
+function_type-sound S typed G a b c i ctx ha hb = by_case (is_top c) refl
   where
-    go : (t : Bool) → is_top c ≡ t → IfOk (cond t (denied G LevelTooHigh) (of_type (Pi a c))) (Splits (HasType S G (Lam a b)) NoClaim)
-    go true e = tt
-    go false e =
+    by_case : (t : Bool) → is_top c ≡ t → IfOk (cond t (denied G LevelTooHigh) (of_type (Pi a c))) (Splits (HasType S G (Lam a b)) NoClaim)
+    by_case true e = tt
+    by_case false e =
         let s = codomain-sort (bind i ctx ha) hb.is_type hb.levels e in
         typed-splits (HasType S G (Lam a b)) NoClaim (Pi a c)
         (has_type typed (function i s.0 ha hb.derivation s.1) (levels-of ha, hb.levels))

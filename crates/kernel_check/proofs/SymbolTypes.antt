@@ -16,12 +16,12 @@ use Rattle.kernel_check.specs.Symbols.{type_in, symbol_type}
 -- where a test passes in a list, there is an element that passes it
 any-at : {X : Type 0} (p : X → Bool) (xs : List X) → list_any p xs ≡ true → (n : ℕ) × (x : X) × (slice_get xs n ≡ Some x) × (p x ≡ true)
 any-at p [] h = absurd (grind arith)
-any-at {X} p (x ∷ xs) h = go (p x) refl (any-at p xs)
+any-at {X} p (x ∷ xs) h = by_case (p x) refl (any-at p xs)
   where
-    go : (b : Bool) → p x ≡ b → (list_any p xs ≡ true → (n : ℕ) × (y : X) × (slice_get xs n ≡ Some y) × (p y ≡ true))
+    by_case : (b : Bool) → p x ≡ b → (list_any p xs ≡ true → (n : ℕ) × (y : X) × (slice_get xs n ≡ Some y) × (p y ≡ true))
         → (n : ℕ) × (y : X) × (slice_get (x ∷ xs) n ≡ Some y) × (p y ≡ true)
-    go true e behind = (zero, x, refl, e)
-    go false e behind =
+    by_case true e behind = (zero, x, refl, e)
+    by_case false e behind =
         let rest = behind (grind arith) in
         (suc rest.0, rest.1, rest.2, rest.3)
 

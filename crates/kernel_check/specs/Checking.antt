@@ -33,13 +33,13 @@ typed made = yes_of (bounded made)
 abbrev pub denied : Context → Reason → Result Verdict Stop
 denied G reason = Ok (No (record { place = []; ctx = reverse G; reason = reason }))
 
--- `go` on with the type, unless there is a denial
+-- `next` goes on with the type, unless there is a denial
 abbrev pub on_verdict : Verdict → ℕ → (Term → ℕ → Spent Verdict) → Spent Verdict
-on_verdict (Yes type) left go = go type left
-on_verdict (No denial) left go = answered (Ok (No denial)) left
+on_verdict (Yes type) left next = next type left
+on_verdict (No denial) left next = answered (Ok (No denial)) left
 
 abbrev pub if_typed : Spent Verdict → (Term → ℕ → Spent Verdict) → Spent Verdict
-if_typed first go = and_next first (λ verdict left. on_verdict verdict left go)
+if_typed first next = and_next first (λ verdict left. on_verdict verdict left next)
 
 -- what is denied in a child has its place behind the number of the child
 abbrev pub denial_behind : ℕ → Denial → Denial

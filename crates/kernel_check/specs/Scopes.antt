@@ -9,10 +9,6 @@ use Rattle.core_terms.specs.Bounds.{most_height}
 use Rattle.kernel_reduce.specs.Reduction.{most_variables, nesting}
 use Rattle.kernel_check.specs.declared.scope.Scope.{Scope, Given, Under'}
 
--- 2 ^ 31: a context that is given has fewer types
-abbrev pub context_limit : ℕ
-context_limit = 2147483648
-
 abbrev pub scope_of : Scope → Context
 scope_of (Given types) = context_behind [] (tele_of types.now)
 scope_of (Under' a p outer) = tree_of a.now ∷ scope_of outer

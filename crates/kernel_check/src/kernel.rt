@@ -1,8 +1,8 @@
-ghost use Rattle.std.specs.Prelude.{◌≡◌, ◌≤◌, ◌<◌, ◌+◌, ℕ, true, false, [], length, IfOk, IsTrue};
+ghost use Rattle.std.specs.Prelude.{◌≡◌, ◌≤◌, ◌+◌, ℕ, true, false, [], ◌∷◌, length, IfOk, IsTrue};
 ghost use Rattle.theory.specs.Conversion.{Below, Converts};
 ghost use Rattle.theory.specs.Telescopes.{context_behind};
 ghost use Rattle.theory.specs.Terms as tree;
-ghost use Rattle.theory.specs.SignatureScopes.{IsScoped, IsScopedSignature, IsScopedTelescope};
+ghost use Rattle.theory.specs.SignatureScopes.{IsScoped, IsScopedSignature};
 ghost use Rattle.theory.specs.Typing.{IsContext, IsType};
 ghost use Rattle.theory.specs.WellFormed.{IsTyped};
 ghost use Rattle.core_terms.specs.Answers.{Runs};
@@ -10,11 +10,11 @@ ghost use Rattle.core_terms.specs.Bounds.{most_height};
 ghost use Rattle.core_terms.specs.Meanings.{tree_of, tele_of, verdict_of};
 ghost use Rattle.kernel_reduce.specs.Comparison.{convertible_of, subtype_of};
 ghost use Rattle.kernel_reduce.specs.Laws.{IsHeadForm};
-ghost use Rattle.kernel_reduce.specs.Reduction.{most_variables, nesting, normal_of, whnf_of};
+ghost use Rattle.kernel_reduce.specs.Reduction.{nesting, normal_of, whnf_of};
 ghost use Rattle.kernel_reduce.specs.Tidying.{tidy_of};
+ghost use Rattle.kernel_reduce.specs.WellScoped.{AreWellScoped, CanReduce};
 ghost use Rattle.kernel_check.specs.Checking.{check_of, infer_of, infer_sort_of};
 ghost use Rattle.kernel_check.specs.Laws.{AreBothLow, HasType, HasUniverse, HasWanted, IfYes, IsScopedVerdict, IsSort};
-ghost use Rattle.kernel_check.specs.Scopes.{context_limit};
 
 use core_sig::Signature;
 use core_terms::{Stop, Tele, Term, Units, Verdict};
@@ -23,7 +23,8 @@ use std::marker::Model;
 
 /// What terms are reduced, compared and checked with: where memory comes from, a scoped signature, and units.
 ///
-/// Each call is the one of its name on trees, over this signature and with these units.
+/// Each call is the one of its name on trees, over this signature and with these units, with the same errors. After an error the
+/// units are those that the call left, and the kernel can be asked again.
 pub struct Kernel<'a> {
     alloc: Global,
     sig: &'a Signature,
@@ -52,11 +53,6 @@ impl<'a> Kernel<'a> {
         Kernel { alloc, sig, units }
     }
 
-    /// Where memory comes from.
-    pub fn alloc(&self) -> Global {
-        self.alloc
-    }
-
     /// The signature.
     pub fn sig(&self) -> &'a Signature
         ensures signature { result.now ≡ self.now.signature }
@@ -75,7 +71,7 @@ impl<'a> Kernel<'a> {
 
     /// The head form of a term: head steps until there is none.
     pub fn whnf(&mut self, t: &Term) -> Result<Term, Stop>
-        requires scoped { IsScoped self.old.signature most_variables (tree_of t.now) }
+        requires { CanReduce self.old.signature (tree_of t.now ∷ []) }
         ensures answer { Runs tree_of result self.new.left (whnf_of self.old.signature true self.old.left (tree_of t.now)) }
         ensures same { self.new.signature ≡ self.old.signature }
         ensures sum { self.new.left + self.new.spent ≡ self.old.left + self.old.spent }
@@ -88,7 +84,7 @@ impl<'a> Kernel<'a> {
 
     /// The head form of a term without delta.
     pub fn tidy(&mut self, t: &Term) -> Result<Term, Stop>
-        requires scoped { IsScoped self.old.signature most_variables (tree_of t.now) }
+        requires { CanReduce self.old.signature (tree_of t.now ∷ []) }
         ensures answer { Runs tree_of result self.new.left (tidy_of self.old.signature self.old.left (tree_of t.now)) }
         ensures same { self.new.signature ≡ self.old.signature }
         ensures sum { self.new.left + self.new.spent ≡ self.old.left + self.old.spent }
@@ -101,7 +97,7 @@ impl<'a> Kernel<'a> {
 
     /// The normal form of a term. Without `delta` constants take no step.
     pub fn normal(&mut self, t: &Term, delta: bool) -> Result<Term, Stop>
-        requires scoped { IsScoped self.old.signature most_variables (tree_of t.now) }
+        requires { CanReduce self.old.signature (tree_of t.now ∷ []) }
         ensures answer { Runs tree_of result self.new.left (normal_of self.old.signature delta nesting (tree_of t.now) self.old.left) }
         ensures same { self.new.signature ≡ self.old.signature }
         ensures sum { self.new.left + self.new.spent ≡ self.old.left + self.old.spent }
@@ -115,8 +111,7 @@ impl<'a> Kernel<'a> {
 
     /// Whether two terms are found convertible.
     pub fn convertible(&mut self, a: &Term, b: &Term) -> Result<bool, Stop>
-        requires a { IsScoped self.old.signature most_variables (tree_of a.now) }
-        requires b { IsScoped self.old.signature most_variables (tree_of b.now) }
+        requires { CanReduce self.old.signature (tree_of a.now ∷ tree_of b.now ∷ []) }
         ensures answer { Runs (λ holds. holds) result self.new.left (convertible_of self.old.signature nesting (tree_of a.now) (tree_of b.now) self.old.left) }
         ensures same { self.new.signature ≡ self.old.signature }
         ensures sum { self.new.left + self.new.spent ≡ self.old.left + self.old.spent }
@@ -128,8 +123,7 @@ impl<'a> Kernel<'a> {
 
     /// Whether the first term is found below the second one.
     pub fn subtype(&mut self, a: &Term, b: &Term) -> Result<bool, Stop>
-        requires a { IsScoped self.old.signature most_variables (tree_of a.now) }
-        requires b { IsScoped self.old.signature most_variables (tree_of b.now) }
+        requires { CanReduce self.old.signature (tree_of a.now ∷ tree_of b.now ∷ []) }
         ensures answer { Runs (λ holds. holds) result self.new.left (subtype_of self.old.signature nesting (tree_of a.now) (tree_of b.now) self.old.left) }
         ensures same { self.new.signature ≡ self.old.signature }
         ensures sum { self.new.left + self.new.spent ≡ self.old.left + self.old.spent }
@@ -141,9 +135,7 @@ impl<'a> Kernel<'a> {
 
     /// A type of the term in the context, which lists its types from the outermost on.
     pub fn infer(&mut self, ctx: &Tele, t: &Term) -> Result<Verdict, Stop>
-        requires context { IsScopedTelescope self.old.signature 0 (tele_of ctx.now) }
-        requires few { length ctx.now < context_limit }
-        requires term { IsScoped self.old.signature (length ctx.now) (tree_of t.now) }
+        requires { AreWellScoped self.old.signature (tele_of ctx.now) (tree_of t.now ∷ []) }
         ensures answer { Runs verdict_of result self.new.left (infer_of self.old.signature nesting (context_behind [] (tele_of ctx.now)) (tree_of t.now) self.old.left) }
         ensures same { self.new.signature ≡ self.old.signature }
         ensures sum { self.new.left + self.new.spent ≡ self.old.left + self.old.spent }
@@ -157,9 +149,7 @@ impl<'a> Kernel<'a> {
 
     /// The sort of the type `t` in the context. A Yes holds a sort.
     pub fn infer_sort(&mut self, ctx: &Tele, t: &Term) -> Result<Verdict, Stop>
-        requires context { IsScopedTelescope self.old.signature 0 (tele_of ctx.now) }
-        requires few { length ctx.now < context_limit }
-        requires term { IsScoped self.old.signature (length ctx.now) (tree_of t.now) }
+        requires { AreWellScoped self.old.signature (tele_of ctx.now) (tree_of t.now ∷ []) }
         ensures answer { Runs verdict_of result self.new.left (infer_sort_of self.old.signature nesting (context_behind [] (tele_of ctx.now)) (tree_of t.now) self.old.left) }
         ensures same { self.new.signature ≡ self.old.signature }
         ensures sum { self.new.left + self.new.spent ≡ self.old.left + self.old.spent }
@@ -174,10 +164,7 @@ impl<'a> Kernel<'a> {
 
     /// Whether the term has the type `wanted` in the context. A Yes holds the type that was inferred.
     pub fn check(&mut self, ctx: &Tele, t: &Term, wanted: &Term) -> Result<Verdict, Stop>
-        requires context { IsScopedTelescope self.old.signature 0 (tele_of ctx.now) }
-        requires few { length ctx.now < context_limit }
-        requires term { IsScoped self.old.signature (length ctx.now) (tree_of t.now) }
-        requires wanted { IsScoped self.old.signature (length ctx.now) (tree_of wanted.now) }
+        requires { AreWellScoped self.old.signature (tele_of ctx.now) (tree_of t.now ∷ tree_of wanted.now ∷ []) }
         ensures answer { Runs verdict_of result self.new.left (check_of self.old.signature nesting (context_behind [] (tele_of ctx.now)) (tree_of t.now) (tree_of wanted.now) self.old.left) }
         ensures same { self.new.signature ≡ self.old.signature }
         ensures sum { self.new.left + self.new.spent ≡ self.old.left + self.old.spent }

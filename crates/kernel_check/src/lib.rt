@@ -1,4 +1,7 @@
 //! The checker of terms, with units.
+//!
+//! Every call has one condition: its terms are well scoped in its context (`AreWellScoped` of `kernel_reduce`). What a call
+//! answers is one more such term, by `proofs/WellScoped`.
 #![tactic(auto)]
 
 mod axiom_k;

@@ -5,14 +5,14 @@ ghost use Rattle.kernel_check.specs.Scopes.{AreLow, scope_of};
 ghost use Rattle.std.specs.Prelude.{Ok};
 
 use crate::scope::{Scope, copy_scope};
-use core_terms::{Denial, Items, Reason, Stop, Term, Verdict, bounded};
+use core_terms::{Denial, Items, Reason, Stop, Term, Verdict, checked};
 use std::alloc::Global;
 
 /// A term that was made is the type, or Deep.
 pub(crate) fn typed(made: Term) -> Result<Verdict, Stop>
     ensures { Gives verdict_of result (checking.typed (tree_of made)) }
 {
-    Ok(Verdict::Yes(bounded(made)?))
+    Ok(Verdict::Yes(checked(made)?))
 }
 
 /// The term itself is denied.

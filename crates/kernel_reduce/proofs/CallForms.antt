@@ -2,13 +2,13 @@
 use Rattle.std.proofs.Common.{◌≡◌, ℕ, zero, suc, ◌+◌, ◌-◌, ◌<◌, ◌≤◌, min, Bool, true, false, cond, nat_lt, nat_le, List, [], ◌∷◌, ◌++◌, length, get_or, take, drop, map, refl, sym, ap, ap₂, ◌∙◌, subst as transport, arith}
 use mathlib.Core.Path.{fun_ext}
 use Rattle.std.proofs.lemmas.Bool.Decides.{nat_tests}
-use Rattle.std.proofs.lemmas.List.{length-append, length-drop, map-append, length-map}
+use Rattle.std.proofs.lemmas.List.{length-append, length-drop, map-append}
 use Rattle.std.proofs.lemmas.List.Elements.{All-take}
 use Rattle.std.specs.List.{All}
 use Rattle.std.proofs.Math.Seq.{take-suc, drop-cons}
 use Rattle.theory.specs.Terms.{Term, lift}
 use Rattle.theory.specs.Terms.Term.{Var, Sort, Pi, Lam, App, Let, Const, Fam, Con, Elim, AxiomK}
-use Rattle.theory.specs.Substitutions.{weaken, ups, inst, extend, fill}
+use Rattle.theory.specs.Substitutions.{weaken, inst, extend, fill}
 use Rattle.theory.specs.Telescopes.{applied, variables}
 use Rattle.theory.specs.Spines.{spine_of}
 use Rattle.theory.specs.Eliminators.{hypothesis, hypotheses, no_variable}
@@ -19,10 +19,10 @@ use Rattle.core_sig.specs.Meanings.{domains, behind, argument_with, argument_of}
 use Rattle.core_sig.specs.declared.family.Arg.{Arg}
 use Rattle.core_sig.specs.declared.family.ArgKind.{ArgKind}
 use Rattle.core_sig.specs.declared.family.ArgKind.TheVariants as kind
-use Rattle.kernel_reduce.specs.Making.{under_binders, instance_of}
+use Rattle.core_terms.specs.Instances.{under_binders, instance_of}
 use Rattle.kernel_reduce.specs.Calls.{call_of, recursive_call_of, hypothesis_of, hypothesis_before, hypotheses_of}
 use Rattle.core_terms.proofs.Builders.{applied-push}
-use Rattle.kernel_reduce.proofs.InstanceUnder.{weaken-lifted, ups-under, instance-is_inst, value-at}
+use Rattle.core_terms.proofs.Instances.{weaken-lifted, instance-is_inst, ups-path, under-none-path}
 
 drop-all : {A : Type 0} (xs : List A) (n : ℕ) → length xs ≤ n → drop n xs ≡ []
 drop-all [] zero h = refl
@@ -38,20 +38,20 @@ drop-snoc (x ∷ xs) a (suc n) h = drop-snoc xs a n (omega arith)
 -- the targets behind p arguments
 pub call-is : (values : List Term) (p : ℕ) (recursor : Term) (under : ℕ) (t : Term) → p ≤ 2000
     → call_of values p recursor under t ≡ applied (lift recursor under 0) (map (instance_of values under) (drop p (spine_of t)))
-call-is values p recursor under (App f a) few = go (nat_le p (min (length (spine_of f)) 2001)) refl (call-is values p recursor under f few)
+call-is values p recursor under (App f a) few = by_case (nat_le p (min (length (spine_of f)) 2001)) refl (call-is values p recursor under f few)
   where
-    go : (b : Bool) → nat_le p (min (length (spine_of f)) 2001) ≡ b
+    by_case : (b : Bool) → nat_le p (min (length (spine_of f)) 2001) ≡ b
         → call_of values p recursor under f ≡ applied (lift recursor under 0) (map (instance_of values under) (drop p (spine_of f)))
         → cond b (App (call_of values p recursor under f) (instance_of values under a)) (lift recursor under 0)
         ≡ applied (lift recursor under 0) (map (instance_of values under) (drop p (spine_of f ++ a ∷ [])))
-    go true e inner =
+    by_case true e inner =
         let within : p ≤ length (spine_of f) = grind (arith, nat_tests) in
         ap (λ g. App g (instance_of values under a)) inner
         ∙ (sym (applied-push (lift recursor under 0) (map (instance_of values under) (drop p (spine_of f))) (instance_of values under a))
         ∙ ap (applied (lift recursor under 0))
         (sym (map-append (instance_of values under) (drop p (spine_of f)) (a ∷ []))
         ∙ ap (map (instance_of values under)) (sym (drop-snoc (spine_of f) a p within))))
-    go false e inner =
+    by_case false e inner =
         let past : suc (length (spine_of f)) ≤ p = grind (arith, nat_tests) in
         ap (λ us. applied (lift recursor under 0) (map (instance_of values under) us))
         (sym (drop-all (spine_of f ++ a ∷ []) p (omega (arith, length-append (spine_of f) (a ∷ [])))))
@@ -75,9 +75,6 @@ argument-under : (r : Term) (k : ℕ) → App (weaken (applied (lift r k 0) (var
 argument-under r k =
     ap (λ x. App x (Var 0)) (weaken-applied (lift r k 0) (variables k))
     ∙ (ap (λ h. App (applied h (map weaken (variables k))) (Var 0)) (weaken-lifted r k) ∙ weaken-variables (lift r (k + 1) 0) k)
-
-ups-path : (k : ℕ) (s : ℕ → Term) → ups (under_binders k s) ≡ under_binders (k + 1) s
-ups-path k s = fun_ext (ups-under k s)
 
 map-same : (f g : Term → Term) (us : List Term) → ((u : Term) → f u ≡ g u) → map f us ≡ map g us
 map-same f g [] h = refl
@@ -128,17 +125,6 @@ hypothesis-under values p recursor r zero under (Elim f m) few = recursive_call-
 hypothesis-under values p recursor r (suc inner) under (Elim f m) few = recursive_call-is values p recursor r under (Elim f m) few
 hypothesis-under values p recursor r zero under (AxiomK i m) few = recursive_call-is values p recursor r under (AxiomK i m) few
 hypothesis-under values p recursor r (suc inner) under (AxiomK i m) few = recursive_call-is values p recursor r under (AxiomK i m) few
-
-under-no_binder : (s : ℕ → Term) (n : ℕ) → under_binders 0 s n ≡ s n
-unfolding under_binders
-under-no_binder s n = go (nat_lt n 0) refl
-  where
-    go : (b : Bool) → nat_lt n 0 ≡ b → cond b (Var n) (lift (s (n - 0)) 0 0) ≡ s n
-    go true e = absurd (grind (arith, nat_tests))
-    go false e = lift_by_none (s (n - 0)) 0 ∙ ap s (omega arith)
-
-under-none-path : (s : ℕ → Term) → under_binders 0 s ≡ s
-under-none-path s = fun_ext (under-no_binder s)
 
 pub hypothesis-is : (values : List Term) (p : ℕ) (recursor r : Term) (inner : ℕ) (t : Term) → p ≤ 2000
     → hypothesis_of values p recursor r inner 0 t ≡ hypothesis (fill no_variable values) recursor r (domains inner t) (drop p (spine_of (behind inner t)))
@@ -206,10 +192,6 @@ value-there (v ∷ values) (suc k) r d low e = value-there values k r d (omega a
 
 pub first-values : (P : Term → Type 0) (values : List code.Term) (k : ℕ) → All P (tele_of values) → All P (tele_of (take k values))
 first-values P values k h = transport (All P) (sym (tele_take k values)) (All-take P k (tele_of values) h)
-
-pub value-has : (P : Term → Type 0) (values : List code.Term) (k : ℕ) (r : code.Term) → k < length values → r ≡ get_or values k r → All P (tele_of values) → P (tree_of r)
-value-has P values k r low e h =
-    transport P (value-at values k r low e) (h k (tree_of r) (transport (λ n. k < n) (sym (length-map values tree_of)) low))
 
 pub hypothesis-values : (values : List code.Term) (p : ℕ) (recursor : Term) (known : ℕ) (r : code.Term) (inner : ℕ) (t : Term) → known < length values → r ≡ get_or values known r
     → hypothesis_of (tele_of (take known values)) p recursor (tree_of r) inner 0 t ≡ hypothesis_of (take known (tele_of values)) p recursor (get_or (tele_of values) known (Sort 0)) inner 0 t

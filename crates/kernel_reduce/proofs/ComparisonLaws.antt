@@ -24,11 +24,11 @@ abbrev Shows : Type 0 → Bool → Type 0
 Shows P holds = IsTrue holds → P
 
 pub same-tells : (a b : Term) → same a b ≡ true → a ≡ b
-same-tells a b h = go (Term-discrete ℕ_discrete a b) h
+same-tells a b h = by_case (Term-discrete ℕ_discrete a b) h
   where
-    go : (d : Dec (a ≡ b)) → (elim d [ yes e ↦ true | no e ↦ false ]) ≡ true → a ≡ b
-    go (yes e) h = e
-    go (no e) h = absurd (grind arith)
+    by_case : (d : Dec (a ≡ b)) → (elim d [ yes e ↦ true | no e ↦ false ]) ≡ true → a ≡ b
+    by_case (yes e) h = e
+    by_case (no e) h = absurd (grind arith)
 
 converts-from : {S : Signature} {a b : Term} → a ≡ b → Converts S a b
 converts-from {S} {a} {b} e = transport (λ x. Converts S a x) e unchanged
@@ -48,11 +48,11 @@ both-show P Q first second left h k =
     and_next-has (Shows P) (Shows (P × Q)) (first left) _ (h left) (λ holds rest p. second_if-shows P Q holds second rest p k)
 
 weaker : {P Q : Type 0} (r : Spent Bool) → (P → Q) → Answers (Shows P) r → Answers (Shows Q) r
-weaker {P} {Q} r f h = go r.0 h
+weaker {P} {Q} r f h = by_case r.0 h
   where
-    go : (x : Result Bool Stop) → IfOk x (Shows P) → IfOk x (Shows Q)
-    go (Ok b) k = λ t. f (k t)
-    go (Err e) k = tt
+    by_case : (x : Result Bool Stop) → IfOk x (Shows P) → IfOk x (Shows Q)
+    by_case (Ok b) k = λ t. f (k t)
+    by_case (Err e) k = tt
 
 -- both-show at a former that keeps P and Q
 children-show : {P Q R : Type 0} (first second : ℕ → Spent Bool) (left : ℕ) → (P → Q → R) → ((rest : ℕ) → Answers (Shows P) (first rest))
@@ -95,11 +95,11 @@ heads-convert S compare h _ _ left = λ t. absurd (grind arith)
 
 unless_same-show : (S : Signature) (a b : Term) (compare : ℕ → Spent Bool) (left : ℕ) → Answers (Shows (Converts S a b)) (compare left)
     → Answers (Shows (Converts S a b)) (unless_same (same a b) compare left)
-unless_same-show S a b compare left h = go (same a b) refl
+unless_same-show S a b compare left h = by_case (same a b) refl
   where
-    go : (t : Bool) → same a b ≡ t → Answers (Shows (Converts S a b)) (unless_same t compare left)
-    go true e = λ t. converts-from (same-tells a b e)
-    go false e = h
+    by_case : (t : Bool) → same a b ≡ t → Answers (Shows (Converts S a b)) (unless_same t compare left)
+    by_case true e = λ t. converts-from (same-tells a b e)
+    by_case false e = h
 
 -- terms that are found convertible convert
 pub convertible-converts : ConvertibleConverts

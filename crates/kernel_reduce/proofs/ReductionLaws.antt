@@ -17,11 +17,11 @@ use Rattle.kernel_reduce.proofs.Answers.{charge-has, if_low-has, charge-spends, 
 use Rattle.kernel_reduce.proofs.StepLaws.{step-steps}
 
 pub some_bounded-has : (P : Term → Type 0) (t : Term) → P t → IfOk (some_bounded t) (λ next. IfSome next P)
-some_bounded-has P t h = go (is_low t)
+some_bounded-has P t h = by_case (is_low t)
   where
-    go : (b : Bool) → IfOk {E = Stop} (cond b (Ok (Some t)) (Err Deep)) (λ next. IfSome next P)
-    go true = h
-    go false = tt
+    by_case : (b : Bool) → IfOk {E = Stop} (cond b (Ok (Some t)) (Err Deep)) (λ next. IfSome next P)
+    by_case true = h
+    by_case false = tt
 
 step_taken-has : (P : Term → Type 0) (step : Option Term) (left : ℕ) → IfSome step P → Answers (λ next. IfSome next P) (step_taken step left)
 step_taken-has P None left h = tt
@@ -33,11 +33,11 @@ head_step-is_step S delta t left =
     if_low-has _ (is_low t) _ left (λ low. step_taken-has (Step S t) (step_of S delta t) left (step-steps S delta t))
 
 bounded-low : (t : Term) → IfOk (some_bounded t) (λ next. IfSome next (λ u. height u ≤ 2000))
-bounded-low t = go (is_low t) refl
+bounded-low t = by_case (is_low t) refl
   where
-    go : (b : Bool) → is_low t ≡ b → IfOk {E = Stop} (cond b (Ok (Some t)) (Err Deep)) (λ next. IfSome next (λ u. height u ≤ 2000))
-    go true low = low-is t low
-    go false high = tt
+    by_case : (b : Bool) → is_low t ≡ b → IfOk {E = Stop} (cond b (Ok (Some t)) (Err Deep)) (λ next. IfSome next (λ u. height u ≤ 2000))
+    by_case true low = low-is t low
+    by_case false high = tt
 
 step_taken-low : (step : Option Term) (left : ℕ) → Answers (λ next. IfSome next (λ u. height u ≤ 2000)) (step_taken step left)
 step_taken-low None left = tt
@@ -55,10 +55,10 @@ without_units-has : (S : Signature) (delta : Bool) (t : Term) (step : Option Ter
 without_units-has S delta t None e low = head_form e low
 without_units-has S delta t (Some u) e low = tt
 
-with_unit-has : (S : Signature) (delta : Bool) (t : Term) (left : ℕ) (go : Term → Spent Term) (step : Option Term) → step_of S delta t ≡ step → is_low t ≡ true
-    → ((u : Term) → Answers (IsHeadForm S delta u) (go u)) → Answers (IsHeadForm S delta t) (with_unit t left go step)
-with_unit-has S delta t left go None e low h = head_form e low
-with_unit-has S delta t left go (Some u) e low h = behind (go u).0 (h u)
+with_unit-has : (S : Signature) (delta : Bool) (t : Term) (left : ℕ) (next : Term → Spent Term) (step : Option Term) → step_of S delta t ≡ step → is_low t ≡ true
+    → ((u : Term) → Answers (IsHeadForm S delta u) (next u)) → Answers (IsHeadForm S delta t) (with_unit t left next step)
+with_unit-has S delta t left next None e low h = head_form e low
+with_unit-has S delta t left next (Some u) e low h = behind (next u).0 (h u)
   where
     first : Step S t u
     first = transport (λ o. IfSome o (Step S t)) e (step-steps S delta t)
@@ -122,9 +122,9 @@ without_units-spends : (t : Term) (step : Option Term) → (without_units t step
 without_units-spends t None = omega arith
 without_units-spends t (Some u) = omega arith
 
-with_unit-spends : (t : Term) (left : ℕ) (go : Term → Spent Term) (step : Option Term) → ((u : Term) → (go u).1 ≤ left) → (with_unit t left go step).1 ≤ suc left
-with_unit-spends t left go None h = omega arith
-with_unit-spends t left go (Some u) h = let k = h u in omega arith
+with_unit-spends : (t : Term) (left : ℕ) (next : Term → Spent Term) (step : Option Term) → ((u : Term) → (next u).1 ≤ left) → (with_unit t left next step).1 ≤ suc left
+with_unit-spends t left next None h = omega arith
+with_unit-spends t left next (Some u) h = let k = h u in omega arith
 
 pub whnf-spends : WhnfSpends
 whnf-spends S delta zero t = if_low-spends (is_low t) _ zero (without_units-spends t (step_of S delta t))

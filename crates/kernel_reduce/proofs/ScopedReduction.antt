@@ -42,11 +42,11 @@ iota-step-scoped S k n m f args (Var x) us scoped at ha hu = tt
 iota-step-scoped S k n m f args _ us scoped at ha hu = tt
 
 found-scoped : (S : Signature) (k : ℕ) (us : List Term) (n : ℕ) → All (IsScoped S k) us → IfSome (slice_get us n) (IsScoped S k)
-found-scoped S k us n h = go (slice_get us n) refl
+found-scoped S k us n h = by_case (slice_get us n) refl
   where
-    go : (o : Option Term) → slice_get us n ≡ o → IfSome o (IsScoped S k)
-    go None e = tt
-    go (Some u) e = All-at (IsScoped S k) us n u e h
+    by_case : (o : Option Term) → slice_get us n ≡ o → IfSome o (IsScoped S k)
+    by_case None e = tt
+    by_case (Some u) e = All-at (IsScoped S k) us n u e h
 
 k_step-scoped : (S : Signature) (k i : ℕ) (args : List Term) (h : Term) (us : List Term) → All (IsScoped S k) args → IfSome (k_step i args h us) (IsScoped S k)
 k_step-scoped S k i args (Con g number) us ha =
@@ -88,11 +88,11 @@ application-scoped S k f u None inner scoped hf hu ho hi =
 
 body-scoped : (S : Signature) (k n : ℕ) (allowed : Bool) → IsScopedSignature S → IfSome (cond allowed (body_at S n) None) (IsScoped S k)
 body-scoped S k n false scoped = tt
-body-scoped S k n true scoped = go (body_at S n) refl
+body-scoped S k n true scoped = by_case (body_at S n) refl
   where
-    go : (o : Option Term) → body_at S n ≡ o → IfSome o (IsScoped S k)
-    go None e = tt
-    go (Some body) e =
+    by_case : (o : Option Term) → body_at S n ≡ o → IfSome o (IsScoped S k)
+    by_case None e = tt
+    by_case (Some body) e =
         let found = body-in n (slice_get S.entries n) body e in
         scoped_over_more S 0 k body (omega arith) (bodies-scoped S n found.0 found.1 body scoped found.2)
 
@@ -110,10 +110,10 @@ without_units-scoped : (S : Signature) (k : ℕ) (t : Term) (step : Option Term)
 without_units-scoped S k t None h = h
 without_units-scoped S k t (Some u) h = tt
 
-with_unit-scoped : (S : Signature) (k : ℕ) (t : Term) (left : ℕ) (go : Term → Spent Term) (step : Option Term) → IsScoped S k t → IfSome step (IsScoped S k)
-    → ((u : Term) → IsScoped S k u → Answers (IsScoped S k) (go u)) → Answers (IsScoped S k) (with_unit t left go step)
-with_unit-scoped S k t left go None h hs next = h
-with_unit-scoped S k t left go (Some u) h hs next = next u hs
+with_unit-scoped : (S : Signature) (k : ℕ) (t : Term) (left : ℕ) (next : Term → Spent Term) (step : Option Term) → IsScoped S k t → IfSome step (IsScoped S k)
+    → ((u : Term) → IsScoped S k u → Answers (IsScoped S k) (next u)) → Answers (IsScoped S k) (with_unit t left next step)
+with_unit-scoped S k t left next None h hs answers = h
+with_unit-scoped S k t left next (Some u) h hs answers = answers u hs
 
 pub whnf-scoped : WhnfScoped
 whnf-scoped S delta zero k t scoped h =
@@ -134,17 +134,17 @@ with_children-scoped S k i j form first second left makes h l =
 
 children-scoped : (S : Signature) (normal : Term → ℕ → Spent Term) (k : ℕ) (u : Term) (left : ℕ) → IsScoped S k u
     → ((i : ℕ) (t : Term) (rest : ℕ) → IsScoped S i t → Answers (IsScoped S i) (normal t rest)) → Answers (IsScoped S k) (normal_children normal u left)
-children-scoped S normal k (Pi a b) left h go =
+children-scoped S normal k (Pi a b) left h next =
     let parts = scoped-pi h in
-    with_children-scoped S k k (k + 1) Pi (normal a) (normal b) left (λ c d. pi-scoped) (λ rest. go k a rest parts.0) (λ rest. go (k + 1) b rest parts.1)
-children-scoped S normal k (Lam a b) left h go =
+    with_children-scoped S k k (k + 1) Pi (normal a) (normal b) left (λ c d. pi-scoped) (λ rest. next k a rest parts.0) (λ rest. next (k + 1) b rest parts.1)
+children-scoped S normal k (Lam a b) left h next =
     let parts = scoped-lam h in
-    with_children-scoped S k k (k + 1) Lam (normal a) (normal b) left (λ c d. lam-scoped) (λ rest. go k a rest parts.0) (λ rest. go (k + 1) b rest parts.1)
-children-scoped S normal k (App a b) left h go =
+    with_children-scoped S k k (k + 1) Lam (normal a) (normal b) left (λ c d. lam-scoped) (λ rest. next k a rest parts.0) (λ rest. next (k + 1) b rest parts.1)
+children-scoped S normal k (App a b) left h next =
     let parts = scoped-app h in
-    with_children-scoped S k k k App (normal a) (normal b) left (λ c d. app-scoped) (λ rest. go k a rest parts.0) (λ rest. go k b rest parts.1)
-children-scoped S normal k (Var x) left h go = h
-children-scoped S normal k _ left h go = h
+    with_children-scoped S k k k App (normal a) (normal b) left (λ c d. app-scoped) (λ rest. next k a rest parts.0) (λ rest. next k b rest parts.1)
+children-scoped S normal k (Var x) left h next = h
+children-scoped S normal k _ left h next = h
 
 pub normal-scoped : NormalScoped
 normal-scoped S delta zero k t left scoped h = tt

@@ -1,5 +1,5 @@
 -- A spine has fewer arguments than its term is high.
-use Rattle.std.proofs.Common.{◌≡◌, ◌+◌, ◌≤◌, List, [], ◌∷◌, ◌++◌, length, arith}
+use Rattle.std.proofs.Common.{◌+◌, ◌≤◌, [], ◌∷◌, length, arith}
 use Rattle.std.proofs.lemmas.List.{length-append}
 use Rattle.theory.specs.Terms.{Term, height}
 use Rattle.theory.specs.Terms.Term.{App}

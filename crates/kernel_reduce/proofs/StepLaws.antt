@@ -38,11 +38,11 @@ body-in n (Some (FamilyOf f)) body e = absurd (grind arith)
 body-in n (Some (EliminatorAt m k)) body e = absurd (grind arith)
 body-in n (Some (AxiomKAt i m)) body e = absurd (grind arith)
 body-in n None body e = absurd (grind arith)
-body-in n (Some (Definition name type t)) body e = go (is_constant n t) refl e
+body-in n (Some (Definition name type t)) body e = by_case (is_constant n t) refl e
   where
-    go : (b : Bool) → is_constant n t ≡ b → cond b None (Some t) ≡ Some body → (name' : List ℕ) × (type' : Term) × (Some (Definition name type t) ≡ Some (Definition name' type' body)) × (is_constant n body ≡ false)
-    go true test e = absurd (grind arith)
-    go false test e =
+    by_case : (b : Bool) → is_constant n t ≡ b → cond b None (Some t) ≡ Some body → (name' : List ℕ) × (type' : Term) × (Some (Definition name type t) ≡ Some (Definition name' type' body)) × (is_constant n body ≡ false)
+    by_case true test e = absurd (grind arith)
+    by_case false test e =
         let same : t ≡ body = grind arith in
         (name, type, ap (λ x. Some (Definition name type x)) same, transport (λ x. is_constant n x ≡ false) same test)
 
@@ -54,11 +54,11 @@ constant-itself n t test e =
 
 delta-steps : (S : Signature) (n : ℕ) (allowed : Bool) → IfSome (cond allowed (body_at S n) None) (Step S (Const n))
 delta-steps S n false = tt
-delta-steps S n true = go (body_at S n) refl
+delta-steps S n true = by_case (body_at S n) refl
   where
-    go : (o : Option Term) → body_at S n ≡ o → IfSome o (Step S (Const n))
-    go None e = tt
-    go (Some body) e =
+    by_case : (o : Option Term) → body_at S n ≡ o → IfSome o (Step S (Const n))
+    by_case None e = tt
+    by_case (Some body) e =
         let found = body-in n (slice_get S.entries n) body e in
         here (delta_step n found.2 (constant-itself n body found.3))
 

@@ -49,11 +49,11 @@ method-some n m number f c us ps (P ∷ rest) h k =
 
 iota-some : (S : Signature) (n m number : ℕ) (f : Family) (args us : List Term) → fills args (Some f) ≡ true
     → is_some (option_and_then (iota_at n m f args number us) (slice_get f.constructors number)) ≡ family_takes number (length us) (Some f)
-iota-some S n m number f args us full = go (slice_get f.constructors number) refl
+iota-some S n m number f args us full = by_case (slice_get f.constructors number) refl
   where
-    go : (o : Option Constructor) → slice_get f.constructors number ≡ o → is_some (option_and_then (iota_at n m f args number us) o) ≡ constructor_takes (length f.parameters) (length us) o
-    go None e = refl
-    go (Some c) e =
+    by_case : (o : Option Constructor) → slice_get f.constructors number ≡ o → is_some (option_and_then (iota_at n m f args number us) o) ≡ constructor_takes (length f.parameters) (length us) o
+    by_case None e = refl
+    by_case (Some c) e =
         let within = slice_get_within f.constructors number c e in
         let all = (Decides-eqb (length args) (length f.parameters + (1 + (length f.constructors + length f.indices)))).0 full in
         some-cond-test (length us == length f.parameters + length c.arguments) _ (λ test.
@@ -65,11 +65,11 @@ none-test true o answer h = h
 none-test false o answer h = refl
 
 third-there : (args : List Term) → length args ≡ 4 → is_some (slice_get args 3) ≡ true
-third-there args e = go (slice_get args 3) refl
+third-there args e = by_case (slice_get args 3) refl
   where
-    go : (o : Option Term) → slice_get args 3 ≡ o → is_some o ≡ true
-    go (Some x) k = refl
-    go None k = absurd (grind (arith, slice_get-get_or args 3 (Sort 0) (omega arith)))
+    by_case : (o : Option Term) → slice_get args 3 ≡ o → is_some o ≡ true
+    by_case (Some x) k = refl
+    by_case None k = absurd (grind (arith, slice_get-get_or args 3 (Sort 0) (omega arith)))
 
 eliminator-contracts : (S : Signature) (n m : ℕ) (args : List Term) (k : Term) (us : List Term) (o : Option Family) → fills args o ≡ true → family_at S n ≡ o
     → is_some (option_and_then (iota_step n m args k us) o) ≡ meets S (Elim n m) k (length us)

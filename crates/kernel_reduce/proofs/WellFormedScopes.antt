@@ -20,6 +20,7 @@ use Rattle.theory.specs.WellFormed.IsWellFormedSoFar.{whole, with_provisional}
 use Rattle.theory.proofs.Pushing.{cut_to_prefix, push_is_longer}
 use Rattle.theory.proofs.RecordScopes.{records_scoped}
 use Rattle.theory.proofs.WellFormedness.{well_formed_typed, constructor-whole}
+use Rattle.core_sig.proofs.Lists.{all-unmapped}
 use Rattle.kernel_reduce.specs.SignatureLaws.{WellFormedWhole, WellFormedScoped, SoFarScoped}
 use Rattle.kernel_reduce.proofs.DerivationScopes.{entries-before_inst, derivation-entries, typed_term-scoped, products-entries, applied-entries, recursive-entries}
 use Rattle.kernel_reduce.proofs.ScopedSignatures.{pushed-scoped}
@@ -66,11 +67,6 @@ levels-low : {S : Signature} {level : ℕ} {G : Context} {tele : Telescope} {lev
 levels-low none low = All-nil (λ i. i < top)
 levels-low (more {i = i} {levels = levels} d le rest) low = All-cons (λ i. i < top) i levels (omega arith) (levels-low rest low)
 
-of-map : {X : Type 0} (P : ℕ → Type 0) (f : X → ℕ) (xs : List X) → All P (map f xs) → All (λ x. P (f x)) xs
-of-map P f [] h = All-nil (λ x. P (f x))
-of-map P f (x ∷ xs) h =
-    All-cons (λ x. P (f x)) x xs (All-head P (f x) (map f xs) h) (of-map P f xs (All-tail P (f x) (map f xs) h))
-
 constructor-scoped : (S : Signature) (n : ℕ) (f : Family) (c : Constructor) → f.level < top → IsConstructorOver (length f.parameters) c
     → IsConstructor S n f c → IsScopedConstructor S (length f.parameters) (length f.indices) c
 constructor-scoped S n f c low over h =
@@ -106,7 +102,7 @@ family-scoped S h n f at k =
       parameters = telescope-scoped T 0 f.parameters closed.parameters type.0;
       indices = telescope-scoped T (length f.parameters) (index_types f) closed.indices indices.0;
       level = k.level;
-      index_levels = of-map (λ i. i < top) (λ i. i.1) f.indices (levels-low k.indices k.level);
+      index_levels = all-unmapped (λ i. i < top) (λ i. i.1) f.indices (levels-low k.indices k.level);
       constructors =
           transport (λ X. All (IsScopedConstructor X (length f.parameters) (length f.indices)) f.constructors) (through S n (FamilyOf f) at)
           (λ number d low.

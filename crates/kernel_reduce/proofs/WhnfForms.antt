@@ -5,13 +5,12 @@ use Rattle.theory.specs.Terms.{Term, height}
 use Rattle.theory.specs.Signatures.{Signature}
 use Rattle.theory.specs.SignatureScopes.{IsScoped, IsScopedSignature}
 use Rattle.core_terms.specs.Meanings.{tree_of}
-use Rattle.core_terms.specs.Answers.{Spent, bounded, and_next, is_low}
+use Rattle.core_terms.specs.Answers.{Spent, Makes, bounded, and_next, is_low}
 use Rattle.core_terms.specs.declared.stop.Stop.{Stop}
-use Rattle.core_terms.specs.declared.stop.Stop.TheVariants.{Memory, Fuel, Deep}
+use Rattle.core_terms.specs.declared.stop.Stop.TheVariants.{Memory, Deep}
 use Rattle.core_terms.specs.declared.term.Term as code
-use Rattle.kernel_reduce.specs.Making.{Makes}
 use Rattle.kernel_reduce.specs.Steps.{step_of}
-use Rattle.kernel_reduce.specs.Reduction.{answered, if_low, without_units, with_unit, whnf_of, normal_children, normal_of}
+use Rattle.kernel_reduce.specs.Reduction.{answered, if_low, with_unit, whnf_of, normal_children, normal_of}
 use Rattle.kernel_reduce.proofs.ScopedReduction.{step-scoped}
 
 low-true : (t : Term) → height t ≤ 2000 → is_low t ≡ true
@@ -20,13 +19,13 @@ low-true t h = grind (arith, nat_tests)
 low-false : (t : Term) → 2000 < height t → is_low t ≡ false
 low-false t h = grind (arith, nat_tests)
 
-if-low-true : {A : Type 0} (test : Bool) (go : ℕ → Spent A) (left : ℕ) → test ≡ true → if_low test go left ≡ go left
-if-low-true true go left e = refl
-if-low-true false go left e = absurd (grind arith)
+if-low-true : {A : Type 0} (test : Bool) (next : ℕ → Spent A) (left : ℕ) → test ≡ true → if_low test next left ≡ next left
+if-low-true true next left e = refl
+if-low-true false next left e = absurd (grind arith)
 
-if-low-false : {A : Type 0} (test : Bool) (go : ℕ → Spent A) (left : ℕ) → test ≡ false → if_low test go left ≡ answered (Err Deep) left
-if-low-false true go left e = absurd (grind arith)
-if-low-false false go left e = refl
+if-low-false : {A : Type 0} (test : Bool) (next : ℕ → Spent A) (left : ℕ) → test ≡ false → if_low test next left ≡ answered (Err Deep) left
+if-low-false true next left e = absurd (grind arith)
+if-low-false false next left e = refl
 
 -- a given term that is too high
 pub whnf-high : (S : Signature) (delta : Bool) (left : ℕ) (t : Term) → 2000 < height t → answered (Err Deep) left ≡ whnf_of S delta left t
@@ -45,31 +44,31 @@ whnf-more S delta left more t u e low es =
 -- a step whose term was made
 pub whnf-stepped : (S : Signature) (delta : Bool) (left more : ℕ) (t : Term) (made : code.Term) → more ≡ left + 1 → height t ≤ 2000 → true ≡ is_some (step_of S delta t)
     → IfSome (step_of S delta t) (Makes (Ok made)) → whnf_of S delta left (tree_of made) ≡ whnf_of S delta more t
-whnf-stepped S delta left more t made e low some h = go (step_of S delta t) refl some h
+whnf-stepped S delta left more t made e low some h = by_case (step_of S delta t) refl some h
   where
-    go : (o : Option Term) → step_of S delta t ≡ o → true ≡ is_some o → IfSome o (Makes (Ok made)) → whnf_of S delta left (tree_of made) ≡ whnf_of S delta more t
-    go None es some h = absurd (grind arith)
-    go (Some u) es some h = ap (whnf_of S delta left) h ∙ sym (whnf-more S delta left more t u e low es)
+    by_case : (o : Option Term) → step_of S delta t ≡ o → true ≡ is_some o → IfSome o (Makes (Ok made)) → whnf_of S delta left (tree_of made) ≡ whnf_of S delta more t
+    by_case None es some h = absurd (grind arith)
+    by_case (Some u) es some h = ap (whnf_of S delta left) h ∙ sym (whnf-more S delta left more t u e low es)
 
 -- a step whose term is too high
 pub whnf-deep : (S : Signature) (delta : Bool) (left more : ℕ) (t : Term) (stop : Stop) → more ≡ left + 1 → height t ≤ 2000 → true ≡ is_some (step_of S delta t)
     → IfSome (step_of S delta t) (Makes (Err stop)) → stop ≢ Memory → answered (Err stop) left ≡ whnf_of S delta more t
-whnf-deep S delta left more t stop e low some h other = go (step_of S delta t) refl some h
+whnf-deep S delta left more t stop e low some h other = by_case (step_of S delta t) refl some h
   where
-    go : (o : Option Term) → step_of S delta t ≡ o → true ≡ is_some o → IfSome o (Makes (Err stop)) → answered (Err stop) left ≡ whnf_of S delta more t
-    go None es some h = absurd (grind arith)
-    go (Some u) es some h =
+    by_case : (o : Option Term) → step_of S delta t ≡ o → true ≡ is_some o → IfSome o (Makes (Err stop)) → answered (Err stop) left ≡ whnf_of S delta more t
+    by_case None es some h = absurd (grind arith)
+    by_case (Some u) es some h =
         let deep = h other in
         ap (λ s. answered (Err s) left) deep.0 ∙ (whnf-high S delta left u (omega (arith, deep.1)) ∙ sym (whnf-more S delta left more t u e low es))
 
 -- a step keeps the term scoped
 pub stepped-scoped : (S : Signature) (delta : Bool) (n : ℕ) (t : Term) (made : code.Term) → IsScopedSignature S → IsScoped S n t → true ≡ is_some (step_of S delta t)
     → IfSome (step_of S delta t) (Makes (Ok made)) → IsScoped S n (tree_of made)
-stepped-scoped S delta n t made scoped ht some h = go (step_of S delta t) some h (step-scoped S delta n t scoped ht)
+stepped-scoped S delta n t made scoped ht some h = by_case (step_of S delta t) some h (step-scoped S delta n t scoped ht)
   where
-    go : (o : Option Term) → true ≡ is_some o → IfSome o (Makes (Ok made)) → IfSome o (IsScoped S n) → IsScoped S n (tree_of made)
-    go None some h k = absurd (grind arith)
-    go (Some u) some h k = transport (IsScoped S n) (sym h) k
+    by_case : (o : Option Term) → true ≡ is_some o → IfSome o (Makes (Ok made)) → IfSome o (IsScoped S n) → IsScoped S n (tree_of made)
+    by_case None some h k = absurd (grind arith)
+    by_case (Some u) some h k = transport (IsScoped S n) (sym h) k
 
 -- a given term that is too high, whatever may be open
 pub normal-high : (S : Signature) (delta : Bool) (room : ℕ) (t : Term) (left : ℕ) → 2000 < height t → answered (Err Deep) left ≡ normal_of S delta room t left
@@ -80,10 +79,10 @@ normal-high S delta (suc room) t left h =
 -- the same as a copy refuses it
 pub normal-refused : (S : Signature) (delta : Bool) (room : ℕ) (t : Term) (left : ℕ) (stop : Stop) → (stop ≢ Memory → ◌≡◌ {A = Result Term Stop} (Err stop) (bounded t)) → stop ≢ Memory
     → answered (Err stop) left ≡ normal_of S delta room t left
-normal-refused S delta room t left stop h other = go (nat_le (height t) 2000) refl (h other)
+normal-refused S delta room t left stop h other = by_case (nat_le (height t) 2000) refl (h other)
   where
-    go : (b : Bool) → nat_le (height t) 2000 ≡ b → ◌≡◌ {A = Result Term Stop} (Err stop) (cond b (Ok t) (Err Deep)) → answered (Err stop) left ≡ normal_of S delta room t left
-    go true e k = absurd (grind arith)
-    go false e k =
+    by_case : (b : Bool) → nat_le (height t) 2000 ≡ b → ◌≡◌ {A = Result Term Stop} (Err stop) (cond b (Ok t) (Err Deep)) → answered (Err stop) left ≡ normal_of S delta room t left
+    by_case true e k = absurd (grind arith)
+    by_case false e k =
         let deep : stop ≡ Deep = grind arith in
         ap (λ s. answered (Err s) left) deep ∙ normal-high S delta room t left (grind (arith, nat_tests))

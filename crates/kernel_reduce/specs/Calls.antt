@@ -10,7 +10,7 @@ use Rattle.core_sig.specs.declared.family.Constructor.{Constructor}
 use Rattle.core_sig.specs.declared.family.Family.{Family}
 use Rattle.core_sig.specs.declared.family.ArgKind.{ArgKind}
 use Rattle.core_sig.specs.declared.family.ArgKind.TheVariants.{Plain, Recursive}
-use Rattle.kernel_reduce.specs.Making.{instance_of}
+use Rattle.core_terms.specs.Instances.{instance_of}
 
 -- the recursor at the targets that stand in `D p targets`, so many binders further in
 abbrev pub call_of : List Term → ℕ → Term → ℕ → Term → Term

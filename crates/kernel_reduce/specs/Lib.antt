@@ -3,9 +3,9 @@ pub mod Comparison
 pub mod Entries
 pub mod Identities
 pub mod Laws
-pub mod Making
 pub mod Reduction
 pub mod SignatureLaws
 pub mod Steps
 pub mod Tests
 pub mod Tidying
+pub mod WellScoped

@@ -4,7 +4,6 @@ use Rattle.std.specs.Prelude.{ℕ, zero, suc, Bool, true, false, cond, Option, S
 use Rattle.theory.specs.Terms.{Term, Pi, Lam, App}
 use Rattle.theory.specs.Signatures.{Signature}
 use Rattle.core_terms.specs.Answers.{Spent, and_next, is_low, bounded}
-use Rattle.core_terms.specs.Bounds.{most_height}
 use Rattle.core_terms.specs.declared.stop.Stop.{Stop}
 use Rattle.core_terms.specs.declared.stop.Stop.TheVariants.{Fuel, Deep}
 use Rattle.kernel_reduce.specs.Steps.{step_of}
@@ -12,10 +11,6 @@ use Rattle.kernel_reduce.specs.Steps.{step_of}
 -- how many calls may be open at once
 abbrev pub nesting : ℕ
 nesting = 2000
-
--- 3 * 2 ^ 30: so many free variables at most has a term inside a call. No index of a term that is made passes 32 bits.
-abbrev pub most_inner_variables : ℕ
-most_inner_variables = 3221225472
 
 -- 3 * 2 ^ 30 - 2000: so many at most has a term that a call is given, which is more than 2 ^ 31. As many binders more as calls
 -- may be open stand around a term inside.
@@ -26,15 +21,15 @@ most_variables = 3221223472
 abbrev pub answered : {A : Type 0} → Result A Stop → ℕ → Spent A
 answered answer left = (answer, left)
 
--- one unit is spent before `go`
+-- one unit is spent before `next`
 abbrev pub charge : {A : Type 0} → (ℕ → Spent A) → ℕ → Spent A
-charge go zero = answered (Err Fuel) zero
-charge go (suc left) = go left
+charge next zero = answered (Err Fuel) zero
+charge next (suc left) = next left
 
--- `go`, unless a given term is too high
+-- `next`, unless a given term is too high
 abbrev pub if_low : {A : Type 0} → Bool → (ℕ → Spent A) → ℕ → Spent A
-if_low true go left = go left
-if_low false go left = answered (Err Deep) left
+if_low true next left = next left
+if_low false next left = answered (Err Deep) left
 
 abbrev pub some_bounded : Term → Result (Option Term) Stop
 some_bounded t = cond (is_low t) (Ok (Some t)) (Err Deep)
@@ -53,10 +48,10 @@ abbrev pub without_units : Term → Option Term → Spent Term
 without_units t None = answered (Ok t) zero
 without_units t (Some u) = answered (Err Fuel) zero
 
--- the same where one unit more than `left` is left: behind a step `go` on with its term
+-- the same where one unit more than `left` is left: after a step `next` goes on with its term
 abbrev pub with_unit : Term → ℕ → (Term → Spent Term) → Option Term → Spent Term
-with_unit t left go None = answered (Ok t) (suc left)
-with_unit t left go (Some u) = go u
+with_unit t left next None = answered (Ok t) (suc left)
+with_unit t left next (Some u) = next u
 
 -- head steps until there is none, with `left` units at first
 abbrev pub whnf_of : Signature → Bool → ℕ → Term → Spent Term

@@ -1,19 +1,20 @@
 //! The public calls: reduction and comparison over a signature, with units.
 //!
-//! Each unit that a call spends moves from `left` to `spent`. A call answers Fuel where it needs a unit and none is left, and
-//! Deep where it is given or makes a term higher than 2,000, or where more than 2,000 calls would be open at once, whichever
-//! comes first. The answers and the units are those of the definitions, unless memory ran out.
-ghost use Rattle.std.specs.Prelude.{◌≡◌, ◌≤◌, ◌+◌, ℕ, IfOk, IfSome, IsTrue, false, option_map};
+//! Each unit that a call spends moves from `left` to `spent`, also where the call ends in an error; nothing else that it is lent
+//! changes. A call answers Fuel where it needs a unit and none is left, and Deep where it is given or makes a term higher than
+//! 2,000, or where more than 2,000 calls would be open at once, whichever comes first. Memory alone may come at any time.
+ghost use Rattle.std.specs.Prelude.{◌≡◌, ◌≤◌, ◌+◌, ℕ, [], ◌∷◌, IfOk, IfSome, IsTrue, false, option_map};
 ghost use Rattle.core_terms.specs.Answers.{Runs};
 ghost use Rattle.core_terms.specs.Bounds.{most_height};
 ghost use Rattle.core_terms.specs.Meanings.{tree_of};
 ghost use Rattle.theory.specs.Conversion.{Step, Converts, Below};
-ghost use Rattle.theory.specs.SignatureScopes.{IsScoped, IsScopedSignature};
+ghost use Rattle.theory.specs.SignatureScopes.{IsScoped};
 ghost use Rattle.theory.specs.Terms as tree;
 ghost use Rattle.kernel_reduce.specs.Comparison.{convertible_of, subtype_of};
 ghost use Rattle.kernel_reduce.specs.Laws.{IsHeadForm};
-ghost use Rattle.kernel_reduce.specs.Reduction.{head_step_of, most_variables, nesting, normal_of, whnf_of};
+ghost use Rattle.kernel_reduce.specs.Reduction.{head_step_of, nesting, normal_of, whnf_of};
 ghost use Rattle.kernel_reduce.specs.Tidying.{tidy_of};
+ghost use Rattle.kernel_reduce.specs.WellScoped.{CanReduce};
 
 use crate::comparing::compare;
 use crate::head_steps::next_step;
@@ -28,6 +29,9 @@ use std::alloc::Global;
 pub const NESTING: u32 = 2000;
 
 /// The next head step of a term, or None where it takes none. Without `delta` constants take no step.
+///
+/// A step costs one unit, None costs none. Deep where the term or its step is too high: the former before the unit is needed, the
+/// latter once it is spent. Fuel where there is a step and no unit.
 pub fn head_step(
     alloc: Global,
     sig: &Signature,
@@ -35,8 +39,7 @@ pub fn head_step(
     delta: bool,
     units: &mut Units,
 ) -> Result<Option<Term>, Stop>
-    requires signature { IsScopedSignature sig.now }
-    requires scoped { IsScoped sig.now most_variables (tree_of t.now) }
+    requires { CanReduce sig.now (tree_of t.now ∷ []) }
     ensures answer { Runs (option_map tree_of) result units.new.left (head_step_of sig.now delta (tree_of t.now) units.old.left) }
     ensures sum { units.new.left + units.new.spent ≡ units.old.left + units.old.spent }
     ensures spends { units.new.left ≤ units.old.left }
@@ -47,7 +50,10 @@ pub fn head_step(
     next_step(alloc, sig, t, delta, units)
 }
 
-/// The head form of a term: head steps until there is none.
+/// The head form of a term: head steps until there is none, so a term that takes none is answered as it stands.
+///
+/// Each step costs one unit. Deep where the term, or one that a step makes, is too high; Fuel where a step is left and no
+/// unit. The units that the steps until then took stay spent.
 pub fn whnf(
     alloc: Global,
     sig: &Signature,
@@ -55,8 +61,7 @@ pub fn whnf(
     delta: bool,
     units: &mut Units,
 ) -> Result<Term, Stop>
-    requires signature { IsScopedSignature sig.now }
-    requires scoped { IsScoped sig.now most_variables (tree_of t.now) }
+    requires { CanReduce sig.now (tree_of t.now ∷ []) }
     ensures answer { Runs tree_of result units.new.left (whnf_of sig.now delta units.old.left (tree_of t.now)) }
     ensures sum { units.new.left + units.new.spent ≡ units.old.left + units.old.spent }
     ensures spends { units.new.left ≤ units.old.left }
@@ -66,10 +71,9 @@ pub fn whnf(
     head_form(alloc, sig, t, delta, units)
 }
 
-/// The head form of a term without delta.
+/// The head form of a term without delta: `whnf` with the same units and errors, where constants stay as they stand.
 pub fn tidy(alloc: Global, sig: &Signature, t: &Term, units: &mut Units) -> Result<Term, Stop>
-    requires signature { IsScopedSignature sig.now }
-    requires scoped { IsScoped sig.now most_variables (tree_of t.now) }
+    requires { CanReduce sig.now (tree_of t.now ∷ []) }
     ensures answer { Runs tree_of result units.new.left (tidy_of sig.now units.old.left (tree_of t.now)) }
     ensures sum { units.new.left + units.new.spent ≡ units.old.left + units.old.spent }
     ensures spends { units.new.left ≤ units.old.left }
@@ -80,6 +84,9 @@ pub fn tidy(alloc: Global, sig: &Signature, t: &Term, units: &mut Units) -> Resu
 }
 
 /// The normal form of a term: its head form, with the normal forms of the children from the left.
+///
+/// It costs one unit for each head step, and none beside. Deep also where the normal form that is made of the children is too
+/// high, or lies under more than 2,000 open calls; Fuel as in `whnf`. The units of all steps until then stay spent.
 pub fn normal(
     alloc: Global,
     sig: &Signature,
@@ -87,8 +94,7 @@ pub fn normal(
     delta: bool,
     units: &mut Units,
 ) -> Result<Term, Stop>
-    requires signature { IsScopedSignature sig.now }
-    requires scoped { IsScoped sig.now most_variables (tree_of t.now) }
+    requires { CanReduce sig.now (tree_of t.now ∷ []) }
     ensures answer { Runs tree_of result units.new.left (normal_of sig.now delta nesting (tree_of t.now) units.old.left) }
     ensures sum { units.new.left + units.new.spent ≡ units.old.left + units.old.spent }
     ensures spends { units.new.left ≤ units.old.left }
@@ -100,6 +106,10 @@ pub fn normal(
 }
 
 /// Whether two terms are found convertible: equal letter for letter, or of head forms with convertible children.
+///
+/// Each comparison, of the terms and then of two children, costs one unit beside the head steps of both sides, those of `a`
+/// first. The test for equality is free. `false` says only that this comparison doesn't find them convertible. Deep where a
+/// term on either side is too high or too many comparisons are open, Fuel where a unit is missing.
 pub fn convertible(
     alloc: Global,
     sig: &Signature,
@@ -107,9 +117,7 @@ pub fn convertible(
     b: &Term,
     units: &mut Units,
 ) -> Result<bool, Stop>
-    requires signature { IsScopedSignature sig.now }
-    requires a { IsScoped sig.now most_variables (tree_of a.now) }
-    requires b { IsScoped sig.now most_variables (tree_of b.now) }
+    requires { CanReduce sig.now (tree_of a.now ∷ tree_of b.now ∷ []) }
     ensures answer { Runs (λ holds. holds) result units.new.left (convertible_of sig.now nesting (tree_of a.now) (tree_of b.now) units.old.left) }
     ensures sum { units.new.left + units.new.spent ≡ units.old.left + units.old.spent }
     ensures spends { units.new.left ≤ units.old.left }
@@ -119,6 +127,9 @@ pub fn convertible(
 }
 
 /// Whether the first term is found below the second one in the order of sorts and of products.
+///
+/// Domains of products are convertible, codomains go in the same order, and all other heads are convertible. Units and errors
+/// are those of `convertible`, but no test for equality comes first.
 pub fn subtype(
     alloc: Global,
     sig: &Signature,
@@ -126,9 +137,7 @@ pub fn subtype(
     b: &Term,
     units: &mut Units,
 ) -> Result<bool, Stop>
-    requires signature { IsScopedSignature sig.now }
-    requires a { IsScoped sig.now most_variables (tree_of a.now) }
-    requires b { IsScoped sig.now most_variables (tree_of b.now) }
+    requires { CanReduce sig.now (tree_of a.now ∷ tree_of b.now ∷ []) }
     ensures answer { Runs (λ holds. holds) result units.new.left (subtype_of sig.now nesting (tree_of a.now) (tree_of b.now) units.old.left) }
     ensures sum { units.new.left + units.new.spent ≡ units.old.left + units.old.spent }
     ensures spends { units.new.left ≤ units.old.left }
@@ -137,7 +146,7 @@ pub fn subtype(
     order(alloc, sig, a, b, NESTING, units)
 }
 
-/// As `subtype`, where only `room` calls may be open, for a caller whose own open calls count.
+/// As `subtype`, where only `room` calls may be open, for a caller whose own open calls count. With no room left it is Deep.
 pub fn subtype_within(
     alloc: Global,
     sig: &Signature,
@@ -147,9 +156,7 @@ pub fn subtype_within(
     units: &mut Units,
 ) -> Result<bool, Stop>
     requires room { room ≤ nesting }
-    requires signature { IsScopedSignature sig.now }
-    requires a { IsScoped sig.now most_variables (tree_of a.now) }
-    requires b { IsScoped sig.now most_variables (tree_of b.now) }
+    requires asked { CanReduce sig.now (tree_of a.now ∷ tree_of b.now ∷ []) }
     ensures answer { Runs (λ holds. holds) result units.new.left (subtype_of sig.now room (tree_of a.now) (tree_of b.now) units.old.left) }
     ensures sum { units.new.left + units.new.spent ≡ units.old.left + units.old.spent }
     ensures spends { units.new.left ≤ units.old.left }

@@ -1,9 +1,10 @@
 ghost use Rattle.std.specs.Prelude.{◌≡◌, ◌≤◌, ◌<◌, ◌+◌, ◌-◌};
+ghost use Rattle.core_terms.specs.Bounds.{most_inner_variables};
 ghost use Rattle.core_terms.specs.Answers.{Runs};
 ghost use Rattle.core_terms.specs.Meanings.{tree_of};
 ghost use Rattle.theory.specs.SignatureScopes.{IsScoped, IsScopedSignature};
 ghost use Rattle.kernel_reduce.specs.Comparison as pure;
-ghost use Rattle.kernel_reduce.specs.Reduction.{most_inner_variables, nesting};
+ghost use Rattle.kernel_reduce.specs.Reduction.{nesting};
 
 use crate::reducing::head_form;
 use core_sig::Signature;

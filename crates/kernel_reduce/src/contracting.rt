@@ -1,7 +1,7 @@
 ghost use Rattle.std.specs.Prelude.{◌≡◌, ◌≤◌, ◌<◌, ◌+◌, ◌++◌, Ok, Some, true, length, take, drop, get_or, map, slice_get, IfSome};
 ghost use Rattle.std.specs.List.{All};
-ghost use Rattle.core_terms.specs.Answers.{Gives};
-ghost use Rattle.core_terms.specs.Bounds.{most_height};
+ghost use Rattle.core_terms.specs.Answers.{Gives, Makes};
+ghost use Rattle.core_terms.specs.Bounds.{most_height, most_inner_variables};
 ghost use Rattle.core_terms.specs.Meanings.{tree_of, tele_of};
 ghost use Rattle.core_sig.specs.Meanings.{family_of};
 ghost use Rattle.theory.specs.Families as pure;
@@ -9,8 +9,6 @@ ghost use Rattle.theory.specs.Spines.{head_of, spine_of};
 ghost use Rattle.theory.specs.Telescopes as spec;
 ghost use Rattle.theory.specs.Terms as tree;
 ghost use Rattle.kernel_reduce.specs.Calls.{HasAllArguments, iota_made};
-ghost use Rattle.kernel_reduce.specs.Making.{Makes};
-ghost use Rattle.kernel_reduce.specs.Reduction.{most_inner_variables};
 ghost use Rattle.kernel_reduce.specs.Steps.{awaits_scrutinee, contraction};
 ghost use Rattle.kernel_reduce.specs.Tests.{eliminator_numbers, meets};
 

@@ -1,15 +1,15 @@
 ghost use Rattle.std.specs.Prelude.{◌≡◌, ◌≤◌, ◌<◌, ◌+◌, IfSome, is_some, option_map, true};
 ghost use Rattle.core_terms.specs.Answers.{Gives, Runs, bounded};
-ghost use Rattle.core_terms.specs.Bounds.{most_height};
+ghost use Rattle.core_terms.specs.Bounds.{most_height, most_inner_variables};
 ghost use Rattle.core_terms.specs.Meanings.{tree_of};
 ghost use Rattle.theory.specs.Terms as tree;
-ghost use Rattle.kernel_reduce.specs.Reduction.{head_step_of, most_inner_variables};
+ghost use Rattle.kernel_reduce.specs.Reduction.{head_step_of};
 ghost use Rattle.kernel_reduce.specs.Steps.{step_of};
 
 use crate::stepping::step;
 use crate::testing::has_step;
 use core_sig::Signature;
-use core_terms::{MAX_HEIGHT, Stop, Term, Units, bounded, copy};
+use core_terms::{MAX_HEIGHT, Stop, Term, Units, checked, copy};
 use std::alloc::Global;
 
 /// The step of a term that takes one, or Deep.
@@ -20,7 +20,7 @@ fn take_step(alloc: Global, sig: &Signature, t: &Term, delta: bool) -> Result<Te
     ensures { IfSome (step_of sig.now delta (tree_of t.now)) (λ u. Gives tree_of result (bounded u)) }
 {
     let t = copy(alloc, t)?;
-    bounded(step(alloc, sig, t, delta)?)
+    checked(step(alloc, sig, t, delta)?)
 }
 
 /// The next head step of a term, or None where it takes none.

@@ -1,20 +1,19 @@
 ghost use Rattle.std.specs.Prelude.{◌≡◌, ◌≤◌, ◌<◌, ◌+◌, ◌++◌, [], Ok, Some, length, take, drop, map, slice_get, get_or};
 ghost use Rattle.std.specs.List.{All};
-ghost use Rattle.core_terms.specs.Answers.{Gives};
-ghost use Rattle.core_terms.specs.Bounds.{most_height};
+ghost use Rattle.core_terms.specs.Answers.{Gives, Makes, MakesUnder};
+ghost use Rattle.core_terms.specs.Bounds.{most_height, most_inner_variables};
 ghost use Rattle.core_terms.specs.Meanings.{tree_of, tele_of};
 ghost use Rattle.core_sig.specs.Meanings.{family_of};
 ghost use Rattle.theory.specs.Families as pure;
 ghost use Rattle.theory.specs.Telescopes as spec;
 ghost use Rattle.theory.specs.Terms as tree;
 ghost use Rattle.kernel_reduce.specs.Calls.{call_of, recursive_call_of, hypothesis_of, hypothesis_before, hypotheses_of};
-ghost use Rattle.kernel_reduce.specs.Making.{Makes, MakesUnder};
-ghost use Rattle.kernel_reduce.specs.Reduction.{most_inner_variables};
 ghost use Rattle.kernel_reduce.specs.Steps.{iota_at};
 
-use crate::making::instance;
 use core_sig::{Arg, ArgKind, Family};
-use core_terms::{MAX_HEIGHT, Stop, Term, applied_to_nearest, copy, copy_tele, lift, spine_len};
+use core_terms::{
+    MAX_HEIGHT, Stop, Term, applied_to_nearest, copy, copy_tele, inst_under, lift, spine_len,
+};
 use std::alloc::Global;
 
 /// The recursor at the targets that stand in `ty`, which ends in a family at `params` parameters and these targets.
@@ -34,7 +33,7 @@ fn call(
     match ty {
         Term::App(f, target) if params <= spine_len(f) => {
             let f = call(alloc, recursor, values, params, f, under)?;
-            Term::new_app(alloc, f, instance(alloc, values, target, under)?)
+            Term::new_app(alloc, f, inst_under(alloc, values, target, under)?)
         }
         _ => lift(alloc, recursor, under, 0),
     }
@@ -84,7 +83,7 @@ fn hypothesis(
     }
     match ty {
         Term::Pi(a, b) if inner > 0 => {
-            let a = instance(alloc, values, a, under)?;
+            let a = inst_under(alloc, values, a, under)?;
             let b = hypothesis(alloc, recursor, values, params, r, b, inner - 1, under + 1)?;
             Term::new_lam(alloc, a, b)
         }

@@ -1,4 +1,8 @@
 //! Reduction and comparison of terms, with units.
+//!
+//! Every call has one condition: its terms are scoped, and few variables stand free in them (`specs/WellScoped`). A caller
+//! shows it for the terms of a context, and carries it on to their parts, under binders and to answers by the lemmas of
+//! `proofs/WellScoped`.
 #![tactic(auto)]
 
 mod calls;
@@ -9,7 +13,6 @@ mod identity;
 mod iota;
 pub mod laws;
 mod lookup;
-mod making;
 mod normalising;
 mod ordering;
 mod reducing;

@@ -1,13 +1,14 @@
 ghost use Rattle.std.specs.Prelude.{◌≡◌, ◌≤◌, ◌<◌, ◌+◌, ◌-◌};
+ghost use Rattle.core_terms.specs.Bounds.{most_inner_variables};
 ghost use Rattle.core_terms.specs.Answers.{Runs};
 ghost use Rattle.core_terms.specs.Meanings.{tree_of};
 ghost use Rattle.theory.specs.SignatureScopes.{IsScoped, IsScopedSignature};
 ghost use Rattle.kernel_reduce.specs.Reduction as pure;
-ghost use Rattle.kernel_reduce.specs.Reduction.{most_inner_variables, nesting};
+ghost use Rattle.kernel_reduce.specs.Reduction.{nesting};
 
 use crate::reducing::reduce;
 use core_sig::Signature;
-use core_terms::{Stop, Term, Units, bounded, copy};
+use core_terms::{Stop, Term, Units, checked, copy};
 use std::alloc::Global;
 
 /// The head form of a term, and then the normal forms of its children, where `room` calls more may be open.
@@ -55,17 +56,17 @@ fn normal_children(
         Term::Pi(a, b) => {
             let a = normalise(alloc, sig, Box::into_inner(a), delta, room, units)?;
             let b = normalise(alloc, sig, Box::into_inner(b), delta, room, units)?;
-            bounded(Term::new_pi(alloc, a, b)?)
+            checked(Term::new_pi(alloc, a, b)?)
         }
         Term::Lam(a, b) => {
             let a = normalise(alloc, sig, Box::into_inner(a), delta, room, units)?;
             let b = normalise(alloc, sig, Box::into_inner(b), delta, room, units)?;
-            bounded(Term::new_lam(alloc, a, b)?)
+            checked(Term::new_lam(alloc, a, b)?)
         }
         Term::App(f, a) => {
             let f = normalise(alloc, sig, Box::into_inner(f), delta, room, units)?;
             let a = normalise(alloc, sig, Box::into_inner(a), delta, room, units)?;
-            bounded(Term::new_app(alloc, f, a)?)
+            checked(Term::new_app(alloc, f, a)?)
         }
         other => Ok(other),
     }

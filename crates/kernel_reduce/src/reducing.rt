@@ -1,8 +1,9 @@
 ghost use Rattle.std.specs.Prelude.{◌≡◌, ◌≤◌, ◌+◌};
+ghost use Rattle.core_terms.specs.Bounds.{most_inner_variables};
 ghost use Rattle.core_terms.specs.Answers.{Runs};
 ghost use Rattle.core_terms.specs.Meanings.{tree_of};
 ghost use Rattle.theory.specs.SignatureScopes.{IsScoped, IsScopedSignature};
-ghost use Rattle.kernel_reduce.specs.Reduction.{most_inner_variables, whnf_of};
+ghost use Rattle.kernel_reduce.specs.Reduction.{whnf_of};
 
 use crate::stepping::step;
 use crate::testing::has_step;

@@ -1,10 +1,9 @@
 ghost use Rattle.std.specs.Prelude.{◌≡◌, ◌≤◌, true, is_some, IfSome};
-ghost use Rattle.core_terms.specs.Bounds.{most_height};
+ghost use Rattle.core_terms.specs.Answers.{Makes};
+ghost use Rattle.core_terms.specs.Bounds.{most_height, most_inner_variables};
 ghost use Rattle.core_terms.specs.Meanings.{tree_of};
 ghost use Rattle.theory.specs.Terms as tree;
 ghost use Rattle.kernel_reduce.specs.Entries.{body_at};
-ghost use Rattle.kernel_reduce.specs.Making.{Makes};
-ghost use Rattle.kernel_reduce.specs.Reduction.{most_inner_variables};
 ghost use Rattle.kernel_reduce.specs.Steps.{beta_step, step_of};
 
 use crate::contracting::contract;

@@ -93,17 +93,9 @@ abbrev pub plains : List Word → List Lexeme
 plains [] = []
 plains (w ∷ ws) = x.Plain w ∷ plains ws
 
-abbrev seen_of : m.State → List Lexeme
-seen_of (m.In_term (m.Names d at w ws k)) = x.Plain w ∷ plains ws
-seen_of s = []
-
 above_length : (ws : List Word) (zs : List Lexeme) → above (length zs) ws ≡ suc (length (plains ws ++ zs))
 above_length [] zs = refl
 above_length (w ∷ ws) zs = ap suc (above_length ws zs)
-
-seen_length : (s : m.State) (zs : List Lexeme) → begun (length zs) s ≡ length (seen_of s ++ zs)
-seen_length (m.In_term (m.Names d at w ws k)) zs = above_length ws zs
-seen_length s zs = refl
 
 -- names behind `(` stand behind a state in which a term or a binder is awaited
 data Origin (s : m.State) (ts : List Lexeme) (d : ℕ) (w : Word) (ws : List Word) (k : m.Term_in) : Type 0 where

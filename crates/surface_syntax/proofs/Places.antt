@@ -10,11 +10,6 @@ use Rattle.surface_syntax.proofs.Results.{Allows, shape, result}
 use Rattle.surface_syntax.proofs.Ways.{Covers, every_covers, limit_covers, Text, text, file_result, result_file, Passes, over, wrong, deep, deep_next, Way, way, ways, Finish, finish, finishes, way_text}
 
 -- answers without declarations
-pub wrong_shape : (a : Answer) {n : ℕ} → shape a ≡ Wrong n → a ≡ Wrong n
-wrong_shape (Read ds) e = cc
-wrong_shape (Wrong n) e = e
-wrong_shape (Deep n) e = cc
-
 pub deep_shape : (a : Answer) {n : ℕ} → shape a ≡ Deep n → a ≡ Deep n
 deep_shape (Read ds) e = cc
 deep_shape (Wrong n) e = cc

@@ -14,9 +14,6 @@ use Rattle.surface_syntax.specs.Splitting.{Reads, stop, gap, token, Splits, Stop
 pub record Goes (cs : List ℕ) (tokens : List Token) (at : ℕ) (rest : List ℕ) : Type 0 where
   pub onward : (more : List Token) (end : ℕ) (final : List ℕ) → Reads at rest more end final → Reads 0 cs (tokens ++ more) end final
 
-pub goes-start : (cs : List ℕ) → Goes cs [] 0 cs
-goes-start cs = record { onward = λ more end final r. r }
-
 pub goes-gap : {cs rest : List ℕ} {tokens : List Token} {at n : ℕ} → Goes cs tokens at rest → piece rest ≡ Gap n → Goes cs tokens (at + byte_len (take n rest)) (drop n rest)
 goes-gap g p = record { onward = λ more end final r. g.onward more end final (gap p r) }
 

@@ -18,9 +18,9 @@ ending_of (ending.Parens d s k) = machine.Parens d (option_map spine_of s) (term
 ending_of (ending.Domain b ns k) = machine.Domain (telescope_of b) ns (term_in_of k.value)
 ending_of (ending.LetType d w k) = machine.LetType d w (term_in_of k.value)
 ending_of (ending.LetValue d w a k) = machine.LetValue d w (surf_of a) (term_in_of k.value)
-ending_of (ending.Dot d void k) = machine.Dot d void (pats_in_of k)
-ending_of (ending.Side h k) = machine.Side (headed_of h) (clauses_in_of k)
-ending_of (ending.Scrutinee h k) = machine.Scrutinee (headed_of h) (clauses_in_of k)
+ending_of (ending.Dot d void k) = machine.Dot d void (pats_in_of k.value)
+ending_of (ending.Side h k) = machine.Side (headed_of h) (clauses_in_of k.value)
+ending_of (ending.Scrutinee h k) = machine.Scrutinee (headed_of h) (clauses_in_of k.value)
 
 -- how many terms end where this one ends
 abbrev pub outside : machine.Term_in → ℕ

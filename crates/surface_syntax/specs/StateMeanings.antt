@@ -47,7 +47,7 @@ clauses_in_of (Fun w a cs) = machine.Fun w (surf_of a) (map clause_of cs)
 clauses_in_of (Inspect' h t cs p k) = machine.Inspect (headed_of h) (surf_of t) (map clause_of cs) (clauses_in_of k)
 
 abbrev pub pats_in_of : PatsIn → machine.Pats_in
-pats_in_of (Behind h k) = machine.Behind (headed_of h) (clauses_in_of k)
+pats_in_of (Behind h k) = machine.Behind (headed_of h) (clauses_in_of k.value)
 pats_in_of (Inside' h p k) = machine.Inside (headed_of h) (pats_in_of k)
 
 abbrev pub part_of : Part → machine.Part
@@ -67,9 +67,9 @@ term_in_of (Body' b p k) = machine.Body (telescope_of b) (term_in_of k)
 term_in_of (LetType' d w p k) = machine.LetType d w (term_in_of k)
 term_in_of (LetValue' d w a p k) = machine.LetValue d w (surf_of a) (term_in_of k)
 term_in_of (LetBody' w a v p k) = machine.LetBody w (surf_of a) (surf_of v) (term_in_of k)
-term_in_of (Dot d void k) = machine.Dot d void (pats_in_of k)
-term_in_of (Side h k) = machine.Side (headed_of h) (clauses_in_of k)
-term_in_of (Scrutinee h k) = machine.Scrutinee (headed_of h) (clauses_in_of k)
+term_in_of (Dot d void k) = machine.Dot d void (pats_in_of k.value)
+term_in_of (Side h k) = machine.Side (headed_of h) (clauses_in_of k.value)
+term_in_of (Scrutinee h k) = machine.Scrutinee (headed_of h) (clauses_in_of k.value)
 
 abbrev pub def_state_of : DefState → machine.Def_state
 def_state_of def.DefName = machine.DefName
@@ -113,13 +113,13 @@ term_state_of (term.LetColon d w k) = machine.LetColon d w (term_in_of k.value)
 term_state_of (term.Atoms d s k) = machine.Atoms d (spine_of s) (term_in_of k.value)
 
 abbrev pub clause_state_of : ClauseState → machine.Clause_state
-clause_state_of (clause.Pats d void k) = machine.Pats d void (pats_in_of k)
-clause_state_of (clause.PatOpen d void k) = machine.PatOpen d void (pats_in_of k)
-clause_state_of (clause.DotAtom d void k) = machine.DotAtom d void (pats_in_of k)
-clause_state_of (clause.DotLevel d void k) = machine.DotLevel d void (pats_in_of k)
-clause_state_of (clause.FirstClause d k) = machine.FirstClause d (clauses_in_of k)
-clause_state_of (clause.ClauseName d k) = machine.ClauseName d (clauses_in_of k)
-clause_state_of (clause.ClauseEnd d c k) = machine.ClauseEnd d (clause_of c) (clauses_in_of k)
+clause_state_of (clause.Pats d void k) = machine.Pats d void (pats_in_of k.value)
+clause_state_of (clause.PatOpen d void k) = machine.PatOpen d void (pats_in_of k.value)
+clause_state_of (clause.DotAtom d void k) = machine.DotAtom d void (pats_in_of k.value)
+clause_state_of (clause.DotLevel d void k) = machine.DotLevel d void (pats_in_of k.value)
+clause_state_of (clause.FirstClause d k) = machine.FirstClause d (clauses_in_of k.value)
+clause_state_of (clause.ClauseName d k) = machine.ClauseName d (clauses_in_of k.value)
+clause_state_of (clause.ClauseEnd d c k) = machine.ClauseEnd d (clause_of c) (clauses_in_of k.value)
 
 abbrev pub state_of : State → machine.State
 state_of state.Start = machine.Start

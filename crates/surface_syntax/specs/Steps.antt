@@ -11,10 +11,14 @@ use Rattle.surface_syntax.specs.declared.state.Step.TheVariants.{Goes, Ends}
 use Rattle.surface_syntax.specs.declared.halt.Halt.{Halt}
 use Rattle.surface_syntax.specs.declared.halt.Halt.TheVariants.{Stuck, Over, Memory}
 
+-- what a step stands for
+abbrev pub outcome_of : Step → machine.Outcome
+outcome_of (Goes o s) = machine.Goes (option_map decl_of o) (state_of s)
+outcome_of (Ends o) = machine.Ends (option_map decl_of o)
+
 -- a step is the one that is meant, unless memory runs out
 abbrev pub Follows : Result Step Halt → machine.Outcome → Type 0
-Follows (Ok (Goes o s)) meant = machine.Goes (option_map decl_of o) (state_of s) ≡ meant
-Follows (Ok (Ends o)) meant = machine.Ends (option_map decl_of o) ≡ meant
+Follows (Ok s) meant = outcome_of s ≡ meant
 Follows (Err Stuck) meant = machine.Stuck ≡ meant
 Follows (Err (Over n)) meant = machine.Over n ≡ meant
 Follows (Err Memory) meant = Unit {0}

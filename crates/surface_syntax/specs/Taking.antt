@@ -31,7 +31,7 @@ pub record So_far : Type 0 where
   pub state : machine.State
 
 abbrev pub reading_of : Reading → So_far
-reading_of r = record { decls = map decl_of r.decls; state = state_of r.state }
+reading_of r = record { decls = map decl_of r.decls; state = state_of r.state.value }
 
 -- perhaps one more declaration
 abbrev pub with_whole : List tree.Decl → Option tree.Decl → List tree.Decl

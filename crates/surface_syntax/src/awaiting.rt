@@ -3,10 +3,10 @@ ghost use Rattle.surface_syntax.specs.Machine as machine;
 ghost use Rattle.surface_syntax.specs.Steps.{Follows};
 ghost use Rattle.surface_syntax.specs.StateMeanings.{spine_of, telescope_of, term_in_of, pats_in_of};
 
-use crate::building::{plus, with_pat};
 use crate::context::{PatsIn, Spine, Telescope, TermIn};
 use crate::halt::Halt;
-use crate::state::{ClauseState, State, Step, TermState};
+use crate::onward::{behind_atom, behind_pat};
+use crate::state::{State, Step, TermState};
 use crate::{Lexeme, Surf, SurfPat};
 use core_terms::Items;
 use std::alloc::Global;
@@ -22,10 +22,7 @@ pub(crate) fn level(
     ensures { (i : ℕ) → Follows result (machine.term_step machine.limit i (machine.Level depth (option_map spine_of spine) (term_in_of context.value)) lexeme) }
 {
     match lexeme {
-        Lexeme::Level(i) => {
-            let spine = plus(alloc, spine, Surf::Sort(i))?;
-            Ok(Step::to(State::InTerm(TermState::Atoms(depth, spine, context))))
-        }
+        Lexeme::Level(i) => behind_atom(alloc, depth, spine, Surf::Sort(i), context),
         _ => Err(Halt::Stuck),
     }
 }
@@ -34,16 +31,13 @@ pub(crate) fn level(
 pub(crate) fn dot_level(
     depth: u32,
     void: bool,
-    context: PatsIn,
+    context: Box<PatsIn>,
     lexeme: Lexeme,
 ) -> Result<Step, Halt>
-    ensures { (i : ℕ) → Follows result (machine.clause_step machine.limit i (machine.DotLevel depth void (pats_in_of context)) lexeme) }
+    ensures { (i : ℕ) → Follows result (machine.clause_step machine.limit i (machine.DotLevel depth void (pats_in_of context.value)) lexeme) }
 {
     match lexeme {
-        Lexeme::Level(i) => {
-            let context = with_pat(SurfPat::Dot(Surf::Sort(i)), context)?;
-            Ok(Step::to(State::InClause(ClauseState::Pats(depth, void, context))))
-        }
+        Lexeme::Level(i) => behind_pat(depth, void, SurfPat::Dot(Surf::Sort(i)), context),
         _ => Err(Halt::Stuck),
     }
 }

@@ -3,9 +3,9 @@ ghost use Rattle.surface_syntax.specs.Trees as tree;
 ghost use Rattle.surface_syntax.specs.Machine as machine;
 ghost use Rattle.surface_syntax.specs.Steps.{Makes};
 ghost use Rattle.surface_syntax.specs.TreeMeanings.{surf_of, binder_of, pat_of, right_of, clause_of, param_of, member_of};
-ghost use Rattle.surface_syntax.specs.StateMeanings.{quantifier_of, spine_of, telescope_of, headed_of, clauses_in_of, pats_in_of};
+ghost use Rattle.surface_syntax.specs.StateMeanings.{quantifier_of, spine_of, families_of, telescope_of, headed_of, clauses_in_of, pats_in_of};
 
-use crate::context::{ClausesIn, Headed, PatsIn, Quantifier, Spine, Telescope};
+use crate::context::{ClausesIn, Families, Headed, PatsIn, Quantifier, Spine, Telescope};
 use crate::halt::Halt;
 use crate::{Binder, Surf, SurfClause, SurfCon, SurfMember, SurfParam, SurfPat, SurfRight, Word};
 use core_terms::Items;
@@ -117,35 +117,54 @@ pub(crate) fn with_param(
     Ok(params)
 }
 
-pub(crate) fn with_con(member: SurfMember, con: Word, con_ty: Surf) -> Result<SurfMember, Halt>
-    ensures { Makes member_of result (machine.with_con (member_of member) con (surf_of con_ty)) }
+fn add_con(member: &mut SurfMember, name: Word, ty: Surf) -> Result<(), Halt>
+    ensures { Makes (λ _. member_of member.new) result (machine.with_con (member_of member.old) name (surf_of ty)) }
 {
-    let SurfMember { name, ty, mut cons } = member;
-    cons.push(SurfCon {
-        name: con,
-        ty: con_ty,
-    })?;
-    Ok(SurfMember { name, ty, cons })
+    member.cons.push(SurfCon { name, ty })?;
+    Ok(())
+}
+
+pub(crate) fn with_con(mut member: SurfMember, name: Word, ty: Surf) -> Result<SurfMember, Halt>
+    ensures { Makes member_of result (machine.with_con (member_of member) name (surf_of ty)) }
+{
+    add_con(&mut member, name, ty)?;
+    Ok(member)
+}
+
+pub(crate) fn with_member(mut families: Families, member: SurfMember) -> Result<Families, Halt>
+    ensures { Makes families_of result (record { params = map param_of families.params; members = map member_of families.members ++ member_of member ∷ [] }) }
+{
+    families.members.push(member)?;
+    Ok(families)
+}
+
+/// The names of a binder with one more, where `None` stands for `_`.
+pub(crate) fn with_name(
+    mut names: Items<Option<Word>>,
+    name: Option<Word>,
+) -> Result<Items<Option<Word>>, Halt>
+    ensures { Makes (λ ns. ns) result (names ++ name ∷ []) }
+{
+    names.push(name)?;
+    Ok(names)
+}
+
+pub(crate) fn with_word(mut words: Items<Word>, word: Word) -> Result<Items<Word>, Halt>
+    ensures { Makes (λ ws. ws) result (words ++ word ∷ []) }
+{
+    words.push(word)?;
+    Ok(words)
 }
 
 pub(crate) fn with_binder(
-    telescope: Telescope,
+    mut telescope: Telescope,
     names: Items<Option<Word>>,
     ty: Surf,
 ) -> Result<Telescope, Halt>
     ensures { Makes telescope_of result (machine.with_binder (telescope_of telescope) names (surf_of ty)) }
 {
-    let Telescope {
-        depth,
-        quantifier,
-        mut binders,
-    } = telescope;
-    binders.push(Binder { names, ty })?;
-    Ok(Telescope {
-        depth,
-        quantifier,
-        binders,
-    })
+    telescope.binders.push(Binder { names, ty })?;
+    Ok(telescope)
 }
 
 /// A head behind which no pattern stands yet.
@@ -159,25 +178,21 @@ pub(crate) fn behind(alloc: Global, depth: u32, head: Word) -> Headed
     }
 }
 
-fn one_more(headed: Headed, pat: SurfPat) -> Result<Headed, Halt>
-    ensures { Makes headed_of result (machine.one_more (headed_of headed) (pat_of pat)) }
-{
-    let Headed {
-        depth,
-        head,
-        mut pats,
-    } = headed;
-    pats.push(pat)?;
-    Ok(Headed { depth, head, pats })
-}
-
-pub(crate) fn with_pat(pat: SurfPat, context: PatsIn) -> Result<PatsIn, Halt>
-    ensures { Makes pats_in_of result (machine.with_pat (pat_of pat) (pats_in_of context)) }
+fn add_pat(context: &mut PatsIn, pat: SurfPat) -> Result<(), Halt>
+    ensures { Makes (λ _. pats_in_of context.new) result (machine.with_pat (pat_of pat) (pats_in_of context.old)) }
 {
     match context {
-        PatsIn::Behind(headed, outer) => Ok(PatsIn::Behind(one_more(headed, pat)?, outer)),
-        PatsIn::Inside(headed, outer) => Ok(PatsIn::Inside(one_more(headed, pat)?, outer)),
+        PatsIn::Behind(headed, _) => headed.pats.push(pat)?,
+        PatsIn::Inside(headed, _) => headed.pats.push(pat)?,
     }
+    Ok(())
+}
+
+pub(crate) fn with_pat(pat: SurfPat, mut context: Box<PatsIn>) -> Result<Box<PatsIn>, Halt>
+    ensures { Makes (λ k. pats_in_of k.value) result (machine.with_pat (pat_of pat) (pats_in_of context.value)) }
+{
+    add_pat(&mut context, pat)?;
+    Ok(context)
 }
 
 /// The clause with this right side.
@@ -188,19 +203,24 @@ pub(crate) fn clause(headed: Headed, right: SurfRight) -> SurfClause
     SurfClause { head, pats, right }
 }
 
-pub(crate) fn with_clause(clause: SurfClause, context: ClausesIn) -> Result<ClausesIn, Halt>
-    ensures { Makes clauses_in_of result (machine.with_clause (clause_of clause) (clauses_in_of context)) }
+fn add_clause(context: &mut ClausesIn, clause: SurfClause) -> Result<(), Halt>
+    ensures { Makes (λ _. clauses_in_of context.new) result (machine.with_clause (clause_of clause) (clauses_in_of context.old)) }
 {
     match context {
-        ClausesIn::Fun(name, ty, mut clauses) => {
-            clauses.push(clause)?;
-            Ok(ClausesIn::Fun(name, ty, clauses))
-        }
-        ClausesIn::Inspect(headed, scrutinee, mut clauses, outer) => {
-            clauses.push(clause)?;
-            Ok(ClausesIn::Inspect(headed, scrutinee, clauses, outer))
-        }
+        ClausesIn::Fun(_, _, clauses) => clauses.push(clause)?,
+        ClausesIn::Inspect(_, _, clauses, _) => clauses.push(clause)?,
     }
+    Ok(())
+}
+
+pub(crate) fn with_clause(
+    clause: SurfClause,
+    mut context: Box<ClausesIn>,
+) -> Result<Box<ClausesIn>, Halt>
+    ensures { Makes (λ k. clauses_in_of k.value) result (machine.with_clause (clause_of clause) (clauses_in_of context.value)) }
+{
+    add_clause(&mut context, clause)?;
+    Ok(context)
 }
 
 /// An application of names.

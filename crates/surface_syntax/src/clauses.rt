@@ -1,13 +1,15 @@
+ghost use Rattle.std.specs.Prelude.{◌+◌};
 ghost use Rattle.surface_syntax.specs.Machine as machine;
 ghost use Rattle.surface_syntax.specs.Steps.{Follows};
 ghost use Rattle.surface_syntax.specs.TreeMeanings.{pat_of};
 ghost use Rattle.surface_syntax.specs.StateMeanings.{headed_of, clauses_in_of, pats_in_of, clause_state_of};
 
 use crate::awaiting::dot_level;
-use crate::building::{behind, clause, deeper, may, with_pat};
+use crate::building::{behind, clause, deeper, may};
 use crate::closing::{clause_end, closed};
 use crate::context::{ClausesIn, Headed, PatsIn, TermIn};
 use crate::halt::Halt;
+use crate::onward::{behind_pat, term_inside};
 use crate::state::{ClauseState, State, Step};
 use crate::{Lexeme, Surf, SurfPat, SurfRight, Word};
 use std::alloc::Global;
@@ -18,11 +20,23 @@ fn to(state: ClauseState) -> Result<Step, Halt>
     Ok(Step::to(State::InClause(state)))
 }
 
-/// On behind a whole pattern.
-fn behind_pat(depth: u32, void: bool, pat: SurfPat, context: PatsIn) -> Result<Step, Halt>
-    ensures { Follows result (machine.to (machine.In_clause (machine.Pats depth void (machine.with_pat (pat_of pat) (pats_in_of context))))) }
+/// On to the patterns inside a constructor pattern or a clause.
+fn pats_inside(alloc: Global, depth: u32, void: bool, context: PatsIn) -> Result<Step, Halt>
+    ensures { Follows result (machine.to (machine.In_clause (machine.Pats (depth + 1) void (pats_in_of context)))) }
 {
-    to(ClauseState::Pats(depth, void, with_pat(pat, context)?))
+    let context = Box::new(alloc, context)?;
+    let inner = deeper(depth)?;
+    to(ClauseState::Pats(inner, void, context))
+}
+
+/// Behind `( )`, which stands once at most in the patterns of a clause.
+fn pat_void(depth: u32, void: bool, context: Box<PatsIn>) -> Result<Step, Halt>
+    ensures { Follows result (machine.pat_open depth void (pats_in_of context.value) Lexeme.Close) }
+{
+    if void {
+        return Err(Halt::Stuck);
+    }
+    behind_pat(depth, true, SurfPat::Absurd, context)
 }
 
 /// Behind `(` in a pattern.
@@ -30,47 +44,38 @@ fn pat_open(
     alloc: Global,
     depth: u32,
     void: bool,
-    context: PatsIn,
+    context: Box<PatsIn>,
     lexeme: Lexeme,
 ) -> Result<Step, Halt>
-    ensures { Follows result (machine.pat_open depth void (pats_in_of context) lexeme) }
+    ensures { Follows result (machine.pat_open depth void (pats_in_of context.value) lexeme) }
 {
     match lexeme {
         Lexeme::Plain(con) | Lexeme::Dotted(con) => {
-            let context = PatsIn::Inside(behind(alloc, depth, con), Box::new(alloc, context)?);
-            to(ClauseState::Pats(deeper(depth)?, void, context))
+            let context = PatsIn::Inside(behind(alloc, depth, con), context);
+            pats_inside(alloc, depth, void, context)
         }
-        Lexeme::Close => {
-            if void {
-                Err(Halt::Stuck)
-            } else {
-                behind_pat(depth, true, SurfPat::Absurd, context)
-            }
-        }
+        Lexeme::Close => pat_void(depth, void, context),
         _ => Err(Halt::Stuck),
     }
 }
 
 /// Behind the dot of a pattern.
-fn dot_atom(depth: u32, void: bool, context: PatsIn, lexeme: Lexeme) -> Result<Step, Halt>
-    ensures { Follows result (machine.dot_atom depth void (pats_in_of context) lexeme) }
+fn dot_atom(depth: u32, void: bool, context: Box<PatsIn>, lexeme: Lexeme) -> Result<Step, Halt>
+    ensures { Follows result (machine.dot_atom depth void (pats_in_of context.value) lexeme) }
 {
     match lexeme {
         Lexeme::Plain(word) | Lexeme::Dotted(word) => {
             behind_pat(depth, void, SurfPat::Dot(Surf::Named(word)), context)
         }
         Lexeme::Type => to(ClauseState::DotLevel(depth, void, context)),
-        Lexeme::Open => Ok(Step::to(State::term(
-            deeper(depth)?,
-            TermIn::Dot(depth, void, context),
-        ))),
+        Lexeme::Open => term_inside(depth, TermIn::Dot(depth, void, context)),
         _ => Err(Halt::Stuck),
     }
 }
 
 /// Where the patterns of a constructor pattern end.
-fn con_right(void: bool, headed: Headed, outer: PatsIn, lexeme: Lexeme) -> Result<Step, Halt>
-    ensures { Follows result (machine.con_right void (headed_of headed) (pats_in_of outer) lexeme) }
+fn con_right(void: bool, headed: Headed, outer: Box<PatsIn>, lexeme: Lexeme) -> Result<Step, Halt>
+    ensures { Follows result (machine.con_right void (headed_of headed) (pats_in_of outer.value) lexeme) }
 {
     match lexeme {
         Lexeme::Close => {
@@ -82,8 +87,13 @@ fn con_right(void: bool, headed: Headed, outer: PatsIn, lexeme: Lexeme) -> Resul
 }
 
 /// Where the patterns of a clause without `( )` end.
-fn clause_right(depth: u32, headed: Headed, outer: ClausesIn, lexeme: Lexeme) -> Result<Step, Halt>
-    ensures { Follows result (machine.clause_right depth (headed_of headed) (clauses_in_of outer) lexeme) }
+fn clause_right(
+    depth: u32,
+    headed: Headed,
+    outer: Box<ClausesIn>,
+    lexeme: Lexeme,
+) -> Result<Step, Halt>
+    ensures { Follows result (machine.clause_right depth (headed_of headed) (clauses_in_of outer.value) lexeme) }
 {
     match lexeme {
         Lexeme::Equals => Ok(Step::to(State::term(depth, TermIn::Side(headed, outer)))),
@@ -97,10 +107,10 @@ fn behind_end(
     depth: u32,
     void: bool,
     headed: Headed,
-    outer: ClausesIn,
+    outer: Box<ClausesIn>,
     lexeme: Lexeme,
 ) -> Result<Step, Halt>
-    ensures { Follows result (machine.pats_end depth void (machine.Behind (headed_of headed) (clauses_in_of outer)) lexeme) }
+    ensures { Follows result (machine.pats_end depth void (machine.Behind (headed_of headed) (clauses_in_of outer.value)) lexeme) }
 {
     if void {
         let depth = headed.depth;
@@ -111,50 +121,58 @@ fn behind_end(
 }
 
 /// Where patterns end.
-fn pats_end(depth: u32, void: bool, context: PatsIn, lexeme: Lexeme) -> Result<Step, Halt>
-    ensures { Follows result (machine.pats_end depth void (pats_in_of context) lexeme) }
+fn pats_end(depth: u32, void: bool, context: Box<PatsIn>, lexeme: Lexeme) -> Result<Step, Halt>
+    ensures { Follows result (machine.pats_end depth void (pats_in_of context.value) lexeme) }
 {
-    match context {
-        PatsIn::Inside(headed, outer) => con_right(void, headed, Box::into_inner(outer), lexeme),
+    match Box::into_inner(context) {
+        PatsIn::Inside(headed, outer) => con_right(void, headed, outer, lexeme),
         PatsIn::Behind(headed, outer) => behind_end(depth, void, headed, outer, lexeme),
     }
 }
 
 /// Where a name is a pattern.
-fn pat_name(left: u32, depth: u32, void: bool, context: PatsIn, word: Word) -> Result<Step, Halt>
-    ensures { Follows result (machine.pats machine.limit depth left void (pats_in_of context) (Lexeme.Plain word)) }
+fn pat_name(
+    left: u32,
+    depth: u32,
+    void: bool,
+    context: Box<PatsIn>,
+    word: Word,
+) -> Result<Step, Halt>
+    ensures { Follows result (machine.pats machine.limit depth left void (pats_in_of context.value) (Lexeme.Plain word)) }
 {
-    may(depth, left)?;
-    behind_pat(depth, void, SurfPat::Named(word), context)
+    may(depth, left).and(behind_pat(depth, void, SurfPat::Named(word), context))
 }
 
 /// Where `_` is a pattern.
-fn pat_wild(left: u32, depth: u32, void: bool, context: PatsIn) -> Result<Step, Halt>
-    ensures { Follows result (machine.pats machine.limit depth left void (pats_in_of context) Lexeme.Underscore) }
+fn pat_wild(left: u32, depth: u32, void: bool, context: Box<PatsIn>) -> Result<Step, Halt>
+    ensures { Follows result (machine.pats machine.limit depth left void (pats_in_of context.value) Lexeme.Underscore) }
 {
-    may(depth, left)?;
-    behind_pat(depth, void, SurfPat::Wild, context)
+    may(depth, left).and(behind_pat(depth, void, SurfPat::Wild, context))
 }
 
 /// Where a pattern begins with a dot.
-fn pat_dot(left: u32, depth: u32, void: bool, context: PatsIn) -> Result<Step, Halt>
-    ensures { Follows result (machine.pats machine.limit depth left void (pats_in_of context) Lexeme.Dot) }
+fn pat_dot(left: u32, depth: u32, void: bool, context: Box<PatsIn>) -> Result<Step, Halt>
+    ensures { Follows result (machine.pats machine.limit depth left void (pats_in_of context.value) Lexeme.Dot) }
 {
-    may(depth, left)?;
-    to(ClauseState::DotAtom(depth, void, context))
+    may(depth, left).and(to(ClauseState::DotAtom(depth, void, context)))
 }
 
 /// Where a pattern begins with `(`.
-fn pat_group(left: u32, depth: u32, void: bool, context: PatsIn) -> Result<Step, Halt>
-    ensures { Follows result (machine.pats machine.limit depth left void (pats_in_of context) Lexeme.Open) }
+fn pat_group(left: u32, depth: u32, void: bool, context: Box<PatsIn>) -> Result<Step, Halt>
+    ensures { Follows result (machine.pats machine.limit depth left void (pats_in_of context.value) Lexeme.Open) }
 {
-    may(depth, left)?;
-    to(ClauseState::PatOpen(depth, void, context))
+    may(depth, left).and(to(ClauseState::PatOpen(depth, void, context)))
 }
 
 /// Where patterns stand.
-fn pats(left: u32, depth: u32, void: bool, context: PatsIn, lexeme: Lexeme) -> Result<Step, Halt>
-    ensures { Follows result (machine.pats machine.limit depth left void (pats_in_of context) lexeme) }
+fn pats(
+    left: u32,
+    depth: u32,
+    void: bool,
+    context: Box<PatsIn>,
+    lexeme: Lexeme,
+) -> Result<Step, Halt>
+    ensures { Follows result (machine.pats machine.limit depth left void (pats_in_of context.value) lexeme) }
 {
     match lexeme {
         Lexeme::Plain(word) | Lexeme::Dotted(word) => pat_name(left, depth, void, context, word),
@@ -170,16 +188,15 @@ fn clause_name(
     alloc: Global,
     left: u32,
     depth: u32,
-    context: ClausesIn,
+    context: Box<ClausesIn>,
     lexeme: Lexeme,
 ) -> Result<Step, Halt>
-    ensures { Follows result (machine.clause_name machine.limit depth left (clauses_in_of context) lexeme) }
+    ensures { Follows result (machine.clause_name machine.limit depth left (clauses_in_of context.value) lexeme) }
 {
     match lexeme {
         Lexeme::Plain(head) => {
-            may(depth, left)?;
             let context = PatsIn::Behind(behind(alloc, depth, head), context);
-            to(ClauseState::Pats(deeper(depth)?, false, context))
+            may(depth, left).and(pats_inside(alloc, depth, false, context))
         }
         _ => Err(Halt::Stuck),
     }
@@ -189,10 +206,10 @@ fn first_clause(
     alloc: Global,
     left: u32,
     depth: u32,
-    context: ClausesIn,
+    context: Box<ClausesIn>,
     lexeme: Lexeme,
 ) -> Result<Step, Halt>
-    ensures { Follows result (machine.clause_step machine.limit left (machine.FirstClause depth (clauses_in_of context)) lexeme) }
+    ensures { Follows result (machine.clause_step machine.limit left (machine.FirstClause depth (clauses_in_of context.value)) lexeme) }
 {
     match lexeme {
         Lexeme::CloseBrace => Ok(closed(context)),

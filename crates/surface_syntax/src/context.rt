@@ -48,7 +48,7 @@ pub(crate) enum ClausesIn {
 /// Where patterns stand, with the patterns so far: in a clause, or in a constructor pattern.
 #[derive(Drop)]
 pub(crate) enum PatsIn {
-    Behind(Headed, ClausesIn),
+    Behind(Headed, Box<ClausesIn>),
     Inside(Headed, Box<PatsIn>),
 }
 
@@ -75,7 +75,7 @@ pub(crate) enum TermIn {
     LetType(u32, Word, Box<TermIn>),
     LetValue(u32, Word, Surf, Box<TermIn>),
     LetBody(Word, Surf, Surf, Box<TermIn>),
-    Dot(u32, bool, PatsIn),
-    Side(Headed, ClausesIn),
-    Scrutinee(Headed, ClausesIn),
+    Dot(u32, bool, Box<PatsIn>),
+    Side(Headed, Box<ClausesIn>),
+    Scrutinee(Headed, Box<ClausesIn>),
 }

@@ -1,9 +1,10 @@
-ghost use Rattle.std.specs.Prelude.{map, option_map};
+ghost use Rattle.std.specs.Prelude.{◌++◌, [], ◌∷◌, map, option_map};
 ghost use Rattle.surface_syntax.specs.Machine as machine;
 ghost use Rattle.surface_syntax.specs.Steps.{Follows};
 ghost use Rattle.surface_syntax.specs.StateMeanings.{families_of, part_of, def_state_of, data_state_of, mutual_state_of};
 ghost use Rattle.surface_syntax.specs.TreeMeanings.{decl_of, param_of, member_of};
 
+use crate::building::{with_member, with_word};
 use crate::closing::member_end;
 use crate::context::{Families, Part};
 use crate::due::{colon, name, open_brace};
@@ -110,8 +111,7 @@ fn fun_name(lexeme: Lexeme) -> Result<Step, Halt>
 fn fun_colon(word: Word, lexeme: Lexeme) -> Result<Step, Halt>
     ensures { Follows result (machine.def_step (machine.FunColon word) lexeme) }
 {
-    colon(lexeme)?;
-    part(Part::FunType(word))
+    colon(lexeme).and(part(Part::FunType(word)))
 }
 
 /// The states of a definition, or of the head of a function.
@@ -157,6 +157,14 @@ fn first_con(families: Families, member: SurfMember, lexeme: Lexeme) -> Result<S
     }
 }
 
+/// On to the name of one family more.
+fn another_member(families: Families, member: SurfMember) -> Result<Step, Halt>
+    ensures { Follows result (machine.to (machine.In_mutual (machine.MemberName (record { params = map param_of families.params; members = map member_of families.members ++ member_of member ∷ [] })))) }
+{
+    let families = with_member(families, member)?;
+    in_mutual(MutualState::MemberName(families))
+}
+
 /// Behind the first family of a declaration.
 fn family_end(
     alloc: Global,
@@ -168,9 +176,8 @@ fn family_end(
 {
     match lexeme {
         Lexeme::With => {
-            let mut members = Items::new(alloc);
-            members.push(member)?;
-            in_mutual(MutualState::MemberName(Families { params, members }))
+            let members = Items::new(alloc);
+            another_member(Families { params, members }, member)
         }
         other => {
             let SurfMember { name, ty, cons } = member;
@@ -213,8 +220,7 @@ fn param_colon(
 ) -> Result<Step, Halt>
     ensures { Follows result (machine.data_step (machine.ParamColon word (map param_of params) param) lexeme) }
 {
-    colon(lexeme)?;
-    part(Part::ParamType(word, params, param))
+    colon(lexeme).and(part(Part::ParamType(word, params, param)))
 }
 
 /// Where one constructor more is due.
@@ -234,8 +240,7 @@ fn con_colon(
 ) -> Result<Step, Halt>
     ensures { Follows result (machine.data_step (machine.ConColon (families_of families) (member_of member) con) lexeme) }
 {
-    colon(lexeme)?;
-    part(Part::ConType(families, member, con))
+    colon(lexeme).and(part(Part::ConType(families, member, con)))
 }
 
 /// The states of a family.
@@ -304,8 +309,7 @@ fn member_name(families: Families, lexeme: Lexeme) -> Result<Step, Halt>
 fn member_colon(families: Families, word: Word, lexeme: Lexeme) -> Result<Step, Halt>
     ensures { Follows result (machine.mutual_step (machine.MemberColon (families_of families) word) lexeme) }
 {
-    colon(lexeme)?;
-    part(Part::MemberType(families, word))
+    colon(lexeme).and(part(Part::MemberType(families, word)))
 }
 
 /// Behind the `in` of families.
@@ -334,9 +338,22 @@ fn tags_open(
 ) -> Result<Step, Halt>
     ensures { Follows result (machine.mutual_step (machine.TagsOpen (families_of families) family tag) lexeme) }
 {
-    open_brace(lexeme)?;
     let tags = Items::new(alloc);
-    in_mutual(MutualState::TagName(families, family, tag, tags))
+    open_brace(lexeme).and(in_mutual(MutualState::TagName(families, family, tag, tags)))
+}
+
+/// On behind one tag more.
+fn behind_tag(
+    families: Families,
+    family: Word,
+    tag: Word,
+    tags: Items<Word>,
+    word: Word,
+) -> Result<Step, Halt>
+    ensures { Follows result (machine.to (machine.In_mutual (machine.TagNext (families_of families) family tag (tags ++ word ∷ [])))) }
+{
+    let tags = with_word(tags, word)?;
+    in_mutual(MutualState::TagNext(families, family, tag, tags))
 }
 
 /// Where a tag is due.
@@ -344,14 +361,13 @@ fn tag_name(
     families: Families,
     family: Word,
     tag: Word,
-    mut tags: Items<Word>,
+    tags: Items<Word>,
     lexeme: Lexeme,
 ) -> Result<Step, Halt>
     ensures { Follows result (machine.mutual_step (machine.TagName (families_of families) family tag tags) lexeme) }
 {
     let word = name(lexeme)?;
-    tags.push(word)?;
-    in_mutual(MutualState::TagNext(families, family, tag, tags))
+    behind_tag(families, family, tag, tags, word)
 }
 
 /// The states of families that refer to each other, behind the first.

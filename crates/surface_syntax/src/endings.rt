@@ -23,9 +23,9 @@ pub(crate) enum Ending {
     Domain(Telescope, Items<Option<Word>>, Box<TermIn>),
     LetType(u32, Word, Box<TermIn>),
     LetValue(u32, Word, Surf, Box<TermIn>),
-    Dot(u32, bool, PatsIn),
-    Side(Headed, ClausesIn),
-    Scrutinee(Headed, ClausesIn),
+    Dot(u32, bool, Box<PatsIn>),
+    Side(Headed, Box<ClausesIn>),
+    Scrutinee(Headed, Box<ClausesIn>),
 }
 
 /// A term that ends where another one ends: the one around it, or where it stands if it is no last part.

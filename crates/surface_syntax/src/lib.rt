@@ -2,7 +2,6 @@
 #![tactic(auto)]
 
 mod awaiting;
-mod binders;
 mod building;
 mod clauses;
 mod closing;
@@ -15,6 +14,7 @@ mod laws;
 mod lexeme;
 mod lexemes;
 mod lexer;
+mod onward;
 mod parser;
 mod spans;
 mod state;

@@ -1,6 +1,6 @@
 ghost use Rattle.std.specs.Prelude.{◌≡◌, ◌<◌, ◌^◌, map, length, option_map};
 ghost use Rattle.surface_syntax.specs.Machine as machine;
-ghost use Rattle.surface_syntax.specs.Steps.{Follows, Makes};
+ghost use Rattle.surface_syntax.specs.Steps.{Follows, Makes, outcome_of};
 ghost use Rattle.surface_syntax.specs.Parses as spec;
 ghost use Rattle.surface_syntax.specs.Taking as taking;
 ghost use Rattle.surface_syntax.specs.Splitting.{AreTokens, AreInOrder};
@@ -21,7 +21,7 @@ use std::alloc::Global;
 #[derive(Drop)]
 pub(crate) struct Reading {
     pub decls: Items<Decl>,
-    pub state: State,
+    pub state: Box<State>,
 }
 
 /// What a lexeme leads to, where `left` lexemes are left, that one among them.
@@ -47,27 +47,69 @@ fn with_whole(mut decls: Items<Decl>, whole: Option<Decl>) -> Result<Items<Decl>
     Ok(decls)
 }
 
+fn boxed(alloc: Global, state: State) -> Result<Box<State>, Halt>
+    ensures { Makes (λ s. state_of s.value) result (state_of state) }
+{
+    Ok(Box::new(alloc, state)?)
+}
+
+fn gone_on(
+    alloc: Global,
+    decls: Items<Decl>,
+    whole: Option<Decl>,
+    state: State,
+) -> Result<Reading, Halt>
+    ensures { Makes taking.reading_of result (record { decls = taking.with_whole (map decl_of decls) (option_map decl_of whole); state = state_of state }) }
+{
+    let decls = with_whole(decls, whole);
+    let state = boxed(alloc, state)?;
+    Ok(Reading {
+        decls: decls?,
+        state,
+    })
+}
+
+/// What is read after a step that does not end the text.
+fn taken(alloc: Global, decls: Items<Decl>, step: Step) -> Result<Reading, Halt>
+    ensures { taking.Halts taking.reading_of result (taking.taken (map decl_of decls) (outcome_of step)) }
+{
+    match step {
+        Step::Goes(whole, state) => gone_on(alloc, decls, whole, state),
+        Step::Ends(whole) => {
+            drop(whole);
+            Err(Halt::Stuck)
+        }
+    }
+}
+
 fn take(alloc: Global, left: u32, reading: Reading, lexeme: Lexeme) -> Result<Reading, Halt>
-    ensures { taking.Halts taking.reading_of result (taking.taken (map decl_of reading.decls) (machine.step machine.limit left (state_of reading.state) lexeme)) }
+    ensures { taking.Halts taking.reading_of result (taking.taken (map decl_of reading.decls) (machine.step machine.limit left (state_of reading.state.value) lexeme)) }
 {
     let Reading { decls, state } = reading;
-    match step(alloc, left, state, lexeme)? {
+    let next = step(alloc, left, Box::into_inner(state), lexeme)?;
+    taken(alloc, decls, next)
+}
+
+/// The declarations of the text, after the step that ends it.
+fn finished(decls: Items<Decl>, step: Step) -> Result<Items<Decl>, Halt>
+    ensures { taking.Halts (map decl_of) result (taking.finished (map decl_of decls) (outcome_of step)) }
+{
+    match step {
         Step::Goes(whole, state) => {
-            let decls = with_whole(decls, whole)?;
-            Ok(Reading { decls, state })
+            drop(whole);
+            drop(state);
+            Err(Halt::Stuck)
         }
-        Step::Ends(_) => Err(Halt::Stuck),
+        Step::Ends(whole) => with_whole(decls, whole),
     }
 }
 
 fn finish(alloc: Global, reading: Reading) -> Result<Items<Decl>, Halt>
-    ensures { taking.Halts (map decl_of) result (taking.finished (map decl_of reading.decls) (machine.step machine.limit 0 (state_of reading.state) Lexeme.End)) }
+    ensures { taking.Halts (map decl_of) result (taking.finished (map decl_of reading.decls) (machine.step machine.limit 0 (state_of reading.state.value) Lexeme.End)) }
 {
     let Reading { decls, state } = reading;
-    match step(alloc, 0, state, Lexeme::End)? {
-        Step::Goes(..) => Err(Halt::Stuck),
-        Step::Ends(whole) => with_whole(decls, whole),
-    }
+    let last = step(alloc, 0, Box::into_inner(state), Lexeme::End)?;
+    finished(decls, last)
 }
 
 /// The offset of the token with which `left` tokens are left, or the length of the text.
@@ -101,7 +143,7 @@ fn read(alloc: Global, bytes: &[u8], tokens: &[Token]) -> Result<Items<Decl>, Sy
 {
     let mut reading = Reading {
         decls: Items::new(alloc),
-        state: State::Start,
+        state: Box::new(alloc, State::Start)?,
     };
     let mut left = tokens.len() as u32;
     'lexemes: for token in tokens {

@@ -61,13 +61,13 @@ pub(crate) enum TermState {
 /// What is awaited among clauses. A `bool` says whether `( )` stood in the patterns of the clause.
 #[derive(Drop)]
 pub(crate) enum ClauseState {
-    Pats(u32, bool, PatsIn),
-    PatOpen(u32, bool, PatsIn),
-    DotAtom(u32, bool, PatsIn),
-    DotLevel(u32, bool, PatsIn),
-    FirstClause(u32, ClausesIn),
-    ClauseName(u32, ClausesIn),
-    ClauseEnd(u32, SurfClause, ClausesIn),
+    Pats(u32, bool, Box<PatsIn>),
+    PatOpen(u32, bool, Box<PatsIn>),
+    DotAtom(u32, bool, Box<PatsIn>),
+    DotLevel(u32, bool, Box<PatsIn>),
+    FirstClause(u32, Box<ClausesIn>),
+    ClauseName(u32, Box<ClausesIn>),
+    ClauseEnd(u32, SurfClause, Box<ClausesIn>),
 }
 
 /// What is awaited.

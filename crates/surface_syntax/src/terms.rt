@@ -1,15 +1,15 @@
-ghost use Rattle.std.specs.Prelude.{◌≡◌, ◌+◌, [], None, option_map};
+ghost use Rattle.std.specs.Prelude.{◌≡◌, ◌+◌, ◌++◌, [], ◌∷◌, None, option_map};
 ghost use Rattle.surface_syntax.specs.Machine as machine;
 ghost use Rattle.surface_syntax.specs.Steps.{Follows, Makes};
 ghost use Rattle.surface_syntax.specs.StateMeanings.{quantifier_of, spine_of, telescope_of, term_in_of, term_state_of};
 
 use crate::awaiting::{binder_open, level};
-use crate::binders::blank;
-use crate::building::{applied, deeper, may, named, plus, some_names};
+use crate::building::{applied, deeper, may, named, some_names, with_name, with_word};
 use crate::context::{Quantifier, Spine, Telescope, TermIn};
 use crate::due::colon;
 use crate::endings::term_end;
 use crate::halt::Halt;
+use crate::onward::{behind_atom, term_inside};
 use crate::state::{State, Step, TermState};
 use crate::{Lexeme, Surf, Word};
 use core_terms::Items;
@@ -19,24 +19,6 @@ fn to(state: TermState) -> Result<Step, Halt>
     ensures { Follows result (machine.to (machine.In_term (term_state_of state))) }
 {
     Ok(Step::to(State::InTerm(state)))
-}
-
-/// On to a term inside this many productions.
-fn inside(depth: u32, context: TermIn) -> Result<Step, Halt>
-    ensures { Follows result (machine.to (machine.term depth (term_in_of context))) }
-{
-    Ok(Step::to(State::term(depth, context)))
-}
-
-/// On behind names of a binder.
-fn behind_names(
-    telescope: Telescope,
-    names: Items<Option<Word>>,
-    context: Box<TermIn>,
-) -> Result<Step, Halt>
-    ensures { Follows result (machine.to (machine.In_term (machine.BinderNames (telescope_of telescope) names (term_in_of context.value)))) }
-{
-    to(TermState::BinderNames(telescope, names, context))
 }
 
 /// On behind the name of a local definition.
@@ -75,11 +57,9 @@ fn term_start(alloc: Global, depth: u32, context: Box<TermIn>, lexeme: Lexeme) -
         Lexeme::Let => to(TermState::LetName(depth, context)),
         Lexeme::Open => to(TermState::Opened(depth, context)),
         Lexeme::Type => to(TermState::Level(depth, None, context)),
-        Lexeme::Plain(word) | Lexeme::Dotted(word) => to(TermState::Atoms(
-            depth,
-            plus(alloc, None, Surf::Named(word))?,
-            context,
-        )),
+        Lexeme::Plain(word) | Lexeme::Dotted(word) => {
+            behind_atom(alloc, depth, None, Surf::Named(word), context)
+        }
         _ => Err(Halt::Stuck),
     }
 }
@@ -88,17 +68,28 @@ fn term_start(alloc: Global, depth: u32, context: Box<TermIn>, lexeme: Lexeme) -
 fn atom_open(depth: u32, spine: Spine, context: Box<TermIn>) -> Result<Step, Halt>
     ensures { Follows result (machine.atoms depth (spine_of spine) (term_in_of context.value) Lexeme.Open) }
 {
-    let inner = deeper(depth)?;
-    inside(inner, TermIn::Parens(depth, Some(spine), context))
+    term_inside(depth, TermIn::Parens(depth, Some(spine), context))
 }
 
 /// Behind the `->` of an application.
 fn codomain(alloc: Global, depth: u32, spine: Spine, context: Box<TermIn>) -> Result<Step, Halt>
     ensures { Follows result (machine.atoms depth (spine_of spine) (term_in_of context.value) Lexeme.Arrow) }
 {
-    let inner = deeper(depth)?;
     let front = applied(alloc, spine)?;
-    inside(inner, TermIn::Codomain(front, context))
+    term_inside(depth, TermIn::Codomain(front, context))
+}
+
+/// Behind a whole application.
+fn atoms_end(
+    alloc: Global,
+    spine: Spine,
+    context: Box<TermIn>,
+    lexeme: Lexeme,
+) -> Result<Step, Halt>
+    ensures { Follows result (machine.term_end (machine.spine (spine_of spine)) (term_in_of context.value) lexeme) }
+{
+    let whole = applied(alloc, spine)?;
+    term_end(alloc, whole, Box::into_inner(context), lexeme)
 }
 
 /// Behind the atoms of an application.
@@ -113,16 +104,12 @@ fn atoms(
 {
     match lexeme {
         Lexeme::Plain(word) | Lexeme::Dotted(word) => {
-            let spine = plus(alloc, Some(spine), Surf::Named(word))?;
-            to(TermState::Atoms(depth, spine, context))
+            behind_atom(alloc, depth, Some(spine), Surf::Named(word), context)
         }
         Lexeme::Type => to(TermState::Level(depth, Some(spine), context)),
         Lexeme::Open => atom_open(depth, spine, context),
         Lexeme::Arrow => codomain(alloc, depth, spine, context),
-        other => {
-            let whole = applied(alloc, spine)?;
-            term_end(alloc, whole, Box::into_inner(context), other)
-        }
+        other => atoms_end(alloc, spine, context, other),
     }
 }
 
@@ -137,28 +124,34 @@ fn domain(
     if names.as_slice().is_empty() {
         return Err(Halt::Stuck);
     }
-    let depth = deeper(telescope.depth)?;
-    inside(depth, TermIn::Domain(telescope, names, context))
+    term_inside(telescope.depth, TermIn::Domain(telescope, names, context))
+}
+
+/// On behind one name more of a binder.
+fn behind_name(
+    telescope: Telescope,
+    names: Items<Option<Word>>,
+    name: Option<Word>,
+    context: Box<TermIn>,
+) -> Result<Step, Halt>
+    ensures { Follows result (machine.to (machine.In_term (machine.BinderNames (telescope_of telescope) (names ++ name ∷ []) (term_in_of context.value)))) }
+{
+    let names = with_name(names, name)?;
+    to(TermState::BinderNames(telescope, names, context))
 }
 
 /// Behind `(` and names of a binder.
 fn binder_names(
     telescope: Telescope,
-    mut names: Items<Option<Word>>,
+    names: Items<Option<Word>>,
     context: Box<TermIn>,
     lexeme: Lexeme,
 ) -> Result<Step, Halt>
     ensures { Follows result (machine.binder_names (telescope_of telescope) names (term_in_of context.value) lexeme) }
 {
     match lexeme {
-        Lexeme::Plain(word) => {
-            names.push(Some(word))?;
-            to(TermState::BinderNames(telescope, names, context))
-        }
-        Lexeme::Underscore => {
-            names.push(None)?;
-            to(TermState::BinderNames(telescope, names, context))
-        }
+        Lexeme::Plain(word) => behind_name(telescope, names, Some(word), context),
+        Lexeme::Underscore => behind_name(telescope, names, None, context),
         Lexeme::Colon => domain(telescope, names, context),
         _ => Err(Halt::Stuck),
     }
@@ -175,12 +168,23 @@ fn binder_next(
 {
     match lexeme {
         Lexeme::Open => to(TermState::BinderNames(telescope, Items::new(alloc), context)),
-        Lexeme::Arrow => {
-            let depth = deeper(telescope.depth)?;
-            inside(depth, TermIn::Body(telescope, context))
-        }
+        Lexeme::Arrow => term_inside(telescope.depth, TermIn::Body(telescope, context)),
         _ => Err(Halt::Stuck),
     }
+}
+
+/// Where a term in parentheses begins, with so many productions around the parentheses and the term.
+fn parens_start(
+    alloc: Global,
+    depth: u32,
+    inner: u32,
+    context: Box<TermIn>,
+    lexeme: Lexeme,
+) -> Result<Step, Halt>
+    ensures { Follows result (machine.term_start inner (machine.Parens depth None (term_in_of context.value)) lexeme) }
+{
+    let context = parens(alloc, depth, context)?;
+    term_start(alloc, inner, context, lexeme)
 }
 
 /// Behind the `(` of a term in parentheses.
@@ -194,9 +198,7 @@ fn opened_term(
     ensures { Follows result (machine.may machine.limit (depth + 1) left (machine.term_start (depth + 1) (machine.Parens depth None (term_in_of context.value)) lexeme)) }
 {
     let inner = deeper(depth)?;
-    may(inner, left)?;
-    let context = parens(alloc, depth, context)?;
-    term_start(alloc, inner, context, lexeme)
+    may(inner, left).and(parens_start(alloc, depth, inner, context, lexeme))
 }
 
 /// Behind `(` at the front of a term: a binder, or a term in parentheses.
@@ -212,8 +214,8 @@ fn opened(
     match lexeme {
         Lexeme::Plain(word) => to(TermState::Names(depth, left, word, Items::new(alloc), context)),
         Lexeme::Underscore => {
-            let names = blank(alloc)?;
-            behind_names(telescope(alloc, depth, Quantifier::Product), names, context)
+            let telescope = telescope(alloc, depth, Quantifier::Product);
+            behind_name(telescope, Items::new(alloc), None, context)
         }
         other => opened_term(alloc, left, depth, context, other),
     }
@@ -229,9 +231,13 @@ fn names_blank(
 ) -> Result<Step, Halt>
     ensures { Follows result (machine.names machine.limit depth 0 first more (term_in_of context.value) Lexeme.Underscore) }
 {
-    let mut names = some_names(alloc, first, more)?;
-    names.push(None)?;
-    to(TermState::BinderNames(telescope(alloc, depth, Quantifier::Product), names, context))
+    let names = some_names(alloc, first, more)?;
+    behind_name(
+        telescope(alloc, depth, Quantifier::Product),
+        names,
+        None,
+        context,
+    )
 }
 
 /// Behind `(`, plain names and `:`, which begin a binder.
@@ -244,10 +250,24 @@ fn names_colon(
 ) -> Result<Step, Halt>
     ensures { Follows result (machine.names machine.limit depth 0 first more (term_in_of context.value) Lexeme.Colon) }
 {
-    let inner = deeper(depth)?;
     let names = some_names(alloc, first, more)?;
     let telescope = telescope(alloc, depth, Quantifier::Product);
-    inside(inner, TermIn::Domain(telescope, names, context))
+    term_inside(depth, TermIn::Domain(telescope, names, context))
+}
+
+/// Behind names in parentheses, with so many productions around the parentheses and the names.
+fn parens_atoms(
+    alloc: Global,
+    depth: u32,
+    inner: u32,
+    spine: Spine,
+    context: Box<TermIn>,
+    lexeme: Lexeme,
+) -> Result<Step, Halt>
+    ensures { Follows result (machine.atoms inner (spine_of spine) (machine.Parens depth None (term_in_of context.value)) lexeme) }
+{
+    let context = parens(alloc, depth, context)?;
+    atoms(alloc, inner, spine, context, lexeme)
 }
 
 /// Behind `(` and plain names that begin a term, the first of which stood where `at` lexemes were left.
@@ -262,9 +282,38 @@ fn names_inside(
     ensures { Follows result (machine.may machine.limit (depth + 1) at (machine.atoms (depth + 1) (spine_of spine) (machine.Parens depth None (term_in_of context.value)) lexeme)) }
 {
     let inner = deeper(depth)?;
-    may(inner, at)?;
-    let context = parens(alloc, depth, context)?;
-    atoms(alloc, inner, spine, context, lexeme)
+    may(inner, at).and(parens_atoms(alloc, depth, inner, spine, context, lexeme))
+}
+
+/// Behind `(`, plain names and one name more.
+fn names_word(
+    depth: u32,
+    at: u32,
+    first: Word,
+    more: Items<Word>,
+    word: Word,
+    context: Box<TermIn>,
+) -> Result<Step, Halt>
+    ensures { Follows result (machine.names machine.limit depth at first more (term_in_of context.value) (Lexeme.Plain word)) }
+{
+    let more = with_word(more, word)?;
+    to(TermState::Names(depth, at, first, more, context))
+}
+
+/// Behind `(` and plain names that begin a term, and what follows them.
+fn names_term(
+    alloc: Global,
+    depth: u32,
+    at: u32,
+    first: Word,
+    more: Items<Word>,
+    context: Box<TermIn>,
+    lexeme: Lexeme,
+) -> Result<Step, Halt>
+    ensures { Follows result (machine.may machine.limit (depth + 1) at (machine.atoms (depth + 1) (machine.named first more) (machine.Parens depth None (term_in_of context.value)) lexeme)) }
+{
+    let spine = named(alloc, first, more)?;
+    names_inside(alloc, depth, at, spine, context, lexeme)
 }
 
 /// Behind `(` and plain names, the first of which stood where `at` lexemes were left.
@@ -273,23 +322,17 @@ fn names(
     depth: u32,
     at: u32,
     first: Word,
-    mut more: Items<Word>,
+    more: Items<Word>,
     context: Box<TermIn>,
     lexeme: Lexeme,
 ) -> Result<Step, Halt>
     ensures { Follows result (machine.names machine.limit depth at first more (term_in_of context.value) lexeme) }
 {
     match lexeme {
-        Lexeme::Plain(word) => {
-            more.push(word)?;
-            to(TermState::Names(depth, at, first, more, context))
-        }
+        Lexeme::Plain(word) => names_word(depth, at, first, more, word, context),
         Lexeme::Underscore => names_blank(alloc, depth, first, more, context),
         Lexeme::Colon => names_colon(alloc, depth, first, more, context),
-        other => {
-            let spine = named(alloc, first, more)?;
-            names_inside(alloc, depth, at, spine, context, other)
-        }
+        other => names_term(alloc, depth, at, first, more, context, other),
     }
 }
 
@@ -298,8 +341,7 @@ fn due(alloc: Global, left: u32, depth: u32, context: TermIn, lexeme: Lexeme) ->
     ensures { Follows result (machine.term_step machine.limit left (machine.Term depth (term_in_of context)) lexeme) }
 {
     let context = Box::new(alloc, context)?;
-    may(depth, left)?;
-    term_start(alloc, depth, context, lexeme)
+    may(depth, left).and(term_start(alloc, depth, context, lexeme))
 }
 
 /// Behind `let`.
@@ -316,9 +358,7 @@ fn let_name(depth: u32, context: Box<TermIn>, lexeme: Lexeme) -> Result<Step, Ha
 fn let_colon(depth: u32, word: Word, context: Box<TermIn>, lexeme: Lexeme) -> Result<Step, Halt>
     ensures { Follows result (machine.term_step machine.limit 0 (machine.LetColon depth word (term_in_of context.value)) lexeme) }
 {
-    colon(lexeme)?;
-    let inner = deeper(depth)?;
-    inside(inner, TermIn::LetType(depth, word, context))
+    colon(lexeme).and(term_inside(depth, TermIn::LetType(depth, word, context)))
 }
 
 /// The states in a term, where `left` lexemes are left, the one that is read among them.

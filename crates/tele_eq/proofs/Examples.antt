@@ -1,15 +1,18 @@
 -- Equations, transports and congruences of some telescopes, as they stand in the types of no confusion.
 use Rattle.std.proofs.Common.{◌≡◌, ℕ, List, [], ◌∷◌, refl}
 use Rattle.theory.specs.Terms.{Term}
-use Rattle.theory.specs.Terms.Term.{Var, Pi, Lam, App, Fam, Con, Elim}
+use Rattle.theory.specs.Terms.Term.{Var, Sort, Pi, Lam, App, Const, Fam, Con, Elim}
 use Rattle.theory.specs.Signatures.{equality, equation, reflexivity}
 use Rattle.tele_eq.specs.Items.{Item}
 use Rattle.tele_eq.specs.Dependences.{dependences}
-use Rattle.tele_eq.specs.TelescopicEquality.{equations, transport, reflexivities}
+use Rattle.tele_eq.specs.TelescopicEquality.{equations, transport, elimination, reflexivities}
 use Rattle.tele_eq.specs.Congruences.{congruences}
 
+abbrev item_at : Term → (level : ℕ) → Item
+item_at t level = record { type = t; level = level }
+
 abbrev item : Term → Item
-item t = record { type = t; level = 0 }
+item t = item_at t 0
 
 -- Eq.i!elim.m A a P d b e
 abbrev J : (i m : ℕ) (A a P d b e : Term) → Term
@@ -39,6 +42,13 @@ Vec A n = App (App (Fam 49) A) n
 
 abbrev cons : (A n a v : Term) → Term
 cons A n a v = App (App (App (App (Con 49 1) A) n) a) v
+
+-- entry 50: Point : (X : Type 0) -> X -> Type 1, with point : (X : Type 0) -> (x : X) -> Point X x
+abbrev Point : (X x : Term) → Term
+Point X x = App (App (Fam 50) X) x
+
+abbrev point : (X x : Term) → Term
+point X x = App (App (Con 50 0) X) x
 
 -- ---- a family with two indices, the second of which depends on the first
 
@@ -77,6 +87,26 @@ two_transported : transport pair_of_indices 2 (Var 6 ∷ Var 5 ∷ two (Var 6) (
     (Var 8) (Var 7)) (Var 0)) (Var 1) (Var 0)))) (Var 4) (Var 1)) (Var 3)) (Var 0)) (two (Var 6) (Var 5))
 two_transported = refl
 
+-- ---- the same with levels that differ
+
+-- X : Type 0, x : X, p : Point X x
+abbrev points : List Item
+points = item_at (Sort 0) 1 ∷ item_at (Var 0) 0 ∷ item_at (Point (Var 1) (Var 0)) 1 ∷ []
+
+-- behind X, x, X', x', p', with point X x on the left and p' on the right
+point_equations : equations points (Var 4 ∷ Var 3 ∷ point (Var 4) (Var 3) ∷ []) (Var 2 ∷ Var 1 ∷ Var 0 ∷ [])
+    ≡ equation 1 (Sort 0) (Var 4) (Var 2) ∷ equation 0 (Var 3) (App (J 1 1 (Sort 0) (Var 5) (Lam (Sort 0) (Lam (equation 1
+    (Sort 0) (Var 6) (Var 0)) (Pi (Var 7) (Var 2)))) (Lam (Var 5) (Var 0)) (Var 3) (Var 0)) (Var 4)) (Var 2) ∷ equation 1
+    (Point (Var 4) (Var 3)) (App (App (App (J 1 1 (Sort 0) (Var 6) (Lam (Sort 0) (Lam (equation 1 (Sort 0) (Var 7) (Var 0))
+    (Pi (Var 1) (Pi (equation 0 (Var 2) (App (J 1 1 (Sort 0) (Var 9) (Lam (Sort 0) (Lam (equation 1 (Sort 0) (Var 10) (Var
+    0)) (Pi (Var 11) (Var 2)))) (Lam (Var 9) (Var 0)) (Var 2) (Var 1)) (Var 8)) (Var 0)) (Pi (Point (Var 10) (Var 9)) (Point
+    (Var 4) (Var 2))))))) (Lam (Var 6) (Lam (equation 0 (Var 7) (App (J 1 1 (Sort 0) (Var 7) (Lam (Sort 0) (Lam (equation 1
+    (Sort 0) (Var 8) (Var 0)) (Pi (Var 9) (Var 2)))) (Lam (Var 7) (Var 0)) (Var 7) (reflexivity 1 (Sort 0) (Var 7))) (Var
+    6)) (Var 0)) (J 0 1 (Var 8) (Var 7) (Lam (Var 8) (Lam (equation 0 (Var 9) (Var 8) (Var 0)) (Pi (Point (Var 10) (Var 9))
+    (Point (Var 11) (Var 2))))) (Lam (Point (Var 8) (Var 7)) (Var 0)) (Var 1) (Var 0)))) (Var 4) (Var 1)) (Var 3)) (Var 0))
+    (point (Var 6) (Var 5))) (Var 2) ∷ []
+point_equations = refl
+
 -- ---- arguments of constructors
 
 -- n : Nat
@@ -84,6 +114,18 @@ suc_congruence : congruences (item Nat ∷ []) (item Nat ∷ []) (suc (Var 0) �
     ≡ J 0 0 Nat (Var 5) (Lam Nat (Lam (equation 0 Nat (Var 6) (Var 0)) (equation 0 Nat (suc (Var 7)) (suc (Var 1))))) (reflexivity 0
     Nat (suc (Var 5))) (Var 3) (Var 0) ∷ []
 suc_congruence = refl
+
+-- no confusion at suc, into Type 2: from the method at reflexivity into a constant applied to n, m and the equation of suc n and m
+suc_elimination : elimination (item Nat ∷ []) 2 (App (Const 60) (Var 2))
+    (Lam (Pi (equation 0 Nat (suc (Var 2)) (suc (Var 2))) (Sort 1)) (Lam (Pi (equation 0 Nat (Var 3) (Var 3)) (App (Var 1)
+    (J 0 0 Nat (Var 4) (Lam Nat (Lam (equation 0 Nat (Var 5) (Var 0)) (equation 0 Nat (suc (Var 6)) (suc (Var 1)))))
+    (reflexivity 0 Nat (suc (Var 4))) (Var 4) (Var 0)))) (App (Var 0) (reflexivity 0 Nat (Var 4))))) (suc (Var 2) ∷ []) (Var
+    1 ∷ []) (Var 0 ∷ [])
+    ≡ J 0 2 Nat (suc (Var 2)) (Lam Nat (Lam (equation 0 Nat (suc (Var 3)) (Var 0)) (App (App (App (Const 60) (Var 4)) (Var
+    1)) (Var 0)))) (Lam (Pi (equation 0 Nat (suc (Var 2)) (suc (Var 2))) (Sort 1)) (Lam (Pi (equation 0 Nat (Var 3) (Var 3))
+    (App (Var 1) (J 0 0 Nat (Var 4) (Lam Nat (Lam (equation 0 Nat (Var 5) (Var 0)) (equation 0 Nat (suc (Var 6)) (suc (Var
+    1))))) (reflexivity 0 Nat (suc (Var 4))) (Var 4) (Var 0)))) (App (Var 0) (reflexivity 0 Nat (Var 4))))) (Var 1) (Var 0)
+suc_elimination = refl
 
 -- n : Nat, a : A, v : Vec A n, where A has 14 variables before it
 abbrev cons_arguments : List Item

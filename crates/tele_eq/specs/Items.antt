@@ -1,5 +1,5 @@
 -- A telescope whose types have levels.
-use Rattle.std.specs.Prelude.{ℕ, zero, suc, ◌+◌, max, ◌≤◌, Bool, true, ◌&&◌, if◌then◌else◌, List, [], ◌∷◌, map, get_or, Result, Ok, Err}
+use Rattle.std.specs.Prelude.{ℕ, zero, suc, ◌+◌, max, ◌≤◌, Bool, true, ◌&&◌, if◌then◌else◌, List, [], ◌∷◌, length, map, get_or, Result, Ok, Err}
 use Rattle.theory.specs.Terms.{Term, Sort, height, free_of}
 use Rattle.core_terms.specs.Answers.{is_low}
 use Rattle.core_terms.specs.Meanings.{tree_of}
@@ -34,10 +34,14 @@ abbrev pub greatest_level : List Item → ℕ → List ℕ → ℕ
 greatest_level tele level [] = level
 greatest_level tele level (position ∷ positions) = greatest_level tele (max level (level_at tele position)) positions
 
--- a term for each of `count` positions from j on
-abbrev pub each_position : (ℕ → Term) → (j count : ℕ) → List Term
+-- something for each of `count` positions from j on
+abbrev pub each_position : {A : Type 0} → (ℕ → A) → (j count : ℕ) → List A
 each_position f j zero = []
 each_position f j (suc count) = f j ∷ each_position f (j + 1) count
+
+-- all positions of a telescope
+abbrev pub positions_of : List Item → List ℕ
+positions_of X = each_position (λ j. j) 0 (length X)
 
 abbrev pub are_low : List Term → Bool
 are_low [] = true

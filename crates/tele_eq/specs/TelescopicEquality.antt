@@ -3,14 +3,14 @@
 --
 -- u stands for the left terms, z for what they are equal to, and e for the equations: e_j : Eq.i_j A_j[z] w_j z_j, where w_j is
 -- u_j, transported to the type A_j[z].
-use Rattle.std.specs.Prelude.{ℕ, zero, suc, ◌+◌, ◌*◌, nat_le, if◌then◌else◌, List, [], ◌∷◌, length}
-use Rattle.theory.specs.Terms.{Term, Var, Sort, Pi, Lam, App, Elim}
-use Rattle.theory.specs.Telescopes.{Telescope}
+use Rattle.std.specs.Prelude.{ℕ, zero, suc, ◌+◌, ◌*◌, List, [], ◌∷◌, length}
+use Rattle.theory.specs.Terms.{Term, Var, Pi, Lam, App, Elim, lift}
+use Rattle.theory.specs.Telescopes.{Telescope, applied}
 use Rattle.theory.specs.Signatures.{equality, equation as equation_of, reflexivity}
 use Rattle.core_terms.specs.Levels.{variable, bind}
 use Rattle.core_terms.specs.declared.levels.Binder.{Binder}
 use Rattle.core_terms.specs.declared.levels.Binder.TheVariants.{Product, Function}
-use Rattle.tele_eq.specs.Items.{Item, type_at, level_at, greatest_level, each_position}
+use Rattle.tele_eq.specs.Items.{Item, type_at, level_at, greatest_level, each_position, positions_of}
 use Rattle.tele_eq.specs.Dependences.{dependences}
 use Rattle.tele_eq.specs.Environments.{Environment, outside, inside, put}
 
@@ -56,8 +56,7 @@ motive X u w C s positions depth =
     (equations_over Product X w positions z e (depth + 2) (C z e (depth + 2 + 2 * length positions))))
 
 -- The telescopic J: a term of the goal at z and e, from a base for the goal at u and the reflexivities, by the eliminator into
--- Type m of one equation after the other. A position stands behind those that its type depends on. Behind more than 10,000
--- binders nothing is made, since no answer has it.
+-- Type m of one equation after the other. A position stands behind those that its type depends on.
 --
 -- tj(s, t ..) = Eq.i_s!elim.m A_s u_s motive (\z_t e_t .. . tj(t ..)) z_s e_s z_t e_t ..
 abbrev pub telescopic_j : List Item → (u : Environment) → Lefts → (m : ℕ) → Goal → (base : ℕ → Term) (positions : List ℕ)
@@ -69,9 +68,12 @@ telescopic_j X u w m C base (s ∷ positions) z e depth =
     let rest = telescopic_j X u w m C base positions z' e' (depth + 2 * length positions) in
     let method = equations_over Function X w positions z' e' depth rest in
     let head = App (App (Elim (equality (level_at X s)) m) (type_with X u depth s)) (u depth s) in
-    if nat_le depth 10000
-    then applied_to_pairs (App (App head (motive X u w C s positions depth)) method) (s ∷ positions) z e depth
-    else Sort 0
+    applied_to_pairs (App (App head (motive X u w C s positions depth)) method) (s ∷ positions) z e depth
+
+-- `head` applied to what stands for the variables at the first `count` positions, and then to the equations there
+abbrev pub applied_goal : (head : Term) → (count : ℕ) → Goal
+applied_goal head count z e depth =
+    applied (applied (lift head depth 0) (each_position (z depth) 0 count)) (each_position (e depth) 0 count)
 
 -- A_j[u] -> A_j[z]
 abbrev pub transport_type : List Item → (u : Environment) → (j : ℕ) → Goal
@@ -117,6 +119,14 @@ abbrev pub transport : List Item → (j : ℕ) (left right eqs : List Term) → 
 transport X j left right eqs =
     let u = outside left in
     transported X u (left_sides X u) (dependences X j) j (outside right) (outside eqs) 0
+
+-- The telescopic J along all equations of two lists of terms, from `base` into `head` applied to the right terms and the
+-- equations. Both are terms of the context.
+abbrev pub elimination : List Item → (m : ℕ) → (head base : Term) → (left right eqs : List Term) → Term
+elimination X m head base left right eqs =
+    let u = outside left in
+    telescopic_j X u (left_sides X u) m (applied_goal head (length X)) (λ depth. lift base depth 0) (positions_of X)
+    (outside right) (outside eqs) 0
 
 -- refls(X; u): refl.i_j A_j[u] u_j for each position
 abbrev pub reflexivities : List Item → (terms : List Term) → List Term

@@ -68,11 +68,11 @@ fn closed(
     mut found: Vec<u32>,
 ) -> Result<Vec<u32>, Stop>
     requires small { AreSmall (items_of tele.now) }
-    requires at { at ≤ 2000 }
-    requires found { AreUpTo 2000 found.items }
+    requires at { at ≤ 1000 }
+    requires found { AreUpTo 1000 found.items }
     ensures is { Gives (λ v. v.items) result (Ok (spec.closed (items_of tele.now) j at found.items)) }
     ensures few { IfOk result (λ v. length v.items ≤ length found.items + at) }
-    ensures low { IfOk result (λ v. AreUpTo 2000 v.items) }
+    ensures low { IfOk result (λ v. AreUpTo 1000 v.items) }
 {
     if at == 0 {
         return Ok(found);
@@ -88,10 +88,10 @@ fn closed(
 /// The earlier positions that the type at position `j` depends on.
 pub(crate) fn dependences(alloc: Global, tele: &[Item], j: u32) -> Result<Vec<u32>, Stop>
     requires small { AreSmall (items_of tele.now) }
-    requires position { j ≤ 2000 }
+    requires position { j ≤ 1000 }
     ensures is { Gives (λ v. v.items) result (Ok (spec.dependences (items_of tele.now) j)) }
-    ensures few { IfOk result (λ v. length v.items ≤ 2000) }
-    ensures low { IfOk result (λ v. AreUpTo 2000 v.items) }
+    ensures few { IfOk result (λ v. length v.items ≤ 1000) }
+    ensures low { IfOk result (λ v. AreUpTo 1000 v.items) }
 {
     closed(alloc, tele, j, j, Vec::new(alloc))
 }

@@ -1,21 +1,15 @@
-ghost use Rattle.std.specs.Prelude.{◌≡◌, ◌≤◌, ◌<◌, ◌+◌, ◌*◌, ◌^◌, Ok, length};
+ghost use Rattle.std.specs.Prelude.{◌≡◌, ◌≤◌, ◌<◌, ◌+◌, ◌*◌, ◌^◌, Ok, MatchOption, length};
 ghost use Rattle.core_terms.specs.Answers.{Gives};
 ghost use Rattle.core_terms.specs.Meanings.{tree_of, tele_of};
 ghost use Rattle.tele_eq.specs.Environments as spec;
-ghost use Rattle.tele_eq.specs.CodeEnvironments.{environment_of, IsSmallEnvironment};
+ghost use Rattle.tele_eq.specs.CodeEnvironments.{AreSmallPairs, AreSmallSides, IsSmallLeft, IsSmallMap, environment_of, images_of, left_of, maps_of_left, maps_of_pairs, variables_of};
 ghost use Rattle.tele_eq.specs.Items.{AreSmallTerms};
+ghost use Rattle.tele_eq.specs.Items as items;
 ghost use Rattle.theory.specs.Terms as tree;
 
+use crate::sides::{Left, Map, Pairs, Sides};
 use core_terms::{Stop, Term, copy_whole, lift, variable};
 use std::alloc::Global;
-
-/// What stands for the variables of a telescope: terms of the context, or variables at some positions, from a level on, and
-/// terms of the context at the others.
-#[derive(Clone, Copy)]
-pub(crate) enum Environment<'a> {
-    Outside(&'a [Term]),
-    Inside(&'a [Term], &'a [u32], u32),
-}
 
 /// A term of the context, at a depth.
 #[tactic(auto, using(core_terms::proofs::SubstUnder::lift_laws))]
@@ -26,7 +20,7 @@ pub(crate) fn outside(
     position: u32,
 ) -> Result<Term, Stop>
     requires small { AreSmallTerms (tele_of terms.now) }
-    requires depth { depth ≤ 200000000 }
+    requires depth { depth ≤ 2042000000 }
     ensures { Gives tree_of result (Ok (spec.outside (tele_of terms.now) depth position)) }
 {
     match terms {
@@ -41,105 +35,170 @@ pub(crate) fn outside(
     }
 }
 
-/// What stands at a position, at a depth.
-pub(crate) fn at(alloc: Global, s: Environment, depth: u32, position: u32) -> Result<Term, Stop>
-    requires small { IsSmallEnvironment s }
-    requires depth { depth ≤ 200000000 }
-    ensures { Gives tree_of result (Ok (environment_of s.entry depth position)) }
+/// The left term at a position, at a depth.
+#[cycle(put)]
+pub(crate) fn left_at(alloc: Global, left: Left, depth: u32, position: u32) -> Result<Term, Stop>
+    requires left { IsSmallLeft left }
+    requires depth { depth + 200000 * (maps_of_left left) ≤ 2041100000 }
+    ensures { Gives tree_of result (Ok (left_of left.entry depth position)) }
 {
-    match s {
-        Environment::Outside(terms) => outside(alloc, terms, depth, position),
-        Environment::Inside(terms, positions, level) => {
-            inside(alloc, terms, positions, level, depth, position)
-        }
+    match left {
+        Left::Terms(terms) => outside(alloc, terms, depth, position),
+        Left::Images(map) => image(alloc, map, Sides::Inside(&[], 0), depth, position),
     }
 }
 
+/// What stands for the variable at a position, at a depth.
+#[cycle(put)]
+pub(crate) fn at(
+    alloc: Global,
+    left: Left,
+    pairs: Pairs,
+    depth: u32,
+    position: u32,
+) -> Result<Term, Stop>
+    requires left { IsSmallLeft left }
+    requires pairs { AreSmallPairs pairs }
+    requires depth { depth + 200000 * (maps_of_left left + maps_of_pairs pairs) ≤ 2041100000 }
+    ensures { Gives tree_of result (Ok (environment_of (left_of left.entry) pairs.entry depth position)) }
+{
+    match pairs {
+        Pairs::Plain(Sides::Given(right, _)) | Pairs::Plain(Sides::Bound(right)) => {
+            outside(alloc, right, depth, position)
+        }
+        Pairs::Plain(Sides::Inside(positions, level)) => {
+            inside(alloc, left, positions, level, depth, position)
+        }
+        Pairs::Mapped(map, _, sides) => image(alloc, map, sides, depth, position),
+    }
+}
+
+#[cycle(put)]
 fn inside(
     alloc: Global,
-    terms: &[Term],
+    left: Left,
     positions: &[u32],
     level: u32,
     depth: u32,
     position: u32,
 ) -> Result<Term, Stop>
-    requires small { AreSmallTerms (tele_of terms.now) }
-    requires depth { depth ≤ 200000000 }
-    requires level { level + 2 * length positions.now ≤ 200000000 }
-    ensures { Gives tree_of result (Ok (spec.inside positions.now level (spec.outside (tele_of terms.now)) depth position)) }
+    requires left { IsSmallLeft left }
+    requires depth { depth + 200000 * (maps_of_left left) ≤ 2041100000 }
+    requires level { level + 2 * length positions.now ≤ 2040000000 }
+    ensures { Gives tree_of result (Ok (spec.inside positions.now level (left_of left.entry) depth position)) }
 {
     match positions {
-        [] => outside(alloc, terms, depth, position),
+        [] => left_at(alloc, left, depth, position),
         [t, rest @ ..] => {
             if position == *t {
                 Ok(variable(depth, level))
             } else {
-                inside(alloc, terms, rest, level + 2, depth, position)
+                inside(alloc, left, rest, level + 2, depth, position)
             }
         }
     }
 }
 
+/// What a map has at a position, with what stands for the variables of its first telescope.
+#[cycle(put)]
+fn image(alloc: Global, map: Map, sides: Sides, depth: u32, position: u32) -> Result<Term, Stop>
+    requires map { IsSmallMap map }
+    requires sides { AreSmallSides sides }
+    requires depth { depth ≤ 2041000000 }
+    ensures { Gives tree_of result (Ok (images_of map.entry (variables_of (spec.outside (tele_of map.entry.left.now)) sides.entry) depth position)) }
+{
+    let Some(t) = term_at(map.terms, position) else {
+        return Ok(Term::Sort(0));
+    };
+    let left = Left::Terms(map.left);
+    let pairs = Pairs::Plain(sides);
+    put_under(alloc, left, pairs, map.from.len() as u32, depth, 0, t)
+}
+
+/// The term at a position, where there is one.
+fn term_at(terms: &[Term], position: u32) -> Option<&Term>
+    requires { AreSmallTerms (tele_of terms.now) }
+    ensures term { MatchOption result (items.term_at (tele_of terms.now) position ≡ tree.Sort 0) (λ t. items.term_at (tele_of terms.now) position ≡ tree_of t.now) }
+    ensures small { MatchOption result (Unit {0}) (λ t. items.IsSmall (tree_of t.now)) }
+{
+    match terms {
+        [] => None,
+        [t, rest @ ..] => {
+            if position == 0 {
+                Some(t)
+            } else {
+                term_at(rest, position - 1)
+            }
+        }
+    }
+}
+
+#[cycle(put)]
 fn put_variable(
     alloc: Global,
-    s: Environment,
+    left: Left,
+    pairs: Pairs,
     size: u32,
     depth: u32,
     under: u32,
     n: u32,
 ) -> Result<Term, Stop>
-    requires small { IsSmallEnvironment s }
-    requires depth { depth ≤ 100000000 }
+    requires left { IsSmallLeft left }
+    requires pairs { AreSmallPairs pairs }
+    requires depth { depth + 200000 * (maps_of_left left + maps_of_pairs pairs) ≤ 2041000000 }
     requires under { under ≤ 100000 }
-    requires n { n ≤ 3000000000 }
-    ensures { Gives tree_of result (Ok (spec.put_variable (environment_of s.entry) size depth under n)) }
+    requires n { n ≤ 2147583648 }
+    ensures { Gives tree_of result (Ok (spec.put_variable (environment_of (left_of left.entry) pairs.entry) size depth under n)) }
 {
     if n < under {
         Ok(Term::Var(n))
     } else if (n as u64) < size as u64 + under as u64 {
         let position = (size as u64 + under as u64) - (n as u64 + 1);
-        at(alloc, s, depth + under, position as u32)
+        at(alloc, left, pairs, depth + under, position as u32)
     } else {
         Ok(Term::Var(n - size + depth))
     }
 }
 
+#[cycle(put)]
 fn put_under(
     alloc: Global,
-    s: Environment,
+    left: Left,
+    pairs: Pairs,
     size: u32,
     depth: u32,
     under: u32,
     t: &Term,
 ) -> Result<Term, Stop>
-    requires small { IsSmallEnvironment s }
-    requires depth { depth ≤ 100000000 }
+    requires left { IsSmallLeft left }
+    requires pairs { AreSmallPairs pairs }
+    requires depth { depth + 200000 * (maps_of_left left + maps_of_pairs pairs) ≤ 2041000000 }
     requires under { under + tree.height (tree_of t.now) ≤ 100000 }
-    requires free { tree.free_of (tree_of t.now) + tree.height (tree_of t.now) ≤ 3000000000 }
-    ensures { Gives tree_of result (Ok (spec.put_under (environment_of s.entry) size depth under (tree_of t.now))) }
+    requires free { tree.free_of (tree_of t.now) ≤ 2147483648 + under }
+    ensures { Gives tree_of result (Ok (spec.put_under (environment_of (left_of left.entry) pairs.entry) size depth under (tree_of t.now))) }
 {
     match t {
-        Term::Var(n) => put_variable(alloc, s, size, depth, under, *n),
+        Term::Var(n) => put_variable(alloc, left, pairs, size, depth, under, *n),
         Term::Pi(domain, codomain) => Term::new_pi(
             alloc,
-            put_under(alloc, s, size, depth, under, domain)?,
-            put_under(alloc, s, size, depth, under + 1, codomain)?,
+            put_under(alloc, left, pairs, size, depth, under, domain)?,
+            put_under(alloc, left, pairs, size, depth, under + 1, codomain)?,
         ),
         Term::Lam(domain, body) => Term::new_lam(
             alloc,
-            put_under(alloc, s, size, depth, under, domain)?,
-            put_under(alloc, s, size, depth, under + 1, body)?,
+            put_under(alloc, left, pairs, size, depth, under, domain)?,
+            put_under(alloc, left, pairs, size, depth, under + 1, body)?,
         ),
         Term::App(function, argument) => Term::new_app(
             alloc,
-            put_under(alloc, s, size, depth, under, function)?,
-            put_under(alloc, s, size, depth, under, argument)?,
+            put_under(alloc, left, pairs, size, depth, under, function)?,
+            put_under(alloc, left, pairs, size, depth, under, argument)?,
         ),
         Term::Let(ty, value, rest) => Term::new_let(
             alloc,
-            put_under(alloc, s, size, depth, under, ty)?,
-            put_under(alloc, s, size, depth, under, value)?,
-            put_under(alloc, s, size, depth, under + 1, rest)?,
+            put_under(alloc, left, pairs, size, depth, under, ty)?,
+            put_under(alloc, left, pairs, size, depth, under, value)?,
+            put_under(alloc, left, pairs, size, depth, under + 1, rest)?,
         ),
         Term::Sort(_)
         | Term::Const(_)
@@ -153,16 +212,17 @@ fn put_under(
 /// A small term over the first `size` variables of a telescope with what stands for them, at a depth.
 pub(crate) fn put(
     alloc: Global,
-    s: Environment,
+    left: Left,
+    pairs: Pairs,
     size: u32,
     depth: u32,
     t: &Term,
 ) -> Result<Term, Stop>
-    requires small { IsSmallEnvironment s }
-    requires depth { depth ≤ 100000000 }
-    requires height { tree.height (tree_of t.now) ≤ 2000 }
-    requires free { tree.free_of (tree_of t.now) ≤ 2147483648 }
-    ensures { Gives tree_of result (Ok (spec.put (environment_of s.entry) size depth (tree_of t.now))) }
+    requires left { IsSmallLeft left }
+    requires pairs { AreSmallPairs pairs }
+    requires depth { depth ≤ 2040000000 }
+    requires small { items.IsSmall (tree_of t.now) }
+    ensures { Gives tree_of result (Ok (spec.put (environment_of (left_of left.entry) pairs.entry) size depth (tree_of t.now))) }
 {
-    put_under(alloc, s, size, depth, 0, t)
+    put_under(alloc, left, pairs, size, depth, 0, t)
 }

@@ -1,15 +1,13 @@
 ghost use Rattle.std.specs.Prelude.{◌≡◌, ◌≤◌, ◌+◌, ◌++◌, Ok, length};
 ghost use Rattle.core_terms.specs.Answers.{Gives};
 ghost use Rattle.core_terms.specs.Meanings.{tele_of};
-ghost use Rattle.tele_eq.specs.Environments.{outside};
 ghost use Rattle.tele_eq.specs.Items.{AreSmall, AreSmallTerms, bounded_terms, each_position, items_of};
 ghost use Rattle.tele_eq.specs.TelescopicEquality as spec;
 
 use crate::Item;
-use crate::environment::Environment;
-use crate::equations::Equations;
 use crate::lists::bounded_terms;
-use crate::transports::equation;
+use crate::sides::{Left, Pairs, Sides};
+use crate::telescopic::equation;
 use core_terms::{Items, Stop, Tele, Term};
 use std::alloc::Global;
 
@@ -28,15 +26,42 @@ fn equations_from(
     requires items { AreSmall (items_of tele.now) }
     requires left { AreSmallTerms (tele_of left.now) }
     requires right { AreSmallTerms (tele_of right.now) }
-    requires positions { j + count ≤ 2000 }
+    requires n { n ≤ 1000 }
+    requires positions { j + count ≤ 1000 }
     ensures { Gives tele_of result (Ok (tele_of made ++ each_position (spec.equation_behind n (items_of tele.now) (tele_of left.now) (tele_of right.now)) j count)) }
 {
     if count == 0 {
         return Ok(made);
     }
-    let z = Environment::Outside(right);
-    made.push(equation(alloc, n, tele, left, z, Equations::Bound, j, j)?)?;
+    let pairs = Pairs::Plain(Sides::Bound(right));
+    made.push(equation(alloc, n, tele, Left::Terms(left), pairs, j, j)?)?;
     equations_from(alloc, n, tele, left, right, j + 1, count - 1, made)
+}
+
+/// The telescope of the equations between two lists of terms, whose heights nothing tests.
+pub fn tele_equations_whole(
+    alloc: Global,
+    tele: &Items<Item>,
+    left: &Tele,
+    right: &Tele,
+) -> Result<Tele, Stop>
+    requires few { length tele.now ≤ 1000 }
+    requires items { AreSmall (items_of tele.now) }
+    requires left { AreSmallTerms (tele_of left.now) }
+    requires right { AreSmallTerms (tele_of right.now) }
+    ensures { Gives tele_of result (Ok (spec.equations (items_of tele.now) (tele_of left.now) (tele_of right.now))) }
+{
+    let count = tele.as_slice().len() as u32;
+    equations_from(
+        alloc,
+        count,
+        tele.as_slice(),
+        left.as_slice(),
+        right.as_slice(),
+        0,
+        count,
+        Items::new(alloc),
+    )
 }
 
 /// The telescope of the equations between two lists of terms, or Deep where one of them is too high.
@@ -46,22 +71,11 @@ pub fn tele_equations(
     left: &Tele,
     right: &Tele,
 ) -> Result<Tele, Stop>
-    requires few { length tele.now ≤ 2000 }
+    requires few { length tele.now ≤ 1000 }
     requires items { AreSmall (items_of tele.now) }
     requires left { AreSmallTerms (tele_of left.now) }
     requires right { AreSmallTerms (tele_of right.now) }
     ensures { Gives tele_of result (bounded_terms (spec.equations (items_of tele.now) (tele_of left.now) (tele_of right.now))) }
 {
-    let count = tele.as_slice().len() as u32;
-    let made = equations_from(
-        alloc,
-        count,
-        tele.as_slice(),
-        left.as_slice(),
-        right.as_slice(),
-        0,
-        count,
-        Items::new(alloc),
-    )?;
-    bounded_terms(made)
+    bounded_terms(tele_equations_whole(alloc, tele, left, right)?)
 }

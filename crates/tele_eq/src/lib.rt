@@ -1,17 +1,25 @@
 //! Telescopic equality: equations between two lists of terms of one telescope, and what follows from them.
 #![tactic(auto)]
 
+mod congruences;
 mod dependences;
+mod elimination;
 mod environment;
 mod equation_lists;
-mod equations;
+mod goals;
 mod item;
 mod lists;
 mod reflexivities;
+pub mod reflexivity_laws;
+pub mod scope_laws;
+mod sides;
+mod telescopic;
 mod transports;
 mod typing;
 
-pub use equation_lists::tele_equations;
+pub use congruences::{cong, cong_whole};
+pub use elimination::{telescopic_j, telescopic_j_whole};
+pub use equation_lists::{tele_equations, tele_equations_whole};
 pub use item::Item;
-pub use reflexivities::refl_list;
+pub use reflexivities::{refl_list, refl_list_whole};
 pub use transports::transport;

@@ -7,6 +7,7 @@ ghost use Rattle.tele_eq.specs.TelescopicEquality as spec;
 
 use crate::Item;
 use crate::lists::bounded_terms;
+use crate::sides::Left;
 use crate::typing::reflexive;
 use core_terms::{Items, Stop, Tele, Term};
 use std::alloc::Global;
@@ -23,31 +24,40 @@ fn reflexivities_from(
 ) -> Result<Tele, Stop>
     requires items { AreSmall (items_of tele.now) }
     requires terms { AreSmallTerms (tele_of terms.now) }
-    requires positions { j + count ≤ 2000 }
+    requires positions { j + count ≤ 1000 }
     ensures { Gives tele_of result (Ok (tele_of made ++ each_position (spec.reflexive (items_of tele.now) (outside (tele_of terms.now)) 0) j count)) }
 {
     if count == 0 {
         return Ok(made);
     }
-    made.push(reflexive(alloc, tele, terms, 0, j)?)?;
+    made.push(reflexive(alloc, tele, Left::Terms(terms), 0, j)?)?;
     reflexivities_from(alloc, tele, terms, j + 1, count - 1, made)
 }
 
-/// refl.i_j A_j u_j for each position of a telescope, or Deep where one of them is too high.
-pub fn refl_list(alloc: Global, tele: &Items<Item>, terms: &Tele) -> Result<Tele, Stop>
-    requires few { length tele.now ≤ 2000 }
+/// refl.i_j A_j u_j for each position of a telescope, whose heights nothing tests.
+pub fn refl_list_whole(alloc: Global, tele: &Items<Item>, terms: &Tele) -> Result<Tele, Stop>
+    requires few { length tele.now ≤ 1000 }
     requires items { AreSmall (items_of tele.now) }
     requires terms { AreSmallTerms (tele_of terms.now) }
-    ensures { Gives tele_of result (bounded_terms (spec.reflexivities (items_of tele.now) (tele_of terms.now))) }
+    ensures { Gives tele_of result (Ok (spec.reflexivities (items_of tele.now) (tele_of terms.now))) }
 {
     let count = tele.as_slice().len() as u32;
-    let made = reflexivities_from(
+    reflexivities_from(
         alloc,
         tele.as_slice(),
         terms.as_slice(),
         0,
         count,
         Items::new(alloc),
-    )?;
-    bounded_terms(made)
+    )
+}
+
+/// refl.i_j A_j u_j for each position of a telescope, or Deep where one of them is too high.
+pub fn refl_list(alloc: Global, tele: &Items<Item>, terms: &Tele) -> Result<Tele, Stop>
+    requires few { length tele.now ≤ 1000 }
+    requires items { AreSmall (items_of tele.now) }
+    requires terms { AreSmallTerms (tele_of terms.now) }
+    ensures { Gives tele_of result (bounded_terms (spec.reflexivities (items_of tele.now) (tele_of terms.now))) }
+{
+    bounded_terms(refl_list_whole(alloc, tele, terms)?)
 }

@@ -1,14 +1,17 @@
-ghost use Rattle.std.specs.Prelude.{◌≡◌, ◌≤◌, ◌<◌, ◌+◌, Ok, length};
+ghost use Rattle.std.specs.Prelude.{◌≡◌, ◌≤◌, ◌<◌, ◌+◌, ◌++◌, Ok, IfOk, length};
 ghost use Rattle.core_terms.specs.Answers.{Gives};
 ghost use Rattle.core_terms.specs.Meanings.{tree_of, tele_of};
-ghost use Rattle.tele_eq.specs.CodeEnvironments.{environment_of, IsSmallEnvironment};
+ghost use Rattle.tele_eq.specs.CodeEnvironments.{AreSmallPairs, IsSmallLeft, environment_of, left_of};
+ghost use Rattle.tele_eq.specs.Congruences as congruences;
 ghost use Rattle.tele_eq.specs.Environments as environments;
-ghost use Rattle.tele_eq.specs.Items.{AreSmall, AreSmallTerms, items_of};
+ghost use Rattle.tele_eq.specs.Items.{AreSmall, items_of};
 ghost use Rattle.tele_eq.specs.Items as items;
 ghost use Rattle.tele_eq.specs.TelescopicEquality as spec;
+ghost use Rattle.theory.specs.Signatures.{equation};
 
 use crate::Item;
-use crate::environment::{Environment, outside, put};
+use crate::environment::{left_at, put};
+use crate::sides::{Left, Pairs, Sides};
 use core_sig::equality;
 use core_terms::{Stop, Term};
 use std::alloc::Global;
@@ -32,23 +35,25 @@ pub(crate) fn level_at(tele: &[Item], position: u32) -> u8
 fn type_from(
     alloc: Global,
     tele: &[Item],
-    s: Environment,
+    left: Left,
+    pairs: Pairs,
     size: u32,
     depth: u32,
     position: u32,
 ) -> Result<Term, Stop>
     requires items { AreSmall (items_of tele.now) }
-    requires small { IsSmallEnvironment s }
-    requires depth { depth ≤ 100000000 }
-    ensures { Gives tree_of result (Ok (environments.put (environment_of s.entry) size depth (items.type_at (items_of tele.now) position))) }
+    requires left { IsSmallLeft left }
+    requires pairs { AreSmallPairs pairs }
+    requires depth { depth ≤ 2040000000 }
+    ensures { Gives tree_of result (Ok (environments.put (environment_of (left_of left.entry) pairs.entry) size depth (items.type_at (items_of tele.now) position))) }
 {
     match tele {
         [] => Ok(Term::Sort(0)),
         [item, rest @ ..] => {
             if position == 0 {
-                put(alloc, s, size, depth, &item.ty)
+                put(alloc, left, pairs, size, depth, &item.ty)
             } else {
-                type_from(alloc, rest, s, size, depth, position - 1)
+                type_from(alloc, rest, left, pairs, size, depth, position - 1)
             }
         }
     }
@@ -58,35 +63,73 @@ fn type_from(
 pub(crate) fn type_with(
     alloc: Global,
     tele: &[Item],
-    s: Environment,
+    left: Left,
+    pairs: Pairs,
     depth: u32,
     j: u32,
 ) -> Result<Term, Stop>
     requires items { AreSmall (items_of tele.now) }
-    requires small { IsSmallEnvironment s }
-    requires depth { depth ≤ 100000000 }
-    ensures { Gives tree_of result (Ok (spec.type_with (items_of tele.now) (environment_of s.entry) depth j)) }
+    requires left { IsSmallLeft left }
+    requires pairs { AreSmallPairs pairs }
+    requires depth { depth ≤ 2040000000 }
+    ensures { Gives tree_of result (Ok (spec.type_with (items_of tele.now) (environment_of (left_of left.entry) pairs.entry) depth j)) }
 {
-    type_from(alloc, tele, s, j, depth, j)
+    type_from(alloc, tele, left, pairs, j, depth, j)
 }
 
-/// The reflexivity at a position.
+/// The type at a position, with the left terms for the variables before it.
+pub(crate) fn left_type(
+    alloc: Global,
+    tele: &[Item],
+    left: Left,
+    depth: u32,
+    j: u32,
+) -> Result<Term, Stop>
+    requires items { AreSmall (items_of tele.now) }
+    requires left { IsSmallLeft left }
+    requires depth { depth ≤ 2040000000 }
+    ensures { Gives tree_of result (Ok (spec.type_with (items_of tele.now) (left_of left.entry) depth j)) }
+{
+    let pairs = Pairs::Plain(Sides::Inside(&[], 0));
+    type_with(alloc, tele, left, pairs, depth, j)
+}
+
+/// The reflexivity of the left term at a position.
 pub(crate) fn reflexive(
     alloc: Global,
     tele: &[Item],
-    terms: &[Term],
+    left: Left,
     depth: u32,
     j: u32,
 ) -> Result<Term, Stop>
     requires items { AreSmall (items_of tele.now) }
-    requires terms { AreSmallTerms (tele_of terms.now) }
-    requires depth { depth ≤ 100000000 }
-    ensures { Gives tree_of result (Ok (spec.reflexive (items_of tele.now) (environments.outside (tele_of terms.now)) depth j)) }
+    requires left { IsSmallLeft left }
+    requires depth { depth ≤ 2040000000 }
+    ensures { Gives tree_of result (Ok (spec.reflexive (items_of tele.now) (left_of left.entry) depth j)) }
 {
-    let ty = type_with(alloc, tele, Environment::Outside(terms), depth, j)?;
     let head = Term::Con(equality(level_at(tele, j)), 0);
-    let head = Term::new_app(alloc, head, ty)?;
-    Term::new_app(alloc, head, outside(alloc, terms, depth, j)?)
+    let head = Term::new_app(alloc, head, left_type(alloc, tele, left, depth, j)?)?;
+    Term::new_app(alloc, head, left_at(alloc, left, depth, j)?)
+}
+
+/// The equation of the left term at a position and a term, at the type that the left terms have.
+pub(crate) fn left_equation(
+    alloc: Global,
+    tele: &[Item],
+    left: Left,
+    depth: u32,
+    j: u32,
+    right: Term,
+) -> Result<Term, Stop>
+    requires items { AreSmall (items_of tele.now) }
+    requires left { IsSmallLeft left }
+    requires depth { depth ≤ 2040000000 }
+    ensures { Gives tree_of result (Ok (equation (items.level_at (items_of tele.now) j) (spec.type_with (items_of tele.now) (left_of left.entry) depth j) (left_of left.entry depth j) (tree_of right))) }
+{
+    let head = Term::Fam(equality(level_at(tele, j)));
+    let head = Term::new_app(alloc, head, left_type(alloc, tele, left, depth, j)?)?;
+    let head = Term::new_app(alloc, head, left_at(alloc, left, depth, j)?)?;
+    Term::new_app(alloc, head, right)
 }
 
 /// The greatest of a level and those at some positions.
@@ -97,4 +140,52 @@ pub(crate) fn greatest_level(tele: &[Item], level: u8, positions: &[u32]) -> u8
         [] => level,
         [position, rest @ ..] => greatest_level(tele, level.max(level_at(tele, *position)), rest),
     }
+}
+
+/// The greatest of a level and those at `count` positions from `j` on.
+fn greatest_from(tele: &[Item], level: u8, j: u32, count: u32) -> u8
+    requires { j + count ≤ 1000 }
+    ensures { result ≡ items.greatest_level (items_of tele.now) level (items.each_position (λ k. k) j count) }
+{
+    if count == 0 {
+        return level;
+    }
+    greatest_from(tele, level.max(level_at(tele, j)), j + 1, count - 1)
+}
+
+/// The positions before, and `count` positions from `j` on.
+#[tactic(auto, using(crate::proofs::Growing::listing))]
+fn positions_from(alloc: Global, j: u32, count: u32, mut before: Vec<u32>) -> Result<Vec<u32>, Stop>
+    requires positions { j + count ≤ 1000 }
+    requires low { items.AreUpTo 1000 before.items }
+    requires few { length before.items + count ≤ 1000 }
+    ensures is { Gives (λ v. v.items) result (Ok (before.items ++ items.each_position (λ k. k) j count)) }
+    ensures few { IfOk result (λ v. length v.items ≤ 1000) }
+    ensures low { IfOk result (λ v. items.AreUpTo 1000 v.items) }
+{
+    if count == 0 {
+        return Ok(before);
+    }
+    before.push(j)?;
+    positions_from(alloc, j + 1, count - 1, before)
+}
+
+/// All positions of a telescope.
+pub(crate) fn all_positions(alloc: Global, tele: &[Item]) -> Result<Vec<u32>, Stop>
+    requires { length tele.now ≤ 1000 }
+    ensures is { Gives (λ v. v.items) result (Ok (items.positions_of (items_of tele.now))) }
+    ensures few { IfOk result (λ v. length v.items ≤ 1000) }
+    ensures low { IfOk result (λ v. items.AreUpTo 1000 v.items) }
+{
+    positions_from(alloc, 0, tele.len() as u32, Vec::new(alloc))
+}
+
+/// The greatest level in two telescopes.
+pub(crate) fn common_level(from: &[Item], to: &[Item]) -> u8
+    requires from { length from.now ≤ 1000 }
+    requires to { length to.now ≤ 1000 }
+    ensures { result ≡ congruences.common_level (items_of from.now) (items_of to.now) }
+{
+    let level = greatest_from(from, 0, 0, from.len() as u32);
+    greatest_from(to, level, 0, to.len() as u32)
 }

@@ -1,22 +1,31 @@
-use Rattle.std.proofs.Common.{◌≡◌, ◌+◌, ◌<◌, [], ◌∷◌, length, get_or, sym, ap, ◌∙◌, subst as transport, arith}
+use Rattle.std.proofs.Common.{◌≡◌, ◌+◌, ◌<◌, [], ◌∷◌, length, map, get_or, sym, ap, ◌∙◌, subst as transport, arith}
 use Rattle.std.proofs.lemmas.Iterator.Adapters.{YieldsList-from_vec}
 use Rattle.std.proofs.lemmas.Iterator.Consumers.{YieldsList-turn}
-use Rattle.std.proofs.lemmas.List.{length-append}
-use Rattle.theory.specs.SignatureScopes.{IsScoped}
-use Rattle.core_terms.specs.Meanings.{tree_of}
+use Rattle.std.proofs.lemmas.List.{length-append, length-map, get_or-map}
+use Rattle.theory.specs.Terms.{Term}
+use Rattle.core_terms.specs.Meanings.{tree_of, tele_of}
+use Rattle.core_sig.specs.declared.raw.RawCon.{RawCon}
+use Rattle.kernel_reduce.specs.WellScoped.{AreWellScoped}
+use Rattle.kernel_reduce.proofs.WellScoped.{term_at}
 use Rattle.core_sig.specs.Kinds.{HaveKinds}
 use Rattle.core_sig.specs.Meanings.{family_of}
 use Rattle.core_sig.specs.declared.family.Constructor.{Constructor}
 use Rattle.family_check.specs.Meanings.{stop_of}
-use Rattle.family_check.proofs.Answered.{passes_on}
+use Rattle.family_check.proofs.CallOutcomes.{passes_on}
 use Rattle.family_check.proofs.ConstructorLoops.{made-on, made-stop}
 use Rattle.core_terms.proofs.Lists.{all-more, count-more}
 use Rattle.family_check.proofs.constructors.declare_constructors.Goals as goal
 
-pub declare_constructor-requires-clause-ty : goal.declare_constructor-requires-clause-ty
-declare_constructor-requires-clause-ty c =
+abbrev type_of : RawCon → Term
+type_of raw = tree_of raw.ty
+
+pub declare_constructor-requires-clause-asked : goal.declare_constructor-requires-clause-asked
+declare_constructor-requires-clause-asked c =
     let turn = YieldsList-turn (YieldsList-from_vec {s = c.into_iter-raw-iterator.result} c.args.raws.items (cc) (cc)) c.loop-raw.yielded c.loop-raw.raw-iterator c.loop-raw.yielded_by c.next.result c.next.new.self c.in-Some.raw c.in-Some.is c.next.ensures.steps in
-    transport (λ r. IsScoped c.args.sig.now (length c.args.f.now.params) (tree_of r.ty)) (sym turn.1) (c.requires.types (length c.loop-raw.yielded) c.in-Some.raw turn.0)
+    let lt : length c.loop-raw.yielded < length (map type_of c.args.raws.items) = omega (arith, turn.0, length-map c.args.raws.items type_of) in
+    let item = sym (get_or-map type_of c.args.raws.items (length c.loop-raw.yielded) c.in-Some.raw (type_of c.in-Some.raw) turn.0) in
+    transport (λ t. AreWellScoped c.args.sig.now (tele_of c.args.f.now.params) (t ∷ [])) (sym (ap type_of turn.1 ∙ item))
+    (term_at (length c.loop-raw.yielded) (type_of c.in-Some.raw) lt c.requires.asked)
 
 pub returns-in_err-con-clause-answer : goal.returns-in_err-con-clause-answer
 returns-in_err-con-clause-answer c =

@@ -1,7 +1,7 @@
 use Rattle.std.proofs.Common.{Ok, drop, sym, ap, ◌∙◌}
 use Rattle.std.proofs.lemmas.List.{drop-map}
 use Rattle.core_terms.specs.Meanings.{tree_of, tele_of}
-use Rattle.family_check.proofs.Answered.{given_list}
+use Rattle.family_check.proofs.CallOutcomes.{given_list}
 use Rattle.family_check.proofs.constructors.into_targets.Goals as goal
 
 pub returns : goal.returns

@@ -1,10 +1,14 @@
-use Rattle.std.proofs.Common.{[], length, ap, ◌∙◌}
-use Rattle.std.proofs.lemmas.List.{length-map}
+use Rattle.std.proofs.Common.{[], length, ap, ◌∙◌, arith}
+use Rattle.std.proofs.lemmas.List.{length-append, length-map}
 use Rattle.theory.specs.Telescopes.{context_behind}
 use Rattle.core_terms.specs.Meanings.{tree_of, tele_of}
 use Rattle.family_check.specs.Families.{ArgumentOf}
 use Rattle.family_check.proofs.DomainHeights.{leveled-count}
 use Rattle.family_check.proofs.constructors.leveled_constructor.Goals as goal
+
+pub arguments-requires-clause-few : goal.arguments-requires-clause-few
+arguments-requires-clause-few c =
+    omega (arith, c.requires.asked.few, length-append (tele_of c.args.f.now.params) (tele_of c.args.types.items), length-map c.args.f.now.params tree_of, length-map c.args.types.items tree_of)
 
 pub arguments-requires-clause-levels : goal.arguments-requires-clause-levels
 arguments-requires-clause-levels c =

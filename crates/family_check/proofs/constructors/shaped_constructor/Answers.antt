@@ -1,13 +1,13 @@
-use Rattle.std.proofs.Common.{◌≡◌, ◌≤◌, ◌++◌, length, All, sym, ap, ◌∙◌, subst as transport, arith}
+use Rattle.std.proofs.Common.{◌≡◌, ◌≤◌, ◌++◌, [], length, All, sym, ap, ◌∙◌, subst as transport, arith}
 use Rattle.std.proofs.lemmas.List.{length-map}
 use Rattle.theory.specs.Terms.{height}
-use Rattle.theory.specs.SignatureScopes.{IsScopedTelescope}
 use Rattle.core_terms.specs.Meanings.{tree_of, tele_of}
-use Rattle.family_check.specs.Shapes.{domains_of, end_of}
-use Rattle.family_check.proofs.Declaring.{all-unmapped}
+use Rattle.kernel_reduce.specs.WellScoped.{AreWellScoped}
+use Rattle.core_terms.specs.Telescopes.{domains_of, end_of}
+use Rattle.core_sig.proofs.Lists.{all-unmapped}
 use Rattle.family_check.proofs.DomainHeights.{domains-count, domains-low, end-low}
-use Rattle.family_check.proofs.KindShapes.{domains-ended, end-ends}
-use Rattle.family_check.proofs.ScopedShapes.{domains-scoped}
+use Rattle.core_terms.proofs.LeadingProducts.{domains-ended, end-ends}
+use Rattle.family_check.proofs.ScopedShapes.{after_domains}
 use Rattle.family_check.proofs.constructors.shaped_constructor.Goals as goal
 
 pub targets-requires-clause-few : goal.targets-requires-clause-few
@@ -39,19 +39,12 @@ targets-requires-clause-ended c =
     let t = tree_of c.args.raw.ty in
     ap domains_of c.in_ok-end.ensures.end ∙ domains-ended (end_of t) (end-ends t)
 
-pub leveled_constructor-requires-clause-types : goal.leveled_constructor-requires-clause-types
-leveled_constructor-requires-clause-types c =
+pub leveled_constructor-requires-clause-asked : goal.leveled_constructor-requires-clause-asked
+leveled_constructor-requires-clause-asked c =
     let t = tree_of c.args.raw.ty in
     let whole : tele_of c.split_products.new.types.items ≡ domains_of t = c.in_ok-end.ensures.domains ∙ ap (λ xs. tele_of xs ++ domains_of t) c.new-types.ensures.items in
-    transport (IsScopedTelescope c.args.sig.now (length c.args.f.now.params)) (sym whole) (domains-scoped c.args.sig.now (length c.args.f.now.params) t c.requires.ty).0
-
-pub leveled_constructor-requires-clause-count : goal.leveled_constructor-requires-clause-count
-leveled_constructor-requires-clause-count c =
-    let t = tree_of c.args.raw.ty in
-    let whole : tele_of c.split_products.new.types.items ≡ domains_of t = c.in_ok-end.ensures.domains ∙ ap (λ xs. tele_of xs ++ domains_of t) c.new-types.ensures.items in
-    let count : length c.split_products.new.types.items ≡ length (domains_of t) = sym (length-map c.split_products.new.types.items tree_of) ∙ ap length whole in
-    let few = domains-count t in
-    omega (arith, c.requires.low)
+    transport (λ types. AreWellScoped c.args.sig.now (tele_of c.args.f.now.params ++ types) []) (sym whole)
+    (after_domains t c.requires.asked (omega (arith, c.requires.few, length-map c.args.f.now.params tree_of)) c.requires.low)
 
 pub leveled_constructor-requires-clause-low : goal.leveled_constructor-requires-clause-low
 leveled_constructor-requires-clause-low c =

@@ -4,7 +4,7 @@ use Rattle.theory.specs.Spines.{spine_of}
 use Rattle.core_terms.specs.Meanings.{tree_of, tele_of}
 use Rattle.core_sig.specs.Meanings.{family_of}
 use Rattle.family_check.specs.Shapes.{first_offender}
-use Rattle.family_check.proofs.Answered.{given_list}
+use Rattle.family_check.proofs.CallOutcomes.{given_list}
 use Rattle.family_check.proofs.ShapeLoops.{no-targets, all-targets, long-end}
 use Rattle.family_check.proofs.constructors.targets.Goals as goal
 

@@ -1,10 +1,10 @@
-use Rattle.std.proofs.Common.{◌≡◌, length, map, All, sym, ap, ap₂, ◌∙◌, subst as transport}
+use Rattle.std.proofs.Common.{◌≡◌, length, map, sym, ap, ap₂, ◌∙◌, subst as transport}
 use Rattle.theory.specs.Signatures.{FamilyOf}
-use Rattle.theory.specs.SignatureScopes.{IsScoped, IsScopedSignature, IsScopedTelescope}
 use Rattle.theory.specs.WellFormed.{pushed, first_entries}
 use Rattle.core_terms.specs.Meanings.{tree_of, tele_of}
 use Rattle.core_sig.specs.Meanings.{constructor_of, family_of}
 use Rattle.core_sig.specs.Raw.{raw_constructor_of}
+use Rattle.kernel_reduce.specs.WellScoped.{AreWellScoped}
 use Rattle.family_check.specs.Families.{declare_constructors}
 use Rattle.family_check.specs.Meanings.{Yields}
 use Rattle.family_check.proofs.Declaring.{given_family, bare-unknown, bare-distinct, bare-kinds}
@@ -22,29 +22,13 @@ push-requires-clause-distinct c =
 pub push-requires-clause-kinds : goal.push-requires-clause-kinds
 push-requires-clause-kinds c = bare-kinds (length c.args.sig.now.entries) c.in_ok-copy_bare.field-0 c.in_ok-copy_bare.ensures.bare
 
-pub declare_constructors-made-requires-clause-signature : goal.declare_constructors-made-requires-clause-signature
-declare_constructors-made-requires-clause-signature c =
+pub declare_constructors-made-requires-clause-asked : goal.declare_constructors-made-requires-clause-asked
+declare_constructors-made-requires-clause-asked c =
     let S = c.args.sig.now in
     let f = family_of c.args.bare.now in
     let same : pushed S (FamilyOf f) ≡ c.push.new.self =
     sym (c.in_ok-number.ensures.ok ∙ ap (λ g. pushed S (FamilyOf g)) (given_family _ _ c.in_ok-copy_bare.ensures.meant)) in
-    transport IsScopedSignature same c.requires.signature
-
-pub declare_constructors-made-requires-clause-params : goal.declare_constructors-made-requires-clause-params
-declare_constructors-made-requires-clause-params c =
-    let S = c.args.sig.now in
-    let f = family_of c.args.bare.now in
-    let same : pushed S (FamilyOf f) ≡ c.push.new.self =
-    sym (c.in_ok-number.ensures.ok ∙ ap (λ g. pushed S (FamilyOf g)) (given_family _ _ c.in_ok-copy_bare.ensures.meant)) in
-    transport (λ T. IsScopedTelescope T 0 (tele_of c.args.bare.now.params)) same c.requires.params
-
-pub declare_constructors-made-requires-clause-types : goal.declare_constructors-made-requires-clause-types
-declare_constructors-made-requires-clause-types c =
-    let S = c.args.sig.now in
-    let f = family_of c.args.bare.now in
-    let same : pushed S (FamilyOf f) ≡ c.push.new.self =
-    sym (c.in_ok-number.ensures.ok ∙ ap (λ g. pushed S (FamilyOf g)) (given_family _ _ c.in_ok-copy_bare.ensures.meant)) in
-    transport (λ T. All (λ k. IsScoped T (length c.args.bare.now.params) (tree_of k.ty)) c.args.raws.items) same c.requires.types
+    transport (λ T. AreWellScoped T (tele_of c.args.bare.now.params) (map (λ k. tree_of k.ty) c.args.raws.items)) same c.requires.asked
 
 pub returns-clause-answer : goal.returns-clause-answer
 returns-clause-answer c =

@@ -1,4 +1,4 @@
-use Rattle.family_check.proofs.Given.{declare-gives}
+use Rattle.family_check.proofs.AsDeclared.{declare-gives}
 use Rattle.family_check.proofs.laws.declare_enters_given.Goals as goal
 
 pub returns : goal.returns

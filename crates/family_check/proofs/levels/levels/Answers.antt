@@ -1,48 +1,27 @@
 use Rattle.std.proofs.Common.{◌≡◌, ◌+◌, ◌<◌, ◌++◌, [], ◌∷◌, length, sym, ap, ◌∙◌, subst as transport, arith}
 use Rattle.std.proofs.lemmas.List.{length-map, map-append}
-use Rattle.theory.specs.SignatureScopes.{IsScoped, IsScopedTelescope}
 use Rattle.core_terms.specs.Meanings.{tree_of, tele_of}
 use Rattle.theory.specs.Telescopes.{context_behind}
 use Rattle.core_terms.proofs.Lists.{map-item}
 use Rattle.core_terms.proofs.Loops.{each-stops}
+use Rattle.kernel_reduce.specs.WellScoped.{AreWellScoped}
+use Rattle.kernel_reduce.proofs.WellScoped.{type_before}
 use Rattle.family_check.specs.Families.{level_in}
 use Rattle.family_check.specs.Meanings.{stop_of}
 use Rattle.family_check.specs.Roles.{role_of}
-use Rattle.family_check.proofs.Answered.{passes_on}
+use Rattle.family_check.proofs.CallOutcomes.{passes_on}
 use Rattle.family_check.proofs.Instances.{given-is}
 use Rattle.family_check.proofs.LevelLoops.{context-more, levels-on}
-use Rattle.family_check.proofs.ScopedTelescopes.{context-so_far, type-so_far, length-so_far}
 use Rattle.family_check.proofs.levels.levels.Goals as goal
 
-pub level_in-requires-clause-context : goal.level_in-requires-clause-context
-level_in-requires-clause-context c =
-    let ps = tele_of c.args.params.now in
-    let ts = tele_of c.args.types.now in
-    transport (IsScopedTelescope c.args.sig.now 0) (sym c.loop-at.invariant.context)
-    (context-so_far c.args.sig.now ps ts c.loop-at.at c.requires.params
-    (transport (λ n. IsScopedTelescope c.args.sig.now n ts) (sym (length-map c.args.params.now tree_of)) c.requires.types))
-
-pub level_in-requires-clause-ty : goal.level_in-requires-clause-ty
-level_in-requires-clause-ty c =
+pub level_in-requires : goal.level_in-requires
+level_in-requires c =
     let ps = tele_of c.args.params.now in
     let ts = tele_of c.args.types.now in
     let lt : c.loop-at.at < length ts = omega (arith, length-map c.args.types.now tree_of) in
     let item = map-item tree_of c.args.types.now c.loop-at.at c.index-types-at.result c.index-types-at.is in
-    let count : length ps + c.loop-at.at ≡ length c.loop-at.ctx =
-    length-so_far (tele_of c.loop-at.ctx) ps ts c.loop-at.at c.loop-at.invariant.context lt ∙ length-map c.loop-at.ctx tree_of in
-    transport (λ n. IsScoped c.args.sig.now n (tree_of c.index-types-at.result)) count
-    (transport (IsScoped c.args.sig.now (length ps + c.loop-at.at)) (sym item)
-    (type-so_far c.args.sig.now ps ts c.loop-at.at (tree_of c.index-types-at.result)
-    (transport (λ n. IsScopedTelescope c.args.sig.now n ts) (sym (length-map c.args.params.now tree_of)) c.requires.types) lt))
-
-pub level_in-requires-clause-few : goal.level_in-requires-clause-few
-level_in-requires-clause-few c =
-    let ps = tele_of c.args.params.now in
-    let ts = tele_of c.args.types.now in
-    let lt : c.loop-at.at < length ts = omega (arith, length-map c.args.types.now tree_of) in
-    let count : length ps + c.loop-at.at ≡ length c.loop-at.ctx =
-    length-so_far (tele_of c.loop-at.ctx) ps ts c.loop-at.at c.loop-at.invariant.context lt ∙ length-map c.loop-at.ctx tree_of in
-    omega (arith, length-map c.args.params.now tree_of)
+    transport (λ G. AreWellScoped c.args.sig.now G (tree_of c.index-types-at.result ∷ [])) (sym c.loop-at.invariant.context)
+    (type_before ps ts c.loop-at.at (tree_of c.index-types-at.result) lt item c.requires)
 
 pub returns-in_err-level-clause-answer : goal.returns-in_err-level-clause-answer
 returns-in_err-level-clause-answer c =

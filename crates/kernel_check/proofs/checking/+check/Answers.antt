@@ -2,7 +2,7 @@ use Rattle.std.proofs.Common.{◌-◌, ◌≤◌, arith}
 use Rattle.theory.specs.Terms.{height}
 use Rattle.core_terms.specs.Meanings.{tree_of}
 use Rattle.kernel_check.specs.Scopes.{scope_of}
-use Rattle.kernel_check.proofs.Conditions.{can_codomain, can_body, can_argument, can_made, inferred_wide, can_inferred, can_product, can_reduced, compared_low, infer_step}
+use Rattle.kernel_check.proofs.Conditions.{can_codomain, can_body, can_argument, can_made, compare_inferred, reduce_inferred, can_inferred, can_product, can_reduced, compared_low, infer_step}
 use Rattle.kernel_check.proofs.checking.+check.Goals as goal
 
 pub infer_product-infer_sort_in-requires-2 : goal.infer_product-infer_sort_in-requires-2
@@ -13,13 +13,13 @@ pub infer_function-infer_in-requires : goal.infer_function-infer_in-requires
 infer_function-infer_in-requires t c =
     (omega (arith, c.decreases), can_body c.args.scope c.args.a (tree_of c.args.b.now) c.requires.can c.requires.low)
 
-pub check_in-subtype_within-requires-clause-a : goal.check_in-subtype_within-requires-clause-a
-check_in-subtype_within-requires-clause-a t c =
-    inferred_wide _ _ c.in_ok-ty.field-0 c.in-Yes.ty _ c.requires.term c.in-Yes.is c.in_ok-ty.ensures.meant
+pub check_in-subtype_within-requires-clause-asked : goal.check_in-subtype_within-requires-clause-asked
+check_in-subtype_within-requires-clause-asked t c =
+    compare_inferred _ _ c.in_ok-ty.field-0 c.in-Yes.ty _ c.requires.term c.requires.wanted c.in-Yes.is c.in_ok-ty.ensures.meant
 
-pub infer_sort_in-whnf-requires-clause-scoped : goal.infer_sort_in-whnf-requires-clause-scoped
-infer_sort_in-whnf-requires-clause-scoped t c =
-    inferred_wide _ _ c.in_ok-ty.field-0 c.in-Yes.ty _ c.requires c.in-Yes.is c.in_ok-ty.ensures.meant
+pub infer_sort_in-whnf-requires : goal.infer_sort_in-whnf-requires
+infer_sort_in-whnf-requires t c =
+    reduce_inferred _ _ c.in_ok-ty.field-0 c.in-Yes.ty _ c.requires c.in-Yes.is c.in_ok-ty.ensures.meant
 
 pub infer_application-product_of-requires : goal.infer_application-product_of-requires
 infer_application-product_of-requires t c = (

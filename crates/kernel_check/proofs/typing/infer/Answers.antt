@@ -5,15 +5,14 @@ use Rattle.kernel_reduce.specs.Reduction.{nesting}
 use Rattle.kernel_check.specs.Checking.{infer_of}
 use Rattle.kernel_check.specs.Laws.{AreBothLow, HasType, IfYes}
 use Rattle.kernel_check.proofs.AnswerHeights.{infer-is_low}
-use Rattle.kernel_check.proofs.Conditions.{can_given, given_context, given_runs, given_term, said, said_scoped}
+use Rattle.kernel_check.proofs.Conditions.{can_given, given_context, given_runs, given_term, answer-has, answer-scoped}
 use Rattle.kernel_check.proofs.Scoped.{infer-scoped}
 use Rattle.kernel_check.proofs.Soundness.{infer-is_sound}
 use Rattle.kernel_check.proofs.typing.infer.Goals as goal
 
 pub infer_in-requires : goal.infer_in-requires
 infer_in-requires c =
-    can_given c.as_slice.result c.args.ctx.now nesting (tree_of c.args.t.now) c.as_slice.ensures c.requires.signature c.requires.context c.requires.term
-    (omega (arith, c.requires.few)) (omega arith)
+    can_given c.as_slice.result c.args.ctx.now nesting c.as_slice.ensures c.requires (omega arith)
 
 pub returns-clause-answer : goal.returns-clause-answer
 returns-clause-answer c =
@@ -23,16 +22,16 @@ returns-clause-answer c =
 pub returns-clause-sound : goal.returns-clause-sound
 returns-clause-sound c = λ typed context.
     let G = context_behind [] (tele_of c.args.ctx.now) in
-    said (λ v. IfYes v (HasType c.args.sig.now G (tree_of c.args.t.now))) c.infer_in.result _ _ (returns-clause-answer c)
+    answer-has (λ v. IfYes v (HasType c.args.sig.now G (tree_of c.args.t.now))) c.infer_in.result _ _ (returns-clause-answer c)
     (infer-is_sound c.args.sig.now typed nesting G (tree_of c.args.t.now) c.args.units.now.left context)
 
 pub returns-clause-scoped : goal.returns-clause-scoped
 returns-clause-scoped c =
-    said_scoped c.args.sig.now c.args.ctx.now c.infer_in.result _ _ (returns-clause-answer c)
+    answer-scoped c.args.sig.now c.args.ctx.now c.infer_in.result _ _ (returns-clause-answer c)
     (infer-scoped c.args.sig.now nesting (context_behind [] (tele_of c.args.ctx.now)) (tree_of c.args.t.now) c.args.units.now.left c.requires.signature
-    (given_context c.args.sig.now c.args.ctx.now c.requires.context) (given_term c.args.sig.now c.args.ctx.now (tree_of c.args.t.now) c.requires.term))
+    (given_context c.args.ctx.now c.requires) (given_term c.args.ctx.now c.requires))
 
 pub returns-clause-low : goal.returns-clause-low
 returns-clause-low c =
-    said (λ v. IfYes v (AreBothLow (tree_of c.args.t.now))) c.infer_in.result _ _ (returns-clause-answer c)
+    answer-has (λ v. IfYes v (AreBothLow (tree_of c.args.t.now))) c.infer_in.result _ _ (returns-clause-answer c)
     (infer-is_low c.args.sig.now nesting (context_behind [] (tele_of c.args.ctx.now)) (tree_of c.args.t.now) c.args.units.now.left)

@@ -2,7 +2,7 @@ use Rattle.std.proofs.Common.{IsTrue}
 use Rattle.core_terms.specs.Meanings.{tree_of}
 use Rattle.theory.specs.Conversion.{Converts}
 use Rattle.kernel_reduce.proofs.ComparisonLaws.{convertible-converts}
-use Rattle.kernel_reduce.proofs.Meant.{runs-has}
+use Rattle.kernel_reduce.proofs.Runs.{runs-has}
 use Rattle.kernel_reduce.proofs.calls.convertible.Goals as goal
 
 pub returns-clause-sound : goal.returns-clause-sound

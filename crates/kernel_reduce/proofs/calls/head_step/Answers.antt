@@ -3,7 +3,7 @@ use Rattle.core_terms.specs.Meanings.{tree_of}
 use Rattle.theory.specs.Conversion.{Step}
 use Rattle.theory.specs.SignatureScopes.{IsScoped}
 use Rattle.theory.specs.Terms.{height}
-use Rattle.kernel_reduce.proofs.Meant.{runs-some}
+use Rattle.kernel_reduce.proofs.Runs.{runs-some}
 use Rattle.kernel_reduce.proofs.ReductionLaws.{head_step-is_step, head_step-is_low}
 use Rattle.kernel_reduce.proofs.ScopedReduction.{head_step-scoped}
 use Rattle.kernel_reduce.proofs.calls.head_step.Goals as goal

@@ -4,7 +4,7 @@ use Rattle.core_terms.specs.Meanings.{tree_of}
 use Rattle.theory.specs.Conversion.{Converts}
 use Rattle.theory.specs.SignatureScopes.{IsScoped}
 use Rattle.theory.specs.Terms.{height}
-use Rattle.kernel_reduce.proofs.Meant.{runs-has}
+use Rattle.kernel_reduce.proofs.Runs.{runs-has}
 use Rattle.kernel_reduce.proofs.ReductionLaws.{normal-converts}
 use Rattle.kernel_reduce.proofs.ScopedReduction.{normal-scoped}
 use Rattle.kernel_reduce.proofs.calls.normal.Goals as goal

@@ -2,7 +2,7 @@ use Rattle.std.proofs.Common.{IsTrue}
 use Rattle.core_terms.specs.Meanings.{tree_of}
 use Rattle.theory.specs.Conversion.{Below}
 use Rattle.kernel_reduce.proofs.ComparisonLaws.{subtype-is_below}
-use Rattle.kernel_reduce.proofs.Meant.{runs-has}
+use Rattle.kernel_reduce.proofs.Runs.{runs-has}
 use Rattle.kernel_reduce.proofs.calls.subtype.Goals as goal
 
 pub returns-clause-sound : goal.returns-clause-sound

@@ -1,7 +1,7 @@
 use Rattle.core_terms.specs.Meanings.{tree_of}
 use Rattle.theory.specs.SignatureScopes.{IsScoped}
 use Rattle.kernel_reduce.specs.Laws.{IsHeadForm}
-use Rattle.kernel_reduce.proofs.Meant.{runs-has}
+use Rattle.kernel_reduce.proofs.Runs.{runs-has}
 use Rattle.kernel_reduce.proofs.ReductionLaws.{whnf-is_head_form}
 use Rattle.kernel_reduce.proofs.ScopedReduction.{whnf-scoped}
 use Rattle.kernel_reduce.proofs.calls.whnf.Goals as goal

@@ -1,8 +1,8 @@
 use Rattle.std.proofs.Common.{◌+◌, ◌-◌, true, arith}
+use Rattle.core_terms.specs.Bounds.{most_inner_variables}
 use Rattle.core_terms.specs.Meanings.{tree_of}
 use Rattle.theory.specs.SignatureScopes.{IsScoped}
-use Rattle.kernel_reduce.specs.Reduction.{most_inner_variables}
-use Rattle.kernel_reduce.proofs.Meant.{meant-has}
+use Rattle.kernel_reduce.proofs.Runs.{meant-has}
 use Rattle.kernel_reduce.proofs.ScopedReduction.{whnf-scoped}
 use Rattle.kernel_reduce.proofs.comparing.+compare.Goals as goal
 

@@ -1,6 +1,6 @@
 use Rattle.std.proofs.Common.{sym, ap, ◌∙◌}
 use Rattle.core_terms.specs.Meanings.{tree_of, tele_of}
-use Rattle.kernel_reduce.specs.Making.{Makes}
+use Rattle.core_terms.specs.Answers.{Makes}
 use Rattle.kernel_reduce.proofs.Contractions.{has-all, contraction-of_spines, spine-free}
 use Rattle.core_terms.proofs.Builders.{ok_is}
 use Rattle.kernel_reduce.proofs.contracting.eliminate.Goals as goal

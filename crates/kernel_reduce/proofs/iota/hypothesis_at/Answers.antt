@@ -1,8 +1,9 @@
 use Rattle.std.proofs.Common.{◌≤◌, subst}
 use Rattle.core_terms.specs.Meanings.{tree_of}
 use Rattle.theory.specs.Terms.{free_of}
-use Rattle.kernel_reduce.specs.Making.{Makes}
-use Rattle.kernel_reduce.proofs.CallForms.{first-values, value-has, hypothesis-values}
+use Rattle.core_terms.specs.Answers.{Makes}
+use Rattle.core_terms.proofs.Lists.{value-has}
+use Rattle.kernel_reduce.proofs.CallForms.{first-values, hypothesis-values}
 use Rattle.kernel_reduce.proofs.iota.hypothesis_at.Goals as goal
 
 pub hypothesis-requires-clause-values : goal.hypothesis-requires-clause-values

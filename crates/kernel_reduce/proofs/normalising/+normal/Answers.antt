@@ -2,7 +2,7 @@ use Rattle.std.proofs.Common.{◌-◌, arith}
 use Rattle.core_terms.specs.Meanings.{tree_of}
 use Rattle.theory.specs.SignatureScopes.{IsScoped}
 use Rattle.theory.proofs.ScopedTerms.{scoped_over_more}
-use Rattle.kernel_reduce.proofs.Meant.{meant-has}
+use Rattle.kernel_reduce.proofs.Runs.{meant-has}
 use Rattle.kernel_reduce.proofs.ScopedReduction.{whnf-scoped}
 use Rattle.kernel_reduce.proofs.normalising.+normal.Goals as goal
 

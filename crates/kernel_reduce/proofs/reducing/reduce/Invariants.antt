@@ -1,7 +1,8 @@
 use Rattle.std.proofs.Common.{◌≡◌, ◌≤◌, ◌+◌}
+use Rattle.core_terms.specs.Bounds.{most_inner_variables}
 use Rattle.core_terms.specs.Meanings.{tree_of}
 use Rattle.theory.specs.SignatureScopes.{IsScoped}
-use Rattle.kernel_reduce.specs.Reduction.{most_inner_variables, whnf_of}
+use Rattle.kernel_reduce.specs.Reduction.{whnf_of}
 use Rattle.kernel_reduce.proofs.reducing.reduce.Given as goal
 
 abbrev pub invariant-steps : goal.invariant-steps

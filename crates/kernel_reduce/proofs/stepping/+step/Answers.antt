@@ -1,7 +1,7 @@
 use Rattle.std.proofs.Common.{sym, ap, ap₂, ◌∙◌}
 use Rattle.core_terms.specs.Meanings.{tree_of}
 use Rattle.theory.specs.Terms.{App}
-use Rattle.kernel_reduce.specs.Making.{Makes}
+use Rattle.core_terms.specs.Answers.{Makes}
 use Rattle.kernel_reduce.proofs.StepTests.{must_contract, step-contracts}
 use Rattle.kernel_reduce.proofs.stepping.+step.Goals as goal
 

@@ -1,5 +1,0 @@
-use Rattle.std.proofs.Common.{length}
-use Rattle.tele_eq.proofs.equations.+solved.Given as goal
-
-abbrev pub decreases-solved : goal.decreases-solved
-decreases-solved l = length l.positions.now
