@@ -1,10 +1,7 @@
 -- A telescope whose types have levels.
-use Rattle.std.specs.Prelude.{ℕ, zero, suc, ◌+◌, max, ◌≤◌, Bool, true, ◌&&◌, if◌then◌else◌, List, [], ◌∷◌, length, map, get_or, Result, Ok, Err}
+use Rattle.std.specs.Prelude.{ℕ, zero, suc, ◌+◌, max, ◌≤◌, List, [], ◌∷◌, length, map, get_or}
 use Rattle.theory.specs.Terms.{Term, Sort, height, free_of}
-use Rattle.core_terms.specs.Answers.{is_low}
 use Rattle.core_terms.specs.Meanings.{tree_of}
-use Rattle.core_terms.specs.declared.stop.Stop.{Stop}
-use Rattle.core_terms.specs.declared.stop.Stop.TheVariants.{Deep}
 use Rattle.tele_eq.specs.declared.item.Item as code
 
 -- a type, over the variables of the items before it, and its level
@@ -42,14 +39,6 @@ each_position f j (suc count) = f j ∷ each_position f (j + 1) count
 -- all positions of a telescope
 abbrev pub positions_of : List Item → List ℕ
 positions_of X = each_position (λ j. j) 0 (length X)
-
-abbrev pub are_low : List Term → Bool
-are_low [] = true
-are_low (t ∷ terms) = is_low t && are_low terms
-
--- the terms themselves, or Deep where one of them is too high
-abbrev pub bounded_terms : List Term → Result (List Term) Stop
-bounded_terms terms = if are_low terms then Ok terms else Err Deep
 
 -- a term with a bound for its height and for its free variables
 abbrev pub IsSmall : Term → Type 0

@@ -1,10 +1,10 @@
 ghost use Rattle.std.specs.Prelude.{◌≡◌, ◌≤◌, ◌+◌, ◌++◌, Ok, length};
-ghost use Rattle.core_terms.specs.Answers.{Gives};
+ghost use Rattle.core_terms.specs.Answers.{Gives, bounded_terms};
 ghost use Rattle.core_terms.specs.Meanings.{tele_of};
 ghost use Rattle.tele_eq.specs.CodeEnvironments.{AreSmallSides, IsSmallMap, congruences_of, proofs_of, variables_of};
 ghost use Rattle.tele_eq.specs.Congruences as spec;
 ghost use Rattle.tele_eq.specs.Environments.{outside};
-ghost use Rattle.tele_eq.specs.Items.{AreSmall, AreSmallTerms, bounded_terms, each_position, items_of};
+ghost use Rattle.tele_eq.specs.Items.{AreSmall, AreSmallTerms, each_position, items_of};
 
 use crate::Item;
 use crate::lists::bounded_terms;
@@ -38,7 +38,7 @@ fn congruences_from(
 }
 
 /// For terms over the telescope `from` that inhabit the telescope `to`: the equations between what they are at the left terms
-/// and at the right terms, from the equations between these. Their heights nothing tests.
+/// and at the right terms, from the equations between these. Their heights are not tested.
 pub fn cong_whole(
     alloc: Global,
     from: &Items<Item>,

@@ -12,7 +12,7 @@ use core_terms::{Items, Stop, Tele, Term, checked};
 use std::alloc::Global;
 
 /// The telescopic J along all equations, from `base` into `goal_head` applied to the right terms and then to the equations.
-/// Its height nothing tests.
+/// Its height is not tested.
 pub fn telescopic_j_whole(
     alloc: Global,
     tele: &Items<Item>,

@@ -1,7 +1,7 @@
 ghost use Rattle.std.specs.Prelude.{◌≡◌, ◌≤◌, ◌+◌, ◌++◌, Ok, length};
-ghost use Rattle.core_terms.specs.Answers.{Gives};
+ghost use Rattle.core_terms.specs.Answers.{Gives, bounded_terms};
 ghost use Rattle.core_terms.specs.Meanings.{tele_of};
-ghost use Rattle.tele_eq.specs.Items.{AreSmall, AreSmallTerms, bounded_terms, each_position, items_of};
+ghost use Rattle.tele_eq.specs.Items.{AreSmall, AreSmallTerms, each_position, items_of};
 ghost use Rattle.tele_eq.specs.TelescopicEquality as spec;
 
 use crate::Item;
@@ -38,7 +38,7 @@ fn equations_from(
     equations_from(alloc, n, tele, left, right, j + 1, count - 1, made)
 }
 
-/// The telescope of the equations between two lists of terms, whose heights nothing tests.
+/// The telescope of the equations between two lists of terms. Their heights are not tested.
 pub fn tele_equations_whole(
     alloc: Global,
     tele: &Items<Item>,

@@ -1,10 +1,10 @@
 ghost use Rattle.std.specs.Prelude.{◌≡◌};
-ghost use Rattle.core_terms.specs.Answers.{Gives};
+ghost use Rattle.core_terms.specs.Answers as spec;
 ghost use Rattle.core_terms.specs.Meanings.{tele_of};
-ghost use Rattle.tele_eq.specs.Items as spec;
 
 use core_terms::{MAX_HEIGHT, Stop, Tele, Term};
 
+/// Whether no term is too high.
 fn are_low(terms: &[Term]) -> bool
     ensures { result ≡ spec.are_low (tele_of terms.now) }
 {
@@ -16,7 +16,7 @@ fn are_low(terms: &[Term]) -> bool
 
 /// The terms themselves, or Deep where one of them is too high.
 pub(crate) fn bounded_terms(terms: Tele) -> Result<Tele, Stop>
-    ensures { Gives tele_of result (spec.bounded_terms (tele_of terms)) }
+    ensures { spec.Gives tele_of result (spec.bounded_terms (tele_of terms)) }
 {
     if are_low(terms.as_slice()) {
         Ok(terms)

@@ -1,8 +1,8 @@
 ghost use Rattle.std.specs.Prelude.{◌≡◌, ◌≤◌, ◌+◌, ◌++◌, Ok, length};
-ghost use Rattle.core_terms.specs.Answers.{Gives};
+ghost use Rattle.core_terms.specs.Answers.{Gives, bounded_terms};
 ghost use Rattle.core_terms.specs.Meanings.{tele_of};
 ghost use Rattle.tele_eq.specs.Environments.{outside};
-ghost use Rattle.tele_eq.specs.Items.{AreSmall, AreSmallTerms, bounded_terms, each_position, items_of};
+ghost use Rattle.tele_eq.specs.Items.{AreSmall, AreSmallTerms, each_position, items_of};
 ghost use Rattle.tele_eq.specs.TelescopicEquality as spec;
 
 use crate::Item;
@@ -34,7 +34,7 @@ fn reflexivities_from(
     reflexivities_from(alloc, tele, terms, j + 1, count - 1, made)
 }
 
-/// refl.i_j A_j u_j for each position of a telescope, whose heights nothing tests.
+/// refl.i_j A_j u_j for each position of a telescope. Their heights are not tested.
 pub fn refl_list_whole(alloc: Global, tele: &Items<Item>, terms: &Tele) -> Result<Tele, Stop>
     requires few { length tele.now ≤ 1000 }
     requires items { AreSmall (items_of tele.now) }
