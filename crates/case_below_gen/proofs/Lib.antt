@@ -13,6 +13,9 @@ pub mod Hypotheses
 mod IndexedExamples
 mod LeftExamples
 pub mod PartTests
+pub mod PathBounds
+mod PathExamples
+pub mod PathLaws
 pub mod Placements
 mod Samples
 pub mod ScopedCases
@@ -21,4 +24,6 @@ pub mod ScopedEntries
 pub mod ScopedLeft
 pub mod ShapeLevels
 pub mod StepForms
+pub mod TermLists
 pub mod Unfolding
+pub mod WholePaths

@@ -43,12 +43,12 @@ same-found a b h = go (Term-discrete ℕ_discrete a b)
     go (no e) = absurd (e h)
 
 -- r at so many arguments
-record IsAt (r : Term) (count : ℕ) (t : Term) : Type 0 where
-  inner : List Term
-  counted : length inner ≡ count
-  form : t ≡ applied r inner
+pub record IsAt (r : Term) (count : ℕ) (t : Term) : Type 0 where
+  pub inner : List Term
+  pub counted : length inner ≡ count
+  pub form : t ≡ applied r inner
 
-applied-tells : (r : Term) (count : ℕ) (t : Term) → is_applied r count t ≡ true → IsAt r count t
+pub applied-tells : (r : Term) (count : ℕ) (t : Term) → is_applied r count t ≡ true → IsAt r count t
 applied-tells r zero t h = record { inner = []; counted = refl; form = same-tells t r h }
 applied-tells r (suc count) (App g a) h =
     let front = applied-tells r count g h in
@@ -63,7 +63,7 @@ applied-found : (h r : Term) (count : ℕ) (inner : List Term) → is_applied r 
 applied-found h r count [] e = ap (λ k. is_applied r k h) (omega arith) ∙ e
 applied-found h r count (u ∷ inner) e = ap (λ k. is_applied r k (applied (App h u) inner)) (omega arith) ∙ applied-found (App h u) r (suc count) inner e
 
-or-tells : (a b : Bool) → (a || b) ≡ true → (a ≡ true) ⊎ (b ≡ true)
+pub or-tells : (a b : Bool) → (a || b) ≡ true → (a ≡ true) ⊎ (b ≡ true)
 or-tells true b h = inl refl
 or-tells false b h = inr h
 
@@ -75,7 +75,7 @@ or-right : (a b : Bool) → b ≡ true → (a || b) ≡ true
 or-right true b h = refl
 or-right false b h = h
 
-and-tells : (a b : Bool) → (a && b) ≡ true → (a ≡ true) × (b ≡ true)
+pub and-tells : (a b : Bool) → (a && b) ≡ true → (a ≡ true) × (b ≡ true)
 and-tells true b h = (refl, h)
 and-tells false b h = absurd (false≢true h)
 
@@ -93,13 +93,13 @@ number-found : (n number : ℕ) → constructor_number n (Con n number) ≡ Some
 number-found n number = ap (λ b. if b then Some number else None) ((Decides-eqb n n).1 refl)
 
 -- what is found at a term
-record IsWhole (n : ℕ) (f : Family) (t : Term) (s : ConstructorShape) : Type 0 where
-  number : ℕ
-  constructor : Constructor
-  head : head_of t ≡ Con n number
-  known : slice_get f.constructors number ≡ Some constructor
-  whole : length (spine_of t) ≡ length f.parameters + length constructor.arguments
-  shape : s ≡ constructor_shape n f constructor
+pub record IsWhole (n : ℕ) (f : Family) (t : Term) (s : ConstructorShape) : Type 0 where
+  pub number : ℕ
+  pub constructor : Constructor
+  pub head : head_of t ≡ Con n number
+  pub known : slice_get f.constructors number ≡ Some constructor
+  pub whole : length (spine_of t) ≡ length f.parameters + length constructor.arguments
+  pub shape : s ≡ constructor_shape n f constructor
 
 length-shapes : (n : ℕ) (f : Family) (c : Constructor) → length (constructor_shape n f c).arguments ≡ length c.arguments
 length-shapes n f c = go 0 c.arguments
@@ -108,7 +108,7 @@ length-shapes n f c = go 0 c.arguments
     go at [] = refl
     go at (a ∷ arguments) = ap suc (go (at + 1) arguments)
 
-whole-tells : (n : ℕ) (f : Family) (t : Term) (s : ConstructorShape) → constructor_of n (family_shape n f) t ≡ Some s → IsWhole n f t s
+pub whole-tells : (n : ℕ) (f : Family) (t : Term) (s : ConstructorShape) → constructor_of n (family_shape n f) t ≡ Some s → IsWhole n f t s
 whole-tells n f t s h = from-number (constructor_number n (head_of t)) refl h
   where
     F : Shape
@@ -210,7 +210,7 @@ kinds-are n f at zero (a ∷ arguments) = refl
 kinds-are n f at (suc place) (a ∷ arguments) = kinds-are n f (at + 1) place arguments
 
 -- an argument is lower than the term
-argument-low : (t r : Term) (place : ℕ) → slice_get (spine_of t) place ≡ Some r → height r < height t
+pub argument-low : (t r : Term) (place : ℕ) → slice_get (spine_of t) place ≡ Some r → height r < height t
 argument-low (App g a) r place at = elim (slice_get-pushed (spine_of g) a place r at) [
   | inl front ↦ let low = argument-low g r place front in omega arith
   | inr (last, is) ↦ let same = ap height is in omega arith
@@ -239,7 +239,7 @@ kind-tells n f part t r number place c known head there whole argument (Some (Re
     is-recursive k e = record { number = number; constructor = c; at = place; head = head; known = there; whole = whole; kind = e; argument = argument }
 
 -- how many arguments the shape has
-shape-counted : (n : ℕ) (f : Family) (t : Term) (s : ConstructorShape) → (w : IsWhole n f t s) → length (spine_of t) ≡ length f.parameters + length s.arguments
+pub shape-counted : (n : ℕ) (f : Family) (t : Term) (s : ConstructorShape) → (w : IsWhole n f t s) → length (spine_of t) ≡ length f.parameters + length s.arguments
 shape-counted n f t s w = w.whole ∙ ap (λ k. length f.parameters + k) (sym (ap (λ c. length c.arguments) w.shape ∙ length-shapes n f w.constructor))
 
 whole-part : (n : ℕ) (f : Family) (part t : Term) (s : ConstructorShape) → Known n f part t → IsWhole n f t s → has_part_along n (family_shape n f) part s.arguments (length s.arguments) t ≡ true → IsStrictPart n f part t
@@ -284,7 +284,7 @@ argument-found n f part t r count is holds =
     behind : Bool
     behind = has_part n (family_shape n f) part r
 
-part-found : (n : ℕ) (f : Family) (part : Term) {t : Term} → IsStrictPart n f part t → has_part n (family_shape n f) part t ≡ true
+pub part-found : (n : ℕ) (f : Family) (part : Term) {t : Term} → IsStrictPart n f part t → has_part n (family_shape n f) part t ≡ true
 part-found n f part (itself {t} {r} inner is form) =
     argument-found n f part t r (length inner) is
     (or-left (is_applied r (length inner) part) _ (ap (is_applied r (length inner)) form ∙ (ap (λ k. is_applied r k (applied r inner)) none_more ∙ applied-found r r 0 inner (same-found r r refl))))

@@ -1,22 +1,25 @@
 -- What course-of-values recursion computes.
-use Rattle.std.specs.Prelude.{◌≡◌, Some, ℕ, ◌+◌, ◌≤◌, List, [], ◌∷◌, ◌++◌, map, length, slice_get}
+use Rattle.std.specs.Prelude.{◌≡◌, Some, ℕ, ◌+◌, ◌≤◌, List, [], ◌∷◌, ◌++◌, map, length, take, slice_get}
 use Rattle.std.specs.List.{All}
-use Rattle.theory.specs.Terms.{Term, App, Const, Con, height, free_of}
+use Rattle.theory.specs.Terms.{Term, Var, App, Const, Con, height, free_of}
 use Rattle.theory.specs.Substitutions.{inst, fill}
-use Rattle.theory.specs.Telescopes.{applied}
-use Rattle.theory.specs.Families.{Argument, Plain, Recursive, Constructor, Family}
+use Rattle.theory.specs.Telescopes.{Telescope, applied, weaken_by}
+use Rattle.theory.specs.Families.{Argument, Plain, Recursive, Constructor, Family, recursive_type, family_head}
 use Rattle.theory.specs.Prelude.{pair_type, pair_family}
 use Rattle.theory.specs.Eliminators.{hypotheses, no_variable}
 use Rattle.theory.specs.Signatures.{Signature, FamilyOf, Definition, IsEntryAt, HasClosedBodies}
 use Rattle.theory.specs.Conversion.{Converts}
 use Rattle.core_sig.specs.FamilyShapes.{argument_shapes, family_shape}
+use Rattle.core_sig.specs.Meanings.{behind}
 use Rattle.core_sig.specs.Shapes.{ArgumentShape, ConstructorShape, Shape, recursive_count}
 use Rattle.core_sig.specs.declared.family.ArgKind.{ArgKind}
 use Rattle.core_sig.specs.declared.family.ArgKind.TheVariants.{Plain as PlainKind, Recursive as RecursiveKind}
 use Rattle.case_below_gen.specs.declared.components.Course.{Course}
+use Rattle.case_below_gen.specs.declared.sides.Side.{Side}
 use Rattle.case_below_gen.specs.declared.sides.Side.TheVariants.{First, Second}
 use Rattle.case_below_gen.specs.Components.{tuple}
 use Rattle.case_below_gen.specs.CourseEntries.{course_of, aux_term}
+use Rattle.case_below_gen.specs.Paths.{step_to}
 use Rattle.case_below_gen.specs.Projections.{side_entry_term}
 
 -- ---- families whose terms are scoped, and at most 2,000 high, as those of each family that enters a signature
@@ -111,3 +114,22 @@ AllComputes =
     → HasBody S all (side_entry_term Second n (family_shape n f) (course_of (family_shape n f) m below) aux)
     → (number : ℕ) (c : Constructor) (ps : List Term) (P s : Term) (is qs us : List Term) → IsAtConstructor f number c ps is qs us
     → Converts S (App (applied (Const all) (ps ++ P ∷ s ∷ is)) (applied (Con n number) (qs ++ us))) (tuple_at n f m below aux ps P s c us)
+
+-- One step of a path: from constructor c with the parameters ps and the arguments us to its recursive argument r with inner
+-- arguments ts, in `D!all.m` at the constructor. The first side is `D!rec.m`, and the second `D!all.m`, at r with these and at
+-- its targets.
+abbrev pub StepComputes : Side → Type 0
+StepComputes side =
+    (S : Signature) (n : ℕ) (f : Family) (m below aux all entry : ℕ) → HasCourse S n f m below aux
+    → HasBody S all (side_entry_term Second n (family_shape n f) (course_of (family_shape n f) m below) aux)
+    → HasBody S entry (side_entry_term side n (family_shape n f) (course_of (family_shape n f) m below) aux)
+    → (number : ℕ) (c : Constructor) (ps : List Term) (P s : Term) (is us : List Term) → IsAtConstructor f number c ps is ps us
+    → (at : ℕ) (inner : Telescope) (targets : List Term) (level : ℕ) (r : Term) (ts : List Term) (part : Term)
+    → slice_get c.arguments at ≡ Some (Recursive inner targets level) → slice_get us at ≡ Some r → length ts ≡ length inner
+    → Converts S
+    (step_to (record { family = n; shape = family_shape n f; m = m; below = below; motive = P; part = part }) side (applied (Con n number) (ps ++ us)) (argument_shapes n f 0 c.arguments) at (length inner)
+    (behind (length inner) (recursive_type Var (weaken_by at (family_head n f)) inner targets)) ts (App (applied (Const all) (ps ++ P ∷ s ∷ is)) (applied (Con n number) (ps ++ us))))
+    (App (applied (Const entry) (ps ++ P ∷ s ∷ map (inst (fill no_variable (ps ++ (take at us ++ ts)))) targets)) (applied r ts))
+
+abbrev pub PathStepComputes : Type 0
+PathStepComputes = StepComputes First × StepComputes Second

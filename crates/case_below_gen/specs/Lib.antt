@@ -5,6 +5,9 @@ pub mod CourseEntries
 pub mod CourseLaws
 pub mod LeftEntries
 pub mod PartTests
+pub mod PathLaws
+pub mod PathMeanings
 pub mod PathSteps
+pub mod Paths
 pub mod Projections
 pub mod StrictParts

@@ -23,7 +23,7 @@ use core_terms::{Binder, Stop, Term, variable};
 use std::alloc::Global;
 
 /// The entry `D!aux.m` for family number `fam`: from a step, the motive into `Type m` at a term and at each of its strict parts.
-/// Deep where its type or its term is too high.
+/// It mentions `D!below.m`. Deep where its type or its term is too high.
 pub fn aux_entry(alloc: Global, sig: &Signature, fam: u32, m: u8) -> Result<Draft, Stop>
     requires family { IsFamilyNumber sig.now fam }
     requires level { m + 1 < top }

@@ -21,8 +21,8 @@ use core_sig::{
 use core_terms::{Binder, Items, Stop, Term, bind};
 use std::alloc::Global;
 
-/// The entry `D!below.m` for family number `fam`: the motive into `Type m` at each strict part of a term. Deep where its type or
-/// its term is too high.
+/// The entry `D!below.m` for family number `fam`: the motive into `Type m` at each strict part of a term. It mentions no generated
+/// name. Deep where its type or its term is too high.
 pub fn below_entry(alloc: Global, sig: &Signature, fam: u32, m: u8) -> Result<Draft, Stop>
     requires family { IsFamilyNumber sig.now fam }
     requires level { m + 1 < top }

@@ -18,8 +18,8 @@ use core_sig::{
 use core_terms::{Binder, Items, Stop, Term, applied_to_run, bind, variable};
 use std::alloc::Global;
 
-/// The entry `D!case.m` for family number `fam`: case analysis into `Type m`, the eliminator without hypotheses. Deep where
-/// its type or its term is too high.
+/// The entry `D!case.m` for family number `fam`: case analysis into `Type m`, the eliminator without hypotheses. It mentions no
+/// generated name. Deep where its type or its term is too high.
 pub fn case_entry(alloc: Global, sig: &Signature, fam: u32, m: u8) -> Result<Draft, Stop>
     requires family { IsFamilyNumber sig.now fam }
     requires level { m < top }

@@ -1,6 +1,7 @@
 //! What the generated entries are, in the words of the theory.
 ghost use Rattle.case_below_gen.specs.CaseLaws.{CaseTypeWithoutHypotheses};
-ghost use Rattle.case_below_gen.specs.CourseLaws.{AllComputes, RecComputes};
+ghost use Rattle.case_below_gen.specs.CourseLaws.{AllComputes, PathStepComputes, RecComputes};
+ghost use Rattle.case_below_gen.specs.PathLaws.{PathComputes};
 
 /// The type of case analysis is the eliminator's type without hypotheses.
 pub fn case_type_without_hypotheses()
@@ -15,4 +16,14 @@ pub fn rec_computes()
 /// And `D!all.m` converts to that tuple.
 pub fn all_computes()
     ensures { AllComputes }
+{}
+
+/// In `D!all.m` at a constructor, a path's step to a recursive argument converts to `D!rec.m` or `D!all.m` at the argument.
+pub fn path_step_computes()
+    ensures { PathStepComputes }
+{}
+
+/// In `D!all.m` at a term, the path to a strict part converts to `D!rec.m` at the part.
+pub fn path_computes()
+    ensures { PathComputes }
 {}

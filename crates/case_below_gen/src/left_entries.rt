@@ -15,7 +15,8 @@ use core_sig::{Draft, Signature, drafted, equality, generated_name};
 use core_terms::{Binder, Items, Name, Stop, Term, bind};
 use std::alloc::Global;
 
-/// The entry `Eq.i!left.m`: elimination of an equation by its left side, into `Type m`.
+/// The entry `Eq.i!left.m`: elimination of an equation by its left side, into `Type m`. It mentions no generated name. The heights
+/// of its type and its term are the same for all levels, and far below the bound, so it never answers Deep.
 pub fn left_entry(alloc: Global, sig: &Signature, i: u8, m: u8) -> Result<Draft, Stop>
     requires level { i < top }
     requires motive { m + 1 < top }

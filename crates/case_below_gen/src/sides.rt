@@ -33,8 +33,8 @@ pub enum Side {
     Second,
 }
 
-/// The entry `D!rec.m` for family number `fam`: from a step, the motive into `Type m` at a term. Deep where its type or its term
-/// is too high.
+/// The entry `D!rec.m` for family number `fam`: from a step, the motive into `Type m` at a term. It mentions `D!below.m` and
+/// `D!aux.m`. Deep where its type or its term is too high.
 pub fn rec_entry(alloc: Global, sig: &Signature, fam: u32, m: u8) -> Result<Draft, Stop>
     requires family { IsFamilyNumber sig.now fam }
     requires level { m + 1 < top }
@@ -44,8 +44,8 @@ pub fn rec_entry(alloc: Global, sig: &Signature, fam: u32, m: u8) -> Result<Draf
     side_entry(alloc, Side::First, sig, fam, m)
 }
 
-/// The entry `D!all.m` for family number `fam`: from a step, the motive into `Type m` at each strict part of a term. Deep where
-/// its type or its term is too high.
+/// The entry `D!all.m` for family number `fam`: from a step, the motive into `Type m` at each strict part of a term. It mentions
+/// `D!below.m` and `D!aux.m`. Deep where its type or its term is too high.
 pub fn all_entry(alloc: Global, sig: &Signature, fam: u32, m: u8) -> Result<Draft, Stop>
     requires family { IsFamilyNumber sig.now fam }
     requires level { m + 1 < top }

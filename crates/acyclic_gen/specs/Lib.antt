@@ -1,0 +1,10 @@
+pub mod AcyclicEntries
+pub mod Answers
+pub mod Bounds
+pub mod Claims
+pub mod CodePairings
+pub mod DirectLaws
+pub mod DirectEntries
+pub mod Pairings
+pub mod Pushing
+pub mod Statements
