@@ -1,7 +1,9 @@
 pub mod DirectArguments
+pub mod DirectComputing
 pub mod DirectLevels
 pub mod Entries
 mod Examples
+pub mod OtherLevels
 mod Samples
 pub mod ScopedAcyclic
 pub mod ScopedPushing

@@ -3,8 +3,9 @@ pub mod Answers
 pub mod Bounds
 pub mod Claims
 pub mod CodePairings
-pub mod DirectLaws
+pub mod DirectComputing
 pub mod DirectEntries
+pub mod DirectLaws
 pub mod Pairings
 pub mod Pushing
 pub mod Statements

@@ -1,7 +1,13 @@
-//! What the generated entries are, in the words of the theory.
+//! What the generated entries are and compute, in the words of the theory.
+ghost use Rattle.acyclic_gen.specs.DirectComputing.{DirectComputes};
 ghost use Rattle.acyclic_gen.specs.DirectLaws.{DirectAtTheFamily};
 
 /// An argument is direct exactly where its type is the family at its parameters.
 pub fn direct_at_the_family()
     ensures { DirectAtTheFamily }
+{}
+
+/// At a constructor `D!direct` converts to the type of pairs of the motive and `D!direct` at each direct argument.
+pub fn direct_computes()
+    ensures { DirectComputes }
 {}

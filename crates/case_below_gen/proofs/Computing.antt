@@ -43,19 +43,19 @@ use Rattle.case_below_gen.proofs.Unfolding.{recursor, aux-unfolds}
 
 -- ---- methods
 
-abbrev methods_of : (σ : ℕ → Term) (method : ℕ → ConstructorShape → Term) (number : ℕ) → List ConstructorShape → List Term
+abbrev pub methods_of : (σ : ℕ → Term) (method : ℕ → ConstructorShape → Term) (number : ℕ) → List ConstructorShape → List Term
 methods_of σ method number [] = []
 methods_of σ method number (c ∷ cs) = inst σ (method number c) ∷ methods_of σ method (number + 1) cs
 
-methods-spine : (σ : ℕ → Term) (method : ℕ → ConstructorShape → Term) (number : ℕ) (h : Term) (cs : List ConstructorShape) → inst σ (applied_to_methods method number h cs) ≡ applied (inst σ h) (methods_of σ method number cs)
+pub methods-spine : (σ : ℕ → Term) (method : ℕ → ConstructorShape → Term) (number : ℕ) (h : Term) (cs : List ConstructorShape) → inst σ (applied_to_methods method number h cs) ≡ applied (inst σ h) (methods_of σ method number cs)
 methods-spine σ method number h [] = refl
 methods-spine σ method number h (c ∷ cs) = methods-spine σ method (number + 1) (App h (method number c)) cs
 
-length-methods : (σ : ℕ → Term) (method : ℕ → ConstructorShape → Term) (number : ℕ) (cs : List ConstructorShape) → length (methods_of σ method number cs) ≡ length cs
+pub length-methods : (σ : ℕ → Term) (method : ℕ → ConstructorShape → Term) (number : ℕ) (cs : List ConstructorShape) → length (methods_of σ method number cs) ≡ length cs
 length-methods σ method number [] = refl
 length-methods σ method number (c ∷ cs) = ap suc (length-methods σ method (number + 1) cs)
 
-method-at : (σ : ℕ → Term) (method : ℕ → ConstructorShape → Term) (number i : ℕ) (cs : List ConstructorShape) (c : ConstructorShape) → slice_get cs i ≡ Some c → slice_get (methods_of σ method number cs) i ≡ Some (inst σ (method (number + i) c))
+pub method-at : (σ : ℕ → Term) (method : ℕ → ConstructorShape → Term) (number i : ℕ) (cs : List ConstructorShape) (c : ConstructorShape) → slice_get cs i ≡ Some c → slice_get (methods_of σ method number cs) i ≡ Some (inst σ (method (number + i) c))
 method-at σ method number i [] c at = absurd (none-some c at)
 method-at σ method number zero (d ∷ cs) c at =
     let here : number ≡ number + 0 = omega arith in ap₂ (λ k x. Some (inst σ (method k x))) here (some_is at)
@@ -87,7 +87,7 @@ all-slice_get Q [] i x all at = absurd (none-some x at)
 all-slice_get Q (y ∷ xs) zero x all at = subst Q (some_is at) (All-head Q y xs all)
 all-slice_get Q (y ∷ xs) (suc i) x all at = all-slice_get Q xs i x (All-tail Q y xs all) at
 
-length-shapes : (n : ℕ) (f : Family) (at : ℕ) (arguments : List Argument) → length (argument_shapes n f at arguments) ≡ length arguments
+pub length-shapes : (n : ℕ) (f : Family) (at : ℕ) (arguments : List Argument) → length (argument_shapes n f at arguments) ≡ length arguments
 length-shapes n f at [] = refl
 length-shapes n f at (a ∷ arguments) = ap suc (length-shapes n f (at + 1) arguments)
 
