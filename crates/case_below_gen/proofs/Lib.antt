@@ -17,11 +17,14 @@ pub mod PathBounds
 mod PathExamples
 pub mod PathLaws
 pub mod Placements
+pub mod Renumbered
 mod Samples
 pub mod ScopedCases
 pub mod ScopedCourses
 pub mod ScopedEntries
 pub mod ScopedLeft
+pub mod ScopedPaths
+pub mod SettledDrafts
 pub mod ShapeLevels
 pub mod StepForms
 pub mod TermLists

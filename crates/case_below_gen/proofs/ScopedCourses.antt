@@ -79,7 +79,7 @@ component_from-draft e q runs size depth r start h (suc inner) (Pi a b) is named
 component_from-draft e q runs size depth r start h _ t is named below hp hr hs hh ht =
     behind_inner-draft e q runs size depth r start h t is named (below-here below) hp hr hs hh ht
 
-component-draft : {T : Signature} {base count : ℕ} (e : Ending) (q : Course) (first at depth h inner : ℕ) (t : Term) → HasPairs T q.m → NamesBelow T base count e q → q.params ≤ first → first + at < depth → q.params < depth → h < depth → IsDraftTerm T base count (q.params + at) t
+pub component-draft : {T : Signature} {base count : ℕ} (e : Ending) (q : Course) (first at depth h inner : ℕ) (t : Term) → HasPairs T q.m → NamesBelow T base count e q → q.params ≤ first → first + at < depth → q.params < depth → h < depth → IsDraftTerm T base count (q.params + at) t
     → IsDraftTerm T base count depth (component e q first at depth h inner t)
 component-draft {T} {base} {count} e q first at depth h inner t is named low below hp hh ht = by (nat_le inner 2000)
   where
@@ -90,7 +90,7 @@ component-draft {T} {base} {count} e q first at depth h inner t is named low bel
     by false = draft-more (omega arith) ht
 
 -- the arguments behind the first of some
-arguments-next : (T : Signature) (base count p at : ℕ) (a : ArgumentShape) (arguments : List ArgumentShape) → EachInTelescope (IsDraftTerm T base count) (p + at) (types_of (a ∷ arguments)) → EachInTelescope (IsDraftTerm T base count) (p + (at + 1)) (types_of arguments)
+pub arguments-next : (T : Signature) (base count p at : ℕ) (a : ArgumentShape) (arguments : List ArgumentShape) → EachInTelescope (IsDraftTerm T base count) (p + at) (types_of (a ∷ arguments)) → EachInTelescope (IsDraftTerm T base count) (p + (at + 1)) (types_of arguments)
 arguments-next T base count p at a arguments all = transport (λ m. EachInTelescope (IsDraftTerm T base count) m (types_of arguments)) (omega arith) all.1
 
 pub components_over-draft : {T : Signature} {base count : ℕ} (e : Ending) (q : Course) (first at depth : ℕ) (arguments : List ArgumentShape) (end : Term) → HasPairs T q.m → NamesBelow T base count e q → q.params ≤ first → first + at + length arguments ≤ depth → q.params < depth

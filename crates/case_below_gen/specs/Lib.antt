@@ -10,4 +10,5 @@ pub mod PathMeanings
 pub mod PathSteps
 pub mod Paths
 pub mod Projections
+pub mod SettledLaws
 pub mod StrictParts

@@ -2,6 +2,7 @@
 ghost use Rattle.case_below_gen.specs.CaseLaws.{CaseTypeWithoutHypotheses};
 ghost use Rattle.case_below_gen.specs.CourseLaws.{AllComputes, PathStepComputes, RecComputes};
 ghost use Rattle.case_below_gen.specs.PathLaws.{PathComputes};
+ghost use Rattle.case_below_gen.specs.SettledLaws.{AuxSettles, SidesSettle};
 
 /// The type of case analysis is the eliminator's type without hypotheses.
 pub fn case_type_without_hypotheses()
@@ -26,4 +27,14 @@ pub fn path_step_computes()
 /// In `D!all.m` at a term, the path to a strict part converts to `D!rec.m` at the part.
 pub fn path_computes()
     ensures { PathComputes }
+{}
+
+/// The draft of `D!aux.m`, settled, is the entry on whose body these laws are stated.
+pub fn aux_settles()
+    ensures { AuxSettles }
+{}
+
+/// And so are those of `D!rec.m` and `D!all.m`.
+pub fn sides_settle()
+    ensures { SidesSettle }
 {}

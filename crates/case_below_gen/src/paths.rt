@@ -1,15 +1,19 @@
-ghost use Rattle.std.specs.Prelude.{◌≡◌, ◌≤◌, ◌+◌, ◌++◌, ◌↔◌, Ok, None, IfOk, [], length, map, take, drop, option_map};
+ghost use Rattle.std.specs.Prelude.{ℕ, ◌≡◌, ◌≤◌, ◌<◌, ◌+◌, ◌++◌, ◌∷◌, ◌↔◌, Ok, None, IfOk, [], length, map, take, drop, option_map};
 ghost use Rattle.std.specs.List.{All};
+ghost use Rattle.std.specs.Option.{IfSome};
 ghost use Rattle.core_terms.specs.Answers.{Gives, Makes};
 ghost use Rattle.core_terms.specs.Bounds.{most_height, most_inner_variables};
 ghost use Rattle.core_terms.specs.Meanings.{tree_of, tele_of};
+ghost use Rattle.core_sig.specs.DraftScopes.{IsDraftNumber, IsDraftTerm};
 ghost use Rattle.core_sig.specs.Meanings.{behind};
 ghost use Rattle.core_sig.specs.Shapes.{argument_shape, shape_of};
 ghost use Rattle.theory.specs.Families as pure;
-ghost use Rattle.theory.specs.Signatures.{FamilyOf, IsEntryAt};
-ghost use Rattle.theory.specs.SignatureScopes.{IsFamilyNumber};
+ghost use Rattle.theory.specs.Prelude.{prelude};
+ghost use Rattle.theory.specs.Signatures.{FamilyOf, IsEntryAt, IsPrefix, Signature};
+ghost use Rattle.theory.specs.SignatureScopes.{IsFamilyNumber, IsScopedSignature};
 ghost use Rattle.theory.specs.Spines.{spine_of};
 ghost use Rattle.theory.specs.Terms as tree;
+ghost use Rattle.theory.specs.Terms.{top};
 ghost use Rattle.case_below_gen.specs.CourseEntries.{course_of};
 ghost use Rattle.case_below_gen.specs.declared.sides.Side.TheVariants.{First, Second};
 ghost use Rattle.case_below_gen.specs.PathMeanings.{descent_of};
@@ -48,6 +52,7 @@ pub fn below_path(
     requires below { tree.free_of (tree_of below.now) ≤ most_inner_variables }
     ensures path { (f : pure.Family) → IsEntryAt sig.now fam (FamilyOf f) → Gives (option_map tree_of) result (spec.below_path fam f m number (tree_of motive.now) (tree_of term.now) (tree_of part.now) (tree_of below.now)) }
     ensures none { (f : pure.Family) → IsEntryAt sig.now fam (FamilyOf f) → IfOk result (λ path. path ≡ None ↔ (IsStrictPart fam f (tree_of part.now) (tree_of term.now) → ⊥)) }
+    ensures scoped { (T : Signature) (base count n : ℕ) → IsScopedSignature sig.now → IsPrefix (prelude sig.now.has_k) sig.now → IsPrefix sig.now T → length sig.now.entries ≤ base → m < top → IsDraftNumber T base count number → All (IsDraftTerm T base count n) (tree_of motive.now ∷ tree_of term.now ∷ tree_of part.now ∷ tree_of below.now ∷ []) → IfOk result (λ path. IfSome path (λ t. IsDraftTerm T base count n (tree_of t))) }
 {
     match sig.entry(fam) {
         Some(Entry::Family(family)) => {
