@@ -1,5 +1,6 @@
 -- Reading a term step by step.
-use Rattle.std.proofs.Common.{◌≡◌, ℕ, zero, suc, ◌-◌, ◌<◌, true, false, List, drop, length, refl, sym, ap, ◌∙◌, arith}
+use Rattle.std.proofs.Common.{◌≡◌, ℕ, zero, suc, ◌-◌, ◌<◌, Bool, true, false, List, drop, length, refl, sym, ap, ◌∙◌, arith}
+use Rattle.std.proofs.lemmas.Bool.{false≢true}
 use Rattle.std.specs.Prelude.{◌==◌, if◌then◌else◌, Ok, Err, Option, codes}
 use Rattle.theory.specs.Terms.{Term}
 use Rattle.core_text.specs.NameRuns.{run_len}
@@ -10,9 +11,15 @@ use Rattle.core_text.specs.TermReading.{most, is_application, read_term, enclose
 less-one : (k : ℕ) → suc k - 1 ≡ k
 less-one k = omega arith
 
+if-true : {A : Type 0} (b : Bool) (x y : A) → b ≡ true → (if b then x else y) ≡ x
+if-true true x y is = refl
+if-true false x y is = absurd (false≢true is)
+
 pub term_open : (look : List ℕ → Option Term) (room n : ℕ) (rest : List ℕ) → 0 < room → (first rest == 40) ≡ true → read_term look room n rest ≡ enclosed_at (read_term look (room - 1)) n (drop 1 rest)
 term_open look zero n rest some is = absurd (omega arith)
-term_open look (suc k) n rest some is = rw is (ap (λ m. enclosed_at (read_term look m) n (drop 1 rest)) (sym (less-one k)))
+term_open look (suc k) n rest some is =
+    if-true (first rest == 40) (enclosed_at (read_term look k) n (drop 1 rest)) _ is
+    ∙ ap (λ m. enclosed_at (read_term look m) n (drop 1 rest)) (sym (less-one k))
 
 pub term_named : (look : List ℕ → Option Term) (room n : ℕ) (rest : List ℕ) → 0 < room → (first rest == 40) ≡ false → (first rest == 37) ≡ false → read_term look room n rest ≡ named look (run_len rest) rest
 term_named look zero n rest some paren percent = absurd (omega arith)

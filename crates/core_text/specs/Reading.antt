@@ -2,6 +2,7 @@
 use Rattle.std.specs.Prelude.{◌≡◌, ℕ, zero, suc, ◌+◌, ◌-◌, ◌*◌, ◌==◌, nat_le, nat_lt, Bool, false, ◌&&◌, ◌||◌, if◌then◌else◌, List, [], ◌∷◌, length, drop, Result, Ok, Err, slice_get, slice_index, unwrap_or}
 use Rattle.std.specs.Borrow.{Bor}
 use Rattle.core_terms.specs.Answers.{GivesUnless}
+use Rattle.core_terms.specs.Answers as answers
 use Rattle.core_text.specs.Heads.{shared}
 use Rattle.core_text.specs.declared.halt.Halt.{Halt}
 use Rattle.core_text.specs.declared.halt.Halt.TheVariants.{Memory, Wrong}
@@ -16,8 +17,7 @@ wrong rest = Err (Wrong (length rest))
 
 -- goes on behind what was read
 abbrev pub and_then : {A B : Type 0} → Reading A → (A → List ℕ → Reading B) → Reading B
-and_then (Ok p) next = next p.0 p.1
-and_then (Err e) next = Err e
+and_then first next = answers.and_then first (λ p. next p.0 p.1)
 
 -- the bytes behind a word, or the first byte with which the word does not go on
 abbrev pub behind : List ℕ → List ℕ → Result (List ℕ) Halt
@@ -26,8 +26,7 @@ behind word rest =
 
 -- goes on behind a word
 abbrev pub after : {B : Type 0} → Result (List ℕ) Halt → (List ℕ → Reading B) → Reading B
-after (Ok rest) next = next rest
-after (Err e) next = Err e
+after word next = answers.and_then word next
 
 -- the first byte, or 0
 abbrev pub first : List ℕ → ℕ
