@@ -30,7 +30,9 @@ use Rattle.core_sig.proofs.KindLists.{kinds-push, kinds-moved}
 use Rattle.core_sig.proofs.RecursiveForms.{kind-found, head-is}
 use Rattle.core_terms.proofs.Builders.{applied-push}
 use Rattle.core_text.specs.EntryText.{constructor_type_shown}
-use Rattle.core_text.specs.RawEntries.{domains_of, end_of, end_level, is_at_targets, ends_in_family, shows_record, family_shown}
+use Rattle.core_terms.specs.Telescopes.{domains_of, end_of}
+use Rattle.core_terms.proofs.LeadingProducts.{products-of_parts}
+use Rattle.core_text.specs.RawEntries.{end_level, is_at_targets, ends_in_family, shows_record, family_shown}
 use Rattle.core_text.specs.Records.{HasLevelsZero, typed, with_level_zero, type_of_constructor, constructor_shown}
 use Rattle.core_text.proofs.ConstructorTexts.{shown-is}
 
@@ -71,10 +73,6 @@ at_parameters-is n at parameters t e =
     ∙ head-is n f at)
 
 -- ---- products and what is behind them
-
-pub products-of : (t : Term) → products (domains_of t) (end_of t) ≡ t
-products-of (Pi a b) = ap (Pi a) (products-of b)
-products-of _ = refl
 
 pub end_level-is : (t : Term) (level : ℕ) → end_level t ≡ Some level → end_of t ≡ Sort level
 end_level-is (Pi a b) level e = end_level-is b level e
@@ -127,7 +125,7 @@ at_parameters-of n at p t e =
 
 pub constructor-type : (n i p : ℕ) (c : Constructor) (type head : Term) → map typed c.args ≡ map with_level_zero (domains_of type) → applied head (tele_of c.targets) ≡ end_of type → ((m k at : ℕ) → is_at_targets m k i at (end_of type) ≡ true → is_at_parameters m k at head ≡ true) → ends_in_family n p i 0 type ≡ true → type_of_constructor n p c ≡ type
 constructor-type n i p c type head args whole found ends =
-    ap₂ products types (ap (λ h. applied h (tele_of c.targets)) (sym head-found) ∙ whole) ∙ products-of type
+    ap₂ products types (ap (λ h. applied h (tele_of c.targets)) (sym head-found) ∙ whole) ∙ products-of_parts type
   where
     types : map (λ a. tree_of a.ty) c.args ≡ domains_of type
     types = types-read c.args (domains_of type) args
@@ -171,7 +169,7 @@ pub family-shown : (n : ℕ) (f : Family) (raw : RawFamilyOfCode) → f.name ≡
 family-shown n f raw name params indices level kinds cons =
     same-raw f.name raw.name (tele_of f.params) (tele_of raw.params) _ (tree_of raw.ty) _ (map raw_constructor_of raw.cons)
     name (ap tele_of params)
-    (ap₂ products (index_types-of f ∙ types-read f.indices (domains_of (tree_of raw.ty)) indices) (sym (end_level-is (tree_of raw.ty) f.level level)) ∙ products-of (tree_of raw.ty))
+    (ap₂ products (index_types-of f ∙ types-read f.indices (domains_of (tree_of raw.ty)) indices) (sym (end_level-is (tree_of raw.ty) f.level level)) ∙ products-of_parts (tree_of raw.ty))
     (constructors-shown n f f.cons kinds ∙ cons)
 
 pub shows-record : (n : ℕ) (f : Family) (raw : RawFamilyOfCode) (level : ℕ) (b : Bool) → f.params ≡ raw.params → map typed f.indices ≡ map with_level_zero (domains_of (tree_of raw.ty)) → end_level (tree_of raw.ty) ≡ Some level → b ≡ list_all (λ c. ends_in_family n (length f.params) (length f.indices) 0 c.type) (map raw_constructor_of raw.cons) → shows_record n (raw_of raw) ≡ b

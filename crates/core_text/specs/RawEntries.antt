@@ -3,9 +3,9 @@ use Rattle.std.specs.Prelude.{ℕ, ◌+◌, nat_lt, zero, suc, Bool, false, ◌&
 use Rattle.std.specs.List.{list_all}
 use Rattle.std.specs.Option.{is_some}
 use Rattle.theory.specs.Terms.{Term, Sort, Pi, App, top}
-use Rattle.theory.specs.Telescopes.{Telescope}
 use Rattle.theory.specs.Families.{Family}
 use Rattle.theory.specs.Signatures.{Entry, FamilyOf, EliminatorAt, AxiomKAt, Definition}
+use Rattle.core_terms.specs.Telescopes.{domains_of}
 use Rattle.core_sig.specs.KindTests.{is_at_parameters}
 use Rattle.core_sig.specs.Raw.{RawFamily}
 use Rattle.core_text.specs.EntryText.{type_shown, constructor_type_shown}
@@ -31,16 +31,6 @@ entry_shown n (FamilyOf f) = RawFamilyOf (family_shown n f)
 entry_shown n (EliminatorAt family m) = RawEliminator family m
 entry_shown n (AxiomKAt i m) = RawAxiomK i m
 entry_shown n (Definition name type body) = RawDefinition name type body
-
--- the domains of the leading products of a type
-abbrev pub domains_of : Term → Telescope
-domains_of (Pi a b) = a ∷ domains_of b
-domains_of _ = []
-
--- what stands behind them
-abbrev pub end_of : Term → Term
-end_of (Pi a b) = end_of b
-end_of t = t
 
 -- the level of the sort in which the type ends, where a family may have it
 abbrev pub end_level : Term → Option ℕ

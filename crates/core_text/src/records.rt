@@ -3,6 +3,7 @@ ghost use Rattle.std.specs.List.{list_all};
 ghost use Rattle.theory.specs.Telescopes.{applied};
 ghost use Rattle.theory.specs.Terms as tree;
 ghost use Rattle.core_terms.specs.Meanings.{tree_of, tele_of};
+ghost use Rattle.core_terms.specs.Telescopes.{domains_of, end_of};
 ghost use Rattle.core_sig.specs.KindTests.{is_at_parameters, is_variable};
 ghost use Rattle.core_sig.specs.Kinds.{HasKind, HasKinds, HaveKinds};
 ghost use Rattle.core_sig.specs.Meanings.{family_of};
@@ -108,7 +109,7 @@ fn show_constructors(family: u32, f: &Family, cons: &[RawCon]) -> Result<bool, H
 
 /// Adds the domains of the leading products of the term as indices, with levels 0.
 fn index_types(indices: &mut Items<Arg>, t: Term) -> Result<(), Halt>
-    ensures types { OnOk result (map typed indices.new ≡ map typed indices.old ++ map with_level_zero (spec.domains_of (tree_of t))) }
+    ensures types { OnOk result (map typed indices.new ≡ map typed indices.old ++ map with_level_zero (domains_of (tree_of t))) }
     ensures kinds { OnOk result (All (λ a. a.kind ≡ Plain) indices.old → All (λ a. a.kind ≡ Plain) indices.new) }
     ensures memory { OnErr result (result ≡ Err Memory) }
 {
@@ -139,9 +140,9 @@ fn kind(family: u32, f: &Family, at: usize, ty: &Term) -> Result<ArgKind, Halt>
 
 /// Adds the domains of the leading products of the term as arguments, with levels 0, and answers what stands behind them.
 fn arguments(family: u32, f: &Family, args: &mut Items<Arg>, t: Term) -> Result<Term, Halt>
-    ensures types { OnOk result (map typed args.new ≡ map typed args.old ++ map with_level_zero (spec.domains_of (tree_of t))) }
+    ensures types { OnOk result (map typed args.new ≡ map typed args.old ++ map with_level_zero (domains_of (tree_of t))) }
     ensures kinds { OnOk result (HaveKinds family (family_of f.now) 0 args.old → HaveKinds family (family_of f.now) 0 args.new) }
-    ensures end { IfOk result (λ end. tree_of end ≡ spec.end_of (tree_of t)) }
+    ensures end { IfOk result (λ end. tree_of end ≡ end_of (tree_of t)) }
     ensures memory { OnErr result (result ≡ Err Memory) }
 {
     match t {

@@ -2,7 +2,8 @@ use Rattle.std.proofs.Common.{◌≡◌, map, length, refl, ap, ap₂, ◌++◌,
 use Rattle.theory.specs.Telescopes.{applied}
 use Rattle.core_terms.specs.Meanings.{tree_of, tele_of}
 use Rattle.core_sig.specs.declared.family.Constructor.{Constructor}
-use Rattle.core_text.specs.RawEntries.{domains_of, end_of, is_at_targets}
+use Rattle.core_terms.specs.Telescopes.{domains_of, end_of}
+use Rattle.core_text.specs.RawEntries.{is_at_targets}
 use Rattle.core_text.specs.Records.{typed, with_level_zero}
 use Rattle.core_text.proofs.RecordTexts.{constructor-is, levels-read}
 use Rattle.core_text.proofs.records.constructor.Goals as goal

@@ -10,7 +10,8 @@ use Rattle.core_sig.specs.declared.family.Arg.{Arg}
 use Rattle.core_sig.specs.declared.family.ArgKind.TheVariants.{Plain}
 use Rattle.core_sig.specs.declared.family.Constructor.{Constructor}
 use Rattle.core_sig.specs.declared.family.Family.{Family}
-use Rattle.core_text.specs.RawEntries.{domains_of, end_level, ends_in_family}
+use Rattle.core_terms.specs.Telescopes.{domains_of}
+use Rattle.core_text.specs.RawEntries.{end_level, ends_in_family}
 use Rattle.core_text.specs.Records.{typed, with_level_zero, constructor_shown}
 use Rattle.core_text.proofs.RecordTexts.{family-shown, shows-record, kinds-kept, levels-zero}
 use Rattle.core_text.proofs.records.family_record.Goals as goal
