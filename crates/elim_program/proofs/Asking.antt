@@ -13,7 +13,7 @@ use Rattle.surface_syntax.specs.Parses.{parsed, GivesAnswer}
 use Rattle.elim_program.specs.Unbuilt.{unbuilt}
 use Rattle.elim_program.specs.declared.text_stop.TextStop.{TextStop}
 use Rattle.elim_program.specs.declared.text_stop.TextStop.TheVariants as stop
-use Rattle.elim_program.specs.Texts.{Answer, Gives, too_long, not_utf8, bad_token, tokens, Says, answer_of, limit, limited, is_memory, stop_of, read, unless_unbuilt}
+use Rattle.elim_program.specs.Texts.{Answer, Gives, too_long, not_utf8, bad_token, tokens, Says, limit, limited, is_memory, stop_of, read, unless_unbuilt}
 
 abbrev pub Failure : TextStop → Result (List code.Decl) TextStop
 Failure e = Err e
@@ -22,9 +22,9 @@ abbrev pub Success : List code.Decl → Result (List code.Decl) TextStop
 Success decls = Ok decls
 
 pub no_tokens : (bytes : List ℕ) (e : SyntaxStop) (s : TextStop) → length bytes ≤ limit → TokensSay bytes (Err e) → s ≡ stop_of e → Says bytes (Failure s)
-no_tokens bytes syntax.Memory s within says is = λ h. absurd (h (ap Failure is))
-no_tokens bytes (syntax.NotUtf8 offset) s within says is = λ _. subst (λ x. Gives bytes (answer_of (Failure x))) (sym is) (not_utf8 offset within says)
-no_tokens bytes (syntax.BadToken offset) s within says is = λ _. subst (λ x. Gives bytes (answer_of (Failure x))) (sym is) (bad_token offset within says)
+no_tokens bytes syntax.Memory s within says is = λ h. absurd (h is)
+no_tokens bytes (syntax.NotUtf8 offset) s within says is = λ _. subst (λ x. Gives bytes (Err x)) (sym is) (not_utf8 offset within says)
+no_tokens bytes (syntax.BadToken offset) s within says is = λ _. subst (λ x. Gives bytes (Err x)) (sym is) (bad_token offset within says)
 no_tokens bytes (syntax.Nested offset) s within says is = absurd says
 no_tokens bytes (syntax.Syntax offset) s within says is = absurd says
 
@@ -39,7 +39,7 @@ given bytes found answer within are none is =
 pub not_parsed : (bytes : List ℕ) (found : List Token) (e : SyntaxStop) (s : TextStop) (r : Result (List code.Decl) SyntaxStop) → length bytes ≤ limit → AreTokens bytes found → unbuilt bytes found ≡ None
     → r ≡ Err e → GivesAnswer (map decl_of) r (parsed bytes found) → s ≡ stop_of e → Says bytes (Failure s)
 not_parsed bytes found e s r within are none failed gives is =
-    λ h. given bytes found (Err s) within are none (ap Err is ∙ ap read (meant (λ m. h (ap Failure (is ∙ ap stop_of m)))))
+    λ h. given bytes found (Err s) within are none (ap Err is ∙ ap read (meant (λ m. h (is ∙ ap stop_of m))))
   where
     meant : e ≢ syntax.Memory → Err e ≡ parsed bytes found
     meant = let P : Result (List code.Decl) SyntaxStop → Type 0 = λ x. GivesAnswer (map decl_of) x (parsed bytes found) in subst P failed gives
@@ -47,7 +47,7 @@ not_parsed bytes found e s r within are none failed gives is =
 pub is_parsed : (bytes : List ℕ) (found : List Token) (decls : List code.Decl) (r : Result (List code.Decl) SyntaxStop) → length bytes ≤ limit → AreTokens bytes found → unbuilt bytes found ≡ None
     → r ≡ Ok decls → GivesAnswer (map decl_of) r (parsed bytes found) → Says bytes (Success decls)
 is_parsed bytes found decls r within are none ok gives =
-    λ _. given bytes found (Ok (map decl_of decls)) within are none (ap read meant)
+    given bytes found (Ok (map decl_of decls)) within are none (ap read meant)
   where
     meant : Ok (map decl_of decls) ≡ parsed bytes found
     meant = let P : Result (List code.Decl) SyntaxStop → Type 0 = λ x. GivesAnswer (map decl_of) x (parsed bytes found) in subst P ok gives
@@ -63,7 +63,7 @@ pub none_found : (o : Option ℕ) → ((x : ℕ) → o ≡ Some x → ⊥) → o
 none_found None h = refl
 none_found (Some x) h = absurd (h x refl)
 
-pub not_memory : (s : TextStop) → is_memory s ≡ false → Failure s ≢ Failure stop.Memory
+pub not_memory : (s : TextStop) → is_memory s ≡ false → s ≢ stop.Memory
 not_memory stop.Memory e h = cc
 not_memory stop.TooLong e h = cc
 not_memory (stop.NotUtf8 offset) e h = cc
@@ -72,6 +72,3 @@ not_memory (stop.NotYet offset) e h = cc
 not_memory (stop.Nested offset) e h = cc
 not_memory (stop.Syntax offset) e h = cc
 not_memory (stop.NotCoreText offset) e h = cc
-
-pub success : (decls : List code.Decl) → Success decls ≢ Failure stop.Memory
-success decls h = cc

@@ -1,6 +1,7 @@
 -- What a text gives: its declarations, or why it is refused before any of them is looked at.
-use Rattle.std.specs.Prelude.{◌≢◌, ℕ, Bool, true, false, ◌<◌, ◌≤◌, nat_lt, if◌then◌else◌, List, length, Option, Some, None, Result, Ok, Err, map}
+use Rattle.std.specs.Prelude.{◌≡◌, ℕ, Bool, true, false, ◌<◌, ◌≤◌, nat_lt, if◌then◌else◌, List, length, Option, Some, None, Result, Ok, Err, map}
 use Rattle.std.specs.Str.{IsValidUpTo}
+use Rattle.core_terms.specs.Answers.{Unless}
 use Rattle.surface_syntax.specs.Splitting.{AreTokens, IsBadToken}
 use Rattle.surface_syntax.specs.Trees.{Decl}
 use Rattle.surface_syntax.specs.TreeMeanings.{decl_of}
@@ -54,9 +55,14 @@ abbrev pub answer_of : Result (List code.Decl) TextStop → Answer
 answer_of (Ok decls) = Ok (map decl_of decls)
 answer_of (Err e) = Err e
 
--- the bytes give the answer, unless memory ran out
+-- the refusals that nothing rules out: want of memory alone
+abbrev pub IsUnforeseen : TextStop → Type 0
+IsUnforeseen e = e ≡ stop.Memory
+
+-- the bytes give the answer of the code, unless memory ran out
 abbrev pub Says : List ℕ → Result (List code.Decl) TextStop → Type 0
-Says bytes answer = answer ≢ Err stop.Memory → Gives bytes (answer_of answer)
+Says bytes (Ok decls) = Gives bytes (Ok (map decl_of decls))
+Says bytes (Err e) = Unless (IsUnforeseen e) (Gives bytes (Err e))
 
 abbrev pub is_memory : TextStop → Bool
 is_memory stop.Memory = true

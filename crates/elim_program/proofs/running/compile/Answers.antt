@@ -1,13 +1,13 @@
 use Rattle.std.proofs.Common.{sym, ◌∙◌}
 use Rattle.elim_program.specs.DefinedOutputs.{compiles}
 use Rattle.elim_program.specs.Texts.{answer_of}
-use Rattle.elim_program.proofs.Asking.{Failure, Success, not_memory, success}
+use Rattle.elim_program.proofs.Asking.{Failure, Success, not_memory}
 use Rattle.elim_program.proofs.Whole.{follow}
 use Rattle.elim_program.proofs.running.compile.Goals as goal
 
 pub returns-in-Ok-clause-wrote : goal.returns-in-Ok-clause-wrote
 returns-in-Ok-clause-wrote g c = λ words bytes asks is.
-    follow words bytes _ _ _ _ (compiles c.args.command (answer_of (Success c.in-Ok.decls)) asks (c.in-Ok.ensures bytes is (success c.in-Ok.decls))) c.tell.ensures.follows
+    follow words bytes _ _ _ _ (compiles c.args.command (answer_of (Success c.in-Ok.decls)) asks (c.in-Ok.ensures bytes is)) c.tell.ensures.follows
 
 pub returns-else-is_memory-clause-wrote : goal.returns-else-is_memory-clause-wrote
 returns-else-is_memory-clause-wrote g c = λ words bytes asks is.
