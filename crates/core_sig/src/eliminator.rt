@@ -29,7 +29,7 @@ pub fn elim_type(alloc: Global, fam: u32, f: &Family, m: u8) -> Result<Term, Sto
     checked(whole)
 }
 
-/// The type of the eliminator, whose height nothing tests.
+/// The type of the eliminator. Its height is not tested.
 fn eliminator(alloc: Global, fam: u32, f: &Family, m: u8) -> Result<Term, Stop>
     requires { IsFew (shape_of f.now) }
     ensures { Gives tree_of result (Ok (levels.eliminator_type fam (shape_of f.now) m)) }

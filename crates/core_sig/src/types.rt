@@ -63,7 +63,7 @@ fn are_few(f: &Family, con: &Constructor) -> bool
     f.params.as_slice().len() <= most && con.args.as_slice().len() <= most
 }
 
-/// The type of a constructor, whose height nothing tests.
+/// The type of a constructor. Its height is not tested.
 fn constructor_type(alloc: Global, fam: u32, f: &Family, con: &Constructor) -> Result<Term, Stop>
     requires params { length f.now.params ≤ 2000 }
     requires args { length con.now.args ≤ 2000 }

@@ -30,7 +30,7 @@ pub fn checked(t: Term) -> Result<Term, Stop>
     Ok(t)
 }
 
-/// The product of `body` over the telescope, whose height nothing tests.
+/// The product of `body` over the telescope. Its height is not tested.
 pub fn products(alloc: Global, mut tele: Vec<Term>, body: Term) -> Result<Term, Stop>
     ensures { Gives tree_of result (Ok (spec.products (tele_of tele.items) (tree_of body))) }
 {
@@ -41,7 +41,7 @@ pub fn products(alloc: Global, mut tele: Vec<Term>, body: Term) -> Result<Term, 
     Ok(whole)
 }
 
-/// The function with `body` over the telescope, whose height nothing tests.
+/// The function with `body` over the telescope. Its height is not tested.
 pub fn functions(alloc: Global, mut tele: Vec<Term>, body: Term) -> Result<Term, Stop>
     ensures { Gives tree_of result (Ok (spec.functions (tele_of tele.items) (tree_of body))) }
 {

@@ -112,7 +112,7 @@ pub enum Binder {
     Function,
 }
 
-/// A product or a function, whose height nothing tests.
+/// A product or a function. Its height is not tested.
 pub fn bind(alloc: Global, binder: Binder, domain: Term, body: Term) -> Result<Term, Stop>
     ensures { Gives tree_of result (Ok (spec.bind binder (tree_of domain) (tree_of body))) }
 {

@@ -24,7 +24,7 @@ impl Low {
         Low { term, height: 1 }
     }
 
-    /// The product and its height, that nothing tests.
+    /// The product with its height, which is not tested.
     pub fn pi(alloc: Global, domain: Low, codomain: Low) -> Result<(Term, u32), AllocError>
         ensures tree { IfOk result (λ p. tree_of p.0 ≡ tree.Pi (tree_of domain.term) (tree_of codomain.term)) }
         ensures height { IfOk result (λ p. p.1 ≡ tree.height (tree_of p.0)) }
@@ -37,7 +37,7 @@ impl Low {
         Ok((term, height))
     }
 
-    /// The function and its height, that nothing tests.
+    /// The function with its height, which is not tested.
     pub fn lam(alloc: Global, domain: Low, body: Low) -> Result<(Term, u32), AllocError>
         ensures tree { IfOk result (λ p. tree_of p.0 ≡ tree.Lam (tree_of domain.term) (tree_of body.term)) }
         ensures height { IfOk result (λ p. p.1 ≡ tree.height (tree_of p.0)) }
@@ -47,7 +47,7 @@ impl Low {
         Ok((term, height))
     }
 
-    /// The application and its height, that nothing tests.
+    /// The application with its height, which is not tested.
     pub fn app(alloc: Global, function: Low, argument: Low) -> Result<(Term, u32), AllocError>
         ensures tree { IfOk result (λ p. tree_of p.0 ≡ tree.App (tree_of function.term) (tree_of argument.term)) }
         ensures height { IfOk result (λ p. p.1 ≡ tree.height (tree_of p.0)) }
@@ -60,7 +60,7 @@ impl Low {
         Ok((term, height))
     }
 
-    /// The `let` and its height, that nothing tests.
+    /// The `let` with its height, which is not tested.
     pub fn local(alloc: Global, ty: Low, value: Low, body: Low) -> Result<(Term, u32), AllocError>
         ensures tree { IfOk result (λ p. tree_of p.0 ≡ tree.Let (tree_of ty.term) (tree_of value.term) (tree_of body.term)) }
         ensures height { IfOk result (λ p. p.1 ≡ tree.height (tree_of p.0)) }

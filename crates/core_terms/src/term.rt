@@ -37,28 +37,28 @@ pub enum Term {
 pub type Tele = Items<Term>;
 
 impl Term {
-    /// A product, whose height nothing tests.
+    /// A product. Its height is not tested.
     pub fn new_pi(alloc: Global, domain: Term, codomain: Term) -> Result<Term, Stop>
         ensures { Gives tree_of result (Ok (tree.Pi (tree_of domain) (tree_of codomain))) }
     {
         Ok(Term::Pi(Box::new(alloc, domain)?, Box::new(alloc, codomain)?))
     }
 
-    /// A function, whose height nothing tests.
+    /// A function. Its height is not tested.
     pub fn new_lam(alloc: Global, domain: Term, body: Term) -> Result<Term, Stop>
         ensures { Gives tree_of result (Ok (tree.Lam (tree_of domain) (tree_of body))) }
     {
         Ok(Term::Lam(Box::new(alloc, domain)?, Box::new(alloc, body)?))
     }
 
-    /// An application, whose height nothing tests.
+    /// An application. Its height is not tested.
     pub fn new_app(alloc: Global, function: Term, argument: Term) -> Result<Term, Stop>
         ensures { Gives tree_of result (Ok (tree.App (tree_of function) (tree_of argument))) }
     {
         Ok(Term::App(Box::new(alloc, function)?, Box::new(alloc, argument)?))
     }
 
-    /// A `let`, whose height nothing tests.
+    /// A `let`. Its height is not tested.
     pub fn new_let(alloc: Global, ty: Term, value: Term, body: Term) -> Result<Term, Stop>
         ensures { Gives tree_of result (Ok (tree.Let (tree_of ty) (tree_of value) (tree_of body))) }
     {

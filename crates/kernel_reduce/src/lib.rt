@@ -21,3 +21,4 @@ mod stepping;
 mod testing;
 
 pub use calls::{NESTING, convertible, head_step, normal, subtype, subtype_within, tidy, whnf};
+pub use lookup::family;

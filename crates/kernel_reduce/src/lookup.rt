@@ -22,8 +22,8 @@ pub(crate) fn body(sig: &Signature, n: u32) -> Option<&Term>
     }
 }
 
-/// The family with the number.
-pub(crate) fn family(sig: &Signature, n: u32) -> Option<&Family>
+/// The family with the number, where the entry is one.
+pub fn family(sig: &Signature, n: u32) -> Option<&Family>
     ensures family { option_map family_of (option_copied result) ≡ family_at sig.now n }
     ensures kinds { IfSome result (λ f. HasKinds n f.now) }
 {

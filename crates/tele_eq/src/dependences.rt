@@ -9,8 +9,8 @@ use crate::Item;
 use core_terms::{Stop, Term};
 use std::alloc::Global;
 
-/// Whether a variable is free in a term.
-fn has_variable(n: u64, t: &Term) -> bool
+/// Whether a variable is free in a term. It has the number `n` where the term stands.
+pub fn has_variable(n: u64, t: &Term) -> bool
     requires { n + tree.height (tree_of t.now) < 2 ^ 64 }
     ensures { result ≡ spec.has_variable n (tree_of t.now) }
 {

@@ -18,6 +18,7 @@ mod transports;
 mod typing;
 
 pub use congruences::{cong, cong_whole};
+pub use dependences::has_variable;
 pub use elimination::{telescopic_j, telescopic_j_whole};
 pub use equation_lists::{tele_equations, tele_equations_whole};
 pub use item::Item;
