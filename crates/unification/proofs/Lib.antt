@@ -1,0 +1,4 @@
+mod Rows
+mod Samples
+mod SplitRows
+mod StateRows

@@ -1,0 +1,47 @@
+-- What the code finds of a variable below constructors. It goes on building what it finds only while that may still be a side.
+use Rattle.std.specs.Prelude.{ℕ, zero, true, cond, nat_le, Option, Some, None, List, [], ◌∷◌, length, drop, Result, Ok, Err}
+use Rattle.theory.specs.Terms.{Term, height}
+use Rattle.theory.specs.Spines.{spine_of}
+use Rattle.theory.specs.Families.{Argument}
+use Rattle.theory.specs.Signatures.{Signature}
+use Rattle.core_terms.specs.Answers.{and_next}
+use Rattle.core_terms.specs.declared.stop.Stop.{Stop}
+use Rattle.core_terms.specs.declared.stop.Stop.TheVariants.{Deep}
+use Rattle.core_sig.specs.Meanings.{constructor_of}
+use Rattle.kernel_reduce.specs.Reduction.{answered, whnf_of}
+use Rattle.unification.specs.Built.{is_direct}
+use Rattle.unification.specs.Cycles.{Search, not_found, here_or, search_in}
+use Rattle.unifier.specs.declared.built.Built.{Built}
+
+-- what is found, or Deep where it is higher than `room`
+abbrev pub within : (room : ℕ) → Option Term → Result (Option Term) Stop
+within room None = Ok None
+within room (Some t) = cond (nat_le (height t) room) (Ok (Some t)) (Err Deep)
+
+-- the variable x at a head form or below it, where the side has room for so high a term in its place
+abbrev pub search_within : Signature → (n x room : ℕ) → Term → Search Term
+search_within S n x room t left = and_next (search_in S n x t left) (λ found rest. answered (within room found) rest)
+
+-- ---- where there is no room: what is found in any term is Deep
+
+-- one term after the other is reduced and searched, until something is found
+abbrev pub search_each : Signature → (n x : ℕ) → List Term → Search Term
+search_each S n x [] left = not_found left
+search_each S n x (u ∷ terms) left =
+    and_next (whnf_of S true left u) (λ t rest.
+    and_next (search_in S n x t rest) (λ found end. here_or found (search_each S n x terms) end))
+
+abbrev pub search_too_deep : Signature → (n x : ℕ) → List Term → Search Term
+search_too_deep S n x terms left =
+    and_next (search_each S n x terms left) (λ found rest. answered (within zero found) rest)
+
+-- the terms that stand for direct arguments
+abbrev pub direct_among : List Argument → List Term → List Term
+direct_among (a ∷ arguments) (u ∷ us) = cond (is_direct a) (u ∷ direct_among arguments us) (direct_among arguments us)
+direct_among _ _ = []
+
+-- the direct arguments of a constructor in the term that it is
+abbrev pub direct_in : Built → Term → List Term
+direct_in b t =
+    let count = length b.record.now.params in
+    direct_among (constructor_of count b.con.now).arguments (drop count (spine_of t))

@@ -1,0 +1,19 @@
+-- What the code finds of a group.
+use Rattle.std.specs.Prelude.{ℕ, ◌+◌, ◌-◌, nat_lt, cond}
+use Rattle.theory.specs.Terms.{Term, Var, Pi, Lam, App, Let}
+use Rattle.core_terms.specs.Meanings.{tele_of}
+use Rattle.core_sig.specs.Meanings.{family_of}
+use Rattle.unification.specs.Groups as pure
+use Rattle.unifier.specs.declared.groups.Membership.{Membership}
+
+abbrev pub membership_from : Membership → pure.Membership
+membership_from m = record { n = m.number; family = family_of m.record.now; parameters = tele_of m.params }
+
+-- a term without the nearest k variables, under so many binders of its own
+abbrev pub lowered_under : (k under : ℕ) → Term → Term
+lowered_under k under (Var n) = Var (cond (nat_lt n under) n (n - under - k + under))
+lowered_under k under (Pi a b) = Pi (lowered_under k under a) (lowered_under k (under + 1) b)
+lowered_under k under (Lam a b) = Lam (lowered_under k under a) (lowered_under k (under + 1) b)
+lowered_under k under (App f a) = App (lowered_under k under f) (lowered_under k under a)
+lowered_under k under (Let a t b) = Let (lowered_under k under a) (lowered_under k under t) (lowered_under k (under + 1) b)
+lowered_under k under t = t

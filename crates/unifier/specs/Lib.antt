@@ -1,0 +1,6 @@
+pub mod CodeBuilt
+pub mod CodeCycles
+pub mod CodeGroups
+pub mod CodeMoves
+pub mod Conditions
+pub mod Meanings

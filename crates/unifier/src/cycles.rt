@@ -1,0 +1,283 @@
+ghost use Rattle.std.specs.Prelude.{◌≡◌, ◌≤◌, ◌<◌, ◌+◌, ◌++◌, option_map, ℕ, Some, None, Ok, cond, take, drop, map, reverse};
+ghost use Rattle.core_terms.specs.Answers.{Gives, Runs};
+ghost use Rattle.core_terms.specs.Meanings.{tree_of, tele_of};
+ghost use Rattle.unification.specs.Cycles as spec;
+ghost use Rattle.unifier.specs.Meanings.{equation_of, turn_of};
+ghost use Rattle.theory.specs.Terms as tree;
+ghost use Rattle.unifier.specs.Conditions.{most_levels};
+ghost use Rattle.unification.specs.ScopedStates.{IsReady, IsScopedEquation};
+ghost use Rattle.unifier.specs.Conditions.{AreGiven, IsGiven};
+ghost use Rattle.core_sig.specs.Meanings.{argument_of};
+ghost use Rattle.unification.specs.Built as spec_built;
+ghost use Rattle.unifier.specs.CodeBuilt.{IsBuiltAs};
+ghost use Rattle.unifier.specs.CodeCycles as code;
+ghost use Rattle.unification.specs.Turns as turns;
+
+use crate::built::{Built, built_of, has_no_indices, is_direct, is_fitting, split_spine};
+use crate::solutions::variable_in;
+use crate::state::Equation;
+use crate::trials::{fails, single, type_in};
+use crate::turn::Turn;
+use core_sig::{Arg, Signature};
+use core_terms::{MAX_HEIGHT, Rule, Stop, Term, Units, applied, copy_whole};
+use kernel_reduce::whnf;
+use std::alloc::Global;
+
+/// Whether acyclicity is made for the constructor's family.
+fn is_acyclic(b: Built) -> bool
+    ensures { (p : spec_built.Built) → IsBuiltAs b.entry p → result ≡ spec.is_acyclic p }
+{
+    has_no_indices(b.record) && is_fitting(b.record)
+}
+
+/// What is found, or Deep where it is higher than `room`.
+fn within(room: u32, t: Term) -> Result<Option<Term>, Stop>
+    requires { room ≤ 2000 }
+    ensures { Gives (option_map tree_of) result (code.within room (Some (tree_of t))) }
+{
+    if t.height() > room {
+        return Err(Stop::Deep);
+    }
+    Ok(Some(t))
+}
+
+/// The variable in a head form, at or below direct arguments of constructors of the family: what is found is the term with each
+/// argument on the way reduced, or Deep where that is higher than `room`.
+#[cycle(search)]
+fn search(
+    alloc: Global,
+    sig: &Signature,
+    n: u32,
+    x: u32,
+    room: u32,
+    t: &Term,
+    units: &mut Units,
+) -> Result<Option<Term>, Stop>
+    requires ready { IsReady sig.now }
+    requires room { room ≤ 2000 }
+    requires t { IsGiven sig.now most_levels (tree_of t.now) }
+    ensures answer { Runs (option_map tree_of) result units.new.left (code.search_within sig.now n x room (tree_of t.now) units.old.left) }
+    ensures sum { units.new.left + units.new.spent ≡ units.old.left + units.old.spent }
+    ensures spends { units.new.left ≤ units.old.left }
+{
+    if variable_in(t) == Some(x) {
+        return within(room, copy_whole(alloc, t)?);
+    }
+    match built_of(sig, t) {
+        Some(b) if b.family != n => Ok(None),
+        Some(b) if room == 0 => below_too_deep(alloc, sig, b, x, t, units),
+        Some(b) => below(alloc, sig, b, x, room, t, units),
+        None => Ok(None),
+    }
+}
+
+/// The variable below the constructor that the term is.
+#[cycle(search)]
+fn below(
+    alloc: Global,
+    sig: &Signature,
+    b: Built,
+    x: u32,
+    room: u32,
+    t: &Term,
+    units: &mut Units,
+) -> Result<Option<Term>, Stop>
+    requires ready { IsReady sig.now }
+    requires room { 0 < room }
+    requires most { room ≤ 2000 }
+    requires t { IsGiven sig.now most_levels (tree_of t.now) }
+    ensures answer { (p : spec_built.Built) → spec_built.built_of sig.now (tree_of t.now) ≡ Some p → IsBuiltAs b.entry p → Runs (option_map tree_of) result units.new.left (code.search_within sig.now p.n x room (tree_of t.now) units.old.left) }
+    ensures sum { units.new.left + units.new.spent ≡ units.old.left + units.old.spent }
+    ensures spends { units.new.left ≤ units.old.left }
+{
+    let count = b.record.params.as_slice().len();
+    let (ps, us) = split_spine(alloc, t, count)?;
+    let mut us = us.into_vec();
+    let args = b.con.args.as_slice();
+    if !among(alloc, sig, b.family, x, room - 1, args, &mut us, 0, units)? {
+        return Ok(None);
+    }
+    let head = applied(alloc, Term::Con(b.family, b.number), ps.into_vec())?;
+    within(room, applied(alloc, head, us)?)
+}
+
+/// Whether the variable is found in one of the arguments from `at` on, which is then put reduced in its place, or Deep where it is
+/// higher than `room`.
+#[cycle(search)]
+fn among(
+    alloc: Global,
+    sig: &Signature,
+    n: u32,
+    x: u32,
+    room: u32,
+    args: &[Arg],
+    us: &mut Vec<Term>,
+    at: usize,
+    units: &mut Units,
+) -> Result<bool, Stop>
+    requires ready { IsReady sig.now }
+    requires room { room ≤ 2000 }
+    requires us { AreGiven sig.now most_levels (tele_of us.old.items) }
+    ensures answer { (p : ℕ) → Runs (λ found. cond found (Some (drop at (tele_of us.new.items))) None) result units.new.left (spec.among_arguments sig.now (λ before. code.search_within sig.now n x room) (map (argument_of p) (drop at args.now)) (drop at (tele_of us.old.items)) units.old.left) }
+    ensures before { take at us.new.items ≡ take at us.old.items }
+    ensures sum { units.new.left + units.new.spent ≡ units.old.left + units.old.spent }
+    ensures spends { units.new.left ≤ units.old.left }
+{
+    if at >= us.len() || at >= args.len() {
+        return Ok(false);
+    }
+    if is_direct(&args[at]) {
+        let t = whnf(alloc, sig, &us[at], true, units)?;
+        if let Some(found) = search(alloc, sig, n, x, room, &t, units)? {
+            us[at] = found;
+            return Ok(true);
+        }
+    }
+    among(alloc, sig, n, x, room, args, us, at + 1, units)
+}
+
+/// The variable below the constructor that the term is, where there is no room for what is found.
+fn below_too_deep(
+    alloc: Global,
+    sig: &Signature,
+    b: Built,
+    x: u32,
+    t: &Term,
+    units: &mut Units,
+) -> Result<Option<Term>, Stop>
+    requires ready { IsReady sig.now }
+    requires t { IsGiven sig.now most_levels (tree_of t.now) }
+    ensures answer { (p : spec_built.Built) → spec_built.built_of sig.now (tree_of t.now) ≡ Some p → IsBuiltAs b.entry p → Runs (option_map tree_of) result units.new.left (code.search_within sig.now p.n x 0 (tree_of t.now) units.old.left) }
+    ensures sum { units.new.left + units.new.spent ≡ units.old.left + units.old.spent }
+    ensures spends { units.new.left ≤ units.old.left }
+{
+    let terms = with_direct(alloc, b, t, Vec::new(alloc))?;
+    search_too_deep(alloc, sig, b.family, x, terms, units)?;
+    Ok(None)
+}
+
+/// The terms with the direct arguments of the constructor that a term is behind them, the first argument last.
+fn with_direct(alloc: Global, b: Built, t: &Term, mut terms: Vec<Term>) -> Result<Vec<Term>, Stop>
+    ensures { Gives (λ made. tele_of made.items) result (Ok (tele_of terms.items ++ reverse (code.direct_in b.entry (tree_of t.now)))) }
+{
+    let count = b.record.params.as_slice().len();
+    let (_, us) = split_spine(alloc, t, count)?;
+    let mut us = us.into_vec();
+    let args = b.con.args.as_slice();
+    'arguments: while let Some(u) = us.pop() {
+        if matches!(args.get(us.len()), Some(arg) if is_direct(arg)) {
+            terms.push(u)?;
+        }
+    }
+    Ok(terms)
+}
+
+/// Deep where the variable is found in one of the terms, the last of which is reduced and searched first.
+///
+/// Nothing is built, and no call is open for a term around another one: so a search goes as deep as there are constructors.
+fn search_too_deep(
+    alloc: Global,
+    sig: &Signature,
+    n: u32,
+    x: u32,
+    terms: Vec<Term>,
+    units: &mut Units,
+) -> Result<(), Stop>
+    requires ready { IsReady sig.now }
+    requires terms { AreGiven sig.now most_levels (tele_of terms.items) }
+    ensures answer { Runs (λ done. None) result units.new.left (code.search_too_deep sig.now n x (reverse (tele_of terms.items)) units.old.left) }
+    ensures sum { units.new.left + units.new.spent ≡ units.old.left + units.old.spent }
+    ensures spends { units.new.left ≤ units.old.left }
+{
+    let mut waiting = terms;
+    'terms: while let Some(u) = waiting.pop() {
+        let t = whnf(alloc, sig, &u, true, units)?;
+        if variable_in(&t) == Some(x) {
+            return Err(Stop::Deep);
+        }
+        if let Some(b) = built_of(sig, &t) {
+            if b.family == n {
+                waiting = with_direct(alloc, b, &t, waiting)?;
+            }
+        }
+    }
+    Ok(())
+}
+
+/// The variable below the constructor that a side is, or Deep where the side is too high once it is reduced on the way.
+fn reduced_side(
+    alloc: Global,
+    sig: &Signature,
+    x: u32,
+    t: &Term,
+    units: &mut Units,
+) -> Result<Option<Term>, Stop>
+    requires ready { IsReady sig.now }
+    requires t { IsGiven sig.now most_levels (tree_of t.now) }
+    ensures answer { Runs (option_map tree_of) result units.new.left (spec.reduced_side sig.now x (tree_of t.now) (spec_built.built_of sig.now (tree_of t.now)) units.old.left) }
+    ensures sum { units.new.left + units.new.spent ≡ units.old.left + units.old.spent }
+    ensures spends { units.new.left ≤ units.old.left }
+{
+    match built_of(sig, t) {
+        Some(b) if is_acyclic(b) => search(alloc, sig, b.family, x, MAX_HEIGHT, t, units),
+        _ => Ok(None),
+    }
+}
+
+/// A cycle: one side of the equation is a variable, which stands below constructors on the other side.
+pub(crate) fn cycle_trial(
+    alloc: Global,
+    sig: &Signature,
+    e: &Equation,
+    units: &mut Units,
+) -> Result<Option<Turn>, Stop>
+    requires ready { IsReady sig.now }
+    requires e { IsScopedEquation sig.now most_levels 0 (equation_of e.now) }
+    requires low { (tree.height (tree_of e.now.left) ≤ 2000) × (tree.height (tree_of e.now.right) ≤ 2000) }
+    ensures answer { Runs (option_map turn_of) result units.new.left (spec.cycle_trial sig.now (equation_of e.now) units.old.left) }
+    ensures sum { units.new.left + units.new.spent ≡ units.old.left + units.old.spent }
+    ensures spends { units.new.left ≤ units.old.left }
+{
+    let left = whnf(alloc, sig, &e.left, true, units)?;
+    if let Some(x) = variable_in(&left) {
+        let right = whnf(alloc, sig, &e.right, true, units)?;
+        return match reduced_side(alloc, sig, x, &right, units)? {
+            Some(right) => cycle(alloc, sig, e, x, left, right, units),
+            None => Ok(None),
+        };
+    }
+    match built_of(sig, &left) {
+        Some(b) if is_acyclic(b) => {}
+        _ => return Ok(None),
+    }
+    let right = whnf(alloc, sig, &e.right, true, units)?;
+    let Some(x) = variable_in(&right) else {
+        return Ok(None);
+    };
+    match reduced_side(alloc, sig, x, &left, units)? {
+        Some(left) => cycle(alloc, sig, e, x, left, right, units),
+        None => Ok(None),
+    }
+}
+
+/// The last step by a cycle.
+fn cycle(
+    alloc: Global,
+    sig: &Signature,
+    e: &Equation,
+    x: u32,
+    left: Term,
+    right: Term,
+    units: &mut Units,
+) -> Result<Option<Turn>, Stop>
+    requires ready { IsReady sig.now }
+    requires e { IsScopedEquation sig.now most_levels 0 (equation_of e.now) }
+    requires low { (tree.height (tree_of e.now.left) ≤ 2000) × (tree.height (tree_of e.now.right) ≤ 2000) }
+    ensures answer { Runs (option_map turn_of) result units.new.left (turns.fails_at sig.now (spec.cycle_step (equation_of e.now) x (tree_of left) (tree_of right)) (tree_of e.now.left) (tree_of e.now.right) units.old.left) }
+    ensures sum { units.new.left + units.new.spent ≡ units.old.left + units.old.spent }
+    ensures spends { units.new.left ≤ units.old.left }
+{
+    let ty = type_in(alloc, &e.ty)?;
+    let step = single(Rule::Cycle(x), ty, left, right);
+    fails(alloc, sig, step, &e.left, &e.right, units)
+}

@@ -1,0 +1,46 @@
+ghost use Rattle.std.specs.Prelude.{◌≡◌, ◌≤◌, ◌+◌, option_map, IfOk, slice_get, Some};
+ghost use Rattle.core_terms.specs.Answers.{Runs};
+ghost use Rattle.unification.specs.Deletions as spec;
+ghost use Rattle.unifier.specs.Meanings.{equation_of, state_of, turn_of};
+ghost use Rattle.unifier.specs.Conditions.{IsKept, LeadsOnWhere};
+ghost use Rattle.unification.specs.ScopedStates.{IsReady};
+
+use crate::Why;
+use crate::solving::delete;
+use crate::state::{Equation, State};
+use crate::trials::{single, sticks, tidied, type_in};
+use crate::turn::Turn;
+use core_sig::Signature;
+use core_terms::{Rule, Stop, Units};
+use kernel_reduce::{convertible, tidy};
+use std::alloc::Global;
+
+/// Deletion of the first equation, which needs K.
+pub(crate) fn deletion_trial(
+    alloc: Global,
+    sig: &Signature,
+    s: &State,
+    e: &Equation,
+    units: &mut Units,
+) -> Result<Option<Turn>, Stop>
+    requires ready { IsReady sig.now }
+    requires state { IsKept sig.now (state_of s.now) }
+    requires first { slice_get (state_of s.now).equations 0 ≡ Some (equation_of e.now) }
+    ensures answer { Runs (option_map turn_of) result units.new.left (spec.deletion_trial sig.now (state_of s.now) (equation_of e.now) units.old.left) }
+    ensures sum { units.new.left + units.new.spent ≡ units.old.left + units.old.spent }
+    ensures spends { units.new.left ≤ units.old.left }
+    ensures kept { IfOk result (λ found. LeadsOnWhere sig.now (option_map turn_of found)) }
+{
+    if !convertible(alloc, sig, &e.left, &e.right, units)? {
+        return Ok(None);
+    }
+    if !sig.k() {
+        return sticks(alloc, sig, Why::NeedsK, &e.left, &e.right, units);
+    }
+    let ty = type_in(alloc, &e.ty)?;
+    let ty = tidy(alloc, sig, &ty, units)?;
+    let (left, right) = tidied(alloc, sig, &e.left, &e.right, units)?;
+    let next = delete(alloc, s, e.place.level, &ty, &left)?;
+    let step = single(Rule::Delete, ty, left, right);
+    Ok(Some(Turn::Goes(step, next)))
+}

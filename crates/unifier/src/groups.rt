@@ -1,0 +1,358 @@
+ghost use Rattle.std.specs.Prelude.{◌≡◌, ◌+◌, Ok, Some, option_map, IfOk, IfSome, ◌≤◌, ◌<◌, ◌^◌, length, map, take, slice_get};
+ghost use Rattle.core_terms.specs.Answers.{Gives, Runs};
+ghost use Rattle.core_terms.specs.Meanings.{tree_of, tele_of};
+ghost use Rattle.unification.specs.Groups as spec;
+ghost use Rattle.unifier.specs.Meanings.{equation_of, equations_of, state_of, turn_of};
+ghost use Rattle.unification.specs.States as states;
+ghost use Rattle.unifier.specs.Conditions.{AreGiven, IsGiven, IsKept, LeadsOnWhere, most_levels};
+ghost use Rattle.unification.specs.ScopedStates.{IsReady};
+ghost use Rattle.unifier.specs.CodeBuilt.{AreOfOneFamily, sides_of, teles_of};
+ghost use Rattle.unification.specs.Built as spec_built;
+ghost use Rattle.unification.specs.Constructors.{with_built};
+ghost use Rattle.kernel_reduce.specs.Entries.{family_at};
+ghost use Rattle.core_sig.specs.Meanings.{family_of};
+ghost use Rattle.std.specs.List.{All};
+ghost use Rattle.core_sig.specs.Kinds.{HasKinds};
+ghost use Rattle.theory.specs.Terms as tree;
+ghost use Rattle.unifier.specs.CodeGroups.{lowered_under, membership_from};
+
+use crate::built::{built_of, is_fitting, split_spine};
+use crate::constructors::{Fits, heads, inject_sides};
+use crate::heights::equations_made;
+use crate::records::family_items;
+use crate::state::{Equation, State};
+use crate::trials::fails;
+use crate::turn::Turn;
+use core_sig::{Family, Signature};
+use core_terms::{Items, Rule, Step, Stop, Tele, Term, Units, copy_whole, head, spine_len};
+use kernel_reduce::{convertible, family, tidy};
+use std::alloc::Global;
+use tele_eq::has_variable;
+
+/// Whether the terms are the nearest `k` variables, from the outermost on.
+fn are_nearest(k: u32, terms: &[Term]) -> bool
+    ensures { result ≡ spec.are_nearest k (tele_of terms.now) }
+{
+    match terms {
+        [] => k == 0,
+        [t, rest @ ..] => {
+            k > 0 && matches!(t, Term::Var(n) if *n == k - 1) && are_nearest(k - 1, rest)
+        }
+    }
+}
+
+/// Whether one of the nearest `k` variables is free in the term.
+fn has_nearest(k: u32, t: &Term) -> bool
+    requires { tree.height (tree_of t.now) ≤ 2000 }
+    ensures { result ≡ spec.has_nearest k (tree_of t.now) }
+{
+    if k == 0 {
+        return false;
+    }
+    has_variable(k as u64 - 1, t) || has_nearest(k - 1, t)
+}
+
+fn have_nearest(k: u32, terms: &[Term]) -> bool
+    requires { All (λ t. tree.height t ≤ 2000) (tele_of terms.now) }
+    ensures { result ≡ spec.have_nearest k (tele_of terms.now) }
+{
+    match terms {
+        [] => false,
+        [t, rest @ ..] => has_nearest(k, t) || have_nearest(k, rest),
+    }
+}
+
+fn lowered_variable(k: u32, under: u32, n: u32) -> u32
+    ensures { tree.Var result ≡ lowered_under k under (tree.Var n) }
+{
+    if n < under { n } else { n - k.min(n - under) }
+}
+
+/// A term without the nearest `k` variables, outside of their binders, under so many binders of its own.
+fn lowered(alloc: Global, k: u32, under: u32, t: &Term) -> Result<Term, Stop>
+    requires { under + tree.height (tree_of t.now) < 2 ^ 32 }
+    ensures { Gives tree_of result (Ok (lowered_under k under (tree_of t.now))) }
+{
+    match t {
+        Term::Var(n) => Ok(Term::Var(lowered_variable(k, under, *n))),
+        Term::Pi(domain, codomain) => Term::new_pi(
+            alloc,
+            lowered(alloc, k, under, domain)?,
+            lowered(alloc, k, under + 1, codomain)?,
+        ),
+        Term::Lam(domain, body) => Term::new_lam(
+            alloc,
+            lowered(alloc, k, under, domain)?,
+            lowered(alloc, k, under + 1, body)?,
+        ),
+        Term::App(function, argument) => Term::new_app(
+            alloc,
+            lowered(alloc, k, under, function)?,
+            lowered(alloc, k, under, argument)?,
+        ),
+        Term::Let(ty, value, rest) => Term::new_let(
+            alloc,
+            lowered(alloc, k, under, ty)?,
+            lowered(alloc, k, under, value)?,
+            lowered(alloc, k, under + 1, rest)?,
+        ),
+        Term::Sort(_)
+        | Term::Const(_)
+        | Term::Fam(_)
+        | Term::Con(_, _)
+        | Term::Elim(_, _)
+        | Term::AxiomK(_, _) => copy_whole(alloc, t),
+    }
+}
+
+/// A family with parameters in the context.
+#[derive(Drop)]
+struct Membership<'a> {
+    number: u32,
+    record: &'a Family,
+    params: Tele,
+}
+
+/// The family of a type that has exactly the nearest `k` variables as its indices.
+fn membership_of<'a>(
+    alloc: Global,
+    sig: &'a Signature,
+    k: u32,
+    ty: &Term,
+) -> Result<Option<Membership<'a>>, Stop>
+    requires low { tree.height (tree_of ty.now) ≤ 2000 }
+    ensures answer { Gives (option_map membership_from) result (Ok (spec.membership_of sig.now k (tree_of ty.now))) }
+    ensures kinds { IfOk result (λ found. IfSome found (λ m. HasKinds m.number m.record.now)) }
+{
+    let Term::Fam(n) = head(ty) else {
+        return Ok(None);
+    };
+    let Some(f) = family(sig, *n) else {
+        return Ok(None);
+    };
+    let count = f.params.as_slice().len();
+    let indices = f.indices.as_slice().len();
+    let all = count as u128 + indices as u128;
+    if indices != k as usize || spine_len(ty) as u128 != all || !is_fitting(f) {
+        return Ok(None);
+    }
+    let (ps, places) = split_spine(alloc, ty, count)?;
+    if !are_nearest(k, places.as_slice()) || have_nearest(k, ps.as_slice()) {
+        return Ok(None);
+    }
+    Ok(Some(Membership {
+        number: *n,
+        record: f,
+        params: all_lowered(alloc, k, ps.as_slice())?,
+    }))
+}
+
+/// Each of the terms without the nearest `k` variables.
+fn all_lowered(alloc: Global, k: u32, terms: &[Term]) -> Result<Tele, Stop>
+    requires { All (λ t. tree.height t ≤ 2000) (tele_of terms.now) }
+    ensures { Gives tele_of result (Ok (map (spec.lowered k) (tele_of terms.now))) }
+{
+    let mut made = Items::new(alloc);
+    for t in terms {
+        made.push(lowered(alloc, k, 0, t)?)?;
+    }
+    Ok(made)
+}
+
+/// The left sides of equations, and the right ones.
+fn sides(alloc: Global, equations: &[Equation]) -> Result<(Tele, Tele), Stop>
+    ensures { Gives teles_of result (Ok (sides_of (equations_of equations.now))) }
+{
+    let mut left = Items::new(alloc);
+    let mut right = Items::new(alloc);
+    for e in equations {
+        left.push(copy_whole(alloc, &e.left)?)?;
+        right.push(copy_whole(alloc, &e.right)?)?;
+    }
+    Ok((left, right))
+}
+
+/// Whether the types of equations are convertible with others one by one, up to the first that are not.
+fn all_convertible(
+    alloc: Global,
+    sig: &Signature,
+    equations: &[Equation],
+    others: &[Term],
+    units: &mut Units,
+) -> Result<bool, Stop>
+    requires ready { IsReady sig.now }
+    requires types { AreGiven sig.now most_levels (states.types_as_they_stand (equations_of equations.now)) }
+    requires others { AreGiven sig.now most_levels (tele_of others.now) }
+    ensures answer { Runs (λ holds. holds) result units.new.left (spec.all_convertible sig.now (states.types_as_they_stand (equations_of equations.now)) (tele_of others.now) units.old.left) }
+    ensures sum { units.new.left + units.new.spent ≡ units.old.left + units.old.spent }
+    ensures spends { units.new.left ≤ units.old.left }
+{
+    match (equations, others) {
+        ([e, equations @ ..], [other, others @ ..]) => {
+            if !convertible(alloc, sig, &e.ty, other, units)? {
+                return Ok(false);
+            }
+            all_convertible(alloc, sig, equations, others, units)
+        }
+        _ => Ok(true),
+    }
+}
+
+/// Injectivity and conflict of the first `k + 1` equations.
+fn group_trial(
+    alloc: Global,
+    sig: &Signature,
+    s: &State,
+    k: u32,
+    units: &mut Units,
+) -> Result<Option<Turn>, Stop>
+    requires ready { IsReady sig.now }
+    requires state { IsKept sig.now (state_of s.now) }
+    ensures answer { Runs (option_map turn_of) result units.new.left (spec.group_trial sig.now (state_of s.now) k units.old.left) }
+    ensures sum { units.new.left + units.new.spent ≡ units.old.left + units.old.spent }
+    ensures spends { units.new.left ≤ units.old.left }
+    ensures kept { IfOk result (λ found. LeadsOnWhere sig.now (option_map turn_of found)) }
+{
+    let Some(e) = s.equations.as_slice().get(k as usize) else {
+        return Ok(None);
+    };
+    let ty = tidy(alloc, sig, &e.place.ty, units)?;
+    let Some(m) = membership_of(alloc, sig, k, &ty)? else {
+        return Ok(None);
+    };
+    let wanted = Fits::Family(m.number);
+    let Some((left, right)) = heads(alloc, sig, wanted, &e.left, &e.right, units)? else {
+        return Ok(None);
+    };
+    if !are_equations_of(alloc, sig, s, k, &m, units)? {
+        return Ok(None);
+    }
+    let members = Members {
+        ty,
+        ps: m.params,
+        left,
+        right,
+    };
+    group_turn(alloc, sig, s, k, e, members, units)
+}
+
+/// Whether the first `k + 1` equations are those of the indices of a family and of its members.
+fn are_equations_of(
+    alloc: Global,
+    sig: &Signature,
+    s: &State,
+    k: u32,
+    m: &Membership,
+    units: &mut Units,
+) -> Result<bool, Stop>
+    requires ready { IsReady sig.now }
+    requires state { IsKept sig.now (state_of s.now) }
+    requires k { k < length s.now.equations }
+    requires family { family_at sig.now m.now.number ≡ Some (family_of m.now.record.now) }
+    requires kinds { HasKinds m.now.number m.now.record.now }
+    requires indices { length m.now.record.now.indices ≡ k }
+    requires few_places { k ≤ 2000 }
+    requires ps { AreGiven sig.now (length s.now.ctx) (tele_of m.now.params) }
+    ensures answer { Runs (λ holds. holds) result units.new.left (spec.are_equations_of sig.now (membership_from m.now) (take (k + 1) (state_of s.now).equations) units.old.left) }
+    ensures sum { units.new.left + units.new.spent ≡ units.old.left + units.old.spent }
+    ensures spends { units.new.left ≤ units.old.left }
+    ensures few { IfOk result (λ holds. k < 1000) }
+{
+    let equations = s.equations.as_slice();
+    let group = &equations[..k as usize + 1];
+    let tele = family_items(alloc, m.number, m.record, m.params.as_slice())?;
+    let (left, right) = sides(alloc, group)?;
+    let types = equations_made(alloc, &tele, &left, &right)?;
+    all_convertible(alloc, sig, group, types.as_slice(), units)
+}
+
+/// The last equation of a group: the tidied type of its place, the family's parameters in it, and the head forms of its sides.
+#[derive(Drop)]
+struct Members {
+    ty: Term,
+    ps: Tele,
+    left: Term,
+    right: Term,
+}
+
+/// The constructors of a group's last equation are the same, or not.
+fn group_turn(
+    alloc: Global,
+    sig: &Signature,
+    s: &State,
+    k: u32,
+    e: &Equation,
+    members: Members,
+    units: &mut Units,
+) -> Result<Option<Turn>, Stop>
+    requires ready { IsReady sig.now }
+    requires state { IsKept sig.now (state_of s.now) }
+    requires last { slice_get (state_of s.now).equations k ≡ Some (equation_of e.now) }
+    requires few { k < 1000 }
+    requires ps { AreGiven sig.now (length s.now.ctx) (tele_of members.ps) }
+    requires left { IsGiven sig.now (length s.now.ctx) (tree_of members.left) }
+    requires right { IsGiven sig.now (length s.now.ctx) (tree_of members.right) }
+    requires family { AreOfOneFamily sig.now (tree_of members.left) (tree_of members.right) }
+    requires indices { (p : spec_built.Built) → spec_built.built_of sig.now (tree_of members.left) ≡ Some p → length p.family.indices ≡ k }
+    requires parameters { (p : spec_built.Built) → spec_built.built_of sig.now (tree_of members.left) ≡ Some p → length p.family.parameters ≡ length members.ps }
+    ensures answer { (m : spec.Membership) → m.parameters ≡ tele_of members.ps → ((p : spec_built.Built) → spec_built.built_of sig.now (tree_of members.left) ≡ Some p → p.family ≡ m.family) → Runs (option_map turn_of) result units.new.left (with_built (spec.group_turn sig.now (state_of s.now) k (equation_of e.now) m (tree_of members.ty)) (tree_of members.left) (tree_of members.right) (spec_built.built_of sig.now (tree_of members.left)) (spec_built.built_of sig.now (tree_of members.right)) units.old.left) }
+    ensures sum { units.new.left + units.new.spent ≡ units.old.left + units.old.spent }
+    ensures spends { units.new.left ≤ units.old.left }
+    ensures kept { IfOk result (λ found. LeadsOnWhere sig.now (option_map turn_of found)) }
+{
+    let Members {
+        ty,
+        ps,
+        left,
+        right,
+    } = members;
+    let (Some(b), Some(d)) = (built_of(sig, &left), built_of(sig, &right)) else {
+        return Ok(None);
+    };
+    let group = k + 1;
+    if b.number != d.number {
+        let rule = Rule::Conflict(b.family, b.number, d.number);
+        let step = Step {
+            group,
+            rule,
+            ty,
+            left,
+            right,
+        };
+        return fails(alloc, sig, step, &e.left, &e.right, units);
+    }
+    let next = inject_sides(alloc, s, group, b, ps.as_slice(), &left, &right)?;
+    let rule = Rule::Inject(b.family, b.number);
+    let step = Step {
+        group,
+        rule,
+        ty,
+        left,
+        right,
+    };
+    Ok(Some(Turn::Goes(step, next)))
+}
+
+/// The groups of at most `k + 1` equations and of two at least, the greatest first.
+pub(crate) fn group_trials(
+    alloc: Global,
+    sig: &Signature,
+    s: &State,
+    k: u32,
+    units: &mut Units,
+) -> Result<Option<Turn>, Stop>
+    requires ready { IsReady sig.now }
+    requires state { IsKept sig.now (state_of s.now) }
+    ensures answer { Runs (option_map turn_of) result units.new.left (spec.group_trials sig.now (state_of s.now) k units.old.left) }
+    ensures sum { units.new.left + units.new.spent ≡ units.old.left + units.old.spent }
+    ensures spends { units.new.left ≤ units.old.left }
+    ensures kept { IfOk result (λ found. LeadsOnWhere sig.now (option_map turn_of found)) }
+{
+    if k == 0 {
+        return Ok(None);
+    }
+    match group_trial(alloc, sig, s, k, units)? {
+        Some(turn) => Ok(Some(turn)),
+        None => group_trials(alloc, sig, s, k - 1, units),
+    }
+}

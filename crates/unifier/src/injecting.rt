@@ -1,0 +1,149 @@
+ghost use Rattle.std.specs.Prelude.{◌≡◌, ◌≤◌, ◌<◌, ◌+◌, IfOk, drop, length};
+ghost use Rattle.core_terms.specs.Answers.{Gives};
+ghost use Rattle.core_terms.specs.Meanings.{tele_of};
+ghost use Rattle.core_sig.specs.Meanings.{constructor_of, family_of};
+ghost use Rattle.unification.specs.Heights as spec;
+ghost use Rattle.unifier.specs.Meanings.{equations_of, state_of};
+ghost use Rattle.unifier.specs.CodeBuilt.{IsKnown};
+ghost use Rattle.unifier.specs.Conditions.{AreOver, ArePlaces, ArePut, HasRoom, most_depth, most_levels};
+ghost use Rattle.unifier.specs.CodeMoves.{environment_of};
+ghost use Rattle.unification.specs.Moving.{behind, over_first};
+ghost use Rattle.core_terms.specs.Levels.{variable};
+
+use crate::built::Built;
+use crate::heights::{equations_made, with_equations};
+use crate::moving::{Behind, Places, Sides, moved};
+use crate::records::{argument_items, constructor_terms, family_items, lifted};
+use crate::state::{Equation, State, equations_at, variables};
+use core_terms::{Items, Stop, Tele, Term};
+use std::alloc::Global;
+use tele_eq::cong;
+
+/// What proves each equation of a group, behind the equations of the arguments, or Deep.
+fn group_proofs(
+    alloc: Global,
+    built: Built,
+    ps: &[Term],
+    left: &[Term],
+    right: &[Term],
+) -> Result<Tele, Stop>
+    requires known { IsKnown built }
+    requires few_args { length built.con.now.args ≤ 1000 }
+    requires indices { length built.record.now.indices < 1000 }
+    requires parameters { length ps.now ≡ length built.record.now.params }
+    requires ps { AreOver most_levels (tele_of ps.now) }
+    requires left { AreOver most_levels (tele_of left.now) }
+    requires right { AreOver most_levels (tele_of right.now) }
+    ensures { Gives tele_of result (spec.group_made built.entry.family built.entry.number (family_of built.entry.record.now) (constructor_of (length ps.now) built.entry.con.now) (tele_of ps.now) (tele_of left.now) (tele_of right.now)) }
+{
+    let count = built.con.args.as_slice().len() as u32;
+    let ps = lifted(alloc, count, ps)?;
+    let arguments = argument_items(alloc, ps.as_slice(), built.con)?;
+    let members = family_items(alloc, built.family, built.record, ps.as_slice())?;
+    let terms = constructor_terms(alloc, built.family, built.number, ps.as_slice(), built.con)?;
+    let left = lifted(alloc, count, left)?;
+    let right = lifted(alloc, count, right)?;
+    let proofs = variables(alloc, count)?;
+    cong(alloc, &arguments, &members, &terms, &left, &right, &proofs)
+}
+
+/// The equations behind the first `group` ones.
+fn behind_group(s: &State, group: u32) -> &[Equation]
+    ensures { equations_of result.now ≡ drop group (state_of s.now).equations }
+{
+    let equations = s.equations.as_slice();
+    let from = (group as usize).min(equations.len());
+    &equations[from..]
+}
+
+/// The equations of which the first `group` ones are those of the arguments of one constructor, or Deep.
+fn injected(
+    alloc: Global,
+    s: &State,
+    group: u32,
+    built: Built,
+    ps: &[Term],
+    left: &Tele,
+    right: &Tele,
+) -> Result<Items<Equation>, Stop>
+    requires state { HasRoom (state_of s.now) }
+    requires group { group ≤ length s.now.equations }
+    requires known { IsKnown built }
+    requires few_args { length built.con.now.args ≤ 2000 }
+    requires indices { length built.record.now.indices < 1000 }
+    requires parameters { length ps.now ≡ length built.record.now.params }
+    requires ps { AreOver (length s.now.ctx) (tele_of ps.now) }
+    requires left { AreOver (length s.now.ctx) (tele_of left.now) }
+    requires right { AreOver (length s.now.ctx) (tele_of right.now) }
+    requires all { length right.now ≡ length left.now }
+    requires arguments { length left.now ≡ length built.con.now.args }
+    ensures { Gives equations_of result (spec.injected_made (state_of s.now) group built.entry.family built.entry.number (family_of built.entry.record.now) (constructor_of (length ps.now) built.entry.con.now) (tele_of ps.now) (tele_of left.now) (tele_of right.now)) }
+{
+    let size = s.ctx.as_slice().len() as u32;
+    let tele = argument_items(alloc, ps, built.con)?;
+    let types = equations_made(alloc, &tele, left, right)?;
+    let proofs = group_proofs(alloc, built, ps, left.as_slice(), right.as_slice())?;
+    let terms = constructor_terms(alloc, built.family, built.number, ps, built.con)?;
+    let made = Items::new(alloc);
+    let (tele, types) = (tele.as_slice(), types.as_slice());
+    let made = equations_at(alloc, tele, types, left.as_slice(), right.as_slice(), made)?;
+    let depth = size + types.len() as u32;
+    moved(
+        alloc,
+        size,
+        behind_places(size, group, depth, terms.as_slice()),
+        behind_places(size, group, depth, proofs.as_slice()),
+        Sides::Same,
+        size + group,
+        depth,
+        behind_group(s, group),
+        made,
+    )
+}
+
+/// The state with these equations in place of its first `group` ones, or Deep.
+pub(crate) fn inject(
+    alloc: Global,
+    s: &State,
+    group: u32,
+    built: Built,
+    ps: &[Term],
+    left: &Tele,
+    right: &Tele,
+) -> Result<Box<State>, Stop>
+    requires state { HasRoom (state_of s.now) }
+    requires group { group ≤ length s.now.equations }
+    requires known { IsKnown built }
+    requires few_args { length built.con.now.args ≤ 2000 }
+    requires indices { length built.record.now.indices < 1000 }
+    requires parameters { length ps.now ≡ length built.record.now.params }
+    requires ps { AreOver (length s.now.ctx) (tele_of ps.now) }
+    requires left { AreOver (length s.now.ctx) (tele_of left.now) }
+    requires right { AreOver (length s.now.ctx) (tele_of right.now) }
+    requires all { length right.now ≡ length left.now }
+    requires arguments { length left.now ≡ length built.con.now.args }
+    ensures answer { Gives (λ b. state_of b.value) result (spec.injection_made (state_of s.now) group built.entry.family built.entry.number (family_of built.entry.record.now) (constructor_of (length ps.now) built.entry.con.now) (tele_of ps.now) (tele_of left.now) (tele_of right.now)) }
+    ensures few { IfOk result (λ next. length (state_of next.value).context + length (state_of next.value).equations ≤ most_levels) }
+{
+    let equations = injected(alloc, s, group, built, ps, left, right)?;
+    with_equations(alloc, s, equations)
+}
+
+/// What stands for the first `count` places behind a context: terms behind the variables up to a depth.
+fn behind_places(size: u32, count: u32, depth: u32, terms: &[Term]) -> Places
+    requires size { size ≤ most_levels }
+    requires count { count ≤ most_levels }
+    requires depth { depth ≤ most_depth }
+    requires terms { ArePut depth (tele_of terms.now) }
+    ensures environment { environment_of result ≡ behind size count depth variable (over_first depth (tele_of terms.now)) }
+    ensures places { ArePlaces result }
+{
+    Places::Behind(Behind {
+        solution: None,
+        size,
+        count,
+        new: depth,
+        over: depth,
+        terms,
+    })
+}

@@ -1,0 +1,31 @@
+//! Proof-relevant unification: the equations between two lists of terms, solved without axiom K where that can be done.
+//!
+//! A state has a context and the equations that are left in it; a rule makes the next state of it, or shows that it is absurd.
+//! `strategy` says which rule is tried when.
+#![tactic(auto)]
+
+mod built;
+mod constructors;
+mod cycles;
+mod deletions;
+mod groups;
+mod heights;
+mod injecting;
+mod moving;
+mod occurrences;
+mod outcome;
+mod problem;
+mod records;
+mod solutions;
+mod solving;
+mod state;
+mod sticking;
+mod strategy;
+mod trials;
+mod turn;
+mod unifying;
+
+pub use outcome::Outcome;
+pub use problem::Problem;
+pub use unification::Why;
+pub use unifying::unify;

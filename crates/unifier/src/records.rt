@@ -1,0 +1,134 @@
+ghost use Rattle.std.specs.Prelude.{◌≡◌, ◌++◌, ℕ, Ok, length, map, ◌≤◌};
+ghost use Rattle.core_terms.specs.Answers.{Gives, bounded, bounded_terms};
+ghost use Rattle.core_terms.specs.Meanings.{tree_of, tele_of};
+ghost use Rattle.core_sig.specs.Kinds.{HasKinds, HaveKinds};
+ghost use Rattle.core_sig.specs.Meanings.{constructor_of, family_of};
+ghost use Rattle.tele_eq.specs.Items.{items_of};
+ghost use Rattle.theory.specs.Families as pure;
+ghost use Rattle.unification.specs.Heights.{bounded_items};
+ghost use Rattle.unification.specs.Injecting as injecting;
+ghost use Rattle.unification.specs.Records as spec;
+ghost use Rattle.theory.specs.Eliminators.{no_variable};
+ghost use Rattle.theory.specs.Substitutions.{fill};
+ghost use Rattle.theory.specs.Telescopes as telescopes;
+ghost use Rattle.theory.specs.Terms as tree;
+ghost use Rattle.theory.specs.Telescopes.{inst_telescope};
+ghost use Rattle.unifier.specs.Conditions.{AreOver, most_depth};
+
+use core_sig::{Arg, Constructor, Family, types_of};
+use core_terms::{
+    Items, Stop, Tele, Term, applied, applied_to_nearest, checked, copy_tele, inst_tele,
+    inst_terms, lift,
+};
+use std::alloc::Global;
+use tele_eq::Item;
+
+/// The telescope of arguments or indices at parameters, or Deep.
+fn items_at(alloc: Global, ps: &[Term], args: &[Arg]) -> Result<Items<Item>, Stop>
+    requires few { length args.now ≤ 2000 }
+    requires ps { AreOver most_depth (tele_of ps.now) }
+    ensures { Gives items_of result (bounded_items (spec.items_at (inst_telescope (fill no_variable (tele_of ps.now)) (map (λ a. tree_of a.ty) args.now)) (map (λ a. a.level) args.now))) }
+{
+    let types = types_of(alloc, args)?;
+    let types = inst_tele(alloc, ps, types.as_slice())?;
+    with_levels(types.into_vec(), args, Items::new(alloc))
+}
+
+/// Types with the levels of the arguments or indices that they belong to.
+fn with_levels(types: Vec<Term>, args: &[Arg], mut made: Items<Item>) -> Result<Items<Item>, Stop>
+    requires { length types.items ≡ length args.now }
+    ensures { Gives items_of result (Ok (items_of made ++ spec.items_at (map tree_of types.items) (map (λ a. a.level) args.now))) }
+{
+    let mut at = 0;
+    for ty in types {
+        made.push(Item {
+            ty,
+            level: args[at].level,
+        })?;
+        at += 1;
+    }
+    Ok(made)
+}
+
+/// The telescope of a constructor's arguments at parameters, or Deep.
+pub(crate) fn argument_items(
+    alloc: Global,
+    ps: &[Term],
+    con: &Constructor,
+) -> Result<Items<Item>, Stop>
+    requires few { length con.now.args ≤ 2000 }
+    requires ps { AreOver most_depth (tele_of ps.now) }
+    ensures { (n : ℕ) (f : pure.Family) → HaveKinds n f 0 con.now.args → length f.parameters ≡ length ps.now → Gives items_of result (bounded_items (spec.argument_items n (tele_of ps.now) (constructor_of (length ps.now) con.now))) }
+{
+    items_at(alloc, ps, con.args.as_slice())
+}
+
+/// Each of the terms behind so many variables more, or Deep.
+pub(crate) fn lifted(alloc: Global, by: u32, terms: &[Term]) -> Result<Tele, Stop>
+    requires terms { AreOver most_depth (tele_of terms.now) }
+    requires by { by ≤ 2000 }
+    ensures { Gives tele_of result (bounded_terms (injecting.lifted by (tele_of terms.now))) }
+{
+    let mut made = Items::new(alloc);
+    for t in terms {
+        made.push(lift(alloc, t, by, 0)?)?;
+    }
+    Ok(made)
+}
+
+/// `head` at parameters and at the nearest `count` variables, which stand behind the parameters, or Deep.
+fn at_nearest(alloc: Global, head: Term, ps: &[Term], count: u32) -> Result<Term, Stop>
+    requires head { tree.free_of (tree_of head) ≡ 0 }
+    requires count { count ≤ 2000 }
+    requires ps { AreOver most_depth (tele_of ps.now) }
+    ensures { Gives tree_of result (bounded (telescopes.applied (telescopes.weaken_by count (telescopes.applied (tree_of head) (tele_of ps.now))) (telescopes.variables count))) }
+{
+    let ps = lifted(alloc, count, ps)?.into_vec();
+    let whole = applied_to_nearest(alloc, applied(alloc, head, ps)?, count)?;
+    checked(whole)
+}
+
+/// The telescope of a family's indices at parameters, and the family at them, or Deep.
+pub(crate) fn family_items(
+    alloc: Global,
+    n: u32,
+    f: &Family,
+    ps: &[Term],
+) -> Result<Items<Item>, Stop>
+    requires kinds { HasKinds n f.now }
+    requires few { length f.now.indices ≤ 2000 }
+    requires ps { AreOver most_depth (tele_of ps.now) }
+    ensures { Gives items_of result (bounded_items (spec.family_items n (family_of f.now) (tele_of ps.now))) }
+{
+    let indices = f.indices.as_slice();
+    let mut made = items_at(alloc, ps, indices)?;
+    let whole = at_nearest(alloc, Term::Fam(n), ps, indices.len() as u32)?;
+    made.push(Item {
+        ty: whole,
+        level: f.level,
+    })?;
+    Ok(made)
+}
+
+/// The targets of a constructor, and the constructor itself, at parameters and behind its arguments, or Deep.
+pub(crate) fn constructor_terms(
+    alloc: Global,
+    n: u32,
+    number: u32,
+    ps: &[Term],
+    con: &Constructor,
+) -> Result<Tele, Stop>
+    requires few { length con.now.args ≤ 2000 }
+    requires ps { AreOver most_depth (tele_of ps.now) }
+    ensures { Gives tele_of result (bounded_terms (spec.constructor_terms n number (tele_of ps.now) (constructor_of (length ps.now) con.now))) }
+{
+    let count = con.args.as_slice().len() as u32;
+    let mut values = lifted(alloc, count, ps)?;
+    for at in (0..count).rev() {
+        values.push(Term::Var(at))?;
+    }
+    let targets = copy_tele(alloc, con.targets.as_slice())?;
+    let mut made = inst_terms(alloc, values.as_slice(), targets.as_slice())?;
+    made.push(at_nearest(alloc, Term::Con(n, number), ps, count)?)?;
+    Ok(made)
+}

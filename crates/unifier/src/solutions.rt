@@ -1,0 +1,165 @@
+ghost use Rattle.std.specs.Prelude.{◌≡◌, ◌≤◌, ◌<◌, ◌+◌, length, option_map, IfOk, slice_get, Some, ◌-◌};
+ghost use Rattle.core_terms.specs.Answers.{Runs};
+ghost use Rattle.core_terms.specs.Meanings.{tree_of, tele_of};
+ghost use Rattle.unifier.specs.Meanings.{equation_of, state_of, turn_of};
+ghost use Rattle.unification.specs.Solutions as spec;
+ghost use Rattle.unifier.specs.Conditions.{IsGiven, IsKept, LeadsOnWhere};
+ghost use Rattle.unification.specs.Occurrences as occurrences;
+ghost use Rattle.unification.specs.ScopedStates.{IsReady};
+
+use crate::occurrences::{dependants, lacks};
+use crate::solving::solve;
+use crate::state::{Equation, State};
+use crate::trials::{single, tidied, type_in};
+use crate::turn::Turn;
+use core_sig::Signature;
+use core_terms::{Rule, Stop, Term, Units, copy_whole};
+use kernel_reduce::{normal, tidy};
+use std::alloc::Global;
+
+/// The number of a variable.
+pub(crate) fn variable_in(t: &Term) -> Option<u32>
+    ensures { result ≡ spec.variable_in (tree_of t.now) }
+{
+    match t {
+        Term::Var(x) => Some(*x),
+        _ => None,
+    }
+}
+
+/// The level of a variable in a context of `n` variables.
+fn level_of(n: u32, x: u32) -> u32
+    ensures { result ≡ n - (x + 1) }
+{
+    (n as u64).saturating_sub(x as u64 + 1) as u32
+}
+
+/// The term that solves a variable in an equation in `ty`, where it is solvable by `u`. Its dependants are given.
+fn solves(
+    alloc: Global,
+    sig: &Signature,
+    s: &State,
+    x: u32,
+    dependants: &[u32],
+    ty: &Term,
+    u: &Term,
+    units: &mut Units,
+) -> Result<Option<Term>, Stop>
+    requires ready { IsReady sig.now }
+    requires x { x < length s.now.ctx }
+    requires dependants { dependants.now ≡ occurrences.dependants (tele_of s.now.ctx) (length s.now.ctx - (x + 1)) }
+    requires ty { IsGiven sig.now (length s.now.ctx) (tree_of ty.now) }
+    requires u { IsGiven sig.now (length s.now.ctx) (tree_of u.now) }
+    ensures answer { Runs (option_map tree_of) result units.new.left (spec.solves sig.now (state_of s.now) x (tree_of ty.now) (tree_of u.now) units.old.left) }
+    ensures sum { units.new.left + units.new.spent ≡ units.old.left + units.old.spent }
+    ensures spends { units.new.left ≤ units.old.left }
+{
+    let n = s.ctx.as_slice().len() as u32;
+    let p = level_of(n, x);
+    if !lacks(n, p, dependants, ty) {
+        return Ok(None);
+    }
+    if lacks(n, p, dependants, u) {
+        return Ok(Some(copy_whole(alloc, u)?));
+    }
+    let u = normal(alloc, sig, u, true, units)?;
+    if lacks(n, p, dependants, &u) {
+        Ok(Some(u))
+    } else {
+        Ok(None)
+    }
+}
+
+/// A variable, solved by the other side of its equation: the term that is put, and the next state.
+fn solve_side(
+    alloc: Global,
+    sig: &Signature,
+    s: &State,
+    e: &Equation,
+    ty: &Term,
+    x: u32,
+    other: &Term,
+    units: &mut Units,
+) -> Result<Option<(Term, Box<State>)>, Stop>
+    requires ready { IsReady sig.now }
+    requires state { IsKept sig.now (state_of s.now) }
+    requires first { 0 < length s.now.equations }
+    requires x { x < length s.now.ctx }
+    requires ty { IsGiven sig.now (length s.now.ctx) (tree_of ty.now) }
+    requires other { IsGiven sig.now (length s.now.ctx) (tree_of other.now) }
+    ensures answer { Runs (option_map (λ found. (tree_of found.0, state_of found.1.value))) result units.new.left (spec.side_solved sig.now (state_of s.now) (equation_of e.now) x (tree_of ty.now) (tree_of other.now) units.old.left) }
+    ensures sum { units.new.left + units.new.spent ≡ units.old.left + units.old.spent }
+    ensures spends { units.new.left ≤ units.old.left }
+{
+    let ctx = s.ctx.as_slice();
+    let p = level_of(ctx.len() as u32, x);
+    let dependants = dependants(alloc, ctx, p)?;
+    let dependants = dependants.as_slice();
+    let Some(by) = solves(alloc, sig, s, x, dependants, ty, other, units)? else {
+        return Ok(None);
+    };
+    let next = solve(alloc, s, e.place.level, p, dependants, ty, &by)?;
+    Ok(Some((by, next)))
+}
+
+/// The right side where it is a variable, and else the left one.
+fn solve_sides(
+    alloc: Global,
+    sig: &Signature,
+    s: &State,
+    e: &Equation,
+    ty: Term,
+    left: Term,
+    right: Term,
+    units: &mut Units,
+) -> Result<Option<Turn>, Stop>
+    requires ready { IsReady sig.now }
+    requires state { IsKept sig.now (state_of s.now) }
+    requires first { slice_get (state_of s.now).equations 0 ≡ Some (equation_of e.now) }
+    requires ty { IsGiven sig.now (length s.now.ctx) (tree_of ty) }
+    requires left { IsGiven sig.now (length s.now.ctx) (tree_of left) }
+    requires right { IsGiven sig.now (length s.now.ctx) (tree_of right) }
+    ensures answer { Runs (option_map turn_of) result units.new.left (spec.solve_sides sig.now (state_of s.now) (equation_of e.now) (tree_of ty) (tree_of left) (tree_of right) units.old.left) }
+    ensures sum { units.new.left + units.new.spent ≡ units.old.left + units.old.spent }
+    ensures spends { units.new.left ≤ units.old.left }
+    ensures kept { IfOk result (λ found. LeadsOnWhere sig.now (option_map turn_of found)) }
+{
+    if let Some(x) = variable_in(&right) {
+        if let Some((by, next)) = solve_side(alloc, sig, s, e, &ty, x, &left, units)? {
+            let step = single(Rule::SolveRight(x), ty, by, right);
+            return Ok(Some(Turn::Goes(step, next)));
+        }
+    }
+    if let Some(x) = variable_in(&left) {
+        if let Some((by, next)) = solve_side(alloc, sig, s, e, &ty, x, &right, units)? {
+            let step = single(Rule::SolveLeft(x), ty, left, by);
+            return Ok(Some(Turn::Goes(step, next)));
+        }
+    }
+    Ok(None)
+}
+
+/// Solution of a variable by the other side of the first equation.
+pub(crate) fn solution_trial(
+    alloc: Global,
+    sig: &Signature,
+    s: &State,
+    e: &Equation,
+    units: &mut Units,
+) -> Result<Option<Turn>, Stop>
+    requires ready { IsReady sig.now }
+    requires state { IsKept sig.now (state_of s.now) }
+    requires first { slice_get (state_of s.now).equations 0 ≡ Some (equation_of e.now) }
+    ensures answer { Runs (option_map turn_of) result units.new.left (spec.solution_trial sig.now (state_of s.now) (equation_of e.now) units.old.left) }
+    ensures sum { units.new.left + units.new.spent ≡ units.old.left + units.old.spent }
+    ensures spends { units.new.left ≤ units.old.left }
+    ensures kept { IfOk result (λ found. LeadsOnWhere sig.now (option_map turn_of found)) }
+{
+    let (left, right) = tidied(alloc, sig, &e.left, &e.right, units)?;
+    if variable_in(&left).is_none() && variable_in(&right).is_none() {
+        return Ok(None);
+    }
+    let ty = type_in(alloc, &e.ty)?;
+    let ty = tidy(alloc, sig, &ty, units)?;
+    solve_sides(alloc, sig, s, e, ty, left, right, units)
+}

@@ -1,0 +1,109 @@
+ghost use Rattle.std.specs.Prelude.{◌≡◌, ◌≤◌, ◌+◌, ◌++◌, IfOk, Ok, length};
+ghost use Rattle.core_terms.specs.Answers.{Gives};
+ghost use Rattle.core_terms.specs.Meanings.{tele_of};
+ghost use Rattle.tele_eq.specs.Items.{item_of, items_of};
+ghost use Rattle.theory.specs.Telescopes as telescopes;
+ghost use Rattle.unifier.specs.Conditions.{HasFewVariables, HaveFewVariables, most_levels};
+ghost use Rattle.unification.specs.Heights as spec;
+ghost use Rattle.unifier.specs.Meanings.{equations_of, problem_of, state_of};
+ghost use Rattle.unification.specs.States as states;
+
+use crate::Problem;
+use crate::heights::{checked_state, equations_made};
+use core_terms::{Items, Stop, Tele, Term, copy_tele, copy_whole};
+use std::alloc::Global;
+use tele_eq::Item;
+
+/// An equation between two terms of the context: its place in a telescope, its type as it stands, behind the equations before it,
+/// and its plain sides.
+#[derive(Debug, Drop)]
+pub(crate) struct Equation {
+    pub(crate) place: Item,
+    pub(crate) ty: Term,
+    pub(crate) left: Term,
+    pub(crate) right: Term,
+}
+
+/// The equations that are left in a context, and a term for each variable of the context that was given.
+#[derive(Debug, Drop)]
+pub(crate) struct State {
+    pub(crate) ctx: Tele,
+    pub(crate) equations: Items<Equation>,
+    pub(crate) subst: Tele,
+}
+
+/// The equations at the places of a telescope.
+pub(crate) fn equations_at(
+    alloc: Global,
+    tele: &[Item],
+    types: &[Term],
+    left: &[Term],
+    right: &[Term],
+    mut made: Items<Equation>,
+) -> Result<Items<Equation>, Stop>
+    ensures { Gives equations_of result (Ok (equations_of made ++ states.equations_at (items_of tele.now) (tele_of types.now) (tele_of left.now) (tele_of right.now))) }
+{
+    match (tele, types, left, right) {
+        ([x, tele @ ..], [ty, types @ ..], [u, left @ ..], [v, right @ ..]) => {
+            made.push(Equation {
+                place: copy_item(alloc, x)?,
+                ty: copy_whole(alloc, ty)?,
+                left: copy_whole(alloc, u)?,
+                right: copy_whole(alloc, v)?,
+            })?;
+            equations_at(alloc, tele, types, left, right, made)
+        }
+        _ => Ok(made),
+    }
+}
+
+fn copy_item(alloc: Global, x: &Item) -> Result<Item, Stop>
+    ensures { Gives item_of result (Ok (item_of x.now)) }
+{
+    Ok(Item {
+        ty: copy_whole(alloc, &x.ty)?,
+        level: x.level,
+    })
+}
+
+/// The variables of a context of `count` types, from the outermost on.
+pub(crate) fn variables(alloc: Global, count: u32) -> Result<Tele, Stop>
+    ensures { Gives tele_of result (Ok (telescopes.variables count)) }
+{
+    let mut made = Items::new(alloc);
+    for at in (0..count).rev() {
+        made.push(Term::Var(at))?;
+    }
+    Ok(made)
+}
+
+/// The state from which a problem is solved, or Deep where a term in it is too high.
+pub(crate) fn start(alloc: Global, p: &Problem) -> Result<Box<State>, Stop>
+    requires left { length p.now.left ≡ length p.now.tele }
+    requires right { length p.now.right ≡ length p.now.tele }
+    requires few_items { HasFewVariables (items_of p.now.tele) }
+    requires few_left { HaveFewVariables (tele_of p.now.left) }
+    requires few_right { HaveFewVariables (tele_of p.now.right) }
+    ensures answer { Gives (λ s. state_of s.value) result (spec.start_made (problem_of p.now)) }
+    ensures few { IfOk result (λ s. length (state_of s.value).context + length (state_of s.value).equations ≤ most_levels) }
+{
+    let types = equations_made(alloc, &p.tele, &p.left, &p.right)?;
+    let equations = equations_at(
+        alloc,
+        p.tele.as_slice(),
+        types.as_slice(),
+        p.left.as_slice(),
+        p.right.as_slice(),
+        Items::new(alloc),
+    )?;
+    let ctx = copy_tele(alloc, p.ctx.as_slice())?;
+    let subst = variables(alloc, ctx.as_slice().len() as u32)?;
+    checked_state(
+        alloc,
+        State {
+            ctx,
+            equations,
+            subst,
+        },
+    )
+}

@@ -1,0 +1,74 @@
+ghost use Rattle.std.specs.Prelude.{◌≡◌, ◌≤◌, ◌+◌, IfOk, slice_get, Some};
+ghost use Rattle.core_terms.specs.Answers.{Runs};
+ghost use Rattle.unifier.specs.Meanings.{equation_of, state_of, turn_of};
+ghost use Rattle.unification.specs.Strategy as spec;
+ghost use Rattle.unifier.specs.Conditions.{IsKept, LeadsOn};
+ghost use Rattle.unification.specs.ScopedStates.{IsReady};
+
+use crate::constructors::constructor_trial;
+use crate::cycles::cycle_trial;
+use crate::deletions::deletion_trial;
+use crate::groups::group_trials;
+use crate::solutions::solution_trial;
+use crate::state::{Equation, State};
+use crate::sticking::stuck;
+use crate::turn::Turn;
+use core_sig::Signature;
+use core_terms::{Stop, Units};
+use std::alloc::Global;
+
+/// The rules for the first equation, in their order.
+fn first_trials(
+    alloc: Global,
+    sig: &Signature,
+    s: &State,
+    e: &Equation,
+    units: &mut Units,
+) -> Result<Turn, Stop>
+    requires ready { IsReady sig.now }
+    requires state { IsKept sig.now (state_of s.now) }
+    requires first { slice_get (state_of s.now).equations 0 ≡ Some (equation_of e.now) }
+    ensures answer { Runs (λ turn. Some (turn_of turn)) result units.new.left (spec.first_trials sig.now (state_of s.now) (equation_of e.now) units.old.left) }
+    ensures sum { units.new.left + units.new.spent ≡ units.old.left + units.old.spent }
+    ensures spends { units.new.left ≤ units.old.left }
+    ensures kept { IfOk result (λ found. LeadsOn sig.now (turn_of found)) }
+{
+    if let Some(turn) = solution_trial(alloc, sig, s, e, units)? {
+        return Ok(turn);
+    }
+    if let Some(turn) = constructor_trial(alloc, sig, s, e, units)? {
+        return Ok(turn);
+    }
+    if let Some(turn) = cycle_trial(alloc, sig, e, units)? {
+        return Ok(turn);
+    }
+    if let Some(turn) = deletion_trial(alloc, sig, s, e, units)? {
+        return Ok(turn);
+    }
+    stuck(alloc, sig, e, units)
+}
+
+/// What a state comes to.
+pub(crate) fn turn(
+    alloc: Global,
+    sig: &Signature,
+    s: &State,
+    units: &mut Units,
+) -> Result<Turn, Stop>
+    requires ready { IsReady sig.now }
+    requires state { IsKept sig.now (state_of s.now) }
+    ensures answer { Runs (λ turn. Some (turn_of turn)) result units.new.left (spec.turn_of sig.now (state_of s.now) units.old.left) }
+    ensures sum { units.new.left + units.new.spent ≡ units.old.left + units.old.spent }
+    ensures spends { units.new.left ≤ units.old.left }
+    ensures kept { IfOk result (λ found. LeadsOn sig.now (turn_of found)) }
+{
+    match s.equations.as_slice() {
+        [] => Ok(Turn::Done),
+        [first, rest @ ..] => {
+            match group_trials(alloc, sig, s, rest.len() as u32, units)? {
+                Some(turn) => Ok(turn),
+                None => first_trials(alloc, sig, s, first, units),
+            }
+        }
+    }
+}

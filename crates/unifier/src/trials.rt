@@ -1,0 +1,103 @@
+//! What the trials of rules share. A trial answers None where its rule does not apply.
+ghost use Rattle.std.specs.Prelude.{◌≡◌, ◌≤◌, ◌+◌, Ok, option_map};
+ghost use Rattle.core_terms.specs.Answers.{Gives, Runs};
+ghost use Rattle.core_terms.specs.Meanings.{tree_of};
+ghost use Rattle.core_terms.specs.TreeMeanings.{step_of};
+ghost use Rattle.unifier.specs.Meanings.{turn_of};
+ghost use Rattle.unification.specs.Turns as spec;
+ghost use Rattle.unifier.specs.Conditions.{IsGiven, most_levels};
+ghost use Rattle.unification.specs.ScopedStates.{IsReady};
+
+use crate::Why;
+use crate::turn::Turn;
+use core_sig::Signature;
+use core_terms::{Rule, Step, Stop, Term, Units, copy_whole};
+use kernel_reduce::tidy;
+use std::alloc::Global;
+
+/// A step whose rule works on one equation.
+pub(crate) fn single(rule: Rule, ty: Term, left: Term, right: Term) -> Step
+    ensures { step_of result ≡ spec.single rule (tree_of ty) (tree_of left) (tree_of right) }
+{
+    Step {
+        group: 1,
+        rule,
+        ty,
+        left,
+        right,
+    }
+}
+
+/// Both terms tidied, the left one first.
+pub(crate) fn tidied(
+    alloc: Global,
+    sig: &Signature,
+    left: &Term,
+    right: &Term,
+    units: &mut Units,
+) -> Result<(Term, Term), Stop>
+    requires ready { IsReady sig.now }
+    requires left { IsGiven sig.now most_levels (tree_of left.now) }
+    requires right { IsGiven sig.now most_levels (tree_of right.now) }
+    ensures answer { Runs (λ sides. (tree_of sides.0, tree_of sides.1)) result units.new.left (spec.tidied sig.now (tree_of left.now) (tree_of right.now) units.old.left) }
+    ensures sum { units.new.left + units.new.spent ≡ units.old.left + units.old.spent }
+    ensures spends { units.new.left ≤ units.old.left }
+{
+    let left = tidy(alloc, sig, left, units)?;
+    let right = tidy(alloc, sig, right, units)?;
+    Ok((left, right))
+}
+
+/// A last step, with the tidied sides.
+pub(crate) fn fails(
+    alloc: Global,
+    sig: &Signature,
+    step: Step,
+    left: &Term,
+    right: &Term,
+    units: &mut Units,
+) -> Result<Option<Turn>, Stop>
+    requires ready { IsReady sig.now }
+    requires left { IsGiven sig.now most_levels (tree_of left.now) }
+    requires right { IsGiven sig.now most_levels (tree_of right.now) }
+    ensures answer { Runs (option_map turn_of) result units.new.left (spec.fails_at sig.now (step_of step) (tree_of left.now) (tree_of right.now) units.old.left) }
+    ensures sum { units.new.left + units.new.spent ≡ units.old.left + units.old.spent }
+    ensures spends { units.new.left ≤ units.old.left }
+{
+    let (left, right) = tidied(alloc, sig, left, right, units)?;
+    Ok(Some(Turn::Fails(step, left, right)))
+}
+
+/// No rule goes on, with the tidied sides.
+pub(crate) fn sticks(
+    alloc: Global,
+    sig: &Signature,
+    why: Why,
+    left: &Term,
+    right: &Term,
+    units: &mut Units,
+) -> Result<Option<Turn>, Stop>
+    requires ready { IsReady sig.now }
+    requires left { IsGiven sig.now most_levels (tree_of left.now) }
+    requires right { IsGiven sig.now most_levels (tree_of right.now) }
+    ensures answer { Runs (option_map turn_of) result units.new.left (spec.sticks_at sig.now why (tree_of left.now) (tree_of right.now) units.old.left) }
+    ensures sum { units.new.left + units.new.spent ≡ units.old.left + units.old.spent }
+    ensures spends { units.new.left ≤ units.old.left }
+{
+    let (left, right) = tidied(alloc, sig, left, right, units)?;
+    Ok(Some(Turn::Sticks(why, left, right)))
+}
+
+/// A of Eq.i A u v.
+pub(crate) fn type_in(alloc: Global, t: &Term) -> Result<Term, Stop>
+    ensures { Gives tree_of result (Ok (spec.type_in (tree_of t.now))) }
+{
+    if let Term::App(f, _) = t {
+        if let Term::App(g, _) = &**f {
+            if let Term::App(_, ty) = &**g {
+                return copy_whole(alloc, ty);
+            }
+        }
+    }
+    Ok(Term::Sort(0))
+}
