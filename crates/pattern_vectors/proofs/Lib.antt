@@ -1,0 +1,9 @@
+pub mod Columns
+pub mod CommonColumns
+pub mod Constructors
+pub mod LastArguments
+pub mod Meets
+pub mod Nothing
+pub mod Opens
+pub mod Separate
+pub mod Staying
