@@ -9,7 +9,7 @@ use std::process::Abort;
 use std::test::Fail;
 
 /// One more than the greatest free variable, or 0.
-pub(crate) fn free_of(t: &Term) -> u64
+fn free_of(t: &Term) -> u64
     ensures { result ≡ tree.free_of (tree_of t.now) }
 {
     match t {
