@@ -4,6 +4,7 @@ mod clauses;
 mod devices;
 mod drafts;
 mod nesting;
+mod patterns;
 mod ports;
 mod reductions;
 mod sessions;

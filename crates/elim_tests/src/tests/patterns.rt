@@ -1,0 +1,47 @@
+// Vectors of patterns, with ample memory.
+use core_sig::{Signature, unit};
+use core_terms::{Items, Pat, Stop, Tele, Term};
+use pattern_vectors::{apart, matches, meet};
+use std::alloc::Global;
+use std::test::Fail;
+
+fn pattern(alloc: Global, pat: Pat) -> Result<Items<Pat>, Stop> {
+    let mut pats = Items::new(alloc);
+    pats.push(pat)?;
+    Ok(pats)
+}
+
+fn term(alloc: Global, t: Term) -> Result<Tele, Stop> {
+    let mut terms = Items::new(alloc);
+    terms.push(t)?;
+    Ok(terms)
+}
+
+/// The pattern that only the member of Unit.0 matches.
+fn star(alloc: Global) -> Result<Items<Pat>, Stop> {
+    pattern(alloc, Pat::Con(unit(0), 0, Items::new(alloc)))
+}
+
+#[test]
+fn unit_matches(rt: HostRuntime) -> Result<(), Fail> {
+    let alloc = rt.alloc();
+    let sig = Signature::prelude(alloc, false)?;
+    let star = star(alloc)?;
+    let whole = term(alloc, Term::Con(unit(0), 0))?;
+    assert!(rt; matches(&sig, &star, &whole));
+    assert!(rt; !apart(&sig, &star, &whole));
+    let variable = term(alloc, Term::Var(0))?;
+    assert!(rt; !matches(&sig, &star, &variable));
+    assert!(rt; !apart(&sig, &star, &variable));
+    Ok(())
+}
+
+#[test]
+fn unit_meets(rt: HostRuntime) -> Result<(), Fail> {
+    let alloc = rt.alloc();
+    let star = star(alloc)?;
+    let both = meet(alloc, &pattern(alloc, Pat::Wild)?, &star)?;
+    assert!(rt; matches!(both, Some(pats) if matches!(pats.as_slice(), [Pat::Con(_, 0, _)])));
+    assert!(rt; meet(alloc, &pattern(alloc, Pat::Absurd)?, &star)?.is_none());
+    Ok(())
+}
