@@ -1,5 +1,5 @@
 -- The laws of solutions: a solved problem is unified, and so is what a run answers.
-use Rattle.std.proofs.Common.{◌≡◌, ℕ, ◌+◌, ◌<◌, ◌≤◌, Bool, true, false, cond, nat_le, Result, Ok, Err, List, [], ◌∷◌, length, map, All, refl, ap, ap₂, sym, subst as transport, ◌∙◌, arith}
+use Rattle.std.proofs.Common.{◌≡◌, ℕ, Bool, true, false, cond, nat_le, Result, Ok, Err, List, [], ◌∷◌, length, map, All, refl, ap, ap₂, sym, subst as transport, ◌∙◌, arith}
 use Rattle.std.proofs.lemmas.List.Elements.{All-head, All-tail}
 use Rattle.theory.specs.Terms.{Term}
 use Rattle.theory.specs.Substitutions.{inst, fill}
@@ -8,20 +8,16 @@ use Rattle.theory.specs.Eliminators.{no_variable}
 use Rattle.theory.specs.Signatures.{Signature}
 use Rattle.theory.specs.SignatureScopes.{IsScoped}
 use Rattle.core_terms.specs.Answers.{and_then, are_low}
-use Rattle.core_terms.specs.CaseTrees.{Step}
-use Rattle.core_terms.specs.declared.stop.Stop.{Stop}
 use Rattle.core_terms.specs.declared.stop.Stop.TheVariants.{Deep}
 use Rattle.tele_eq.specs.Items.{Item}
 use Rattle.tele_eq.specs.TelescopicEquality.{equations}
 use Rattle.tele_eq.specs.ReflexivityLaws.{EachConverts}
 use Rattle.unification.specs.States.{State, Problem, starting}
-use Rattle.unification.specs.ScopedStates.{IsReady, IsScopedState, IsScopedProblem}
-use Rattle.unification.specs.Coherence.{IsCoherent}
-use Rattle.unification.specs.Rules.{ChainWith}
+use Rattle.unification.specs.ScopedStates.{IsScopedProblem}
 use Rattle.unification.specs.Heights.{most_places, are_low_items, bounded_items, equations_made, start_made}
 use Rattle.unification.specs.Laws.{under, SolvedIsUnified}
 use Rattle.unification.proofs.UnderInstances.{closed-bodies, inst-agree, fill-variables}
-use Rattle.unification.proofs.SolvedProblems.{IsUnifiedIn, SidesConvert, sides-at, chain-unifies, length-equations}
+use Rattle.unification.proofs.SolvedProblems.{IsUnifiedIn, sides-at, chain-unifies, length-equations}
 
 -- ---- the state from which a problem is solved
 

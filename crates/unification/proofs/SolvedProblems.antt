@@ -1,16 +1,13 @@
 -- A solved problem is unified: from the end of a chain of steps backwards, the sides of each equation convert under an
 -- instantiation, which makes the solution of a state that of the end.
-use Rattle.std.proofs.Common.{◌≡◌, ℕ, zero, suc, ◌+◌, ◌-◌, ◌<◌, ◌≤◌, IsTrue, Some, Ok, List, [], ◌∷◌, ◌++◌, length, map, take, drop, slice_get, All, refl, ap, ap₂, sym, subst as transport, ◌∙◌, arith}
+use Rattle.std.proofs.Common.{◌≡◌, ℕ, zero, suc, ◌+◌, ◌-◌, ◌<◌, Some, List, [], ◌∷◌, ◌++◌, length, map, take, drop, slice_get, refl, ap, ap₂, sym, subst as transport, ◌∙◌, arith}
 use Rattle.std.proofs.lemmas.List.{map-append, length-map}
-use Rattle.std.proofs.lemmas.List.Elements.{All-head, All-tail}
 use Rattle.theory.specs.Terms.{Term}
 use Rattle.theory.specs.Terms.Term.{Var, Con}
-use Rattle.theory.specs.Substitutions.{inst, fill}
-use Rattle.theory.specs.Telescopes.{Telescope, applied, variables}
+use Rattle.theory.specs.Substitutions.{inst}
+use Rattle.theory.specs.Telescopes.{Telescope, applied}
 use Rattle.theory.specs.Families.{Family, Constructor}
-use Rattle.theory.specs.Eliminators.{no_variable}
-use Rattle.theory.specs.Signatures.{Signature, FamilyOf, IsEntryAt, HasClosedBodies, reflexivity}
-use Rattle.theory.specs.SignatureScopes.{IsScoped}
+use Rattle.theory.specs.Signatures.{Signature, FamilyOf, HasClosedBodies, reflexivity}
 use Rattle.theory.specs.Conversion.{Converts}
 use Rattle.theory.specs.Conversion.Converts.{same}
 use Rattle.theory.proofs.Lists.{some_is}
@@ -26,9 +23,9 @@ use Rattle.tele_eq.specs.Items.{Item, each_position}
 use Rattle.tele_eq.specs.Environments.{Environment, put}
 use Rattle.tele_eq.specs.TelescopicEquality.{equations}
 use Rattle.tele_eq.specs.ReflexivityLaws.{EachConverts}
-use Rattle.unification.specs.States.{Equation, State, Problem, equations_at, starting, left_sides, right_sides}
+use Rattle.unification.specs.States.{Equation, State, equations_at, left_sides, right_sides}
 use Rattle.unification.specs.Moving.{over_first, behind, moved}
-use Rattle.unification.specs.Occurrences.{lacks, order_without}
+use Rattle.unification.specs.Occurrences.{order_without}
 use Rattle.unification.specs.Solving.{reordered, solved, solved_state, deleted_state}
 use Rattle.unification.specs.Injecting.{group_proofs, injected_state}
 use Rattle.unification.specs.Records.{items_at, argument_items, constructor_terms}
@@ -39,7 +36,7 @@ use Rattle.unification.specs.Rules.{level_of, IsFirst, IsSolvable, IsGroup, Step
 use Rattle.unification.specs.Rules.Steps.{solve_right, solve_left, inject_group, inject, delete}
 use Rattle.unification.specs.Rules.ChainWith.{none, more}
 use Rattle.unification.proofs.SolvedVariables.{solution_at, solved-is_inst, solved-agrees}
-use Rattle.unification.proofs.UnderInstances.{each-sym, each-trans, each-append, each-inst, each-applied, at_values, inst-values, values-each}
+use Rattle.unification.proofs.UnderInstances.{each-append, each-inst, each-applied, at_values, inst-values, values-each}
 
 -- the sides of each equation convert under an instantiation
 abbrev pub SidesConvert : Signature → (ℕ → Term) → List Equation → Type 0
@@ -91,7 +88,7 @@ sides-deleted S q s i A u h =
     sides-moved S q q (behind n 1 n variable (over_first n (u ∷ [])))
     (behind n 1 n variable (over_first n (reflexivity i A u ∷ []))) (λ t. t) (n + 1) n (drop 1 s.equations) (λ t. refl) h
 
-sides-at : (S : Signature) (q : ℕ → Term) (X : List Item) (types us vs : List Term) → length types ≡ length X
+pub sides-at : (S : Signature) (q : ℕ → Term) (X : List Item) (types us vs : List Term) → length types ≡ length X
     → length us ≡ length X → length vs ≡ length X → SidesConvert S q (equations_at X types us vs)
     → EachConverts S (map (inst q) us) (map (inst q) vs)
 sides-at S q [] types [] [] ht hu hv h = tt

@@ -1,11 +1,11 @@
 -- What stands for the variables behind a solution: an instantiation, by which the solved variable and the term that solves it
 -- become one term.
-use Rattle.std.proofs.Common.{◌≡◌, ℕ, zero, suc, ◌+◌, ◌-◌, ◌<◌, ◌≤◌, ◌==◌, ◌⊎◌, inl, inr, Bool, true, false, ◌||◌, not, IsTrue, nat_lt, cond, List, [], ◌∷◌, ◌++◌, length, refl, ap, sym, ◌∙◌, arith}
+use Rattle.std.proofs.Common.{◌≡◌, ℕ, zero, suc, ◌+◌, ◌-◌, ◌<◌, ◌≤◌, ◌==◌, ◌⊎◌, inl, inr, Bool, true, false, ◌||◌, IsTrue, cond, List, [], ◌∷◌, ◌++◌, length, refl, ap, sym, ◌∙◌, arith}
 use Rattle.std.proofs.lemmas.Bool.{not-true}
 use Rattle.std.proofs.lemmas.Bool.Decides.{nat_tests}
 use Rattle.theory.specs.Terms.{Term}
 use Rattle.theory.specs.Terms.Term.{Var, Sort}
-use Rattle.theory.specs.Substitutions.{ren, inst}
+use Rattle.theory.specs.Substitutions.{inst}
 use Rattle.theory.specs.Telescopes.{Telescope, weaken_by}
 use Rattle.theory.proofs.Instances.{inst-same, ren-inst}
 use Rattle.core_terms.specs.Levels.{variable}
