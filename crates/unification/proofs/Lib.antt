@@ -1,9 +1,17 @@
+pub mod BuiltTerms
+pub mod ConstructorTrials
+pub mod CycleTrials
+pub mod FirstEquations
 pub mod Puts
+pub mod Reducts
 mod Rows
 mod Samples
 pub mod SolutionLaws
+pub mod SolutionTrials
 pub mod SolvedProblems
 pub mod SolvedVariables
 mod SplitRows
 mod StateRows
+pub mod Trials
 pub mod UnderInstances
+pub mod TurnLaws

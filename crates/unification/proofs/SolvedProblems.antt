@@ -18,7 +18,6 @@ use Rattle.theory.proofs.Instantiation.{inst-applied}
 use Rattle.theory.proofs.Scopes.{length-argument_types}
 use Rattle.core_terms.specs.CaseTrees.{Step}
 use Rattle.core_terms.specs.Levels.{variable}
-use Rattle.kernel_reduce.specs.Entries.{family_in}
 use Rattle.tele_eq.specs.Items.{Item, each_position}
 use Rattle.tele_eq.specs.Environments.{Environment, put}
 use Rattle.tele_eq.specs.TelescopicEquality.{equations}
@@ -35,6 +34,7 @@ use Rattle.unification.specs.Coherence.{IsCoherent, AreMembers, targets_of}
 use Rattle.unification.specs.Rules.{level_of, IsFirst, IsSolvable, IsGroup, Steps, ChainWith}
 use Rattle.unification.specs.Rules.Steps.{solve_right, solve_left, inject_group, inject, delete}
 use Rattle.unification.specs.Rules.ChainWith.{none, more}
+use Rattle.unification.proofs.BuiltTerms.{one-family}
 use Rattle.unification.proofs.SolvedVariables.{solution_at, solved-is_inst, solved-agrees}
 use Rattle.unification.proofs.UnderInstances.{each-append, each-inst, each-applied, at_values, inst-values, values-each}
 
@@ -134,17 +134,12 @@ sides-group S q (suc k) g (d ∷ equations) last e at before h rest =
 
 -- ---- constructors
 
-same-family : (S : Signature) (b d : Built) → IsBuilt S b → IsBuilt S d → b.n ≡ d.n → b.family ≡ d.family
-same-family S b d hb hd e =
-    let there : Some (FamilyOf b.family) ≡ Some (FamilyOf d.family) = sym hb.family ∙ (ap (λ n. slice_get S.entries n) e ∙ hd.family) in
-    some_is (ap family_in (some_is there))
-
 same-constructor : (S : Signature) (b d : Built) → IsBuilt S b → IsBuilt S d → b.n ≡ d.n → b.number ≡ d.number
     → b.constructor ≡ d.constructor
 same-constructor S b d hb hd e number =
     some_is
     (sym hb.constructor
-    ∙ (ap₂ (λ (f : Family) (k : ℕ). slice_get f.constructors k) (same-family S b d hb hd e) number ∙ hd.constructor))
+    ∙ (ap₂ (λ (f : Family) (k : ℕ). slice_get f.constructors k) (one-family S b.n d.n b.family d.family hb.family hd.family e) number ∙ hd.constructor))
 
 inst-built : (q : ℕ → Term) (b : Built)
     → inst q (term_of b) ≡ applied (Con b.n b.number) (map (inst q) b.parameters ++ map (inst q) b.arguments)

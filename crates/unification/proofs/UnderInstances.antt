@@ -1,5 +1,5 @@
 -- Lists of terms that convert one by one, under instantiations and in spines.
-use Rattle.std.proofs.Common.{◌≡◌, ℕ, zero, suc, ◌+◌, ◌<◌, ◌≤◌, ◌⊎◌, inl, inr, List, [], ◌∷◌, ◌++◌, map, refl, ap, ap₂, ◌∙◌, arith}
+use Rattle.std.proofs.Common.{◌≡◌, ℕ, zero, suc, ◌+◌, ◌<◌, ◌≤◌, ◌⊎◌, inl, inr, List, [], ◌∷◌, ◌++◌, length, map, refl, ap, ap₂, ◌∙◌, arith}
 use mathlib.Core.Path.{fun_ext}
 use Rattle.theory.specs.Terms.{Term, free_of}
 use Rattle.theory.specs.Terms.Term.{Var, Pi, Lam, App, Let}
@@ -31,6 +31,17 @@ each-sym S [] [] h = tt
 each-sym S [] (u ∷ us) h = absurd h
 each-sym S (t ∷ ts) [] h = absurd h
 each-sym S (t ∷ ts) (u ∷ us) h = (converts-sym h.0, each-sym S ts us h.1)
+
+pub each-same : (S : Signature) (ts : List Term) → EachConverts S ts ts
+each-same S [] = tt
+each-same S (t ∷ ts) = (same, each-same S ts)
+
+-- there are as many of them
+pub each-length : (S : Signature) (ts us : List Term) → EachConverts S ts us → length ts ≡ length us
+each-length S [] [] h = refl
+each-length S [] (u ∷ us) h = absurd h
+each-length S (t ∷ ts) [] h = absurd h
+each-length S (t ∷ ts) (u ∷ us) h = ap suc (each-length S ts us h.1)
 
 pub each-trans : (S : Signature) (ts us vs : List Term) → EachConverts S ts us → EachConverts S us vs → EachConverts S ts vs
 each-trans S [] [] [] h k = tt
