@@ -1,5 +1,5 @@
 -- Terms that are found to be constructors with all their arguments are built so.
-use Rattle.std.proofs.Common.{◌≡◌, ℕ, ◌+◌, ◌-◌, ◌≤◌, ◌==◌, min, Bool, true, false, cond, Option, Some, None, option_and_then, List, ◌++◌, length, take, drop, slice_get, refl, ap, sym, subst as transport, ◌∙◌, arith}
+use Rattle.std.proofs.Common.{◌≡◌, ℕ, ◌+◌, ◌==◌, Bool, true, false, cond, Option, Some, None, option_and_then, List, length, take, drop, slice_get, refl, ap, sym, subst as transport, ◌∙◌, arith}
 use Rattle.std.proofs.lemmas.Bool.Decides.{nat_tests}
 use Rattle.std.proofs.lemmas.List.{take-append-drop, length-take, length-drop}
 use Rattle.theory.specs.Terms.{Term}

@@ -1,5 +1,5 @@
 -- A trial of injectivity and conflict follows the rules: for constructors on both sides of an equation, and for the first equation.
-use Rattle.std.proofs.Common.{◌≡◌, ◌≢◌, ℕ, ◌≤◌, ◌==◌, nat_le, Bool, true, false, cond, Option, Some, None, IfSome, Result, Ok, Err, List, [], ◌∷◌, length, refl, ap, sym, subst as transport, subst₂, ◌∙◌, arith}
+use Rattle.std.proofs.Common.{◌≡◌, ◌≢◌, ℕ, ◌≤◌, ◌==◌, Bool, true, false, cond, Option, Some, None, IfSome, Ok, List, [], ◌∷◌, length, refl, ap, sym, subst as transport, subst₂, ◌∙◌, arith}
 use Rattle.std.proofs.lemmas.Bool.Decides.{nat_tests}
 use Rattle.theory.specs.Terms.{Term}
 use Rattle.theory.specs.Families.{Family, Constructor}
@@ -8,13 +8,12 @@ use Rattle.theory.specs.SignatureScopes.{IsScoped, IsScopedSignature}
 use Rattle.theory.specs.Conversion.{Converts}
 use Rattle.theory.specs.Conversion.Converts.{same}
 use Rattle.core_terms.specs.Answers.{bounded_terms}
-use Rattle.core_terms.specs.CaseTrees.{Step}
 use Rattle.core_terms.specs.declared.stop.Stop.TheVariants.{Deep}
 use Rattle.core_terms.proofs.Answers.{Answers, and_next-has}
-use Rattle.kernel_reduce.specs.Reduction.{answered, whnf_of}
+use Rattle.kernel_reduce.specs.Reduction.{whnf_of}
 use Rattle.unification.specs.Built.{Built, term_of, built_of, greatest_level, is_fitting, has_no_indices}
-use Rattle.unification.specs.Constructors.{where_fits, both_heads, right_head, heads, with_built, with_heads, on_constructors, conflict_step, injection_step, same_constructor, constructor_turn, constructor_trial}
-use Rattle.unification.specs.Heights.{injected_made, injection_made, equations_made, group_made, bounded_state}
+use Rattle.unification.specs.Constructors.{where_fits, both_heads, right_head, heads, with_built, with_heads, on_constructors, conflict_step, injection_step, constructor_turn, constructor_trial}
+use Rattle.unification.specs.Heights.{injected_made, injection_made, equations_made, group_made}
 use Rattle.unification.specs.Injecting.{injected_equations, injected_state}
 use Rattle.unification.specs.Laws.{Follows}
 use Rattle.unification.specs.Records.{argument_items, constructor_terms}
@@ -22,7 +21,7 @@ use Rattle.unification.specs.Rules.{Steps, IsAbsurd}
 use Rattle.unification.specs.Rules.Steps.{inject}
 use Rattle.unification.specs.Rules.IsAbsurd.{conflict}
 use Rattle.unification.specs.States.{Equation, State}
-use Rattle.unification.specs.Turns.{Turn, Trial, does_not_apply, type_in}
+use Rattle.unification.specs.Turns.{Trial, type_in}
 use Rattle.unification.proofs.BuiltTerms.{IsBuiltTerm, built-is, equal-numbers}
 use Rattle.unification.proofs.FirstEquations.{IsAtHead, first-as}
 use Rattle.unification.proofs.Reducts.{IsReduct, whnf-reduct}

@@ -1,14 +1,12 @@
 -- A trial of the rule of cycles follows the rules: a variable that is found stands below constructors.
-use Rattle.std.proofs.Common.{◌≡◌, ℕ, zero, suc, ◌+◌, ◌≤◌, ◌⊎◌, inl, inr, ◌==◌, nat_lt, Bool, true, false, cond, ◌&&◌, IsTrue, Option, Some, None, option_map, IfSome, Result, Ok, Err, IfOk, List, [], ◌∷◌, ◌++◌, length, slice_get, refl, ap, sym, subst as transport, ◌∙◌, arith}
+use Rattle.std.proofs.Common.{◌≡◌, ℕ, zero, suc, ◌≤◌, ◌⊎◌, inl, inr, ◌==◌, nat_lt, Bool, true, false, cond, IsTrue, Option, Some, None, option_map, IfSome, Ok, IfOk, List, [], ◌∷◌, ◌++◌, length, slice_get, refl, ap, sym, subst as transport, ◌∙◌, arith}
 use Rattle.theory.specs.Terms.{Term, height}
 use Rattle.theory.specs.Terms.Term.{Var, Con}
-use Rattle.theory.specs.Telescopes.{applied}
 use Rattle.theory.specs.Families.{Argument, Family}
 use Rattle.theory.specs.Signatures.{Signature, FamilyOf, IsEntryAt}
 use Rattle.theory.specs.Conversion.{Converts}
 use Rattle.theory.specs.Conversion.Converts.{same}
 use Rattle.theory.proofs.Congruence.{converts-trans}
-use Rattle.theory.proofs.Lists.{some_is}
 use Rattle.core_terms.specs.Answers.{and_next}
 use Rattle.core_terms.specs.CaseTrees.{Step}
 use Rattle.core_terms.proofs.Answers.{Answers, and_next-has}
@@ -20,7 +18,7 @@ use Rattle.tele_eq.specs.ReflexivityLaws.{EachConverts}
 use Rattle.unification.specs.Built.{Built, built_of, is_direct, is_fitting, has_no_indices, greatest_level}
 use Rattle.unification.specs.Cycles.{Search, not_found, found_as, here_or, Below, among_arguments, with_arguments, is_variable, below_constructor, in_form, by_less, no_argument, by_room, by_units, search_in, is_acyclic, bounded_found, reduced_side, cycle_at, cycle_search, cycle_step, left_variable, right_variable, left_constructor, left_form, cycle_trial}
 use Rattle.unification.specs.Laws.{Follows}
-use Rattle.unification.specs.Paths.{IsBuilt, IsArgument, HasBelow}
+use Rattle.unification.specs.Paths.{IsArgument, HasBelow}
 use Rattle.unification.specs.Paths.HasBelow.{there, further}
 use Rattle.unification.specs.Rules.{IsAbsurd}
 use Rattle.unification.specs.Rules.IsAbsurd.{cycle_left, cycle_right}
@@ -32,7 +30,7 @@ use Rattle.unification.proofs.ConstructorTrials.{fitting-level, no-indices}
 use Rattle.unification.proofs.FirstEquations.{IsAtHead, first-as}
 use Rattle.unification.proofs.Reducts.{IsReduct, whnf-reduct}
 use Rattle.unification.proofs.SolutionTrials.{variable-is}
-use Rattle.unification.proofs.Trials.{TrialFollows, fails_at-follows, cond-follows}
+use Rattle.unification.proofs.Trials.{TrialFollows, fails_at-follows}
 use Rattle.unification.proofs.UnderInstances.{each-append, each-applied, each-same, each-length}
 
 -- ---- what is found

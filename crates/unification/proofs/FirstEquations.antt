@@ -1,10 +1,9 @@
 -- The first equation of a scoped state.
-use Rattle.std.proofs.Common.{◌≡◌, ℕ, ◌+◌, List, [], ◌∷◌, length, refl, ap, sym, subst as transport, ◌∙◌, arith}
+use Rattle.std.proofs.Common.{◌≡◌, ◌+◌, List, ◌∷◌, length, sym, subst as transport, arith}
 use Rattle.theory.specs.Terms.{Term}
 use Rattle.theory.specs.Signatures.{Signature, equation}
 use Rattle.theory.specs.SignatureScopes.{IsScoped, IsScopedSignature}
 use Rattle.theory.specs.Conversion.{Converts}
-use Rattle.theory.specs.Conversion.Converts.{same}
 use Rattle.theory.proofs.ScopedTerms.{scoped-app}
 use Rattle.unification.specs.Rules.{HasType, IsFirst}
 use Rattle.unification.specs.ScopedStates.{HasForm, IsScopedEquation}

@@ -2,6 +2,8 @@ pub mod BuiltTerms
 pub mod ConstructorTrials
 pub mod CycleTrials
 pub mod FirstEquations
+pub mod GroupTrials
+pub mod Memberships
 pub mod Puts
 pub mod Reducts
 mod Rows
@@ -13,5 +15,5 @@ pub mod SolvedVariables
 mod SplitRows
 mod StateRows
 pub mod Trials
-pub mod UnderInstances
 pub mod TurnLaws
+pub mod UnderInstances

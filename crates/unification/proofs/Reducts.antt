@@ -1,15 +1,14 @@
 -- What reduction answers: terms that the given ones convert to, scoped where those are.
-use Rattle.std.proofs.Common.{◌≡◌, ℕ, Bool, true, false, Result, Ok, Err, IfOk, Option, Some, None, IfSome, IsTrue, ◌≤◌, refl, arith}
+use Rattle.std.proofs.Common.{ℕ, Bool, Result, Ok, Err, IfOk, ◌≤◌}
 use Rattle.theory.specs.Terms.{Term, height}
 use Rattle.theory.specs.Signatures.{Signature}
 use Rattle.theory.specs.SignatureScopes.{IsScoped, IsScopedSignature}
 use Rattle.theory.specs.Conversion.{Converts}
 use Rattle.core_terms.specs.Bounds.{most_height}
 use Rattle.core_terms.specs.declared.stop.Stop.{Stop}
-use Rattle.core_terms.proofs.Answers.{Answers, and_next-has}
+use Rattle.core_terms.proofs.Answers.{Answers}
 use Rattle.kernel_reduce.specs.Laws.{IsHeadForm}
-use Rattle.kernel_reduce.specs.Reduction.{nesting, whnf_of, normal_of}
-use Rattle.kernel_reduce.specs.Tidying.{tidy_of}
+use Rattle.kernel_reduce.specs.Reduction.{whnf_of, normal_of}
 use Rattle.kernel_reduce.proofs.ReductionLaws.{whnf-is_head_form, normal-converts}
 use Rattle.kernel_reduce.proofs.ScopedReduction.{whnf-scoped, normal-scoped}
 

@@ -1,5 +1,5 @@
 -- A trial of the rule of solution is a step of the rules, where it goes on.
-use Rattle.std.proofs.Common.{◌≡◌, ℕ, ◌+◌, ◌-◌, ◌<◌, ◌≤◌, Bool, true, false, cond, Option, Some, None, IfSome, Result, Ok, Err, IfOk, length, refl, ap, sym, subst as transport, ◌∙◌, arith}
+use Rattle.std.proofs.Common.{◌≡◌, ℕ, ◌+◌, ◌-◌, ◌<◌, ◌≤◌, Bool, true, false, cond, Option, Some, None, IfSome, Ok, IfOk, length, refl, ap, sym, subst as transport, arith}
 use Rattle.theory.specs.Terms.{Term, free_of}
 use Rattle.theory.specs.Terms.Term.{Var}
 use Rattle.theory.specs.Signatures.{Signature}
@@ -16,15 +16,15 @@ use Rattle.kernel_reduce.specs.Reduction.{answered, nesting, normal_of}
 use Rattle.kernel_reduce.specs.Tidying.{tidy_of}
 use Rattle.unification.specs.Heights.{bounded_state}
 use Rattle.unification.specs.Laws.{Follows}
-use Rattle.unification.specs.Rules.{Steps, IsSolvable, level_of}
+use Rattle.unification.specs.Rules.{Steps, level_of}
 use Rattle.unification.specs.Rules.Steps.{solve_right, solve_left}
 use Rattle.unification.specs.Solutions.{variable_in, is_free_of, if_free, solution_from, solves, state_solved, side_solved, turn_by, solve_side, right_step, left_step, solve_sides, with_variable, solution_trial}
 use Rattle.unification.specs.Solving.{solved_state}
 use Rattle.unification.specs.States.{Equation, State}
-use Rattle.unification.specs.Turns.{Turn, type_in}
+use Rattle.unification.specs.Turns.{type_in}
 use Rattle.unification.proofs.FirstEquations.{IsAtHead, type-scoped, first-as}
 use Rattle.unification.proofs.Reducts.{IsReduct, whnf-reduct, normal-reduct}
-use Rattle.unification.proofs.SolutionLaws.{ok_is, test-ok}
+use Rattle.unification.proofs.SolutionLaws.{test-ok}
 use Rattle.unification.proofs.Trials.{TrialFollows, or_else-follows, on_tidied-follows}
 
 pub variable-is : (t : Term) (x : ℕ) → variable_in t ≡ Some x → t ≡ Var x

@@ -7,7 +7,7 @@ use Rattle.theory.specs.Terms.Term.{Var, Con}
 use Rattle.theory.specs.Substitutions.{inst}
 use Rattle.theory.specs.Telescopes.{Telescope, applied}
 use Rattle.theory.specs.Families.{Family, Constructor}
-use Rattle.theory.specs.Signatures.{Signature, FamilyOf, HasClosedBodies, reflexivity}
+use Rattle.theory.specs.Signatures.{Signature, HasClosedBodies, reflexivity}
 use Rattle.theory.specs.Conversion.{Converts}
 use Rattle.theory.specs.Conversion.Converts.{same}
 use Rattle.theory.proofs.Lists.{some_is}
@@ -159,7 +159,8 @@ built-converts S q b d e number hp ha =
     (transport (Converts S (Con b.n b.number)) (ap₂ Con e number) same)
     (each-append S (map (inst q) b.parameters) (map (inst q) d.parameters) (map (inst q) b.arguments) (map (inst q) d.arguments) hp ha)))
 
-length-items_at : (tele : Telescope) (levels : List ℕ) → length tele ≡ length levels → length (items_at tele levels) ≡ length tele
+-- as many items as types
+pub length-items_at : (tele : Telescope) (levels : List ℕ) → length tele ≡ length levels → length (items_at tele levels) ≡ length tele
 length-items_at [] levels e = refl
 length-items_at (a ∷ tele) [] e = absurd (omega arith)
 length-items_at (a ∷ tele) (i ∷ levels) e = ap suc (length-items_at tele levels (omega arith))

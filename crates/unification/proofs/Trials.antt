@@ -1,5 +1,5 @@
 -- Trials whose turns follow the rules, and what is made of such trials.
-use Rattle.std.proofs.Common.{◌≡◌, ℕ, Bool, true, false, cond, Option, Some, None, IfSome, Result, Ok, Err, IfOk, refl, arith}
+use Rattle.std.proofs.Common.{◌≡◌, ℕ, Bool, true, false, cond, Option, Some, None, IfSome, Result, Ok, Err, refl}
 use Rattle.theory.specs.Terms.{Term}
 use Rattle.theory.specs.Signatures.{Signature}
 use Rattle.theory.specs.SignatureScopes.{IsScoped, IsScopedSignature}
@@ -9,7 +9,7 @@ use Rattle.core_terms.specs.CaseTrees.{Step}
 use Rattle.core_terms.specs.declared.stop.Stop.{Stop}
 use Rattle.core_terms.proofs.Answers.{Answers, and_next-has}
 use Rattle.kernel_reduce.specs.Tidying.{tidy_of}
-use Rattle.unification.specs.Laws.{Shows, Follows}
+use Rattle.unification.specs.Laws.{Follows}
 use Rattle.unification.specs.Rules.{Steps, IsAbsurd}
 use Rattle.unification.specs.States.{State}
 use Rattle.unification.specs.Turns.{Turn, Trial, tidied, on_tidied, goes_to, fails_at, sticks_at, or_else, unless_found}

@@ -1,9 +1,85 @@
--- The law of turns: each follows the rules.
-use Rattle.std.proofs.Common.{◌≡◌, ℕ}
-use Rattle.unification.specs.Laws.{TurnFollows}
-use Rattle.unification.proofs.SolutionTrials.{solution-follows}
+-- The law of turns: a turn that goes on is a step of the rules, and one that fails has the evidence of a rule.
+use Rattle.std.proofs.Common.{◌≡◌, Bool, true, false, IsTrue, IfSome, List, [], ◌∷◌, length, refl, subst as transport}
+use Rattle.theory.specs.Signatures.{Signature}
+use Rattle.theory.specs.Conversion.{Converts}
+use Rattle.theory.proofs.Congruence.{converts-trans, converts-sym}
+use Rattle.core_terms.specs.declared.stop.Stop.TheVariants.{Deep}
+use Rattle.core_terms.proofs.Answers.{and_next-has}
+use Rattle.kernel_reduce.specs.Comparison.{convertible_of}
+use Rattle.kernel_reduce.specs.Reduction.{nesting}
+use Rattle.kernel_reduce.specs.Tidying.{tidy_of}
+use Rattle.kernel_reduce.proofs.ComparisonLaws.{convertible-converts}
+use Rattle.unification.specs.Deletions.{deletion_step, delete, if_convertible, deletion_trial}
+use Rattle.unification.specs.Laws.{Follows, TurnFollows}
+use Rattle.unification.specs.Rules.{Steps}
+use Rattle.unification.specs.Rules.Steps.{delete as deleted}
+use Rattle.unification.specs.ScopedStates.{IsReady, IsScopedState, AreScopedEquations}
+use Rattle.unification.specs.States.{Equation, State}
+use Rattle.unification.specs.Sticking.{stuck_trial}
+use Rattle.unification.specs.Strategy.{first_trials, trials}
+use Rattle.unification.specs.Turns.{type_in}
+use Rattle.unification.specs.declared.why.Why.TheVariants.{NeedsK}
 use Rattle.unification.proofs.ConstructorTrials.{constructor-follows}
 use Rattle.unification.proofs.CycleTrials.{cycle-follows}
+use Rattle.unification.proofs.FirstEquations.{IsAtHead, type-scoped, first-as}
+use Rattle.unification.proofs.GroupTrials.{groups-follow}
+use Rattle.unification.proofs.Reducts.{IsReduct, whnf-reduct}
+use Rattle.unification.proofs.SolutionLaws.{test-ok}
+use Rattle.unification.proofs.SolutionTrials.{solution-follows}
+use Rattle.unification.proofs.Trials.{TrialFollows, or_else-follows, cond-follows, goes_to-follows, on_tidied-follows, sticks_at-follows}
 
+-- ---- deletion
+
+delete-follows : (S : Signature) (s : State) (e : Equation) → IsAtHead S s e → IsTrue S.has_k → Converts S e.left e.right
+    → TrialFollows S s (delete S s e)
+delete-follows S s e head on converts left =
+    and_next-has (IsReduct S (length s.context) (type_in e.type)) (λ turn. IfSome turn (Follows S s)) (tidy_of S left (type_in e.type)) _
+    (whnf-reduct S false (length s.context) left (type_in e.type) head.signature (type-scoped S s e head))
+    (λ A rest hA.
+    on_tidied-follows S s (length s.context) e.left e.right _ head.signature head.scoped.left head.scoped.right
+    (λ u v hu hv. goes_to-follows S s (deletion_step A u v) _
+    (λ t made. transport (Steps S s (deletion_step A u v)) (test-ok _ _ t Deep made)
+    (deleted s e A u v on (first-as S s e A u v head hA.converts hu.converts hv.converts)
+    (converts-trans (converts-sym hu.converts) (converts-trans converts hv.converts)))))
+    rest)
+
+deletion-follows : (S : Signature) (s : State) (e : Equation) → IsAtHead S s e → TrialFollows S s (deletion_trial S s e)
+deletion-follows S s e head left =
+    and_next-has (λ holds. IsTrue holds → Converts S e.left e.right) (λ turn. IfSome turn (Follows S s)) (convertible_of S nesting e.left e.right left)
+    _ (convertible-converts S nesting e.left e.right left) (λ holds rest h. by holds h rest)
+  where
+    by : (holds : Bool) → (IsTrue holds → Converts S e.left e.right) → TrialFollows S s (if_convertible S s e holds)
+    by true h =
+        cond-follows S s S.has_k _ _ (λ on. delete-follows S s e head on (h refl))
+        (λ off. sticks_at-follows S s (length s.context) NeedsK e.left e.right head.signature head.scoped.left head.scoped.right)
+    by false h = λ left. tt
+
+-- ---- all trials
+
+stuck-follows : (S : Signature) (s : State) (e : Equation) → IsAtHead S s e → TrialFollows S s (stuck_trial S e)
+stuck-follows S s e head =
+    on_tidied-follows S s (length s.context) e.left e.right _ head.signature head.scoped.left head.scoped.right (λ u v hu hv left. tt)
+
+first-follow : (S : Signature) (s : State) (e : Equation) → IsAtHead S s e → TrialFollows S s (first_trials S s e)
+first-follow S s e head =
+    or_else-follows S s _ _ (solution-follows S s e head)
+    (or_else-follows S s _ _ (constructor-follows S s e head)
+    (or_else-follows S s _ _ (cycle-follows S s e head)
+    (or_else-follows S s _ _ (deletion-follows S s e head) (stuck-follows S s e head))))
+
+trials-follow : (S : Signature) (s : State) → IsReady S → IsScopedState S s → (equations : List Equation) → s.equations ≡ equations
+    → TrialFollows S s (trials S s equations)
+trials-follow S s ready scoped [] is = λ left. tt
+trials-follow S s ready scoped (e ∷ rest) is =
+    or_else-follows S s _ _ (groups-follow S s ready.scoped scoped.equations (length rest))
+    (first-follow S s e
+    (record {
+      signature = ready.scoped;
+      rest = rest;
+      first = is;
+      scoped = (transport (AreScopedEquations S (length s.context) 0) is scoped.equations).0;
+    }))
+
+-- a turn follows the rules
 pub turn_follows : TurnFollows
-turn_follows = ?
+turn_follows S s left ready scoped = trials-follow S s ready scoped s.equations refl left
