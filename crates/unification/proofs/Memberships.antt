@@ -20,7 +20,7 @@ use Rattle.unification.specs.Built.{greatest_level, is_fitting}
 use Rattle.unification.specs.Groups.{are_nearest, has_nearest, have_nearest, lowered, Membership, with_places, membership_with, membership_of}
 use Rattle.unification.specs.Injecting.{lifted}
 use Rattle.unification.proofs.BuiltTerms.{next-some, test-some, equal-numbers}
-use Rattle.unification.proofs.ConstructorTrials.{fitting-level}
+use Rattle.unification.proofs.FollowingConstructors.{fitting-level}
 
 -- ---- variables that are not in a term
 

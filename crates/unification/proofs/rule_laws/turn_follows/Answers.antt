@@ -1,4 +1,4 @@
-use Rattle.unification.proofs.TurnLaws.{turn_follows}
+use Rattle.unification.proofs.FollowingTurns.{turn_follows}
 use Rattle.unification.proofs.rule_laws.turn_follows.Goals as goal
 
 pub returns : goal.returns

@@ -12,22 +12,27 @@ use Rattle.kernel_reduce.specs.Tidying.{tidy_of}
 use Rattle.unification.specs.Laws.{Follows}
 use Rattle.unification.specs.Rules.{Steps, IsAbsurd}
 use Rattle.unification.specs.States.{State}
-use Rattle.unification.specs.Turns.{Turn, Trial, tidied, on_tidied, goes_to, fails_at, sticks_at, or_else, unless_found}
+use Rattle.unification.specs.Turns.{Turn, Done, Trial, tidied, on_tidied, goes_to, fails_at, sticks_at, or_else, unless_found}
 use Rattle.unification.specs.declared.why.Why.{Why}
 use Rattle.unification.proofs.Reducts.{IsReduct, whnf-reduct}
 
+-- a turn that follows the rules in a state with an equation: it does not say that the state is solved
+abbrev pub FollowsOn : Signature → State → Turn → Type 0
+FollowsOn S s Done = ⊥
+FollowsOn S s turn = Follows S s turn
+
 -- where the trial answers a turn, this follows the rules
 abbrev pub TrialFollows : Signature → State → Trial → Type 0
-TrialFollows S s trial = (left : ℕ) → Answers (λ turn. IfSome turn (Follows S s)) (trial left)
+TrialFollows S s trial = (left : ℕ) → Answers (λ turn. IfSome turn (FollowsOn S s)) (trial left)
 
 -- one trial, and else a second one
 pub or_else-follows : (S : Signature) (s : State) (first second : Trial) → TrialFollows S s first → TrialFollows S s second
     → TrialFollows S s (or_else first second)
 or_else-follows S s first second h k left =
-    and_next-has (λ turn. IfSome turn (Follows S s)) (λ turn. IfSome turn (Follows S s)) (first left) (λ turn rest. unless_found turn second rest)
+    and_next-has (λ turn. IfSome turn (FollowsOn S s)) (λ turn. IfSome turn (FollowsOn S s)) (first left) (λ turn rest. unless_found turn second rest)
     (h left) by
   where
-    by : (turn : Option Turn) (rest : ℕ) → IfSome turn (Follows S s) → Answers (λ turn. IfSome turn (Follows S s)) (unless_found turn second rest)
+    by : (turn : Option Turn) (rest : ℕ) → IfSome turn (FollowsOn S s) → Answers (λ turn. IfSome turn (FollowsOn S s)) (unless_found turn second rest)
     by (Some turn) rest found = found
     by None rest found = k rest
 
@@ -57,7 +62,7 @@ pub on_tidied-follows : (S : Signature) (s : State) (n : ℕ) (u v : Term) (go :
     → IsScoped S n v → ((u' v' : Term) → IsReduct S n u u' → IsReduct S n v v' → TrialFollows S s (go u' v'))
     → TrialFollows S s (on_tidied S u v go)
 on_tidied-follows S s n u v go closed hu hv h left =
-    and_next-has (λ sides. IsReduct S n u sides.0 × IsReduct S n v sides.1) (λ turn. IfSome turn (Follows S s)) (tidied S u v left) _
+    and_next-has (λ sides. IsReduct S n u sides.0 × IsReduct S n v sides.1) (λ turn. IfSome turn (FollowsOn S s)) (tidied S u v left) _
     (tidied-reduct S n u v closed hu hv left) (λ sides rest k. h sides.0 sides.1 k.0 k.1 rest)
 
 -- an absurd end, whose sides the shown ones convert to

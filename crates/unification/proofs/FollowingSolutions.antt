@@ -15,7 +15,6 @@ use Rattle.core_terms.proofs.Answers.{Answers, and_next-has, and_then-is}
 use Rattle.kernel_reduce.specs.Reduction.{answered, nesting, normal_of}
 use Rattle.kernel_reduce.specs.Tidying.{tidy_of}
 use Rattle.unification.specs.Heights.{bounded_state}
-use Rattle.unification.specs.Laws.{Follows}
 use Rattle.unification.specs.Rules.{Steps, level_of}
 use Rattle.unification.specs.Rules.Steps.{solve_right, solve_left}
 use Rattle.unification.specs.Solutions.{variable_in, is_free_of, if_free, solution_from, solves, state_solved, side_solved, turn_by, solve_side, right_step, left_step, solve_sides, with_variable, solution_trial}
@@ -25,7 +24,7 @@ use Rattle.unification.specs.Turns.{type_in}
 use Rattle.unification.proofs.FirstEquations.{IsAtHead, type-scoped, first-as}
 use Rattle.unification.proofs.Reducts.{IsReduct, whnf-reduct, normal-reduct}
 use Rattle.unification.proofs.SolutionLaws.{test-ok}
-use Rattle.unification.proofs.Trials.{TrialFollows, or_else-follows, on_tidied-follows}
+use Rattle.unification.proofs.FollowingTrials.{FollowsOn, TrialFollows, or_else-follows, on_tidied-follows}
 
 pub variable-is : (t : Term) (x : ℕ) → variable_in t ≡ Some x → t ≡ Var x
 variable-is (Var y) x e = ap Var (some_is e)
@@ -93,10 +92,10 @@ solve_side-follows : (S : Signature) (s : State) (e : Equation) (A other : Term)
     → TrialFollows S s (solve_side S s e A other step found)
 solve_side-follows S s e A other step None closed scoped steps left = tt
 solve_side-follows S s e A other step (Some x) closed scoped steps left =
-    and_next-has (IsStepBy S s (step x)) (λ turn. IfSome turn (Follows S s)) (side_solved S s e x A other left) _
+    and_next-has (IsStepBy S s (step x)) (λ turn. IfSome turn (FollowsOn S s)) (side_solved S s e x A other left) _
     (side_solved-has S s e x A other (step x) closed scoped (steps x refl) left) (λ found rest h. turn found h)
   where
-    turn : (found : Option (Term × State)) → IsStepBy S s (step x) found → IfSome (turn_by (step x) found) (Follows S s)
+    turn : (found : Option (Term × State)) → IsStepBy S s (step x) found → IfSome (turn_by (step x) found) (FollowsOn S s)
     turn None h = tt
     turn (Some pair) h = h
 
@@ -138,9 +137,9 @@ with_variable-follows : (S : Signature) (s : State) (e : Equation) (u v : Term) 
     → TrialFollows S s (with_variable S s e u v from_left from_right)
 with_variable-follows S s e u v from_left from_right head hu hv = by from_left from_right
   where
-    reduced : (left : ℕ) → Answers (λ turn. IfSome turn (Follows S s)) (and_next (tidy_of S left (type_in e.type)) (λ A rest. solve_sides S s e A u v rest))
+    reduced : (left : ℕ) → Answers (λ turn. IfSome turn (FollowsOn S s)) (and_next (tidy_of S left (type_in e.type)) (λ A rest. solve_sides S s e A u v rest))
     reduced left =
-        and_next-has (IsReduct S (length s.context) (type_in e.type)) (λ turn. IfSome turn (Follows S s)) (tidy_of S left (type_in e.type)) _
+        and_next-has (IsReduct S (length s.context) (type_in e.type)) (λ turn. IfSome turn (FollowsOn S s)) (tidy_of S left (type_in e.type)) _
         (whnf-reduct S false (length s.context) left (type_in e.type) head.signature (type-scoped S s e head))
         (λ A rest h. solve_sides-follows S s e A u v head h.converts hu hv rest)
 

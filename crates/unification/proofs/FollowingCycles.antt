@@ -17,7 +17,6 @@ use Rattle.kernel_reduce.proofs.ReductionLaws.{whnf-is_head_form, some_bounded-h
 use Rattle.tele_eq.specs.ReflexivityLaws.{EachConverts}
 use Rattle.unification.specs.Built.{Built, built_of, is_direct, is_fitting, has_no_indices, greatest_level}
 use Rattle.unification.specs.Cycles.{Search, not_found, found_as, here_or, Below, among_arguments, with_arguments, is_variable, below_constructor, in_form, by_less, no_argument, by_room, by_units, search_in, is_acyclic, bounded_found, reduced_side, cycle_at, cycle_search, cycle_step, left_variable, right_variable, left_constructor, left_form, cycle_trial}
-use Rattle.unification.specs.Laws.{Follows}
 use Rattle.unification.specs.Paths.{IsArgument, HasBelow}
 use Rattle.unification.specs.Paths.HasBelow.{there, further}
 use Rattle.unification.specs.Rules.{IsAbsurd}
@@ -26,11 +25,11 @@ use Rattle.unification.specs.Solutions.{variable_in}
 use Rattle.unification.specs.States.{Equation, State}
 use Rattle.unification.specs.Turns.{does_not_apply, type_in}
 use Rattle.unification.proofs.BuiltTerms.{IsBuiltTerm, built-is, equal-numbers, one-family}
-use Rattle.unification.proofs.ConstructorTrials.{fitting-level, no-indices}
+use Rattle.unification.proofs.FollowingConstructors.{fitting-level, no-indices}
 use Rattle.unification.proofs.FirstEquations.{IsAtHead, first-as}
 use Rattle.unification.proofs.Reducts.{IsReduct, whnf-reduct}
-use Rattle.unification.proofs.SolutionTrials.{variable-is}
-use Rattle.unification.proofs.Trials.{TrialFollows, fails_at-follows}
+use Rattle.unification.proofs.FollowingSolutions.{variable-is}
+use Rattle.unification.proofs.FollowingTrials.{FollowsOn, TrialFollows, fails_at-follows}
 use Rattle.unification.proofs.UnderInstances.{each-append, each-applied, each-same, each-length}
 
 -- ---- what is found
@@ -288,7 +287,7 @@ cycle_search-follows : (S : Signature) (s : State) (e : Equation) → IsAtHead S
     → ((w : Term) → IsOnWay S x t w → IsAbsurd S s (step w) × Converts S e.left (step w).left × Converts S e.right (step w).right)
     → TrialFollows S s (cycle_search S e x step t)
 cycle_search-follows S s e head x step t steps left =
-    and_next-has (λ found. IfSome found (IsOnWay S x t)) (λ turn. IfSome turn (Follows S s)) (reduced_side S x t (built_of S t) left) _
+    and_next-has (λ found. IfSome found (IsOnWay S x t)) (λ turn. IfSome turn (FollowsOn S s)) (reduced_side S x t (built_of S t) left) _
     (reduced-has S x t (built_of S t) refl left) (λ found rest h. by found h rest)
   where
     by : (found : Option Term) → IfSome found (IsOnWay S x t) → TrialFollows S s (cycle_at S e step found)
@@ -301,7 +300,7 @@ cycle_search-follows S s e head x step t steps left =
 left_variable-follows : (S : Signature) (s : State) (e : Equation) → IsAtHead S s e → (x : ℕ) → Converts S e.left (Var x)
     → TrialFollows S s (left_variable S e x)
 left_variable-follows S s e head x variable left =
-    and_next-has (IsReduct S (length s.context) e.right) (λ turn. IfSome turn (Follows S s)) (whnf_of S true left e.right) _
+    and_next-has (IsReduct S (length s.context) e.right) (λ turn. IfSome turn (FollowsOn S s)) (whnf_of S true left e.right) _
     (whnf-reduct S true (length s.context) left e.right head.signature head.scoped.right)
     (λ r rest hr. cycle_search-follows S s e head x (λ v. cycle_step e x (Var x) v) r
     (λ w h.
@@ -328,10 +327,10 @@ left_constructor-follows S s e head l hl None left = tt
 left_constructor-follows S s e head l hl (Some b) left = by (is_acyclic b)
   where
     by : (c : Bool)
-        → Answers (λ turn. IfSome turn (Follows S s))
+        → Answers (λ turn. IfSome turn (FollowsOn S s))
         (cond c (and_next (whnf_of S true left e.right) (λ r rest. right_variable S e l (variable_in r) rest)) (does_not_apply left))
     by true =
-        and_next-has (IsReduct S (length s.context) e.right) (λ turn. IfSome turn (Follows S s)) (whnf_of S true left e.right) _
+        and_next-has (IsReduct S (length s.context) e.right) (λ turn. IfSome turn (FollowsOn S s)) (whnf_of S true left e.right) _
         (whnf-reduct S true (length s.context) left e.right head.signature head.scoped.right)
         (λ r rest hr. right_variable-follows S s e head l r hl hr.converts (variable_in r) refl rest)
     by false = tt
@@ -345,6 +344,6 @@ left_form-follows S s e head l hl (Some x) is =
 -- the trial follows the rules
 pub cycle-follows : (S : Signature) (s : State) (e : Equation) → IsAtHead S s e → TrialFollows S s (cycle_trial S e)
 cycle-follows S s e head left =
-    and_next-has (IsReduct S (length s.context) e.left) (λ turn. IfSome turn (Follows S s)) (whnf_of S true left e.left) _
+    and_next-has (IsReduct S (length s.context) e.left) (λ turn. IfSome turn (FollowsOn S s)) (whnf_of S true left e.left) _
     (whnf-reduct S true (length s.context) left e.left head.signature head.scoped.left)
     (λ l rest hl. left_form-follows S s e head l hl.converts (variable_in l) refl rest)

@@ -15,7 +15,6 @@ use Rattle.unification.specs.Built.{Built, term_of, built_of, greatest_level, is
 use Rattle.unification.specs.Constructors.{where_fits, both_heads, right_head, heads, with_built, with_heads, on_constructors, conflict_step, injection_step, constructor_turn, constructor_trial}
 use Rattle.unification.specs.Heights.{injected_made, injection_made, equations_made, group_made}
 use Rattle.unification.specs.Injecting.{injected_equations, injected_state}
-use Rattle.unification.specs.Laws.{Follows}
 use Rattle.unification.specs.Records.{argument_items, constructor_terms}
 use Rattle.unification.specs.Rules.{Steps, IsAbsurd}
 use Rattle.unification.specs.Rules.Steps.{inject}
@@ -26,7 +25,7 @@ use Rattle.unification.proofs.BuiltTerms.{IsBuiltTerm, built-is, equal-numbers}
 use Rattle.unification.proofs.FirstEquations.{IsAtHead, first-as}
 use Rattle.unification.proofs.Reducts.{IsReduct, whnf-reduct}
 use Rattle.unification.proofs.SolutionLaws.{ok_is, then-ok, test-ok}
-use Rattle.unification.proofs.Trials.{TrialFollows, goes_to-follows, fails_at-follows, cond-follows}
+use Rattle.unification.proofs.FollowingTrials.{FollowsOn, TrialFollows, goes_to-follows, fails_at-follows, cond-follows}
 
 -- ---- head forms
 
@@ -87,7 +86,7 @@ pub on_constructors-follows : (S : Signature) (s : State) (fits : Built → Bool
     → fits b ≡ true → d.n ≡ b.n → TrialFollows S s (go l b r d))
     → TrialFollows S s (on_constructors S fits u v go)
 on_constructors-follows S s fits n u v go closed hu hv follows left =
-    and_next-has (λ sides. IfSome sides (λ pair. AreHeads S fits n u v pair.0 pair.1)) (λ turn. IfSome turn (Follows S s)) (heads S fits u v left) _
+    and_next-has (λ sides. IfSome sides (λ pair. AreHeads S fits n u v pair.0 pair.1)) (λ turn. IfSome turn (FollowsOn S s)) (heads S fits u v left) _
     (heads-have S fits n u v closed hu hv left) (λ found rest h. by found h rest)
   where
     by : (found : Option (Term × Term)) → IfSome found (λ pair. AreHeads S fits n u v pair.0 pair.1)

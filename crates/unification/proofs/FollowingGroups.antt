@@ -28,7 +28,6 @@ use Rattle.unification.specs.Constructors.{conflict_step, injection_step}
 use Rattle.unification.specs.Groups.{Membership, membership_of, all_convertible, are_equations_of, group_turn, if_holds, on_membership, last_trial, group_trial, group_trials}
 use Rattle.unification.specs.Heights.{equations_made}
 use Rattle.unification.specs.Injecting.{injected_state}
-use Rattle.unification.specs.Laws.{Follows}
 use Rattle.unification.specs.Records.{family_items}
 use Rattle.unification.specs.Rules.{Steps, IsAbsurd, IsGroup}
 use Rattle.unification.specs.Rules.Steps.{inject_group}
@@ -36,12 +35,12 @@ use Rattle.unification.specs.Rules.IsAbsurd.{conflict_group}
 use Rattle.unification.specs.ScopedStates.{IsScopedEquation, AreScopedEquations}
 use Rattle.unification.specs.States.{Equation, State, left_sides, right_sides, types_as_they_stand}
 use Rattle.unification.proofs.BuiltTerms.{IsBuiltTerm, equal-numbers}
-use Rattle.unification.proofs.ConstructorTrials.{on_constructors-follows, injection-is, apart-numbers}
+use Rattle.unification.proofs.FollowingConstructors.{on_constructors-follows, injection-is, apart-numbers}
 use Rattle.unification.proofs.Memberships.{IsMembership, membership-is}
 use Rattle.unification.proofs.Reducts.{IsReduct, whnf-reduct}
 use Rattle.unification.proofs.SolutionLaws.{equations-are}
 use Rattle.unification.proofs.SolvedProblems.{length-items_at, length-equations}
-use Rattle.unification.proofs.Trials.{TrialFollows, or_else-follows, cond-follows, goes_to-follows, fails_at-follows}
+use Rattle.unification.proofs.FollowingTrials.{FollowsOn, TrialFollows, or_else-follows, cond-follows, goes_to-follows, fails_at-follows}
 
 -- ---- types that are found convertible
 
@@ -155,7 +154,7 @@ on_membership-follows S s k e type closed some at scoped place (Some m) is =
     (λ holds. IsTrue holds
     → EachConverts S (types_as_they_stand (take (k + 1) s.equations))
     (equations (family_items m.n m.family m.parameters) (left_sides (take (k + 1) s.equations)) (right_sides (take (k + 1) s.equations))))
-    (λ turn. IfSome turn (Follows S s)) (are_equations_of S m (take (k + 1) s.equations) left) _
+    (λ turn. IfSome turn (FollowsOn S s)) (are_equations_of S m (take (k + 1) s.equations) left) _
     (equations-have S m (take (k + 1) s.equations) (length-group k s.equations e at ∙ ap (λ i. i + 1) (sym membership.indices)) left)
     (λ holds rest h. by l b r d hl hr hb hd fits family holds h rest))
   where
@@ -197,7 +196,7 @@ last-follows : (S : Signature) (s : State) (k : ℕ) → IsScopedSignature S →
     → (o : Option Equation) → slice_get s.equations k ≡ o → TrialFollows S s (last_trial S s k o)
 last-follows S s k closed scoped some None at = λ left. tt
 last-follows S s k closed scoped some (Some e) at = λ left.
-    and_next-has (IsReduct S (length s.context + k) e.place.type) (λ turn. IfSome turn (Follows S s)) (tidy_of S left e.place.type) _
+    and_next-has (IsReduct S (length s.context + k) e.place.type) (λ turn. IfSome turn (FollowsOn S s)) (tidy_of S left e.place.type) _
     (whnf-reduct S false (length s.context + k) left e.place.type closed there.place)
     (λ type rest h. on_membership-follows S s k e type closed some at there h.converts (membership_of S k type) refl rest)
   where
