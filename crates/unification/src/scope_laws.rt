@@ -1,0 +1,12 @@
+//! What is scoped: the states of runs, their turns and outcomes, and the context behind a solution.
+ghost use Rattle.unification.specs.Laws.{SolvedContext, StartScoped};
+
+/// The state from which a scoped problem is solved.
+pub fn start_scoped()
+    ensures { StartScoped }
+{}
+
+/// The context behind a solution.
+pub fn solved_context()
+    ensures { SolvedContext }
+{}
