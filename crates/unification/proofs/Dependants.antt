@@ -76,11 +76,11 @@ type-lacks at found (a ∷ types) (suc k) lt none i low known =
     next = omega arith
 
     by : (is_among (at + 1 + k) (dependants_from (at + 1) (at ∷ found) types) ≡ false → (i : ℕ) → i < at + 1 + k
-            → (is_among i (at ∷ found) ≡ true) ⊎ (is_among i (dependants_from (at + 1) (at ∷ found) types) ≡ true)
-            → has_variable (at + 1 + k - (i + 1)) (term_at types k) ≡ false)
+        → (is_among i (at ∷ found) ≡ true) ⊎ (is_among i (dependants_from (at + 1) (at ∷ found) types) ≡ true)
+        → has_variable (at + 1 + k - (i + 1)) (term_at types k) ≡ false)
         → (is_among (at + 1 + k) (dependants_from (at + 1) found types) ≡ false → (i : ℕ) → i < at + 1 + k
-            → (is_among i found ≡ true) ⊎ (is_among i (dependants_from (at + 1) found types) ≡ true)
-            → has_variable (at + 1 + k - (i + 1)) (term_at types k) ≡ false)
+        → (is_among i found ≡ true) ⊎ (is_among i (dependants_from (at + 1) found types) ≡ true)
+        → has_variable (at + 1 + k - (i + 1)) (term_at types k) ≡ false)
         → (b : Bool)
         → is_among (at + suc k) (cond b (at ∷ dependants_from (at + 1) (at ∷ found) types) (dependants_from (at + 1) found types)) ≡ false
         → (is_among i found ≡ true) ⊎ (is_among i (cond b (at ∷ dependants_from (at + 1) (at ∷ found) types) (dependants_from (at + 1) found types)) ≡ true)

@@ -141,11 +141,12 @@ pub family_items-scoped : (S : Signature) (n m : ℕ) (f : Family) (ps : List Te
 family_items-scoped S n m f ps scoped at all =
     items-scoped S m (indices ++ last ∷ []) (map (λ i. i.1) f.indices ++ f.level ∷ [])
     (telescope-append S m indices (last ∷ [])
-    (instance-scoped S n (fill no_variable ps) (length f.parameters) m (index_types f) (λ v low. filled S m ps all v) is.indices)
-    (scoped_over_more S (m + count) (m + length indices) last (omega (arith, length-inst_telescope (fill no_variable ps) (index_types f), length-map f.indices (λ i. i.0)))
-    (applied-scoped S (m + count) (weaken_by count (applied (Fam n) ps)) (variables count)
-    (weakened S m count (applied (Fam n) ps) (family-scoped S n m f ps at all)) (variables-scoped S (m + count) count (omega arith))),
-    tt))
+    (instance-scoped S n (fill no_variable ps) (length f.parameters) m (index_types f) (λ v low. filled S m ps all v) is.indices) (
+      scoped_over_more S (m + count) (m + length indices) last (omega (arith, length-inst_telescope (fill no_variable ps) (index_types f), length-map f.indices (λ i. i.0)))
+          (applied-scoped S (m + count) (weaken_by count (applied (Fam n) ps)) (variables count)
+          (weakened S m count (applied (Fam n) ps) (family-scoped S n m f ps at all)) (variables-scoped S (m + count) count (omega arith))),
+      tt,
+    ))
     (All-append (λ l. l < top) (map (λ i. i.1) f.indices) (f.level ∷ []) (All-map (λ l. l < top) (λ i. i.1) f.indices is.index_levels)
     (All-cons (λ l. l < top) f.level [] is.level (All-nil (λ l. l < top))))
   where

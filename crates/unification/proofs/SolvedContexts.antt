@@ -36,9 +36,9 @@ dependants-within context p i lt h =
 pub other-among : (context : Telescope) (p j : ℕ) → j < length context → (j ≡ p → ⊥) → is_among j (order_without context p) ≡ true
 other-among context p j lt ne = elim (either (is_among j (left_out context p))) [
   | inl out ↦ elim (among-cases j p (dependants context p) out) [
-      | inl same ↦ absurd (ne (sym same))
-      | inr there ↦ among-right j (without (left_out context p) (each_position (λ j. j) 0 (length context))) (dependants context p) there
-    ]
+    | inl same ↦ absurd (ne (sym same))
+    | inr there ↦ among-right j (without (left_out context p) (each_position (λ j. j) 0 (length context))) (dependants context p) there
+  ]
   | inr stays ↦
       among-left j (without (left_out context p) (each_position (λ j. j) 0 (length context))) (dependants context p)
       (among-without j (left_out context p) (each_position (λ j. j) 0 (length context))
@@ -159,14 +159,14 @@ dependants-over context p u lt free at found (a ∷ types) done e others known =
     (dependants-over context p u lt free (at + 1) found types done (omega arith)) (has_level at found a) known
   where
     by : (((i : ℕ) → i < length context → is_among i (left_out context p) ≡ false → is_among i (done ++ at ∷ []) ≡ true)
-            → ((i : ℕ) → is_among i (dependants context p) ≡ true → (is_among i (done ++ at ∷ []) ≡ true) ⊎ (is_among i (dependants_from (at + 1) (at ∷ found) types) ≡ true))
-            → AreOver (length context) p u context (done ++ at ∷ []) (dependants_from (at + 1) (at ∷ found) types))
+        → ((i : ℕ) → is_among i (dependants context p) ≡ true → (is_among i (done ++ at ∷ []) ≡ true) ⊎ (is_among i (dependants_from (at + 1) (at ∷ found) types) ≡ true))
+        → AreOver (length context) p u context (done ++ at ∷ []) (dependants_from (at + 1) (at ∷ found) types))
         → (((i : ℕ) → i < length context → is_among i (left_out context p) ≡ false → is_among i done ≡ true)
-            → ((i : ℕ) → is_among i (dependants context p) ≡ true → (is_among i done ≡ true) ⊎ (is_among i (dependants_from (at + 1) found types) ≡ true))
-            → AreOver (length context) p u context done (dependants_from (at + 1) found types))
+        → ((i : ℕ) → is_among i (dependants context p) ≡ true → (is_among i done ≡ true) ⊎ (is_among i (dependants_from (at + 1) found types) ≡ true))
+        → AreOver (length context) p u context done (dependants_from (at + 1) found types))
         → (b : Bool)
         → ((i : ℕ) → is_among i (dependants context p) ≡ true
-            → (is_among i done ≡ true) ⊎ (is_among i (cond b (at ∷ dependants_from (at + 1) (at ∷ found) types) (dependants_from (at + 1) found types)) ≡ true))
+        → (is_among i done ≡ true) ⊎ (is_among i (cond b (at ∷ dependants_from (at + 1) (at ∷ found) types) (dependants_from (at + 1) found types)) ≡ true))
         → AreOver (length context) p u context done (cond b (at ∷ dependants_from (at + 1) (at ∷ found) types) (dependants_from (at + 1) found types))
     by one other false is = other others is
     by one other true is = (own, one further known-further)
@@ -174,20 +174,20 @@ dependants-over context p u lt free at found (a ∷ types) done e others known =
         own : (i : ℕ) → i < at → has_variable (at - (i + 1)) (term_at context at) ≡ true → Stands (length context) p u done i
         own i low occurs = elim (either (is_among i (left_out context p))) [
           | inl out ↦ elim (among-cases i p (dependants context p) out) [
-              | inl same ↦ inr (sym same, over-others context p u done free others)
-              | inr there ↦ elim (is i there) [
-                  | inl before ↦
-                      inl (
-                        λ same. (let le : p + 1 ≤ i = among-from (p + 1) (dependants context p) (dependants-order (p + 1) (p ∷ []) (drop (p + 1) context)) i there in omega arith),
-                        before,
-                      )
-                  | inr behind ↦
-                      let le : at ≤ i =
-                      among-from at (at ∷ dependants_from (at + 1) (at ∷ found) types)
-                      (omega arith, dependants-order (at + 1) (at ∷ found) types) i behind in
-                      absurd (omega arith)
-                ]
+            | inl same ↦ inr (sym same, over-others context p u done free others)
+            | inr there ↦ elim (is i there) [
+              | inl before ↦
+                  inl (
+                    λ same. (let le : p + 1 ≤ i = among-from (p + 1) (dependants context p) (dependants-order (p + 1) (p ∷ []) (drop (p + 1) context)) i there in omega arith),
+                    before,
+                  )
+              | inr behind ↦
+                  let le : at ≤ i =
+                  among-from at (at ∷ dependants_from (at + 1) (at ∷ found) types)
+                  (omega arith, dependants-order (at + 1) (at ∷ found) types) i behind in
+                  absurd (omega arith)
             ]
+          ]
           | inr stays ↦ inl (λ same. not-among-head i p (dependants context p) stays (sym same), others i (omega arith) stays)
         ]
 
@@ -199,9 +199,9 @@ dependants-over context p u lt free at found (a ∷ types) done e others known =
         known-further i there = elim (is i there) [
           | inl before ↦ inl (snoc-among i at done (inr before))
           | inr behind ↦ elim (among-cases i at (dependants_from (at + 1) (at ∷ found) types) behind) [
-              | inl same ↦ inl (snoc-among i at done (inl (sym same)))
-              | inr later ↦ inr later
-            ]
+            | inl same ↦ inl (snoc-among i at done (inl (sym same)))
+            | inr later ↦ inr later
+          ]
         ]
 
 -- the type of a variable that is not left out mentions none that is
@@ -251,13 +251,13 @@ others-over context p u lt free at (suc count) done e others =
     ]
 
     by : (((i : ℕ) → i < at + 1 → is_among i (left_out context p) ≡ false → is_among i (done ++ at ∷ []) ≡ true)
-            → AreOver (length context) p u context (done ++ at ∷ []) (without (left_out context p) (each_position (λ j. j) (at + 1) count) ++ dependants context p))
+        → AreOver (length context) p u context (done ++ at ∷ []) (without (left_out context p) (each_position (λ j. j) (at + 1) count) ++ dependants context p))
         → (((i : ℕ) → i < at + 1 → is_among i (left_out context p) ≡ false → is_among i done ≡ true)
-            → AreOver (length context) p u context done (without (left_out context p) (each_position (λ j. j) (at + 1) count) ++ dependants context p))
+        → AreOver (length context) p u context done (without (left_out context p) (each_position (λ j. j) (at + 1) count) ++ dependants context p))
         → (b : Bool) → is_among at (left_out context p) ≡ b
         → AreOver (length context) p u context done
-            (cond b (without (left_out context p) (each_position (λ j. j) (at + 1) count)) (at ∷ without (left_out context p) (each_position (λ j. j) (at + 1) count))
-            ++ dependants context p)
+        (cond b (without (left_out context p) (each_position (λ j. j) (at + 1) count)) (at ∷ without (left_out context p) (each_position (λ j. j) (at + 1) count))
+        ++ dependants context p)
     by one other true out = other (next done (λ stays. absurd (cc)) others)
     by one other false stays = (
       own,
