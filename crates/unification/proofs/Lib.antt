@@ -1,21 +1,22 @@
-mod BuiltScopes
-mod Dependants
-mod Levels
-mod MovedEquations
-mod MovedStates
-mod Occurring
+pub mod BuiltScopes
+pub mod Dependants
+pub mod Levels
+pub mod MovedEquations
+pub mod MovedStates
+pub mod Occurring
+pub mod OutcomeScopes
 mod Rows
 mod Samples
-mod ScopedConstructors
-mod ScopedCycles
-mod ScopedDeletions
+pub mod ScopedConstructors
+pub mod ScopedCycles
+pub mod ScopedDeletions
 pub mod ScopedEquations
-mod ScopedGroups
-mod ScopedRecords
-mod ScopedSolutions
-mod ScopedTurns
+pub mod ScopedGroups
+pub mod ScopedRecords
+pub mod ScopedSolutions
+pub mod ScopedTurns
 pub mod SolvedContexts
 mod SplitRows
 mod StateRows
-mod Trials
+pub mod Trials
 pub mod TurnScopes

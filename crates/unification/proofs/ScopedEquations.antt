@@ -14,11 +14,11 @@ use Rattle.tele_eq.specs.Items.{Item, level_at, each_position}
 use Rattle.tele_eq.specs.ScopeLaws.{HasAllIdentities, AreScopedItems}
 use Rattle.tele_eq.specs.TelescopicEquality.{equations, equation_behind}
 use Rattle.tele_eq.proofs.ScopeLaws.{scoped_equations}
-use Rattle.unification.specs.Heights.{bounded_items, bounded_state, equations_made, most_places, are_low_items}
+use Rattle.unification.specs.Heights.{bounded_items, bounded_state, equations_made, most_places, are_low_items, start_made}
 use Rattle.unification.specs.Laws.{StartScoped}
 use Rattle.unification.specs.ScopedStates.{AreScopedEquations, IsScopedState}
 use Rattle.unification.proofs.ScopedRecords.{variables-scoped}
-use Rattle.unification.specs.States.{State, equations_at, starting}
+use Rattle.unification.specs.States.{Problem, State, equations_at, starting}
 
 -- ---- their forms
 
@@ -115,3 +115,10 @@ start-scoped S p ready scoped =
           (telescope-equations S (length p.context) p.telescope p.left p.right ready.identities scoped.telescope scoped.left scoped.right);
       solution = variables-scoped S (length p.context) (length p.context) (omega arith);
     }
+
+-- its context is that of the problem
+pub start-context : (p : Problem) → IfOk (start_made p) (λ s. s.context ≡ p.context)
+start-context p =
+    and_then-has (λ types. Unit {0}) (λ s. s.context ≡ p.context) (equations_made p.telescope p.left p.right)
+    (λ types. bounded_state (starting p types)) (equations_made-has (λ types. Unit {0}) p.telescope p.left p.right tt)
+    (λ types e. bounded_state-has (λ s. s.context ≡ p.context) (starting p types) refl)
