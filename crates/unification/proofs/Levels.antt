@@ -4,10 +4,7 @@ use Rattle.std.proofs.lemmas.Bool.Decides.{Decides-eqb}
 use Rattle.tele_eq.specs.Items.{each_position}
 use Rattle.tele_eq.proofs.Carrying.{IsFrom}
 use Rattle.unification.specs.Occurrences.{is_among, without, place_in}
-
-pub either : (b : Bool) → (b ≡ true) ⊎ (b ≡ false)
-either true = inl refl
-either false = inr refl
+use Rattle.unification.proofs.Cases.{either}
 
 -- ---- what is among levels
 

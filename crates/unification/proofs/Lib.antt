@@ -1,4 +1,5 @@
 pub mod BuiltScopes
+pub mod Cases
 pub mod Dependants
 pub mod Levels
 pub mod MovedEquations

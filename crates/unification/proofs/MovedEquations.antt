@@ -11,6 +11,7 @@ use Rattle.tele_eq.proofs.ScopedTerms.{in-outside}
 use Rattle.unification.specs.Moving.{over_first, behind, moved_item, moved}
 use Rattle.unification.specs.ScopedStates.{HasForm, IsScopedEquation, AreScopedEquations}
 use Rattle.unification.specs.States.{Equation}
+use Rattle.unification.proofs.Cases.{below-or_from}
 use Rattle.unification.proofs.Occurring.{put-all}
 
 pub equations-more : (S : Signature) (n k l : ℕ) (es : List Equation) → k ≡ l → AreScopedEquations S n k es → AreScopedEquations S n l es
@@ -37,8 +38,8 @@ equations-at S n k (suc i) (e ∷ es) h =
 -- ---- what stands for variables and places
 
 -- what stands for each level is scoped from a depth on, also behind i equations more on both sides
-abbrev pub Stands : Signature → (size depth : ℕ) → Environment → Type 0
-Stands S size depth z = (i j d : ℕ) → j < size + i → depth + i ≤ d → IsScoped S d (z d j)
+abbrev pub StandsFrom : Signature → (size depth : ℕ) → Environment → Type 0
+StandsFrom S size depth z = (i j d : ℕ) → j < size + i → depth + i ≤ d → IsScoped S d (z d j)
 
 pub over_first-scoped : (S : Signature) (n : ℕ) (terms : List Term) (position d : ℕ) → All (IsScoped S n) terms → n ≤ d
     → IsScoped S d (over_first n terms d position)
@@ -46,12 +47,9 @@ over_first-scoped S n terms position d all le =
     scoped_over_more S (n + (d - n)) d (over_first n terms d position) (omega arith) (in-outside S n terms all (d - n) position)
 
 pub behind-stands : (S : Signature) (n count new : ℕ) (variables places : Environment) → ((j d : ℕ) → j < n → new ≤ d → IsScoped S d (variables d j))
-    → ((j d : ℕ) → new ≤ d → IsScoped S d (places d j)) → Stands S (n + count) new (behind n count new variables places)
-behind-stands S n count new variables places own placed i j d lt le = by (sides j n) (sides j (n + count))
+    → ((j d : ℕ) → new ≤ d → IsScoped S d (places d j)) → StandsFrom S (n + count) new (behind n count new variables places)
+behind-stands S n count new variables places own placed i j d lt le = by (below-or_from j n) (below-or_from j (n + count))
   where
-    sides : (a b : ℕ) → (a < b) ⊎ (b ≤ a)
-    sides a b = grind arith
-
     first : (x y w : Term) → j < n → x ≡ cond (nat_lt j n) x (cond (nat_lt j (n + count)) y w)
     first x y w h = grind (arith, nat_tests)
 
@@ -88,7 +86,7 @@ moved-form z y side size depth e h = record {
 }
 
 -- equations behind k others in a context of n variables become equations behind l others in one of m
-moved-from : (S : Signature) (n m : ℕ) (z y : Environment) (side : Term → Term) (first depth : ℕ) → Stands S first depth z → Stands S first depth y
+moved-from : (S : Signature) (n m : ℕ) (z y : Environment) (side : Term → Term) (first depth : ℕ) → StandsFrom S first depth z → StandsFrom S first depth y
     → ((t : Term) → IsScoped S n t → IsScoped S m (side t)) → (i k l : ℕ) (es : List Equation) → n + k ≡ first + i → m + l ≡ depth + i
     → AreScopedEquations S n k es → AreScopedEquations S m l (moved z y side (first + i) (depth + i) es)
 moved-from S n m z y side first depth sz sy sides i k l [] e f h = tt
@@ -104,7 +102,7 @@ moved-from S n m z y side first depth sz sy sides i k l (x ∷ es) e f h = (
   next (moved-from S n m z y side first depth sz sy sides (i + 1) (k + 1) (l + 1) es (omega arith) (omega arith) h.1),
 )
   where
-    scoped_at : (z : Environment) → Stands S first depth z → (t : Term) → IsScoped S (n + k) t → IsScoped S (m + l) (put z (first + i) (depth + i) t)
+    scoped_at : (z : Environment) → StandsFrom S first depth z → (t : Term) → IsScoped S (n + k) t → IsScoped S (m + l) (put z (first + i) (depth + i) t)
     scoped_at z sz t h =
         scoped_over_more S (depth + i) (m + l) (put z (first + i) (depth + i) t) (omega arith)
         (put-all S z (first + i) (depth + i) t (λ p lt d le. sz i p d lt le) (scoped_over_more S (n + k) (first + i) t (omega arith) h))
@@ -116,7 +114,7 @@ moved-from S n m z y side first depth sz sy sides i k l (x ∷ es) e f h = (
         (subst (λ x. AreScopedEquations S m (l + 1) (moved z y side (first + (i + 1)) x es)) (let same : depth + (i + 1) ≡ depth + i + 1 = omega arith in same) h)
 
 pub moved-scoped : (S : Signature) (n m k l size depth : ℕ) (z y : Environment) (side : Term → Term) → n + k ≡ size → m + l ≡ depth
-    → Stands S size depth z → Stands S size depth y → ((t : Term) → IsScoped S n t → IsScoped S m (side t)) → (es : List Equation)
+    → StandsFrom S size depth z → StandsFrom S size depth y → ((t : Term) → IsScoped S n t → IsScoped S m (side t)) → (es : List Equation)
     → AreScopedEquations S n k es → AreScopedEquations S m l (moved z y side size depth es)
 moved-scoped S n m k l size depth z y side e f sz sy sides es h =
     subst (λ x. AreScopedEquations S m l (moved z y side x depth es)) (let same : size + 0 ≡ size = omega arith in same)

@@ -26,8 +26,9 @@ use Rattle.unification.specs.Records.{argument_items, family_items, constructor_
 use Rattle.unification.specs.ScopedStates.{AreScopedEquations, IsReady, IsScopedState}
 use Rattle.unification.specs.Solving.{reordered, solved, new_context, solved_state, deleted_state}
 use Rattle.unification.specs.States.{State, equations_at}
-use Rattle.unification.proofs.Levels.{either, not-among-head}
-use Rattle.unification.proofs.MovedEquations.{Stands, behind-stands, over_first-scoped, moved-scoped, equations-append, equations-more, equations-drop}
+use Rattle.unification.proofs.Cases.{either}
+use Rattle.unification.proofs.Levels.{not-among-head}
+use Rattle.unification.proofs.MovedEquations.{StandsFrom, behind-stands, over_first-scoped, moved-scoped, equations-append, equations-more, equations-drop}
 use Rattle.unification.proofs.Occurring.{put-all}
 use Rattle.unification.proofs.ScopedEquations.{telescope-equations, bounded_state-has}
 use Rattle.unification.proofs.ScopedRecords.{variables-scoped, lifted-scoped, length-argument_items, argument_items-scoped, family_items-scoped, constructor_terms-scoped}
@@ -67,10 +68,10 @@ solved_state-scoped S s i p A u ready scoped lt low ha hu fa fu =
     let moved_A : IsScoped S m A' = reordered-term S n order order [] A m whole ha (lacking-over s.context p A fa) (omega arith) in
     let moved_u : IsScoped S m u' = reordered-term S n order order [] u m whole hu (lacking-over s.context p u fu) (omega arith) in
     let own : (j d : ℕ) → j < n → m ≤ d → IsScoped S d (s' d j) = λ j d below le. each j d below le in
-    let items : Stands S (n + 1) m (behind n 1 m s' (over_first m (u' ∷ []))) =
+    let items : StandsFrom S (n + 1) m (behind n 1 m s' (over_first m (u' ∷ []))) =
     behind-stands S n 1 m s' (over_first m (u' ∷ [])) own (λ j d le. over_first-scoped S m (u' ∷ []) j d (one S m u' moved_u) le) in
     let equal = reflexivity i A' u' in
-    let types : Stands S (n + 1) m (behind n 1 m s' (over_first m (equal ∷ []))) =
+    let types : StandsFrom S (n + 1) m (behind n 1 m s' (over_first m (equal ∷ []))) =
     behind-stands S n 1 m s' (over_first m (equal ∷ [])) own
     (λ j d le. over_first-scoped S m (equal ∷ []) j d (one S m equal (reflexivity-scoped S m i A' u' ready.identities low moved_A moved_u)) le) in
     let side : (t : Term) → IsScoped S n t → IsScoped S m (put s' n m t) = λ t h. put-all S s' n m t (λ j below d le. own j d below le) h in
@@ -114,9 +115,9 @@ deleted_state-scoped S s i A u ready scoped low ha hu =
     let n = length s.context in
     let equal = reflexivity i A u in
     let own : (j d : ℕ) → j < n → n ≤ d → IsScoped S d (variable d j) = λ j d lt le. variable-scoped S j d (omega arith) in
-    let items : Stands S (n + 1) n (behind n 1 n variable (over_first n (u ∷ []))) =
+    let items : StandsFrom S (n + 1) n (behind n 1 n variable (over_first n (u ∷ []))) =
     behind-stands S n 1 n variable (over_first n (u ∷ [])) own (λ j d le. over_first-scoped S n (u ∷ []) j d (one S n u hu) le) in
-    let types : Stands S (n + 1) n (behind n 1 n variable (over_first n (equal ∷ []))) =
+    let types : StandsFrom S (n + 1) n (behind n 1 n variable (over_first n (equal ∷ []))) =
     behind-stands S n 1 n variable (over_first n (equal ∷ [])) own
     (λ j d le. over_first-scoped S n (equal ∷ []) j d (one S n equal (reflexivity-scoped S n i A u ready.identities low ha hu)) le) in
     record {
@@ -177,10 +178,10 @@ injected_state-scoped S s g n number f c ps us vs ready scoped is =
     let terms = constructor_terms n number ps c in
     let proofs = group_proofs n number f c ps us vs in
     let own : (j d : ℕ) → j < m → new ≤ d → IsScoped S d (variable d j) = λ j d lt le. variable-scoped S j d (omega arith) in
-    let items : Stands S (m + g) new (behind m g new variable (over_first new terms)) =
+    let items : StandsFrom S (m + g) new (behind m g new variable (over_first new terms)) =
     behind-stands S m g new variable (over_first new terms) own
     (λ j d le. over_first-scoped S new terms j d (constructor_terms-scoped S n number m is.owner c ps ready.scoped is.entry is.constructor is.parameters) le) in
-    let types : Stands S (m + g) new (behind m g new variable (over_first new proofs)) =
+    let types : StandsFrom S (m + g) new (behind m g new variable (over_first new proofs)) =
     behind-stands S m g new variable (over_first new proofs) own
     (λ j d le. over_first-scoped S new proofs j d (group_proofs-scoped S m n number f c ps us vs ready is) le) in
     let first = equations_at X (equations X us vs) us vs in

@@ -9,6 +9,7 @@ use Rattle.theory.specs.SignatureScopes.{HasEntries, IsScoped}
 use Rattle.theory.proofs.ScopedTerms.{scoped-pi, scoped-lam, scoped-app, scoped-let, pi-scoped, lam-scoped, app-scoped, let-scoped, var-scoped, scoped_over_more}
 use Rattle.tele_eq.specs.Dependences.{has_variable}
 use Rattle.tele_eq.specs.Environments.{Environment, put, put_under, put_variable}
+use Rattle.unification.proofs.Cases.{below-or_from}
 
 or-left : (a b : Bool) → a ≡ true → (a || b) ≡ true
 or-left a b e = ap (λ x. x || b) e
@@ -26,16 +27,16 @@ variable-below k = omega (arith, k.variables)
 -- ---- renaming
 
 -- the renaming has a variable below m for each one that occurs
-abbrev pub Renames : (r : ℕ → ℕ) (n m : ℕ) → Term → Type 0
-Renames r n m t = (v : ℕ) → v < n → has_variable v t ≡ true → r v < m
+abbrev pub RenamesBelow : (r : ℕ → ℕ) (n m : ℕ) → Term → Type 0
+RenamesBelow r n m t = (v : ℕ) → v < n → has_variable v t ≡ true → r v < m
 
-renames-under : (r : ℕ → ℕ) (n m : ℕ) (b : Term) → ((v : ℕ) → v < n → has_variable (v + 1) b ≡ true → r v < m) → Renames (up r) (n + 1) (m + 1) b
+renames-under : (r : ℕ → ℕ) (n m : ℕ) (b : Term) → ((v : ℕ) → v < n → has_variable (v + 1) b ≡ true → r v < m) → RenamesBelow (up r) (n + 1) (m + 1) b
 renames-under r n m b h zero lt o = omega arith
 renames-under r n m b h (suc v) lt o =
     let k : r v < m = h v (omega arith) (subst (λ x. has_variable x b ≡ true) (let e : suc v ≡ v + 1 = omega arith in e) o) in
     omega arith
 
-pub ren-where : (S : Signature) (r : ℕ → ℕ) (n m : ℕ) (t : Term) → Renames r n m t → IsScoped S n t → IsScoped S m (ren r t)
+pub ren-where : (S : Signature) (r : ℕ → ℕ) (n m : ℕ) (t : Term) → RenamesBelow r n m t → IsScoped S n t → IsScoped S m (ren r t)
 ren-where S r n m (Var v) h k =
     let lt : v < n = variable-below k in var-scoped (h v lt (eq-eqb v v refl))
 ren-where S r n m (Pi a b) h k =
@@ -69,11 +70,8 @@ IsPutUnder S z size d under t =
 
 put-variable_where : (S : Signature) (z : Environment) (size d under v : ℕ) → IsPutUnder S z size d under (Var v) → v < size + under
     → IsScoped S (d + under) (put_variable z size d under v)
-put-variable_where S z size d under v low lt = by (sides v under)
+put-variable_where S z size d under v low lt = by (below-or_from v under)
   where
-    sides : (a b : ℕ) → (a < b) ⊎ (b ≤ a)
-    sides a b = grind arith
-
     own : (x y w : Term) → v < under → x ≡ cond (nat_lt v under) x (cond (nat_lt v (size + under)) y w)
     own x y w h = grind (arith, nat_tests)
 

@@ -1,9 +1,8 @@
 -- What a deletion and the last trial come to is scoped.
-use Rattle.std.proofs.Common.{Bool, true, false, length, IfSome, Result, Ok, Err, IfOk, refl}
+use Rattle.std.proofs.Common.{Bool, true, false, length, IfSome, refl}
 use Rattle.theory.specs.Signatures.{Signature}
 use Rattle.core_terms.proofs.Answers.{and_next-has}
 use Rattle.core_terms.specs.declared.case_tree.Rule.TheVariants.{Delete}
-use Rattle.core_terms.specs.declared.stop.Stop.{Stop}
 use Rattle.kernel_reduce.specs.Comparison.{convertible_of}
 use Rattle.kernel_reduce.specs.Reduction.{nesting}
 use Rattle.unification.specs.Deletions.{deletion_step, delete, if_convertible, deletion_trial}
@@ -16,7 +15,7 @@ use Rattle.unification.specs.declared.why.Why.TheVariants.{NeedsK}
 use Rattle.unification.proofs.MovedStates.{deleted_state-scoped}
 use Rattle.unification.proofs.ScopedEquations.{bounded_state-has}
 use Rattle.unification.proofs.ScopedTurns.{IsGood, IsTried, single-scoped}
-use Rattle.unification.proofs.Trials.{Turns, does_not_apply-has, applies-has, goes_to-has, where-has, reduced-has, on_tidied-has, sticks_at-has}
+use Rattle.unification.proofs.Trials.{any-answer, Turns, does_not_apply-has, applies-has, goes_to-has, where-has, reduced-has, on_tidied-has, sticks_at-has}
 
 delete-scoped : (S : Signature) (s : State) (e : Equation) → IsTried S s e → Turns (IsGood S s) (delete S s e)
 delete-scoped S s e is left =
@@ -38,12 +37,8 @@ if_convertible-scoped S s e false is = does_not_apply-has (IsGood S s)
 pub deletion-scoped : (S : Signature) (s : State) (e : Equation) → IsTried S s e → Turns (IsGood S s) (deletion_trial S s e)
 deletion-scoped S s e is left =
     and_next-has (λ holds. Unit {0}) (λ turn. IfSome turn (IsGood S s)) (convertible_of S nesting e.left e.right left)
-    (λ holds rest. if_convertible S s e holds rest) (any (convertible_of S nesting e.left e.right left).0)
+    (λ holds rest. if_convertible S s e holds rest) (any-answer (convertible_of S nesting e.left e.right left).0)
     (λ holds rest none. if_convertible-scoped S s e holds is rest)
-  where
-    any : (r : Result Bool Stop) → IfOk r (λ holds. Unit {0})
-    any (Ok b) = tt
-    any (Err e) = tt
 
 pub stuck-scoped : (S : Signature) (s : State) (e : Equation) → IsTried S s e → Turns (IsGood S s) (stuck_trial S e)
 stuck-scoped S s e is =

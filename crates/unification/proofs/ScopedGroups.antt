@@ -1,5 +1,5 @@
 -- What injectivity and conflict of a group come to is scoped.
-use Rattle.std.proofs.Common.{◌≡◌, ℕ, zero, suc, ◌+◌, ◌-◌, ◌<◌, ◌≤◌, ◌⊎◌, inl, inr, Bool, true, false, ◌==◌, ◌&&◌, ◌||◌, not, Option, Some, None, IfSome, List, [], ◌∷◌, length, map, take, drop, slice_get, Result, Ok, Err, IfOk, refl, sym, subst, arith}
+use Rattle.std.proofs.Common.{◌≡◌, ℕ, zero, suc, ◌+◌, ◌-◌, ◌<◌, inl, inr, Bool, true, false, ◌==◌, ◌&&◌, ◌||◌, not, Option, Some, None, IfSome, List, [], ◌∷◌, length, map, take, drop, slice_get, refl, sym, subst, arith}
 use Rattle.std.proofs.lemmas.Bool.Decides.{Decides-eqb}
 use Rattle.std.proofs.lemmas.List.Elements.{All-nil, All-cons, All-head, All-tail, All-take}
 use Rattle.std.specs.List.{All}
@@ -12,7 +12,6 @@ use Rattle.theory.specs.SignatureScopes.{IsScoped}
 use Rattle.theory.proofs.ScopedTerms.{spine-scoped}
 use Rattle.core_terms.specs.declared.case_tree.Rule.{Rule}
 use Rattle.core_terms.specs.declared.case_tree.Rule.TheVariants.{Inject, Conflict}
-use Rattle.core_terms.specs.declared.stop.Stop.{Stop}
 use Rattle.core_terms.specs.Answers.{and_next}
 use Rattle.core_terms.proofs.Answers.{and_next-has}
 use Rattle.kernel_reduce.specs.Entries.{family_at}
@@ -26,25 +25,16 @@ use Rattle.unification.specs.Heights.{injection_made}
 use Rattle.unification.specs.ScopedStates.{IsReady, IsScopedEquation, IsScopedState, IsScopedStep}
 use Rattle.unification.specs.States.{Equation, State}
 use Rattle.unification.specs.Turns.{Goes, Trial, Turn, fails_at, goes_to}
+use Rattle.unification.proofs.Cases.{not-true, below-or_from, here-or_below}
 use Rattle.unification.proofs.BuiltScopes.{AreSides, on_constructors-has}
 use Rattle.unification.proofs.MovedEquations.{equations-at}
 use Rattle.unification.proofs.MovedStates.{IsInjection, injected_state-scoped, injection_made-has}
 use Rattle.unification.proofs.Occurring.{ren-where}
 use Rattle.unification.proofs.ScopedConstructors.{right-count}
 use Rattle.unification.proofs.ScopedTurns.{IsGood}
-use Rattle.unification.proofs.Trials.{Turns, does_not_apply-has, goes_to-has, or_else-has, where-has, reduced-has, fails_at-has}
+use Rattle.unification.proofs.Trials.{any-answer, Turns, does_not_apply-has, goes_to-has, or_else-has, where-has, reduced-has, fails_at-has}
 
 -- ---- terms without the nearest variables
-
-at-or_below : (v k : ℕ) → v < suc k → (v ≡ k) ⊎ (v < k)
-at-or_below v k lt = grind arith
-
-below-or_from : (v k : ℕ) → (v < k) ⊎ (k ≤ v)
-below-or_from v k = grind arith
-
-not-true : (b : Bool) → not b ≡ true → b ≡ false
-not-true true e = absurd (grind arith)
-not-true false e = refl
 
 none-nearest : (k : ℕ) (t : Term) → has_nearest k t ≡ false → (v : ℕ) → v < k → has_variable v t ≡ false
 none-nearest zero t h v lt = absurd (omega arith)
@@ -53,7 +43,7 @@ none-nearest (suc k) t h v lt = by (has_variable k t) refl h (none-nearest k t)
     by : (b : Bool) → has_variable k t ≡ b → (b || has_nearest k t) ≡ false
         → (has_nearest k t ≡ false → (v : ℕ) → v < k → has_variable v t ≡ false) → has_variable v t ≡ false
     by true e f rest = absurd (grind arith)
-    by false e f rest = elim (at-or_below v k lt) [
+    by false e f rest = elim (here-or_below v k (omega arith)) [
       | inl same ↦ subst (λ x. has_variable x t ≡ false) (sym same) e
       | inr low ↦ rest f v low
     ]
@@ -165,10 +155,6 @@ if_holds-has : (P : Turn → Type 0) (holds : Bool) (go : Trial) → Turns P go 
 if_holds-has P true go h = h
 if_holds-has P false go h = does_not_apply-has P
 
-any : {A : Type 0} (r : Result A Stop) → IfOk r (λ a. Unit {0})
-any (Ok a) = tt
-any (Err e) = tt
-
 on_membership-good : (S : Signature) (s : State) (k : ℕ) (e : Equation) (type : Term) (o : Option Membership) → IsGroupTried S s k e type
     → IfSome o (IsMembership S (length s.context)) → Turns (IsGood S s) (on_membership S s k e type o)
 on_membership-good S s k e type None is member = does_not_apply-has (IsGood S s)
@@ -179,7 +165,7 @@ on_membership-good S s k e type (Some m) is member =
     is.ready.scoped is.last.left is.last.right
     (λ l b r d sides left.
     and_next-has (λ holds. Unit {0}) (λ turn. IfSome turn (IsGood S s)) (are_equations_of S m (take (k + 1) s.equations) left)
-    (λ holds rest. if_holds holds (group_turn S s k e m type l b r d) rest) (any (are_equations_of S m (take (k + 1) s.equations) left).0)
+    (λ holds rest. if_holds holds (group_turn S s k e m type l b r d) rest) (any-answer (are_equations_of S m (take (k + 1) s.equations) left).0)
     (λ holds rest none.
     if_holds-has (IsGood S s) holds (group_turn S s k e m type l b r d) (group_turn-good S s k e m type l b r d is member sides) rest))
 

@@ -23,13 +23,13 @@ type-there S m i t A u v form h =
     subst (λ x. IsScoped S m x → IsScoped S m (type_in x)) (sym form) (λ k. (scoped-app (scoped-app (scoped-app k).0).0).1) h
 
 -- the first equation of a scoped state
-pub record IsFirst (S : Signature) (n : ℕ) (e : Equation) : Type 0 where
+pub record IsScopedFirst (S : Signature) (n : ℕ) (e : Equation) : Type 0 where
   pub type : IsScoped S n (type_in e.type)
   pub left : IsScoped S n e.left
   pub right : IsScoped S n e.right
   pub level : e.place.level < top
 
-pub first-is : (S : Signature) (n : ℕ) (e : Equation) → IsScopedEquation S n 0 e → IsFirst S n e
+pub first-is : (S : Signature) (n : ℕ) (e : Equation) → IsScopedEquation S n 0 e → IsScopedFirst S n e
 first-is S n e h = record {
   type =
       type-there S n e.place.level e.type h.form.A h.form.u h.form.v h.form.form
@@ -53,4 +53,4 @@ single-scoped S n rule ty u v ht hu hv = record {
 pub record IsTried (S : Signature) (s : State) (e : Equation) : Type 0 where
   pub ready : IsReady S
   pub state : IsScopedState S s
-  pub first : IsFirst S (length s.context) e
+  pub first : IsScopedFirst S (length s.context) e

@@ -1,5 +1,5 @@
 -- The context behind a solution: the other variables stand in it once each, and each type is over what stands before it.
-use Rattle.std.proofs.Common.{◌≡◌, ℕ, zero, suc, ◌+◌, ◌-◌, ◌<◌, ◌≤◌, ◌⊎◌, inl, inr, Bool, true, false, not, cond, List, [], ◌∷◌, ◌++◌, length, drop, refl, sym, ap, ◌∙◌, subst, arith, get_or-drop, length-drop, length-append}
+use Rattle.std.proofs.Common.{◌≡◌, ℕ, zero, suc, ◌+◌, ◌-◌, ◌<◌, ◌≤◌, ◌⊎◌, inl, inr, Bool, true, false, cond, List, [], ◌∷◌, ◌++◌, length, drop, refl, sym, ap, ◌∙◌, subst, arith, get_or-drop, length-drop, length-append}
 use Rattle.theory.specs.Terms.{Term}
 use Rattle.theory.specs.Terms.Term.{Sort}
 use Rattle.theory.specs.Telescopes.{Telescope}
@@ -14,8 +14,9 @@ use Rattle.tele_eq.proofs.Growing.{snoc-append}
 use Rattle.unification.specs.Laws.{SolvedContext}
 use Rattle.unification.specs.Occurrences.{has_level, dependants_from, dependants, lacks, is_among, without, order_without, place_in}
 use Rattle.unification.specs.Solving.{reordered, solved, new_context}
+use Rattle.unification.proofs.Cases.{either, not-true, here-or_below}
 use Rattle.unification.proofs.Dependants.{dependants-order, dependants-below, none-occurs, type-lacks}
-use Rattle.unification.proofs.Levels.{either, among-cases, among-own, among-left, among-right, not-among-head, not-among-tail, among-from, place-there, place-before, each-among, among-without, length-without}
+use Rattle.unification.proofs.Levels.{among-cases, among-own, among-left, among-right, not-among-head, not-among-tail, among-from, place-there, place-before, each-among, among-without, length-without}
 use Rattle.unification.proofs.Occurring.{put-where}
 
 -- variable p and its dependants
@@ -135,17 +136,10 @@ pub over-others : (context : Telescope) (p : ℕ) (t : Term) (levels : List ℕ)
     → ((i : ℕ) → i < length context → is_among i (left_out context p) ≡ false → is_among i levels ≡ true) → IsOver (length context) levels t
 over-others context p t levels without_them others l lt occurs = elim (either (is_among l (left_out context p))) [
   | inl out ↦
-      let none : has_variable (length context - (l + 1)) t ≡ false = none-occurs (length context) (left_out context p) t (not-false without_them) l out in
+      let none : has_variable (length context - (l + 1)) t ≡ false = none-occurs (length context) (left_out context p) t (not-true (has_level (length context) (left_out context p) t) without_them) l out in
       absurd (cc)
   | inr stays ↦ others l lt stays
 ]
-  where
-    not-false : not (has_level (length context) (left_out context p) t) ≡ true → has_level (length context) (left_out context p) t ≡ false
-    not-false h = by (has_level (length context) (left_out context p) t) h
-      where
-        by : (b : Bool) → not b ≡ true → b ≡ false
-        by true e = absurd (grind arith)
-        by false e = refl
 
 -- the dependants from `at` on, where the earlier ones are among those that are done
 dependants-over : (context : Telescope) (p : ℕ) (u : Term) → p < length context → lacks context p u ≡ true
@@ -223,9 +217,6 @@ other-lacks context p at lt stays i low out =
       | inr there ↦ inr there
     ]
 
-here-or_before : (i at : ℕ) → i < at + 1 → (i ≡ at) ⊎ (i < at)
-here-or_before i at low = grind arith
-
 -- the types of the other variables come first, in their order
 others-over : (context : Telescope) (p : ℕ) (u : Term) → p < length context → lacks context p u ≡ true
     → (at count : ℕ) (done : List ℕ) → at + count ≡ length context
@@ -244,7 +235,7 @@ others-over context p u lt free at (suc count) done e others =
     next : (levels : List ℕ) → (is_among at (left_out context p) ≡ false → is_among at levels ≡ true)
         → ((i : ℕ) → i < at → is_among i (left_out context p) ≡ false → is_among i levels ≡ true)
         → (i : ℕ) → i < at + 1 → is_among i (left_out context p) ≡ false → is_among i levels ≡ true
-    next levels own before i low stays = elim (here-or_before i at low) [
+    next levels own before i low stays = elim (here-or_below i at low) [
       | inl same ↦
           subst (λ x. is_among x levels ≡ true) (sym same) (own (subst (λ x. is_among x (left_out context p) ≡ false) same stays))
       | inr less ↦ before i less stays

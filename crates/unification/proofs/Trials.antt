@@ -1,6 +1,6 @@
 -- What holds of each turn that a trial answers, from what holds of its parts. Nothing is said of refusals, and of a rule that does
 -- not apply.
-use Rattle.std.proofs.Common.{◌≡◌, ℕ, ◌<◌, Bool, true, false, cond, Option, Some, None, IfSome, Result, Ok, IfOk, refl, arith}
+use Rattle.std.proofs.Common.{◌≡◌, ℕ, ◌<◌, Bool, true, false, cond, Option, Some, None, IfSome, Result, Ok, Err, IfOk, refl, arith}
 use Rattle.theory.specs.Terms.{Term}
 use Rattle.theory.specs.Terms.Term.{Var}
 use Rattle.theory.specs.Signatures.{Signature}
@@ -20,6 +20,11 @@ use Rattle.unification.specs.declared.why.Why.{Why}
 -- each turn that is answered has P
 abbrev pub Turns : (Turn → Type 0) → Trial → Type 0
 Turns P trial = (left : ℕ) → Answers (λ turn. IfSome turn P) (trial left)
+
+-- of an answer of which nothing is to be known
+pub any-answer : {A : Type 0} (r : Result A Stop) → IfOk r (λ a. Unit {0})
+any-answer (Ok a) = tt
+any-answer (Err e) = tt
 
 pub does_not_apply-has : (P : Turn → Type 0) → Turns P does_not_apply
 does_not_apply-has P left = tt
