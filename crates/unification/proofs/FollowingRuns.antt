@@ -6,7 +6,7 @@ use Rattle.core_terms.specs.CaseTrees.{Step}
 use Rattle.core_terms.specs.declared.stop.Stop.{Stop}
 use Rattle.core_terms.proofs.Answers.{Answers, and_next-has}
 use Rattle.kernel_reduce.specs.Reduction.{answered}
-use Rattle.unification.specs.Laws.{IsReached, RunFollows, StartScoped, TurnScoped}
+use Rattle.unification.specs.Laws.{IsReached, RunFollows}
 use Rattle.unification.specs.Laws.IsReached.{solved, absurd as is_absurd, stuck}
 use Rattle.unification.specs.Outcomes.{Outcome, before}
 use Rattle.unification.specs.Rules.{Steps}
@@ -17,6 +17,8 @@ use Rattle.unification.specs.States.{State}
 use Rattle.unification.specs.Strategy.{turn_of}
 use Rattle.unification.specs.Turns.{Turn, Done, Goes, Fails, Sticks}
 use Rattle.unification.proofs.FollowingTurns.{FollowsWhole, turn-whole}
+use Rattle.unification.proofs.ScopedEquations.{start-scoped}
+use Rattle.unification.proofs.TurnScopes.{turn-scoped}
 
 -- from scoped states each outcome is reached
 abbrev Reaches : Signature → Going → Type 0
@@ -36,10 +38,10 @@ reached-before S s t step outcome scoped follows (stuck u steps l r why chain) =
 abbrev IsGoodTurn : Signature → State → Turn → Type 0
 IsGoodTurn S s turn = FollowsWhole S s turn × IsScopedTurn S s turn
 
-good-turn : TurnScoped → (S : Signature) (s : State) (left : ℕ) → IsReady S → IsScopedState S s
+good-turn : (S : Signature) (s : State) (left : ℕ) → IsReady S → IsScopedState S s
     → Answers (λ turn. IfSome turn (IsGoodTurn S s)) (turn_of S s left)
-good-turn turn_scoped S s left ready scoped =
-    by (turn_of S s left).0 (turn-whole S s left ready scoped) (turn_scoped S s left ready scoped)
+good-turn S s left ready scoped =
+    by (turn_of S s left).0 (turn-whole S s left ready scoped) (turn-scoped S s left ready scoped)
   where
     by : (r : Result (Option Turn) Stop) → IfOk r (λ turn. IfSome turn (FollowsWhole S s)) → IfOk r (λ turn. IfSome turn (IsScopedTurn S s))
         → IfOk r (λ turn. IfSome turn (IsGoodTurn S s))
@@ -57,11 +59,11 @@ after-reaches S go reaches s scoped (Some (Fails step u v)) h left = is_absurd s
 after-reaches S go reaches s scoped (Some (Sticks why u v)) h left = stuck s [] u v why (none s)
 after-reaches S go reaches s scoped None h left = tt
 
-turn-reaches : TurnScoped → (S : Signature) → IsReady S → (go : State → ℕ → Going)
+turn-reaches : (S : Signature) → IsReady S → (go : State → ℕ → Going)
     → ((s : State) (left : ℕ) → Reaches S (go s left)) → Reaches S (one_turn S go)
-turn-reaches turn_scoped S ready go reaches s left scoped =
+turn-reaches S ready go reaches s left scoped =
     and_next-has (λ turn. IfSome turn (IsGoodTurn S s)) (IsReached S s) (turn_of S s left) _
-    (good-turn turn_scoped S s left ready scoped)
+    (good-turn S s left ready scoped)
     (λ turn rest h. after-reaches S (go s left) (reaches s left) s scoped turn h rest)
 
 nowhere-reaches : (S : Signature) → Reaches S nowhere
@@ -76,34 +78,33 @@ measure-reaches S units variables size hu hv hs s left t rest scoped = by (nat_l
     by false true = hv t rest scoped
     by false false = hs t rest scoped
 
-size-reaches : TurnScoped → (S : Signature) → IsReady S → (units variables : Going) → Reaches S units → Reaches S variables
+size-reaches : (S : Signature) → IsReady S → (units variables : Going) → Reaches S units → Reaches S variables
     → (size : ℕ) → Reaches S (by_size S units variables size)
-size-reaches turn_scoped S ready units variables hu hv zero s left scoped =
-    turn-reaches turn_scoped S ready (by_measure units variables nowhere)
+size-reaches S ready units variables hu hv zero s left scoped =
+    turn-reaches S ready (by_measure units variables nowhere)
     (measure-reaches S units variables nowhere hu hv (nowhere-reaches S)) s left scoped
-size-reaches turn_scoped S ready units variables hu hv (suc size) s left scoped =
-    turn-reaches turn_scoped S ready (by_measure units variables (by_size S units variables size))
+size-reaches S ready units variables hu hv (suc size) s left scoped =
+    turn-reaches S ready (by_measure units variables (by_size S units variables size))
     (measure-reaches S units variables (by_size S units variables size) hu hv
-    (size-reaches turn_scoped S ready units variables hu hv size))
+    (size-reaches S ready units variables hu hv size))
     s left scoped
 
-variables-reach : TurnScoped → (S : Signature) → IsReady S → (units : Going) → Reaches S units → (variables : ℕ)
+variables-reach : (S : Signature) → IsReady S → (units : Going) → Reaches S units → (variables : ℕ)
     → Reaches S (by_variables S units variables)
-variables-reach turn_scoped S ready units hu zero s left scoped =
-    size-reaches turn_scoped S ready units nowhere hu (nowhere-reaches S) (size_of_sides s.equations) s left scoped
-variables-reach turn_scoped S ready units hu (suc variables) s left scoped =
-    size-reaches turn_scoped S ready units (by_variables S units variables) hu
-    (variables-reach turn_scoped S ready units hu variables) (size_of_sides s.equations) s left scoped
+variables-reach S ready units hu zero s left scoped =
+    size-reaches S ready units nowhere hu (nowhere-reaches S) (size_of_sides s.equations) s left scoped
+variables-reach S ready units hu (suc variables) s left scoped =
+    size-reaches S ready units (by_variables S units variables) hu
+    (variables-reach S ready units hu variables) (size_of_sides s.equations) s left scoped
 
-units-reach : TurnScoped → (S : Signature) → IsReady S → (units : ℕ) → Reaches S (by_units S units)
-units-reach turn_scoped S ready zero s left scoped =
-    variables-reach turn_scoped S ready nowhere (nowhere-reaches S) (length s.context) s left scoped
-units-reach turn_scoped S ready (suc units) s left scoped =
-    variables-reach turn_scoped S ready (by_units S units) (units-reach turn_scoped S ready units) (length s.context) s left scoped
+units-reach : (S : Signature) → IsReady S → (units : ℕ) → Reaches S (by_units S units)
+units-reach S ready zero s left scoped =
+    variables-reach S ready nowhere (nowhere-reaches S) (length s.context) s left scoped
+units-reach S ready (suc units) s left scoped =
+    variables-reach S ready (by_units S units) (units-reach S ready units) (length s.context) s left scoped
 
--- the run of a problem follows the rules, where what is made of scoped terms is scoped
-pub run-follows : StartScoped → TurnScoped → RunFollows
-run-follows start_scoped turn_scoped S p s left ready scoped start =
+-- the run of a problem follows the rules
+pub run_follows : RunFollows
+run_follows S p s left ready scoped start =
     transport (λ made. IfOk (and_next (answered made left) (λ t rest. run_of S t rest)).0 (IsReached S s)) (sym start)
-    (units-reach turn_scoped S ready left s left
-    (transport (λ made. IfOk made (IsScopedState S)) start (start_scoped S p ready scoped)))
+    (units-reach S ready left s left (transport (λ made. IfOk made (IsScopedState S)) start (start-scoped S p ready scoped)))

@@ -7,13 +7,14 @@ use Rattle.core_terms.specs.CaseTrees.{Step}
 use Rattle.tele_eq.specs.ReflexivityLaws.{EachConverts}
 use Rattle.unification.specs.Coherence.{IsCoherent}
 use Rattle.unification.specs.Heights.{start_made}
-use Rattle.unification.specs.Laws.{under, Chain, IsReached, RunFollows, RunUnifies}
+use Rattle.unification.specs.Laws.{under, Chain, IsReached, RunUnifies}
 use Rattle.unification.specs.Laws.IsReached.{solved}
 use Rattle.unification.specs.Outcomes.{Solved}
 use Rattle.unification.specs.Rules.{ChainWith, Steps}
 use Rattle.unification.specs.Rules.ChainWith.{none, more}
 use Rattle.unification.specs.ScopedStates.{IsReady, IsScopedState, IsScopedProblem, IsScopedAt}
 use Rattle.unification.specs.States.{State, Problem}
+use Rattle.unification.proofs.FollowingRuns.{run_follows}
 use Rattle.unification.proofs.SolutionLaws.{solved_is_unified}
 
 -- a step more behind a chain
@@ -47,8 +48,8 @@ reached-unifies : (S : Signature) (p : Problem) (s : State) (steps : List Step) 
 reached-unifies S p s steps context solution ready scoped start coherent (solved t steps' chain end) =
     solved_is_unified S p s t steps ready scoped start (coherent-chain S s steps coherent s t [] steps refl (none s) chain) end
 
--- where runs follow the rules
-pub run-unifies : RunFollows → RunUnifies
-run-unifies follows S p s left steps context solution ready scoped start is coherent =
+-- what the run of a problem answers as solved is unified
+pub run_unifies : RunUnifies
+run_unifies S p s left steps context solution ready scoped start is coherent =
     reached-unifies S p s steps context solution ready scoped start coherent
-    (transport (λ r. IfOk r (IsReached S s)) is (follows S p s left ready scoped start))
+    (transport (λ r. IfOk r (IsReached S s)) is (run_follows S p s left ready scoped start))
