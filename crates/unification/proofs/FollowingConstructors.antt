@@ -1,21 +1,17 @@
 -- A trial of injectivity and conflict follows the rules: for constructors on both sides of an equation, and for the first equation.
-use Rattle.std.proofs.Common.{◌≡◌, ◌≢◌, ℕ, ◌≤◌, ◌==◌, Bool, true, false, cond, Option, Some, None, IfSome, Ok, List, [], ◌∷◌, length, refl, ap, sym, subst as transport, subst₂, ◌∙◌, arith}
+use Rattle.std.proofs.Common.{◌≡◌, ◌≢◌, ℕ, ◌≤◌, ◌==◌, Bool, true, false, cond, Option, Some, None, IfSome, List, [], ◌∷◌, length, refl, sym, subst as transport, subst₂, arith}
 use Rattle.std.proofs.lemmas.Bool.Decides.{nat_tests}
 use Rattle.theory.specs.Terms.{Term}
-use Rattle.theory.specs.Families.{Family, Constructor}
+use Rattle.theory.specs.Families.{Family}
 use Rattle.theory.specs.Signatures.{Signature}
 use Rattle.theory.specs.SignatureScopes.{IsScoped, IsScopedSignature}
 use Rattle.theory.specs.Conversion.{Converts}
 use Rattle.theory.specs.Conversion.Converts.{same}
-use Rattle.core_terms.specs.Answers.{bounded_terms}
-use Rattle.core_terms.specs.declared.stop.Stop.TheVariants.{Deep}
 use Rattle.core_terms.proofs.Answers.{Answers, and_next-has}
 use Rattle.kernel_reduce.specs.Reduction.{whnf_of}
 use Rattle.unification.specs.Built.{Built, term_of, built_of, greatest_level, is_fitting, has_no_indices}
 use Rattle.unification.specs.Constructors.{where_fits, both_heads, right_head, heads, with_built, with_heads, on_constructors, conflict_step, injection_step, constructor_turn, constructor_trial}
-use Rattle.unification.specs.Heights.{injected_made, injection_made, equations_made, group_made}
-use Rattle.unification.specs.Injecting.{injected_equations, injected_state}
-use Rattle.unification.specs.Records.{argument_items, constructor_terms}
+use Rattle.unification.specs.Injecting.{injected_state}
 use Rattle.unification.specs.Rules.{Steps, IsAbsurd}
 use Rattle.unification.specs.Rules.Steps.{inject}
 use Rattle.unification.specs.Rules.IsAbsurd.{conflict}
@@ -24,8 +20,9 @@ use Rattle.unification.specs.Turns.{Trial, type_in}
 use Rattle.unification.proofs.BuiltTerms.{IsBuiltTerm, built-is, equal-numbers}
 use Rattle.unification.proofs.FirstEquations.{IsAtHead, first-as}
 use Rattle.unification.proofs.Reducts.{IsReduct, whnf-reduct}
-use Rattle.unification.proofs.SolutionLaws.{ok_is, then-ok, test-ok}
-use Rattle.unification.proofs.FollowingTrials.{FollowsOn, TrialFollows, goes_to-follows, fails_at-follows, cond-follows}
+use Rattle.unification.proofs.MovedStates.{injection_made-has}
+use Rattle.unification.proofs.Trials.{goes_to-has}
+use Rattle.unification.proofs.FollowingTrials.{FollowsOn, TrialFollows, fails_at-follows, cond-follows}
 
 -- ---- head forms
 
@@ -97,18 +94,6 @@ on_constructors-follows S s fits n u v go closed hu hv follows left =
         (transport (λ o. TrialFollows S s (with_built go sides.0 sides.1 (Some h.b) o)) (sym h.right_built)
         (follows sides.0 h.b sides.1 h.d h.left h.right (built-is S sides.0 h.b h.left_built) (built-is S sides.1 h.d h.right_built) h.fitting h.family))
 
--- ---- states behind an injectivity
-
-pub injection-is : (s t : State) (g n number : ℕ) (f : Family) (c : Constructor) (ps us vs : List Term)
-    → injection_made s g n number f c ps us vs ≡ Ok t → injected_state s g n number f c ps us vs ≡ t
-injection-is s t g n number f c ps us vs h =
-    let made = then-ok (injected_made s g n number f c ps us vs) _ t h in
-    let types = then-ok (equations_made (argument_items n ps c) us vs) _ made.0 made.1 in
-    let proofs = then-ok (group_made n number f c ps us vs) _ made.0 types.2 in
-    let terms = then-ok (bounded_terms (constructor_terms n number ps c)) _ made.0 proofs.2 in
-    let equations : injected_equations s g n number f c ps us vs ≡ made.0 = ok_is terms.2 in
-    ap (λ es. record s { equations = es }) equations ∙ test-ok _ _ t Deep made.2
-
 -- ---- the first equation
 
 pub fitting-level : (f : Family) → is_fitting f ≡ true → f.level ≤ greatest_level
@@ -130,9 +115,8 @@ constructor_turn-follows : (S : Signature) (s : State) (e : Equation) → IsAtHe
 constructor_turn-follows S s e head l b r d hl hr hb hd fits family =
     cond-follows S s (b.number == d.number) _ _
     (λ one. cond-follows S s (has_no_indices b.family) _ _
-    (λ plain. goes_to-follows S s (injection_step 1 (type_in e.type) l r b) _
-    (λ t made. transport (Steps S s (injection_step 1 (type_in e.type) l r b))
-    (injection-is s t 1 b.n b.number b.family b.constructor b.parameters b.arguments d.arguments made)
+    (λ plain. goes_to-has (FollowsOn S s) (injection_step 1 (type_in e.type) l r b) _
+    (injection_made-has (Steps S s (injection_step 1 (type_in e.type) l r b)) s 1 b.n b.number b.family b.constructor b.parameters b.arguments d.arguments
     (subst₂ (λ x y. Steps S s (injection_step 1 (type_in e.type) x y b) (injected_state s 1 b.n b.number b.family b.constructor b.parameters b.arguments d.arguments))
     (sym hb.term) (sym hd.term)
     (inject s e (type_in e.type) b d hb.built hd.built (sym family) (equal-numbers b.number d.number one) (fitting-level b.family fits)

@@ -11,7 +11,6 @@ use Rattle.theory.specs.Eliminators.{no_variable}
 use Rattle.theory.specs.Signatures.{Signature}
 use Rattle.theory.specs.SignatureScopes.{IsScopedSignature}
 use Rattle.theory.specs.Conversion.{Converts}
-use Rattle.theory.proofs.Lists.{some_is}
 use Rattle.theory.proofs.ScopedTypes.{length-inst_telescope}
 use Rattle.core_terms.specs.Answers.{Spent, and_next}
 use Rattle.core_terms.specs.declared.stop.Stop.{Stop}
@@ -35,12 +34,15 @@ use Rattle.unification.specs.Rules.IsAbsurd.{conflict_group}
 use Rattle.unification.specs.ScopedStates.{IsScopedEquation, AreScopedEquations}
 use Rattle.unification.specs.States.{Equation, State, left_sides, right_sides, types_as_they_stand}
 use Rattle.unification.proofs.BuiltTerms.{IsBuiltTerm, equal-numbers}
-use Rattle.unification.proofs.FollowingConstructors.{on_constructors-follows, injection-is, apart-numbers}
+use Rattle.unification.proofs.FollowingConstructors.{on_constructors-follows, apart-numbers}
 use Rattle.unification.proofs.Memberships.{IsMembership, membership-is}
 use Rattle.unification.proofs.Reducts.{IsReduct, whnf-reduct}
-use Rattle.unification.proofs.SolutionLaws.{equations-are}
+use Rattle.unification.proofs.MovedStates.{injection_made-has}
+use Rattle.unification.proofs.MovedEquations.{equations-at}
+use Rattle.unification.proofs.ScopedEquations.{equations_made-has}
 use Rattle.unification.proofs.SolvedProblems.{length-items_at, length-equations}
-use Rattle.unification.proofs.FollowingTrials.{FollowsOn, TrialFollows, or_else-follows, cond-follows, goes_to-follows, fails_at-follows}
+use Rattle.unification.proofs.Trials.{or_else-has, goes_to-has}
+use Rattle.unification.proofs.FollowingTrials.{FollowsOn, TrialFollows, cond-follows, fails_at-follows}
 
 -- ---- types that are found convertible
 
@@ -88,37 +90,28 @@ equations-have : (S : Signature) (m : Membership) (group : List Equation) → le
     → Answers (λ holds. IsTrue holds
     → EachConverts S (types_as_they_stand group) (equations (family_items m.n m.family m.parameters) (left_sides group) (right_sides group)))
     (are_equations_of S m group left)
-equations-have S m group count left = by (equations_made X (left_sides group) (right_sides group)) (λ types made. equations-are X (left_sides group) (right_sides group) types made)
+equations-have S m group count left = 
+    by (equations_made X (left_sides group) (right_sides group))
+    (equations_made-has (λ types. types ≡ equations X (left_sides group) (right_sides group)) X (left_sides group) (right_sides group) refl)
   where
     X : List Item
     X = family_items m.n m.family m.parameters
 
     by : (made : Result Telescope Stop)
-        → ((types : Telescope) → made ≡ Ok types → types ≡ equations (family_items m.n m.family m.parameters) (left_sides group) (right_sides group))
+        → IfOk made (λ types. types ≡ equations (family_items m.n m.family m.parameters) (left_sides group) (right_sides group))
         → Answers (λ holds. IsTrue holds
         → EachConverts S (types_as_they_stand group) (equations (family_items m.n m.family m.parameters) (left_sides group) (right_sides group)))
         (and_next (answered made left) (λ types rest. all_convertible S (types_as_they_stand group) types rest))
-    by (Ok types) are =
-        let is = are types refl in
+    by (Ok types) is =
         transport (λ others. Answers (λ holds. IsTrue holds → EachConverts S (types_as_they_stand group) others) (all_convertible S (types_as_they_stand group) types left)) is
         (all-convertible_has S (types_as_they_stand group) types
         (length-types group ∙ (count
         ∙ (sym (length-family_items m.n m.family m.parameters)
         ∙ (sym (length-equations (family_items m.n m.family m.parameters) (left_sides group) (right_sides group)) ∙ ap length (sym is)))))
         left)
-    by (Err stop) are = tt
+    by (Err stop) is = tt
 
 -- ---- the last equation of a group
-
-equation-at : (S : Signature) (n from k : ℕ) (equations : List Equation) (e : Equation) → AreScopedEquations S n from equations
-    → slice_get equations k ≡ Some e → IsScopedEquation S n (from + k) e
-equation-at S n from k [] e scoped at = absurd (grind arith)
-equation-at S n from zero (d ∷ equations) e scoped at =
-    let same : from ≡ from + zero = omega arith in
-    transport (λ i. IsScopedEquation S n i e) same (transport (IsScopedEquation S n from) (some_is at) scoped.0)
-equation-at S n from (suc k) (d ∷ equations) e scoped at =
-    let next : from + 1 + k ≡ from + suc k = omega arith in
-    transport (λ i. IsScopedEquation S n i e) next (equation-at S n (from + 1) k equations e scoped.1 at)
 
 length-group : (k : ℕ) (equations : List Equation) (e : Equation) → slice_get equations k ≡ Some e → length (take (k + 1) equations) ≡ k + 1
 length-group k equations e at =
@@ -132,9 +125,8 @@ group_turn-follows : (S : Signature) (s : State) (k : ℕ) (e : Equation) (m : M
     → IsGroup S s k b.n m.family m.parameters type (term_of b) (term_of d) → TrialFollows S s (group_turn S s k e m type l b r d)
 group_turn-follows S s k e m type l b r d closed scoped hl hr hb hd family group =
     cond-follows S s (b.number == d.number) _ _
-    (λ one. goes_to-follows S s (injection_step (k + 1) type l r b) _
-    (λ t made. transport (Steps S s (injection_step (k + 1) type l r b))
-    (injection-is s t (k + 1) b.n b.number m.family b.constructor m.parameters b.arguments d.arguments made)
+    (λ one. goes_to-has (FollowsOn S s) (injection_step (k + 1) type l r b) _
+    (injection_made-has (Steps S s (injection_step (k + 1) type l r b)) s (k + 1) b.n b.number m.family b.constructor m.parameters b.arguments d.arguments
     (subst₂ (λ x y. Steps S s (injection_step (k + 1) type x y b) (injected_state s (k + 1) b.n b.number m.family b.constructor m.parameters b.arguments d.arguments))
     (sym hb.term) (sym hd.term)
     (inject_group s k m.family m.parameters type b d hb.built hd.built (sym family) (equal-numbers b.number d.number one) group))))
@@ -204,14 +196,16 @@ last-follows S s k closed scoped some (Some e) at = λ left.
     none = omega arith
 
     there : IsScopedEquation S (length s.context) k e
-    there = transport (λ i. IsScopedEquation S (length s.context) i e) none (equation-at S (length s.context) 0 k s.equations e scoped at)
+    there =
+        transport (λ i. IsScopedEquation S (length s.context) i e) none
+        (transport (λ o. IfSome o (IsScopedEquation S (length s.context) (0 + k))) at (equations-at S (length s.context) 0 k s.equations scoped))
 
 -- the trials of all groups follow the rules
 pub groups-follow : (S : Signature) (s : State) → IsScopedSignature S → AreScopedEquations S (length s.context) 0 s.equations → (k : ℕ)
     → TrialFollows S s (group_trials S s k)
 groups-follow S s closed scoped zero = λ left. tt
 groups-follow S s closed scoped (suc k) =
-    or_else-follows S s (group_trial S s (suc k)) (group_trials S s k)
+    or_else-has (FollowsOn S s) (group_trial S s (suc k)) (group_trials S s k)
     (last-follows S s (suc k) closed scoped some (slice_get s.equations (suc k)) refl) (groups-follow S s closed scoped k)
   where
     some : suc k ≡ 0 → ⊥

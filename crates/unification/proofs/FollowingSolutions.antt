@@ -1,6 +1,6 @@
 -- A trial of the rule of solution is a step of the rules, where it goes on.
-use Rattle.std.proofs.Common.{◌≡◌, ℕ, ◌+◌, ◌-◌, ◌<◌, ◌≤◌, Bool, true, false, cond, Option, Some, None, IfSome, Ok, IfOk, length, refl, ap, sym, subst as transport, arith}
-use Rattle.theory.specs.Terms.{Term, free_of}
+use Rattle.std.proofs.Common.{◌≡◌, ℕ, ◌+◌, ◌-◌, ◌<◌, Bool, true, false, cond, Option, Some, None, IfSome, Ok, IfOk, length, refl, ap, sym, subst as transport, arith}
+use Rattle.theory.specs.Terms.{Term}
 use Rattle.theory.specs.Terms.Term.{Var}
 use Rattle.theory.specs.Signatures.{Signature}
 use Rattle.theory.specs.SignatureScopes.{IsScoped, IsScopedSignature}
@@ -10,8 +10,7 @@ use Rattle.theory.proofs.Congruence.{converts-trans}
 use Rattle.theory.proofs.Lists.{some_is}
 use Rattle.core_terms.specs.Answers.{and_next}
 use Rattle.core_terms.specs.CaseTrees.{Step}
-use Rattle.core_terms.specs.declared.stop.Stop.TheVariants.{Deep}
-use Rattle.core_terms.proofs.Answers.{Answers, and_next-has, and_then-is}
+use Rattle.core_terms.proofs.Answers.{Answers, and_next-has, and_then-has}
 use Rattle.kernel_reduce.specs.Reduction.{answered, nesting, normal_of}
 use Rattle.kernel_reduce.specs.Tidying.{tidy_of}
 use Rattle.unification.specs.Heights.{bounded_state}
@@ -23,8 +22,9 @@ use Rattle.unification.specs.States.{Equation, State}
 use Rattle.unification.specs.Turns.{type_in}
 use Rattle.unification.proofs.FirstEquations.{IsAtHead, type-scoped, first-as}
 use Rattle.unification.proofs.Reducts.{IsReduct, whnf-reduct, normal-reduct}
-use Rattle.unification.proofs.SolutionLaws.{test-ok}
-use Rattle.unification.proofs.FollowingTrials.{FollowsOn, TrialFollows, or_else-follows, on_tidied-follows}
+use Rattle.unification.proofs.ScopedEquations.{bounded_state-has}
+use Rattle.unification.proofs.Trials.{or_else-has, variable-low}
+use Rattle.unification.proofs.FollowingTrials.{FollowsOn, TrialFollows, on_tidied-follows}
 
 pub variable-is : (t : Term) (x : ℕ) → variable_in t ≡ Some x → t ≡ Var x
 variable-is (Var y) x e = ap Var (some_is e)
@@ -74,8 +74,8 @@ state_solved-has : (S : Signature) (s : State) (e : Equation) (x : ℕ) (A other
     → (found : Option Term) → IfSome found (IsSolution S s x A other) → IfOk (state_solved s e x A found) (IsStepBy S s step)
 state_solved-has S s e x A other step steps None h = tt
 state_solved-has S s e x A other step steps (Some u) h =
-    and_then-is (IsStepBy S s step) (bounded_state (solved_state s e.place.level (length s.context - (x + 1)) A u)) _
-    (λ t made. transport (Steps S s (step u)) (test-ok _ _ t Deep made) (steps u h))
+    and_then-has (Steps S s (step u)) (IsStepBy S s step) (bounded_state (solved_state s e.place.level (length s.context - (x + 1)) A u)) _
+    (bounded_state-has (Steps S s (step u)) (solved_state s e.place.level (length s.context - (x + 1)) A u) (steps u h)) (λ t follows. follows)
 
 side_solved-has : (S : Signature) (s : State) (e : Equation) (x : ℕ) (A other : Term) (step : Term → Step) → IsScopedSignature S
     → IsScoped S (length s.context) other
@@ -100,17 +100,14 @@ solve_side-follows S s e A other step (Some x) closed scoped steps left =
     turn (Some pair) h = h
 
 -- a variable that is scoped is one of the context
-scoped-variable : (S : Signature) (n : ℕ) (t : Term) (x : ℕ) → t ≡ Var x → IsScoped S n t → x < n
-scoped-variable S n t x e h =
-    let le : free_of t ≤ n = h.variables in
-    let is : free_of t ≡ x + 1 = ap free_of e in
-    omega arith
+scoped-variable : (S : Signature) (n : ℕ) (t : Term) (x : ℕ) → variable_in t ≡ Some x → IsScoped S n t → x < n
+scoped-variable S n t x e h = transport (λ o. IfSome o (λ y. y < n)) e (variable-low S n t h)
 
 solve_sides-follows : (S : Signature) (s : State) (e : Equation) (A u v : Term) → IsAtHead S s e → Converts S (type_in e.type) A
     → IsReduct S (length s.context) e.left u → IsReduct S (length s.context) e.right v
     → TrialFollows S s (solve_sides S s e A u v)
 solve_sides-follows S s e A u v head type hu hv =
-    or_else-follows S s _ _
+    or_else-has (FollowsOn S s) _ _
     (solve_side-follows S s e A u (right_step A v) (variable_in v) head.signature hu.scoped right)
     (solve_side-follows S s e A v (left_step A u) (variable_in u) head.signature hv.scoped left)
   where
@@ -121,7 +118,7 @@ solve_sides-follows S s e A u v head type hu hv =
         transport (λ t. Steps S s (right_step A t x w) (solved_state s e.place.level (level_of (length s.context) x) A w)) (sym is)
         (solve_right s e x A w
         (first-as S s e A w (Var x) head type (converts-trans hu.converts h.reduct.converts) (transport (Converts S e.right) is hv.converts))
-        (record { variable = scoped-variable S (length s.context) v x is hv.scoped; type = h.type; term = h.term }))
+        (record { variable = scoped-variable S (length s.context) v x found hv.scoped; type = h.type; term = h.term }))
 
     left : (x : ℕ) → variable_in u ≡ Some x → (w : Term) → IsSolution S s x A v w
         → Steps S s (left_step A u x w) (solved_state s e.place.level (level_of (length s.context) x) A w)
@@ -130,7 +127,7 @@ solve_sides-follows S s e A u v head type hu hv =
         transport (λ t. Steps S s (left_step A t x w) (solved_state s e.place.level (level_of (length s.context) x) A w)) (sym is)
         (solve_left s e x A w
         (first-as S s e A (Var x) w head type (transport (Converts S e.left) is hu.converts) (converts-trans hv.converts h.reduct.converts))
-        (record { variable = scoped-variable S (length s.context) u x is hu.scoped; type = h.type; term = h.term }))
+        (record { variable = scoped-variable S (length s.context) u x found hu.scoped; type = h.type; term = h.term }))
 
 with_variable-follows : (S : Signature) (s : State) (e : Equation) (u v : Term) (from_left from_right : Option ℕ) → IsAtHead S s e
     → IsReduct S (length s.context) e.left u → IsReduct S (length s.context) e.right v

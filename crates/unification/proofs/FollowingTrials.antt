@@ -1,19 +1,19 @@
 -- Trials whose turns follow the rules, and what is made of such trials.
-use Rattle.std.proofs.Common.{◌≡◌, ℕ, Bool, true, false, cond, Option, Some, None, IfSome, Result, Ok, Err, refl}
+use Rattle.std.proofs.Common.{◌≡◌, ℕ, Bool, true, false, cond, IfSome, refl}
 use Rattle.theory.specs.Terms.{Term}
 use Rattle.theory.specs.Signatures.{Signature}
 use Rattle.theory.specs.SignatureScopes.{IsScoped, IsScopedSignature}
 use Rattle.theory.specs.Conversion.{Converts}
 use Rattle.theory.proofs.Congruence.{converts-trans, converts-sym}
 use Rattle.core_terms.specs.CaseTrees.{Step}
-use Rattle.core_terms.specs.declared.stop.Stop.{Stop}
 use Rattle.core_terms.proofs.Answers.{Answers, and_next-has}
 use Rattle.kernel_reduce.specs.Tidying.{tidy_of}
 use Rattle.unification.specs.Laws.{Follows}
-use Rattle.unification.specs.Rules.{Steps, IsAbsurd}
+use Rattle.unification.specs.Rules.{IsAbsurd}
 use Rattle.unification.specs.States.{State}
-use Rattle.unification.specs.Turns.{Turn, Done, Trial, tidied, on_tidied, goes_to, fails_at, sticks_at, or_else, unless_found}
+use Rattle.unification.specs.Turns.{Turn, Done, Trial, tidied, on_tidied, fails_at, sticks_at}
 use Rattle.unification.specs.declared.why.Why.{Why}
+use Rattle.unification.proofs.Trials.{Turns}
 use Rattle.unification.proofs.Reducts.{IsReduct, whnf-reduct}
 
 -- a turn that follows the rules in a state with an equation: it does not say that the state is solved
@@ -21,32 +21,15 @@ abbrev pub FollowsOn : Signature → State → Turn → Type 0
 FollowsOn S s Done = ⊥
 FollowsOn S s turn = Follows S s turn
 
--- where the trial answers a turn, this follows the rules
+-- the turns that a trial answers follow the rules
 abbrev pub TrialFollows : Signature → State → Trial → Type 0
-TrialFollows S s trial = (left : ℕ) → Answers (λ turn. IfSome turn (FollowsOn S s)) (trial left)
-
--- one trial, and else a second one
-pub or_else-follows : (S : Signature) (s : State) (first second : Trial) → TrialFollows S s first → TrialFollows S s second
-    → TrialFollows S s (or_else first second)
-or_else-follows S s first second h k left =
-    and_next-has (λ turn. IfSome turn (FollowsOn S s)) (λ turn. IfSome turn (FollowsOn S s)) (first left) (λ turn rest. unless_found turn second rest)
-    (h left) by
-  where
-    by : (turn : Option Turn) (rest : ℕ) → IfSome turn (FollowsOn S s) → Answers (λ turn. IfSome turn (FollowsOn S s)) (unless_found turn second rest)
-    by (Some turn) rest found = found
-    by None rest found = k rest
+TrialFollows S s trial = Turns (FollowsOn S s) trial
 
 -- one of two trials, by a test
 pub cond-follows : (S : Signature) (s : State) (test : Bool) (first second : Trial) → (test ≡ true → TrialFollows S s first)
     → (test ≡ false → TrialFollows S s second) → TrialFollows S s (cond test first second)
 cond-follows S s true first second h k = h refl
 cond-follows S s false first second h k = k refl
-
--- a step to the state that is made
-pub goes_to-follows : (S : Signature) (s : State) (step : Step) (made : Result State Stop)
-    → ((t : State) → made ≡ Ok t → Steps S s step t) → TrialFollows S s (goes_to step made)
-goes_to-follows S s step (Ok t) h left = h t refl
-goes_to-follows S s step (Err e) h left = tt
 
 -- both terms tidied
 pub tidied-reduct : (S : Signature) (n : ℕ) (u v : Term) → IsScopedSignature S → IsScoped S n u → IsScoped S n v → (left : ℕ)

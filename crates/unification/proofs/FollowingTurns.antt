@@ -4,7 +4,6 @@ use Rattle.theory.specs.Signatures.{Signature}
 use Rattle.theory.specs.Conversion.{Converts}
 use Rattle.theory.proofs.Congruence.{converts-trans, converts-sym}
 use Rattle.core_terms.specs.declared.stop.Stop.{Stop}
-use Rattle.core_terms.specs.declared.stop.Stop.TheVariants.{Deep}
 use Rattle.core_terms.proofs.Answers.{Answers, and_next-has}
 use Rattle.kernel_reduce.specs.Comparison.{convertible_of}
 use Rattle.kernel_reduce.specs.Reduction.{nesting}
@@ -16,6 +15,7 @@ use Rattle.unification.specs.Laws.{Follows, TurnFollows}
 use Rattle.unification.specs.Rules.{Steps}
 use Rattle.unification.specs.Rules.Steps.{delete as deleted}
 use Rattle.unification.specs.ScopedStates.{IsReady, IsScopedState, AreScopedEquations}
+use Rattle.unification.specs.Solving.{deleted_state}
 use Rattle.unification.specs.States.{Equation, State}
 use Rattle.unification.specs.Sticking.{stuck_trial}
 use Rattle.unification.specs.Strategy.{first_trials, trials, turn_of}
@@ -26,9 +26,10 @@ use Rattle.unification.proofs.FollowingCycles.{cycle-follows}
 use Rattle.unification.proofs.FirstEquations.{IsAtHead, type-scoped, first-as}
 use Rattle.unification.proofs.FollowingGroups.{groups-follow}
 use Rattle.unification.proofs.Reducts.{IsReduct, whnf-reduct}
-use Rattle.unification.proofs.SolutionLaws.{test-ok}
+use Rattle.unification.proofs.ScopedEquations.{bounded_state-has}
 use Rattle.unification.proofs.FollowingSolutions.{solution-follows}
-use Rattle.unification.proofs.FollowingTrials.{FollowsOn, TrialFollows, or_else-follows, cond-follows, goes_to-follows, on_tidied-follows, sticks_at-follows}
+use Rattle.unification.proofs.Trials.{or_else-has, goes_to-has}
+use Rattle.unification.proofs.FollowingTrials.{FollowsOn, TrialFollows, cond-follows, on_tidied-follows, sticks_at-follows}
 
 -- ---- deletion
 
@@ -39,8 +40,8 @@ delete-follows S s e head on converts left =
     (whnf-reduct S false (length s.context) left (type_in e.type) head.signature (type-scoped S s e head))
     (λ A rest hA.
     on_tidied-follows S s (length s.context) e.left e.right _ head.signature head.scoped.left head.scoped.right
-    (λ u v hu hv. goes_to-follows S s (deletion_step A u v) _
-    (λ t made. transport (Steps S s (deletion_step A u v)) (test-ok _ _ t Deep made)
+    (λ u v hu hv. goes_to-has (FollowsOn S s) (deletion_step A u v) _
+    (bounded_state-has (Steps S s (deletion_step A u v)) (deleted_state s e.place.level A u)
     (deleted s e A u v on (first-as S s e A u v head hA.converts hu.converts hv.converts)
     (converts-trans (converts-sym hu.converts) (converts-trans converts hv.converts)))))
     rest)
@@ -64,10 +65,10 @@ stuck-follows S s e head =
 
 first-follow : (S : Signature) (s : State) (e : Equation) → IsAtHead S s e → TrialFollows S s (first_trials S s e)
 first-follow S s e head =
-    or_else-follows S s _ _ (solution-follows S s e head)
-    (or_else-follows S s _ _ (constructor-follows S s e head)
-    (or_else-follows S s _ _ (cycle-follows S s e head)
-    (or_else-follows S s _ _ (deletion-follows S s e head) (stuck-follows S s e head))))
+    or_else-has (FollowsOn S s) _ _ (solution-follows S s e head)
+    (or_else-has (FollowsOn S s) _ _ (constructor-follows S s e head)
+    (or_else-has (FollowsOn S s) _ _ (cycle-follows S s e head)
+    (or_else-has (FollowsOn S s) _ _ (deletion-follows S s e head) (stuck-follows S s e head))))
 
 -- a turn that follows the rules, and says that a state is solved only where no equation is left
 abbrev pub FollowsWhole : Signature → State → Turn → Type 0
@@ -97,7 +98,7 @@ trials-follow : (S : Signature) (s : State) → IsReady S → IsScopedState S s 
 trials-follow S s ready scoped [] is left = is
 trials-follow S s ready scoped (e ∷ rest) is left =
     turn-weaker (FollowsOn S s) (FollowsWhole S s) (on-whole S s) (trials S s (e ∷ rest) left).0
-    (or_else-follows S s (group_trials S s (length rest)) (first_trials S s e) (groups-follow S s ready.scoped scoped.equations (length rest))
+    (or_else-has (FollowsOn S s) (group_trials S s (length rest)) (first_trials S s e) (groups-follow S s ready.scoped scoped.equations (length rest))
     (first-follow S s e
     (record {
       signature = ready.scoped;

@@ -37,4 +37,3 @@ mod StateRows
 pub mod Trials
 pub mod TurnScopes
 pub mod UnderInstances
-pub mod UnifyingRuns

@@ -9,6 +9,7 @@ use Rattle.theory.specs.Telescopes.{weaken_by}
 use Rattle.theory.proofs.Instances.{ap₃}
 use Rattle.tele_eq.specs.Dependences.{has_variable}
 use Rattle.tele_eq.specs.Environments.{Environment, put, put_under, put_variable}
+use Rattle.unification.proofs.Cases.{below-or_from}
 use Rattle.tele_eq.proofs.Carrying.{ups_by, inst-under, inst-none}
 
 -- behind the depth d the environment lifts its terms at the positions below `size`
@@ -18,9 +19,6 @@ Lifts s size d = (by j : ℕ) → j < size → s (d + by) j ≡ weaken_by by (s 
 -- what stands for variable n of a term over `size` variables, at a depth
 abbrev pub stands : Environment → (size d n : ℕ) → Term
 stands s size d n = cond (nat_lt n size) (s d (size - (n + 1))) (Var (n - size + d))
-
-sides : (n k : ℕ) → (n < k) ⊎ (k ≤ n)
-sides n k = grind arith
 
 -- ---- the three cases of a variable
 
@@ -45,7 +43,7 @@ above n k x y le = grind (arith, nat_tests)
 
 put-variable_stands : (s : Environment) (size d : ℕ) → Lifts s size d → (under n : ℕ)
     → put_variable s size d under n ≡ ups_by under (stands s size d) n
-put-variable_stands s size d lifts under n = by (sides n under) (sides n (size + under))
+put-variable_stands s size d lifts under n = by (below-or_from n under) (below-or_from n (size + under))
   where
     by : (n < under) ⊎ (under ≤ n) → (n < size + under) ⊎ (size + under ≤ n)
         → put_variable s size d under n ≡ ups_by under (stands s size d) n
@@ -99,7 +97,7 @@ apart n v h e = grind (arith, nat_tests)
 put-variable_without : (s s' : Environment) (size d p : ℕ) → p < size
     → ((depth j : ℕ) → (j ≡ p → ⊥) → s depth j ≡ s' depth j) → (under n : ℕ) → (n ≡ size - (p + 1) + under → ⊥)
     → put_variable s size d under n ≡ put_variable s' size d under n
-put-variable_without s s' size d p lt agree under n other = by (sides n under) (sides n (size + under))
+put-variable_without s s' size d p lt agree under n other = by (below-or_from n under) (below-or_from n (size + under))
   where
     by : (n < under) ⊎ (under ≤ n) → (n < size + under) ⊎ (size + under ≤ n)
         → put_variable s size d under n ≡ put_variable s' size d under n

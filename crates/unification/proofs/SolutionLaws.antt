@@ -1,60 +1,40 @@
--- The laws of solutions: a solved problem is unified, and so is what a run answers.
-use Rattle.std.proofs.Common.{◌≡◌, ℕ, Bool, true, false, cond, nat_le, Result, Ok, Err, List, [], ◌∷◌, length, map, All, refl, ap, ap₂, sym, subst as transport, ◌∙◌, arith}
+-- The laws of solutions: a solved problem is unified, where its steps are coherent, and so is what a run answers as solved.
+use Rattle.std.proofs.Common.{◌≡◌, ℕ, Ok, List, [], ◌∷◌, length, map, All, refl, ap, ap₂, sym, subst as transport, ◌∙◌, IfOk, ◌++◌}
 use Rattle.std.proofs.lemmas.List.Elements.{All-head, All-tail}
-use Rattle.theory.specs.Terms.{Term}
+use Rattle.theory.specs.Eliminators.{no_variable}
+use Rattle.theory.specs.SignatureScopes.{IsScoped}
+use Rattle.theory.specs.Signatures.{Signature}
 use Rattle.theory.specs.Substitutions.{inst, fill}
 use Rattle.theory.specs.Telescopes.{Telescope, variables}
-use Rattle.theory.specs.Eliminators.{no_variable}
-use Rattle.theory.specs.Signatures.{Signature}
-use Rattle.theory.specs.SignatureScopes.{IsScoped}
-use Rattle.core_terms.specs.Answers.{and_then, are_low}
-use Rattle.core_terms.specs.declared.stop.Stop.TheVariants.{Deep}
-use Rattle.tele_eq.specs.Items.{Item}
-use Rattle.tele_eq.specs.TelescopicEquality.{equations}
+use Rattle.theory.specs.Terms.{Term}
+use Rattle.core_terms.proofs.Answers.{and_then-has}
+use Rattle.core_terms.specs.CaseTrees.{Step}
 use Rattle.tele_eq.specs.ReflexivityLaws.{EachConverts}
+use Rattle.tele_eq.specs.TelescopicEquality.{equations}
+use Rattle.unification.specs.Coherence.{IsCoherent}
+use Rattle.unification.specs.Heights.{bounded_state, equations_made, start_made}
+use Rattle.unification.specs.Laws.{under, SolvedIsUnified, Chain, IsReached, RunUnifies}
+use Rattle.unification.specs.Laws.IsReached.{solved}
+use Rattle.unification.specs.Outcomes.{Solved}
+use Rattle.unification.specs.Rules.{ChainWith, Steps}
+use Rattle.unification.specs.Rules.ChainWith.{none, more}
+use Rattle.unification.specs.ScopedStates.{IsScopedProblem, IsReady, IsScopedState, IsScopedAt}
 use Rattle.unification.specs.States.{State, Problem, starting}
-use Rattle.unification.specs.ScopedStates.{IsScopedProblem}
-use Rattle.unification.specs.Heights.{most_places, are_low_items, bounded_items, equations_made, start_made}
-use Rattle.unification.specs.Laws.{under, SolvedIsUnified}
-use Rattle.unification.proofs.UnderInstances.{closed-bodies, inst-agree, fill-variables}
+use Rattle.unification.proofs.FollowingRuns.{run_follows}
+use Rattle.unification.proofs.ScopedEquations.{bounded_state-has, equations_made-has}
 use Rattle.unification.proofs.SolvedProblems.{IsUnifiedIn, sides-at, chain-unifies, length-equations}
-
--- ---- the state from which a problem is solved
-
-ok_or_other : {A E : Type 0} → A → Result A E → A
-ok_or_other a (Ok b) = b
-ok_or_other a (Err e) = a
-
-pub ok_is : {A E : Type 0} {x y : A} → ◌≡◌ {A = Result A E} (Ok x) (Ok y) → x ≡ y
-unfolding ok_or_other
-ok_is {x = x} h = ap (ok_or_other x) h
-
-pub then-ok : {A B E : Type 0} (r : Result A E) (go : A → Result B E) (b : B) → and_then r go ≡ Ok b → (a : A) × (r ≡ Ok a) × (go a ≡ Ok b)
-then-ok (Ok a) go b h = (a, refl, h)
-then-ok (Err e) go b h = absurd (grind arith)
-
-pub test-ok : {A E : Type 0} (t : Bool) (x y : A) (e : E) → cond t (Ok x) (Err e) ≡ Ok y → x ≡ y
-test-ok true x y e h = ok_is h
-test-ok false x y e h = absurd (grind arith)
-
-pub test-then : {A E : Type 0} (t : Bool) (r : Result A E) (y : A) (e : E) → cond t r (Err e) ≡ Ok y → r ≡ Ok y
-test-then true r y e h = h
-test-then false r y e h = absurd (grind arith)
-
--- the types of equations that are made are those that are meant
-pub equations-are : (X : List Item) (us vs : List Term) (types : Telescope) → equations_made X us vs ≡ Ok types
-    → types ≡ equations X us vs
-equations-are X us vs types h =
-    let inner = then-ok (bounded_items X) _ types (test-then (nat_le (length X) most_places) _ types Deep h) in
-    let items : X ≡ inner.0 = test-ok (are_low_items X) X inner.0 Deep inner.1 in
-    sym (test-ok (are_low (equations inner.0 us vs)) (equations inner.0 us vs) types Deep inner.2) ∙ ap (λ Y. equations Y us vs) (sym items)
-
-start-is : (p : Problem) (s : State) → start_made p ≡ Ok s → s ≡ starting p (equations p.telescope p.left p.right)
-start-is p s h =
-    let made = then-ok (equations_made p.telescope p.left p.right) _ s h in
-    sym (test-ok _ (starting p made.0) s Deep made.2) ∙ ap (starting p) (equations-are p.telescope p.left p.right made.0 made.1)
+use Rattle.unification.proofs.UnderInstances.{closed-bodies, inst-agree, fill-variables}
 
 -- ---- solved problems
+
+-- the state from which a problem is solved
+start-is : (p : Problem) (s : State) → start_made p ≡ Ok s → s ≡ starting p (equations p.telescope p.left p.right)
+start-is p s h =
+    transport (λ made. IfOk made (λ t. t ≡ starting p (equations p.telescope p.left p.right))) h
+    (and_then-has (λ types. types ≡ equations p.telescope p.left p.right) (λ t. t ≡ starting p (equations p.telescope p.left p.right))
+    (equations_made p.telescope p.left p.right) (λ types. bounded_state (starting p types))
+    (equations_made-has (λ types. types ≡ equations p.telescope p.left p.right) p.telescope p.left p.right refl)
+    (λ types e. bounded_state-has (λ t. t ≡ starting p (equations p.telescope p.left p.right)) (starting p types) (ap (starting p) e)))
 
 -- scoped terms under a solution that an instantiation gives
 under-is : (S : Signature) (q : ℕ → Term) (n : ℕ) (ts : List Term) → All (IsScoped S n) ts
@@ -84,3 +64,42 @@ solved_is_unified S p s t steps ready scoped start chain end =
     problem-unified S p t scoped
     (transport (λ x. IsUnifiedIn S x t) (start-is p s start)
     (chain-unifies S _ (closed-bodies S ready.scoped) (λ s step h. h.1) s t steps chain end))
+
+-- ---- runs
+
+-- a step more behind a chain
+chain-then : (S : Signature) (s t u : State) (steps : List Step) (step : Step) → Chain S s steps t → IsScopedAt S t step
+    → Steps S t step u → Chain S s (steps ++ step ∷ []) u
+chain-then S s t u steps step (none s') scoped follows = more s u u step [] scoped follows (none u)
+chain-then S s t u steps step (more s' m t' first rest h k chain) scoped follows =
+    more s m u first (rest ++ step ∷ []) h k (chain-then S m t u rest step chain scoped follows)
+
+append-one : (done rest : List Step) (step : Step) → (done ++ step ∷ []) ++ rest ≡ done ++ step ∷ rest
+append-one [] rest step = refl
+append-one (first ∷ done) rest step = ap (λ steps. first ∷ steps) (append-one done rest step)
+
+-- each step is coherent in the state that the steps before it lead to, in a chain of all steps from s on
+abbrev CoherentFrom : Signature → State → List Step → Type 0
+CoherentFrom S s all =
+    (t : State) (done rest : List Step) (step : Step) → all ≡ done ++ step ∷ rest → Chain S s done t → IsCoherent S t step
+
+coherent-chain : (S : Signature) (s : State) (all : List Step) → CoherentFrom S s all → (t u : State) (done rest : List Step)
+    → all ≡ done ++ rest → Chain S s done t → Chain S t rest u
+    → ChainWith S (λ s step. IsScopedState S s × IsCoherent S s step) t rest u
+coherent-chain S s all coherent t u done rest is before (none t') = none t
+coherent-chain S s all coherent t u done rest is before (more t' m u' step others h k chain) =
+    more t m u step others (h.0, coherent t done others step is before) k
+    (coherent-chain S s all coherent m u (done ++ step ∷ []) others (is ∙ sym (append-one done others step))
+    (chain-then S s t m done step before h k) chain)
+
+reached-unifies : (S : Signature) (p : Problem) (s : State) (steps : List Step) (context : Telescope) (solution : List Term)
+    → IsReady S → IsScopedProblem S p → start_made p ≡ Ok s → CoherentFrom S s steps → IsReached S s (Solved steps context solution)
+    → EachConverts S (under solution p.left) (under solution p.right)
+reached-unifies S p s steps context solution ready scoped start coherent (solved t steps' chain end) =
+    solved_is_unified S p s t steps ready scoped start (coherent-chain S s steps coherent s t [] steps refl (none s) chain) end
+
+-- what the run of a problem answers as solved is unified
+pub run_unifies : RunUnifies
+run_unifies S p s left steps context solution ready scoped start is coherent =
+    reached-unifies S p s steps context solution ready scoped start coherent
+    (transport (λ r. IfOk r (IsReached S s)) is (run_follows S p s left ready scoped start))

@@ -1,6 +1,6 @@
 -- What stands for the variables behind a solution: an instantiation, by which the solved variable and the term that solves it
 -- become one term.
-use Rattle.std.proofs.Common.{◌≡◌, ℕ, zero, suc, ◌+◌, ◌-◌, ◌<◌, ◌≤◌, ◌==◌, ◌⊎◌, inl, inr, Bool, true, false, ◌||◌, IsTrue, cond, List, [], ◌∷◌, ◌++◌, length, refl, ap, sym, ◌∙◌, arith}
+use Rattle.std.proofs.Common.{◌≡◌, ℕ, ◌+◌, ◌-◌, ◌<◌, ◌≤◌, ◌==◌, ◌⊎◌, inl, inr, Bool, true, false, ◌||◌, IsTrue, cond, List, length, refl, ap, sym, ◌∙◌, arith}
 use Rattle.std.proofs.lemmas.Bool.{not-true}
 use Rattle.std.proofs.lemmas.Bool.Decides.{nat_tests}
 use Rattle.theory.specs.Terms.{Term}
@@ -9,106 +9,19 @@ use Rattle.theory.specs.Substitutions.{inst}
 use Rattle.theory.specs.Telescopes.{Telescope, weaken_by}
 use Rattle.theory.proofs.Instances.{inst-same, ren-inst}
 use Rattle.core_terms.specs.Levels.{variable}
-use Rattle.tele_eq.specs.Items.{each_position}
 use Rattle.tele_eq.specs.Dependences.{has_variable}
 use Rattle.tele_eq.specs.Environments.{Environment, put}
-use Rattle.unification.specs.Occurrences.{dependants, has_level, lacks, is_among, without, order_without, place_in}
+use Rattle.unification.specs.Occurrences.{dependants, has_level, lacks, order_without, place_in}
 use Rattle.unification.specs.Solving.{reordered, solved}
+use Rattle.unification.proofs.Cases.{below-or_from}
+use Rattle.unification.proofs.Levels.{place-there}
 use Rattle.unification.proofs.Puts.{Lifts, stands, below, above, put-is_inst, put-without}
-
--- ---- places in orders
-
-among-place : (order : List ℕ) (j : ℕ) → is_among j order ≡ true → place_in order j < length order
-among-place [] j h = absurd (grind arith)
-among-place (i ∷ order) j h = by (among-place order j) (i == j) refl
-  where
-    by : (is_among j order ≡ true → place_in order j < length order) → (b : Bool) → b ≡ (i == j)
-        → place_in (i ∷ order) j < length (i ∷ order)
-    by later true e = let at : place_in (i ∷ order) j ≡ 0 = ap (λ x. cond x 0 (place_in order j + 1)) (sym e) in omega arith
-    by later false e =
-        let at : place_in (i ∷ order) j ≡ place_in order j + 1 = ap (λ x. cond x 0 (place_in order j + 1)) (sym e) in
-        let rest : is_among j order ≡ true = ap (λ x. x || is_among j order) e ∙ h in
-        let lt : place_in order j < length order = later rest in
-        omega arith
-
-or-left : (a b c : Bool) → (a || b) ≡ true → (b ≡ true → c ≡ true) → (a || c) ≡ true
-or-left true b c h later = refl
-or-left false b c h later = later h
-
-or-right : (a b : Bool) → b ≡ true → (a || b) ≡ true
-or-right true b h = refl
-or-right false b h = h
-
-among-left : (front back : List ℕ) (j : ℕ) → is_among j front ≡ true → is_among j (front ++ back) ≡ true
-among-left [] back j h = absurd (grind arith)
-among-left (i ∷ front) back j h =
-    or-left (i == j) (is_among j front) (is_among j (front ++ back)) h (λ later. among-left front back j later)
-
-among-right : (front back : List ℕ) (j : ℕ) → is_among j back ≡ true → is_among j (front ++ back) ≡ true
-among-right [] back j h = h
-among-right (i ∷ front) back j h = or-right (i == j) (is_among j (front ++ back)) (among-right front back j h)
-
-among-first : (i j : ℕ) (levels : List ℕ) → i ≡ j → is_among j (i ∷ levels) ≡ true
-among-first i j levels e = grind (arith, nat_tests)
-
-among-later : (i j : ℕ) (levels : List ℕ) → is_among j levels ≡ true → is_among j (i ∷ levels) ≡ true
-among-later i j levels h = among-right (i ∷ []) levels j h
-
-among-other : (i j : ℕ) (levels : List ℕ) → (i ≡ j → ⊥) → is_among j levels ≡ false → is_among j (i ∷ levels) ≡ false
-among-other i j levels other h = grind (arith, nat_tests)
-
-among-without : (out levels : List ℕ) (j : ℕ) → is_among j out ≡ false → is_among j levels ≡ true
-    → is_among j (without out levels) ≡ true
-among-without out [] j left h = absurd (grind arith)
-among-without out (i ∷ levels) j left h = by (among-without out levels j left) (i == j) refl (is_among i out) refl
-  where
-    same : true ≡ (i == j) → i ≡ j
-    same e = grind (arith, nat_tests)
-
-    bad : true ≡ false → ⊥
-    bad q = grind arith
-
-    by : (is_among j levels ≡ true → is_among j (without out levels) ≡ true) → (b : Bool) → b ≡ (i == j) → (o : Bool)
-        → o ≡ is_among i out → is_among j (without out (i ∷ levels)) ≡ true
-    by later true e true f = absurd (bad (f ∙ (ap (λ x. is_among x out) (same e) ∙ left)))
-    by later true e false f =
-        ap (λ x. is_among j (cond x (without out levels) (i ∷ without out levels))) (sym f)
-        ∙ among-first i j (without out levels) (same e)
-    by later false e true f =
-        ap (λ x. is_among j (cond x (without out levels) (i ∷ without out levels))) (sym f)
-        ∙ later (ap (λ x. x || is_among j levels) e ∙ h)
-    by later false e false f =
-        ap (λ x. is_among j (cond x (without out levels) (i ∷ without out levels))) (sym f)
-        ∙ among-later i j (without out levels) (later (ap (λ x. x || is_among j levels) e ∙ h))
-
-among-positions : (at count j : ℕ) → at ≤ j → j < at + count → is_among j (each_position (λ i. i) at count) ≡ true
-among-positions at zero j le lt = absurd (omega arith)
-among-positions at (suc count) j le lt = by (λ more. among-positions (at + 1) count j more (omega arith)) (sides at j le)
-  where
-    sides : (at j : ℕ) → at ≤ j → (at ≡ j) ⊎ (at + 1 ≤ j)
-    sides at j le = grind arith
-
-    by : (at + 1 ≤ j → is_among j (each_position (λ i. i) (at + 1) count) ≡ true) → (at ≡ j) ⊎ (at + 1 ≤ j)
-        → is_among j (each_position (λ i. i) at (suc count)) ≡ true
-    by later (inl e) = among-first at j (each_position (λ i. i) (at + 1) count) e
-    by later (inr more) = among-later at j (each_position (λ i. i) (at + 1) count) (later more)
+use Rattle.unification.proofs.SolvedContexts.{other-among}
 
 -- each other variable has a place in the order behind a solution
-pub other-place : (context : Telescope) (p j : ℕ) → j < length context → (j ≡ p → ⊥)
+other-place : (context : Telescope) (p j : ℕ) → j < length context → (j ≡ p → ⊥)
     → place_in (order_without context p) j < length (order_without context p)
-other-place context p j lt other =
-    among-place (order_without context p) j (by (is_among j (dependants context p)) refl)
-  where
-    front : List ℕ
-    front = without (p ∷ dependants context p) (each_position (λ i. i) 0 (length context))
-
-    by : (b : Bool) → b ≡ is_among j (dependants context p) → is_among j (order_without context p) ≡ true
-    by true e = among-right front (dependants context p) j (sym e)
-    by false e =
-        among-left front (dependants context p) j
-        (among-without (p ∷ dependants context p) (each_position (λ i. i) 0 (length context)) j
-        (among-other p j (dependants context p) (λ q. other (sym q)) (sym e))
-        (among-positions 0 (length context) j (omega arith) (omega arith)))
+other-place context p j lt other = (place-there (order_without context p) j (other-among context p j lt other)).0
 
 -- ---- the solved variable
 
@@ -156,16 +69,13 @@ others-lift context p d le by j lt = elim (same-or j p) [
 
 stands-lift : (s : Environment) (size d : ℕ) → Lifts s size d → (by v : ℕ)
     → stands s size (d + by) v ≡ weaken_by by (stands s size d v)
-stands-lift s size d lifts by v = elim (sides v size) [
+stands-lift s size d lifts by v = elim (below-or_from v size) [
   | inl lt ↦
       below v size _ _ lt ∙ (lifts by (size - (v + 1)) (omega arith) ∙ ap (weaken_by by) (sym (below v size _ _ lt)))
   | inr le ↦
       let e : v - size + (d + by) ≡ v - size + d + by = omega arith in
       above v size _ _ le ∙ (ap Var e ∙ ap (weaken_by by) (sym (above v size _ _ le)))
 ]
-  where
-    sides : (n k : ℕ) → (n < k) ⊎ (k ≤ n)
-    sides n k = grind arith
 
 -- the term that solves variable p, moved behind the new context
 moved-term : (context : Telescope) (p : ℕ) (u : Term) (d : ℕ) → p < length context

@@ -1,4 +1,4 @@
-use Rattle.unification.proofs.UnifyingRuns.{run_unifies}
+use Rattle.unification.proofs.SolutionLaws.{run_unifies}
 use Rattle.unification.proofs.solution_laws.run_unifies.Goals as goal
 
 pub returns : goal.returns
