@@ -1,6 +1,5 @@
 -- Terms that are found to be constructors with all their arguments are built so.
 use Rattle.std.proofs.Common.{◌≡◌, ℕ, ◌+◌, ◌==◌, Bool, true, false, cond, Option, Some, None, option_and_then, List, length, take, drop, slice_get, refl, ap, sym, subst as transport, ◌∙◌, arith}
-use Rattle.std.proofs.lemmas.Bool.Decides.{nat_tests}
 use Rattle.std.proofs.lemmas.List.{take-append-drop, length-take, length-drop}
 use Rattle.theory.specs.Terms.{Term}
 use Rattle.theory.specs.Terms.Term.{Con}
@@ -14,6 +13,7 @@ use Rattle.kernel_reduce.specs.Entries.{family_in, family_at}
 use Rattle.kernel_reduce.proofs.LookUps.{family-found}
 use Rattle.unification.specs.Built.{Built, term_of, with_all, with_spine, built_of}
 use Rattle.unification.specs.Paths.{IsBuilt}
+use Rattle.unification.proofs.Tests.{equal-numbers}
 
 -- what an option leads to comes from what stands in it
 pub next-some : {A B : Type 0} (f : A → Option B) (o : Option A) (y : B) → option_and_then f o ≡ Some y
@@ -25,9 +25,6 @@ next-some f None y e = absurd (grind arith)
 pub test-some : {A : Type 0} (t : Bool) (x y : A) → cond t (Some x) None ≡ Some y → (t ≡ true) × (x ≡ y)
 test-some true x y e = (refl, some_is e)
 test-some false x y e = absurd (grind arith)
-
-pub equal-numbers : (n m : ℕ) → (n == m) ≡ true → n ≡ m
-equal-numbers n m e = grind (arith, nat_tests)
 
 -- one number has one family
 pub one-family : (S : Signature) (n m : ℕ) (f g : Family) → IsEntryAt S n (FamilyOf f) → IsEntryAt S m (FamilyOf g) → n ≡ m → f ≡ g

@@ -33,7 +33,7 @@ type-scoped S s e h =
     whole = transport (λ n. IsScoped S n (equation e.place.level form.A form.u form.v)) depth (transport (IsScoped S (length s.context + 0)) form.form h.scoped.type)
 
 -- and has the form of an equation's type, up to conversion
-pub has-type : (S : Signature) (s : State) (e : Equation) (A : Term) → IsAtHead S s e → Converts S (type_in e.type) A → HasType S e A
+has-type : (S : Signature) (s : State) (e : Equation) (A : Term) → IsAtHead S s e → Converts S (type_in e.type) A → HasType S e A
 has-type S s e A h converts = record {
   B = h.scoped.form.A;
   w = h.scoped.form.u;

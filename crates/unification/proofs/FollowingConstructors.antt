@@ -1,5 +1,5 @@
 -- A trial of injectivity and conflict follows the rules: for constructors on both sides of an equation, and for the first equation.
-use Rattle.std.proofs.Common.{◌≡◌, ◌≢◌, ℕ, ◌≤◌, ◌==◌, Bool, true, false, cond, Option, Some, None, IfSome, List, [], ◌∷◌, length, refl, sym, subst as transport, subst₂, arith}
+use Rattle.std.proofs.Common.{◌≡◌, ℕ, ◌≤◌, ◌==◌, Bool, true, false, cond, Option, Some, None, IfSome, List, [], ◌∷◌, length, refl, sym, subst as transport, subst₂, arith}
 use Rattle.std.proofs.lemmas.Bool.Decides.{nat_tests}
 use Rattle.theory.specs.Terms.{Term}
 use Rattle.theory.specs.Families.{Family}
@@ -17,11 +17,12 @@ use Rattle.unification.specs.Rules.Steps.{inject}
 use Rattle.unification.specs.Rules.IsAbsurd.{conflict}
 use Rattle.unification.specs.States.{Equation, State}
 use Rattle.unification.specs.Turns.{Trial, type_in}
-use Rattle.unification.proofs.BuiltTerms.{IsBuiltTerm, built-is, equal-numbers}
+use Rattle.unification.proofs.BuiltTerms.{IsBuiltTerm, built-is}
 use Rattle.unification.proofs.FirstEquations.{IsAtHead, first-as}
 use Rattle.unification.proofs.Reducts.{IsReduct, whnf-reduct}
 use Rattle.unification.proofs.MovedStates.{injection_made-has}
 use Rattle.unification.proofs.Trials.{goes_to-has}
+use Rattle.unification.proofs.Tests.{equal-numbers, apart-numbers}
 use Rattle.unification.proofs.FollowingTrials.{FollowsOn, TrialFollows, fails_at-follows, cond-follows}
 
 -- ---- head forms
@@ -69,7 +70,7 @@ right_head-has S fits n u v l closed hv hl (Some b) h left =
       family = equal-numbers d.n b.n k.1;
     }
 
-pub heads-have : (S : Signature) (fits : Built → Bool) (n : ℕ) (u v : Term) → IsScopedSignature S → IsScoped S n u → IsScoped S n v
+heads-have : (S : Signature) (fits : Built → Bool) (n : ℕ) (u v : Term) → IsScopedSignature S → IsScoped S n u → IsScoped S n v
     → (left : ℕ) → Answers (λ sides. IfSome sides (λ pair. AreHeads S fits n u v pair.0 pair.1)) (heads S fits u v left)
 heads-have S fits n u v closed hu hv left =
     and_next-has (IsReduct S n u) (λ sides. IfSome sides (λ pair. AreHeads S fits n u v pair.0 pair.1)) (whnf_of S true left u) _
@@ -105,9 +106,6 @@ none-there (x ∷ xs) e = absurd (omega arith)
 
 pub no-indices : (f : Family) → has_no_indices f ≡ true → f.indices ≡ []
 no-indices f e = none-there f.indices (equal-numbers (length f.indices) 0 e)
-
-pub apart-numbers : (n m : ℕ) → (n == m) ≡ false → n ≢ m
-apart-numbers n m e = λ q. grind (arith, nat_tests)
 
 constructor_turn-follows : (S : Signature) (s : State) (e : Equation) → IsAtHead S s e → (l : Term) (b : Built) (r : Term) (d : Built)
     → IsReduct S (length s.context) e.left l → IsReduct S (length s.context) e.right r → IsBuiltTerm S l b → IsBuiltTerm S r d

@@ -33,8 +33,8 @@ use Rattle.unification.specs.Rules.Steps.{inject_group}
 use Rattle.unification.specs.Rules.IsAbsurd.{conflict_group}
 use Rattle.unification.specs.ScopedStates.{IsScopedEquation, AreScopedEquations}
 use Rattle.unification.specs.States.{Equation, State, left_sides, right_sides, types_as_they_stand}
-use Rattle.unification.proofs.BuiltTerms.{IsBuiltTerm, equal-numbers}
-use Rattle.unification.proofs.FollowingConstructors.{on_constructors-follows, apart-numbers}
+use Rattle.unification.proofs.BuiltTerms.{IsBuiltTerm}
+use Rattle.unification.proofs.FollowingConstructors.{on_constructors-follows}
 use Rattle.unification.proofs.Memberships.{IsMembership, membership-is}
 use Rattle.unification.proofs.Reducts.{IsReduct, whnf-reduct}
 use Rattle.unification.proofs.MovedStates.{injection_made-has}
@@ -42,6 +42,7 @@ use Rattle.unification.proofs.MovedEquations.{equations-at}
 use Rattle.unification.proofs.ScopedEquations.{equations_made-has}
 use Rattle.unification.proofs.SolvedProblems.{length-items_at, length-equations}
 use Rattle.unification.proofs.Trials.{or_else-has, goes_to-has}
+use Rattle.unification.proofs.Tests.{equal-numbers, apart-numbers}
 use Rattle.unification.proofs.FollowingTrials.{FollowsOn, TrialFollows, cond-follows, fails_at-follows}
 
 -- ---- types that are found convertible
@@ -90,7 +91,7 @@ equations-have : (S : Signature) (m : Membership) (group : List Equation) → le
     → Answers (λ holds. IsTrue holds
     → EachConverts S (types_as_they_stand group) (equations (family_items m.n m.family m.parameters) (left_sides group) (right_sides group)))
     (are_equations_of S m group left)
-equations-have S m group count left = 
+equations-have S m group count left =
     by (equations_made X (left_sides group) (right_sides group))
     (equations_made-has (λ types. types ≡ equations X (left_sides group) (right_sides group)) X (left_sides group) (right_sides group) refl)
   where

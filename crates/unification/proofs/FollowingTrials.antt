@@ -25,14 +25,14 @@ FollowsOn S s turn = Follows S s turn
 abbrev pub TrialFollows : Signature → State → Trial → Type 0
 TrialFollows S s trial = Turns (FollowsOn S s) trial
 
--- one of two trials, by a test
+-- one of two trials, each of which may know the test
 pub cond-follows : (S : Signature) (s : State) (test : Bool) (first second : Trial) → (test ≡ true → TrialFollows S s first)
     → (test ≡ false → TrialFollows S s second) → TrialFollows S s (cond test first second)
 cond-follows S s true first second h k = h refl
 cond-follows S s false first second h k = k refl
 
 -- both terms tidied
-pub tidied-reduct : (S : Signature) (n : ℕ) (u v : Term) → IsScopedSignature S → IsScoped S n u → IsScoped S n v → (left : ℕ)
+tidied-reduct : (S : Signature) (n : ℕ) (u v : Term) → IsScopedSignature S → IsScoped S n u → IsScoped S n v → (left : ℕ)
     → Answers (λ sides. IsReduct S n u sides.0 × IsReduct S n v sides.1) (tidied S u v left)
 tidied-reduct S n u v closed hu hv left =
     and_next-has (IsReduct S n u) (λ sides. IsReduct S n u sides.0 × IsReduct S n v sides.1) (tidy_of S left u) _

@@ -34,6 +34,7 @@ pub mod SolvedProblems
 pub mod SolvedVariables
 mod SplitRows
 mod StateRows
+pub mod Tests
 pub mod Trials
 pub mod TurnScopes
 pub mod UnderInstances

@@ -1,7 +1,6 @@
 -- A type that is found as a family at the places before it is that family, at parameters without these places.
-use Rattle.std.proofs.Common.{◌≡◌, ℕ, zero, suc, ◌+◌, ◌-◌, ◌≤◌, ◌==◌, ◌||◌, not, Bool, true, false, Some, List, [], ◌∷◌, ◌++◌, length, map, take, drop, refl, ap, ap₂, sym, subst as transport, ◌∙◌, arith}
+use Rattle.std.proofs.Common.{◌≡◌, ℕ, zero, suc, ◌+◌, ◌-◌, ◌≤◌, ◌==◌, ◌||◌, not, true, false, Some, List, [], ◌∷◌, ◌++◌, length, map, take, drop, refl, ap, ap₂, sym, subst as transport, ◌∙◌, arith}
 use Rattle.std.proofs.lemmas.Bool.{not-true}
-use Rattle.std.proofs.lemmas.Bool.Decides.{nat_tests}
 use Rattle.std.proofs.lemmas.List.{take-append-drop}
 use Rattle.theory.specs.Terms.{Term, lift}
 use Rattle.theory.specs.Terms.Term.{Var, Sort, Pi, Lam, App, Let, Const, Fam, Con, Elim, AxiomK}
@@ -19,29 +18,11 @@ use Rattle.tele_eq.specs.Dependences.{has_variable}
 use Rattle.unification.specs.Built.{greatest_level, is_fitting}
 use Rattle.unification.specs.Groups.{are_nearest, has_nearest, have_nearest, lowered, Membership, with_places, membership_with, membership_of}
 use Rattle.unification.specs.Injecting.{lifted}
-use Rattle.unification.proofs.BuiltTerms.{next-some, test-some, equal-numbers}
+use Rattle.unification.proofs.BuiltTerms.{next-some, test-some}
 use Rattle.unification.proofs.FollowingConstructors.{fitting-level}
+use Rattle.unification.proofs.Tests.{equal-numbers, itself, left-true, right-true, left-false, right-false}
 
 -- ---- variables that are not in a term
-
-left-true : (a b : Bool) → a ≡ true → (a || b) ≡ true
-left-true true b e = refl
-left-true false b e = absurd (grind arith)
-
-right-true : (a b : Bool) → b ≡ true → (a || b) ≡ true
-right-true true b e = refl
-right-true false b e = e
-
-left-false : (a b : Bool) → (a || b) ≡ false → a ≡ false
-left-false false b e = refl
-left-false true b e = absurd (grind arith)
-
-right-false : (a b : Bool) → (a || b) ≡ false → b ≡ false
-right-false false b e = e
-right-false true b e = absurd (grind arith)
-
-itself : (n : ℕ) → (n == n) ≡ true
-itself n = grind (arith, nat_tests)
 
 up-fixes : (r : ℕ → ℕ) (b : Term) → ((v : ℕ) → has_variable (v + 1) b ≡ true → r v ≡ v) → (v : ℕ) → has_variable v b ≡ true → up r v ≡ v
 up-fixes r b fixes zero e = refl

@@ -1,6 +1,6 @@
 -- What stands for the variables of a telescope is put as an instantiation puts it, where the environment only lifts its terms with
 -- the depth. A variable that is not in a term counts for nothing.
-use Rattle.std.proofs.Common.{◌≡◌, ℕ, ◌+◌, ◌-◌, ◌<◌, ◌≤◌, ◌==◌, ◌⊎◌, inl, inr, Bool, true, false, ◌||◌, nat_lt, cond, refl, ap, ap₂, sym, ◌∙◌, arith}
+use Rattle.std.proofs.Common.{◌≡◌, ℕ, ◌+◌, ◌-◌, ◌<◌, ◌≤◌, ◌⊎◌, inl, inr, false, ◌||◌, nat_lt, cond, refl, ap, ap₂, sym, ◌∙◌, arith}
 use Rattle.std.proofs.lemmas.Bool.Decides.{nat_tests}
 use Rattle.theory.specs.Terms.{Term}
 use Rattle.theory.specs.Terms.Term.{Var, Pi, Lam, App, Let}
@@ -9,8 +9,9 @@ use Rattle.theory.specs.Telescopes.{weaken_by}
 use Rattle.theory.proofs.Instances.{ap₃}
 use Rattle.tele_eq.specs.Dependences.{has_variable}
 use Rattle.tele_eq.specs.Environments.{Environment, put, put_under, put_variable}
-use Rattle.unification.proofs.Cases.{below-or_from}
 use Rattle.tele_eq.proofs.Carrying.{ups_by, inst-under, inst-none}
+use Rattle.unification.proofs.Cases.{below-or_from}
+use Rattle.unification.proofs.Tests.{apart-numbers, left-false, right-false}
 
 -- behind the depth d the environment lifts its terms at the positions below `size`
 abbrev pub Lifts : Environment → (size d : ℕ) → Type 0
@@ -82,17 +83,6 @@ put-is_inst s size d lifts t = put-under_stands s size d lifts t 0 ∙ inst-none
 
 -- ---- a variable that is not in a term
 
-neither-left : (a b : Bool) → (a || b) ≡ false → a ≡ false
-neither-left false b h = refl
-neither-left true b h = absurd (grind arith)
-
-neither-right : (a b : Bool) → (a || b) ≡ false → b ≡ false
-neither-right false b h = h
-neither-right true b h = absurd (grind arith)
-
-apart : (n v : ℕ) → (n == v) ≡ false → n ≡ v → ⊥
-apart n v h e = grind (arith, nat_tests)
-
 -- two environments that agree at all positions but p put the same for a term without the variable at p
 put-variable_without : (s s' : Environment) (size d p : ℕ) → p < size
     → ((depth j : ℕ) → (j ≡ p → ⊥) → s depth j ≡ s' depth j) → (under n : ℕ) → (n ≡ size - (p + 1) + under → ⊥)
@@ -111,23 +101,23 @@ put-under_without : (s s' : Environment) (size d p : ℕ) → p < size
     → ((depth j : ℕ) → (j ≡ p → ⊥) → s depth j ≡ s' depth j) → (t : Term) (under v : ℕ) → v ≡ size - (p + 1) + under
     → has_variable v t ≡ false → put_under s size d under t ≡ put_under s' size d under t
 put-under_without s s' size d p lt agree (Var n) under v at h =
-    put-variable_without s s' size d p lt agree under n (λ e. apart n v h (e ∙ sym at))
+    put-variable_without s s' size d p lt agree under n (λ e. apart-numbers n v h (e ∙ sym at))
 put-under_without s s' size d p lt agree (Pi a b) under v at h =
-    ap₂ Pi (put-under_without s s' size d p lt agree a under v at (neither-left (has_variable v a) _ h))
-    (put-under_without s s' size d p lt agree b (under + 1) (v + 1) (omega arith) (neither-right (has_variable v a) _ h))
+    ap₂ Pi (put-under_without s s' size d p lt agree a under v at (left-false (has_variable v a) _ h))
+    (put-under_without s s' size d p lt agree b (under + 1) (v + 1) (omega arith) (right-false (has_variable v a) _ h))
 put-under_without s s' size d p lt agree (Lam a b) under v at h =
-    ap₂ Lam (put-under_without s s' size d p lt agree a under v at (neither-left (has_variable v a) _ h))
-    (put-under_without s s' size d p lt agree b (under + 1) (v + 1) (omega arith) (neither-right (has_variable v a) _ h))
+    ap₂ Lam (put-under_without s s' size d p lt agree a under v at (left-false (has_variable v a) _ h))
+    (put-under_without s s' size d p lt agree b (under + 1) (v + 1) (omega arith) (right-false (has_variable v a) _ h))
 put-under_without s s' size d p lt agree (App f a) under v at h =
-    ap₂ App (put-under_without s s' size d p lt agree f under v at (neither-left (has_variable v f) _ h))
-    (put-under_without s s' size d p lt agree a under v at (neither-right (has_variable v f) _ h))
+    ap₂ App (put-under_without s s' size d p lt agree f under v at (left-false (has_variable v f) _ h))
+    (put-under_without s s' size d p lt agree a under v at (right-false (has_variable v f) _ h))
 put-under_without s s' size d p lt agree (Let a t b) under v at h =
-    ap₃ Let (put-under_without s s' size d p lt agree a under v at (neither-left (has_variable v a) _ first))
-    (put-under_without s s' size d p lt agree t under v at (neither-right (has_variable v a) _ first))
-    (put-under_without s s' size d p lt agree b (under + 1) (v + 1) (omega arith) (neither-right (has_variable v a || has_variable v t) _ h))
+    ap₃ Let (put-under_without s s' size d p lt agree a under v at (left-false (has_variable v a) _ first))
+    (put-under_without s s' size d p lt agree t under v at (right-false (has_variable v a) _ first))
+    (put-under_without s s' size d p lt agree b (under + 1) (v + 1) (omega arith) (right-false (has_variable v a || has_variable v t) _ h))
   where
     first : (has_variable v a || has_variable v t) ≡ false
-    first = neither-left (has_variable v a || has_variable v t) (has_variable (v + 1) b) h
+    first = left-false (has_variable v a || has_variable v t) (has_variable (v + 1) b) h
 put-under_without s s' size d p lt agree _ under v at h = refl
 
 pub put-without : (s s' : Environment) (size d p : ℕ) → p < size

@@ -119,14 +119,12 @@ sides-group : (S : Signature) (q : ℕ → Term) (k g : ℕ) (equations : List E
     → Converts S (inst q last.left) (inst q last.right) → SidesConvert S q (drop g equations) → SidesConvert S q equations
 sides-group S q k g [] last e at before h rest = tt
 sides-group S q zero g (d ∷ equations) last e at before h rest =
-    let one : g ≡ 1 = omega arith in
-    (
+    let one : g ≡ 1 = omega arith in (
       transport (λ x. Converts S (inst q x.left) (inst q x.right)) (sym (some_is at)) h,
       transport (λ i. SidesConvert S q (drop i (d ∷ equations))) one rest,
     )
 sides-group S q (suc k) g (d ∷ equations) last e at before h rest =
-    let next : g ≡ suc (k + 1) = omega arith in
-    (
+    let next : g ≡ suc (k + 1) = omega arith in (
       before.0,
       sides-group S q k (k + 1) equations last refl at before.1 h
           (transport (λ i. SidesConvert S q (drop i (d ∷ equations))) next rest),
@@ -185,8 +183,7 @@ injected-sides : (S : Signature) (s : State) (q : ℕ → Term) (g : ℕ) (f : F
     → SidesConvert S q (injected_state s g b.n b.number f b.constructor ps b.arguments d.arguments).equations
     → EachConverts S (map (inst q) b.arguments) (map (inst q) d.arguments) × SidesConvert S q (drop g s.equations)
 injected-sides S s q g f ps b d hb hd e number h =
-    let parts = sides-append S q (equations_at X (equations X b.arguments d.arguments) b.arguments d.arguments) _ h in
-    (
+    let parts = sides-append S q (equations_at X (equations X b.arguments d.arguments) b.arguments d.arguments) _ h in (
       sides-at S q X (equations X b.arguments d.arguments) b.arguments d.arguments (length-equations X b.arguments d.arguments)
           (hb.arguments ∙ sym count)
           (hd.arguments ∙ (ap (λ c. length c.arguments) (sym (same-constructor S b d hb hd e number)) ∙ sym count)) parts.0,
@@ -213,8 +210,7 @@ injected-sides S s q g f ps b d hb hd e number h =
 first-sides : (S : Signature) → HasClosedBodies S → (s : State) (q : ℕ → Term) (e : Equation) (A u v : Term) → IsFirst S s e A u v
     → Converts S (inst q u) (inst q v) → SidesConvert S q (drop 1 s.equations) → SidesConvert S q s.equations
 first-sides S closed s q e A u v first h rest =
-    transport (SidesConvert S q) (sym first.first)
-    (
+    transport (SidesConvert S q) (sym first.first) (
       converts-trans (converts-inst S closed q first.left) (converts-trans h (converts-sym (converts-inst S closed q first.right))),
       transport (λ es. SidesConvert S q (drop 1 es)) first.first rest,
     )

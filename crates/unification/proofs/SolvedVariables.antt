@@ -1,6 +1,6 @@
 -- What stands for the variables behind a solution: an instantiation, by which the solved variable and the term that solves it
 -- become one term.
-use Rattle.std.proofs.Common.{◌≡◌, ℕ, ◌+◌, ◌-◌, ◌<◌, ◌≤◌, ◌==◌, ◌⊎◌, inl, inr, Bool, true, false, ◌||◌, IsTrue, cond, List, length, refl, ap, sym, ◌∙◌, arith}
+use Rattle.std.proofs.Common.{◌≡◌, ℕ, ◌+◌, ◌-◌, ◌<◌, ◌≤◌, ◌==◌, ◌⊎◌, inl, inr, Bool, true, false, IsTrue, cond, List, length, refl, ap, sym, ◌∙◌, arith}
 use Rattle.std.proofs.lemmas.Bool.{not-true}
 use Rattle.std.proofs.lemmas.Bool.Decides.{nat_tests}
 use Rattle.theory.specs.Terms.{Term}
@@ -17,6 +17,7 @@ use Rattle.unification.proofs.Cases.{below-or_from}
 use Rattle.unification.proofs.Levels.{place-there}
 use Rattle.unification.proofs.Puts.{Lifts, stands, below, above, put-is_inst, put-without}
 use Rattle.unification.proofs.SolvedContexts.{other-among}
+use Rattle.unification.proofs.Tests.{left-false}
 
 -- each other variable has a place in the order behind a solution
 other-place : (context : Telescope) (p j : ℕ) → j < length context → (j ≡ p → ⊥)
@@ -26,14 +27,10 @@ other-place context p j lt other = (place-there (order_without context p) j (oth
 -- ---- the solved variable
 
 -- the variable is not in a term that lacks it
-pub lacks-variable : (context : Telescope) (p : ℕ) (u : Term) → IsTrue (lacks context p u)
+lacks-variable : (context : Telescope) (p : ℕ) (u : Term) → IsTrue (lacks context p u)
     → has_variable (length context - (p + 1)) u ≡ false
 lacks-variable context p u h =
-    first (has_variable (length context - (p + 1)) u) (has_level (length context) (dependants context p) u) (not-true _ h)
-  where
-    first : (a b : Bool) → (a || b) ≡ false → a ≡ false
-    first false b e = refl
-    first true b e = absurd (grind arith)
+    left-false (has_variable (length context - (p + 1)) u) (has_level (length context) (dependants context p) u) (not-true _ h)
 
 equal : {A : Type 0} (j p : ℕ) (x y : A) → j ≡ p → cond (j == p) x y ≡ x
 equal j p x y e = grind (arith, nat_tests)

@@ -10,7 +10,7 @@ use Rattle.theory.specs.Signatures.{Signature, HasClosedBodies}
 use Rattle.theory.specs.SignatureScopes.{IsScoped, IsScopedSignature}
 use Rattle.theory.specs.Conversion.{Converts}
 use Rattle.theory.specs.Conversion.Converts.{same}
-use Rattle.theory.proofs.Congruence.{converts-trans, converts-sym, converts-app, converts-inst-each}
+use Rattle.theory.proofs.Congruence.{converts-app, converts-inst-each}
 use Rattle.theory.proofs.Stability.{converts-inst}
 use Rattle.theory.proofs.Instances.{ap₃, inst-same, inst-inst}
 use Rattle.theory.proofs.Instantiation.{inst-fill}
@@ -26,12 +26,6 @@ closed-bodies S scoped n name type body at =
 
 -- ---- terms that convert one by one
 
-pub each-sym : (S : Signature) (ts us : List Term) → EachConverts S ts us → EachConverts S us ts
-each-sym S [] [] h = tt
-each-sym S [] (u ∷ us) h = absurd h
-each-sym S (t ∷ ts) [] h = absurd h
-each-sym S (t ∷ ts) (u ∷ us) h = (converts-sym h.0, each-sym S ts us h.1)
-
 pub each-same : (S : Signature) (ts : List Term) → EachConverts S ts ts
 each-same S [] = tt
 each-same S (t ∷ ts) = (same, each-same S ts)
@@ -42,14 +36,6 @@ each-length S [] [] h = refl
 each-length S [] (u ∷ us) h = absurd h
 each-length S (t ∷ ts) [] h = absurd h
 each-length S (t ∷ ts) (u ∷ us) h = ap suc (each-length S ts us h.1)
-
-pub each-trans : (S : Signature) (ts us vs : List Term) → EachConverts S ts us → EachConverts S us vs → EachConverts S ts vs
-each-trans S [] [] [] h k = tt
-each-trans S [] (u ∷ us) vs h k = absurd h
-each-trans S [] [] (v ∷ vs) h k = absurd k
-each-trans S (t ∷ ts) [] vs h k = absurd h
-each-trans S (t ∷ ts) (u ∷ us) [] h k = absurd k
-each-trans S (t ∷ ts) (u ∷ us) (v ∷ vs) h k = (converts-trans h.0 k.0, each-trans S ts us vs h.1 k.1)
 
 pub each-append : (S : Signature) (ts us ts' us' : List Term) → EachConverts S ts us → EachConverts S ts' us'
     → EachConverts S (ts ++ ts') (us ++ us')
@@ -78,7 +64,7 @@ extend-each : (S : Signature) (s q : ℕ → Term) (t u : Term) → ((n : ℕ) �
 extend-each S s q t u each h zero = h
 extend-each S s q t u each h (suc n) = each n
 
-pub fill-each : (S : Signature) (s q : ℕ → Term) (ts us : List Term) → ((n : ℕ) → Converts S (s n) (q n)) → EachConverts S ts us
+fill-each : (S : Signature) (s q : ℕ → Term) (ts us : List Term) → ((n : ℕ) → Converts S (s n) (q n)) → EachConverts S ts us
     → (n : ℕ) → Converts S (fill s ts n) (fill q us n)
 fill-each S s q [] [] each all n = each n
 fill-each S s q [] (u ∷ us) each all n = absurd all
@@ -86,7 +72,7 @@ fill-each S s q (t ∷ ts) [] each all n = absurd all
 fill-each S s q (t ∷ ts) (u ∷ us) each all n = fill-each S (extend s t) (extend q u) ts us (extend-each S s q t u each all.0) all.1 n
 
 -- terms under two instantiations that convert
-pub each-under : (S : Signature) → HasClosedBodies S → (s q : ℕ → Term) → ((n : ℕ) → Converts S (s n) (q n)) → (ts : List Term)
+each-under : (S : Signature) → HasClosedBodies S → (s q : ℕ → Term) → ((n : ℕ) → Converts S (s n) (q n)) → (ts : List Term)
     → EachConverts S (map (inst s) ts) (map (inst q) ts)
 each-under S closed s q each [] = tt
 each-under S closed s q each (t ∷ ts) = (converts-inst-each S closed s q each t, each-under S closed s q each ts)
