@@ -1,4 +1,17 @@
+pub mod AllowedTurns
+pub mod BuiltArguments
+pub mod Comparing
+pub mod GroupTrials
+pub mod InjectionTrials
+pub mod NewContexts
+pub mod OtherTrials
+pub mod ReductionUnits
 mod Rows
 mod Samples
+pub mod SearchUnits
+pub mod Sizes
+pub mod SolutionTrials
+pub mod SpentUnits
 mod SplitRows
 mod StateRows
+pub mod TurnLaws

@@ -4,6 +4,7 @@
 //! `specs/` has the definitions. Each function of the modules of laws has one law as its contract, and an empty body.
 #![tactic(auto)]
 
+pub mod run_laws;
 mod why;
 
 pub use why::Why;
