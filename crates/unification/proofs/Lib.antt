@@ -7,6 +7,8 @@ pub mod NewContexts
 pub mod OtherTrials
 pub mod ReductionUnits
 mod Rows
+pub mod RunLaws
+pub mod RunProperties
 mod Samples
 pub mod SearchUnits
 pub mod Sizes

@@ -1,5 +1,5 @@
 //! Runs end, and give no units back.
-ghost use Rattle.unification.specs.Laws.{TurnSpends, TurnIsThere, TurnFalls};
+ghost use Rattle.unification.specs.Laws.{TurnSpends, TurnIsThere, TurnFalls, RunsEnd, RunIsUnique, UnifySpends, NoDeletionWithoutK, SolutionIsWhole};
 
 /// No turn gives units back.
 pub fn turn_spends()
@@ -14,4 +14,29 @@ pub fn turn_is_there()
 /// A turn that goes on makes the state less.
 pub fn turn_falls()
     ensures { TurnFalls }
+{}
+
+/// From each state there is a run, with the answer that is worked out.
+pub fn runs_end()
+    ensures { RunsEnd }
+{}
+
+/// There is no other run.
+pub fn run_is_unique()
+    ensures { RunIsUnique }
+{}
+
+/// No run of a problem gives units back.
+pub fn unify_spends()
+    ensures { UnifySpends }
+{}
+
+/// Without K no equation is deleted.
+pub fn no_deletion_without_k()
+    ensures { NoDeletionWithoutK }
+{}
+
+/// A solution has a term for each variable of the context that was given.
+pub fn solution_is_whole()
+    ensures { SolutionIsWhole }
 {}
