@@ -10,6 +10,7 @@ mod Rows
 pub mod RunLaws
 pub mod RunProperties
 mod Samples
+pub mod SearchLaws
 pub mod SearchUnits
 pub mod Sizes
 pub mod SolutionTrials

@@ -54,15 +54,15 @@ pub in_form-spends : (S : Signature) (n x : ℕ) (below : Below) (t : Term) → 
 in_form-spends S n x below t h left =
     cond-spends (is_variable x (variable_in t)) _ _ left (omega arith) (below_constructor-spends S n below (built_of S t) h left)
 
-by_less-spends : (units room : Term → Search Term) → ((t : Term) → Spends (units t)) → ((t : Term) → Spends (room t)) → BelowSpends (by_less units room)
+pub by_less-spends : (units room : Term → Search Term) → ((t : Term) → Spends (units t)) → ((t : Term) → Spends (room t)) → BelowSpends (by_less units room)
 by_less-spends units room h k before t left = cond-spends (nat_lt left before) (units t left) (room t left) left (h t left) (k t left)
 
-by_room-spends : (S : Signature) (n x : ℕ) (units : Term → Search Term) (room : ℕ) (t : Term) → ((t : Term) → Spends (units t)) → Spends (by_room S n x units room t)
+pub by_room-spends : (S : Signature) (n x : ℕ) (units : Term → Search Term) (room : ℕ) (t : Term) → ((t : Term) → Spends (units t)) → Spends (by_room S n x units room t)
 by_room-spends S n x units zero t h left = omega arith
 by_room-spends S n x units (suc room) t h left =
     in_form-spends S n x (by_less units (by_room S n x units room)) t (by_less-spends units (by_room S n x units room) h (λ u. by_room-spends S n x units room u h)) left
 
-by_units-spends : (S : Signature) (n x units : ℕ) (t : Term) → Spends (by_units S n x units t)
+pub by_units-spends : (S : Signature) (n x units : ℕ) (t : Term) → Spends (by_units S n x units t)
 by_units-spends S n x zero t = by_room-spends S n x no_argument (height t) t (λ u left. omega arith)
 by_units-spends S n x (suc units) t = by_room-spends S n x (by_units S n x units) (height t) t (by_units-spends S n x units)
 

@@ -1,5 +1,5 @@
-//! Runs end, and give no units back.
-ghost use Rattle.unification.specs.Laws.{TurnSpends, TurnIsThere, TurnFalls, RunsEnd, RunIsUnique, UnifySpends, NoDeletionWithoutK, SolutionIsWhole};
+//! Runs end and are unique, and so are the searches in them; they give no units back; what holds of each outcome.
+ghost use Rattle.unification.specs.Laws.{TurnSpends, TurnIsThere, TurnFalls, RunsEnd, RunIsUnique, UnifySpends, NoDeletionWithoutK, SolutionIsWhole, SearchGoesOn};
 
 /// No turn gives units back.
 pub fn turn_spends()
@@ -39,4 +39,9 @@ pub fn no_deletion_without_k()
 /// A solution has a term for each variable of the context that was given.
 pub fn solution_is_whole()
     ensures { SolutionIsWhole }
+{}
+
+/// A search below constructors goes on in each argument as it began.
+pub fn search_goes_on()
+    ensures { SearchGoesOn }
 {}
