@@ -1,37 +1,35 @@
 -- What is shown of each trial: no units are given back, a turn that goes on makes the state less and keeps the length of the
 -- solution, and without K nothing is deleted.
-use Rattle.std.proofs.Common.{◌≡◌, ◌≢◌, ℕ, ◌<◌, ◌≤◌, Bool, true, false, cond, Option, Some, None, IfSome, Result, Ok, Err, IfOk, List, length, refl, arith}
+use Rattle.std.proofs.Common.{◌≡◌, ◌≢◌, ℕ, ◌≤◌, Bool, true, false, cond, Option, Some, None, IfSome, Result, Ok, Err, IfOk, length, arith}
 use Rattle.theory.specs.Terms.{Term}
 use Rattle.theory.specs.Signatures.{Signature}
-use Rattle.core_terms.specs.Answers.{Spent, and_next}
 use Rattle.core_terms.specs.CaseTrees.{Step}
 use Rattle.core_terms.specs.declared.case_tree.Rule.TheVariants.{Delete}
 use Rattle.core_terms.specs.declared.stop.Stop.{Stop}
 use Rattle.core_terms.specs.declared.stop.Stop.TheVariants.{Deep}
-use Rattle.kernel_reduce.specs.Reduction.{answered}
 use Rattle.kernel_reduce.specs.Tidying.{tidy_of}
 use Rattle.unification.specs.States.{State}
 use Rattle.unification.specs.Heights.{bounded_state}
-use Rattle.unification.specs.Turns.{Turn, Done, Goes, Fails, Sticks, Trial, does_not_apply, applies, goes_to, tidied, on_tidied, fails_at, sticks_at, unless_found, or_else}
+use Rattle.unification.specs.Turns.{Turn, Done, Goes, Fails, Sticks, Trial, does_not_apply, goes_to, tidied, on_tidied, fails_at, sticks_at, unless_found, or_else}
 use Rattle.unification.specs.Laws.{Falls}
 use Rattle.unification.specs.declared.why.Why.{Why}
 use Rattle.unification.proofs.SpentUnits.{Within, Any, answered-within, and_next-within}
 use Rattle.unification.proofs.ReductionUnits.{tidy-within}
 
--- without K the step is no deletion
-abbrev pub MayDelete : Signature → Step → Type 0
-MayDelete S step = S.has_k ≡ false → step.rule ≢ Delete
+-- the step is a deletion only where there is K
+abbrev pub DeletesWithK : Signature → Step → Type 0
+DeletesWithK S step = S.has_k ≡ false → step.rule ≢ Delete
 
 -- a step from s with `left` units to t with `rest`
 pub record IsOnward (S : Signature) (s : State) (left : ℕ) (step : Step) (t : State) (rest : ℕ) : Type 0 where
   pub falls : Falls s left t rest
   pub whole : length t.solution ≡ length s.solution
-  pub deletes : MayDelete S step
+  pub deletes : DeletesWithK S step
 
 abbrev pub Allowed : Signature → State → (left : ℕ) → Turn → ℕ → Type 0
 Allowed S s left Done rest = Unit {0}
 Allowed S s left (Goes step t) rest = IsOnward S s left step t rest
-Allowed S s left (Fails step u v) rest = MayDelete S step
+Allowed S s left (Fails step u v) rest = DeletesWithK S step
 Allowed S s left (Sticks why u v) rest = Unit {0}
 
 abbrev pub Allows : Signature → State → (left : ℕ) → Option Turn → ℕ → Type 0
@@ -80,7 +78,7 @@ pub on_tidied-is : (S : Signature) (s : State) (left : ℕ) (u v : Term) (go : T
     → ((u' v' : Term) → IsTrial S s left (go u' v')) → IsTrial S s left (on_tidied S u v go)
 on_tidied-is S s left u v go h rest le = on_tidied-within S s left u v go rest (λ u' v' end l. h u' v' end (omega arith))
 
-pub fails_at-is : (S : Signature) (s : State) (left : ℕ) (step : Step) (u v : Term) → MayDelete S step → IsTrial S s left (fails_at S step u v)
+pub fails_at-is : (S : Signature) (s : State) (left : ℕ) (step : Step) (u v : Term) → DeletesWithK S step → IsTrial S s left (fails_at S step u v)
 fails_at-is S s left step u v h =
     on_tidied-is S s left u v _ (λ u' v' rest le. answered-within (Allows S s left) (Ok (Some (Fails step u' v'))) rest h)
 

@@ -1,5 +1,5 @@
 -- The arguments of a term that is a constructor with all its arguments.
-use Rattle.std.proofs.Common.{◌≡◌, ℕ, ◌<◌, ◌≤◌, Bool, true, false, ◌==◌, cond, Option, Some, None, IfSome, option_and_then, List, length, take, drop, slice_get, refl, ap, subst, arith}
+use Rattle.std.proofs.Common.{◌≡◌, ℕ, ◌<◌, Bool, true, false, cond, Option, Some, None, IfSome, option_and_then, List, length, take, drop, slice_get, refl, ap, subst, arith}
 use Rattle.theory.specs.Terms.{Term}
 use Rattle.theory.specs.Terms.Term.{Con}
 use Rattle.theory.specs.Spines.{head_of, spine_of}

@@ -1,28 +1,33 @@
 -- Trials of groups.
-use Rattle.std.proofs.Common.{◌≡◌, ℕ, zero, suc, ◌+◌, ◌≤◌, Bool, true, false, ◌==◌, cond, Option, Some, None, Ok, List, [], ◌∷◌, length, take, slice_get, refl, arith}
+use Rattle.std.proofs.Common.{◌≡◌, ℕ, zero, suc, ◌+◌, ◌≤◌, Bool, true, false, ◌==◌, cond, Option, Some, None, List, [], ◌∷◌, take, slice_get, refl, arith}
 use Rattle.theory.specs.Terms.{Term}
 use Rattle.theory.specs.Signatures.{Signature}
 use Rattle.core_terms.specs.Answers.{Spent, and_next}
-use Rattle.kernel_reduce.specs.Comparison.{convertible_of}
+use Rattle.core_terms.proofs.Answers.{and_next-spends}
+use Rattle.kernel_reduce.specs.Comparison.{second_if, convertible_of}
 use Rattle.kernel_reduce.specs.Reduction.{answered, nesting}
 use Rattle.kernel_reduce.specs.Tidying.{tidy_of}
 use Rattle.kernel_reduce.proofs.ComparisonLaws.{convertible-spends}
 use Rattle.unification.specs.States.{Equation, State, left_sides, right_sides, types_as_they_stand}
-use Rattle.unification.specs.Built.{Built}
 use Rattle.unification.specs.Records.{family_items}
 use Rattle.unification.specs.Heights.{equations_made, injection_made}
 use Rattle.unification.specs.Turns.{goes_to, fails_at}
 use Rattle.unification.specs.Constructors.{conflict_step, injection_step}
 use Rattle.unification.specs.Groups.{Membership, membership_of, all_convertible, are_equations_of, group_turn, if_holds, on_membership, last_trial, group_trial, group_trials}
-use Rattle.unification.proofs.SpentUnits.{Within, Any, any-within, answered-within, and_next-within}
+use Rattle.unification.proofs.SpentUnits.{Within, Any, any-within, and_next-within}
 use Rattle.unification.proofs.ReductionUnits.{tidy-within}
-use Rattle.unification.proofs.Comparing.{both-spends}
 use Rattle.unification.proofs.AllowedTurns.{Allows, IsTrial, none-is, or_else-is, goes_to-is, fails_at-is}
 use Rattle.unification.proofs.InjectionTrials.{IsTrialOf, on_constructors-is, injection-onward}
 
+second_if-spends : (holds : Bool) (second : ℕ → Spent Bool) (left : ℕ) → ((rest : ℕ) → (second rest).1 ≤ rest)
+    → (second_if holds second left).1 ≤ left
+second_if-spends true second left h = h left
+second_if-spends false second left h = omega arith
+
 all_convertible-spends : (S : Signature) (types others : List Term) (left : ℕ) → (all_convertible S types others left).1 ≤ left
 all_convertible-spends S (a ∷ types) (b ∷ others) left =
-    both-spends (convertible_of S nesting a b) (all_convertible S types others) left (convertible-spends S nesting a b) (all_convertible-spends S types others)
+    and_next-spends (convertible_of S nesting a b left) _ left (convertible-spends S nesting a b left) (λ holds rest.
+    second_if-spends holds (all_convertible S types others) rest (all_convertible-spends S types others))
 all_convertible-spends S [] others left = omega arith
 all_convertible-spends S (a ∷ types) [] left = omega arith
 

@@ -1,23 +1,21 @@
 -- Trials of constructors: an injectivity that spends nothing makes the equations smaller.
-use Rattle.std.proofs.Common.{◌≡◌, ℕ, suc, ◌+◌, ◌<◌, ◌≤◌, ◌⊎◌, inl, inr, Bool, true, false, ◌==◌, cond, Option, Some, None, IfSome, Result, Ok, Err, IfOk, List, [], ◌∷◌, length, drop, slice_get, refl, ap, sym, ◌∙◌, arith}
+use Rattle.std.proofs.Common.{◌≡◌, ℕ, suc, ◌+◌, ◌<◌, ◌≤◌, ◌⊎◌, inl, inr, Bool, true, false, ◌==◌, cond, Option, Some, None, IfSome, Ok, IfOk, List, length, drop, slice_get, refl, ap, sym, ◌∙◌, arith}
 use Rattle.theory.specs.Terms.{Term}
-use Rattle.theory.specs.Telescopes.{Telescope}
 use Rattle.theory.specs.Families.{Family, Constructor}
 use Rattle.theory.specs.Signatures.{Signature}
-use Rattle.core_terms.specs.Answers.{Spent, and_next, and_then, bounded_terms}
+use Rattle.core_terms.specs.Answers.{bounded_terms}
 use Rattle.core_terms.proofs.Answers.{and_then-has, and_then-is}
 use Rattle.core_terms.specs.CaseTrees.{Step}
-use Rattle.kernel_reduce.specs.Reduction.{answered, whnf_of}
+use Rattle.kernel_reduce.specs.Reduction.{whnf_of}
 use Rattle.core_terms.specs.Levels.{variable}
-use Rattle.tele_eq.specs.Environments.{Environment}
 use Rattle.tele_eq.specs.TelescopicEquality.{equations}
 use Rattle.unification.specs.States.{Equation, State, equations_at}
-use Rattle.unification.specs.Built.{Built, built_of, is_fitting, has_no_indices}
+use Rattle.unification.specs.Built.{Built, built_of, has_no_indices}
 use Rattle.unification.specs.Records.{argument_items, constructor_terms}
 use Rattle.unification.specs.Injecting.{group_proofs, injected_equations}
-use Rattle.unification.specs.Heights.{equations_made, group_made, injected_made, injection_made, bounded_state}
+use Rattle.unification.specs.Heights.{equations_made, group_made, injected_made, injection_made}
 use Rattle.unification.specs.Moving.{over_first, behind, moved}
-use Rattle.unification.specs.Runs.{size_of, size_of_sides}
+use Rattle.unification.specs.Runs.{size_of_sides}
 use Rattle.unification.specs.Turns.{Trial, does_not_apply, goes_to, fails_at, type_in}
 use Rattle.unification.specs.Constructors.{where_fits, both_heads, right_head, heads, with_built, with_heads, on_constructors, injection_step, conflict_step, same_constructor, constructor_turn, constructor_trial}
 use Rattle.unification.specs.Laws.{Falls}
@@ -26,7 +24,7 @@ use Rattle.unification.proofs.SpentUnits.{Within, answered-within, and_next-with
 use Rattle.unification.proofs.ReductionUnits.{Stays, whnf-within}
 use Rattle.unification.proofs.Sizes.{size_of_all, sides-append, sides-at, sides-moved, sides-behind}
 use Rattle.unification.proofs.BuiltArguments.{built-smaller}
-use Rattle.unification.proofs.AllowedTurns.{MayDelete, IsOnward, Allows, IsTrial, none-is, cond-is, goes_to-is, fails_at-is, bounded_state-has}
+use Rattle.unification.proofs.AllowedTurns.{DeletesWithK, IsOnward, Allows, IsTrial, none-is, goes_to-is, fails_at-is, bounded_state-has}
 
 -- ---- head forms of both sides
 
@@ -100,10 +98,10 @@ injected-smaller S s k e b d n number f c ps at l r =
     let others = moved items types (λ t. t) (m + (k + 1)) new (drop (k + 1) s.equations) in
     let places = equations_at X (equations X us vs) us vs in
     let split : size_of_sides (injected_equations s (k + 1) n number f c ps us vs) ≡ size_of_sides places + size_of_sides others =
-        sides-append places others in
+    sides-append places others in
     let first : size_of_sides places ≤ size_of_all us + size_of_all vs = sides-at X (equations X us vs) us vs in
     let second : size_of_sides others ≡ size_of_sides (drop (k + 1) s.equations) =
-        sides-moved items types (λ t. t) (m + (k + 1)) new (drop (k + 1) s.equations) (λ t. refl) in
+    sides-moved items types (λ t. t) (m + (k + 1)) new (drop (k + 1) s.equations) (λ t. refl) in
     let after = sides-behind s.equations k e at in
     let next : k + 1 ≡ suc k = omega arith in
     let same : size_of_sides (drop (k + 1) s.equations) ≡ size_of_sides (drop (suc k) s.equations) = ap (λ i. size_of_sides (drop i s.equations)) next in
@@ -112,7 +110,7 @@ injected-smaller S s k e b d n number f c ps at l r =
     omega arith
 
 pub injection-onward : (S : Signature) (s : State) (left k : ℕ) (e : Equation) (step : Step) (n number : ℕ) (f : Family) (c : Constructor) (ps : List Term)
-    (l : Term) (b : Built) (r : Term) (d : Built) (rest : ℕ) → MayDelete S step → slice_get s.equations k ≡ Some e
+    (l : Term) (b : Built) (r : Term) (d : Built) (rest : ℕ) → DeletesWithK S step → slice_get s.equations k ≡ Some e
     → rest ≤ left → (rest ≡ left → (l ≡ e.left) × (r ≡ e.right)) → built_of S l ≡ Some b → built_of S r ≡ Some d
     → IfOk (injection_made s (k + 1) n number f c ps b.arguments d.arguments) (λ t. IsOnward S s left step t rest)
 injection-onward S s left k e step n number f c ps l b r d rest deletes at le stays lb rd =

@@ -1,10 +1,10 @@
 pub mod AllowedTurns
 pub mod BuiltArguments
-pub mod Comparing
+pub mod CycleTrials
+pub mod DeletionTrials
 pub mod GroupTrials
 pub mod InjectionTrials
 pub mod NewContexts
-pub mod OtherTrials
 pub mod ReductionUnits
 mod Rows
 pub mod RunLaws

@@ -4,8 +4,8 @@ use Rattle.std.proofs.lemmas.List.{length-append, length-drop}
 use Rattle.std.proofs.lemmas.Bool.Decides.{nat_tests}
 use Rattle.theory.specs.Terms.{Term}
 use Rattle.theory.specs.Telescopes.{Telescope}
-use Rattle.tele_eq.specs.Items.{each_position, term_at}
-use Rattle.tele_eq.specs.Environments.{Environment, put}
+use Rattle.tele_eq.specs.Items.{each_position}
+use Rattle.tele_eq.specs.Environments.{Environment}
 use Rattle.unification.specs.Occurrences.{has_level, dependants_from, dependants, is_among, without, order_without}
 use Rattle.unification.specs.Solving.{new_context}
 
@@ -82,10 +82,10 @@ solved-left out found types j zero at zero e f here h = absurd (omega arith)
 solved-left out found types j zero at (suc count) e f here h =
     let place : at ≡ j = omega arith in
     let left_out : length (without out (j ∷ each_position (λ k. k) (j + 1) count)) ≡ length (without out (each_position (λ k. k) (j + 1) count)) =
-        ap length (without-in out (each_position (λ k. k) (j + 1) count) j (subst (λ i. is_among i out ≡ true) place here)) in
+    ap length (without-in out (each_position (λ k. k) (j + 1) count) j (subst (λ i. is_among i out ≡ true) place here)) in
     let same : each_position (λ k. k) (j + 1) count ≡ each_position (λ k. k) (at + 1) (length types) = ap₂ (each_position (λ k. k)) (omega arith) (omega arith) in
     let lengths : length (without out (each_position (λ k. k) (j + 1) count)) ≡ length (without out (each_position (λ k. k) (at + 1) (length types))) =
-        ap (λ levels. length (without out levels)) same in
+    ap (λ levels. length (without out levels)) same in
     let less = dependants-left out (at + 1) found types h in
     omega arith
 solved-left out found types j (suc p) at zero e f here h = absurd (omega arith)
@@ -101,9 +101,9 @@ order-shorter context p lt =
     let types = drop (p + 1) context in
     let all : length types ≡ length context - (p + 1) = length-drop (p + 1) context in
     let less : length (without (p ∷ moved) (each_position (λ k. k) 0 (length context))) + length moved ≤ p + length types =
-        solved-left (p ∷ moved) (p ∷ []) types 0 p p (length context) (omega arith) (omega arith) (among-first p moved) (λ j e. among-rest p j moved e) in
+    solved-left (p ∷ moved) (p ∷ []) types 0 p p (length context) (omega arith) (omega arith) (among-first p moved) (λ j e. among-rest p j moved e) in
     let lengths : length (order_without context p) ≡ length (without (p ∷ moved) (each_position (λ k. k) 0 (length context))) + length moved =
-        length-append (without (p ∷ moved) (each_position (λ k. k) 0 (length context))) moved in
+    length-append (without (p ∷ moved) (each_position (λ k. k) 0 (length context))) moved in
     omega arith
 
 pub new_context-length : (context : Telescope) (s : Environment) (depth : ℕ) (order : List ℕ) → length (new_context context s depth order) ≡ length order

@@ -1,11 +1,11 @@
 -- What reduction leaves of its units: where it spends none, the term stays as it is.
-use Rattle.std.proofs.Common.{◌≡◌, ℕ, zero, suc, ◌<◌, ◌≤◌, Bool, true, false, Option, Some, None, Result, Ok, Err, refl, arith}
+use Rattle.std.proofs.Common.{◌≡◌, ℕ, zero, suc, ◌≤◌, Bool, true, false, Option, Some, None, Result, Ok, Err, refl, arith}
 use Rattle.theory.specs.Terms.{Term}
 use Rattle.theory.specs.Signatures.{Signature}
 use Rattle.core_terms.specs.Answers.{Spent, is_low}
 use Rattle.core_terms.specs.declared.stop.Stop.{Stop}
 use Rattle.kernel_reduce.specs.Steps.{step_of}
-use Rattle.kernel_reduce.specs.Reduction.{charge, if_low, without_units, with_unit, whnf_of, normal_of}
+use Rattle.kernel_reduce.specs.Reduction.{if_low, without_units, with_unit, whnf_of, normal_of}
 use Rattle.kernel_reduce.specs.Tidying.{tidy_of}
 use Rattle.kernel_reduce.proofs.ReductionLaws.{whnf-spends, normal-spends}
 use Rattle.unification.proofs.SpentUnits.{Leaves, Within, Any, any-within}
@@ -14,7 +14,7 @@ use Rattle.unification.proofs.SpentUnits.{Leaves, Within, Any, any-within}
 abbrev pub Stays : (left : ℕ) → Term → Term → ℕ → Type 0
 Stays left t u rest = rest ≡ left → u ≡ t
 
-pub if_low-leaves : {A : Type 0} (P : A → ℕ → Type 0) (test : Bool) (next : ℕ → Spent A) (left : ℕ) → Leaves P (next left).0 (next left).1
+if_low-leaves : {A : Type 0} (P : A → ℕ → Type 0) (test : Bool) (next : ℕ → Spent A) (left : ℕ) → Leaves P (next left).0 (next left).1
     → Leaves P (if_low test next left).0 (if_low test next left).1
 if_low-leaves P true next left h = h
 if_low-leaves P false next left h = tt
@@ -46,16 +46,3 @@ tidy-within S left t = any-within left (tidy_of S left t) (whnf-spends S false l
 
 pub normal-within : (S : Signature) (delta : Bool) (room : ℕ) (t : Term) (left : ℕ) → Within left Any (normal_of S delta room t left)
 normal-within S delta room t left = any-within left (normal_of S delta room t left) (normal-spends S delta room t left)
-
--- fewer units are left
-abbrev pub Costs : {A : Type 0} → (left : ℕ) → A → ℕ → Type 0
-Costs left a rest = rest < left
-
-pub charge-costs : {A : Type 0} (next : ℕ → Spent A) (left : ℕ) → ((rest : ℕ) → (next rest).1 ≤ rest)
-    → Leaves (Costs left) (charge next left).0 (charge next left).1
-charge-costs next zero h = tt
-charge-costs {A = A} next (suc left) h = costs (next left).0 (next left).1 (h left)
-  where
-    costs : (r : Result A Stop) (rest : ℕ) → rest ≤ left → Leaves (Costs (suc left)) r rest
-    costs (Ok a) rest le = omega arith
-    costs (Err e) rest le = tt

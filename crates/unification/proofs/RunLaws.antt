@@ -1,8 +1,8 @@
 -- Runs: from each state there is one, and no other.
-use Rattle.std.proofs.Common.{◌≡◌, ◌≢◌, ℕ, zero, suc, ◌<◌, ◌≤◌, Bool, true, false, nat_lt, cond, Option, Some, None, Result, Ok, Err, IfOk, List, [], ◌∷◌, length, refl, ap, ap₂, subst, sym, ◌∙◌, arith}
+use Rattle.std.proofs.Common.{◌≡◌, ◌≢◌, ℕ, zero, suc, ◌<◌, ◌≤◌, nat_lt, cond, Option, Some, None, Result, Ok, Err, IfOk, [], ◌∷◌, length, refl, ap, ap₂, subst, sym, ◌∙◌, arith}
 use Rattle.std.proofs.lemmas.Bool.Decides.{nat_tests}
 use Rattle.theory.specs.Signatures.{Signature}
-use Rattle.core_terms.specs.Answers.{Spent, and_next, on_answer}
+use Rattle.core_terms.specs.Answers.{Spent, on_answer}
 use Rattle.core_terms.specs.CaseTrees.{Step}
 use Rattle.core_terms.specs.declared.stop.Stop.{Stop}
 use Rattle.kernel_reduce.specs.Reduction.{answered}
@@ -10,7 +10,7 @@ use Rattle.unification.specs.States.{State}
 use Rattle.unification.specs.Outcomes.{Outcome, Solved, Absurd, Stuck, before}
 use Rattle.unification.specs.Turns.{Turn, Done, Goes, Fails, Sticks}
 use Rattle.unification.specs.Strategy.{turn_of}
-use Rattle.unification.specs.Runs.{Run, end_of, behind_step, size_of_sides, Going, nowhere, by_measure, goes_on, after, one_turn, by_size, by_variables, by_units, run_of}
+use Rattle.unification.specs.Runs.{Run, end_of, behind_step, size_of_sides, Going, nowhere, by_measure, after, one_turn, by_size, by_variables, by_units, run_of}
 use Rattle.unification.specs.Runs.Run.{ends, refused, goes}
 use Rattle.unification.specs.Laws.{Falls, RunsEnd, RunIsUnique}
 use Rattle.unification.specs.Laws.Falls.{units, variables, size}

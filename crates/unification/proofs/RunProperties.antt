@@ -1,12 +1,10 @@
 -- What holds of each run: it gives no units back, without K it deletes nothing, and a solution has a term for each variable.
-use Rattle.std.proofs.Common.{◌≡◌, ◌≢◌, ℕ, ◌≤◌, false, Option, Some, None, IfSome, Result, Ok, Err, IfOk, List, [], ◌∷◌, length, All, refl, subst, ◌∙◌, ap, arith}
+use Rattle.std.proofs.Common.{◌≡◌, ◌≢◌, ℕ, ◌≤◌, false, Option, Some, IfSome, Result, Ok, Err, IfOk, [], length, All, refl, subst, arith}
 use Rattle.std.proofs.lemmas.List.Elements.{All-nil, All-cons}
-use Rattle.theory.specs.Terms.{Term}
-use Rattle.theory.specs.Telescopes.{Telescope, variables}
 use Rattle.theory.specs.Signatures.{Signature}
 use Rattle.theory.proofs.ScopedTypes.{length-variables}
-use Rattle.core_terms.specs.Answers.{Spent, and_then, on_answer}
-use Rattle.core_terms.proofs.Answers.{and_then-has, and_then-is}
+use Rattle.core_terms.specs.Answers.{on_answer}
+use Rattle.core_terms.proofs.Answers.{and_then-is}
 use Rattle.core_terms.specs.CaseTrees.{Step}
 use Rattle.core_terms.specs.declared.case_tree.Rule.TheVariants.{Delete}
 use Rattle.core_terms.specs.declared.stop.Stop.{Stop}
@@ -16,11 +14,11 @@ use Rattle.unification.specs.Heights.{equations_made, start_made}
 use Rattle.unification.specs.Outcomes.{Outcome, Solved, Absurd, Stuck, steps_in, before}
 use Rattle.unification.specs.Turns.{Turn, Done, Goes, Fails, Sticks}
 use Rattle.unification.specs.Strategy.{turn_of}
-use Rattle.unification.specs.Runs.{Run, end_of, behind_step, run_of, unify_of}
+use Rattle.unification.specs.Runs.{Run, end_of, behind_step, run_of}
 use Rattle.unification.specs.Runs.Run.{ends, refused, goes}
 use Rattle.unification.specs.Laws.{UnifySpends, NoDeletionWithoutK, SolutionIsWhole}
 use Rattle.unification.proofs.SpentUnits.{Leaves}
-use Rattle.unification.proofs.AllowedTurns.{MayDelete, IsOnward, Allows, bounded_state-has}
+use Rattle.unification.proofs.AllowedTurns.{Allows, bounded_state-has}
 use Rattle.unification.proofs.TurnLaws.{turn-allowed, turn-onward, turn-spends}
 use Rattle.unification.proofs.RunLaws.{runs-end}
 

@@ -1,5 +1,5 @@
 -- A search goes on in each argument as it began.
-use Rattle.std.proofs.Common.{◌≡◌, ℕ, zero, suc, ◌+◌, ◌<◌, ◌≤◌, Bool, true, false, ◌==◌, nat_lt, cond, max, Option, Some, None, option_map, Result, Ok, Err, List, [], ◌∷◌, ◌++◌, length, drop, refl, ap, sym, ◌∙◌, subst, arith}
+use Rattle.std.proofs.Common.{◌≡◌, ℕ, zero, suc, ◌<◌, ◌≤◌, Bool, true, false, ◌==◌, nat_lt, cond, Option, Some, None, option_map, Result, Ok, Err, List, [], ◌∷◌, ◌++◌, drop, refl, ap, sym, ◌∙◌, subst, arith}
 use Rattle.std.proofs.lemmas.Bool.Decides.{nat_tests}
 use Rattle.theory.specs.Terms.{Term, height}
 use Rattle.theory.specs.Terms.Term.{App}
@@ -90,7 +90,7 @@ among-same : (S : Signature) (below other : Below) (most high : ℕ) → Agree m
     → among_arguments S below arguments us left ≡ among_arguments S other arguments us left
 among-same S below other most high agree spends (a ∷ arguments) (u ∷ us) left le low =
     let behind : (end : ℕ) → end ≤ most → among_arguments S below arguments us end ≡ among_arguments S other arguments us end =
-        λ end l. among-same S below other most high agree spends arguments us end l low.1 in
+    λ end l. among-same S below other most high agree spends arguments us end l low.1 in
     cond-same (is_direct a) _ _ _ _
     (λ e. next-same (Stays left u) (whnf_of S true left u) _ _ left (whnf-within S true left u) (λ v rest l stays.
     argument-same S below other most high agree spends a u arguments us left rest v le l (λ same. subst (λ w. height w < high) (sym (stays same)) low.0) behind))

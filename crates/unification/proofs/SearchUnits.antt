@@ -1,11 +1,11 @@
 -- A search below constructors gives no units back.
-use Rattle.std.proofs.Common.{◌≡◌, ℕ, zero, suc, ◌≤◌, Bool, true, false, ◌==◌, nat_lt, cond, Option, Some, None, option_map, Ok, List, [], ◌∷◌, refl, arith}
+use Rattle.std.proofs.Common.{ℕ, zero, suc, ◌≤◌, Bool, true, false, ◌==◌, nat_lt, cond, Option, Some, None, option_map, List, [], ◌∷◌, arith}
 use Rattle.theory.specs.Terms.{Term, height}
 use Rattle.theory.specs.Families.{Argument}
 use Rattle.theory.specs.Signatures.{Signature}
-use Rattle.core_terms.specs.Answers.{Spent, and_next}
+use Rattle.core_terms.specs.Answers.{Spent}
 use Rattle.core_terms.proofs.Answers.{and_next-spends}
-use Rattle.kernel_reduce.specs.Reduction.{answered, whnf_of}
+use Rattle.kernel_reduce.specs.Reduction.{whnf_of}
 use Rattle.kernel_reduce.proofs.ReductionLaws.{whnf-spends}
 use Rattle.unification.specs.Built.{Built, built_of, is_direct}
 use Rattle.unification.specs.Solutions.{variable_in}

@@ -1,8 +1,7 @@
 -- Sizes of terms and of the sides of equations.
-use Rattle.std.proofs.Common.{◌≡◌, ℕ, zero, suc, ◌+◌, ◌-◌, ◌<◌, ◌≤◌, Bool, true, false, cond, nat_lt, Option, Some, List, [], ◌∷◌, ◌++◌, length, drop, map, slice_get, refl, ap, sym, arith}
-use Rattle.std.proofs.lemmas.Bool.Decides.{nat_tests}
+use Rattle.std.proofs.Common.{◌≡◌, ℕ, zero, suc, ◌+◌, ◌-◌, ◌<◌, ◌≤◌, Bool, true, false, cond, nat_lt, Some, List, [], ◌∷◌, ◌++◌, drop, slice_get, refl, ap, arith}
 use Rattle.theory.specs.Terms.{Term}
-use Rattle.theory.specs.Terms.Term.{Var, Sort, Pi, Lam, App, Let, Const, Fam, Con, Elim, AxiomK}
+use Rattle.theory.specs.Terms.Term.{Var, Sort, Pi, Lam, App, Let}
 use Rattle.theory.specs.Telescopes.{Telescope}
 use Rattle.theory.specs.Spines.{spine_of}
 use Rattle.tele_eq.specs.Items.{Item}

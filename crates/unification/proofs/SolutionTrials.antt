@@ -1,10 +1,10 @@
 -- Trials of a solution: it makes the context shorter, or where there is no variable it makes the equations smaller.
-use Rattle.std.proofs.Common.{◌≡◌, ℕ, zero, suc, ◌+◌, ◌-◌, ◌<◌, ◌≤◌, ◌⊎◌, inl, inr, Bool, true, false, cond, Option, Some, None, IfSome, Result, Ok, Err, IfOk, List, [], ◌∷◌, length, map, drop, slice_get, refl, ap, ap₂, subst, sym, ◌∙◌, arith}
+use Rattle.std.proofs.Common.{◌≡◌, ℕ, ◌+◌, ◌-◌, ◌<◌, ◌≤◌, ◌⊎◌, inl, inr, Bool, true, false, cond, Option, Some, None, IfSome, Ok, IfOk, [], ◌∷◌, length, drop, slice_get, ap, ap₂, sym, ◌∙◌, arith}
 use Rattle.std.proofs.lemmas.List.{length-map}
 use Rattle.theory.specs.Terms.{Term}
 use Rattle.theory.specs.Telescopes.{Telescope}
 use Rattle.theory.specs.Signatures.{Signature, reflexivity}
-use Rattle.core_terms.specs.Answers.{Spent, and_next, and_then}
+use Rattle.core_terms.specs.Answers.{Spent, and_next}
 use Rattle.core_terms.proofs.Answers.{and_then-has}
 use Rattle.core_terms.specs.CaseTrees.{Step}
 use Rattle.kernel_reduce.specs.Reduction.{answered, nesting, normal_of}
@@ -16,15 +16,15 @@ use Rattle.unification.specs.Moving.{over_first, behind}
 use Rattle.unification.specs.Solving.{reordered, solved, solved_state}
 use Rattle.unification.specs.Heights.{bounded_state}
 use Rattle.unification.specs.Runs.{size_of, size_of_sides}
-use Rattle.unification.specs.Turns.{Turn, Goes, Trial, does_not_apply, type_in}
+use Rattle.unification.specs.Turns.{type_in}
 use Rattle.unification.specs.Solutions.{variable_in, is_free_of, if_free, solution_from, solves, state_solved, side_solved, turn_by, solve_side, right_step, left_step, solve_sides, with_variable, solution_trial}
 use Rattle.unification.specs.Laws.{Falls}
 use Rattle.unification.specs.Laws.Falls.{units, variables, size}
-use Rattle.unification.proofs.SpentUnits.{Within, Any, any-within, answered-within, and_next-within, at_most}
+use Rattle.unification.proofs.SpentUnits.{Within, Any, answered-within, and_next-within, at_most}
 use Rattle.unification.proofs.ReductionUnits.{tidy-within, normal-within}
 use Rattle.unification.proofs.Sizes.{size-positive, size-put, sides-moved, sides-behind}
 use Rattle.unification.proofs.NewContexts.{order-shorter, order-none, new_context-length}
-use Rattle.unification.proofs.AllowedTurns.{MayDelete, IsOnward, Allows, IsTrial, none-is, or_else-is, on_tidied-is, bounded_state-has}
+use Rattle.unification.proofs.AllowedTurns.{DeletesWithK, Allows, IsTrial, none-is, or_else-is, on_tidied-is, bounded_state-has}
 
 -- ---- the state behind a solution
 
@@ -47,7 +47,7 @@ solved-smaller s e i p A u at none =
     let items = behind n 1 m s' (over_first m (u' ∷ [])) in
     let types = behind n 1 m s' (over_first m (reflexivity i A' u' ∷ [])) in
     let same : size_of_sides (solved_state s i p A u).equations ≡ size_of_sides (drop 1 s.equations) =
-        sides-moved items types (put s' n m) (n + 1) m (drop 1 s.equations) (put-of_none s' n m none (order-of_none s.context p none)) in
+    sides-moved items types (put s' n m) (n + 1) m (drop 1 s.equations) (put-of_none s' n m none (order-of_none s.context p none)) in
     let after = sides-behind s.equations 0 e at in
     let positive = size-positive e.left in
     omega arith
@@ -108,13 +108,13 @@ solves-within S s x A u left = by_case (is_free_of s x A) (solution_from S s x u
     by_case true r h = h
     by_case false r h = answered-within Any (Ok None) left tt
 
-turn_by-allows : (S : Signature) (s : State) (left : ℕ) (step : Term → Step) (found : Option (Term × State)) (rest : ℕ) → ((t : Term) → MayDelete S (step t))
+turn_by-allows : (S : Signature) (s : State) (left : ℕ) (step : Term → Step) (found : Option (Term × State)) (rest : ℕ) → ((t : Term) → DeletesWithK S (step t))
     → Solves s left found rest → Allows S s left (turn_by step found) rest
 turn_by-allows S s left step None rest k h = tt
 turn_by-allows S s left step (Some p) rest k h = record { falls = h.0; whole = h.1; deletes = k p.0 }
 
 solve_side-is : (S : Signature) (s : State) (left : ℕ) (e : Equation) (A other : Term) (step : ℕ → Term → Step) (found : Option ℕ) → slice_get s.equations 0 ≡ Some e
-    → ((x : ℕ) (t : Term) → MayDelete S (step x t)) → IsTrial S s left (solve_side S s e A other step found)
+    → ((x : ℕ) (t : Term) → DeletesWithK S (step x t)) → IsTrial S s left (solve_side S s e A other step found)
 solve_side-is S s left e A other step None at k rest le = none-is S s left rest le
 solve_side-is S s left e A other step (Some x) at k rest le =
     and_next-within (Solves s left) (Allows S s left) (side_solved S s e x A other rest) _ rest

@@ -1,9 +1,8 @@
 -- Turns: they give no units back, one is always there, and one that goes on makes the state less.
-use Rattle.std.proofs.Common.{◌≡◌, ◌≢◌, ℕ, ◌+◌, ◌≤◌, Option, Some, None, Result, Ok, Err, IfOk, List, [], ◌∷◌, length, slice_get, refl, ap, subst, arith}
+use Rattle.std.proofs.Common.{◌≡◌, ◌≢◌, ℕ, Option, Some, None, Result, Ok, Err, IfOk, List, [], ◌∷◌, length, slice_get, refl, ap, subst, arith}
 use Rattle.theory.specs.Terms.{Term}
 use Rattle.theory.specs.Signatures.{Signature}
-use Rattle.core_terms.specs.Answers.{Spent, and_next}
-use Rattle.core_terms.proofs.Answers.{Answers, and_next-has}
+use Rattle.core_terms.proofs.Answers.{and_next-has}
 use Rattle.core_terms.specs.CaseTrees.{Step}
 use Rattle.core_terms.specs.declared.stop.Stop.{Stop}
 use Rattle.unification.specs.States.{Equation, State}
@@ -21,14 +20,15 @@ use Rattle.unification.proofs.AllowedTurns.{IsOnward, Allows, IsTrial, or_else-i
 use Rattle.unification.proofs.GroupTrials.{group_trials-are}
 use Rattle.unification.proofs.SolutionTrials.{solution_trial-is}
 use Rattle.unification.proofs.InjectionTrials.{constructor_trial-is}
-use Rattle.unification.proofs.OtherTrials.{cycle_trial-is, deletion_trial-is, stuck_trial-is}
+use Rattle.unification.proofs.CycleTrials.{cycle_trial-is}
+use Rattle.unification.proofs.DeletionTrials.{deletion_trial-is, stuck_trial-is}
 
 first_trials-are : (S : Signature) (s : State) (left : ℕ) (e : Equation) → slice_get s.equations 0 ≡ Some e → IsTrial S s left (first_trials S s e)
 first_trials-are S s left e at =
     or_else-is S s left (solution_trial S s e) _ (solution_trial-is S s left e at)
     (or_else-is S s left (constructor_trial S s e) _ (constructor_trial-is S s left e at)
     (or_else-is S s left (cycle_trial S e) _ (cycle_trial-is S s left e)
-    (or_else-is S s left (deletion_trial S s e) (stuck_trial S e) (deletion_trial-is S s left e) (stuck_trial-is S s left e))))
+    (or_else-is S s left (deletion_trial S s e) (stuck_trial S e) (deletion_trial-is S s left e at) (stuck_trial-is S s left e))))
 
 trials-are : (S : Signature) (s : State) (left : ℕ) (es : List Equation) → s.equations ≡ es → IsTrial S s left (trials S s es)
 trials-are S s left [] e = (λ rest le. answered-within (Allows S s left) (Ok (Some Done)) rest tt)

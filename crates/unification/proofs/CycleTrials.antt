@@ -1,31 +1,18 @@
--- Trials of a cycle, of a deletion and of what is stuck.
-use Rattle.std.proofs.Common.{◌≡◌, ℕ, suc, ◌≤◌, Bool, true, false, cond, Option, Some, None, Result, Ok, Err, refl, arith}
+-- Trials of a cycle.
+use Rattle.std.proofs.Common.{ℕ, Bool, true, false, cond, Option, Some, None, Ok, arith}
 use Rattle.theory.specs.Terms.{Term, Var}
 use Rattle.theory.specs.Signatures.{Signature}
 use Rattle.core_terms.specs.Answers.{Spent, and_next}
 use Rattle.core_terms.specs.CaseTrees.{Step}
-use Rattle.core_terms.specs.declared.case_tree.Rule.TheVariants.{Delete}
-use Rattle.kernel_reduce.specs.Comparison.{convertible_of}
-use Rattle.kernel_reduce.specs.Reduction.{answered, nesting, whnf_of}
-use Rattle.kernel_reduce.specs.Tidying.{tidy_of}
+use Rattle.kernel_reduce.specs.Reduction.{answered, whnf_of}
 use Rattle.unification.specs.States.{Equation, State}
 use Rattle.unification.specs.Built.{Built, built_of}
-use Rattle.unification.specs.Solving.{deleted_state}
-use Rattle.unification.specs.Heights.{bounded_state}
 use Rattle.unification.specs.Solutions.{variable_in}
-use Rattle.unification.specs.Turns.{Sticks, sticks_at, Trial, type_in}
 use Rattle.unification.specs.Cycles.{search_in, is_acyclic, bounded_found, reduced_side, cycle_at, cycle_search, cycle_step, left_variable, right_variable, left_constructor, left_form, cycle_trial}
-use Rattle.unification.specs.Deletions.{deletion_step, delete, if_convertible, deletion_trial}
-use Rattle.unification.specs.Sticking.{why_stuck, stuck_trial}
-use Rattle.unification.specs.Laws.Falls.{units}
-use Rattle.unification.specs.declared.why.Why.TheVariants.{NeedsK}
 use Rattle.unification.proofs.SpentUnits.{Within, Any, any-within, answered-within, and_next-within}
-use Rattle.unification.proofs.ReductionUnits.{Stays, Costs, whnf-within, tidy-within}
-use Rattle.unification.proofs.Comparing.{convertible-within}
+use Rattle.unification.proofs.ReductionUnits.{Stays, whnf-within}
 use Rattle.unification.proofs.SearchUnits.{search-spends}
-use Rattle.unification.proofs.AllowedTurns.{MayDelete, IsOnward, Allows, IsTrial, none-is, goes_to-is, on_tidied-within, on_tidied-is, fails_at-is, sticks_at-is, bounded_state-has}
-
--- ---- cycle
+use Rattle.unification.proofs.AllowedTurns.{DeletesWithK, Allows, IsTrial, none-is, fails_at-is}
 
 reduced_side-within : (S : Signature) (x : ℕ) (t : Term) (b : Option Built) (left : ℕ) → Within left Any (reduced_side S x t b left)
 reduced_side-within S x t None left = answered-within Any (Ok None) left tt
@@ -36,12 +23,12 @@ reduced_side-within S x t (Some b) left = by_case (is_acyclic b) (search_in S b.
     by_case true r h = and_next-within Any Any r _ left h (λ found rest le a. any-within rest (answered (bounded_found found) rest) (omega arith))
     by_case false r h = answered-within Any (Ok None) left tt
 
-cycle_at-is : (S : Signature) (s : State) (left : ℕ) (e : Equation) (step : Term → Step) (found : Option Term) → ((t : Term) → MayDelete S (step t))
+cycle_at-is : (S : Signature) (s : State) (left : ℕ) (e : Equation) (step : Term → Step) (found : Option Term) → ((t : Term) → DeletesWithK S (step t))
     → IsTrial S s left (cycle_at S e step found)
 cycle_at-is S s left e step None k rest le = none-is S s left rest le
 cycle_at-is S s left e step (Some t) k rest le = fails_at-is S s left (step t) e.left e.right (k t) rest le
 
-cycle_search-is : (S : Signature) (s : State) (left : ℕ) (e : Equation) (x : ℕ) (step : Term → Step) (t : Term) → ((t : Term) → MayDelete S (step t))
+cycle_search-is : (S : Signature) (s : State) (left : ℕ) (e : Equation) (x : ℕ) (step : Term → Step) (t : Term) → ((t : Term) → DeletesWithK S (step t))
     → IsTrial S s left (cycle_search S e x step t)
 cycle_search-is S s left e x step t k rest le =
     and_next-within Any (Allows S s left) (reduced_side S x t (built_of S t) rest) _ rest (reduced_side-within S x t (built_of S t) rest) (λ found end l a.
@@ -75,33 +62,3 @@ pub cycle_trial-is : (S : Signature) (s : State) (left : ℕ) (e : Equation) →
 cycle_trial-is S s left e rest le =
     and_next-within (Stays rest e.left) (Allows S s left) (whnf_of S true rest e.left) _ rest (whnf-within S true rest e.left) (λ t end l a.
     left_form-is S s left e t (variable_in t) end (omega arith))
-
--- ---- deletion
-
-delete-is : (S : Signature) (s : State) (left : ℕ) (e : Equation) (rest : ℕ) → suc rest ≤ left → S.has_k ≡ true → Within rest (Allows S s left) (delete S s e rest)
-delete-is S s left e rest less k =
-    and_next-within Any (Allows S s left) (tidy_of S rest (type_in e.type)) _ rest (tidy-within S rest (type_in e.type)) (λ A end l a.
-    on_tidied-within S s left e.left e.right _ end (λ u v end' l'.
-    goes_to-is S s left (deletion_step A u v) (bounded_state (deleted_state s e.place.level A u)) end'
-    (bounded_state-has (λ t. IsOnward S s left (deletion_step A u v) t end') (deleted_state s e.place.level A u)
-    (record { falls = units (omega arith); whole = refl; deletes = λ none. absurd cc }))))
-
-if_convertible-is : (S : Signature) (s : State) (left : ℕ) (e : Equation) (holds : Bool) (rest : ℕ) → suc rest ≤ left
-    → Within rest (Allows S s left) (if_convertible S s e holds rest)
-if_convertible-is S s left e false rest less = none-is S s left rest (omega arith)
-if_convertible-is S s left e true rest less = by_case S.has_k refl
-  where
-    by_case : (k : Bool) → S.has_k ≡ k → Within rest (Allows S s left) (cond k (delete S s e) (sticks_at S NeedsK e.left e.right) rest)
-    by_case true k = delete-is S s left e rest less k
-    by_case false k = sticks_at-is S s left NeedsK e.left e.right rest (omega arith)
-
-pub deletion_trial-is : (S : Signature) (s : State) (left : ℕ) (e : Equation) → IsTrial S s left (deletion_trial S s e)
-deletion_trial-is S s left e rest le =
-    and_next-within (Costs rest) (Allows S s left) (convertible_of S nesting e.left e.right rest) _ rest
-    (convertible-within S nesting e.left e.right rest) (λ holds end l a. if_convertible-is S s left e holds end (omega arith))
-
--- ---- stuck
-
-pub stuck_trial-is : (S : Signature) (s : State) (left : ℕ) (e : Equation) → IsTrial S s left (stuck_trial S e)
-stuck_trial-is S s left e =
-    on_tidied-is S s left e.left e.right _ (λ u v rest le. answered-within (Allows S s left) (Ok (Some (Sticks (why_stuck S u v) u v))) rest tt)
