@@ -42,11 +42,6 @@ IsTrial S s left trial = (rest : ℕ) → rest ≤ left → Within rest (Allows 
 pub none-is : (S : Signature) (s : State) (left : ℕ) → IsTrial S s left does_not_apply
 none-is S s left rest le = answered-within (Allows S s left) (Ok None) rest tt
 
-pub cond-is : (S : Signature) (s : State) (left : ℕ) (test : Bool) (first second : Trial) → IsTrial S s left first → IsTrial S s left second
-    → IsTrial S s left (cond test first second)
-cond-is S s left true first second h k = h
-cond-is S s left false first second h k = k
-
 unless_found-is : (S : Signature) (s : State) (left : ℕ) (found : Option Turn) (second : Trial) (rest : ℕ) → rest ≤ left → Allows S s left found rest
     → IsTrial S s left second → Within rest (Allows S s left) (unless_found found second rest)
 unless_found-is S s left (Some turn) second rest le h k = answered-within (Allows S s left) (Ok (Some turn)) rest h

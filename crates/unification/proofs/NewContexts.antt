@@ -1,5 +1,5 @@
 -- The context behind a solution is shorter than the one before it.
-use Rattle.std.proofs.Common.{◌≡◌, ℕ, zero, suc, ◌+◌, ◌-◌, ◌<◌, ◌≤◌, ◌==◌, Bool, true, false, ◌||◌, cond, List, [], ◌∷◌, ◌++◌, length, drop, refl, ap, ap₂, subst, arith}
+use Rattle.std.proofs.Common.{◌≡◌, ℕ, zero, suc, ◌+◌, ◌-◌, ◌<◌, ◌≤◌, ◌==◌, Bool, true, false, ◌||◌, cond, List, [], ◌∷◌, length, drop, refl, ap, ap₂, subst, arith}
 use Rattle.std.proofs.lemmas.List.{length-append, length-drop}
 use Rattle.std.proofs.lemmas.Bool.Decides.{nat_tests}
 use Rattle.theory.specs.Terms.{Term}
@@ -23,16 +23,6 @@ among-rest i j levels h = by_case (i == j)
     by_case true = refl
     by_case false = h
 
-without-append : (out levels others : List ℕ) → length (without out (levels ++ others)) ≡ length (without out levels) + length (without out others)
-without-append out [] others = omega arith
-without-append out (j ∷ levels) others = by_case (is_among j out) (without-append out levels others)
-  where
-    by_case : (b : Bool) → length (without out (levels ++ others)) ≡ length (without out levels) + length (without out others)
-        → length (cond b (without out (levels ++ others)) (j ∷ without out (levels ++ others)))
-        ≡ length (cond b (without out levels) (j ∷ without out levels)) + length (without out others)
-    by_case true h = h
-    by_case false h = omega arith
-
 -- where a level is left out, or is not
 without-in : (out levels : List ℕ) (j : ℕ) → is_among j out ≡ true → without out (j ∷ levels) ≡ without out levels
 without-in out levels j e = ap (λ b. cond b (without out levels) (j ∷ without out levels)) e
@@ -43,13 +33,6 @@ without-more out levels j = by_case (is_among j out)
     by_case : (b : Bool) → length (cond b (without out levels) (j ∷ without out levels)) ≤ suc (length (without out levels))
     by_case true = omega arith
     by_case false = omega arith
-
-without-length : (out : List ℕ) (j count : ℕ) → length (without out (each_position (λ k. k) j count)) ≤ count
-without-length out j zero = omega arith
-without-length out j (suc count) =
-    let h = without-more out (each_position (λ k. k) (j + 1) count) j in
-    let k = without-length out (j + 1) count in
-    omega arith
 
 -- the dependants are left out, one place for each of them
 dependants-left : (out : List ℕ) (at : ℕ) (found : List ℕ) (types : Telescope) → AreAmong (dependants_from at found types) out

@@ -153,7 +153,7 @@ goes-unique S s t left rest n step result is h other end (goes _ t' _ rest' end'
     (ap₂ behind_step first both.0, both.1)
 
 -- two runs from one state have the same end
-pub runs-same : (S : Signature) (s : State) (left n : ℕ) (result : Result Outcome Stop) → Run S s left result n
+runs-same : (S : Signature) (s : State) (left n : ℕ) (result : Result Outcome Stop) → Run S s left result n
     → (other : Result Outcome Stop) (end : ℕ) → Run S s left other end → (result ≡ other) × (n ≡ end)
 runs-same S s left n result (ends _ _ rest turn outcome is e) = ends-unique S s left rest turn outcome is e
 runs-same S s left n result (refused _ _ rest x is) = refused-unique S s left rest x is

@@ -50,7 +50,7 @@ below_constructor-spends S n below (Some b) h left =
     by_case true k = k
     by_case false k = omega arith
 
-pub in_form-spends : (S : Signature) (n x : ℕ) (below : Below) (t : Term) → BelowSpends below → Spends (in_form S n x below t)
+in_form-spends : (S : Signature) (n x : ℕ) (below : Below) (t : Term) → BelowSpends below → Spends (in_form S n x below t)
 in_form-spends S n x below t h left =
     cond-spends (is_variable x (variable_in t)) _ _ left (omega arith) (below_constructor-spends S n below (built_of S t) h left)
 

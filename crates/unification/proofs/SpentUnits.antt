@@ -1,5 +1,5 @@
 -- What holds of an answer and of the units that are left behind it, where no call gives units back.
-use Rattle.std.proofs.Common.{◌≡◌, ℕ, ◌<◌, ◌≤◌, ◌⊎◌, Bool, true, false, cond, Result, Ok, Err, IfOk, arith}
+use Rattle.std.proofs.Common.{◌≡◌, ℕ, ◌<◌, ◌≤◌, ◌⊎◌, Result, Ok, Err, IfOk, arith}
 use Rattle.core_terms.specs.Answers.{Spent, and_next, on_answer}
 use Rattle.core_terms.specs.declared.stop.Stop.{Stop}
 use Rattle.kernel_reduce.specs.Reduction.{answered}
@@ -31,7 +31,7 @@ answered-within P (Ok a) left h = record { spends = omega arith; leaves = h }
 answered-within P (Err e) left h = record { spends = omega arith; leaves = tt }
 
 -- what is said holds from more units on
-pub within-later : {A : Type 0} (P Q : A → ℕ → Type 0) (r : Spent A) (left all : ℕ) → left ≤ all
+within-later : {A : Type 0} (P Q : A → ℕ → Type 0) (r : Spent A) (left all : ℕ) → left ≤ all
     → ((a : A) (rest : ℕ) → rest ≤ left → P a rest → Q a rest) → Within left P r → Within all Q r
 within-later {A = A} P Q r left all le k h = record { spends = let l : r.1 ≤ left = h.spends in omega arith; leaves = later r.0 r.1 h.spends h.leaves }
   where
@@ -50,11 +50,6 @@ pub and_next-within : {A B : Type 0} (P : A → ℕ → Type 0) (Q : B → ℕ �
 and_next-within P Q first go left h k =
     on_answer-within P Q first.0 first.1 left go h.spends h.leaves (λ a p. k a first.1 h.spends p)
 
--- one of two calls
-pub cond-within : {A : Type 0} (Q : A → ℕ → Type 0) (test : Bool) (first second : ℕ → Spent A) (left : ℕ)
-    → Within left Q (first left) → Within left Q (second left) → Within left Q (cond test first second left)
-cond-within Q true first second left h k = h
-cond-within Q false first second left h k = k
-
+-- some units are spent, or none
 pub at_most : (rest left : ℕ) → rest ≤ left → (rest < left) ⊎ (rest ≡ left)
 at_most rest left le = grind arith
