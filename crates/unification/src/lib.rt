@@ -5,6 +5,7 @@
 #![tactic(auto)]
 
 pub mod run_laws;
+pub mod scope_laws;
 mod why;
 
 pub use why::Why;
