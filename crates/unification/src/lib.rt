@@ -5,6 +5,7 @@
 #![tactic(auto)]
 
 pub mod rule_laws;
+pub mod run_laws;
 pub mod scope_laws;
 pub mod solution_laws;
 mod why;
