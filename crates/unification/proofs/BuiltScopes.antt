@@ -1,6 +1,5 @@
 -- Constructors in scoped terms: their families stand in the signature, and their parts are scoped.
 use Rattle.std.proofs.Common.{◌≡◌, ℕ, ◌+◌, Bool, true, false, cond, ◌==◌, Option, Some, None, IfSome, Ok, List, ◌++◌, length, slice_get, refl, sym, ap, ◌∙◌, subst, arith, length-drop}
-use Rattle.std.proofs.lemmas.Bool.Decides.{Decides-eqb}
 use Rattle.std.proofs.lemmas.List.Elements.{All-append, All-take, All-drop}
 use Rattle.std.proofs.lemmas.Option.{same_Some, slice_get_within}
 use Rattle.std.specs.List.{All}
@@ -21,6 +20,7 @@ use Rattle.unification.specs.Built.{Built, with_all, with_spine, built_of}
 use Rattle.unification.specs.Constructors.{where_fits, both_heads, right_head, heads, with_built, with_heads, on_constructors}
 use Rattle.unification.specs.Turns.{Trial, Turn}
 use Rattle.unification.proofs.Trials.{Turns, does_not_apply-has, reduced-has}
+use Rattle.std.proofs.lemmas.Bool.{eqb-true}
 
 -- a constructor of a family of the signature, with as many arguments as it has, and scoped parts
 pub record IsBuiltIn (S : Signature) (m : ℕ) (b : Built) : Type 0 where
@@ -34,7 +34,7 @@ with_all-in : (S : Signature) (m n number : ℕ) (f : Family) (us : List Term) (
     → slice_get f.constructors number ≡ Some c → All (IsScoped S m) us → IfSome (with_all n number f us c) (IsBuiltIn S m)
 with_all-in S m n number f us c at there all =
     some-cond (IsBuiltIn S m) (length us == length f.parameters + length c.arguments) _ (λ test.
-    let full : length us ≡ length f.parameters + length c.arguments = (Decides-eqb (length us) (length f.parameters + length c.arguments)).0 test in
+    let full : length us ≡ length f.parameters + length c.arguments = eqb-true (length us) (length f.parameters + length c.arguments) test in
     record {
       entry = at;
       constructor = there;
@@ -105,7 +105,7 @@ both_heads-are S m fits l r b (Some d) hl hr meets el er = by (d.n == b.n) refl
       same = λ b' d' eb ed.
           (let sb : b' ≡ b = same_Some b' b (sym eb ∙ el) in
           let sd : d' ≡ d = same_Some d' d (sym ed ∙ er) in
-          ap (λ (x : Built). x.n) sd ∙ ((Decides-eqb d.n b.n).0 e ∙ sym (ap (λ (x : Built). x.n) sb)));
+          ap (λ (x : Built). x.n) sd ∙ (eqb-true d.n b.n e ∙ sym (ap (λ (x : Built). x.n) sb)));
     }
 
 right_head-are : (S : Signature) (m : ℕ) (l v : Term) (fits : Built → Bool) (o : Option Built) (left : ℕ) → IsScopedSignature S → IsScoped S m l

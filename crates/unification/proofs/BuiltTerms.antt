@@ -13,7 +13,7 @@ use Rattle.kernel_reduce.specs.Entries.{family_in, family_at}
 use Rattle.kernel_reduce.proofs.LookUps.{family-found}
 use Rattle.unification.specs.Built.{Built, term_of, with_all, with_spine, built_of}
 use Rattle.unification.specs.Paths.{IsBuilt}
-use Rattle.unification.proofs.Tests.{equal-numbers}
+use Rattle.std.proofs.lemmas.Bool.{eqb-true}
 
 -- what an option leads to comes from what stands in it
 pub next-some : {A B : Type 0} (f : A → Option B) (o : Option A) (y : B) → option_and_then f o ≡ Some y
@@ -42,7 +42,7 @@ with_all-is : (S : Signature) (n number : ℕ) (f : Family) (us : List Term) (c 
     → IsBuiltTerm S (applied (Con n number) us) b
 with_all-is S n number f us c b family constructor e =
     let tested = test-some (length us == length f.parameters + length c.arguments) whole b e in
-    let count : length us ≡ length f.parameters + length c.arguments = equal-numbers _ _ tested.0 in
+    let count : length us ≡ length f.parameters + length c.arguments = eqb-true _ _ tested.0 in
     transport (IsBuiltTerm S (applied (Con n number) us)) tested.1
     (record {
       built = record {

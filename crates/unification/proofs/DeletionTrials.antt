@@ -18,10 +18,11 @@ use Rattle.unification.specs.Laws.{Falls}
 use Rattle.unification.specs.Laws.Falls.{units, size}
 use Rattle.unification.specs.declared.why.Why.TheVariants.{NeedsK}
 use Rattle.kernel_reduce.proofs.ComparisonLaws.{convertible-spends}
-use Rattle.unification.proofs.SpentUnits.{Any, any-within, answered-within, and_next-within, at_most}
+use Rattle.unification.proofs.SpentUnits.{Any, any-within, answered-within, and_next-within}
 use Rattle.unification.proofs.ReductionUnits.{tidy-within}
 use Rattle.unification.proofs.Sizes.{size-positive, sides-moved, sides-behind}
 use Rattle.unification.proofs.AllowedTurns.{IsOnward, Allows, IsTrial, none-is, goes_to-is, on_tidied-within, on_tidied-is, sticks_at-is, bounded_state-has}
+use Rattle.unification.proofs.Cases.{less-or_same}
 
 deleted-smaller : (s : State) (e : Equation) (i : ℕ) (A u : Term) → slice_get s.equations 0 ≡ Some e
     → size_of_sides (deleted_state s i A u).equations < size_of_sides s.equations
@@ -47,7 +48,7 @@ delete-is S s left e at k rest le =
     goes_to-is S s left (deletion_step A u v) (bounded_state (deleted_state s e.place.level A u)) end'
     (bounded_state-has (λ t. IsOnward S s left (deletion_step A u v) t end') (deleted_state s e.place.level A u)
     (record {
-      falls = deleted-falls s left e e.place.level A u end' at (at_most end' left (omega arith));
+      falls = deleted-falls s left e e.place.level A u end' at (less-or_same end' left (omega arith));
       whole = refl;
       deletes = λ none. absurd cc;
     }))))

@@ -22,8 +22,8 @@ use Rattle.unification.proofs.FirstEquations.{IsAtHead, first-as}
 use Rattle.unification.proofs.Reducts.{IsReduct, whnf-reduct}
 use Rattle.unification.proofs.MovedStates.{injection_made-has}
 use Rattle.unification.proofs.Trials.{goes_to-has}
-use Rattle.unification.proofs.Tests.{equal-numbers, apart-numbers}
 use Rattle.unification.proofs.FollowingTrials.{FollowsOn, TrialFollows, fails_at-follows, cond-follows}
+use Rattle.std.proofs.lemmas.Bool.{eqb-false, eqb-true}
 
 -- ---- head forms
 
@@ -67,7 +67,7 @@ right_head-has S fits n u v l closed hv hl (Some b) h left =
       left_built = h.0;
       right_built = k.0;
       fitting = h.1;
-      family = equal-numbers d.n b.n k.1;
+      family = eqb-true d.n b.n k.1;
     }
 
 heads-have : (S : Signature) (fits : Built → Bool) (n : ℕ) (u v : Term) → IsScopedSignature S → IsScoped S n u → IsScoped S n v
@@ -105,7 +105,7 @@ none-there [] e = refl
 none-there (x ∷ xs) e = absurd (omega arith)
 
 pub no-indices : (f : Family) → has_no_indices f ≡ true → f.indices ≡ []
-no-indices f e = none-there f.indices (equal-numbers (length f.indices) 0 e)
+no-indices f e = none-there f.indices (eqb-true (length f.indices) 0 e)
 
 constructor_turn-follows : (S : Signature) (s : State) (e : Equation) → IsAtHead S s e → (l : Term) (b : Built) (r : Term) (d : Built)
     → IsReduct S (length s.context) e.left l → IsReduct S (length s.context) e.right r → IsBuiltTerm S l b → IsBuiltTerm S r d
@@ -117,13 +117,13 @@ constructor_turn-follows S s e head l b r d hl hr hb hd fits family =
     (injection_made-has (Steps S s (injection_step 1 (type_in e.type) l r b)) s 1 b.n b.number b.family b.constructor b.parameters b.arguments d.arguments
     (subst₂ (λ x y. Steps S s (injection_step 1 (type_in e.type) x y b) (injected_state s 1 b.n b.number b.family b.constructor b.parameters b.arguments d.arguments))
     (sym hb.term) (sym hd.term)
-    (inject s e (type_in e.type) b d hb.built hd.built (sym family) (equal-numbers b.number d.number one) (fitting-level b.family fits)
+    (inject s e (type_in e.type) b d hb.built hd.built (sym family) (eqb-true b.number d.number one) (fitting-level b.family fits)
     (no-indices b.family plain) (first-as S s e (type_in e.type) (term_of b) (term_of d) head same left right)))))
     (λ indexed left. tt))
     (λ other. fails_at-follows S s (length s.context) (conflict_step 1 (type_in e.type) l r b d) e.left e.right head.signature
     head.scoped.left head.scoped.right
     (subst₂ (λ x y. IsAbsurd S s (conflict_step 1 (type_in e.type) x y b d)) (sym hb.term) (sym hd.term)
-    (conflict s e (type_in e.type) b d hb.built hd.built (sym family) (apart-numbers b.number d.number other)
+    (conflict s e (type_in e.type) b d hb.built hd.built (sym family) (eqb-false b.number d.number other)
     (fitting-level b.family fits) (first-as S s e (type_in e.type) (term_of b) (term_of d) head same left right)))
     hl.converts hr.converts)
   where

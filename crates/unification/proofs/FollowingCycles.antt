@@ -30,8 +30,8 @@ use Rattle.unification.proofs.FirstEquations.{IsAtHead, first-as}
 use Rattle.unification.proofs.Reducts.{IsReduct, whnf-reduct}
 use Rattle.unification.proofs.FollowingSolutions.{variable-is}
 use Rattle.unification.proofs.FollowingTrials.{FollowsOn, TrialFollows, fails_at-follows}
-use Rattle.unification.proofs.Tests.{equal-numbers}
 use Rattle.unification.proofs.UnderInstances.{each-append, each-applied, each-same, each-length}
+use Rattle.std.proofs.lemmas.Bool.{eqb-true}
 
 -- ---- what is found
 
@@ -192,7 +192,7 @@ with-arguments S n x f family t b hb number ws h = record {
     by (inr below) = further (with_arguments b ws) h.term d same argument below
 
 variable-found : (x : ℕ) (o : Option ℕ) → is_variable x o ≡ true → o ≡ Some x
-variable-found x (Some y) e = ap Some (equal-numbers y x e)
+variable-found x (Some y) e = ap Some (eqb-true y x e)
 variable-found x None e = absurd (grind arith)
 
 in_form-finds : (S : Signature) (n x : ℕ) (f : Family) → IsAcyclicFamily S n f → (below : Below) → FindsBelow S n x below
@@ -210,7 +210,7 @@ in_form-finds S n x f family below finds t left = by (is_variable x (variable_in
         family-test true at =
             found_as-has (IsAmong S n x b.constructor.arguments b.arguments) (IsFound S n x t) (with_arguments b)
             (among_arguments S below b.constructor.arguments b.arguments)
-            (λ ws h. with-arguments S n x f family t b (built-is S t b (sym e)) (equal-numbers b.n n (sym at)) ws h) left
+            (λ ws h. with-arguments S n x f family t b (built-is S t b (sym e)) (eqb-true b.n n (sym at)) ws h) left
             (among-has S n x below finds b.constructor.arguments b.arguments left)
         family-test false at = tt
 

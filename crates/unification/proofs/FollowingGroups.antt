@@ -40,10 +40,11 @@ use Rattle.unification.proofs.Reducts.{IsReduct, whnf-reduct}
 use Rattle.unification.proofs.MovedStates.{injection_made-has}
 use Rattle.unification.proofs.MovedEquations.{equations-at}
 use Rattle.unification.proofs.ScopedEquations.{equations_made-has}
-use Rattle.unification.proofs.SolvedProblems.{length-items_at, length-equations}
 use Rattle.unification.proofs.Trials.{or_else-has, goes_to-has}
-use Rattle.unification.proofs.Tests.{equal-numbers, apart-numbers}
 use Rattle.unification.proofs.FollowingTrials.{FollowsOn, TrialFollows, cond-follows, fails_at-follows}
+use Rattle.std.proofs.lemmas.Bool.{eqb-false, eqb-true}
+use Rattle.unification.proofs.Counts.{length-equations, length-types}
+use Rattle.unification.proofs.ScopedRecords.{length-family_items}
 
 -- ---- types that are found convertible
 
@@ -67,24 +68,6 @@ all-convertible_has S (a ∷ types) (b ∷ others) e left =
         → Answers (λ holds. IsTrue holds → EachConverts S (a ∷ types) (b ∷ others)) (second_if holds go rest)
     by go k true h rest = more (go rest).0 (h refl) (k rest)
     by go k false h rest = λ holds. absurd (grind arith)
-
-length-types : (equations : List Equation) → length (types_as_they_stand equations) ≡ length equations
-length-types [] = refl
-length-types (e ∷ equations) = ap suc (length-types equations)
-
--- the indices, and the family at them
-length-family_items : (n : ℕ) (f : Family) (ps : List Term) → length (family_items n f ps) ≡ length f.indices + 1
-length-family_items n f ps =
-    length-items_at _ _ (types ∙ sym levels) ∙ types
-  where
-    types : length (inst_telescope (fill no_variable ps) (index_types f) ++ applied (weaken_by (length f.indices) (applied (Fam n) ps)) (variables (length f.indices)) ∷ [])
-        ≡ length f.indices + 1
-    types =
-        length-append (inst_telescope (fill no_variable ps) (index_types f)) _
-        ∙ ap (λ i. i + 1) (length-inst_telescope (fill no_variable ps) (index_types f) ∙ length-map f.indices _)
-
-    levels : length (map (λ (i : Term × ℕ). i.1) f.indices ++ f.level ∷ []) ≡ length f.indices + 1
-    levels = length-append (map (λ (i : Term × ℕ). i.1) f.indices) _ ∙ ap (λ i. i + 1) (length-map f.indices _)
 
 -- the equations are found to be those of a membership
 equations-have : (S : Signature) (m : Membership) (group : List Equation) → length group ≡ length m.family.indices + 1 → (left : ℕ)
@@ -130,10 +113,10 @@ group_turn-follows S s k e m type l b r d closed scoped hl hr hb hd family group
     (injection_made-has (Steps S s (injection_step (k + 1) type l r b)) s (k + 1) b.n b.number m.family b.constructor m.parameters b.arguments d.arguments
     (subst₂ (λ x y. Steps S s (injection_step (k + 1) type x y b) (injected_state s (k + 1) b.n b.number m.family b.constructor m.parameters b.arguments d.arguments))
     (sym hb.term) (sym hd.term)
-    (inject_group s k m.family m.parameters type b d hb.built hd.built (sym family) (equal-numbers b.number d.number one) group))))
+    (inject_group s k m.family m.parameters type b d hb.built hd.built (sym family) (eqb-true b.number d.number one) group))))
     (λ other. fails_at-follows S s (length s.context) (conflict_step (k + 1) type l r b d) e.left e.right closed scoped.left scoped.right
     (subst₂ (λ x y. IsAbsurd S s (conflict_step (k + 1) type x y b d)) (sym hb.term) (sym hd.term)
-    (conflict_group s k m.family m.parameters type b d hb.built hd.built (sym family) (apart-numbers b.number d.number other) group))
+    (conflict_group s k m.family m.parameters type b d hb.built hd.built (sym family) (eqb-false b.number d.number other) group))
     hl.converts hr.converts)
 
 on_membership-follows : (S : Signature) (s : State) (k : ℕ) (e : Equation) (type : Term) → IsScopedSignature S → k ≢ 0
@@ -182,7 +165,7 @@ on_membership-follows S s k e type closed some at scoped place (Some m) is =
     by l b r d hl hr hb hd fits family false h = λ left. tt
     by l b r d hl hr hb hd fits family true h =
         group_turn-follows S s k e m type l b r d closed scoped hl hr hb hd family
-        (transport (λ n. IsGroup S s k n m.family m.parameters type (term_of b) (term_of d)) (sym (equal-numbers b.n m.n fits))
+        (transport (λ n. IsGroup S s k n m.family m.parameters type (term_of b) (term_of d)) (sym (eqb-true b.n m.n fits))
         (group l b r d hl hr hb hd (h refl)))
 
 last-follows : (S : Signature) (s : State) (k : ℕ) → IsScopedSignature S → AreScopedEquations S (length s.context) 0 s.equations → k ≢ 0

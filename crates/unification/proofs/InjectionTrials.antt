@@ -20,11 +20,12 @@ use Rattle.unification.specs.Turns.{Trial, does_not_apply, goes_to, fails_at, ty
 use Rattle.unification.specs.Constructors.{where_fits, both_heads, right_head, heads, with_built, with_heads, on_constructors, injection_step, conflict_step, same_constructor, constructor_turn, constructor_trial}
 use Rattle.unification.specs.Laws.{Falls}
 use Rattle.unification.specs.Laws.Falls.{units, size}
-use Rattle.unification.proofs.SpentUnits.{Within, answered-within, and_next-within, at_most}
+use Rattle.unification.proofs.SpentUnits.{Within, answered-within, and_next-within}
 use Rattle.unification.proofs.ReductionUnits.{Stays, whnf-within}
 use Rattle.unification.proofs.Sizes.{size_of_all, sides-append, sides-at, sides-moved, sides-behind}
 use Rattle.unification.proofs.BuiltArguments.{built-smaller}
 use Rattle.unification.proofs.AllowedTurns.{DeletesWithK, IsOnward, Allows, IsTrial, none-is, goes_to-is, fails_at-is, bounded_state-has}
+use Rattle.unification.proofs.Cases.{less-or_same}
 
 -- ---- head forms of both sides
 
@@ -118,7 +119,7 @@ injection-onward S s left k e step n number f c ps l b r d rest deletes at le st
     (injected_made s (k + 1) n number f c ps b.arguments d.arguments) _
     (injected_made-is s (k + 1) n number f c ps b.arguments d.arguments) (λ es is.
     bounded_state-has (λ t. IsOnward S s left step t rest) (record s { equations = es })
-    (record { falls = falls es is (at_most rest left le); whole = refl; deletes = deletes }))
+    (record { falls = falls es is (less-or_same rest left le); whole = refl; deletes = deletes }))
   where
     falls : (es : List Equation) → es ≡ injected_equations s (k + 1) n number f c ps b.arguments d.arguments → (rest < left) ⊎ (rest ≡ left)
         → Falls s left (record s { equations = es }) rest

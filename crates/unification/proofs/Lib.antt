@@ -3,6 +3,7 @@ pub mod BuiltArguments
 pub mod BuiltScopes
 pub mod BuiltTerms
 pub mod Cases
+pub mod Counts
 pub mod CycleTrials
 pub mod DeletionTrials
 pub mod Dependants
@@ -20,7 +21,6 @@ pub mod Levels
 pub mod Memberships
 pub mod MovedEquations
 pub mod MovedStates
-pub mod NewContexts
 pub mod Occurring
 pub mod OutcomeScopes
 pub mod Puts
@@ -49,7 +49,6 @@ pub mod SolvedVariables
 pub mod SpentUnits
 mod SplitRows
 mod StateRows
-pub mod Tests
 pub mod Trials
 pub mod TurnLaws
 pub mod TurnScopes

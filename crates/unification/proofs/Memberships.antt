@@ -1,6 +1,6 @@
 -- A type that is found as a family at the places before it is that family, at parameters without these places.
 use Rattle.std.proofs.Common.{◌≡◌, ℕ, zero, suc, ◌+◌, ◌-◌, ◌≤◌, ◌==◌, ◌||◌, not, true, false, Some, List, [], ◌∷◌, ◌++◌, length, map, take, drop, refl, ap, ap₂, sym, subst as transport, ◌∙◌, arith}
-use Rattle.std.proofs.lemmas.Bool.{not-true}
+use Rattle.std.proofs.lemmas.Bool.{not-true, eq-eqb, eqb-true, or_left, or_parts, or_right}
 use Rattle.std.proofs.lemmas.List.{take-append-drop}
 use Rattle.theory.specs.Terms.{Term, lift}
 use Rattle.theory.specs.Terms.Term.{Var, Sort, Pi, Lam, App, Let, Const, Fam, Con, Elim, AxiomK}
@@ -20,7 +20,6 @@ use Rattle.unification.specs.Groups.{are_nearest, has_nearest, have_nearest, low
 use Rattle.unification.specs.Injecting.{lifted}
 use Rattle.unification.proofs.BuiltTerms.{next-some, test-some}
 use Rattle.unification.proofs.FollowingConstructors.{fitting-level}
-use Rattle.unification.proofs.Tests.{equal-numbers, itself, left-true, right-true, left-false, right-false}
 
 -- ---- variables that are not in a term
 
@@ -32,21 +31,21 @@ up-fixes r b fixes (suc v) e =
 
 -- a renaming that keeps each variable of a term keeps the term
 ren-fixes : (r : ℕ → ℕ) (t : Term) → ((v : ℕ) → has_variable v t ≡ true → r v ≡ v) → ren r t ≡ t
-ren-fixes r (Var n) fixes = ap Var (fixes n (itself n))
+ren-fixes r (Var n) fixes = ap Var (fixes n (eq-eqb n n refl))
 ren-fixes r (Pi a b) fixes =
-    ap₂ Pi (ren-fixes r a (λ v e. fixes v (left-true (has_variable v a) _ e)))
-    (ren-fixes (up r) b (up-fixes r b (λ v e. fixes v (right-true (has_variable v a) _ e))))
+    ap₂ Pi (ren-fixes r a (λ v e. fixes v (or_left (has_variable v a) _ e)))
+    (ren-fixes (up r) b (up-fixes r b (λ v e. fixes v (or_right (has_variable v a) _ e))))
 ren-fixes r (Lam a b) fixes =
-    ap₂ Lam (ren-fixes r a (λ v e. fixes v (left-true (has_variable v a) _ e)))
-    (ren-fixes (up r) b (up-fixes r b (λ v e. fixes v (right-true (has_variable v a) _ e))))
+    ap₂ Lam (ren-fixes r a (λ v e. fixes v (or_left (has_variable v a) _ e)))
+    (ren-fixes (up r) b (up-fixes r b (λ v e. fixes v (or_right (has_variable v a) _ e))))
 ren-fixes r (App f a) fixes =
-    ap₂ App (ren-fixes r f (λ v e. fixes v (left-true (has_variable v f) _ e)))
-    (ren-fixes r a (λ v e. fixes v (right-true (has_variable v f) _ e)))
+    ap₂ App (ren-fixes r f (λ v e. fixes v (or_left (has_variable v f) _ e)))
+    (ren-fixes r a (λ v e. fixes v (or_right (has_variable v f) _ e)))
 ren-fixes r (Let a t b) fixes =
     ap₃ Let
-    (ren-fixes r a (λ v e. fixes v (left-true (has_variable v a || has_variable v t) _ (left-true (has_variable v a) _ e))))
-    (ren-fixes r t (λ v e. fixes v (left-true (has_variable v a || has_variable v t) _ (right-true (has_variable v a) _ e))))
-    (ren-fixes (up r) b (up-fixes r b (λ v e. fixes v (right-true (has_variable v a || has_variable v t) _ e))))
+    (ren-fixes r a (λ v e. fixes v (or_left (has_variable v a || has_variable v t) _ (or_left (has_variable v a) _ e))))
+    (ren-fixes r t (λ v e. fixes v (or_left (has_variable v a || has_variable v t) _ (or_right (has_variable v a) _ e))))
+    (ren-fixes (up r) b (up-fixes r b (λ v e. fixes v (or_right (has_variable v a || has_variable v t) _ e))))
 ren-fixes r (Sort i) fixes = refl
 ren-fixes r (Const c) fixes = refl
 ren-fixes r (Fam f) fixes = refl
@@ -58,8 +57,8 @@ ren-fixes r (AxiomK i m) fixes = refl
 further-out : (k : ℕ) (t : Term) → has_nearest k t ≡ false → (v : ℕ) → has_variable v t ≡ true → k ≤ v
 further-out zero t e v h = omega arith
 further-out (suc k) t e v h =
-    let le : k ≤ v = further-out k t (right-false (has_variable k t) (has_nearest k t) e) v h in
-    let other : k ≡ v → ⊥ = λ is. clash (sym (left-false (has_variable k t) (has_nearest k t) e) ∙ (ap (λ i. has_variable i t) is ∙ h)) in
+    let le : k ≤ v = further-out k t (or_parts (has_variable k t) (has_nearest k t) e).1 v h in
+    let other : k ≡ v → ⊥ = λ is. clash (sym (or_parts (has_variable k t) (has_nearest k t) e).0 ∙ (ap (λ i. has_variable i t) is ∙ h)) in
     strict le other
   where
     clash : false ≡ true → ⊥
@@ -78,8 +77,8 @@ lowered-lifts k t e =
 lowered-lift : (k : ℕ) (ts : List Term) → have_nearest k ts ≡ false → lifted k (map (lowered k) ts) ≡ ts
 lowered-lift k [] e = refl
 lowered-lift k (t ∷ ts) e =
-    ap₂ ◌∷◌ (lowered-lifts k t (left-false (has_nearest k t) (have_nearest k ts) e))
-    (lowered-lift k ts (right-false (has_nearest k t) (have_nearest k ts) e))
+    ap₂ ◌∷◌ (lowered-lifts k t (or_parts (has_nearest k t) (have_nearest k ts) e).0)
+    (lowered-lift k ts (or_parts (has_nearest k t) (have_nearest k ts) e).1)
 
 -- terms that are the nearest variables
 nearest-are : (k : ℕ) (ts : List Term) → are_nearest k ts ≡ true → ts ≡ variables k
@@ -88,7 +87,7 @@ nearest-are zero (t ∷ ts) e = absurd (grind arith)
 nearest-are (suc k) [] e = absurd (grind arith)
 nearest-are (suc k) (Var n ∷ ts) e =
     let parts = both-true (n == k) (are_nearest k ts) e in
-    ap₂ (λ (i : ℕ) (us : List Term). Var i ∷ us) (equal-numbers n k parts.0) (nearest-are k ts parts.1)
+    ap₂ (λ (i : ℕ) (us : List Term). Var i ∷ us) (eqb-true n k parts.0) (nearest-are k ts parts.1)
 nearest-are (suc k) (Sort i ∷ ts) e = absurd (grind arith)
 nearest-are (suc k) (Pi a b ∷ ts) e = absurd (grind arith)
 nearest-are (suc k) (Lam a b ∷ ts) e = absurd (grind arith)
@@ -121,7 +120,7 @@ with_places-are S k n spine f m there e =
     (record {
       family = there;
       level = fitting-level f free.1;
-      indices = equal-numbers (length f.indices) k form.0;
+      indices = eqb-true (length f.indices) k form.0;
       form =
           ap (applied (Fam n))
           (sym (take-append-drop (length f.parameters) spine)

@@ -1,6 +1,5 @@
 -- The states behind a solution, a deletion and an injectivity are scoped.
 use Rattle.std.proofs.Common.{◌≡◌, ℕ, zero, suc, ◌+◌, ◌-◌, ◌<◌, ◌≤◌, inl, inr, true, ◌==◌, Some, List, [], ◌∷◌, ◌++◌, length, map, drop, slice_get, All, IfOk, refl, sym, ap, ◌∙◌, subst, arith, eq-eqb}
-use Rattle.std.proofs.lemmas.Bool.Decides.{Decides-eqb}
 use Rattle.std.proofs.lemmas.List.Elements.{All-nil, All-cons, All-weaker, All-map}
 use Rattle.theory.specs.Terms.{Term, top}
 use Rattle.theory.specs.Telescopes.{Telescope, variables}
@@ -33,6 +32,8 @@ use Rattle.unification.proofs.Occurring.{put-all}
 use Rattle.unification.proofs.ScopedEquations.{telescope-equations, bounded_state-has}
 use Rattle.unification.proofs.ScopedRecords.{variables-scoped, lifted-scoped, length-argument_items, argument_items-scoped, family_items-scoped, constructor_terms-scoped}
 use Rattle.unification.proofs.SolvedContexts.{IsOver, other-among, over-others, length-order, length-new_context, reordered-term, solved-scoped, solved_context-scoped}
+use Rattle.std.proofs.lemmas.Bool.{eqb-true}
+use Rattle.unification.proofs.Counts.{length-equations, length-equations_at}
 
 pub reflexivity-scoped : (S : Signature) (n i : ℕ) (A u : Term) → HasAllIdentities S → i < top → IsScoped S n A → IsScoped S n u
     → IsScoped S n (reflexivity i A u)
@@ -63,7 +64,7 @@ solved_state-scoped S s i p A u ready scoped lt low ha hu fa fu =
     let s' = solved n order p u in
     let A' = put (reordered order) n m A in
     let u' = put (reordered order) n m u in
-    let counted : length (new_context s.context s' 0 order) ≡ m = length-new_context s.context n p u order order 0 in
+    let counted : length (new_context s.context s' 0 order) ≡ m = length-new_context s.context s' 0 order in
     let whole : order ≡ order ++ [] = sym (append-none order) in
     let moved_A : IsScoped S m A' = reordered-term S n order order [] A m whole ha (lacking-over s.context p A fa) (omega arith) in
     let moved_u : IsScoped S m u' = reordered-term S n order order [] u m whole hu (lacking-over s.context p u fu) (omega arith) in
@@ -91,7 +92,7 @@ solved_state-scoped S s i p A u ready scoped lt low ha hu fa fu =
     each j d below le =
         solved-scoped S (length s.context) p u (order_without s.context p) (order_without s.context p) [] j d (sym (append-none (order_without s.context p))) hu
         (elim (either (j == p)) [
-          | inl same ↦ inr ((Decides-eqb j p).0 same, lacking-over s.context p u fu)
+          | inl same ↦ inr (eqb-true j p same, lacking-over s.context p u fu)
           | inr not_same ↦
               let other : j ≡ p → ⊥ = (λ (e : j ≡ p). let t : (j == p) ≡ true = eq-eqb j p e in cc) in
               inl (other, other-among s.context p j below other)
@@ -103,7 +104,7 @@ pub solved_state-context : (s : State) (i p : ℕ) (A u : Term) → p < length s
 solved_state-context s i p A u lt =
     let order = order_without s.context p in
     let counted : length (new_context s.context (solved (length s.context) order p u) 0 order) ≡ length order =
-    length-new_context s.context (length s.context) p u order order 0 in
+    length-new_context s.context (solved (length s.context) order p u) 0 order in
     let fewer : length order + 1 ≡ length s.context = length-order s.context p lt in
     counted ∙ omega arith
 
@@ -142,19 +143,6 @@ pub record IsInjection (S : Signature) (m n number : ℕ) (f : Family) (c : Cons
   pub left_length : length us ≡ length c.arguments
   pub right_length : length vs ≡ length c.arguments
 
-length-each : (f : ℕ → Term) (j count : ℕ) → length (each_position f j count) ≡ count
-length-each f j zero = refl
-length-each f j (suc count) = ap suc (length-each f (j + 1) count)
-
-length-equations_at : (X : List Item) (types : Telescope) (us vs : List Term) → length types ≡ length X → length us ≡ length X → length vs ≡ length X
-    → length (equations_at X types us vs) ≡ length X
-length-equations_at [] types us vs a b c = refl
-length-equations_at (x ∷ X) [] us vs a b c = absurd (omega arith)
-length-equations_at (x ∷ X) (t ∷ types) [] vs a b c = absurd (omega arith)
-length-equations_at (x ∷ X) (t ∷ types) (u ∷ us) [] a b c = absurd (omega arith)
-length-equations_at (x ∷ X) (t ∷ types) (u ∷ us) (v ∷ vs) a b c =
-    ap suc (length-equations_at X types us vs (omega arith) (omega arith) (omega arith))
-
 group_proofs-scoped : (S : Signature) (m n number : ℕ) (f : Family) (c : Constructor) (ps us vs : List Term) → IsReady S
     → IsInjection S m n number f c ps us vs → All (IsScoped S (m + length c.arguments)) (group_proofs n number f c ps us vs)
 group_proofs-scoped S m n number f c ps us vs ready is =
@@ -187,7 +175,7 @@ injected_state-scoped S s g n number f c ps us vs ready scoped is =
     let first = equations_at X (equations X us vs) us vs in
     let counted : length X ≡ length c.arguments = length-argument_items n ps c in
     let many : length first ≡ length X =
-    length-equations_at X (equations X us vs) us vs (length-each (equation_behind (length X) X us vs) 0 (length X)) (is.left_length ∙ sym counted)
+    length-equations_at X (equations X us vs) us vs (length-equations X us vs) (is.left_length ∙ sym counted)
     (is.right_length ∙ sym counted) in
     let others = moved (behind m g new variable (over_first new terms)) (behind m g new variable (over_first new proofs)) (λ t. t) (m + g) new (drop g s.equations) in
     record {

@@ -1,6 +1,5 @@
 -- What injectivity and conflict come to is scoped.
 use Rattle.std.proofs.Common.{◌≡◌, ℕ, Bool, ◌==◌, length, refl, ap, ◌∙◌}
-use Rattle.std.proofs.lemmas.Bool.Decides.{Decides-eqb}
 use Rattle.theory.specs.Families.{Constructor}
 use Rattle.theory.specs.Terms.{Term}
 use Rattle.theory.specs.Signatures.{Signature}
@@ -14,6 +13,7 @@ use Rattle.unification.proofs.BuiltScopes.{AreSides, same-constructor, on_constr
 use Rattle.unification.proofs.MovedStates.{IsInjection, injected_state-scoped, injection_made-has}
 use Rattle.unification.proofs.ScopedTurns.{IsGood, IsTried, single-scoped}
 use Rattle.unification.proofs.Trials.{Turns, does_not_apply-has, goes_to-has, where-has, fails_at-has}
+use Rattle.std.proofs.lemmas.Bool.{eqb-true}
 
 -- the arguments of one constructor on both sides are as many
 pub right-count : (S : Signature) (m : ℕ) (fits : Built → Bool) (l : Term) (b : Built) (r : Term) (d : Built) → AreSides S m fits l b r d → b.number ≡ d.number
@@ -59,7 +59,7 @@ constructor_turn-good : (S : Signature) (s : State) (e : Equation) (l : Term) (b
     → AreSides S (length s.context) (λ b. is_fitting b.family) l b r d → Turns (IsGood S s) (constructor_turn S s e l b r d)
 constructor_turn-good S s e l b r d is sides =
     where-has (IsGood S s) (b.number == d.number) (same_constructor s e l r b d) (fails_at S (conflict_step 1 (type_in e.type) l r b d) e.left e.right)
-    (λ test. same_constructor-good S s e l b r d is sides ((Decides-eqb b.number d.number).0 test))
+    (λ test. same_constructor-good S s e l b r d is sides (eqb-true b.number d.number test))
     (fails_at-has (IsGood S s) S (length s.context) (conflict_step 1 (type_in e.type) l r b d) e.left e.right is.ready.scoped is.first.left is.first.right
     (λ u v hu hv.
     ((single-scoped S (length s.context) (Conflict b.n b.number d.number) (type_in e.type) l r is.first.type sides.left sides.right, hu, hv), tt)))

@@ -1,6 +1,5 @@
 -- What injectivity and conflict of a group come to is scoped.
 use Rattle.std.proofs.Common.{◌≡◌, ℕ, zero, suc, ◌+◌, ◌-◌, ◌<◌, inl, inr, Bool, true, false, ◌==◌, ◌&&◌, ◌||◌, not, Option, Some, None, IfSome, List, [], ◌∷◌, length, map, take, drop, slice_get, refl, sym, subst, arith}
-use Rattle.std.proofs.lemmas.Bool.Decides.{Decides-eqb}
 use Rattle.std.proofs.lemmas.List.Elements.{All-nil, All-cons, All-head, All-tail, All-take}
 use Rattle.std.specs.List.{All}
 use Rattle.theory.specs.Terms.{Term}
@@ -25,7 +24,7 @@ use Rattle.unification.specs.Heights.{injection_made}
 use Rattle.unification.specs.ScopedStates.{IsReady, IsScopedEquation, IsScopedState, IsScopedStep}
 use Rattle.unification.specs.States.{Equation, State}
 use Rattle.unification.specs.Turns.{Goes, Trial, Turn, fails_at, goes_to}
-use Rattle.unification.proofs.Cases.{not-true, below-or_from, here-or_below}
+use Rattle.unification.proofs.Cases.{below-or_from, here-or_below}
 use Rattle.unification.proofs.BuiltScopes.{AreSides, on_constructors-has}
 use Rattle.unification.proofs.MovedEquations.{equations-at}
 use Rattle.unification.proofs.MovedStates.{IsInjection, injected_state-scoped, injection_made-has}
@@ -33,6 +32,7 @@ use Rattle.unification.proofs.Occurring.{ren-where}
 use Rattle.unification.proofs.ScopedConstructors.{right-count}
 use Rattle.unification.proofs.ScopedTurns.{IsGood}
 use Rattle.unification.proofs.Trials.{any-answer, Turns, does_not_apply-has, goes_to-has, or_else-has, where-has, reduced-has, fails_at-has}
+use Rattle.std.proofs.lemmas.Bool.{eqb-true, not-true}
 
 -- ---- terms without the nearest variables
 
@@ -130,7 +130,7 @@ group_turn-good S s k e m type l b r d is member sides =
       (
         group_step-scoped S (length s.context) k (Inject b.n b.number) type l r is.type sides.left sides.right,
         injected_state-scoped S s (k + 1) b.n b.number m.family b.constructor m.parameters b.arguments d.arguments is.ready is.state
-            (injection ((Decides-eqb b.number d.number).0 test)),
+            (injection (eqb-true b.number d.number test)),
       ),
       refl,
     )))
@@ -143,7 +143,7 @@ group_turn-good S s k e m type l b r d is member sides =
       owner = b.family;
       entry = sides.left_built.entry;
       constructor = sides.left_built.constructor;
-      family = subst (λ n. IsEntryAt S n (FamilyOf m.family)) (sym ((Decides-eqb b.n m.n).0 sides.fitting)) member.entry;
+      family = subst (λ n. IsEntryAt S n (FamilyOf m.family)) (sym (eqb-true b.n m.n sides.fitting)) member.entry;
       parameters = member.parameters;
       left = sides.left_built.arguments;
       right = sides.right_built.arguments;

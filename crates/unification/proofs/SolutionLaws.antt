@@ -22,8 +22,10 @@ use Rattle.unification.specs.ScopedStates.{IsScopedProblem, IsReady, IsScopedSta
 use Rattle.unification.specs.States.{State, Problem, starting}
 use Rattle.unification.proofs.FollowingRuns.{run_follows}
 use Rattle.unification.proofs.ScopedEquations.{bounded_state-has, equations_made-has}
-use Rattle.unification.proofs.SolvedProblems.{IsUnifiedIn, sides-at, chain-unifies, length-equations}
+use Rattle.unification.proofs.SolvedProblems.{IsUnifiedIn, sides-at, chain-unifies}
 use Rattle.unification.proofs.UnderInstances.{closed-bodies, inst-agree, fill-variables}
+use Rattle.tele_eq.proofs.Growing.{snoc-append}
+use Rattle.unification.proofs.Counts.{length-equations}
 
 -- ---- solved problems
 
@@ -74,10 +76,6 @@ chain-then S s t u steps step (none s') scoped follows = more s u u step [] scop
 chain-then S s t u steps step (more s' m t' first rest h k chain) scoped follows =
     more s m u first (rest ++ step ∷ []) h k (chain-then S m t u rest step chain scoped follows)
 
-append-one : (done rest : List Step) (step : Step) → (done ++ step ∷ []) ++ rest ≡ done ++ step ∷ rest
-append-one [] rest step = refl
-append-one (first ∷ done) rest step = ap (λ steps. first ∷ steps) (append-one done rest step)
-
 -- each step is coherent in the state that the steps before it lead to, in a chain of all steps from s on
 abbrev CoherentFrom : Signature → State → List Step → Type 0
 CoherentFrom S s all =
@@ -89,7 +87,7 @@ coherent-chain : (S : Signature) (s : State) (all : List Step) → CoherentFrom 
 coherent-chain S s all coherent t u done rest is before (none t') = none t
 coherent-chain S s all coherent t u done rest is before (more t' m u' step others h k chain) =
     more t m u step others (h.0, coherent t done others step is before) k
-    (coherent-chain S s all coherent m u (done ++ step ∷ []) others (is ∙ sym (append-one done others step))
+    (coherent-chain S s all coherent m u (done ++ step ∷ []) others (is ∙ sym (snoc-append done step others))
     (chain-then S s t m done step before h k) chain)
 
 reached-unifies : (S : Signature) (p : Problem) (s : State) (steps : List Step) (context : Telescope) (solution : List Term)

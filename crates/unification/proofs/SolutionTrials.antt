@@ -20,20 +20,17 @@ use Rattle.unification.specs.Turns.{type_in}
 use Rattle.unification.specs.Solutions.{variable_in, is_free_of, if_free, solution_from, solves, state_solved, side_solved, turn_by, solve_side, right_step, left_step, solve_sides, with_variable, solution_trial}
 use Rattle.unification.specs.Laws.{Falls}
 use Rattle.unification.specs.Laws.Falls.{units, variables, size}
-use Rattle.unification.proofs.SpentUnits.{Within, Any, answered-within, and_next-within, at_most}
+use Rattle.unification.proofs.SpentUnits.{Within, Any, answered-within, and_next-within}
 use Rattle.unification.proofs.ReductionUnits.{tidy-within, normal-within}
 use Rattle.unification.proofs.Sizes.{size-positive, size-put, sides-moved, sides-behind}
-use Rattle.unification.proofs.NewContexts.{order-shorter, order-none, new_context-length}
 use Rattle.unification.proofs.AllowedTurns.{DeletesWithK, Allows, IsTrial, none-is, or_else-is, on_tidied-is, bounded_state-has}
+use Rattle.unification.proofs.Cases.{less-or_same}
+use Rattle.unification.proofs.SolvedContexts.{length-order, length-order_of_none, length-new_context}
 
 -- ---- the state behind a solution
 
 put-of_none : (s : Environment) (n m : ℕ) → n ≡ 0 → m ≡ 0 → (t : Term) → size_of (put s n m t) ≡ size_of t
 put-of_none s n m e f t = ap₂ (λ i j. size_of (put s i j t)) e f ∙ size-put s t
-
-order-of_none : (context : Telescope) (p : ℕ) → length context ≡ 0 → length (order_without context p) ≡ 0
-order-of_none [] p e = ap length (order-none p)
-order-of_none (a ∷ context) p e = absurd (omega arith)
 
 solved-smaller : (s : State) (e : Equation) (i p : ℕ) (A u : Term) → slice_get s.equations 0 ≡ Some e → length s.context ≡ 0
     → size_of_sides (solved_state s i p A u).equations < size_of_sides s.equations
@@ -47,34 +44,34 @@ solved-smaller s e i p A u at none =
     let items = behind n 1 m s' (over_first m (u' ∷ [])) in
     let types = behind n 1 m s' (over_first m (reflexivity i A' u' ∷ [])) in
     let same : size_of_sides (solved_state s i p A u).equations ≡ size_of_sides (drop 1 s.equations) =
-    sides-moved items types (put s' n m) (n + 1) m (drop 1 s.equations) (put-of_none s' n m none (order-of_none s.context p none)) in
+    sides-moved items types (put s' n m) (n + 1) m (drop 1 s.equations) (put-of_none s' n m none (length-order_of_none s.context p none)) in
     let after = sides-behind s.equations 0 e at in
     let positive = size-positive e.left in
     omega arith
 
 solved-falls : (s : State) (e : Equation) (i x : ℕ) (A u : Term) (left rest : ℕ) → slice_get s.equations 0 ≡ Some e → rest ≤ left
     → Falls s left (solved_state s i (length s.context - (x + 1)) A u) rest
-solved-falls s e i x A u left rest at le = by_units (at_most rest left le)
+solved-falls s e i x A u left rest at le = by_units (less-or_same rest left le)
   where
     p : ℕ
     p = length s.context - (x + 1)
 
     context-length : length (solved_state s i p A u).context ≡ length (order_without s.context p)
-    context-length = new_context-length s.context (solved (length s.context) (order_without s.context p) p u) 0 (order_without s.context p)
+    context-length = length-new_context s.context (solved (length s.context) (order_without s.context p) p u) 0 (order_without s.context p)
 
     by_context : rest ≡ left → (0 < length s.context) ⊎ (0 ≡ length s.context) → Falls s left (solved_state s i p A u) rest
     by_context same (inl some) =
-        let shorter = order-shorter s.context p (omega arith) in
+        let shorter : length (order_without s.context p) + 1 ≡ length s.context = length-order s.context p (omega arith) in
         let h = context-length in
         variables same (omega arith)
     by_context same (inr none) =
-        let empty = order-of_none s.context p (sym none) in
+        let empty = length-order_of_none s.context p (sym none) in
         let h = context-length in
         size same (omega arith) (solved-smaller s e i p A u at (sym none))
 
     by_units : (rest < left) ⊎ (rest ≡ left) → Falls s left (solved_state s i p A u) rest
     by_units (inl less) = units less
-    by_units (inr same) = by_context same (at_most 0 (length s.context) (omega arith))
+    by_units (inr same) = by_context same (less-or_same 0 (length s.context) (omega arith))
 
 -- ---- trials
 

@@ -37,6 +37,8 @@ use Rattle.unification.specs.Rules.ChainWith.{none, more}
 use Rattle.unification.proofs.BuiltTerms.{one-family}
 use Rattle.unification.proofs.SolvedVariables.{solution_at, solved-is_inst, solved-agrees}
 use Rattle.unification.proofs.UnderInstances.{each-append, each-inst, each-applied, at_values, inst-values, values-each}
+use Rattle.unification.proofs.Counts.{length-equations}
+use Rattle.unification.proofs.ScopedRecords.{length-argument_items}
 
 -- the sides of each equation convert under an instantiation
 abbrev pub SidesConvert : Signature → (ℕ → Term) → List Equation → Type 0
@@ -156,26 +158,6 @@ built-converts S q b d e number hp ha =
     (each-applied S (Con b.n b.number) (Con d.n d.number) _ _
     (transport (Converts S (Con b.n b.number)) (ap₂ Con e number) same)
     (each-append S (map (inst q) b.parameters) (map (inst q) d.parameters) (map (inst q) b.arguments) (map (inst q) d.arguments) hp ha)))
-
--- as many items as types
-pub length-items_at : (tele : Telescope) (levels : List ℕ) → length tele ≡ length levels → length (items_at tele levels) ≡ length tele
-length-items_at [] levels e = refl
-length-items_at (a ∷ tele) [] e = absurd (omega arith)
-length-items_at (a ∷ tele) (i ∷ levels) e = ap suc (length-items_at tele levels (omega arith))
-
--- there is an item for each argument
-pub length-argument_items : (n : ℕ) (ps : List Term) (c : Constructor) → length (argument_items n ps c) ≡ length c.arguments
-length-argument_items n ps c =
-    length-items_at _ _ (length-argument_types _ _ c.arguments ∙ sym (length-map c.arguments _))
-    ∙ length-argument_types _ _ c.arguments
-
-length-each_position : {A : Type 0} (f : ℕ → A) (j count : ℕ) → length (each_position f j count) ≡ count
-length-each_position f j zero = refl
-length-each_position f j (suc count) = ap suc (length-each_position f (j + 1) count)
-
--- and an equation for each item
-pub length-equations : (X : List Item) (us vs : List Term) → length (equations X us vs) ≡ length X
-length-equations X us vs = length-each_position _ 0 (length X)
 
 -- what the equations behind an injectivity tell: the arguments convert, and the equations behind the group hold
 injected-sides : (S : Signature) (s : State) (q : ℕ → Term) (g : ℕ) (f : Family) (ps : List Term) (b d : Built) → IsBuilt S b → IsBuilt S d

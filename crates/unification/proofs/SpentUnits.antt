@@ -49,7 +49,3 @@ pub and_next-within : {A B : Type 0} (P : A → ℕ → Type 0) (Q : B → ℕ �
     → Within left P first → ((a : A) (rest : ℕ) → rest ≤ left → P a rest → Within rest Q (go a rest)) → Within left Q (and_next first go)
 and_next-within P Q first go left h k =
     on_answer-within P Q first.0 first.1 left go h.spends h.leaves (λ a p. k a first.1 h.spends p)
-
--- some units are spent, or none
-pub at_most : (rest left : ℕ) → rest ≤ left → (rest < left) ⊎ (rest ≡ left)
-at_most rest left le = grind arith
