@@ -21,6 +21,7 @@ use Rattle.unification.specs.Constructors.{where_fits, both_heads, right_head, h
 use Rattle.unification.specs.Turns.{Trial, Turn}
 use Rattle.unification.proofs.Trials.{Turns, does_not_apply-has, reduced-has}
 use Rattle.std.proofs.lemmas.Bool.{eqb-true}
+use Rattle.unification.proofs.Constructors.{each-found, found, built-is}
 
 -- a constructor of a family of the signature, with as many arguments as it has, and scoped parts
 pub record IsBuiltIn (S : Signature) (m : ℕ) (b : Built) : Type 0 where
@@ -30,29 +31,20 @@ pub record IsBuiltIn (S : Signature) (m : ℕ) (b : Built) : Type 0 where
   pub arguments : All (IsScoped S m) b.arguments
   pub count : length b.arguments ≡ length b.constructor.arguments
 
-with_all-in : (S : Signature) (m n number : ℕ) (f : Family) (us : List Term) (c : Constructor) → IsEntryAt S n (FamilyOf f)
-    → slice_get f.constructors number ≡ Some c → All (IsScoped S m) us → IfSome (with_all n number f us c) (IsBuiltIn S m)
-with_all-in S m n number f us c at there all =
-    some-cond (IsBuiltIn S m) (length us == length f.parameters + length c.arguments) _ (λ test.
-    let full : length us ≡ length f.parameters + length c.arguments = eqb-true (length us) (length f.parameters + length c.arguments) test in
-    record {
-      entry = at;
-      constructor = there;
-      parameters = All-take (IsScoped S m) (length f.parameters) us all;
-      arguments = All-drop (IsScoped S m) (length f.parameters) us all;
-      count = omega (arith, length-drop (length f.parameters) us);
-    })
-
-with_spine-in : (S : Signature) (m : ℕ) (h : Term) (us : List Term) → All (IsScoped S m) us → IfSome (with_spine S h us) (IsBuiltIn S m)
-with_spine-in S m (Con n number) us all =
-    some-next (IsBuiltIn S m) _ (family_at S n) (λ f found.
-    some-next (IsBuiltIn S m) (with_all n number f us) (slice_get f.constructors number) (λ c there.
-    with_all-in S m n number f us c (family-found S n f found) there all))
-with_spine-in S m (Var x) us all = tt
-with_spine-in S m _ us all = tt
-
 pub built-in : (S : Signature) (m : ℕ) (t : Term) → IsScoped S m t → IfSome (built_of S t) (IsBuiltIn S m)
-built-in S m t h = with_spine-in S m (head_of t) (spine_of t) (spine-scoped S m t h)
+built-in S m t h =
+    each-found S t (IsBuiltIn S m) (λ b e.
+    let is = found S t b e in
+    let built = (built-is S t b e).built in
+    let count = length b.family.parameters in
+    let all = spine-scoped S m t h in
+    record {
+      entry = built.family;
+      constructor = built.constructor;
+      parameters = subst (All (IsScoped S m)) (sym is.parameters) (All-take (IsScoped S m) count (spine_of t) all);
+      arguments = subst (All (IsScoped S m)) (sym is.arguments) (All-drop (IsScoped S m) count (spine_of t) all);
+      count = built.arguments;
+    })
 
 -- the constructor at other scoped arguments
 pub with_arguments-scoped : (S : Signature) (m : ℕ) (b : Built) (us : List Term) → IsBuiltIn S m b → All (IsScoped S m) us

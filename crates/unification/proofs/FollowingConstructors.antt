@@ -17,13 +17,13 @@ use Rattle.unification.specs.Rules.Steps.{inject}
 use Rattle.unification.specs.Rules.IsAbsurd.{conflict}
 use Rattle.unification.specs.States.{Equation, State}
 use Rattle.unification.specs.Turns.{Trial, type_in}
-use Rattle.unification.proofs.BuiltTerms.{IsBuiltTerm, built-is}
 use Rattle.unification.proofs.FirstEquations.{IsAtHead, first-as}
 use Rattle.unification.proofs.Reducts.{IsReduct, whnf-reduct}
 use Rattle.unification.proofs.MovedStates.{injection_made-has}
 use Rattle.unification.proofs.Trials.{goes_to-has}
 use Rattle.unification.proofs.FollowingTrials.{FollowsOn, TrialFollows, fails_at-follows, cond-follows}
 use Rattle.std.proofs.lemmas.Bool.{eqb-false, eqb-true}
+use Rattle.unification.proofs.Constructors.{IsBuiltTerm, built-is, fitting-level, no-indices}
 
 -- ---- head forms
 
@@ -96,16 +96,6 @@ on_constructors-follows S s fits n u v go closed hu hv follows left =
         (follows sides.0 h.b sides.1 h.d h.left h.right (built-is S sides.0 h.b h.left_built) (built-is S sides.1 h.d h.right_built) h.fitting h.family))
 
 -- ---- the first equation
-
-pub fitting-level : (f : Family) → is_fitting f ≡ true → f.level ≤ greatest_level
-fitting-level f e = grind (arith, nat_tests)
-
-none-there : {A : Type 0} (xs : List A) → length xs ≡ 0 → xs ≡ []
-none-there [] e = refl
-none-there (x ∷ xs) e = absurd (omega arith)
-
-pub no-indices : (f : Family) → has_no_indices f ≡ true → f.indices ≡ []
-no-indices f e = none-there f.indices (eqb-true (length f.indices) 0 e)
 
 constructor_turn-follows : (S : Signature) (s : State) (e : Equation) → IsAtHead S s e → (l : Term) (b : Built) (r : Term) (d : Built)
     → IsReduct S (length s.context) e.left l → IsReduct S (length s.context) e.right r → IsBuiltTerm S l b → IsBuiltTerm S r d

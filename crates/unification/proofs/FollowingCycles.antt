@@ -24,14 +24,13 @@ use Rattle.unification.specs.Rules.IsAbsurd.{cycle_left, cycle_right}
 use Rattle.unification.specs.Solutions.{variable_in}
 use Rattle.unification.specs.States.{Equation, State}
 use Rattle.unification.specs.Turns.{does_not_apply, type_in}
-use Rattle.unification.proofs.BuiltTerms.{IsBuiltTerm, built-is, one-family}
-use Rattle.unification.proofs.FollowingConstructors.{fitting-level, no-indices}
 use Rattle.unification.proofs.FirstEquations.{IsAtHead, first-as}
 use Rattle.unification.proofs.Reducts.{IsReduct, whnf-reduct}
 use Rattle.unification.proofs.FollowingSolutions.{variable-is}
 use Rattle.unification.proofs.FollowingTrials.{FollowsOn, TrialFollows, fails_at-follows}
 use Rattle.unification.proofs.UnderInstances.{each-append, each-applied, each-same, each-length}
 use Rattle.std.proofs.lemmas.Bool.{eqb-true}
+use Rattle.unification.proofs.Constructors.{IsBuiltTerm, built-is, one-family, fitting-level, no-indices}
 
 -- ---- what is found
 

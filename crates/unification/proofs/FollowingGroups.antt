@@ -33,7 +33,6 @@ use Rattle.unification.specs.Rules.Steps.{inject_group}
 use Rattle.unification.specs.Rules.IsAbsurd.{conflict_group}
 use Rattle.unification.specs.ScopedStates.{IsScopedEquation, AreScopedEquations}
 use Rattle.unification.specs.States.{Equation, State, left_sides, right_sides, types_as_they_stand}
-use Rattle.unification.proofs.BuiltTerms.{IsBuiltTerm}
 use Rattle.unification.proofs.FollowingConstructors.{on_constructors-follows}
 use Rattle.unification.proofs.Memberships.{IsMembership, membership-is}
 use Rattle.unification.proofs.Reducts.{IsReduct, whnf-reduct}
@@ -45,6 +44,7 @@ use Rattle.unification.proofs.FollowingTrials.{FollowsOn, TrialFollows, cond-fol
 use Rattle.std.proofs.lemmas.Bool.{eqb-false, eqb-true}
 use Rattle.unification.proofs.Counts.{length-equations, length-types}
 use Rattle.unification.proofs.ScopedRecords.{length-family_items}
+use Rattle.unification.proofs.Constructors.{IsBuiltTerm}
 
 -- ---- types that are found convertible
 

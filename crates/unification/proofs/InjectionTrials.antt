@@ -22,8 +22,7 @@ use Rattle.unification.specs.Laws.{Falls}
 use Rattle.unification.specs.Laws.Falls.{units, size}
 use Rattle.unification.proofs.SpentUnits.{Within, answered-within, and_next-within}
 use Rattle.unification.proofs.ReductionUnits.{Stays, whnf-within}
-use Rattle.unification.proofs.Sizes.{size_of_all, sides-append, sides-at, sides-moved, sides-behind}
-use Rattle.unification.proofs.BuiltArguments.{built-smaller}
+use Rattle.unification.proofs.Sizes.{size_of_all, sides-append, sides-at, sides-moved, sides-behind, built-smaller}
 use Rattle.unification.proofs.AllowedTurns.{DeletesWithK, IsOnward, Allows, IsTrial, none-is, goes_to-is, fails_at-is, bounded_state-has}
 use Rattle.unification.proofs.Cases.{less-or_same}
 

@@ -1,8 +1,7 @@
 pub mod AllowedTurns
-pub mod BuiltArguments
 pub mod BuiltScopes
-pub mod BuiltTerms
 pub mod Cases
+pub mod Constructors
 pub mod Counts
 pub mod CycleTrials
 pub mod DeletionTrials

@@ -18,8 +18,8 @@ use Rattle.tele_eq.specs.Dependences.{has_variable}
 use Rattle.unification.specs.Built.{greatest_level, is_fitting}
 use Rattle.unification.specs.Groups.{are_nearest, has_nearest, have_nearest, lowered, Membership, with_places, membership_with, membership_of}
 use Rattle.unification.specs.Injecting.{lifted}
-use Rattle.unification.proofs.BuiltTerms.{next-some, test-some}
-use Rattle.unification.proofs.FollowingConstructors.{fitting-level}
+use Rattle.unification.proofs.Constructors.{fitting-level}
+use Rattle.std.proofs.lemmas.Option.{cond_some, option_and_then_some}
 
 -- ---- variables that are not in a term
 
@@ -111,7 +111,7 @@ pub record IsMembership (S : Signature) (k : ℕ) (type : Term) (m : Membership)
 with_places-are : (S : Signature) (k n : ℕ) (spine : List Term) (f : Family) (m : Membership) → IsEntryAt S n (FamilyOf f)
     → with_places k n spine f ≡ Some m → IsMembership S k (applied (Fam n) spine) m
 with_places-are S k n spine f m there e =
-    let tested = test-some _ found m e in
+    let tested = cond_some _ found m e in
     let parts = both-true _ _ tested.0 in
     let form = both-true (length f.indices == k) _ parts.0 in
     let places = both-true (length spine == length f.parameters + k) (are_nearest k (drop (length f.parameters) spine)) form.1 in
@@ -134,8 +134,7 @@ with_places-are S k n spine f m there e =
 membership_with-is : (S : Signature) (k : ℕ) (h : Term) (spine : List Term) (m : Membership)
     → membership_with S k h spine ≡ Some m → IsMembership S k (applied h spine) m
 membership_with-is S k (Fam n) spine m e =
-    let found = next-some _ (family_at S n) m e in
-    with_places-are S k n spine found.0 m (family-found S n found.0 found.1) found.2
+    option_and_then_some _ (family_at S n) m e (λ f found placed. with_places-are S k n spine f m (family-found S n f found) placed)
 membership_with-is S k _ spine m e = absurd (grind arith)
 
 pub membership-is : (S : Signature) (k : ℕ) (type : Term) (m : Membership) → membership_of S k type ≡ Some m → IsMembership S k type m

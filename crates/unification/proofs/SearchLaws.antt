@@ -1,5 +1,5 @@
 -- A search goes on in each argument as it began.
-use Rattle.std.proofs.Common.{◌≡◌, ℕ, zero, suc, ◌<◌, ◌≤◌, Bool, true, false, ◌==◌, nat_lt, cond, Option, Some, None, option_map, Result, Ok, Err, List, [], ◌∷◌, ◌++◌, drop, refl, ap, sym, ◌∙◌, subst, arith}
+use Rattle.std.proofs.Common.{◌≡◌, ℕ, zero, suc, ◌<◌, ◌≤◌, Bool, true, false, ◌==◌, nat_lt, cond, Option, Some, None, option_map, Result, Ok, Err, List, [], ◌∷◌, ◌++◌, drop, refl, ap, sym, ◌∙◌, subst, arith, length}
 use Rattle.std.proofs.lemmas.Bool.Decides.{nat_tests}
 use Rattle.theory.specs.Terms.{Term, height}
 use Rattle.theory.specs.Terms.Term.{App}
@@ -15,8 +15,8 @@ use Rattle.unification.specs.Cycles.{Search, not_found, found_as, here_or, Below
 use Rattle.unification.specs.Laws.{SearchGoesOn}
 use Rattle.unification.proofs.SpentUnits.{Leaves, Within, Any, any-within}
 use Rattle.unification.proofs.ReductionUnits.{Stays, whnf-within}
-use Rattle.unification.proofs.BuiltArguments.{built-last}
 use Rattle.unification.proofs.SearchUnits.{Spends, BelowSpends, by_less-spends, by_room-spends, by_units-spends, search-spends}
+use Rattle.unification.proofs.Constructors.{found}
 
 -- ---- heights of arguments
 
@@ -44,8 +44,7 @@ height-positive _ = omega arith
 
 built-lower : (S : Signature) (t : Term) (b : Built) → built_of S t ≡ Some b → AreLower (height t) b.arguments
 built-lower S t b e =
-    let last = built-last S t b e in
-    subst (AreLower (height t)) (sym last.1) (lower-drop (height t) last.0 (spine_of t) (spine-lower t))
+    subst (AreLower (height t)) (sym (found S t b e).arguments) (lower-drop (height t) (length b.family.parameters) (spine_of t) (spine-lower t))
 
 -- ---- two ways to go on
 

@@ -34,11 +34,11 @@ use Rattle.unification.specs.Coherence.{IsCoherent, AreMembers, targets_of}
 use Rattle.unification.specs.Rules.{level_of, IsFirst, IsSolvable, IsGroup, Steps, ChainWith}
 use Rattle.unification.specs.Rules.Steps.{solve_right, solve_left, inject_group, inject, delete}
 use Rattle.unification.specs.Rules.ChainWith.{none, more}
-use Rattle.unification.proofs.BuiltTerms.{one-family}
 use Rattle.unification.proofs.SolvedVariables.{solution_at, solved-is_inst, solved-agrees}
 use Rattle.unification.proofs.UnderInstances.{each-append, each-inst, each-applied, at_values, inst-values, values-each}
 use Rattle.unification.proofs.Counts.{length-equations}
 use Rattle.unification.proofs.ScopedRecords.{length-argument_items}
+use Rattle.unification.proofs.Constructors.{one-family, same-constructor}
 
 -- the sides of each equation convert under an instantiation
 abbrev pub SidesConvert : Signature → (ℕ → Term) → List Equation → Type 0
@@ -133,13 +133,6 @@ sides-group S q (suc k) g (d ∷ equations) last e at before h rest =
     )
 
 -- ---- constructors
-
-same-constructor : (S : Signature) (b d : Built) → IsBuilt S b → IsBuilt S d → b.n ≡ d.n → b.number ≡ d.number
-    → b.constructor ≡ d.constructor
-same-constructor S b d hb hd e number =
-    some_is
-    (sym hb.constructor
-    ∙ (ap₂ (λ (f : Family) (k : ℕ). slice_get f.constructors k) (one-family S b.n d.n b.family d.family hb.family hd.family e) number ∙ hd.constructor))
 
 inst-built : (q : ℕ → Term) (b : Built)
     → inst q (term_of b) ≡ applied (Con b.n b.number) (map (inst q) b.parameters ++ map (inst q) b.arguments)
