@@ -20,6 +20,10 @@ use Rattle.unification.specs.Groups.{are_nearest, has_nearest, have_nearest, low
 use Rattle.unification.specs.Injecting.{lifted}
 use Rattle.unification.proofs.Constructors.{fitting-level}
 use Rattle.std.proofs.lemmas.Option.{cond_some, option_and_then_some}
+use Rattle.std.proofs.lemmas.List.Elements.{All-nil, All-cons, All-head, All-tail, All-take}
+use Rattle.std.specs.List.{All}
+use Rattle.theory.specs.SignatureScopes.{IsScoped}
+use Rattle.unification.proofs.Occurring.{ren-where}
 
 -- ---- variables that are not in a term
 
@@ -80,6 +84,18 @@ lowered-lift k (t ∷ ts) e =
     ap₂ ◌∷◌ (lowered-lifts k t (or_parts (has_nearest k t) (have_nearest k ts) e).0)
     (lowered-lift k ts (or_parts (has_nearest k t) (have_nearest k ts) e).1)
 
+lowered-scoped : (S : Signature) (n k : ℕ) (t : Term) → has_nearest k t ≡ false → IsScoped S (n + k) t → IsScoped S n (lowered k t)
+lowered-scoped S n k t free h =
+    ren-where S (λ v. v - k) (n + k) n t (λ v lt occurs. let le : k ≤ v = further-out k t free v occurs in omega arith) h
+
+all-lowered : (S : Signature) (n k : ℕ) (ts : List Term) → have_nearest k ts ≡ false → All (IsScoped S (n + k)) ts
+    → All (IsScoped S n) (map (lowered k) ts)
+all-lowered S n k [] free all = All-nil (IsScoped S n)
+all-lowered S n k (t ∷ ts) free all =
+    let parts = or_parts (has_nearest k t) (have_nearest k ts) free in
+    All-cons (IsScoped S n) (lowered k t) (map (lowered k) ts)
+    (lowered-scoped S n k t parts.0 (All-head (IsScoped S (n + k)) t ts all)) (all-lowered S n k ts parts.1 (All-tail (IsScoped S (n + k)) t ts all))
+
 -- terms that are the nearest variables
 nearest-are : (k : ℕ) (ts : List Term) → are_nearest k ts ≡ true → ts ≡ variables k
 nearest-are zero [] e = refl
@@ -101,22 +117,23 @@ nearest-are (suc k) (AxiomK i m ∷ ts) e = absurd (grind arith)
 
 -- ---- memberships
 
--- type is family m.n at its parameters, and at exactly the k places before it
-pub record IsMembership (S : Signature) (k : ℕ) (type : Term) (m : Membership) : Type 0 where
+-- type is family m.n at its parameters, and at exactly the k places before it; the parameters are scoped without the places
+pub record IsMembership (S : Signature) (k : ℕ) (type : Term) (spine : List Term) (m : Membership) : Type 0 where
   pub family : IsEntryAt S m.n (FamilyOf m.family)
   pub level : m.family.level ≤ greatest_level
   pub indices : length m.family.indices ≡ k
   pub form : type ≡ applied (Fam m.n) (lifted k m.parameters ++ variables k)
+  pub parameters : (n : ℕ) → All (IsScoped S (n + k)) spine → All (IsScoped S n) m.parameters
 
 with_places-are : (S : Signature) (k n : ℕ) (spine : List Term) (f : Family) (m : Membership) → IsEntryAt S n (FamilyOf f)
-    → with_places k n spine f ≡ Some m → IsMembership S k (applied (Fam n) spine) m
+    → with_places k n spine f ≡ Some m → IsMembership S k (applied (Fam n) spine) spine m
 with_places-are S k n spine f m there e =
     let tested = cond_some _ found m e in
     let parts = both-true _ _ tested.0 in
     let form = both-true (length f.indices == k) _ parts.0 in
     let places = both-true (length spine == length f.parameters + k) (are_nearest k (drop (length f.parameters) spine)) form.1 in
     let free = both-true (not (have_nearest k (take (length f.parameters) spine))) (is_fitting f) parts.1 in
-    transport (IsMembership S k (applied (Fam n) spine)) tested.1
+    transport (IsMembership S k (applied (Fam n) spine) spine) tested.1
     (record {
       family = there;
       level = fitting-level f free.1;
@@ -126,17 +143,19 @@ with_places-are S k n spine f m there e =
           (sym (take-append-drop (length f.parameters) spine)
           ∙ ap₂ ◌++◌ (sym (lowered-lift k (take (length f.parameters) spine) (not-true _ free.0)))
           (nearest-are k (drop (length f.parameters) spine) places.1));
+      parameters = λ n' all.
+          all-lowered S n' k (take (length f.parameters) spine) (not-true _ free.0) (All-take (IsScoped S (n' + k)) (length f.parameters) spine all);
     })
   where
     found : Membership
     found = record { n = n; family = f; parameters = map (lowered k) (take (length f.parameters) spine) }
 
 membership_with-is : (S : Signature) (k : ℕ) (h : Term) (spine : List Term) (m : Membership)
-    → membership_with S k h spine ≡ Some m → IsMembership S k (applied h spine) m
+    → membership_with S k h spine ≡ Some m → IsMembership S k (applied h spine) spine m
 membership_with-is S k (Fam n) spine m e =
     option_and_then_some _ (family_at S n) m e (λ f found placed. with_places-are S k n spine f m (family-found S n f found) placed)
 membership_with-is S k _ spine m e = absurd (grind arith)
 
-pub membership-is : (S : Signature) (k : ℕ) (type : Term) (m : Membership) → membership_of S k type ≡ Some m → IsMembership S k type m
+pub membership-is : (S : Signature) (k : ℕ) (type : Term) (m : Membership) → membership_of S k type ≡ Some m → IsMembership S k type (spine_of type) m
 membership-is S k type m e =
-    transport (λ x. IsMembership S k x m) (applied-spine type) (membership_with-is S k (head_of type) (spine_of type) m e)
+    transport (λ x. IsMembership S k x (spine_of type) m) (applied-spine type) (membership_with-is S k (head_of type) (spine_of type) m e)

@@ -14,9 +14,9 @@ use Rattle.unification.specs.Solutions.{variable_in}
 use Rattle.unification.specs.Cycles.{Search, not_found, found_as, here_or, Below, among_arguments, with_arguments, is_variable, below_constructor, in_form, by_less, no_argument, by_room, by_units, search_in}
 use Rattle.unification.specs.Laws.{SearchGoesOn}
 use Rattle.unification.proofs.SpentUnits.{Leaves, Within, Any, any-within}
-use Rattle.unification.proofs.ReductionUnits.{Stays, whnf-within}
 use Rattle.unification.proofs.SearchUnits.{Spends, BelowSpends, by_less-spends, by_room-spends, by_units-spends, search-spends}
 use Rattle.unification.proofs.Constructors.{found}
+use Rattle.unification.proofs.Reducts.{IsHead, whnf-within}
 
 -- ---- heights of arguments
 
@@ -91,8 +91,8 @@ among-same S below other most high agree spends (a ∷ arguments) (u ∷ us) lef
     let behind : (end : ℕ) → end ≤ most → among_arguments S below arguments us end ≡ among_arguments S other arguments us end =
     λ end l. among-same S below other most high agree spends arguments us end l low.1 in
     cond-same (is_direct a) _ _ _ _
-    (λ e. next-same (Stays left u) (whnf_of S true left u) _ _ left (whnf-within S true left u) (λ v rest l stays.
-    argument-same S below other most high agree spends a u arguments us left rest v le l (λ same. subst (λ w. height w < high) (sym (stays same)) low.0) behind))
+    (λ e. next-same (IsHead S left u) (whnf_of S true left u) _ _ left (whnf-within S true left u) (λ v rest l reached.
+    argument-same S below other most high agree spends a u arguments us left rest v le l (λ same. subst (λ w. height w < high) (sym (reached.stays same)) low.0) behind))
     (λ e. found_as-same (λ ws. u ∷ ws) (among_arguments S below arguments us) (among_arguments S other arguments us) left (behind left le))
 among-same S below other most high agree spends [] us left le low = refl
 among-same S below other most high agree spends (a ∷ arguments) [] left le low = refl

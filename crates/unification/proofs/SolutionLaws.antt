@@ -20,23 +20,14 @@ use Rattle.unification.specs.Rules.{ChainWith, Steps}
 use Rattle.unification.specs.Rules.ChainWith.{none, more}
 use Rattle.unification.specs.ScopedStates.{IsScopedProblem, IsReady, IsScopedState, IsScopedAt}
 use Rattle.unification.specs.States.{State, Problem, starting}
-use Rattle.unification.proofs.FollowingRuns.{run_follows}
-use Rattle.unification.proofs.ScopedEquations.{bounded_state-has, equations_made-has}
+use Rattle.unification.proofs.FollowingRuns.{run-follows}
+use Rattle.unification.proofs.ScopedEquations.{start-is}
 use Rattle.unification.proofs.SolvedProblems.{IsUnifiedIn, sides-at, chain-unifies}
 use Rattle.unification.proofs.UnderInstances.{closed-bodies, inst-agree, fill-variables}
 use Rattle.tele_eq.proofs.Growing.{snoc-append}
 use Rattle.unification.proofs.Counts.{length-equations}
 
 -- ---- solved problems
-
--- the state from which a problem is solved
-start-is : (p : Problem) (s : State) → start_made p ≡ Ok s → s ≡ starting p (equations p.telescope p.left p.right)
-start-is p s h =
-    transport (λ made. IfOk made (λ t. t ≡ starting p (equations p.telescope p.left p.right))) h
-    (and_then-has (λ types. types ≡ equations p.telescope p.left p.right) (λ t. t ≡ starting p (equations p.telescope p.left p.right))
-    (equations_made p.telescope p.left p.right) (λ types. bounded_state (starting p types))
-    (equations_made-has (λ types. types ≡ equations p.telescope p.left p.right) p.telescope p.left p.right refl)
-    (λ types e. bounded_state-has (λ t. t ≡ starting p (equations p.telescope p.left p.right)) (starting p types) (ap (starting p) e)))
 
 -- scoped terms under a solution that an instantiation gives
 under-is : (S : Signature) (q : ℕ → Term) (n : ℕ) (ts : List Term) → All (IsScoped S n) ts
@@ -61,8 +52,8 @@ problem-unified S p t scoped h =
     values = map (inst h.terms) (variables (length p.context))
 
 -- where each injectivity is coherent, a solved problem is unified
-pub solved_is_unified : SolvedIsUnified
-solved_is_unified S p s t steps ready scoped start chain end =
+pub solved-is_unified : SolvedIsUnified
+solved-is_unified S p s t steps ready scoped start chain end =
     problem-unified S p t scoped
     (transport (λ x. IsUnifiedIn S x t) (start-is p s start)
     (chain-unifies S _ (closed-bodies S ready.scoped) (λ s step h. h.1) s t steps chain end))
@@ -94,10 +85,10 @@ reached-unifies : (S : Signature) (p : Problem) (s : State) (steps : List Step) 
     → IsReady S → IsScopedProblem S p → start_made p ≡ Ok s → CoherentFrom S s steps → IsReached S s (Solved steps context solution)
     → EachConverts S (under solution p.left) (under solution p.right)
 reached-unifies S p s steps context solution ready scoped start coherent (solved t steps' chain end) =
-    solved_is_unified S p s t steps ready scoped start (coherent-chain S s steps coherent s t [] steps refl (none s) chain) end
+    solved-is_unified S p s t steps ready scoped start (coherent-chain S s steps coherent s t [] steps refl (none s) chain) end
 
 -- what the run of a problem answers as solved is unified
-pub run_unifies : RunUnifies
-run_unifies S p s left steps context solution ready scoped start is coherent =
+pub run-unifies : RunUnifies
+run-unifies S p s left steps context solution ready scoped start is coherent =
     reached-unifies S p s steps context solution ready scoped start coherent
-    (transport (λ r. IfOk r (IsReached S s)) is (run_follows S p s left ready scoped start))
+    (transport (λ r. IfOk r (IsReached S s)) is (run-follows S p s left ready scoped start))
