@@ -1,13 +1,11 @@
 -- Injectivity and conflict of the constructors on both sides of an equation, which stands behind k others of its group.
-use Rattle.std.proofs.Common.{◌≡◌, ℕ, suc, ◌+◌, ◌<◌, ◌≤◌, ◌⊎◌, inl, inr, ◌==◌, Bool, true, Some, List, length, drop, slice_get, All, refl, ap, sym, ◌∙◌, subst₂, subst as transport, arith}
+use Rattle.std.proofs.Common.{◌≡◌, ℕ, suc, ◌+◌, ◌<◌, ◌≤◌, inl, inr, ◌==◌, Bool, true, Some, List, length, drop, slice_get, All, refl, ap, sym, ◌∙◌, subst₂, subst as transport, arith}
 use Rattle.std.proofs.lemmas.Bool.{eqb-true}
 use Rattle.theory.specs.Terms.{Term}
 use Rattle.theory.specs.Families.{Family, Constructor}
 use Rattle.theory.specs.Signatures.{Signature, FamilyOf, IsEntryAt}
 use Rattle.theory.specs.SignatureScopes.{IsScoped}
 use Rattle.theory.specs.Conversion.{Converts}
-use Rattle.core_terms.specs.CaseTrees.{Step}
-use Rattle.core_terms.specs.declared.case_tree.Rule.TheVariants.{Inject, Conflict}
 use Rattle.core_terms.specs.Levels.{variable}
 use Rattle.tele_eq.specs.TelescopicEquality.{equations}
 use Rattle.unification.specs.Built.{Built, term_of, built_of}
@@ -19,12 +17,12 @@ use Rattle.unification.specs.Moving.{over_first, behind, moved}
 use Rattle.unification.specs.Records.{argument_items, constructor_terms}
 use Rattle.unification.specs.Rules.{Steps, IsAbsurd}
 use Rattle.unification.specs.Runs.{size_of_sides}
-use Rattle.unification.specs.ScopedStates.{IsReady, IsScopedState, IsScopedStep}
+use Rattle.unification.specs.ScopedStates.{IsReady, IsScopedState}
 use Rattle.unification.specs.States.{Equation, State, equations_at}
 use Rattle.unification.specs.Turns.{Goes, fails_at, goes_to}
-use Rattle.unification.proofs.BuiltScopes.{IsBuiltIn, built-scoped}
+use Rattle.unification.proofs.BuiltScopes.{built-scoped}
 use Rattle.unification.proofs.Cases.{less-or_same}
-use Rattle.unification.proofs.Constructors.{IsBuiltTerm, built-is, same-constructor}
+use Rattle.unification.proofs.Constructors.{built-is, same-constructor}
 use Rattle.unification.proofs.HeadForms.{AreSides}
 use Rattle.unification.proofs.MovedStates.{IsInjection, injected_state-scoped, injection_made-has}
 use Rattle.unification.proofs.Sizes.{size_of_all, sides-append, sides-at, sides-moved, sides-behind, built-smaller}

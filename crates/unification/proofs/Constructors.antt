@@ -1,5 +1,5 @@
 -- Constructors with all their arguments: what is known of a term that is found to be one, and of its instances.
-use Rattle.std.proofs.Common.{◌≡◌, ℕ, ◌+◌, ◌-◌, ◌≤◌, Bool, true, false, ◌==◌, cond, Option, Some, None, IfSome, option_and_then, List, [], ◌∷◌, ◌++◌, length, take, drop, map, slice_get, refl, ap, ap₂, sym, ◌∙◌, subst, arith}
+use Rattle.std.proofs.Common.{◌≡◌, ℕ, ◌+◌, ◌≤◌, true, ◌==◌, cond, Option, Some, None, IfSome, option_and_then, List, [], ◌∷◌, ◌++◌, length, take, drop, map, slice_get, refl, ap, ap₂, sym, ◌∙◌, subst, arith}
 use Rattle.std.proofs.lemmas.Bool.{eqb-true}
 use Rattle.std.proofs.lemmas.Bool.Decides.{nat_tests}
 use Rattle.std.proofs.lemmas.List.{length-map, length-take, length-drop, take-append-drop, map-append, take-map, drop-map}
@@ -65,8 +65,7 @@ pub found-constructor : (S : Signature) (t : Term) (b : Built) → built_of S t 
     → (constructor_at S b.n b.number ≡ Some b.constructor) × (length b.arguments ≡ length b.constructor.arguments)
 found-constructor S t b e =
     let is = found S t b e in
-    let shorter = length-drop (length b.family.parameters) (spine_of t) in
-    (
+    let shorter = length-drop (length b.family.parameters) (spine_of t) in (
       ap (option_and_then (λ f. slice_get f.constructors b.number)) is.family ∙ is.constructor,
       ap length is.arguments ∙ omega (arith, shorter, is.whole),
     )

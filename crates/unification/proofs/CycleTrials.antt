@@ -1,9 +1,8 @@
 -- What the trial of a cycle comes to.
-use Rattle.std.proofs.Common.{◌≡◌, ℕ, ◌<◌, ◌≤◌, inl, inr, Bool, true, false, cond, Option, Some, None, IfSome, Ok, IfOk, List, ◌∷◌, length, refl, ap, sym, subst as transport, arith, ◌∙◌}
+use Rattle.std.proofs.Common.{◌≡◌, ℕ, inl, inr, true, Option, Some, None, IfSome, Ok, IfOk, List, ◌∷◌, length, refl, ap, sym, subst as transport, arith, ◌∙◌}
 use Rattle.theory.specs.Terms.{Term}
 use Rattle.theory.specs.Terms.Term.{Var}
 use Rattle.theory.specs.Signatures.{Signature}
-use Rattle.theory.specs.SignatureScopes.{IsScoped}
 use Rattle.theory.specs.Conversion.{Converts}
 use Rattle.theory.specs.Conversion.Converts.{same}
 use Rattle.theory.proofs.Congruence.{converts-trans}
@@ -15,19 +14,18 @@ use Rattle.kernel_reduce.proofs.ReductionLaws.{some_bounded-has}
 use Rattle.unification.specs.Built.{Built, built_of, is_fitting, has_no_indices}
 use Rattle.unification.specs.Cycles.{search_in, is_acyclic, bounded_found, reduced_side, cycle_at, cycle_search, cycle_step, left_variable, right_variable, left_constructor, left_form, cycle_trial}
 use Rattle.unification.specs.Paths.{HasBelow}
-use Rattle.unification.specs.Rules.{IsAbsurd}
 use Rattle.unification.specs.Rules.IsAbsurd.{cycle_left, cycle_right}
 use Rattle.unification.specs.ScopedStates.{IsReady, IsScopedState}
 use Rattle.unification.specs.Solutions.{variable_in}
 use Rattle.unification.specs.States.{Equation, State}
 use Rattle.unification.specs.Turns.{type_in}
-use Rattle.unification.proofs.Constructors.{IsBuiltTerm, built-is, fitting-level, no-indices}
+use Rattle.unification.proofs.Constructors.{built-is, fitting-level, no-indices}
 use Rattle.unification.proofs.Reducts.{IsReduct, reduced-within}
 use Rattle.unification.proofs.SearchUnits.{search-spends}
 use Rattle.unification.proofs.SearchedVariables.{IsFound, search-finds}
 use Rattle.unification.proofs.SpentUnits.{Within, answered-within, answers-within, and_next-within, cond-within}
 use Rattle.unification.proofs.Trials.{Found, Comes, none-comes}
-use Rattle.unification.proofs.TurnProperties.{DeletesWithK, IsTurn, IsEnd, IsTried, tried, type-scoped, first-as, single-scoped, fails_at-is}
+use Rattle.unification.proofs.TurnProperties.{DeletesWithK, IsTurn, IsEnd, tried, type-scoped, first-as, single-scoped, fails_at-is}
 use Rattle.unification.proofs.Variables.{variable-is, variable-low}
 
 -- t converts to w, in which the variable stands below constructors
@@ -79,21 +77,24 @@ left_variable-comes : (S : Signature) (s : State) (left : ℕ) (e : Equation) (o
     → IsReduct S e.left l → variable_in l ≡ Some x → (rest : ℕ) → Comes (IsTurn S s left) (left_variable S e x) rest
 left_variable-comes S s left e others first l x hl is rest =
     reduced-within (Found (IsTurn S s left)) S true e.right rest _ (λ r end le hr.
-    cycle_search-comes S s left e x (λ v. cycle_step e x (Var x) v) r end (λ w h. (λ k same_rule. cc, λ ready scoped.
-    let is_tried = tried S s e others first ready scoped in
-    let n = length s.context in
-    let right = converts-trans hr.reduct.converts h.reduct.converts in
-    let low = variable-low S n l x is (hl.scoped n ready.scoped is_tried.equation.left) in
-    record {
-      step_scoped =
-          single-scoped S n (Cycle x) (type_in e.type) (Var x) w (type-scoped S s e is_tried) (var-scoped low)
-          (h.reduct.scoped n ready.scoped (hr.reduct.scoped n ready.scoped is_tried.equation.right));
-      evidence = cycle_left s e h.n x (type_in e.type) w (first-as S s e (type_in e.type) (Var x) w is_tried same variable right) h.below;
-      left_scoped = is_tried.equation.left;
-      right_scoped = is_tried.equation.right;
-      left = variable;
-      right = right;
-    })))
+    cycle_search-comes S s left e x (λ v. cycle_step e x (Var x) v) r end (λ w h. (
+      λ k same_rule. cc,
+      λ ready scoped.
+          let is_tried = tried S s e others first ready scoped in
+          let n = length s.context in
+          let right = converts-trans hr.reduct.converts h.reduct.converts in
+          let low = variable-low S n l x is (hl.scoped n ready.scoped is_tried.equation.left) in
+          record {
+            step_scoped =
+                single-scoped S n (Cycle x) (type_in e.type) (Var x) w (type-scoped S s e is_tried) (var-scoped low)
+                (h.reduct.scoped n ready.scoped (hr.reduct.scoped n ready.scoped is_tried.equation.right));
+            evidence = cycle_left s e h.n x (type_in e.type) w (first-as S s e (type_in e.type) (Var x) w is_tried same variable right) h.below;
+            left_scoped = is_tried.equation.left;
+            right_scoped = is_tried.equation.right;
+            left = variable;
+            right = right;
+          },
+    )))
   where
     variable : Converts S e.left (Var x)
     variable = transport (Converts S e.left) (variable-is l x is) hl.converts
@@ -103,21 +104,24 @@ right_variable-comes : (S : Signature) (s : State) (left : ℕ) (e : Equation) (
     → Comes (IsTurn S s left) (right_variable S e l found) rest
 right_variable-comes S s left e others first l r hl hr None is rest = none-comes (IsTurn S s left) rest
 right_variable-comes S s left e others first l r hl hr (Some x) is rest =
-    cycle_search-comes S s left e x (λ u. cycle_step e x u (Var x)) l rest (λ w h. (λ k same_rule. cc, λ ready scoped.
-    let is_tried = tried S s e others first ready scoped in
-    let n = length s.context in
-    let side = converts-trans hl.converts h.reduct.converts in
-    let low = variable-low S n r x is (hr.scoped n ready.scoped is_tried.equation.right) in
-    record {
-      step_scoped =
-          single-scoped S n (Cycle x) (type_in e.type) w (Var x) (type-scoped S s e is_tried)
-          (h.reduct.scoped n ready.scoped (hl.scoped n ready.scoped is_tried.equation.left)) (var-scoped low);
-      evidence = cycle_right s e h.n x (type_in e.type) w (first-as S s e (type_in e.type) w (Var x) is_tried same side variable) h.below;
-      left_scoped = is_tried.equation.left;
-      right_scoped = is_tried.equation.right;
-      left = side;
-      right = variable;
-    }))
+    cycle_search-comes S s left e x (λ u. cycle_step e x u (Var x)) l rest (λ w h. (
+      λ k same_rule. cc,
+      λ ready scoped.
+          let is_tried = tried S s e others first ready scoped in
+          let n = length s.context in
+          let side = converts-trans hl.converts h.reduct.converts in
+          let low = variable-low S n r x is (hr.scoped n ready.scoped is_tried.equation.right) in
+          record {
+            step_scoped =
+                single-scoped S n (Cycle x) (type_in e.type) w (Var x) (type-scoped S s e is_tried)
+                (h.reduct.scoped n ready.scoped (hl.scoped n ready.scoped is_tried.equation.left)) (var-scoped low);
+            evidence = cycle_right s e h.n x (type_in e.type) w (first-as S s e (type_in e.type) w (Var x) is_tried same side variable) h.below;
+            left_scoped = is_tried.equation.left;
+            right_scoped = is_tried.equation.right;
+            left = side;
+            right = variable;
+          },
+    ))
   where
     variable : Converts S e.right (Var x)
     variable = transport (Converts S e.right) (variable-is r x is) hr.converts

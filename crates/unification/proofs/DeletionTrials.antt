@@ -1,5 +1,5 @@
 -- What the trial of a deletion comes to, which takes the first equation out, and the last trial, which says why no rule goes on.
-use Rattle.std.proofs.Common.{◌≡◌, ℕ, ◌+◌, ◌<◌, ◌≤◌, ◌⊎◌, inl, inr, List, [], ◌∷◌, length, drop, slice_get, Bool, true, false, IsTrue, cond, Some, refl, arith}
+use Rattle.std.proofs.Common.{◌≡◌, ℕ, ◌+◌, ◌<◌, ◌≤◌, ◌⊎◌, inl, inr, List, [], ◌∷◌, length, drop, slice_get, Bool, true, false, IsTrue, Some, refl, arith}
 use Rattle.theory.specs.Terms.{Term}
 use Rattle.theory.specs.Signatures.{Signature, reflexivity}
 use Rattle.theory.specs.Conversion.{Converts}

@@ -1,5 +1,5 @@
 -- A run follows the rules: its outcome is reached by its steps, each of which is scoped.
-use Rattle.std.proofs.Common.{ℕ, IfSome, Ok, IfOk, [], ◌∷◌, sym, subst}
+use Rattle.std.proofs.Common.{IfSome, IfOk, [], ◌∷◌, sym, subst}
 use Rattle.std.proofs.lemmas.Result.{IfOk-at_ok}
 use Rattle.theory.specs.Signatures.{Signature}
 use Rattle.core_terms.specs.Answers.{and_next}
@@ -11,7 +11,7 @@ use Rattle.unification.specs.Outcomes.{Outcome, before}
 use Rattle.unification.specs.Rules.{Steps}
 use Rattle.unification.specs.Rules.ChainWith.{none, more}
 use Rattle.unification.specs.Runs.{end_of, run_of}
-use Rattle.unification.specs.ScopedStates.{IsReady, IsScopedState, IsScopedAt}
+use Rattle.unification.specs.ScopedStates.{IsScopedState, IsScopedAt}
 use Rattle.unification.specs.States.{State}
 use Rattle.unification.specs.Turns.{Turn, Done, Goes, Fails, Sticks}
 use Rattle.unification.proofs.RunLaws.{runs-end}

@@ -6,10 +6,8 @@ use Rattle.std.proofs.lemmas.Option.{slice_get_within}
 use Rattle.theory.specs.Terms.{Term}
 use Rattle.theory.specs.Spines.{spine_of}
 use Rattle.theory.specs.Signatures.{Signature, FamilyOf, IsEntryAt}
-use Rattle.theory.specs.SignatureScopes.{IsScoped}
 use Rattle.theory.specs.Conversion.{Converts}
 use Rattle.theory.proofs.ScopedTerms.{spine-scoped}
-use Rattle.core_terms.specs.Answers.{and_next}
 use Rattle.kernel_reduce.specs.Comparison.{second_if}
 use Rattle.tele_eq.specs.ReflexivityLaws.{EachConverts}
 use Rattle.tele_eq.specs.TelescopicEquality.{equations}
@@ -20,7 +18,7 @@ use Rattle.unification.specs.Records.{family_items}
 use Rattle.unification.specs.Rules.{IsGroup}
 use Rattle.unification.specs.Rules.Steps.{inject_group}
 use Rattle.unification.specs.Rules.IsAbsurd.{conflict_group}
-use Rattle.unification.specs.ScopedStates.{IsReady, IsScopedEquation, IsScopedState}
+use Rattle.unification.specs.ScopedStates.{IsScopedEquation, IsScopedState}
 use Rattle.unification.specs.States.{Equation, State, left_sides, right_sides, types_as_they_stand}
 use Rattle.unification.proofs.BothConstructors.{injects-is, conflicts-is, left-converts, right-converts}
 use Rattle.unification.proofs.Comparisons.{compared-within}

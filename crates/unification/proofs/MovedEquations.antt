@@ -1,11 +1,9 @@
 -- Equations that move behind other variables are scoped there, where what stands for their variables is.
-use Rattle.std.proofs.Common.{◌≡◌, ℕ, zero, suc, ◌+◌, ◌-◌, ◌<◌, ◌≤◌, ◌⊎◌, inl, inr, nat_lt, cond, IfSome, List, [], ◌∷◌, ◌++◌, length, drop, slice_get, All, ap, subst, arith, sym}
-use Rattle.std.proofs.lemmas.Bool.Decides.{nat_tests}
+use Rattle.std.proofs.Common.{◌≡◌, ℕ, zero, suc, ◌+◌, ◌-◌, ◌<◌, ◌≤◌, ◌⊎◌, inl, inr, IfSome, List, [], ◌∷◌, ◌++◌, length, drop, slice_get, All, ap, subst, arith, sym}
 use Rattle.theory.specs.Terms.{Term}
 use Rattle.theory.specs.Signatures.{Signature}
 use Rattle.theory.specs.SignatureScopes.{IsScoped}
 use Rattle.theory.proofs.ScopedTerms.{var-scoped, scoped_over_more}
-use Rattle.core_terms.specs.Levels.{variable}
 use Rattle.tele_eq.specs.Environments.{Environment, put}
 use Rattle.tele_eq.proofs.ScopedTerms.{in-outside}
 use Rattle.unification.specs.Moving.{over_first, behind, moved_item, moved}

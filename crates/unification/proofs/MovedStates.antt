@@ -1,5 +1,5 @@
 -- The states behind a solution, a deletion and an injectivity are scoped.
-use Rattle.std.proofs.Common.{◌≡◌, ℕ, zero, suc, ◌+◌, ◌-◌, ◌<◌, ◌≤◌, inl, inr, true, ◌==◌, Some, List, [], ◌∷◌, ◌++◌, length, map, drop, slice_get, All, IfOk, refl, sym, ap, ◌∙◌, subst, arith, eq-eqb}
+use Rattle.std.proofs.Common.{◌≡◌, ℕ, ◌+◌, ◌-◌, ◌<◌, ◌≤◌, inl, inr, true, ◌==◌, Some, List, [], ◌∷◌, ◌++◌, length, map, drop, slice_get, All, IfOk, refl, sym, ◌∙◌, subst, arith, eq-eqb}
 use Rattle.std.proofs.lemmas.List.Elements.{All-nil, All-cons, All-weaker, All-map}
 use Rattle.theory.specs.Terms.{Term, top}
 use Rattle.theory.specs.Telescopes.{Telescope, variables}
@@ -12,9 +12,8 @@ use Rattle.core_terms.specs.Levels.{variable}
 use Rattle.core_terms.specs.Answers.{bounded_terms}
 use Rattle.core_terms.proofs.Answers.{and_then-has, and_then-is}
 use Rattle.tele_eq.specs.Environments.{put}
-use Rattle.tele_eq.specs.Items.{Item, each_position}
 use Rattle.tele_eq.specs.ScopeLaws.{HasAllIdentities}
-use Rattle.tele_eq.specs.TelescopicEquality.{equations, equation_behind}
+use Rattle.tele_eq.specs.TelescopicEquality.{equations}
 use Rattle.tele_eq.proofs.Growing.{append-none}
 use Rattle.tele_eq.proofs.ScopeLaws.{scoped_congruences}
 use Rattle.unification.specs.Heights.{bounded_state, equations_made, group_made, injected_made, injection_made}

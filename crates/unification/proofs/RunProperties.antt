@@ -9,8 +9,8 @@ use Rattle.core_terms.specs.CaseTrees.{Step}
 use Rattle.core_terms.specs.declared.case_tree.Rule.TheVariants.{Delete}
 use Rattle.core_terms.specs.declared.stop.Stop.{Stop}
 use Rattle.kernel_reduce.specs.Reduction.{answered}
-use Rattle.unification.specs.States.{State, Problem, starting}
-use Rattle.unification.specs.Heights.{equations_made, start_made}
+use Rattle.unification.specs.States.{State, Problem}
+use Rattle.unification.specs.Heights.{start_made}
 use Rattle.unification.specs.Outcomes.{Outcome, Solved, Absurd, Stuck, steps_in, before}
 use Rattle.unification.specs.Turns.{Turn, Done, Goes, Fails, Sticks}
 use Rattle.unification.specs.Strategy.{turn_of}
@@ -22,7 +22,6 @@ use Rattle.unification.proofs.TurnLaws.{turn-at, turn-spends}
 use Rattle.unification.proofs.TurnProperties.{IsTurn}
 use Rattle.unification.proofs.ScopedEquations.{start-is}
 use Rattle.std.proofs.lemmas.Result.{IfOk-at_ok}
-use Rattle.tele_eq.specs.TelescopicEquality.{equations}
 
 -- ---- runs
 

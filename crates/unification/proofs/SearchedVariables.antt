@@ -1,5 +1,5 @@
 -- Searches below constructors: a variable that is found stands there, in a term that the searched one converts to.
-use Rattle.std.proofs.Common.{◌≡◌, ℕ, zero, suc, ◌≤◌, ◌⊎◌, inl, inr, ◌==◌, nat_lt, Bool, true, false, cond, IsTrue, Option, Some, None, option_map, IfSome, Ok, IfOk, List, [], ◌∷◌, ◌++◌, length, slice_get, refl, ap, sym, subst as transport, ◌∙◌, arith}
+use Rattle.std.proofs.Common.{◌≡◌, ℕ, zero, suc, ◌≤◌, ◌⊎◌, inl, inr, ◌==◌, nat_lt, Bool, true, false, cond, IsTrue, Option, Some, None, option_map, IfSome, Ok, List, [], ◌∷◌, ◌++◌, slice_get, refl, ap, sym, subst as transport, ◌∙◌, arith}
 use Rattle.theory.specs.Terms.{Term, height}
 use Rattle.theory.specs.Terms.Term.{Var, Con}
 use Rattle.theory.specs.Families.{Argument, Family}
@@ -11,8 +11,8 @@ use Rattle.core_terms.specs.Answers.{and_next}
 use Rattle.core_terms.proofs.Answers.{Answers, and_next-has}
 use Rattle.kernel_reduce.specs.Reduction.{answered, whnf_of}
 use Rattle.tele_eq.specs.ReflexivityLaws.{EachConverts}
-use Rattle.unification.specs.Built.{Built, built_of, is_direct, is_fitting, has_no_indices, greatest_level}
-use Rattle.unification.specs.Cycles.{Search, not_found, found_as, here_or, Below, among_arguments, with_arguments, is_variable, below_constructor, in_form, by_less, no_argument, by_room, by_units, search_in, is_acyclic, bounded_found, reduced_side, cycle_at, cycle_search, cycle_step, left_variable, right_variable, left_constructor, left_form, cycle_trial}
+use Rattle.unification.specs.Built.{Built, built_of, is_direct, greatest_level}
+use Rattle.unification.specs.Cycles.{Search, not_found, found_as, here_or, Below, among_arguments, with_arguments, is_variable, below_constructor, in_form, by_less, no_argument, by_room, by_units, search_in}
 use Rattle.unification.specs.Paths.{IsArgument, HasBelow}
 use Rattle.unification.specs.Paths.HasBelow.{there, further}
 use Rattle.unification.specs.Solutions.{variable_in}

@@ -1,5 +1,5 @@
 -- The laws of solutions: a solved problem is unified, where its steps are coherent, and so is what a run answers as solved.
-use Rattle.std.proofs.Common.{◌≡◌, ℕ, Ok, List, [], ◌∷◌, length, map, All, refl, ap, ap₂, sym, subst as transport, ◌∙◌, IfOk, ◌++◌}
+use Rattle.std.proofs.Common.{◌≡◌, ℕ, Ok, List, [], ◌∷◌, length, map, All, refl, ap₂, sym, subst as transport, ◌∙◌, IfOk, ◌++◌}
 use Rattle.std.proofs.lemmas.List.Elements.{All-head, All-tail}
 use Rattle.theory.specs.Eliminators.{no_variable}
 use Rattle.theory.specs.SignatureScopes.{IsScoped}
@@ -7,12 +7,11 @@ use Rattle.theory.specs.Signatures.{Signature}
 use Rattle.theory.specs.Substitutions.{inst, fill}
 use Rattle.theory.specs.Telescopes.{Telescope, variables}
 use Rattle.theory.specs.Terms.{Term}
-use Rattle.core_terms.proofs.Answers.{and_then-has}
 use Rattle.core_terms.specs.CaseTrees.{Step}
 use Rattle.tele_eq.specs.ReflexivityLaws.{EachConverts}
 use Rattle.tele_eq.specs.TelescopicEquality.{equations}
 use Rattle.unification.specs.Coherence.{IsCoherent}
-use Rattle.unification.specs.Heights.{bounded_state, equations_made, start_made}
+use Rattle.unification.specs.Heights.{start_made}
 use Rattle.unification.specs.Laws.{under, SolvedIsUnified, Chain, IsReached, RunUnifies}
 use Rattle.unification.specs.Laws.IsReached.{solved}
 use Rattle.unification.specs.Outcomes.{Solved}

@@ -1,5 +1,5 @@
 -- What the trial of a solution comes to. It makes the context shorter, or where there is no variable it makes the equations smaller.
-use Rattle.std.proofs.Common.{◌≡◌, ℕ, ◌+◌, ◌-◌, ◌<◌, ◌≤◌, ◌⊎◌, inl, inr, Bool, true, false, cond, Option, Some, None, IfSome, Ok, IfOk, List, [], ◌∷◌, length, drop, slice_get, refl, ap, ap₂, sym, subst as transport, ◌∙◌, arith}
+use Rattle.std.proofs.Common.{◌≡◌, ℕ, ◌+◌, ◌-◌, ◌<◌, ◌≤◌, ◌⊎◌, inl, inr, Bool, true, false, cond, Option, Some, None, IfSome, Ok, IfOk, List, [], ◌∷◌, length, drop, slice_get, refl, ap₂, sym, subst as transport, ◌∙◌, arith}
 use Rattle.std.proofs.lemmas.List.{length-map}
 use Rattle.theory.specs.Terms.{Term}
 use Rattle.theory.specs.Terms.Term.{Var}
@@ -12,7 +12,7 @@ use Rattle.core_terms.specs.Answers.{and_next}
 use Rattle.core_terms.specs.CaseTrees.{Step}
 use Rattle.core_terms.specs.declared.case_tree.Rule.TheVariants.{SolveRight, SolveLeft}
 use Rattle.core_terms.proofs.Answers.{and_then-has}
-use Rattle.kernel_reduce.specs.Reduction.{answered, nesting, normal_of}
+use Rattle.kernel_reduce.specs.Reduction.{nesting, normal_of}
 use Rattle.kernel_reduce.specs.Tidying.{tidy_of}
 use Rattle.tele_eq.specs.Environments.{Environment, put}
 use Rattle.unification.specs.Heights.{bounded_state}
@@ -30,7 +30,7 @@ use Rattle.unification.specs.States.{Equation, State}
 use Rattle.unification.specs.Turns.{Goes, type_in}
 use Rattle.unification.proofs.Cases.{less-or_same}
 use Rattle.unification.proofs.MovedStates.{solved_state-scoped, solved_state-context}
-use Rattle.unification.proofs.Reducts.{IsReduct, IsHead, reduced-within, normal-within}
+use Rattle.unification.proofs.Reducts.{IsReduct, reduced-within, normal-within}
 use Rattle.unification.proofs.ScopedEquations.{bounded_state-has}
 use Rattle.unification.proofs.Sizes.{size-positive, size-put, sides-moved, sides-behind}
 use Rattle.unification.proofs.SolvedContexts.{length-order, length-order_of_none, length-new_context}
@@ -189,50 +189,56 @@ solve_sides-comes S s left e others first A u v hA hu hv rest le =
     (λ end l. solve_side-comes S s left e A v (left_step A u) (variable_in u) end (first-at s e others first) (omega arith) to_right)
   where
     to_left : (x : ℕ) → variable_in v ≡ Some x → Solving S s e A u x (right_step A v x)
-    to_left x is w h = (λ k e. cc, λ ready scoped.
-        (let is_tried = tried S s e others first ready scoped in
-        let n = length s.context in
-        let type = hA.scoped n ready.scoped (type-scoped S s e is_tried) in
-        let right = hv.scoped n ready.scoped is_tried.equation.right in
-        let term = h.reduct.scoped n ready.scoped (hu.scoped n ready.scoped is_tried.equation.left) in
-        let low = variable-low S n v x is right in
-        record {
-          tried = is_tried;
-          variable = low;
-          type_scoped = type;
-          term_scoped = term;
-          step_scoped = single-scoped S n (SolveRight x) A w v type term right;
-          count = refl;
-          follows =
-              transport (λ t. Steps S s (right_step A t x w) (solved_state s e.place.level (level_of (length s.context) x) A w)) (sym (variable-is v x is))
-              (solve_right s e x A w
-              (first-as S s e A w (Var x) is_tried hA.converts (converts-trans hu.converts h.reduct.converts)
-              (transport (Converts S e.right) (variable-is v x is) hv.converts))
-              (record { variable = low; type = h.type; term = h.term }));
-        }))
+    to_left x is w h = (
+      λ k e. cc,
+      λ ready scoped.
+          (let is_tried = tried S s e others first ready scoped in
+          let n = length s.context in
+          let type = hA.scoped n ready.scoped (type-scoped S s e is_tried) in
+          let right = hv.scoped n ready.scoped is_tried.equation.right in
+          let term = h.reduct.scoped n ready.scoped (hu.scoped n ready.scoped is_tried.equation.left) in
+          let low = variable-low S n v x is right in
+          record {
+            tried = is_tried;
+            variable = low;
+            type_scoped = type;
+            term_scoped = term;
+            step_scoped = single-scoped S n (SolveRight x) A w v type term right;
+            count = refl;
+            follows =
+                transport (λ t. Steps S s (right_step A t x w) (solved_state s e.place.level (level_of (length s.context) x) A w)) (sym (variable-is v x is))
+                (solve_right s e x A w
+                (first-as S s e A w (Var x) is_tried hA.converts (converts-trans hu.converts h.reduct.converts)
+                (transport (Converts S e.right) (variable-is v x is) hv.converts))
+                (record { variable = low; type = h.type; term = h.term }));
+          }),
+    )
 
     to_right : (x : ℕ) → variable_in u ≡ Some x → Solving S s e A v x (left_step A u x)
-    to_right x is w h = (λ k e. cc, λ ready scoped.
-        (let is_tried = tried S s e others first ready scoped in
-        let n = length s.context in
-        let type = hA.scoped n ready.scoped (type-scoped S s e is_tried) in
-        let left = hu.scoped n ready.scoped is_tried.equation.left in
-        let term = h.reduct.scoped n ready.scoped (hv.scoped n ready.scoped is_tried.equation.right) in
-        let low = variable-low S n u x is left in
-        record {
-          tried = is_tried;
-          variable = low;
-          type_scoped = type;
-          term_scoped = term;
-          step_scoped = single-scoped S n (SolveLeft x) A u w type left term;
-          count = refl;
-          follows =
-              transport (λ t. Steps S s (left_step A t x w) (solved_state s e.place.level (level_of (length s.context) x) A w)) (sym (variable-is u x is))
-              (solve_left s e x A w
-              (first-as S s e A (Var x) w is_tried hA.converts (transport (Converts S e.left) (variable-is u x is) hu.converts)
-              (converts-trans hv.converts h.reduct.converts))
-              (record { variable = low; type = h.type; term = h.term }));
-        }))
+    to_right x is w h = (
+      λ k e. cc,
+      λ ready scoped.
+          (let is_tried = tried S s e others first ready scoped in
+          let n = length s.context in
+          let type = hA.scoped n ready.scoped (type-scoped S s e is_tried) in
+          let left = hu.scoped n ready.scoped is_tried.equation.left in
+          let term = h.reduct.scoped n ready.scoped (hv.scoped n ready.scoped is_tried.equation.right) in
+          let low = variable-low S n u x is left in
+          record {
+            tried = is_tried;
+            variable = low;
+            type_scoped = type;
+            term_scoped = term;
+            step_scoped = single-scoped S n (SolveLeft x) A u w type left term;
+            count = refl;
+            follows =
+                transport (λ t. Steps S s (left_step A t x w) (solved_state s e.place.level (level_of (length s.context) x) A w)) (sym (variable-is u x is))
+                (solve_left s e x A w
+                (first-as S s e A (Var x) w is_tried hA.converts (transport (Converts S e.left) (variable-is u x is) hu.converts)
+                (converts-trans hv.converts h.reduct.converts))
+                (record { variable = low; type = h.type; term = h.term }));
+          }),
+    )
 
 with_variable-comes : (S : Signature) (s : State) (left : ℕ) (e : Equation) (others : List Equation) → s.equations ≡ e ∷ others → (u v : Term)
     → IsReduct S e.left u → IsReduct S e.right v → (from_left from_right : Option ℕ) (rest : ℕ) → rest ≤ left

@@ -1,12 +1,12 @@
 -- A solved problem is unified: from the end of a chain of steps backwards, the sides of each equation convert under an
 -- instantiation, which makes the solution of a state that of the end.
 use Rattle.std.proofs.Common.{◌≡◌, ℕ, zero, suc, ◌+◌, ◌-◌, ◌<◌, Some, List, [], ◌∷◌, ◌++◌, length, map, take, drop, slice_get, refl, ap, ap₂, sym, subst as transport, ◌∙◌, arith}
-use Rattle.std.proofs.lemmas.List.{map-append, length-map}
+use Rattle.std.proofs.lemmas.List.{map-append}
 use Rattle.theory.specs.Terms.{Term}
 use Rattle.theory.specs.Terms.Term.{Var, Con}
 use Rattle.theory.specs.Substitutions.{inst}
-use Rattle.theory.specs.Telescopes.{Telescope, applied}
-use Rattle.theory.specs.Families.{Family, Constructor}
+use Rattle.theory.specs.Telescopes.{applied}
+use Rattle.theory.specs.Families.{Family}
 use Rattle.theory.specs.Signatures.{Signature, HasClosedBodies, reflexivity}
 use Rattle.theory.specs.Conversion.{Converts}
 use Rattle.theory.specs.Conversion.Converts.{same}
@@ -15,10 +15,9 @@ use Rattle.theory.proofs.Congruence.{converts-trans, converts-sym}
 use Rattle.theory.proofs.Stability.{converts-inst}
 use Rattle.theory.proofs.Instances.{inst-inst, inst-var}
 use Rattle.theory.proofs.Instantiation.{inst-applied}
-use Rattle.theory.proofs.Scopes.{length-argument_types}
 use Rattle.core_terms.specs.CaseTrees.{Step}
 use Rattle.core_terms.specs.Levels.{variable}
-use Rattle.tele_eq.specs.Items.{Item, each_position}
+use Rattle.tele_eq.specs.Items.{Item}
 use Rattle.tele_eq.specs.Environments.{Environment, put}
 use Rattle.tele_eq.specs.TelescopicEquality.{equations}
 use Rattle.tele_eq.specs.ReflexivityLaws.{EachConverts}
@@ -27,7 +26,7 @@ use Rattle.unification.specs.Moving.{over_first, behind, moved}
 use Rattle.unification.specs.Occurrences.{order_without}
 use Rattle.unification.specs.Solving.{reordered, solved, solved_state, deleted_state}
 use Rattle.unification.specs.Injecting.{group_proofs, injected_state}
-use Rattle.unification.specs.Records.{items_at, argument_items, constructor_terms}
+use Rattle.unification.specs.Records.{argument_items, constructor_terms}
 use Rattle.unification.specs.Built.{Built, term_of}
 use Rattle.unification.specs.Paths.{IsBuilt}
 use Rattle.unification.specs.Coherence.{IsCoherent, AreMembers, targets_of}
@@ -38,7 +37,7 @@ use Rattle.unification.proofs.SolvedVariables.{solution_at, solved-is_inst, solv
 use Rattle.unification.proofs.UnderInstances.{each-append, each-inst, each-applied, at_values, inst-values, values-each}
 use Rattle.unification.proofs.Counts.{length-equations}
 use Rattle.unification.proofs.ScopedRecords.{length-argument_items}
-use Rattle.unification.proofs.Constructors.{one-family, same-constructor}
+use Rattle.unification.proofs.Constructors.{same-constructor}
 
 -- the sides of each equation convert under an instantiation
 abbrev pub SidesConvert : Signature → (ℕ → Term) → List Equation → Type 0

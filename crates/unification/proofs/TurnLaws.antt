@@ -1,9 +1,7 @@
 -- The laws of turns: they give no units back, one is always there, one that goes on makes the state less, and they follow the rules.
-use Rattle.std.proofs.Common.{◌≡◌, ◌≢◌, ℕ, Option, Some, None, Result, Ok, Err, IfOk, List, [], ◌∷◌, length, slice_get, refl, ap, subst, arith, ◌≤◌, IfSome}
-use Rattle.theory.specs.Terms.{Term}
+use Rattle.std.proofs.Common.{◌≡◌, ◌≢◌, ℕ, Option, Some, None, Result, Ok, Err, IfOk, List, [], ◌∷◌, length, refl, subst, arith, ◌≤◌, IfSome}
 use Rattle.theory.specs.Signatures.{Signature}
 use Rattle.core_terms.proofs.Answers.{and_next-has, Answers}
-use Rattle.core_terms.specs.CaseTrees.{Step}
 use Rattle.core_terms.specs.declared.stop.Stop.{Stop}
 use Rattle.unification.specs.States.{Equation, State}
 use Rattle.unification.specs.Turns.{Turn, Done, Goes, Trial, tidied, unless_found, or_else, Fails, Sticks}
@@ -20,13 +18,10 @@ use Rattle.unification.proofs.SolutionTrials.{solution_trial-is}
 use Rattle.unification.proofs.ConstructorTrials.{constructor_trial-is}
 use Rattle.unification.proofs.CycleTrials.{cycle_trial-is}
 use Rattle.unification.proofs.DeletionTrials.{deletion_trial-is, stuck_trial-is}
-use Rattle.unification.proofs.SpentUnits.{Leaves, Within, any-answer}
+use Rattle.unification.proofs.SpentUnits.{Leaves, any-answer}
 use Rattle.unification.proofs.Trials.{Found, Comes, applies-comes, or_else-comes}
-use Rattle.unification.proofs.TurnProperties.{IsOnward, FollowsWhole, IsTurn}
+use Rattle.unification.proofs.TurnProperties.{FollowsWhole, IsTurn}
 use Rattle.kernel_reduce.specs.Reduction.{answered}
-use Rattle.unification.specs.ScopedStates.{IsReady, IsScopedState}
-use Rattle.std.proofs.lemmas.Result.{IfOk-weaker}
-use Rattle.std.proofs.lemmas.Option.{IfSome_then}
 
 first_trials-come : (S : Signature) (s : State) (left : ℕ) (e : Equation) (others : List Equation) → s.equations ≡ e ∷ others → (rest : ℕ) → rest ≤ left
     → Comes (IsTurn S s left) (first_trials S s e) rest
