@@ -21,8 +21,7 @@ use Rattle.unification.specs.States.{Equation, State}
 use Rattle.unification.specs.Turns.{type_in}
 use Rattle.unification.proofs.Constructors.{built-is, fitting-level, no-indices}
 use Rattle.unification.proofs.Reducts.{IsReduct, reduced-within}
-use Rattle.unification.proofs.SearchUnits.{search-spends}
-use Rattle.unification.proofs.SearchedVariables.{IsFound, search-finds}
+use Rattle.unification.proofs.SearchedVariables.{IsAcyclicFamily, IsFoundTerm, search-finds}
 use Rattle.unification.proofs.SpentUnits.{Within, answered-within, answers-within, and_next-within, cond-within}
 use Rattle.unification.proofs.Trials.{Found, Comes, none-comes}
 use Rattle.unification.proofs.TurnProperties.{DeletesWithK, IsTurn, IsEnd, tried, type-scoped, first-as, single-scoped, fails_at-is}
@@ -44,16 +43,15 @@ reduced_side-within S x t (Some b) e left =
     cond-within (Found (λ w rest. IsOnWay S x t w)) (is_acyclic b) _ _ left
     (λ acyclic.
     let parts = both-true (has_no_indices b.family) (is_fitting b.family) acyclic in
-    and_next-within (λ found rest. IfSome found (IsFound S b.n x t)) (Found (λ w rest. IsOnWay S x t w)) (search_in S b.n x t left) _ left
-    (answers-within left (λ found. IfSome found (IsFound S b.n x t)) (search_in S b.n x t left) (search-spends S b.n x t left)
-    (search-finds S b.n x b.family
-    (record { family = (built-is S t b e).built.family; indices = no-indices b.family parts.0; level = fitting-level b.family parts.1 }) t left))
-    (λ found rest le h. answered-within (Found (λ w rest. IsOnWay S x t w)) (bounded_found found) rest (bounded found h)))
+    and_next-within (λ found rest. IfSome found (IsFoundTerm S b.n x t)) (Found (λ w rest. IsOnWay S x t w)) (search_in S b.n x t left) _ left
+    (search-finds S b.n x t left)
+    (λ found rest le h. answered-within (Found (λ w rest. IsOnWay S x t w)) (bounded_found found) rest
+    (bounded (record { family = (built-is S t b e).built.family; indices = no-indices b.family parts.0; level = fitting-level b.family parts.1 }) found h)))
     (λ other. answered-within (Found (λ w rest. IsOnWay S x t w)) (Ok None) left tt)
   where
-    bounded : (found : Option Term) → IfSome found (IsFound S b.n x t) → IfOk (bounded_found found) (λ next. IfSome next (IsOnWay S x t))
-    bounded None h = tt
-    bounded (Some w) h = some_bounded-has (IsOnWay S x t) w (elim (h.place) [
+    bounded : IsAcyclicFamily S b.n b.family → (found : Option Term) → IfSome found (IsFoundTerm S b.n x t) → IfOk (bounded_found found) (λ next. IfSome next (IsOnWay S x t))
+    bounded family None h = tt
+    bounded family (Some w) h = some_bounded-has (IsOnWay S x t) w (elim (h.place b.family family) [
       | inl is ↦ absurd (not-built S x t b e is.0)
       | inr below ↦ record { reduct = h.reduct; n = b.n; below = below }
     ])

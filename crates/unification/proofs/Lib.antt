@@ -26,7 +26,6 @@ mod Samples
 pub mod ScopedEquations
 pub mod ScopedRecords
 pub mod SearchLaws
-pub mod SearchUnits
 pub mod SearchedVariables
 pub mod Sizes
 pub mod SolutionLaws

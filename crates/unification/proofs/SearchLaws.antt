@@ -14,9 +14,9 @@ use Rattle.unification.specs.Solutions.{variable_in}
 use Rattle.unification.specs.Cycles.{Search, not_found, found_as, here_or, Below, among_arguments, with_arguments, is_variable, below_constructor, in_form, by_less, no_argument, by_room, by_units, search_in}
 use Rattle.unification.specs.Laws.{SearchGoesOn}
 use Rattle.unification.proofs.SpentUnits.{Leaves, Within, Any, any-within}
-use Rattle.unification.proofs.SearchUnits.{Spends, BelowSpends, by_less-spends, by_room-spends, by_units-spends, search-spends}
 use Rattle.unification.proofs.Constructors.{found}
 use Rattle.unification.proofs.Reducts.{IsHead, whnf-within}
+use Rattle.unification.proofs.SearchedVariables.{Finds, FindsBelow, by_less-finds, no_argument-finds, by_room-finds, by_units-finds, search-finds}
 
 -- ---- heights of arguments
 
@@ -59,6 +59,13 @@ next-same {A = A} P first go other left h k = by_answer first.0 first.1 h.spends
     by_answer : (r : Result A Stop) (rest : ℕ) → rest ≤ left → Leaves P r rest → on_answer r rest go ≡ on_answer r rest other
     by_answer (Ok a) rest le p = k a rest le p
     by_answer (Err e) rest le p = refl
+
+-- a way to go on that gives no units back
+abbrev BelowSpends : Below → Type 0
+BelowSpends below = (before : ℕ) (t : Term) (left : ℕ) → (below before t left).1 ≤ left
+
+below-spends : (S : Signature) (n x : ℕ) (below : Below) → FindsBelow S n x below → BelowSpends below
+below-spends S n x below finds before t left = (finds before t left).spends
 
 -- They agree on what is found with at most so many units, if some are spent or the term is lower than so much.
 abbrev Agree : (most high : ℕ) → Below → Below → Type 0
@@ -133,7 +140,7 @@ as_many : (rest before : ℕ) → nat_lt rest before ≡ false → before ≤ re
 as_many rest before e = grind (arith, nat_tests)
 
 room-same : (S : Signature) (n x : ℕ) (units others : Term → Search Term) (room more : ℕ) (t : Term) (left : ℕ) → height t ≤ room → height t ≤ more
-    → AgreeBelow left units others → ((t : Term) → Spends (others t)) → by_room S n x units room t left ≡ by_room S n x others more t left
+    → AgreeBelow left units others → Finds S n x others → by_room S n x units room t left ≡ by_room S n x others more t left
 room-same S n x units others zero more t left le k agree spends = let h = height-positive t in absurd (omega arith)
 room-same S n x units others (suc room) zero t left le k agree spends = let h = height-positive t in absurd (omega arith)
 room-same S n x units others (suc room) (suc more) t left le k agree spends =
@@ -143,28 +150,29 @@ room-same S n x units others (suc room) (suc more) t left le k agree spends =
     (λ e. let less = fewer rest before e in agree v rest (omega arith))
     (λ e. let many = as_many rest before e in let lower : height v < height t = low (omega arith) in
     room-same S n x units others room more v rest (omega arith) (omega arith) (λ w m less. agree w m (omega arith)) spends))
-    (by_less-spends others (by_room S n x others more) spends (λ u. by_room-spends S n x others more u spends))
+    (below-spends S n x (by_less others (by_room S n x others more))
+    (by_less-finds S n x others (by_room S n x others more) spends (by_room-finds S n x others spends more)))
 
 units-same : (S : Signature) (n x : ℕ) (units more : ℕ) (t : Term) (left : ℕ) → left ≤ units → left ≤ more → by_units S n x units t left ≡ by_units S n x more t left
 units-same S n x zero zero t left le k = refl
 units-same S n x zero (suc more) t left le k =
     room-same S n x no_argument (by_units S n x more) (height t) (height t) t left (omega arith) (omega arith)
-    (λ v rest less. absurd (omega arith)) (by_units-spends S n x more)
+    (λ v rest less. absurd (omega arith)) (by_units-finds S n x more)
 units-same S n x (suc units) zero t left le k =
     room-same S n x (by_units S n x units) no_argument (height t) (height t) t left (omega arith) (omega arith)
-    (λ v rest less. absurd (omega arith)) (λ v rest. omega arith)
+    (λ v rest less. absurd (omega arith)) (no_argument-finds S n x)
 units-same S n x (suc units) (suc more) t left le k =
     room-same S n x (by_units S n x units) (by_units S n x more) (height t) (height t) t left (omega arith) (omega arith)
-    (λ v rest less. units-same S n x units more v rest (omega arith) (omega arith)) (by_units-spends S n x more)
+    (λ v rest less. units-same S n x units more v rest (omega arith) (omega arith)) (by_units-finds S n x more)
 
 -- with room enough, a search that agrees below so many units is the whole search
 room-search : (S : Signature) (n x : ℕ) (units : Term → Search Term) (room : ℕ) (t : Term) (left : ℕ) → height t ≤ room → AgreeBelow left units (search_in S n x)
     → by_room S n x units room t left ≡ search_in S n x t left
 room-search S n x units room t zero le agree =
-    room-same S n x units no_argument room (height t) t zero le (omega arith) (λ v rest less. absurd (omega arith)) (λ v rest. omega arith)
+    room-same S n x units no_argument room (height t) t zero le (omega arith) (λ v rest less. absurd (omega arith)) (no_argument-finds S n x)
 room-search S n x units room t (suc left) le agree =
     room-same S n x units (by_units S n x left) room (height t) t (suc left) le (omega arith)
-    (λ v rest less. agree v rest less ∙ units-same S n x rest left v rest (omega arith) (omega arith)) (by_units-spends S n x left)
+    (λ v rest less. agree v rest less ∙ units-same S n x rest left v rest (omega arith) (omega arith)) (by_units-finds S n x left)
 
 room-goes_on : (S : Signature) (n x : ℕ) (units : Term → Search Term) (room : ℕ) (t : Term) (left : ℕ) → height t ≤ room → AgreeBelow left units (search_in S n x)
     → by_room S n x units room t left ≡ in_form S n x (λ before. search_in S n x) t left
@@ -172,7 +180,7 @@ room-goes_on S n x units zero t left le agree = let h = height-positive t in abs
 room-goes_on S n x units (suc room) t left le agree =
     form-same S n x (by_less units (by_room S n x units room)) (λ before. search_in S n x) t left
     (λ before rest v l l' low. by_test before rest v l l' low (nat_lt rest before) refl)
-    (λ before v. search-spends S n x v)
+    (λ before v m. (search-finds S n x v m).spends)
   where
     by_test : (before rest : ℕ) (v : Term) → before ≤ left → rest ≤ before → (rest ≡ before → height v < height t) → (b : Bool) → nat_lt rest before ≡ b
         → cond b (units v rest) (by_room S n x units room v rest) ≡ search_in S n x v rest

@@ -23,13 +23,6 @@ pub any-answer : {A : Type 0} (r : Result A Stop) → IfOk r (λ a. Unit {0})
 any-answer (Ok a) = tt
 any-answer (Err e) = tt
 
-pub any-within : {A : Type 0} (left : ℕ) (r : Spent A) → r.1 ≤ left → Within left Any r
-any-within {A = A} left r le = record { spends = le; leaves = any r.0 r.1 }
-  where
-    any : (a : Result A Stop) (rest : ℕ) → Leaves Any a rest
-    any (Ok a) rest = tt
-    any (Err e) rest = tt
-
 -- what is known of the answer alone
 pub answers-within : {A : Type 0} (left : ℕ) (P : A → Type 0) (r : Spent A) → r.1 ≤ left → IfOk r.0 P → Within left (λ a rest. P a) r
 answers-within {A = A} left P r le h = record { spends = le; leaves = by r.0 r.1 h }
@@ -37,6 +30,9 @@ answers-within {A = A} left P r le h = record { spends = le; leaves = by r.0 r.1
     by : (a : Result A Stop) (rest : ℕ) → IfOk a P → Leaves (λ a rest. P a) a rest
     by (Ok a) rest h = h
     by (Err e) rest h = tt
+
+pub any-within : {A : Type 0} (left : ℕ) (r : Spent A) → r.1 ≤ left → Within left Any r
+any-within left r le = answers-within left (λ a. Unit {0}) r le (any-answer r.0)
 
 pub answered-within : {A : Type 0} (P : A → ℕ → Type 0) (answer : Result A Stop) (left : ℕ) → IfOk answer (λ a. P a left)
     → Within left P (answered answer left)
@@ -68,3 +64,8 @@ pub cond-within : {A : Type 0} (P : A → ℕ → Type 0) (test : Bool) (one oth
     → (test ≡ false → Within left P other) → Within left P (cond test one other)
 cond-within P true one other left h k = h refl
 cond-within P false one other left h k = k refl
+
+pub cond-within_at : {A : Type 0} (P : A → ℕ → Type 0) (test : Bool) (one other : ℕ → Spent A) (left : ℕ) → (test ≡ true → Within left P (one left))
+    → (test ≡ false → Within left P (other left)) → Within left P (cond test one other left)
+cond-within_at P true one other left h k = h refl
+cond-within_at P false one other left h k = k refl

@@ -8,7 +8,7 @@ use Rattle.core_terms.specs.declared.stop.Stop.{Stop}
 use Rattle.unification.specs.States.{State}
 use Rattle.unification.specs.Turns.{Trial, Turn, Goes, Fails, Sticks, does_not_apply, applies, goes_to, tidied, on_tidied, fails_at, sticks_at, unless_found, or_else}
 use Rattle.unification.specs.declared.why.Why.{Why}
-use Rattle.unification.proofs.SpentUnits.{Within, answered-within, and_next-within}
+use Rattle.unification.proofs.SpentUnits.{Within, answered-within, and_next-within, cond-within_at}
 use Rattle.unification.proofs.Reducts.{IsReduct, reduced-within}
 
 -- what is found has P, with the units behind it
@@ -43,8 +43,7 @@ or_else-comes P first second left h k =
 -- one of two trials, each of which may know the test
 pub cond-comes : (P : Turn → ℕ → Type 0) (test : Bool) (one other : Trial) (left : ℕ) → (test ≡ true → Comes P one left)
     → (test ≡ false → Comes P other left) → Comes P (cond test one other) left
-cond-comes P true one other left h k = h refl
-cond-comes P false one other left h k = k refl
+cond-comes P test one other left h k = cond-within_at (Found P) test one other left h k
 
 -- ---- tidied sides
 
