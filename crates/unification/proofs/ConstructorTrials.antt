@@ -31,7 +31,7 @@ constructor_turn-is S s left e others first all le l b r d rest le' sides =
     (λ number. cond-comes (IsTurn S s left) (has_no_indices b.family) _ _ rest
     (λ plain. injects-is S s left 0 e (type_in e.type) (λ b. is_fitting b.family) all l b r d b.family b.parameters rest rest (first-at s e others first)
     le le' (omega arith) sides number (λ ready scoped.
-    let is = tried S s e others first ready scoped in
+    let is = tried S s e others first scoped in
     let built = built-scoped S (length s.context) l b sides.left_built (sides.left_reduct.scoped _ ready.scoped is.equation.left) in
     record {
       sides = (is.equation.left, is.equation.right);
@@ -44,7 +44,7 @@ constructor_turn-is S s left e others first all le l b r d rest le' sides =
     }))
     (λ indexed. none-comes (IsTurn S s left) rest))
     (λ other. conflicts-is S s left 0 e (type_in e.type) (λ b. is_fitting b.family) all l b r d rest rest sides (λ ready scoped.
-    let is = tried S s e others first ready scoped in
+    let is = tried S s e others first scoped in
     record {
       sides = (is.equation.left, is.equation.right);
       type_scoped = place-scoped S s e is;

@@ -2,7 +2,7 @@
 use Rattle.std.proofs.Common.{◌≡◌, ℕ, ◌+◌, ◌≤◌, true, ◌==◌, cond, Option, Some, None, IfSome, option_and_then, List, [], ◌∷◌, ◌++◌, length, take, drop, map, slice_get, refl, ap, ap₂, sym, ◌∙◌, subst, arith}
 use Rattle.std.proofs.lemmas.Bool.{eqb-true}
 use Rattle.std.proofs.lemmas.Bool.Decides.{nat_tests}
-use Rattle.std.proofs.lemmas.List.{length-map, length-take, length-drop, take-append-drop, map-append, take-map, drop-map}
+use Rattle.std.proofs.lemmas.List.{length-map, length-take, length-drop, take-append-drop, map-append, take-map, drop-map, nil_from_length}
 use Rattle.std.proofs.lemmas.Option.{option_and_then_some, cond_some}
 use Rattle.theory.specs.Terms.{Term, Var, Sort, Pi, Lam, App, Let, Const, Fam, Con, Elim, AxiomK}
 use Rattle.theory.specs.Substitutions.{inst}
@@ -120,11 +120,7 @@ pub fitting-level : (f : Family) → is_fitting f ≡ true → f.level ≤ great
 fitting-level f e = grind (arith, nat_tests)
 
 pub no-indices : (f : Family) → has_no_indices f ≡ true → f.indices ≡ []
-no-indices f e = none f.indices (eqb-true (length f.indices) 0 e)
-  where
-    none : {A : Type 0} (xs : List A) → length xs ≡ 0 → xs ≡ []
-    none [] e = refl
-    none (x ∷ xs) e = absurd (omega arith)
+no-indices f e = nil_from_length f.indices (eqb-true (length f.indices) 0 e)
 
 -- what is found of arguments that are so is the constructor
 found-again : (S : Signature) (h : Term) (us : List Term) (b : Built) → IsFound S h us b → with_spine S h us ≡ Some b

@@ -61,9 +61,9 @@ abbrev Ending : Signature → State → Equation → (x : ℕ) → (Term → Ste
 Ending S s e x step t =
     (w : Term) → IsOnWay S x t w → DeletesWithK S (step w) × (IsReady S → IsScopedState S s → IsEnd S s (step w) e.left e.right)
 
-cycle_search-comes : (S : Signature) (s : State) (left : ℕ) (e : Equation) (x : ℕ) (step : Term → Step) (t : Term) (rest : ℕ) → Ending S s e x step t
+cycle_search-is : (S : Signature) (s : State) (left : ℕ) (e : Equation) (x : ℕ) (step : Term → Step) (t : Term) (rest : ℕ) → Ending S s e x step t
     → Comes (IsTurn S s left) (cycle_search S e x step t) rest
-cycle_search-comes S s left e x step t rest ending =
+cycle_search-is S s left e x step t rest ending =
     and_next-within (Found (λ w end. IsOnWay S x t w)) (Found (IsTurn S s left)) (reduced_side S x t (built_of S t) rest) _ rest
     (reduced_side-within S x t (built_of S t) refl rest) (λ found end le h. by found end h)
   where
@@ -71,14 +71,14 @@ cycle_search-comes S s left e x step t rest ending =
     by None end h = none-comes (IsTurn S s left) end
     by (Some w) end h = let made = ending w h in fails_at-is S s left (step w) e.left e.right end made.0 made.1
 
-left_variable-comes : (S : Signature) (s : State) (left : ℕ) (e : Equation) (others : List Equation) → s.equations ≡ e ∷ others → (l : Term) (x : ℕ)
+left_variable-is : (S : Signature) (s : State) (left : ℕ) (e : Equation) (others : List Equation) → s.equations ≡ e ∷ others → (l : Term) (x : ℕ)
     → IsReduct S e.left l → variable_in l ≡ Some x → (rest : ℕ) → Comes (IsTurn S s left) (left_variable S e x) rest
-left_variable-comes S s left e others first l x hl is rest =
+left_variable-is S s left e others first l x hl is rest =
     reduced-within (Found (IsTurn S s left)) S true e.right rest _ (λ r end le hr.
-    cycle_search-comes S s left e x (λ v. cycle_step e x (Var x) v) r end (λ w h. (
+    cycle_search-is S s left e x (λ v. cycle_step e x (Var x) v) r end (λ w h. (
       λ k same_rule. cc,
       λ ready scoped.
-          let is_tried = tried S s e others first ready scoped in
+          let is_tried = tried S s e others first scoped in
           let n = length s.context in
           let right = converts-trans hr.reduct.converts h.reduct.converts in
           let low = variable-low S n l x is (hl.scoped n ready.scoped is_tried.equation.left) in
@@ -97,15 +97,15 @@ left_variable-comes S s left e others first l x hl is rest =
     variable : Converts S e.left (Var x)
     variable = transport (Converts S e.left) (variable-is l x is) hl.converts
 
-right_variable-comes : (S : Signature) (s : State) (left : ℕ) (e : Equation) (others : List Equation) → s.equations ≡ e ∷ others → (l r : Term)
+right_variable-is : (S : Signature) (s : State) (left : ℕ) (e : Equation) (others : List Equation) → s.equations ≡ e ∷ others → (l r : Term)
     → IsReduct S e.left l → IsReduct S e.right r → (found : Option ℕ) → variable_in r ≡ found → (rest : ℕ)
     → Comes (IsTurn S s left) (right_variable S e l found) rest
-right_variable-comes S s left e others first l r hl hr None is rest = none-comes (IsTurn S s left) rest
-right_variable-comes S s left e others first l r hl hr (Some x) is rest =
-    cycle_search-comes S s left e x (λ u. cycle_step e x u (Var x)) l rest (λ w h. (
+right_variable-is S s left e others first l r hl hr None is rest = none-comes (IsTurn S s left) rest
+right_variable-is S s left e others first l r hl hr (Some x) is rest =
+    cycle_search-is S s left e x (λ u. cycle_step e x u (Var x)) l rest (λ w h. (
       λ k same_rule. cc,
       λ ready scoped.
-          let is_tried = tried S s e others first ready scoped in
+          let is_tried = tried S s e others first scoped in
           let n = length s.context in
           let side = converts-trans hl.converts h.reduct.converts in
           let low = variable-low S n r x is (hr.scoped n ready.scoped is_tried.equation.right) in
@@ -124,22 +124,22 @@ right_variable-comes S s left e others first l r hl hr (Some x) is rest =
     variable : Converts S e.right (Var x)
     variable = transport (Converts S e.right) (variable-is r x is) hr.converts
 
-left_constructor-comes : (S : Signature) (s : State) (left : ℕ) (e : Equation) (others : List Equation) → s.equations ≡ e ∷ others → (l : Term)
+left_constructor-is : (S : Signature) (s : State) (left : ℕ) (e : Equation) (others : List Equation) → s.equations ≡ e ∷ others → (l : Term)
     → IsReduct S e.left l → (o : Option Built) (rest : ℕ) → Comes (IsTurn S s left) (left_constructor S e l o) rest
-left_constructor-comes S s left e others first l hl None rest = none-comes (IsTurn S s left) rest
-left_constructor-comes S s left e others first l hl (Some b) rest =
+left_constructor-is S s left e others first l hl None rest = none-comes (IsTurn S s left) rest
+left_constructor-is S s left e others first l hl (Some b) rest =
     cond-within (Found (IsTurn S s left)) (is_acyclic b) _ _ rest
     (λ acyclic. reduced-within (Found (IsTurn S s left)) S true e.right rest _ (λ r end le hr.
-    right_variable-comes S s left e others first l r hl hr.reduct (variable_in r) refl end))
+    right_variable-is S s left e others first l r hl hr.reduct (variable_in r) refl end))
     (λ other. none-comes (IsTurn S s left) rest)
 
-left_form-comes : (S : Signature) (s : State) (left : ℕ) (e : Equation) (others : List Equation) → s.equations ≡ e ∷ others → (l : Term)
+left_form-is : (S : Signature) (s : State) (left : ℕ) (e : Equation) (others : List Equation) → s.equations ≡ e ∷ others → (l : Term)
     → IsReduct S e.left l → (found : Option ℕ) → variable_in l ≡ found → (rest : ℕ) → Comes (IsTurn S s left) (left_form S e l found) rest
-left_form-comes S s left e others first l hl None is rest = left_constructor-comes S s left e others first l hl (built_of S l) rest
-left_form-comes S s left e others first l hl (Some x) is rest = left_variable-comes S s left e others first l x hl is rest
+left_form-is S s left e others first l hl None is rest = left_constructor-is S s left e others first l hl (built_of S l) rest
+left_form-is S s left e others first l hl (Some x) is rest = left_variable-is S s left e others first l x hl is rest
 
 pub cycle_trial-is : (S : Signature) (s : State) (left : ℕ) (e : Equation) (others : List Equation) → s.equations ≡ e ∷ others → (rest : ℕ)
     → Comes (IsTurn S s left) (cycle_trial S e) rest
 cycle_trial-is S s left e others first rest =
     reduced-within (Found (IsTurn S s left)) S true e.left rest _ (λ l end le hl.
-    left_form-comes S s left e others first l hl.reduct (variable_in l) refl end)
+    left_form-is S s left e others first l hl.reduct (variable_in l) refl end)

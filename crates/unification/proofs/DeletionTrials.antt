@@ -45,9 +45,9 @@ deleted-falls : (s : State) (left : ℕ) (e : Equation) (i : ℕ) (A u : Term) (
 deleted-falls s left e i A u rest at (inl less) = units less
 deleted-falls s left e i A u rest at (inr same) = size same refl (deleted-smaller s e i A u at)
 
-delete-comes : (S : Signature) (s : State) (left : ℕ) (e : Equation) (others : List Equation) → s.equations ≡ e ∷ others → S.has_k ≡ true
+delete-is : (S : Signature) (s : State) (left : ℕ) (e : Equation) (others : List Equation) → s.equations ≡ e ∷ others → S.has_k ≡ true
     → Converts S e.left e.right → (rest : ℕ) → rest ≤ left → Comes (IsTurn S s left) (delete S s e) rest
-delete-comes S s left e others first on converts rest le =
+delete-is S s left e others first on converts rest le =
     reduced-within (Found (IsTurn S s left)) S false (type_in e.type) rest _ (λ A middle l hA.
     on_tidied-comes (IsTurn S s left) S e.left e.right _ middle (λ u v end l' hu hv.
     goes_to-comes (IsTurn S s left) (deletion_step A u v) (bounded_state (deleted_state s e.place.level A u)) end
@@ -59,7 +59,7 @@ delete-comes S s left e others first on converts rest le =
         deletes = λ none. absurd cc;
       };
       right = λ ready scoped.
-          (let is = tried S s e others first ready scoped in
+          (let is = tried S s e others first scoped in
           let n = length s.context in
           let type = hA.reduct.scoped n ready.scoped (type-scoped S s e is) in
           let term = hu.scoped n ready.scoped is.equation.left in
@@ -79,7 +79,7 @@ delete-comes S s left e others first on converts rest le =
 
 sides-scoped : (S : Signature) (s : State) (e : Equation) (others : List Equation) → s.equations ≡ e ∷ others → IsReady S → IsScopedState S s
     → AreScopedSides S s e.left e.right
-sides-scoped S s e others first ready scoped = let is = tried S s e others first ready scoped in (is.equation.left, is.equation.right)
+sides-scoped S s e others first ready scoped = let is = tried S s e others first scoped in (is.equation.left, is.equation.right)
 
 pub deletion_trial-is : (S : Signature) (s : State) (left : ℕ) (e : Equation) (others : List Equation) → s.equations ≡ e ∷ others → (rest : ℕ) → rest ≤ left
     → Comes (IsTurn S s left) (deletion_trial S s e) rest
@@ -88,7 +88,7 @@ deletion_trial-is S s left e others first rest le =
   where
     by : (holds : Bool) → (IsTrue holds → Converts S e.left e.right) → (end : ℕ) → end ≤ left → Comes (IsTurn S s left) (if_convertible S s e holds) end
     by true h end l =
-        cond-comes (IsTurn S s left) S.has_k _ _ end (λ on. delete-comes S s left e others first on (h refl) end l)
+        cond-comes (IsTurn S s left) S.has_k _ _ end (λ on. delete-is S s left e others first on (h refl) end l)
         (λ off. sticks_at-is S s left NeedsK e.left e.right end (sides-scoped S s e others first))
     by false h end l = none-comes (IsTurn S s left) end
 

@@ -11,6 +11,7 @@ use Rattle.theory.proofs.ScopedTerms.{spine-scoped}
 use Rattle.kernel_reduce.specs.Comparison.{second_if}
 use Rattle.tele_eq.specs.ReflexivityLaws.{EachConverts}
 use Rattle.tele_eq.specs.TelescopicEquality.{equations}
+use Rattle.tele_eq.specs.Items.{Item}
 use Rattle.unification.specs.Built.{Built, term_of}
 use Rattle.unification.specs.Groups.{Membership, membership_of, all_convertible, are_equations_of, group_turn, if_holds, on_membership, last_trial, group_trial, group_trials}
 use Rattle.unification.specs.Heights.{equations_made}
@@ -33,7 +34,6 @@ use Rattle.unification.proofs.ScopedRecords.{length-family_items}
 use Rattle.unification.proofs.SpentUnits.{Within, answered-within, within-later, and_next-within}
 use Rattle.unification.proofs.Trials.{Found, Comes, none-comes, or_else-comes, cond-comes}
 use Rattle.unification.proofs.TurnProperties.{IsTurn}
-use Rattle.tele_eq.specs.Items.{Item}
 
 -- ---- types that are found convertible
 
@@ -102,11 +102,11 @@ last-scoped S s k e at scoped =
     transport (λ i. IsScopedEquation S (length s.context) i e) (let none : 0 + k ≡ k = omega arith in none)
     (transport (λ o. IfSome o (IsScopedEquation S (length s.context) (0 + k))) at (equations-at S (length s.context) 0 k s.equations scoped.equations))
 
-group_turn-comes : (S : Signature) (s : State) (left k : ℕ) (e : Equation) (type : Term) (m : Membership) → IsLast S s k e type m → (all : ℕ) → all ≤ left
+group_turn-is : (S : Signature) (s : State) (left k : ℕ) (e : Equation) (type : Term) (m : Membership) → IsLast S s k e type m → (all : ℕ) → all ≤ left
     → (l : Term) (b : Built) (r : Term) (d : Built) (middle : ℕ) → middle ≤ all → AreSides S (λ b. b.n == m.n) all e.left e.right l b r d middle
     → EachConverts S (types_as_they_stand (take (k + 1) s.equations)) (family_equations m (take (k + 1) s.equations)) → (rest : ℕ) → rest ≤ middle
     → Comes (IsTurn S s left) (group_turn S s k e m type l b r d) rest
-group_turn-comes S s left k e type m last all le l b r d middle le' sides types rest le'' =
+group_turn-is S s left k e type m last all le l b r d middle le' sides types rest le'' =
     cond-comes (IsTurn S s left) (b.number == d.number) _ _ rest
     (λ number. injects-is S s left k e type (λ b. b.n == m.n) all l b r d m.family m.parameters rest middle last.at le le' le'' sides number (λ ready scoped.
     let there = last-scoped S s k e last.at scoped in
@@ -150,37 +150,37 @@ group_turn-comes S s left k e type m last all le l b r d middle le' sides types 
           types = types;
         })
 
-if_holds-comes : (S : Signature) (s : State) (left k : ℕ) (e : Equation) (type : Term) (m : Membership) → IsLast S s k e type m → (all : ℕ) → all ≤ left
+if_holds-is : (S : Signature) (s : State) (left k : ℕ) (e : Equation) (type : Term) (m : Membership) → IsLast S s k e type m → (all : ℕ) → all ≤ left
     → (l : Term) (b : Built) (r : Term) (d : Built) (middle : ℕ) → middle ≤ all → AreSides S (λ b. b.n == m.n) all e.left e.right l b r d middle
     → (holds : Bool)
     → (IsTrue holds → EachConverts S (types_as_they_stand (take (k + 1) s.equations)) (family_equations m (take (k + 1) s.equations)))
     → (rest : ℕ) → rest ≤ middle → Comes (IsTurn S s left) (if_holds holds (group_turn S s k e m type l b r d)) rest
-if_holds-comes S s left k e type m last all le l b r d middle le' sides true types rest le'' =
-    group_turn-comes S s left k e type m last all le l b r d middle le' sides (types refl) rest le''
-if_holds-comes S s left k e type m last all le l b r d middle le' sides false types rest le'' = none-comes (IsTurn S s left) rest
+if_holds-is S s left k e type m last all le l b r d middle le' sides true types rest le'' =
+    group_turn-is S s left k e type m last all le l b r d middle le' sides (types refl) rest le''
+if_holds-is S s left k e type m last all le l b r d middle le' sides false types rest le'' = none-comes (IsTurn S s left) rest
 
-on_membership-comes : (S : Signature) (s : State) (left k : ℕ) (e : Equation) (type : Term) → slice_get s.equations k ≡ Some e → k ≢ 0
+on_membership-is : (S : Signature) (s : State) (left k : ℕ) (e : Equation) (type : Term) → slice_get s.equations k ≡ Some e → k ≢ 0
     → IsReduct S e.place.type type → (o : Option Membership) → membership_of S k type ≡ o → (rest : ℕ) → rest ≤ left
     → Comes (IsTurn S s left) (on_membership S s k e type o) rest
-on_membership-comes S s left k e type at some place None is rest le = none-comes (IsTurn S s left) rest
-on_membership-comes S s left k e type at some place (Some m) is rest le =
+on_membership-is S s left k e type at some place None is rest le = none-comes (IsTurn S s left) rest
+on_membership-is S s left k e type at some place (Some m) is rest le =
     on_constructors-comes (IsTurn S s left) S (λ b. b.n == m.n) e.left e.right _ rest (λ l b r d middle le' sides.
     and_next-within (AllConvert S (types_as_they_stand (take (k + 1) s.equations)) (family_equations m (take (k + 1) s.equations))) (Found (IsTurn S s left))
     (are_equations_of S m (take (k + 1) s.equations) middle) _ middle
     (are_equations-within S m (take (k + 1) s.equations) (length-group k s.equations e at ∙ ap (λ i. i + 1) (sym membership.indices)) middle)
     (λ holds end le'' types.
-    if_holds-comes S s left k e type m (record { at = at; some = some; place = place; membership = membership }) rest le l b r d middle le' sides holds types
+    if_holds-is S s left k e type m (record { at = at; some = some; place = place; membership = membership }) rest le l b r d middle le' sides holds types
     end le''))
   where
     membership : IsMembership S k type (spine_of type) m
     membership = membership-is S k type m is
 
-last_trial-comes : (S : Signature) (s : State) (left k : ℕ) → k ≢ 0 → (o : Option Equation) → slice_get s.equations k ≡ o → (rest : ℕ) → rest ≤ left
+last_trial-is : (S : Signature) (s : State) (left k : ℕ) → k ≢ 0 → (o : Option Equation) → slice_get s.equations k ≡ o → (rest : ℕ) → rest ≤ left
     → Comes (IsTurn S s left) (last_trial S s k o) rest
-last_trial-comes S s left k some None at rest le = none-comes (IsTurn S s left) rest
-last_trial-comes S s left k some (Some e) at rest le =
+last_trial-is S s left k some None at rest le = none-comes (IsTurn S s left) rest
+last_trial-is S s left k some (Some e) at rest le =
     reduced-within (Found (IsTurn S s left)) S false e.place.type rest _ (λ type end le' h.
-    on_membership-comes S s left k e type at some h.reduct (membership_of S k type) refl end (omega arith))
+    on_membership-is S s left k e type at some h.reduct (membership_of S k type) refl end (omega arith))
 
 -- ---- all groups
 
@@ -188,7 +188,7 @@ pub group_trials-are : (S : Signature) (s : State) (left k rest : ℕ) → rest 
 group_trials-are S s left zero rest le = none-comes (IsTurn S s left) rest
 group_trials-are S s left (suc k) rest le =
     or_else-comes (IsTurn S s left) (group_trial S s (suc k)) (group_trials S s k) rest
-    (last_trial-comes S s left (suc k) some (slice_get s.equations (suc k)) refl rest le) (λ end le'. group_trials-are S s left k end (omega arith))
+    (last_trial-is S s left (suc k) some (slice_get s.equations (suc k)) refl rest le) (λ end le'. group_trials-are S s left k end (omega arith))
   where
     some : suc k ≡ 0 → ⊥
     some e = omega arith

@@ -2,6 +2,9 @@
 use Rattle.std.proofs.Common.{◌≡◌, ℕ, zero, suc, ◌+◌, ◌-◌, ◌≤◌, ◌==◌, ◌||◌, not, true, false, Some, List, [], ◌∷◌, ◌++◌, length, map, take, drop, refl, ap, ap₂, sym, subst as transport, ◌∙◌, arith}
 use Rattle.std.proofs.lemmas.Bool.{not-true, eq-eqb, eqb-true, or_left, or_parts, or_right}
 use Rattle.std.proofs.lemmas.List.{take-append-drop}
+use Rattle.std.proofs.lemmas.Option.{cond_some, option_and_then_some}
+use Rattle.std.proofs.lemmas.List.Elements.{All-nil, All-cons, All-head, All-tail, All-take}
+use Rattle.std.specs.List.{All}
 use Rattle.theory.specs.Terms.{Term, lift}
 use Rattle.theory.specs.Terms.Term.{Var, Sort, Pi, Lam, App, Let, Const, Fam, Con, Elim, AxiomK}
 use Rattle.theory.specs.Substitutions.{ren, up}
@@ -9,6 +12,7 @@ use Rattle.theory.specs.Telescopes.{applied, variables}
 use Rattle.theory.specs.Spines.{head_of, spine_of}
 use Rattle.theory.specs.Families.{Family}
 use Rattle.theory.specs.Signatures.{Signature, FamilyOf, IsEntryAt}
+use Rattle.theory.specs.SignatureScopes.{IsScoped}
 use Rattle.theory.proofs.Instances.{ap₃, ren-ren}
 use Rattle.theory.proofs.Shifts.{weaken_by-is_lift}
 use Rattle.theory.proofs.Spines.{applied-spine}
@@ -19,10 +23,6 @@ use Rattle.unification.specs.Built.{greatest_level, is_fitting}
 use Rattle.unification.specs.Groups.{are_nearest, has_nearest, have_nearest, lowered, Membership, with_places, membership_with, membership_of}
 use Rattle.unification.specs.Injecting.{lifted}
 use Rattle.unification.proofs.Constructors.{fitting-level}
-use Rattle.std.proofs.lemmas.Option.{cond_some, option_and_then_some}
-use Rattle.std.proofs.lemmas.List.Elements.{All-nil, All-cons, All-head, All-tail, All-take}
-use Rattle.std.specs.List.{All}
-use Rattle.theory.specs.SignatureScopes.{IsScoped}
 use Rattle.unification.proofs.Occurring.{ren-where}
 
 -- ---- variables that are not in a term

@@ -1,6 +1,7 @@
 -- The states behind a solution, a deletion and an injectivity are scoped.
 use Rattle.std.proofs.Common.{◌≡◌, ℕ, ◌+◌, ◌-◌, ◌<◌, ◌≤◌, inl, inr, true, ◌==◌, Some, List, [], ◌∷◌, ◌++◌, length, map, drop, slice_get, All, IfOk, refl, sym, ◌∙◌, subst, arith, eq-eqb}
 use Rattle.std.proofs.lemmas.List.Elements.{All-nil, All-cons, All-weaker, All-map}
+use Rattle.std.proofs.lemmas.Bool.{eqb-true}
 use Rattle.theory.specs.Terms.{Term, top}
 use Rattle.theory.specs.Telescopes.{Telescope, variables}
 use Rattle.theory.specs.Families.{Family, Constructor}
@@ -8,6 +9,7 @@ use Rattle.theory.specs.PreludeFamilies.{equality_family}
 use Rattle.theory.specs.Signatures.{Signature, FamilyOf, IsEntryAt, reflexivity}
 use Rattle.theory.specs.SignatureScopes.{IsScoped}
 use Rattle.theory.proofs.ScopedTerms.{app-scoped, var-scoped}
+use Rattle.theory.proofs.Lists.{only}
 use Rattle.core_terms.specs.Levels.{variable}
 use Rattle.core_terms.specs.Answers.{bounded_terms}
 use Rattle.core_terms.proofs.Answers.{and_then-has, and_then-is}
@@ -31,16 +33,12 @@ use Rattle.unification.proofs.Occurring.{put-all}
 use Rattle.unification.proofs.ScopedEquations.{telescope-equations, bounded_state-has}
 use Rattle.unification.proofs.ScopedRecords.{variables-scoped, lifted-scoped, length-argument_items, argument_items-scoped, family_items-scoped, constructor_terms-scoped}
 use Rattle.unification.proofs.SolvedContexts.{IsOver, other-among, over-others, length-order, length-new_context, reordered-term, solved-scoped, solved_context-scoped}
-use Rattle.std.proofs.lemmas.Bool.{eqb-true}
 use Rattle.unification.proofs.Counts.{length-equations, length-equations_at}
 
 pub reflexivity-scoped : (S : Signature) (n i : ℕ) (A u : Term) → HasAllIdentities S → i < top → IsScoped S n A → IsScoped S n u
     → IsScoped S n (reflexivity i A u)
 reflexivity-scoped S n i A u has low h k =
     app-scoped (app-scoped (record { variables = omega arith; entries = (equality_family i, (has i low).entry, omega arith) }) h) k
-
-one : (S : Signature) (n : ℕ) (t : Term) → IsScoped S n t → All (IsScoped S n) (t ∷ [])
-one S n t h = All-cons (IsScoped S n) t [] h (All-nil (IsScoped S n))
 
 variable-scoped : (S : Signature) (j d : ℕ) → j < d → IsScoped S d (variable d j)
 variable-scoped S j d lt = var-scoped (omega arith)
@@ -69,11 +67,11 @@ solved_state-scoped S s i p A u ready scoped lt low ha hu fa fu =
     let moved_u : IsScoped S m u' = reordered-term S n order order [] u m whole hu (lacking-over s.context p u fu) (omega arith) in
     let own : (j d : ℕ) → j < n → m ≤ d → IsScoped S d (s' d j) = λ j d below le. each j d below le in
     let items : StandsFrom S (n + 1) m (behind n 1 m s' (over_first m (u' ∷ []))) =
-    behind-stands S n 1 m s' (over_first m (u' ∷ [])) own (λ j d le. over_first-scoped S m (u' ∷ []) j d (one S m u' moved_u) le) in
+    behind-stands S n 1 m s' (over_first m (u' ∷ [])) own (λ j d le. over_first-scoped S m (u' ∷ []) j d (only (IsScoped S m) u' moved_u) le) in
     let equal = reflexivity i A' u' in
     let types : StandsFrom S (n + 1) m (behind n 1 m s' (over_first m (equal ∷ []))) =
     behind-stands S n 1 m s' (over_first m (equal ∷ [])) own
-    (λ j d le. over_first-scoped S m (equal ∷ []) j d (one S m equal (reflexivity-scoped S m i A' u' ready.identities low moved_A moved_u)) le) in
+    (λ j d le. over_first-scoped S m (equal ∷ []) j d (only (IsScoped S m) equal (reflexivity-scoped S m i A' u' ready.identities low moved_A moved_u)) le) in
     let side : (t : Term) → IsScoped S n t → IsScoped S m (put s' n m t) = λ t h. put-all S s' n m t (λ j below d le. own j d below le) h in
     record {
       context = solved_context-scoped S s.context p u scoped.context lt hu fu;
@@ -116,10 +114,10 @@ deleted_state-scoped S s i A u ready scoped low ha hu =
     let equal = reflexivity i A u in
     let own : (j d : ℕ) → j < n → n ≤ d → IsScoped S d (variable d j) = λ j d lt le. variable-scoped S j d (omega arith) in
     let items : StandsFrom S (n + 1) n (behind n 1 n variable (over_first n (u ∷ []))) =
-    behind-stands S n 1 n variable (over_first n (u ∷ [])) own (λ j d le. over_first-scoped S n (u ∷ []) j d (one S n u hu) le) in
+    behind-stands S n 1 n variable (over_first n (u ∷ [])) own (λ j d le. over_first-scoped S n (u ∷ []) j d (only (IsScoped S n) u hu) le) in
     let types : StandsFrom S (n + 1) n (behind n 1 n variable (over_first n (equal ∷ []))) =
     behind-stands S n 1 n variable (over_first n (equal ∷ [])) own
-    (λ j d le. over_first-scoped S n (equal ∷ []) j d (one S n equal (reflexivity-scoped S n i A u ready.identities low ha hu)) le) in
+    (λ j d le. over_first-scoped S n (equal ∷ []) j d (only (IsScoped S n) equal (reflexivity-scoped S n i A u ready.identities low ha hu)) le) in
     record {
       context = scoped.context;
       equations =

@@ -1,5 +1,6 @@
 -- Only what stands for the variables that occur in a term decides where it is scoped: renamed, and with terms put for variables.
 use Rattle.std.proofs.Common.{◌≡◌, ℕ, zero, suc, ◌+◌, ◌-◌, ◌<◌, ◌≤◌, ◌⊎◌, inl, inr, Bool, true, ◌||◌, refl, subst, arith, eq-eqb, sym}
+use Rattle.std.proofs.lemmas.Bool.{or_left, or_right}
 use Rattle.theory.specs.Terms.{Term, free_of}
 use Rattle.theory.specs.Terms.Term.{Var, Sort, Pi, Lam, App, Let, Const, Fam, Con, Elim, AxiomK}
 use Rattle.theory.specs.Substitutions.{up, ren}
@@ -9,7 +10,6 @@ use Rattle.theory.proofs.ScopedTerms.{scoped-pi, scoped-lam, scoped-app, scoped-
 use Rattle.tele_eq.specs.Dependences.{has_variable}
 use Rattle.tele_eq.specs.Environments.{Environment, put, put_under, put_variable}
 use Rattle.unification.proofs.Cases.{below-or_from, first-of_three, second-of_three}
-use Rattle.std.proofs.lemmas.Bool.{or_left, or_right}
 
 leaf : (S : Signature) (t : Term) (m : ℕ) → HasEntries S t → free_of t ≡ 0 → IsScoped S m t
 leaf S t m e f = record { variables = omega arith; entries = e }

@@ -1,6 +1,7 @@
 -- What stands for the variables of a telescope is put as an instantiation puts it, where the environment only lifts its terms with
 -- the depth. A variable that is not in a term counts for nothing.
 use Rattle.std.proofs.Common.{◌≡◌, ℕ, ◌+◌, ◌-◌, ◌<◌, ◌≤◌, ◌⊎◌, inl, inr, false, ◌||◌, nat_lt, cond, refl, ap, ap₂, sym, ◌∙◌, arith}
+use Rattle.std.proofs.lemmas.Bool.{eqb-false, or_parts}
 use Rattle.theory.specs.Terms.{Term}
 use Rattle.theory.specs.Terms.Term.{Var, Pi, Lam, App, Let}
 use Rattle.theory.specs.Substitutions.{inst}
@@ -10,7 +11,6 @@ use Rattle.tele_eq.specs.Dependences.{has_variable}
 use Rattle.tele_eq.specs.Environments.{Environment, put, put_under, put_variable}
 use Rattle.tele_eq.proofs.Carrying.{ups_by, inst-under, inst-none}
 use Rattle.unification.proofs.Cases.{below-or_from, first-of_two, second-of_two, first-of_three, second-of_three, third-of_three}
-use Rattle.std.proofs.lemmas.Bool.{eqb-false, or_parts}
 
 -- behind the depth d the environment lifts its terms at the positions below `size`
 abbrev pub Lifts : Environment → (size d : ℕ) → Type 0

@@ -2,6 +2,7 @@
 -- for each variable.
 use Rattle.std.proofs.Common.{◌≡◌, ◌≢◌, ℕ, ◌≤◌, false, Option, Some, IfSome, Result, Ok, Err, IfOk, [], length, All, refl, subst, arith, ap, ◌∙◌}
 use Rattle.std.proofs.lemmas.List.Elements.{All-nil, All-cons}
+use Rattle.std.proofs.lemmas.Result.{IfOk-at_ok}
 use Rattle.theory.specs.Signatures.{Signature}
 use Rattle.theory.proofs.ScopedTypes.{length-variables}
 use Rattle.core_terms.specs.Answers.{on_answer}
@@ -21,7 +22,6 @@ use Rattle.unification.proofs.RunLaws.{runs-end}
 use Rattle.unification.proofs.TurnLaws.{turn-at, turn-spends}
 use Rattle.unification.proofs.TurnProperties.{IsTurn}
 use Rattle.unification.proofs.ScopedEquations.{start-is}
-use Rattle.std.proofs.lemmas.Result.{IfOk-at_ok}
 
 -- ---- runs
 

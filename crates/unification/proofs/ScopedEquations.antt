@@ -1,6 +1,7 @@
 -- Equations between scoped terms at the places of a scoped telescope, and the states from which problems are solved.
 use Rattle.std.proofs.Common.{◌≡◌, ℕ, suc, ◌+◌, ◌<◌, Bool, true, false, cond, nat_le, List, [], ◌∷◌, length, map, All, Ok, Err, IfOk, refl, sym, subst, arith}
 use Rattle.std.proofs.lemmas.List.Elements.{All-head, All-tail}
+use Rattle.std.proofs.lemmas.Result.{IfOk-at_ok}
 use Rattle.theory.specs.Terms.{Term, top}
 use Rattle.theory.specs.Telescopes.{Telescope}
 use Rattle.theory.specs.Signatures.{Signature, equation}
@@ -17,9 +18,8 @@ use Rattle.tele_eq.proofs.ScopeLaws.{scoped_equations}
 use Rattle.unification.specs.Heights.{bounded_items, bounded_state, equations_made, most_places, are_low_items, start_made}
 use Rattle.unification.specs.Laws.{StartScoped}
 use Rattle.unification.specs.ScopedStates.{AreScopedEquations, IsScopedState}
-use Rattle.unification.proofs.ScopedRecords.{variables-scoped}
 use Rattle.unification.specs.States.{Problem, State, equations_at, starting}
-use Rattle.std.proofs.lemmas.Result.{IfOk-at_ok}
+use Rattle.unification.proofs.ScopedRecords.{variables-scoped}
 
 -- ---- their forms
 

@@ -1,13 +1,18 @@
 -- Searches below constructors: a variable that is found stands there, in a term that the searched one converts to.
 use Rattle.std.proofs.Common.{◌≡◌, ℕ, zero, suc, ◌≤◌, ◌⊎◌, inl, inr, ◌==◌, nat_lt, Bool, true, false, cond, IsTrue, Option, Some, None, option_map, IfSome, Ok, List, [], ◌∷◌, ◌++◌, slice_get, refl, ap, sym, subst as transport, ◌∙◌, arith, Err}
+use Rattle.std.proofs.lemmas.Bool.{eqb-true}
+use Rattle.std.proofs.lemmas.List.Elements.{All-cons, All-head, All-tail}
+use Rattle.std.specs.List.{All}
 use Rattle.theory.specs.Terms.{Term, height}
 use Rattle.theory.specs.Terms.Term.{Var, Con}
 use Rattle.theory.specs.Families.{Argument, Family}
 use Rattle.theory.specs.Signatures.{Signature, FamilyOf, IsEntryAt}
 use Rattle.theory.specs.Conversion.{Converts}
 use Rattle.theory.specs.Conversion.Converts.{same}
+use Rattle.theory.specs.SignatureScopes.{IsScoped, IsScopedSignature}
 use Rattle.theory.proofs.Congruence.{converts-trans}
 use Rattle.core_terms.specs.Answers.{and_next}
+use Rattle.core_terms.specs.declared.stop.Stop.TheVariants.{Deep}
 use Rattle.kernel_reduce.specs.Reduction.{answered, whnf_of}
 use Rattle.tele_eq.specs.ReflexivityLaws.{EachConverts}
 use Rattle.unification.specs.Built.{Built, built_of, is_direct, greatest_level}
@@ -16,16 +21,11 @@ use Rattle.unification.specs.Paths.{IsArgument, HasBelow}
 use Rattle.unification.specs.Paths.HasBelow.{there, further}
 use Rattle.unification.specs.Solutions.{variable_in}
 use Rattle.unification.proofs.UnderInstances.{each-append, each-applied, each-same, each-length}
-use Rattle.std.proofs.lemmas.Bool.{eqb-true}
 use Rattle.unification.proofs.BuiltScopes.{built-scoped, with_arguments-scoped}
 use Rattle.unification.proofs.Constructors.{IsBuiltTerm, built-is, one-family}
 use Rattle.unification.proofs.Variables.{variable-is}
-use Rattle.theory.specs.SignatureScopes.{IsScoped, IsScopedSignature}
-use Rattle.std.proofs.lemmas.List.Elements.{All-cons, All-head, All-tail}
-use Rattle.std.specs.List.{All}
 use Rattle.unification.proofs.Reducts.{IsReduct, reduced-within}
 use Rattle.unification.proofs.SpentUnits.{Within, answered-within, and_next-within, cond-within, cond-within_at}
-use Rattle.core_terms.specs.declared.stop.Stop.TheVariants.{Deep}
 
 -- ---- what is found
 

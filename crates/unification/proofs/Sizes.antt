@@ -4,12 +4,12 @@ use Rattle.theory.specs.Terms.{Term}
 use Rattle.theory.specs.Terms.Term.{Var, Sort, Pi, Lam, App, Let}
 use Rattle.theory.specs.Telescopes.{Telescope}
 use Rattle.theory.specs.Spines.{spine_of}
+use Rattle.theory.specs.Signatures.{Signature}
 use Rattle.tele_eq.specs.Items.{Item}
 use Rattle.tele_eq.specs.Environments.{Environment, put_variable, put_under, put}
 use Rattle.unification.specs.States.{Equation, equations_at}
 use Rattle.unification.specs.Moving.{moved}
 use Rattle.unification.specs.Runs.{size_of, size_of_sides}
-use Rattle.theory.specs.Signatures.{Signature}
 use Rattle.unification.specs.Built.{Built, built_of}
 use Rattle.unification.proofs.Constructors.{found}
 

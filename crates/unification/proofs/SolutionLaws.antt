@@ -10,6 +10,7 @@ use Rattle.theory.specs.Terms.{Term}
 use Rattle.core_terms.specs.CaseTrees.{Step}
 use Rattle.tele_eq.specs.ReflexivityLaws.{EachConverts}
 use Rattle.tele_eq.specs.TelescopicEquality.{equations}
+use Rattle.tele_eq.proofs.Growing.{snoc-append}
 use Rattle.unification.specs.Coherence.{IsCoherent}
 use Rattle.unification.specs.Heights.{start_made}
 use Rattle.unification.specs.Laws.{under, SolvedIsUnified, Chain, IsReached, RunUnifies}
@@ -23,7 +24,6 @@ use Rattle.unification.proofs.FollowingRuns.{run-follows}
 use Rattle.unification.proofs.ScopedEquations.{start-is}
 use Rattle.unification.proofs.SolvedProblems.{IsUnifiedIn, sides-at, chain-unifies}
 use Rattle.unification.proofs.UnderInstances.{closed-bodies, inst-agree, fill-variables}
-use Rattle.tele_eq.proofs.Growing.{snoc-append}
 use Rattle.unification.proofs.Counts.{length-equations}
 
 -- ---- solved problems

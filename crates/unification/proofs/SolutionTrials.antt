@@ -165,11 +165,11 @@ state_solved-is S s left e x A other step (Some u) rest at le solving h =
     p : ℕ
     p = length s.context - (x + 1)
 
-solve_side-comes : (S : Signature) (s : State) (left : ℕ) (e : Equation) (A other : Term) (step : ℕ → Term → Step) (found : Option ℕ) (rest : ℕ)
+solve_side-is : (S : Signature) (s : State) (left : ℕ) (e : Equation) (A other : Term) (step : ℕ → Term → Step) (found : Option ℕ) (rest : ℕ)
     → slice_get s.equations 0 ≡ Some e → rest ≤ left → ((x : ℕ) → found ≡ Some x → Solving S s e A other x (step x))
     → Comes (IsTurn S s left) (solve_side S s e A other step found) rest
-solve_side-comes S s left e A other step None rest at le solving = none-comes (IsTurn S s left) rest
-solve_side-comes S s left e A other step (Some x) rest at le solving =
+solve_side-is S s left e A other step None rest at le solving = none-comes (IsTurn S s left) rest
+solve_side-is S s left e A other step (Some x) rest at le solving =
     and_next-within (λ pair end. IfSome (turn_by (step x) pair) (λ turn. IsTurn S s left turn end)) (Found (IsTurn S s left))
     (side_solved S s e x A other rest) _ rest
     (and_next-within (Found (λ u end. IsSolution S s x A other u)) (λ pair end. IfSome (turn_by (step x) pair) (λ turn. IsTurn S s left turn end))
@@ -180,19 +180,19 @@ solve_side-comes S s left e A other step (Some x) rest at le solving =
 
 -- ---- the rule
 
-solve_sides-comes : (S : Signature) (s : State) (left : ℕ) (e : Equation) (others : List Equation) → s.equations ≡ e ∷ others → (A u v : Term)
+solve_sides-is : (S : Signature) (s : State) (left : ℕ) (e : Equation) (others : List Equation) → s.equations ≡ e ∷ others → (A u v : Term)
     → IsReduct S (type_in e.type) A → IsReduct S e.left u → IsReduct S e.right v → (rest : ℕ) → rest ≤ left
     → Comes (IsTurn S s left) (solve_sides S s e A u v) rest
-solve_sides-comes S s left e others first A u v hA hu hv rest le =
+solve_sides-is S s left e others first A u v hA hu hv rest le =
     or_else-comes (IsTurn S s left) (solve_side S s e A u (right_step A v) (variable_in v)) (solve_side S s e A v (left_step A u) (variable_in u)) rest
-    (solve_side-comes S s left e A u (right_step A v) (variable_in v) rest (first-at s e others first) le to_left)
-    (λ end l. solve_side-comes S s left e A v (left_step A u) (variable_in u) end (first-at s e others first) (omega arith) to_right)
+    (solve_side-is S s left e A u (right_step A v) (variable_in v) rest (first-at s e others first) le to_left)
+    (λ end l. solve_side-is S s left e A v (left_step A u) (variable_in u) end (first-at s e others first) (omega arith) to_right)
   where
     to_left : (x : ℕ) → variable_in v ≡ Some x → Solving S s e A u x (right_step A v x)
     to_left x is w h = (
       λ k e. cc,
       λ ready scoped.
-          (let is_tried = tried S s e others first ready scoped in
+          (let is_tried = tried S s e others first scoped in
           let n = length s.context in
           let type = hA.scoped n ready.scoped (type-scoped S s e is_tried) in
           let right = hv.scoped n ready.scoped is_tried.equation.right in
@@ -218,7 +218,7 @@ solve_sides-comes S s left e others first A u v hA hu hv rest le =
     to_right x is w h = (
       λ k e. cc,
       λ ready scoped.
-          (let is_tried = tried S s e others first ready scoped in
+          (let is_tried = tried S s e others first scoped in
           let n = length s.context in
           let type = hA.scoped n ready.scoped (type-scoped S s e is_tried) in
           let left = hu.scoped n ready.scoped is_tried.equation.left in
@@ -240,15 +240,15 @@ solve_sides-comes S s left e others first A u v hA hu hv rest le =
           }),
     )
 
-with_variable-comes : (S : Signature) (s : State) (left : ℕ) (e : Equation) (others : List Equation) → s.equations ≡ e ∷ others → (u v : Term)
+with_variable-is : (S : Signature) (s : State) (left : ℕ) (e : Equation) (others : List Equation) → s.equations ≡ e ∷ others → (u v : Term)
     → IsReduct S e.left u → IsReduct S e.right v → (from_left from_right : Option ℕ) (rest : ℕ) → rest ≤ left
     → Comes (IsTurn S s left) (with_variable S s e u v from_left from_right) rest
-with_variable-comes S s left e others first u v hu hv from_left from_right rest le = by from_left from_right
+with_variable-is S s left e others first u v hu hv from_left from_right rest le = by from_left from_right
   where
     goes : Within rest (Found (IsTurn S s left)) (and_next (tidy_of S rest (type_in e.type)) (λ A end. solve_sides S s e A u v end))
     goes =
         reduced-within (Found (IsTurn S s left)) S false (type_in e.type) rest _ (λ A end l h.
-        solve_sides-comes S s left e others first A u v h.reduct hu hv end (omega arith))
+        solve_sides-is S s left e others first A u v h.reduct hu hv end (omega arith))
 
     by : (o o' : Option ℕ) → Comes (IsTurn S s left) (with_variable S s e u v o o') rest
     by None None = none-comes (IsTurn S s left) rest
@@ -260,4 +260,4 @@ pub solution_trial-is : (S : Signature) (s : State) (left : ℕ) (e : Equation) 
     → Comes (IsTurn S s left) (solution_trial S s e) rest
 solution_trial-is S s left e others first rest le =
     on_tidied-comes (IsTurn S s left) S e.left e.right _ rest (λ u v end l hu hv.
-    with_variable-comes S s left e others first u v hu hv (variable_in u) (variable_in v) end (omega arith))
+    with_variable-is S s left e others first u v hu hv (variable_in u) (variable_in v) end (omega arith))

@@ -1,5 +1,6 @@
 -- The context behind a solution: the other variables stand in it once each, and each type is over what stands before it.
 use Rattle.std.proofs.Common.{◌≡◌, ℕ, zero, suc, ◌+◌, ◌-◌, ◌<◌, ◌≤◌, ◌⊎◌, inl, inr, Bool, true, false, cond, List, [], ◌∷◌, ◌++◌, length, drop, refl, sym, ap, ◌∙◌, subst, arith, get_or-drop, length-drop, length-append, drop_of_length-le}
+use Rattle.std.proofs.lemmas.Bool.{not-true}
 use Rattle.theory.specs.Terms.{Term}
 use Rattle.theory.specs.Terms.Term.{Sort}
 use Rattle.theory.specs.Telescopes.{Telescope}
@@ -18,7 +19,6 @@ use Rattle.unification.proofs.Cases.{either, here-or_below}
 use Rattle.unification.proofs.Dependants.{dependants-order, dependants-below, none-occurs, type-lacks}
 use Rattle.unification.proofs.Levels.{among-cases, among-own, among-left, among-right, not-among-head, not-among-tail, among-from, place-there, place-before, each-among, among-without, length-without}
 use Rattle.unification.proofs.Occurring.{put-where}
-use Rattle.std.proofs.lemmas.Bool.{not-true}
 
 -- variable p and its dependants
 abbrev pub left_out : Telescope → (p : ℕ) → List ℕ

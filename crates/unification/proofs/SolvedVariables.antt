@@ -10,13 +10,13 @@ use Rattle.theory.proofs.Instances.{inst-same, ren-inst}
 use Rattle.core_terms.specs.Levels.{variable}
 use Rattle.tele_eq.specs.Dependences.{has_variable}
 use Rattle.tele_eq.specs.Environments.{Environment, put}
+use Rattle.tele_eq.proofs.Carrying.{where-same, where-other}
 use Rattle.unification.specs.Occurrences.{dependants, has_level, lacks, order_without, place_in}
 use Rattle.unification.specs.Solving.{reordered, solved}
 use Rattle.unification.proofs.Cases.{below-or_from, same-or_not, first-of_two, second-of_two}
 use Rattle.unification.proofs.Levels.{place-there}
 use Rattle.unification.proofs.Puts.{Lifts, stands, put-is_inst, put-without}
 use Rattle.unification.proofs.SolvedContexts.{other-among}
-use Rattle.tele_eq.proofs.Carrying.{where-same, where-other}
 
 -- each other variable has a place in the order behind a solution
 other-place : (context : Telescope) (p j : ℕ) → j < length context → (j ≡ p → ⊥)

@@ -1,8 +1,9 @@
 -- The laws of turns: they give no units back, one is always there, one that goes on makes the state less, and they follow the rules.
 use Rattle.std.proofs.Common.{◌≡◌, ◌≢◌, ℕ, Option, Some, None, Result, Ok, Err, IfOk, List, [], ◌∷◌, length, refl, subst, arith, ◌≤◌, IfSome}
 use Rattle.theory.specs.Signatures.{Signature}
-use Rattle.core_terms.proofs.Answers.{and_next-has, Answers}
 use Rattle.core_terms.specs.declared.stop.Stop.{Stop}
+use Rattle.core_terms.proofs.Answers.{and_next-has, Answers}
+use Rattle.kernel_reduce.specs.Reduction.{answered}
 use Rattle.unification.specs.States.{Equation, State}
 use Rattle.unification.specs.Turns.{Turn, Done, Goes, Trial, tidied, unless_found, or_else, Fails, Sticks}
 use Rattle.unification.specs.Groups.{group_trials}
@@ -21,26 +22,25 @@ use Rattle.unification.proofs.DeletionTrials.{deletion_trial-is, stuck_trial-is}
 use Rattle.unification.proofs.SpentUnits.{Leaves, any-answer}
 use Rattle.unification.proofs.Trials.{Found, Comes, applies-comes, or_else-comes}
 use Rattle.unification.proofs.TurnProperties.{FollowsWhole, IsTurn}
-use Rattle.kernel_reduce.specs.Reduction.{answered}
 
-first_trials-come : (S : Signature) (s : State) (left : ℕ) (e : Equation) (others : List Equation) → s.equations ≡ e ∷ others → (rest : ℕ) → rest ≤ left
+first_trials-are : (S : Signature) (s : State) (left : ℕ) (e : Equation) (others : List Equation) → s.equations ≡ e ∷ others → (rest : ℕ) → rest ≤ left
     → Comes (IsTurn S s left) (first_trials S s e) rest
-first_trials-come S s left e others first rest le =
+first_trials-are S s left e others first rest le =
     or_else-comes (IsTurn S s left) (solution_trial S s e) _ rest (solution_trial-is S s left e others first rest le) (λ a la.
     or_else-comes (IsTurn S s left) (constructor_trial S s e) _ a (constructor_trial-is S s left e others first a (omega arith)) (λ b lb.
     or_else-comes (IsTurn S s left) (cycle_trial S e) _ b (cycle_trial-is S s left e others first b) (λ c lc.
     or_else-comes (IsTurn S s left) (deletion_trial S s e) (stuck_trial S e) c (deletion_trial-is S s left e others first c (omega arith)) (λ d ld.
     stuck_trial-is S s left e others first d))))
 
-trials-come : (S : Signature) (s : State) (left : ℕ) (equations : List Equation) → s.equations ≡ equations
+trials-are : (S : Signature) (s : State) (left : ℕ) (equations : List Equation) → s.equations ≡ equations
     → Comes (IsTurn S s left) (trials S s equations) left
-trials-come S s left [] none = applies-comes (IsTurn S s left) Done left (record { allowed = tt; right = λ ready scoped. record { good = (tt, tt); follows = none } })
-trials-come S s left (e ∷ others) first =
+trials-are S s left [] none = applies-comes (IsTurn S s left) Done left (record { allowed = tt; right = λ ready scoped. record { good = (tt, tt); follows = none } })
+trials-are S s left (e ∷ others) first =
     or_else-comes (IsTurn S s left) (group_trials S s (length others)) (first_trials S s e) left
-    (group_trials-are S s left (length others) left (omega arith)) (first_trials-come S s left e others first)
+    (group_trials-are S s left (length others) left (omega arith)) (first_trials-are S s left e others first)
 
 pub turn-is : (S : Signature) (s : State) (left : ℕ) → Comes (IsTurn S s left) (turn_of S s) left
-turn-is S s left = trials-come S s left s.equations refl
+turn-is S s left = trials-are S s left s.equations refl
 
 -- the turn that is answered
 pub turn-at : (S : Signature) (s : State) (left rest : ℕ) (turn : Turn) → turn_of S s left ≡ answered (Ok (Some turn)) rest → IsTurn S s left turn rest

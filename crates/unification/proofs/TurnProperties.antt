@@ -118,16 +118,12 @@ first-at s e others first = ap (λ equations. slice_get equations 0) first
 
 -- the equation e stands first in the scoped state s
 pub record IsTried (S : Signature) (s : State) (e : Equation) : Type 0 where
-  pub ready : IsReady S
-  pub state : IsScopedState S s
   pub others : List Equation
   pub first : s.equations ≡ e ∷ others
   pub equation : IsScopedEquation S (length s.context) 0 e
 
-pub tried : (S : Signature) (s : State) (e : Equation) (others : List Equation) → s.equations ≡ e ∷ others → IsReady S → IsScopedState S s → IsTried S s e
-tried S s e others first ready scoped = record {
-  ready = ready;
-  state = scoped;
+pub tried : (S : Signature) (s : State) (e : Equation) (others : List Equation) → s.equations ≡ e ∷ others → IsScopedState S s → IsTried S s e
+tried S s e others first scoped = record {
   others = others;
   first = first;
   equation = (transport (AreScopedEquations S (length s.context) 0) first scoped.equations).0;
