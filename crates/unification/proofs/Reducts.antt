@@ -37,7 +37,8 @@ whnf-reduct S delta left t =
     by (Ok u) h k = record { converts = h.converts; scoped = k }
     by (Err e) h k = tt
 
-abbrev Stays : (left : ℕ) → Term → Term → ℕ → Type 0
+-- where no unit is spent, the answer is the term itself
+abbrev pub Stays : (left : ℕ) → Term → Term → ℕ → Type 0
 Stays left t u rest = rest ≡ left → u ≡ t
 
 if_low-leaves : {A : Type 0} (P : A → ℕ → Type 0) (test : Bool) (next : ℕ → Spent A) (left : ℕ) → Leaves P (next left).0 (next left).1
@@ -58,7 +59,7 @@ with_unit-stays t left next (Some u) h = fewer (next u).0 (next u).1 (h u)
     fewer (Ok v) rest le = λ e. absurd (omega arith)
     fewer (Err e) rest le = tt
 
-whnf-stays : (S : Signature) (delta : Bool) (left : ℕ) (t : Term) → Leaves (Stays left t) (whnf_of S delta left t).0 (whnf_of S delta left t).1
+pub whnf-stays : (S : Signature) (delta : Bool) (left : ℕ) (t : Term) → Leaves (Stays left t) (whnf_of S delta left t).0 (whnf_of S delta left t).1
 whnf-stays S delta zero t = if_low-leaves (Stays zero t) (is_low t) _ zero (without_units-stays t (step_of S delta t))
 whnf-stays S delta (suc left) t =
     if_low-leaves (Stays (suc left) t) (is_low t) _ (suc left)

@@ -185,11 +185,11 @@ solve_sides-is : (S : Signature) (s : State) (left : ℕ) (e : Equation) (others
     → Comes (IsTurn S s left) (solve_sides S s e A u v) rest
 solve_sides-is S s left e others first A u v hA hu hv rest le =
     or_else-comes (IsTurn S s left) (solve_side S s e A u (right_step A v) (variable_in v)) (solve_side S s e A v (left_step A u) (variable_in u)) rest
-    (solve_side-is S s left e A u (right_step A v) (variable_in v) rest (first-at s e others first) le to_left)
-    (λ end l. solve_side-is S s left e A v (left_step A u) (variable_in u) end (first-at s e others first) (omega arith) to_right)
+    (solve_side-is S s left e A u (right_step A v) (variable_in v) rest (first-at s e others first) le solves_right)
+    (λ end l. solve_side-is S s left e A v (left_step A u) (variable_in u) end (first-at s e others first) (omega arith) solves_left)
   where
-    to_left : (x : ℕ) → variable_in v ≡ Some x → Solving S s e A u x (right_step A v x)
-    to_left x is w h = (
+    solves_right : (x : ℕ) → variable_in v ≡ Some x → Solving S s e A u x (right_step A v x)
+    solves_right x is w h = (
       λ k e. cc,
       λ ready scoped.
           (let is_tried = tried S s e others first scoped in
@@ -214,8 +214,8 @@ solve_sides-is S s left e others first A u v hA hu hv rest le =
           }),
     )
 
-    to_right : (x : ℕ) → variable_in u ≡ Some x → Solving S s e A v x (left_step A u x)
-    to_right x is w h = (
+    solves_left : (x : ℕ) → variable_in u ≡ Some x → Solving S s e A v x (left_step A u x)
+    solves_left x is w h = (
       λ k e. cc,
       λ ready scoped.
           (let is_tried = tried S s e others first scoped in

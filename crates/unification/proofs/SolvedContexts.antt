@@ -108,11 +108,11 @@ AreOver n p u context done (j ∷ rest) =
     ((i : ℕ) → i < j → has_variable (j - (i + 1)) (term_at context j) ≡ true → Stands n p u done i)
     × AreOver n p u context (done ++ j ∷ []) rest
 
-type-scoped : (S : Signature) (n : ℕ) (context : Telescope) (j : ℕ) → IsScopedTelescope S n context → IsScoped S (n + j) (term_at context j)
-type-scoped S n [] j h = sort-scoped 0
-type-scoped S n (a ∷ context) zero h = scoped_over_more S n (n + 0) a (omega arith) h.0
-type-scoped S n (a ∷ context) (suc j) h =
-    scoped_over_more S (n + 1 + j) (n + suc j) (term_at context j) (omega arith) (type-scoped S (n + 1) context j h.1)
+term_at-scoped : (S : Signature) (n : ℕ) (context : Telescope) (j : ℕ) → IsScopedTelescope S n context → IsScoped S (n + j) (term_at context j)
+term_at-scoped S n [] j h = sort-scoped 0
+term_at-scoped S n (a ∷ context) zero h = scoped_over_more S n (n + 0) a (omega arith) h.0
+term_at-scoped S n (a ∷ context) (suc j) h =
+    scoped_over_more S (n + 1 + j) (n + suc j) (term_at context j) (omega arith) (term_at-scoped S (n + 1) context j h.1)
 
 types-scoped : (S : Signature) (n p : ℕ) (u : Term) (context : Telescope) (order : List ℕ) → IsScopedTelescope S 0 context → IsScoped S n u
     → (done rest : List ℕ) (depth : ℕ) → order ≡ done ++ rest → depth ≡ length done → AreOver n p u context done rest
@@ -121,7 +121,7 @@ types-scoped S n p u context order scoped h done [] depth e d over = tt
 types-scoped S n p u context order scoped h done (j ∷ rest) depth e d over = (
   put-where S (solved n order p u) j depth (term_at context j)
       (λ i lt occurs d' deep. solved-scoped S n p u order done (j ∷ rest) i d' e h (over.0 i lt occurs) (omega arith))
-      (scoped_over_more S (0 + j) j (term_at context j) (omega arith) (type-scoped S 0 context j scoped)),
+      (scoped_over_more S (0 + j) j (term_at context j) (omega arith) (term_at-scoped S 0 context j scoped)),
   types-scoped S n p u context order scoped h (done ++ j ∷ []) rest (depth + 1) (e ∙ sym (snoc-append done j rest))
       (omega (arith, length-append done (j ∷ []))) over.1,
 )
