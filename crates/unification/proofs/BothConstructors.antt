@@ -23,7 +23,7 @@ use Rattle.unification.specs.Turns.{Goes, fails_at, goes_to}
 use Rattle.unification.proofs.BuiltScopes.{built-scoped}
 use Rattle.unification.proofs.Cases.{less-or_same}
 use Rattle.unification.proofs.Constructors.{built-is, same-constructor}
-use Rattle.unification.proofs.HeadForms.{AreSides}
+use Rattle.unification.proofs.HeadForms.{AreSides, Stay}
 use Rattle.unification.proofs.MovedStates.{IsInjection, injected_state-scoped, injection_made-has}
 use Rattle.unification.proofs.Sizes.{size_of_all, sides-append, sides-at, sides-moved, sides-behind, built-smaller}
 use Rattle.unification.proofs.Trials.{Comes, goes_to-comes}
@@ -58,7 +58,7 @@ injected-smaller S s k e b d n number f c ps at l r =
     omega arith
 
 injected-onward : (S : Signature) (s : State) (left k : ℕ) (e : Equation) (type l : Term) (b : Built) (r : Term) (d : Built) (f : Family) (ps : List Term)
-    (rest : ℕ) → slice_get s.equations k ≡ Some e → rest ≤ left → (rest ≡ left → (l ≡ e.left) × (r ≡ e.right)) → built_of S l ≡ Some b
+    (rest : ℕ) → slice_get s.equations k ≡ Some e → rest ≤ left → Stay left e.left e.right l r rest → built_of S l ≡ Some b
     → built_of S r ≡ Some d
     → IsOnward S s left (injection_step (k + 1) type l r b) (injected_state s (k + 1) b.n b.number f b.constructor ps b.arguments d.arguments) rest
 injected-onward S s left k e type l b r d f ps rest at le stay lb rd = record {
@@ -106,17 +106,16 @@ pub record IsInjective (S : Signature) (s : State) (k : ℕ) (e : Equation) (typ
   pub step : Steps S s (injection_step (k + 1) type (term_of b) (term_of d) b)
       (injected_state s (k + 1) b.n b.number f b.constructor ps b.arguments d.arguments)
 
-pub injects-is : (S : Signature) (s : State) (left k : ℕ) (e : Equation) (type : Term) (fits : Built → Bool) (all : ℕ) (l : Term) (b : Built) (r : Term)
-    (d : Built) (f : Family) (ps : List Term) (rest middle : ℕ) → slice_get s.equations k ≡ Some e → all ≤ left → middle ≤ all → rest ≤ middle
-    → AreSides S fits all e.left e.right l b r d middle → (b.number == d.number) ≡ true
-    → (IsReady S → IsScopedState S s → IsInjective S s k e type b d f ps)
+pub injects-is : (S : Signature) (s : State) (left k : ℕ) (e : Equation) (type : Term) (fits : Built → Bool) (l : Term) (b : Built) (r : Term) (d : Built)
+    (f : Family) (ps : List Term) (rest : ℕ) → slice_get s.equations k ≡ Some e → rest ≤ left → AreSides S fits e.left e.right l b r d
+    → Stay left e.left e.right l r rest → (b.number == d.number) ≡ true → (IsReady S → IsScopedState S s → IsInjective S s k e type b d f ps)
     → Comes (IsTurn S s left) (goes_to (injection_step (k + 1) type l r b) (injection_made s (k + 1) b.n b.number f b.constructor ps b.arguments d.arguments)) rest
-injects-is S s left k e type fits all l b r d f ps rest middle at le le' le'' sides number injective =
+injects-is S s left k e type fits l b r d f ps rest at le sides stay number injective =
     goes_to-comes (IsTurn S s left) (injection_step (k + 1) type l r b) _ rest
     (injection_made-has (λ t. IsTurn S s left (Goes (injection_step (k + 1) type l r b) t) rest) s (k + 1) b.n b.number f b.constructor ps b.arguments d.arguments
     (record {
       allowed =
-          injected-onward S s left k e type l b r d f ps rest at (omega arith) (λ same. sides.stay (omega arith)) sides.left_built sides.right_built;
+          injected-onward S s left k e type l b r d f ps rest at le stay sides.left_built sides.right_built;
       right = λ ready scoped.
           (let is = injective ready scoped in
           let hl : IsScoped S (length s.context) l = sides.left_reduct.scoped _ ready.scoped is.sides.0 in
@@ -143,11 +142,10 @@ pub record IsConflicting (S : Signature) (s : State) (k : ℕ) (e : Equation) (t
   pub type_scoped : IsScoped S (length s.context + k) type
   pub evidence : IsAbsurd S s (conflict_step (k + 1) type (term_of b) (term_of d) b d)
 
-pub conflicts-is : (S : Signature) (s : State) (left k : ℕ) (e : Equation) (type : Term) (fits : Built → Bool) (all : ℕ) (l : Term) (b : Built) (r : Term)
-    (d : Built) (rest middle : ℕ) → AreSides S fits all e.left e.right l b r d middle
-    → (IsReady S → IsScopedState S s → IsConflicting S s k e type b d)
+pub conflicts-is : (S : Signature) (s : State) (left k : ℕ) (e : Equation) (type : Term) (fits : Built → Bool) (l : Term) (b : Built) (r : Term) (d : Built)
+    (rest : ℕ) → AreSides S fits e.left e.right l b r d → (IsReady S → IsScopedState S s → IsConflicting S s k e type b d)
     → Comes (IsTurn S s left) (fails_at S (conflict_step (k + 1) type l r b d) e.left e.right) rest
-conflicts-is S s left k e type fits all l b r d rest middle sides conflicting =
+conflicts-is S s left k e type fits l b r d rest sides conflicting =
     fails_at-is S s left (conflict_step (k + 1) type l r b d) e.left e.right rest (λ k is. cc) (λ ready scoped.
     let is = conflicting ready scoped in
     record {
@@ -168,10 +166,10 @@ conflicts-is S s left k e type fits all l b r d rest middle sides conflicting =
     })
 
 -- the sides convert to the constructors
-pub left-converts : (S : Signature) (fits : Built → Bool) (all : ℕ) (u v l : Term) (b : Built) (r : Term) (d : Built) (rest : ℕ)
-    → AreSides S fits all u v l b r d rest → Converts S u (term_of b)
-left-converts S fits all u v l b r d rest sides = transport (Converts S u) (built-is S l b sides.left_built).term sides.left_reduct.converts
+pub left-converts : (S : Signature) (fits : Built → Bool) (u v l : Term) (b : Built) (r : Term) (d : Built) → AreSides S fits u v l b r d
+    → Converts S u (term_of b)
+left-converts S fits u v l b r d sides = transport (Converts S u) (built-is S l b sides.left_built).term sides.left_reduct.converts
 
-pub right-converts : (S : Signature) (fits : Built → Bool) (all : ℕ) (u v l : Term) (b : Built) (r : Term) (d : Built) (rest : ℕ)
-    → AreSides S fits all u v l b r d rest → Converts S v (term_of d)
-right-converts S fits all u v l b r d rest sides = transport (Converts S v) (built-is S r d sides.right_built).term sides.right_reduct.converts
+pub right-converts : (S : Signature) (fits : Built → Bool) (u v l : Term) (b : Built) (r : Term) (d : Built) → AreSides S fits u v l b r d
+    → Converts S v (term_of d)
+right-converts S fits u v l b r d sides = transport (Converts S v) (built-is S r d sides.right_built).term sides.right_reduct.converts

@@ -16,6 +16,7 @@ use Rattle.kernel_reduce.specs.Entries.{family_in, family_at, constructor_at}
 use Rattle.kernel_reduce.proofs.LookUps.{family-found}
 use Rattle.unification.specs.Built.{Built, term_of, with_all, with_spine, built_of, greatest_level, is_fitting, has_no_indices}
 use Rattle.unification.specs.Paths.{IsBuilt}
+use Rattle.theory.proofs.Instantiation.{inst-applied}
 
 -- the arguments `us` of a head h are those of a constructor with its record
 pub record IsFound (S : Signature) (h : Term) (us : List Term) (b : Built) : Type 0 where
@@ -142,6 +143,10 @@ found-again S h us b is =
 -- the constructor at instances of its parameters and arguments
 abbrev pub instance_of : (ℕ → Term) → Built → Built
 instance_of s b = record b { parameters = map (inst s) b.parameters; arguments = map (inst s) b.arguments }
+
+pub term-instance : (s : ℕ → Term) (b : Built) → inst s (term_of b) ≡ term_of (instance_of s b)
+term-instance s b =
+    inst-applied s (Con b.n b.number) (b.parameters ++ b.arguments) ∙ ap (applied (Con b.n b.number)) (map-append (inst s) b.parameters b.arguments)
 
 pub head-instance : (s : ℕ → Term) (t : Term) (n number : ℕ) → head_of t ≡ Con n number
     → (head_of (inst s t) ≡ Con n number) × (spine_of (inst s t) ≡ map (inst s) (spine_of t))

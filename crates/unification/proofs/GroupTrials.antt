@@ -25,7 +25,7 @@ use Rattle.unification.proofs.BothConstructors.{injects-is, conflicts-is, left-c
 use Rattle.unification.proofs.Comparisons.{compared-within}
 use Rattle.unification.proofs.Constructors.{built-is}
 use Rattle.unification.proofs.Counts.{length-equations, length-types}
-use Rattle.unification.proofs.HeadForms.{AreSides, on_constructors-comes}
+use Rattle.unification.proofs.HeadForms.{AreSides, Stay, on_constructors-comes}
 use Rattle.unification.proofs.Memberships.{IsMembership, membership-is}
 use Rattle.unification.proofs.MovedEquations.{equations-at}
 use Rattle.unification.proofs.Reducts.{IsReduct, reduced-within}
@@ -102,13 +102,13 @@ last-scoped S s k e at scoped =
     transport (λ i. IsScopedEquation S (length s.context) i e) (let none : 0 + k ≡ k = omega arith in none)
     (transport (λ o. IfSome o (IsScopedEquation S (length s.context) (0 + k))) at (equations-at S (length s.context) 0 k s.equations scoped.equations))
 
-group_turn-is : (S : Signature) (s : State) (left k : ℕ) (e : Equation) (type : Term) (m : Membership) → IsLast S s k e type m → (all : ℕ) → all ≤ left
-    → (l : Term) (b : Built) (r : Term) (d : Built) (middle : ℕ) → middle ≤ all → AreSides S (λ b. b.n == m.n) all e.left e.right l b r d middle
-    → EachConverts S (types_as_they_stand (take (k + 1) s.equations)) (family_equations m (take (k + 1) s.equations)) → (rest : ℕ) → rest ≤ middle
-    → Comes (IsTurn S s left) (group_turn S s k e m type l b r d) rest
-group_turn-is S s left k e type m last all le l b r d middle le' sides types rest le'' =
+group_turn-is : (S : Signature) (s : State) (left k : ℕ) (e : Equation) (type : Term) (m : Membership) → IsLast S s k e type m → (l : Term) (b : Built)
+    (r : Term) (d : Built) → AreSides S (λ b. b.n == m.n) e.left e.right l b r d
+    → EachConverts S (types_as_they_stand (take (k + 1) s.equations)) (family_equations m (take (k + 1) s.equations)) → (rest : ℕ) → rest ≤ left
+    → Stay left e.left e.right l r rest → Comes (IsTurn S s left) (group_turn S s k e m type l b r d) rest
+group_turn-is S s left k e type m last l b r d sides types rest le stay =
     cond-comes (IsTurn S s left) (b.number == d.number) _ _ rest
-    (λ number. injects-is S s left k e type (λ b. b.n == m.n) all l b r d m.family m.parameters rest middle last.at le le' le'' sides number (λ ready scoped.
+    (λ number. injects-is S s left k e type (λ b. b.n == m.n) l b r d m.family m.parameters rest last.at le sides stay number (λ ready scoped.
     let there = last-scoped S s k e last.at scoped in
     let shown = last.place.scoped (length s.context + k) ready.scoped there.place in
     record {
@@ -120,7 +120,7 @@ group_turn-is S s left k e type m last all le l b r d middle le' sides types res
           inject_group s k m.family m.parameters type b d (built-is S l b sides.left_built).built (built-is S r d sides.right_built).built sides.family
           (eqb-true b.number d.number number) group;
     }))
-    (λ other. conflicts-is S s left k e type (λ b. b.n == m.n) all l b r d rest middle sides (λ ready scoped.
+    (λ other. conflicts-is S s left k e type (λ b. b.n == m.n) l b r d rest sides (λ ready scoped.
     let there = last-scoped S s k e last.at scoped in
     record {
       sides = (there.left, there.right);
@@ -145,32 +145,31 @@ group_turn-is S s left k e type m last all le l b r d middle le' sides types res
           members = last.some;
           place = last.place.converts;
           form = last.membership.form;
-          left = left-converts S (λ b. b.n == m.n) all e.left e.right l b r d middle sides;
-          right = right-converts S (λ b. b.n == m.n) all e.left e.right l b r d middle sides;
+          left = left-converts S (λ b. b.n == m.n) e.left e.right l b r d sides;
+          right = right-converts S (λ b. b.n == m.n) e.left e.right l b r d sides;
           types = types;
         })
 
-if_holds-is : (S : Signature) (s : State) (left k : ℕ) (e : Equation) (type : Term) (m : Membership) → IsLast S s k e type m → (all : ℕ) → all ≤ left
-    → (l : Term) (b : Built) (r : Term) (d : Built) (middle : ℕ) → middle ≤ all → AreSides S (λ b. b.n == m.n) all e.left e.right l b r d middle
-    → (holds : Bool)
+if_holds-is : (S : Signature) (s : State) (left k : ℕ) (e : Equation) (type : Term) (m : Membership) → IsLast S s k e type m → (l : Term) (b : Built)
+    (r : Term) (d : Built) → AreSides S (λ b. b.n == m.n) e.left e.right l b r d → (holds : Bool)
     → (IsTrue holds → EachConverts S (types_as_they_stand (take (k + 1) s.equations)) (family_equations m (take (k + 1) s.equations)))
-    → (rest : ℕ) → rest ≤ middle → Comes (IsTurn S s left) (if_holds holds (group_turn S s k e m type l b r d)) rest
-if_holds-is S s left k e type m last all le l b r d middle le' sides true types rest le'' =
-    group_turn-is S s left k e type m last all le l b r d middle le' sides (types refl) rest le''
-if_holds-is S s left k e type m last all le l b r d middle le' sides false types rest le'' = none-comes (IsTurn S s left) rest
+    → (rest : ℕ) → rest ≤ left → Stay left e.left e.right l r rest → Comes (IsTurn S s left) (if_holds holds (group_turn S s k e m type l b r d)) rest
+if_holds-is S s left k e type m last l b r d sides true types rest le stay =
+    group_turn-is S s left k e type m last l b r d sides (types refl) rest le stay
+if_holds-is S s left k e type m last l b r d sides false types rest le stay = none-comes (IsTurn S s left) rest
 
 on_membership-is : (S : Signature) (s : State) (left k : ℕ) (e : Equation) (type : Term) → slice_get s.equations k ≡ Some e → k ≢ 0
     → IsReduct S e.place.type type → (o : Option Membership) → membership_of S k type ≡ o → (rest : ℕ) → rest ≤ left
     → Comes (IsTurn S s left) (on_membership S s k e type o) rest
 on_membership-is S s left k e type at some place None is rest le = none-comes (IsTurn S s left) rest
 on_membership-is S s left k e type at some place (Some m) is rest le =
-    on_constructors-comes (IsTurn S s left) S (λ b. b.n == m.n) e.left e.right _ rest (λ l b r d middle le' sides.
+    on_constructors-comes (IsTurn S s left) S (λ b. b.n == m.n) e.left e.right _ rest (λ l b r d middle le' sides stay.
     and_next-within (AllConvert S (types_as_they_stand (take (k + 1) s.equations)) (family_equations m (take (k + 1) s.equations))) (Found (IsTurn S s left))
     (are_equations_of S m (take (k + 1) s.equations) middle) _ middle
     (are_equations-within S m (take (k + 1) s.equations) (length-group k s.equations e at ∙ ap (λ i. i + 1) (sym membership.indices)) middle)
     (λ holds end le'' types.
-    if_holds-is S s left k e type m (record { at = at; some = some; place = place; membership = membership }) rest le l b r d middle le' sides holds types
-    end le''))
+    if_holds-is S s left k e type m (record { at = at; some = some; place = place; membership = membership }) l b r d sides holds types end (omega arith)
+    (λ same_units. stay (omega arith))))
   where
     membership : IsMembership S k type (spine_of type) m
     membership = membership-is S k type m is

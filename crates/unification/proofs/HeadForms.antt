@@ -10,18 +10,22 @@ use Rattle.unification.proofs.Reducts.{IsReduct, IsHead, reduced-within}
 use Rattle.unification.proofs.SpentUnits.{Within, answered-within, and_next-within}
 use Rattle.unification.proofs.Trials.{Found, Comes, none-comes}
 
--- l and r are reached from u and v with `rest` of `left` units, and are constructors b and d of one family
-pub record AreSides (S : Signature) (fits : Built → Bool) (left : ℕ) (u v l : Term) (b : Built) (r : Term) (d : Built) (rest : ℕ) : Type 0 where
+-- l and r are reached from u and v, and are constructors b and d of one family
+pub record AreSides (S : Signature) (fits : Built → Bool) (u v l : Term) (b : Built) (r : Term) (d : Built) : Type 0 where
   pub left_reduct : IsReduct S u l
   pub right_reduct : IsReduct S v r
-  pub stay : rest ≡ left → (l ≡ u) × (r ≡ v)
   pub left_built : built_of S l ≡ Some b
   pub right_built : built_of S r ≡ Some d
   pub fitting : fits b ≡ true
   pub family : b.n ≡ d.n
 
+-- where none of `left` units is spent, they are u and v themselves
+abbrev pub Stay : (left : ℕ) → (u v l r : Term) → (rest : ℕ) → Type 0
+Stay left u v l r rest = rest ≡ left → (l ≡ u) × (r ≡ v)
+
 abbrev AreHeads : Signature → (Built → Bool) → (left : ℕ) → (u v : Term) → Term × Term → ℕ → Type 0
-AreHeads S fits left u v sides rest = (b : Built) × (d : Built) × AreSides S fits left u v sides.0 b sides.1 d rest
+AreHeads S fits left u v sides rest =
+    (b : Built) × (d : Built) × AreSides S fits u v sides.0 b sides.1 d × Stay left u v sides.0 sides.1 rest
 
 where_fits-has : (fits : Built → Bool) (o : Option Built) → IfSome (where_fits fits o) (λ b. (o ≡ Some b) × (fits b ≡ true))
 where_fits-has fits None = tt
@@ -48,12 +52,12 @@ right_head-within S fits left u v l (Some b) rest le hl h =
       record {
         left_reduct = hl.reduct;
         right_reduct = hr.reduct;
-        stay = λ same. (hl.stays (omega arith), hr.stays (omega arith));
         left_built = h.0;
         right_built = k.0;
         fitting = h.1;
         family = sym (eqb-true d.n b.n k.1);
       },
+      λ same. (hl.stays (omega arith), hr.stays (omega arith)),
     )
 
 heads-within : (S : Signature) (fits : Built → Bool) (u v : Term) (left : ℕ) → Within left (Found (AreHeads S fits left u v)) (heads S fits u v left)
@@ -64,7 +68,7 @@ heads-within S fits u v left =
 -- what is made of the constructors on both sides
 pub on_constructors-comes : (P : Turn → ℕ → Type 0) (S : Signature) (fits : Built → Bool) (u v : Term)
     (go : (l : Term) (b : Built) (r : Term) (d : Built) → Trial) (left : ℕ)
-    → ((l : Term) (b : Built) (r : Term) (d : Built) (rest : ℕ) → rest ≤ left → AreSides S fits left u v l b r d rest → Comes P (go l b r d) rest)
+    → ((l : Term) (b : Built) (r : Term) (d : Built) (rest : ℕ) → rest ≤ left → AreSides S fits u v l b r d → Stay left u v l r rest → Comes P (go l b r d) rest)
     → Comes P (on_constructors S fits u v go) left
 on_constructors-comes P S fits u v go left h =
     and_next-within (Found (AreHeads S fits left u v)) (Found P) (heads S fits u v left) (λ found rest. with_heads S go found rest) left
@@ -72,7 +76,7 @@ on_constructors-comes P S fits u v go left h =
   where
     by : (found : Option (Term × Term)) (rest : ℕ) → rest ≤ left → Found (AreHeads S fits left u v) found rest → Comes P (with_heads S go found) rest
     by None rest le is = none-comes P rest
-    by (Some sides) rest le (b, d, is) =
+    by (Some sides) rest le (b, d, is, stay) =
         transport (λ o. Comes P (with_built go sides.0 sides.1 o (built_of S sides.1)) rest) (sym is.left_built)
         (transport (λ o. Comes P (with_built go sides.0 sides.1 (Some b) o) rest) (sym is.right_built)
-        (h sides.0 b sides.1 d rest le is))
+        (h sides.0 b sides.1 d rest le is stay))

@@ -10,12 +10,10 @@ use Rattle.theory.proofs.ScopedTerms.{scoped-pi, scoped-lam, scoped-app, scoped-
 use Rattle.tele_eq.specs.Dependences.{has_variable}
 use Rattle.tele_eq.specs.Environments.{Environment, put, put_under, put_variable}
 use Rattle.unification.proofs.Cases.{below-or_from, first-of_three, second-of_three}
+use Rattle.unification.proofs.Variables.{variable-below}
 
 leaf : (S : Signature) (t : Term) (m : ℕ) → HasEntries S t → free_of t ≡ 0 → IsScoped S m t
 leaf S t m e f = record { variables = omega arith; entries = e }
-
-variable-below : {S : Signature} {n v : ℕ} → IsScoped S n (Var v) → v < n
-variable-below k = omega (arith, k.variables)
 
 -- ---- renaming
 

@@ -37,7 +37,7 @@ use Rattle.unification.proofs.SolvedVariables.{solution_at, solved-is_inst, solv
 use Rattle.unification.proofs.UnderInstances.{each-append, each-inst, each-applied, at_values, inst-values, values-each}
 use Rattle.unification.proofs.Counts.{length-equations}
 use Rattle.unification.proofs.ScopedRecords.{length-argument_items}
-use Rattle.unification.proofs.Constructors.{same-constructor}
+use Rattle.unification.proofs.Constructors.{same-constructor, term-instance}
 
 -- the sides of each equation convert under an instantiation
 abbrev pub SidesConvert : Signature → (ℕ → Term) → List Equation → Type 0
@@ -133,20 +133,14 @@ sides-group S q (suc k) g (d ∷ equations) last e at before h rest =
 
 -- ---- constructors
 
-inst-built : (q : ℕ → Term) (b : Built)
-    → inst q (term_of b) ≡ applied (Con b.n b.number) (map (inst q) b.parameters ++ map (inst q) b.arguments)
-inst-built q b =
-    inst-applied q (Con b.n b.number) (b.parameters ++ b.arguments)
-    ∙ ap (applied (Con b.n b.number)) (map-append (inst q) b.parameters b.arguments)
-
 -- one constructor at parameters and arguments that convert under an instantiation
 built-converts : (S : Signature) (q : ℕ → Term) (b d : Built) → b.n ≡ d.n → b.number ≡ d.number
     → EachConverts S (map (inst q) b.parameters) (map (inst q) d.parameters)
     → EachConverts S (map (inst q) b.arguments) (map (inst q) d.arguments)
     → Converts S (inst q (term_of b)) (inst q (term_of d))
 built-converts S q b d e number hp ha =
-    transport (λ t. Converts S t (inst q (term_of d))) (sym (inst-built q b))
-    (transport (Converts S (applied (Con b.n b.number) (map (inst q) b.parameters ++ map (inst q) b.arguments))) (sym (inst-built q d))
+    transport (λ t. Converts S t (inst q (term_of d))) (sym (term-instance q b))
+    (transport (Converts S (applied (Con b.n b.number) (map (inst q) b.parameters ++ map (inst q) b.arguments))) (sym (term-instance q d))
     (each-applied S (Con b.n b.number) (Con d.n d.number) _ _
     (transport (Converts S (Con b.n b.number)) (ap₂ Con e number) same)
     (each-append S (map (inst q) b.parameters) (map (inst q) d.parameters) (map (inst q) b.arguments) (map (inst q) d.arguments) hp ha)))
