@@ -22,7 +22,7 @@ use Rattle.unification.specs.Turns.{type_in}
 use Rattle.unification.proofs.Constructors.{built-is, fitting-level, no-indices}
 use Rattle.unification.proofs.Reducts.{IsReduct, reduced-within}
 use Rattle.unification.proofs.SearchedVariables.{IsAcyclicFamily, IsFoundTerm, search-finds}
-use Rattle.unification.proofs.SpentUnits.{Within, answered-within, answers-within, and_next-within, cond-within}
+use Rattle.unification.proofs.SpentUnits.{Within, answered-within, and_next-within, cond-within}
 use Rattle.unification.proofs.Trials.{Found, Comes, none-comes}
 use Rattle.unification.proofs.TurnProperties.{DeletesWithK, IsTurn, IsEnd, tried, type-scoped, first-as, single-scoped, fails_at-is}
 use Rattle.unification.proofs.Variables.{variable-is, variable-low}

@@ -1,6 +1,6 @@
 -- The states behind a solution, a deletion and an injectivity are scoped.
 use Rattle.std.proofs.Common.{◌≡◌, ℕ, ◌+◌, ◌-◌, ◌<◌, ◌≤◌, inl, inr, true, ◌==◌, Some, List, [], ◌∷◌, ◌++◌, length, map, drop, slice_get, All, IfOk, refl, sym, ◌∙◌, subst, arith, eq-eqb}
-use Rattle.std.proofs.lemmas.List.Elements.{All-nil, All-cons, All-weaker, All-map}
+use Rattle.std.proofs.lemmas.List.Elements.{All-weaker, All-map}
 use Rattle.std.proofs.lemmas.Bool.{eqb-true}
 use Rattle.theory.specs.Terms.{Term, top}
 use Rattle.theory.specs.Telescopes.{Telescope, variables}

@@ -1,7 +1,6 @@
 -- A solved problem is unified: from the end of a chain of steps backwards, the sides of each equation convert under an
 -- instantiation, which makes the solution of a state that of the end.
 use Rattle.std.proofs.Common.{◌≡◌, ℕ, zero, suc, ◌+◌, ◌-◌, ◌<◌, Some, List, [], ◌∷◌, ◌++◌, length, map, take, drop, slice_get, refl, ap, ap₂, sym, subst as transport, ◌∙◌, arith}
-use Rattle.std.proofs.lemmas.List.{map-append}
 use Rattle.theory.specs.Terms.{Term}
 use Rattle.theory.specs.Terms.Term.{Var, Con}
 use Rattle.theory.specs.Substitutions.{inst}
@@ -14,7 +13,6 @@ use Rattle.theory.proofs.Lists.{some_is}
 use Rattle.theory.proofs.Congruence.{converts-trans, converts-sym}
 use Rattle.theory.proofs.Stability.{converts-inst}
 use Rattle.theory.proofs.Instances.{inst-inst, inst-var}
-use Rattle.theory.proofs.Instantiation.{inst-applied}
 use Rattle.core_terms.specs.CaseTrees.{Step}
 use Rattle.core_terms.specs.Levels.{variable}
 use Rattle.tele_eq.specs.Items.{Item}

@@ -1,7 +1,7 @@
 -- Problems as they come up where a variable of an indexed family is split, with their outcomes. Units, sides, contexts and reasons
 -- are those of another implementation.
 use native.Mathlib.Decide.{ℕ_discrete}
-use Rattle.std.proofs.Common.{◌≡◌, ℕ, false, Ok, Err, [], ◌∷◌, refl}
+use Rattle.std.proofs.Common.{◌≡◌, false, Ok, Err, [], ◌∷◌, refl}
 use Rattle.theory.specs.Terms.{Term, lift}
 use Rattle.theory.specs.Terms.Term.{Var, Sort, Pi, Lam, App, Con}
 use Rattle.theory.specs.Telescopes.{Telescope}

@@ -1,6 +1,6 @@
 -- What holds of each turn that a trial comes to, and of the units that are left behind it, from what holds of its parts. Nothing is said
 -- of refusals, and of a rule that does not apply.
-use Rattle.std.proofs.Common.{◌≡◌, ℕ, ◌≤◌, Bool, true, false, cond, Option, Some, None, IfSome, Result, Ok, Err, IfOk, refl}
+use Rattle.std.proofs.Common.{◌≡◌, ℕ, ◌≤◌, Bool, true, false, cond, Option, Some, None, IfSome, Result, Ok, Err, IfOk}
 use Rattle.theory.specs.Terms.{Term}
 use Rattle.theory.specs.Signatures.{Signature}
 use Rattle.core_terms.specs.CaseTrees.{Step}
