@@ -1,5 +1,5 @@
 -- Injectivity and conflict of the constructors on both sides of an equation, which stands behind k others of its group.
-use Rattle.std.proofs.Common.{◌≡◌, ℕ, suc, ◌+◌, ◌<◌, ◌≤◌, inl, inr, ◌==◌, Bool, true, Some, List, length, drop, slice_get, All, refl, ap, sym, ◌∙◌, subst₂, subst as transport, arith}
+use Rattle.std.proofs.Common.{◌≡◌, ℕ, suc, ◌+◌, ◌<◌, ◌≤◌, inl, inr, ◌==◌, Bool, true, Some, List, length, drop, slice_get, All, refl, ap, sym, subst as transport, subst₂, ◌∙◌, arith}
 use Rattle.std.proofs.lemmas.Bool.{eqb-true}
 use Rattle.theory.specs.Terms.{Term}
 use Rattle.theory.specs.Families.{Family, Constructor}
@@ -57,6 +57,7 @@ injected-smaller S s k e b d n number f c ps at l r =
     let right_less = built-smaller S e.right d r in
     omega arith
 
+-- so it makes the state less, or the reduction of a side has spent units
 injected-onward : (S : Signature) (s : State) (left k : ℕ) (e : Equation) (type l : Term) (b : Built) (r : Term) (d : Built) (f : Family) (ps : List Term)
     (rest : ℕ) → slice_get s.equations k ≡ Some e → rest ≤ left → Stay left e.left e.right l r rest → built_of S l ≡ Some b
     → built_of S r ≡ Some d
@@ -74,6 +75,7 @@ injected-onward S s left k e type l b r d f ps rest at le stay lb rd = record {
 
 -- ---- scopes
 
+-- the arguments on both sides are those of one constructor
 injection : (S : Signature) (m : ℕ) (l : Term) (b : Built) (r : Term) (d : Built) (f : Family) (ps : List Term) → built_of S l ≡ Some b
     → built_of S r ≡ Some d → b.n ≡ d.n → b.number ≡ d.number → IsScoped S m l → IsScoped S m r → IsEntryAt S b.n (FamilyOf f)
     → All (IsScoped S m) ps → IsInjection S m b.n b.number f b.constructor ps b.arguments d.arguments
@@ -106,6 +108,7 @@ pub record IsInjective (S : Signature) (s : State) (k : ℕ) (e : Equation) (typ
   pub step : Steps S s (injection_step (k + 1) type (term_of b) (term_of d) b)
       (injected_state s (k + 1) b.n b.number f b.constructor ps b.arguments d.arguments)
 
+-- one constructor on both sides: what the injectivity comes to
 pub injects-is : (S : Signature) (s : State) (left k : ℕ) (e : Equation) (type : Term) (fits : Built → Bool) (l : Term) (b : Built) (r : Term) (d : Built)
     (f : Family) (ps : List Term) (rest : ℕ) → slice_get s.equations k ≡ Some e → rest ≤ left → AreSides S fits e.left e.right l b r d
     → Stay left e.left e.right l r rest → (b.number == d.number) ≡ true → (IsReady S → IsScopedState S s → IsInjective S s k e type b d f ps)
@@ -142,6 +145,7 @@ pub record IsConflicting (S : Signature) (s : State) (k : ℕ) (e : Equation) (t
   pub type_scoped : IsScoped S (length s.context + k) type
   pub evidence : IsAbsurd S s (conflict_step (k + 1) type (term_of b) (term_of d) b d)
 
+-- different constructors: what the conflict comes to
 pub conflicts-is : (S : Signature) (s : State) (left k : ℕ) (e : Equation) (type : Term) (fits : Built → Bool) (l : Term) (b : Built) (r : Term) (d : Built)
     (rest : ℕ) → AreSides S fits e.left e.right l b r d → (IsReady S → IsScopedState S s → IsConflicting S s k e type b d)
     → Comes (IsTurn S s left) (fails_at S (conflict_step (k + 1) type l r b d) e.left e.right) rest

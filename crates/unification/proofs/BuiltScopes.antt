@@ -21,6 +21,7 @@ pub record IsBuiltIn (S : Signature) (m : ℕ) (b : Built) : Type 0 where
   pub arguments : All (IsScoped S m) b.arguments
   pub count : length b.arguments ≡ length b.constructor.arguments
 
+-- a constructor that a scoped term is
 pub built-scoped : (S : Signature) (m : ℕ) (t : Term) (b : Built) → built_of S t ≡ Some b → IsScoped S m t → IsBuiltIn S m b
 built-scoped S m t b e h =
     let is = found S t b e in

@@ -1,5 +1,5 @@
 -- Constructors with all their arguments: what is known of a term that is found to be one, and of its instances.
-use Rattle.std.proofs.Common.{◌≡◌, ℕ, ◌+◌, ◌≤◌, true, ◌==◌, cond, Option, Some, None, IfSome, option_and_then, List, [], ◌∷◌, ◌++◌, length, take, drop, map, slice_get, refl, ap, ap₂, sym, ◌∙◌, subst, arith}
+use Rattle.std.proofs.Common.{◌≡◌, ℕ, ◌+◌, ◌≤◌, ◌==◌, true, cond, Option, Some, None, IfSome, option_and_then, List, [], ◌∷◌, ◌++◌, length, map, take, drop, slice_get, refl, ap, ap₂, sym, subst, ◌∙◌, arith}
 use Rattle.std.proofs.lemmas.Bool.{eqb-true}
 use Rattle.std.proofs.lemmas.Bool.Decides.{nat_tests}
 use Rattle.std.proofs.lemmas.List.{length-map, length-take, length-drop, take-append-drop, map-append, take-map, drop-map, nil_from_length}
@@ -59,9 +59,11 @@ found-spine S (Fam n) us b e = absurd (grind arith)
 found-spine S (Elim n m) us b e = absurd (grind arith)
 found-spine S (AxiomK i m) us b e = absurd (grind arith)
 
+-- what is known of a term that is found as a constructor
 pub found : (S : Signature) (t : Term) (b : Built) → built_of S t ≡ Some b → IsFound S (head_of t) (spine_of t) b
 found S t b e = found-spine S (head_of t) (spine_of t) b e
 
+-- its constructor is in the signature, and all arguments are there
 pub found-constructor : (S : Signature) (t : Term) (b : Built) → built_of S t ≡ Some b
     → (constructor_at S b.n b.number ≡ Some b.constructor) × (length b.arguments ≡ length b.constructor.arguments)
 found-constructor S t b e =
@@ -120,6 +122,7 @@ same-constructor S b d hb hd e number =
 pub fitting-level : (f : Family) → is_fitting f ≡ true → f.level ≤ greatest_level
 fitting-level f e = grind (arith, nat_tests)
 
+-- and a family without indices
 pub no-indices : (f : Family) → has_no_indices f ≡ true → f.indices ≡ []
 no-indices f e = nil_from_length f.indices (eqb-true (length f.indices) 0 e)
 
@@ -144,10 +147,12 @@ found-again S h us b is =
 abbrev pub instance_of : (ℕ → Term) → Built → Built
 instance_of s b = record b { parameters = map (inst s) b.parameters; arguments = map (inst s) b.arguments }
 
+-- its term
 pub term-instance : (s : ℕ → Term) (b : Built) → inst s (term_of b) ≡ term_of (instance_of s b)
 term-instance s b =
     inst-applied s (Con b.n b.number) (b.parameters ++ b.arguments) ∙ ap (applied (Con b.n b.number)) (map-append (inst s) b.parameters b.arguments)
 
+-- a term that begins with a constructor keeps it, and its arguments are instances
 pub head-instance : (s : ℕ → Term) (t : Term) (n number : ℕ) → head_of t ≡ Con n number
     → (head_of (inst s t) ≡ Con n number) × (spine_of (inst s t) ≡ map (inst s) (spine_of t))
 head-instance s (App f a) n number e =
@@ -164,6 +169,7 @@ head-instance s (Fam m) n number e = absurd (grind arith)
 head-instance s (Elim m k) n number e = absurd (grind arith)
 head-instance s (AxiomK i m) n number e = absurd (grind arith)
 
+-- an instance of a constructor with all its arguments is one
 pub built-instance : (S : Signature) (s : ℕ → Term) (t : Term) (b : Built) → built_of S t ≡ Some b → built_of S (inst s t) ≡ Some (instance_of s b)
 built-instance S s t b e =
     let is = found S t b e in

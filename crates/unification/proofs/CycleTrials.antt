@@ -1,5 +1,5 @@
 -- What the trial of a cycle comes to.
-use Rattle.std.proofs.Common.{◌≡◌, ℕ, inl, inr, true, Option, Some, None, IfSome, Ok, IfOk, List, ◌∷◌, length, refl, ap, sym, subst as transport, arith, ◌∙◌}
+use Rattle.std.proofs.Common.{◌≡◌, ℕ, inl, inr, true, Option, Some, None, IfSome, Ok, IfOk, List, ◌∷◌, length, refl, ap, sym, subst as transport, ◌∙◌, arith}
 use Rattle.theory.specs.Terms.{Term}
 use Rattle.theory.specs.Terms.Term.{Var}
 use Rattle.theory.specs.Signatures.{Signature}
@@ -36,6 +36,7 @@ record IsOnWay (S : Signature) (x : ℕ) (t w : Term) : Type 0 where
 not-built : (S : Signature) (x : ℕ) (t : Term) (b : Built) → built_of S t ≡ Some b → t ≡ Var x → ⊥
 not-built S x t b e is = grind (arith, sym e ∙ ap (built_of S) is)
 
+-- a side that is reduced on the way to the variable
 reduced_side-within : (S : Signature) (x : ℕ) (t : Term) (o : Option Built) → built_of S t ≡ o → (left : ℕ)
     → Within left (Found (λ w rest. IsOnWay S x t w)) (reduced_side S x t o left)
 reduced_side-within S x t None e left = answered-within (Found (λ w rest. IsOnWay S x t w)) (Ok None) left tt

@@ -1,5 +1,5 @@
 -- What the trial of a deletion comes to, which takes the first equation out, and the last trial, which says why no rule goes on.
-use Rattle.std.proofs.Common.{◌≡◌, ℕ, ◌+◌, ◌<◌, ◌≤◌, ◌⊎◌, inl, inr, List, [], ◌∷◌, length, drop, slice_get, Bool, true, false, IsTrue, Some, refl, arith}
+use Rattle.std.proofs.Common.{◌≡◌, ℕ, ◌+◌, ◌<◌, ◌≤◌, ◌⊎◌, inl, inr, Bool, true, false, IsTrue, Some, List, [], ◌∷◌, length, drop, slice_get, refl, arith}
 use Rattle.theory.specs.Terms.{Term}
 use Rattle.theory.specs.Signatures.{Signature, reflexivity}
 use Rattle.theory.specs.Conversion.{Converts}
@@ -28,6 +28,7 @@ use Rattle.unification.proofs.Sizes.{size-positive, sides-moved, sides-behind}
 use Rattle.unification.proofs.Trials.{Found, Comes, none-comes, applies-comes, goes_to-comes, cond-comes, on_tidied-comes}
 use Rattle.unification.proofs.TurnProperties.{IsTurn, AreScopedSides, sticks-is, sticks_at-is, tried, first-at, type-scoped, first-as, single-scoped}
 
+-- the equations behind a deletion are smaller
 deleted-smaller : (s : State) (e : Equation) (i : ℕ) (A u : Term) → slice_get s.equations 0 ≡ Some e
     → size_of_sides (deleted_state s i A u).equations < size_of_sides s.equations
 deleted-smaller s e i A u at =

@@ -29,6 +29,7 @@ reached-before S s t step outcome scoped follows (is_absurd u steps last l r cha
 reached-before S s t step outcome scoped follows (stuck u steps l r why chain) =
     stuck u (step ∷ steps) l r why (more s t u step steps scoped follows chain)
 
+-- an end is reached by no step, or by the last one
 end-reached : (S : Signature) (s : State) (turn : Turn) → IsRight S s turn → IfSome (end_of s turn) (IsReached S s)
 end-reached S s Done is = solved s [] (none s) is.follows
 end-reached S s (Goes step t) is = tt

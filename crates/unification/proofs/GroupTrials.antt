@@ -96,6 +96,7 @@ record IsLast (S : Signature) (s : State) (k : ℕ) (e : Equation) (type : Term)
   pub place : IsReduct S e.place.type type
   pub membership : IsMembership S k type (spine_of type) m
 
+-- in a scoped state it is scoped
 last-scoped : (S : Signature) (s : State) (k : ℕ) (e : Equation) → slice_get s.equations k ≡ Some e → IsScopedState S s
     → IsScopedEquation S (length s.context) k e
 last-scoped S s k e at scoped =

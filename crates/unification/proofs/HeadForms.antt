@@ -27,6 +27,7 @@ abbrev AreHeads : Signature → (Built → Bool) → (left : ℕ) → (u v : Ter
 AreHeads S fits left u v sides rest =
     (b : Built) × (d : Built) × AreSides S fits u v sides.0 b sides.1 d × Stay left u v sides.0 sides.1 rest
 
+-- a constructor that meets the condition is there and meets it
 where_fits-has : (fits : Built → Bool) (o : Option Built) → IfSome (where_fits fits o) (λ b. (o ≡ Some b) × (fits b ≡ true))
 where_fits-has fits None = tt
 where_fits-has fits (Some b) = by (fits b) refl

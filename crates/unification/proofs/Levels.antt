@@ -1,5 +1,5 @@
 -- Lists of levels: which levels are among them, where, and in which order.
-use Rattle.std.proofs.Common.{◌≡◌, ℕ, zero, suc, ◌+◌, ◌<◌, ◌≤◌, ◌⊎◌, inl, inr, Bool, true, false, ◌||◌, ◌==◌, cond, Some, List, [], ◌∷◌, ◌++◌, length, slice_get, refl, ap, ◌∙◌, subst, arith, eq-eqb, add-one}
+use Rattle.std.proofs.Common.{◌≡◌, ℕ, zero, suc, ◌+◌, ◌<◌, ◌≤◌, ◌⊎◌, inl, inr, ◌==◌, ◌||◌, Bool, true, false, cond, Some, List, [], ◌∷◌, ◌++◌, length, slice_get, refl, ap, subst, ◌∙◌, arith, eq-eqb, add-one}
 use Rattle.std.proofs.lemmas.Bool.{eqb-true}
 use Rattle.tele_eq.specs.Items.{each_position}
 use Rattle.tele_eq.proofs.Carrying.{IsFrom}

@@ -1,5 +1,5 @@
 -- The outcome of a scoped problem is scoped.
-use Rattle.std.proofs.Common.{◌≡◌, ℕ, IfSome, length, IfOk, ap, subst}
+use Rattle.std.proofs.Common.{◌≡◌, ℕ, IfSome, IfOk, length, ap, subst}
 use Rattle.std.proofs.lemmas.Result.{IfOk-at_ok}
 use Rattle.theory.specs.Signatures.{Signature}
 use Rattle.core_terms.specs.CaseTrees.{Step}
@@ -21,6 +21,7 @@ before-scoped S n m step (Solved steps context solution) h e k = ((h, subst (λ 
 before-scoped S n m step (Absurd steps context u v) h e k = ((h, subst (λ x. AreScopedSteps S x steps) e k.0), k.1, k.2, k.3)
 before-scoped S n m step (Stuck steps context u v why) h e k = ((h, subst (λ x. AreScopedSteps S x steps) e k.0), k.1, k.2, k.3)
 
+-- an end of a scoped state
 end-scoped : (S : Signature) (s : State) (turn : Turn) → IsScopedState S s → IsGood S s turn → IfSome (end_of s turn) (IsScopedOutcome S (length s.context))
 end-scoped S s Done h good = (tt, h.context, h.solution)
 end-scoped S s (Goes step t) h good = tt

@@ -1,5 +1,5 @@
 -- Runs: from each state there is one, and no other.
-use Rattle.std.proofs.Common.{◌≡◌, ◌≢◌, ℕ, zero, suc, ◌<◌, ◌≤◌, Option, Some, None, Result, Ok, Err, IfOk, [], ◌∷◌, length, refl, ap, ap₂, subst, sym, ◌∙◌, arith}
+use Rattle.std.proofs.Common.{◌≡◌, ◌≢◌, ℕ, zero, suc, ◌<◌, ◌≤◌, Option, Some, None, Result, Ok, Err, IfOk, [], ◌∷◌, length, refl, ap, ap₂, sym, subst, ◌∙◌, arith}
 use Rattle.theory.specs.Signatures.{Signature}
 use Rattle.core_terms.specs.Answers.{Spent, on_answer}
 use Rattle.core_terms.specs.CaseTrees.{Step}

@@ -1,6 +1,6 @@
 -- What holds of each run, from what holds of its turns: it gives no units back, without K it deletes nothing, and a solution has a term
 -- for each variable.
-use Rattle.std.proofs.Common.{◌≡◌, ◌≢◌, ℕ, ◌≤◌, false, Option, Some, IfSome, Result, Ok, Err, IfOk, [], length, All, refl, subst, arith, ap, ◌∙◌}
+use Rattle.std.proofs.Common.{◌≡◌, ◌≢◌, ℕ, ◌≤◌, false, Option, Some, IfSome, Result, Ok, Err, IfOk, [], length, All, refl, ap, subst, ◌∙◌, arith}
 use Rattle.std.proofs.lemmas.List.Elements.{All-nil, All-cons}
 use Rattle.std.proofs.lemmas.Result.{IfOk-at_ok}
 use Rattle.theory.specs.Signatures.{Signature}

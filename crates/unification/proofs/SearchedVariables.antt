@@ -1,5 +1,5 @@
 -- Searches below constructors: a variable that is found stands there, in a term that the searched one converts to.
-use Rattle.std.proofs.Common.{◌≡◌, ℕ, zero, suc, ◌≤◌, ◌⊎◌, inl, inr, ◌==◌, nat_lt, true, IsTrue, Option, Some, None, option_map, IfSome, Ok, List, [], ◌∷◌, ◌++◌, slice_get, refl, ap, sym, subst as transport, ◌∙◌, arith, Err}
+use Rattle.std.proofs.Common.{◌≡◌, ℕ, zero, suc, ◌≤◌, ◌⊎◌, inl, inr, nat_lt, ◌==◌, true, IsTrue, Option, Some, None, IfSome, option_map, Ok, Err, List, [], ◌∷◌, ◌++◌, slice_get, refl, ap, sym, subst as transport, ◌∙◌, arith}
 use Rattle.std.proofs.lemmas.Bool.{eqb-true}
 use Rattle.std.proofs.lemmas.List.Elements.{All-cons, All-head, All-tail}
 use Rattle.std.specs.List.{All}
@@ -109,6 +109,7 @@ among-here S n x a arguments u v w us direct hv h = record {
       (All-tail (IsScoped S m) u us all);
 }
 
+-- what is found among arguments
 among-finding : (S : Signature) (n x : ℕ) (below : Below) → FindsBelow S n x below → (arguments : List Argument) (us : List Term) (left : ℕ)
     → Finding (IsAmong S n x arguments us) (among_arguments S below arguments us) left
 among-finding S n x below finds [] us left = none-found (IsAmong S n x [] us) left
@@ -193,6 +194,7 @@ variable-found : (x : ℕ) (o : Option ℕ) → is_variable x o ≡ true → o �
 variable-found x (Some y) e = ap Some (eqb-true y x e)
 variable-found x None e = absurd (grind arith)
 
+-- what is found in a head form
 in_form-finds : (S : Signature) (n x : ℕ) (below : Below) → FindsBelow S n x below → Finds S n x (in_form S n x below)
 in_form-finds S n x below finds t left =
     cond-within (λ found rest. IfSome found (IsFoundTerm S n x t)) (is_variable x (variable_in t)) _ _ left
@@ -228,5 +230,6 @@ pub by_units-finds : (S : Signature) (n x units : ℕ) → Finds S n x (by_units
 by_units-finds S n x zero t left = by_room-finds S n x no_argument (no_argument-finds S n x) (height t) t left
 by_units-finds S n x (suc units) t left = by_room-finds S n x (by_units S n x units) (by_units-finds S n x units) (height t) t left
 
+-- what a whole search finds
 pub search-finds : (S : Signature) (n x : ℕ) → Finds S n x (search_in S n x)
 search-finds S n x t left = by_units-finds S n x left t left

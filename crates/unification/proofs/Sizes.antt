@@ -1,5 +1,5 @@
 -- Sizes of terms and of the sides of equations.
-use Rattle.std.proofs.Common.{◌≡◌, ℕ, zero, suc, ◌+◌, ◌-◌, ◌<◌, ◌≤◌, Bool, true, false, cond, nat_lt, Some, List, [], ◌∷◌, ◌++◌, drop, slice_get, refl, ap, arith, length}
+use Rattle.std.proofs.Common.{◌≡◌, ℕ, zero, suc, ◌+◌, ◌-◌, ◌<◌, ◌≤◌, nat_lt, Bool, true, false, cond, Some, List, [], ◌∷◌, ◌++◌, length, drop, slice_get, refl, ap, arith}
 use Rattle.theory.specs.Terms.{Term}
 use Rattle.theory.specs.Terms.Term.{Var, Sort, Pi, Lam, App, Let}
 use Rattle.theory.specs.Telescopes.{Telescope}

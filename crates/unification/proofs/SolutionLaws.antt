@@ -1,5 +1,5 @@
 -- The laws of solutions: a solved problem is unified, where its steps are coherent, and so is what a run answers as solved.
-use Rattle.std.proofs.Common.{◌≡◌, ℕ, Ok, List, [], ◌∷◌, length, map, All, refl, ap₂, sym, subst as transport, ◌∙◌, IfOk, ◌++◌}
+use Rattle.std.proofs.Common.{◌≡◌, ℕ, Ok, IfOk, List, [], ◌∷◌, ◌++◌, length, map, All, refl, ap₂, sym, subst as transport, ◌∙◌}
 use Rattle.std.proofs.lemmas.List.Elements.{All-head, All-tail}
 use Rattle.theory.specs.Eliminators.{no_variable}
 use Rattle.theory.specs.SignatureScopes.{IsScoped}

@@ -93,6 +93,7 @@ record IsSolution (S : Signature) (s : State) (x : ℕ) (A other u : Term) : Typ
   pub type : is_free_of s x A ≡ true
   pub term : is_free_of s x u ≡ true
 
+-- a term that solves, from the side itself or from its normal form
 solution_from-within : (S : Signature) (s : State) (x : ℕ) (A other : Term) (left : ℕ) → is_free_of s x A ≡ true
     → Within left (Found (λ u rest. IsSolution S s x A other u)) (solution_from S s x other left)
 solution_from-within S s x A other left type =
@@ -132,6 +133,7 @@ Solving S s e A other x step =
     (u : Term) → IsSolution S s x A other u
     → DeletesWithK S (step u) × (IsReady S → IsScopedState S s → IsSolving S s e x A u (step u))
 
+-- the step by a solving term
 state_solved-is : (S : Signature) (s : State) (left : ℕ) (e : Equation) (x : ℕ) (A other : Term) (step : Term → Step) (found : Option Term) (rest : ℕ)
     → slice_get s.equations 0 ≡ Some e → rest ≤ left → Solving S s e A other x step → IfSome found (IsSolution S s x A other)
     → IfOk (state_solved s e x A found) (λ pair. IfSome (turn_by step pair) (λ turn. IsTurn S s left turn rest))

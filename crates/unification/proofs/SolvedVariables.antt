@@ -1,6 +1,6 @@
 -- What stands for the variables behind a solution: an instantiation, by which the solved variable and the term that solves it
 -- become one term.
-use Rattle.std.proofs.Common.{◌≡◌, ℕ, ◌+◌, ◌-◌, ◌<◌, ◌≤◌, ◌==◌, inl, inr, false, IsTrue, cond, List, length, ap, sym, ◌∙◌, arith}
+use Rattle.std.proofs.Common.{◌≡◌, ℕ, ◌+◌, ◌-◌, ◌<◌, ◌≤◌, inl, inr, ◌==◌, false, IsTrue, cond, List, length, ap, sym, ◌∙◌, arith}
 use Rattle.std.proofs.lemmas.Bool.{not-true, or_parts}
 use Rattle.theory.specs.Terms.{Term}
 use Rattle.theory.specs.Terms.Term.{Var, Sort}

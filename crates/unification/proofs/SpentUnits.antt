@@ -1,5 +1,5 @@
 -- What holds of an answer and of the units that are left behind it, where no call gives units back.
-use Rattle.std.proofs.Common.{◌≡◌, ℕ, ◌≤◌, Result, Ok, Err, IfOk, arith, Bool, true, false, cond, refl}
+use Rattle.std.proofs.Common.{◌≡◌, ℕ, ◌≤◌, Bool, true, false, cond, Result, Ok, Err, IfOk, refl, arith}
 use Rattle.core_terms.specs.Answers.{Spent, and_next, on_answer}
 use Rattle.core_terms.specs.declared.stop.Stop.{Stop}
 use Rattle.kernel_reduce.specs.Reduction.{answered}

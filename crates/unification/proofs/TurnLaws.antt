@@ -1,5 +1,5 @@
 -- The laws of turns: they give no units back, one is always there, one that goes on makes the state less, and they follow the rules.
-use Rattle.std.proofs.Common.{◌≡◌, ◌≢◌, ℕ, Option, Some, None, Result, Ok, Err, IfOk, List, [], ◌∷◌, length, refl, subst, arith, ◌≤◌, IfSome}
+use Rattle.std.proofs.Common.{◌≡◌, ◌≢◌, ℕ, ◌≤◌, Option, Some, None, IfSome, Result, Ok, Err, IfOk, List, [], ◌∷◌, length, refl, subst, arith}
 use Rattle.theory.specs.Signatures.{Signature}
 use Rattle.core_terms.specs.declared.stop.Stop.{Stop}
 use Rattle.core_terms.proofs.Answers.{and_next-has, Answers}
@@ -39,6 +39,7 @@ trials-are S s left (e ∷ others) first =
     or_else-comes (IsTurn S s left) (group_trials S s (length others)) (first_trials S s e) left
     (group_trials-are S s left (length others) left (omega arith)) (first_trials-are S s left e others first)
 
+-- each turn that a state comes to has all that is shown of turns
 pub turn-is : (S : Signature) (s : State) (left : ℕ) → Comes (IsTurn S s left) (turn_of S s) left
 turn-is S s left = trials-are S s left s.equations refl
 

@@ -74,6 +74,7 @@ pub record IsEnd (S : Signature) (s : State) (step : Step) (u v : Term) : Type 0
   pub left : Converts S u step.left
   pub right : Converts S v step.right
 
+-- what a last step comes to
 pub fails_at-is : (S : Signature) (s : State) (left : ℕ) (step : Step) (u v : Term) (rest : ℕ) → DeletesWithK S step
     → (IsReady S → IsScopedState S s → IsEnd S s step u v) → Comes (IsTurn S s left) (fails_at S step u v) rest
 fails_at-is S s left step u v rest deletes ends =
@@ -97,6 +98,7 @@ fails_at-is S s left step u v rest deletes ends =
 abbrev pub AreScopedSides : Signature → State → (u v : Term) → Type 0
 AreScopedSides S s u v = IsScoped S (length s.context) u × IsScoped S (length s.context) v
 
+-- an end where no rule goes on
 pub sticks-is : (S : Signature) (s : State) (left : ℕ) (why : Why) (u v u' v' : Term) (rest : ℕ) → (IsReady S → IsScopedState S s → AreScopedSides S s u v)
     → IsReduct S u u' → IsReduct S v v' → IsTurn S s left (Sticks why u' v') rest
 sticks-is S s left why u v u' v' rest sides h k = record {
@@ -122,6 +124,7 @@ pub record IsTried (S : Signature) (s : State) (e : Equation) : Type 0 where
   pub first : s.equations ≡ e ∷ others
   pub equation : IsScopedEquation S (length s.context) 0 e
 
+-- the first equation of a scoped state is scoped
 pub tried : (S : Signature) (s : State) (e : Equation) (others : List Equation) → s.equations ≡ e ∷ others → IsScopedState S s → IsTried S s e
 tried S s e others first scoped = record {
   others = others;
