@@ -4,19 +4,19 @@ use Rattle.std.proofs.lemmas.Bool.{eqb-true}
 use Rattle.std.proofs.lemmas.Bool.Decides.{nat_tests}
 use Rattle.std.proofs.lemmas.List.{length-map, length-take, length-drop, take-append-drop, map-append, take-map, drop-map, nil_from_length}
 use Rattle.std.proofs.lemmas.Option.{option_and_then_some, cond_some}
-use Rattle.theory.specs.Terms.{Term, Var, Sort, Pi, Lam, App, Let, Const, Fam, Con, Elim, AxiomK}
 use Rattle.theory.specs.Substitutions.{inst}
 use Rattle.theory.specs.Telescopes.{applied}
 use Rattle.theory.specs.Spines.{head_of, spine_of}
 use Rattle.theory.specs.Families.{Family, Constructor}
 use Rattle.theory.specs.Signatures.{Signature, FamilyOf, IsEntryAt}
+use Rattle.theory.specs.Terms.{Term, App, Con}
 use Rattle.theory.proofs.Lists.{some_is}
 use Rattle.theory.proofs.Spines.{applied-spine}
+use Rattle.theory.proofs.Instantiation.{inst-applied}
 use Rattle.kernel_reduce.specs.Entries.{family_in, family_at, constructor_at}
 use Rattle.kernel_reduce.proofs.LookUps.{family-found}
 use Rattle.unification.specs.Built.{Built, term_of, with_all, with_spine, built_of, greatest_level, is_fitting, has_no_indices}
 use Rattle.unification.specs.Paths.{IsBuilt}
-use Rattle.theory.proofs.Instantiation.{inst-applied}
 
 -- the arguments `us` of a head h are those of a constructor with its record
 pub record IsFound (S : Signature) (h : Term) (us : List Term) (b : Built) : Type 0 where
@@ -48,16 +48,7 @@ found-family S n number us b e =
 
 found-spine : (S : Signature) (h : Term) (us : List Term) (b : Built) → with_spine S h us ≡ Some b → IsFound S h us b
 found-spine S (Con n number) us b e = found-family S n number us b e
-found-spine S (Var x) us b e = absurd (grind arith)
-found-spine S (Sort i) us b e = absurd (grind arith)
-found-spine S (Pi a c) us b e = absurd (grind arith)
-found-spine S (Lam a c) us b e = absurd (grind arith)
-found-spine S (App f a) us b e = absurd (grind arith)
-found-spine S (Let a t c) us b e = absurd (grind arith)
-found-spine S (Const n) us b e = absurd (grind arith)
-found-spine S (Fam n) us b e = absurd (grind arith)
-found-spine S (Elim n m) us b e = absurd (grind arith)
-found-spine S (AxiomK i m) us b e = absurd (grind arith)
+found-spine S _ us b e = absurd (grind arith)
 
 -- what is known of a term that is found as a constructor
 pub found : (S : Signature) (t : Term) (b : Built) → built_of S t ≡ Some b → IsFound S (head_of t) (spine_of t) b
@@ -159,15 +150,7 @@ head-instance s (App f a) n number e =
     let (head, spine) = head-instance s f n number e in
     (head, ap (λ us. us ++ inst s a ∷ []) spine ∙ sym (map-append (inst s) (spine_of f) (a ∷ [])))
 head-instance s (Con m k) n number e = (e, refl)
-head-instance s (Var x) n number e = absurd (grind arith)
-head-instance s (Sort i) n number e = absurd (grind arith)
-head-instance s (Pi a c) n number e = absurd (grind arith)
-head-instance s (Lam a c) n number e = absurd (grind arith)
-head-instance s (Let a t c) n number e = absurd (grind arith)
-head-instance s (Const m) n number e = absurd (grind arith)
-head-instance s (Fam m) n number e = absurd (grind arith)
-head-instance s (Elim m k) n number e = absurd (grind arith)
-head-instance s (AxiomK i m) n number e = absurd (grind arith)
+head-instance s _ n number e = absurd (grind arith)
 
 -- an instance of a constructor with all its arguments is one
 pub built-instance : (S : Signature) (s : ℕ → Term) (t : Term) (b : Built) → built_of S t ≡ Some b → built_of S (inst s t) ≡ Some (instance_of s b)

@@ -50,12 +50,7 @@ ren-fixes r (Let a t b) fixes =
     (ren-fixes r a (λ v e. fixes v (or_left (has_variable v a || has_variable v t) _ (or_left (has_variable v a) _ e))))
     (ren-fixes r t (λ v e. fixes v (or_left (has_variable v a || has_variable v t) _ (or_right (has_variable v a) _ e))))
     (ren-fixes (up r) b (up-fixes r b (λ v e. fixes v (or_right (has_variable v a || has_variable v t) _ e))))
-ren-fixes r (Sort i) fixes = refl
-ren-fixes r (Const c) fixes = refl
-ren-fixes r (Fam f) fixes = refl
-ren-fixes r (Con f c) fixes = refl
-ren-fixes r (Elim f m) fixes = refl
-ren-fixes r (AxiomK i m) fixes = refl
+ren-fixes r _ fixes = refl
 
 -- the variables of a term without the nearest k are further out
 further-out : (k : ℕ) (t : Term) → has_nearest k t ≡ false → (v : ℕ) → has_variable v t ≡ true → k ≤ v
@@ -104,16 +99,7 @@ nearest-are (suc k) [] e = absurd (grind arith)
 nearest-are (suc k) (Var n ∷ ts) e =
     let parts = both-true (n == k) (are_nearest k ts) e in
     ap₂ (λ (i : ℕ) (us : List Term). Var i ∷ us) (eqb-true n k parts.0) (nearest-are k ts parts.1)
-nearest-are (suc k) (Sort i ∷ ts) e = absurd (grind arith)
-nearest-are (suc k) (Pi a b ∷ ts) e = absurd (grind arith)
-nearest-are (suc k) (Lam a b ∷ ts) e = absurd (grind arith)
-nearest-are (suc k) (App f a ∷ ts) e = absurd (grind arith)
-nearest-are (suc k) (Let a t b ∷ ts) e = absurd (grind arith)
-nearest-are (suc k) (Const c ∷ ts) e = absurd (grind arith)
-nearest-are (suc k) (Fam f ∷ ts) e = absurd (grind arith)
-nearest-are (suc k) (Con f c ∷ ts) e = absurd (grind arith)
-nearest-are (suc k) (Elim f m ∷ ts) e = absurd (grind arith)
-nearest-are (suc k) (AxiomK i m ∷ ts) e = absurd (grind arith)
+nearest-are (suc k) (_ ∷ ts) e = absurd (grind arith)
 
 -- ---- memberships
 
