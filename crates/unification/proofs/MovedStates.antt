@@ -35,7 +35,7 @@ use Rattle.unification.proofs.ScopedRecords.{variables-scoped, lifted-scoped, le
 use Rattle.unification.proofs.SolvedContexts.{IsOver, other-among, over-others, length-order, length-new_context, reordered-term, solved-scoped, solved_context-scoped}
 use Rattle.unification.proofs.Counts.{length-equations, length-equations_at}
 
-pub reflexivity-scoped : (S : Signature) (n i : ℕ) (A u : Term) → HasAllIdentities S → i < top → IsScoped S n A → IsScoped S n u
+reflexivity-scoped : (S : Signature) (n i : ℕ) (A u : Term) → HasAllIdentities S → i < top → IsScoped S n A → IsScoped S n u
     → IsScoped S n (reflexivity i A u)
 reflexivity-scoped S n i A u has low h k =
     app-scoped (app-scoped (record { variables = omega arith; entries = (equality_family i, (has i low).entry, omega arith) }) h) k

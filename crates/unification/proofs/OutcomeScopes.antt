@@ -29,7 +29,7 @@ end-scoped S s (Fails step u v) h good = ((good.0.0, tt), h.context, good.0.1, g
 end-scoped S s (Sticks why u v) h good = (tt, h.context, good.0.0, good.0.1)
 
 -- the run from a scoped state on
-pub run-scoped : (S : Signature) (s : State) (left : ℕ) → IsReady S → IsScopedState S s → IfOk (run_of S s left).0 (IsScopedOutcome S (length s.context))
+run-scoped : (S : Signature) (s : State) (left : ℕ) → IsReady S → IsScopedState S s → IfOk (run_of S s left).0 (IsScopedOutcome S (length s.context))
 run-scoped S s left ready h =
     run-has S (IsScopedState S) (λ s. IsScopedOutcome S (length s.context))
     (λ s left rest turn good is. end-scoped S s turn good (is.right ready good).good)

@@ -34,9 +34,6 @@ fsuc n i = App (App (Con 47 1) n) i
 abbrev pub Has : Term → Term → Term
 Has n i = App (App (Fam 48) n) i
 
-abbrev pub here_term : Term → Term
-here_term n = App (Con 48 0) n
-
 abbrev pub there_term : Term → Term → Term → Term
 there_term n i h = App (App (App (Con 48 1) n) i) h
 

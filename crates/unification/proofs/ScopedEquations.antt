@@ -48,7 +48,7 @@ equations-form X left right =
 
 -- ---- their scopes
 
-pub equations_at-scoped : (S : Signature) (n k : ℕ) (X : List Item) (types : Telescope) (left right : List Term)
+equations_at-scoped : (S : Signature) (n k : ℕ) (X : List Item) (types : Telescope) (left right : List Term)
     → IsScopedTelescope S (n + k) (map (λ item. item.type) X) → All (λ item. item.level < top) X → IsScopedTelescope S (n + k) types → HaveForms X types
     → All (IsScoped S n) left → All (IsScoped S n) right → AreScopedEquations S n k (equations_at X types left right)
 equations_at-scoped S n k [] types left right hx levels ht forms hl hr = tt

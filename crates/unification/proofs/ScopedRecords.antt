@@ -95,7 +95,7 @@ items-scoped S m (a ∷ types) (l ∷ levels) h k =
     }
 
 -- as many items as types
-pub length-items_at : (types : Telescope) (levels : List ℕ) → length types ≡ length levels → length (items_at types levels) ≡ length types
+length-items_at : (types : Telescope) (levels : List ℕ) → length types ≡ length levels → length (items_at types levels) ≡ length types
 length-items_at [] levels e = refl
 length-items_at (a ∷ types) [] e = absurd (omega arith)
 length-items_at (a ∷ types) (l ∷ levels) e = ap suc (length-items_at types levels (omega arith))
