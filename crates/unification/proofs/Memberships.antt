@@ -6,7 +6,7 @@ use Rattle.std.proofs.lemmas.Option.{cond_some, option_and_then_some}
 use Rattle.std.proofs.lemmas.List.Elements.{All-nil, All-cons, All-head, All-tail, All-take}
 use Rattle.std.specs.List.{All}
 use Rattle.theory.specs.Terms.{Term, lift}
-use Rattle.theory.specs.Terms.Term.{Var, Sort, Pi, Lam, App, Let, Const, Fam, Con, Elim, AxiomK}
+use Rattle.theory.specs.Terms.Term.{Var, Pi, Lam, App, Let, Fam}
 use Rattle.theory.specs.Substitutions.{ren, up}
 use Rattle.theory.specs.Telescopes.{applied, variables}
 use Rattle.theory.specs.Spines.{head_of, spine_of}
