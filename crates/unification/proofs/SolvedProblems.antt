@@ -1,12 +1,11 @@
 -- A solved problem is unified: from the end of a chain of steps backwards, the sides of each equation convert under an
 -- instantiation, which makes the solution of a state that of the end.
 use Rattle.std.proofs.Common.{◌≡◌, ℕ, zero, suc, ◌+◌, ◌-◌, ◌<◌, Some, List, [], ◌∷◌, ◌++◌, length, map, take, drop, slice_get, refl, ap, ap₂, sym, subst as transport, ◌∙◌, arith}
-use Rattle.std.proofs.lemmas.List.{map-append, length-map}
 use Rattle.theory.specs.Terms.{Term}
 use Rattle.theory.specs.Terms.Term.{Var, Con}
 use Rattle.theory.specs.Substitutions.{inst}
-use Rattle.theory.specs.Telescopes.{Telescope, applied}
-use Rattle.theory.specs.Families.{Family, Constructor}
+use Rattle.theory.specs.Telescopes.{applied}
+use Rattle.theory.specs.Families.{Family}
 use Rattle.theory.specs.Signatures.{Signature, HasClosedBodies, reflexivity}
 use Rattle.theory.specs.Conversion.{Converts}
 use Rattle.theory.specs.Conversion.Converts.{same}
@@ -14,11 +13,9 @@ use Rattle.theory.proofs.Lists.{some_is}
 use Rattle.theory.proofs.Congruence.{converts-trans, converts-sym}
 use Rattle.theory.proofs.Stability.{converts-inst}
 use Rattle.theory.proofs.Instances.{inst-inst, inst-var}
-use Rattle.theory.proofs.Instantiation.{inst-applied}
-use Rattle.theory.proofs.Scopes.{length-argument_types}
 use Rattle.core_terms.specs.CaseTrees.{Step}
 use Rattle.core_terms.specs.Levels.{variable}
-use Rattle.tele_eq.specs.Items.{Item, each_position}
+use Rattle.tele_eq.specs.Items.{Item}
 use Rattle.tele_eq.specs.Environments.{Environment, put}
 use Rattle.tele_eq.specs.TelescopicEquality.{equations}
 use Rattle.tele_eq.specs.ReflexivityLaws.{EachConverts}
@@ -27,16 +24,18 @@ use Rattle.unification.specs.Moving.{over_first, behind, moved}
 use Rattle.unification.specs.Occurrences.{order_without}
 use Rattle.unification.specs.Solving.{reordered, solved, solved_state, deleted_state}
 use Rattle.unification.specs.Injecting.{group_proofs, injected_state}
-use Rattle.unification.specs.Records.{items_at, argument_items, constructor_terms}
+use Rattle.unification.specs.Records.{argument_items, constructor_terms}
 use Rattle.unification.specs.Built.{Built, term_of}
 use Rattle.unification.specs.Paths.{IsBuilt}
 use Rattle.unification.specs.Coherence.{IsCoherent, AreMembers, targets_of}
 use Rattle.unification.specs.Rules.{level_of, IsFirst, IsSolvable, IsGroup, Steps, ChainWith}
 use Rattle.unification.specs.Rules.Steps.{solve_right, solve_left, inject_group, inject, delete}
 use Rattle.unification.specs.Rules.ChainWith.{none, more}
-use Rattle.unification.proofs.BuiltTerms.{one-family}
 use Rattle.unification.proofs.SolvedVariables.{solution_at, solved-is_inst, solved-agrees}
 use Rattle.unification.proofs.UnderInstances.{each-append, each-inst, each-applied, at_values, inst-values, values-each}
+use Rattle.unification.proofs.Counts.{length-equations}
+use Rattle.unification.proofs.ScopedRecords.{length-argument_items}
+use Rattle.unification.proofs.Constructors.{same-constructor, term-instance}
 
 -- the sides of each equation convert under an instantiation
 abbrev pub SidesConvert : Signature → (ℕ → Term) → List Equation → Type 0
@@ -132,50 +131,17 @@ sides-group S q (suc k) g (d ∷ equations) last e at before h rest =
 
 -- ---- constructors
 
-same-constructor : (S : Signature) (b d : Built) → IsBuilt S b → IsBuilt S d → b.n ≡ d.n → b.number ≡ d.number
-    → b.constructor ≡ d.constructor
-same-constructor S b d hb hd e number =
-    some_is
-    (sym hb.constructor
-    ∙ (ap₂ (λ (f : Family) (k : ℕ). slice_get f.constructors k) (one-family S b.n d.n b.family d.family hb.family hd.family e) number ∙ hd.constructor))
-
-inst-built : (q : ℕ → Term) (b : Built)
-    → inst q (term_of b) ≡ applied (Con b.n b.number) (map (inst q) b.parameters ++ map (inst q) b.arguments)
-inst-built q b =
-    inst-applied q (Con b.n b.number) (b.parameters ++ b.arguments)
-    ∙ ap (applied (Con b.n b.number)) (map-append (inst q) b.parameters b.arguments)
-
 -- one constructor at parameters and arguments that convert under an instantiation
 built-converts : (S : Signature) (q : ℕ → Term) (b d : Built) → b.n ≡ d.n → b.number ≡ d.number
     → EachConverts S (map (inst q) b.parameters) (map (inst q) d.parameters)
     → EachConverts S (map (inst q) b.arguments) (map (inst q) d.arguments)
     → Converts S (inst q (term_of b)) (inst q (term_of d))
 built-converts S q b d e number hp ha =
-    transport (λ t. Converts S t (inst q (term_of d))) (sym (inst-built q b))
-    (transport (Converts S (applied (Con b.n b.number) (map (inst q) b.parameters ++ map (inst q) b.arguments))) (sym (inst-built q d))
+    transport (λ t. Converts S t (inst q (term_of d))) (sym (term-instance q b))
+    (transport (Converts S (applied (Con b.n b.number) (map (inst q) b.parameters ++ map (inst q) b.arguments))) (sym (term-instance q d))
     (each-applied S (Con b.n b.number) (Con d.n d.number) _ _
     (transport (Converts S (Con b.n b.number)) (ap₂ Con e number) same)
     (each-append S (map (inst q) b.parameters) (map (inst q) d.parameters) (map (inst q) b.arguments) (map (inst q) d.arguments) hp ha)))
-
--- as many items as types
-pub length-items_at : (tele : Telescope) (levels : List ℕ) → length tele ≡ length levels → length (items_at tele levels) ≡ length tele
-length-items_at [] levels e = refl
-length-items_at (a ∷ tele) [] e = absurd (omega arith)
-length-items_at (a ∷ tele) (i ∷ levels) e = ap suc (length-items_at tele levels (omega arith))
-
--- there is an item for each argument
-pub length-argument_items : (n : ℕ) (ps : List Term) (c : Constructor) → length (argument_items n ps c) ≡ length c.arguments
-length-argument_items n ps c =
-    length-items_at _ _ (length-argument_types _ _ c.arguments ∙ sym (length-map c.arguments _))
-    ∙ length-argument_types _ _ c.arguments
-
-length-each_position : {A : Type 0} (f : ℕ → A) (j count : ℕ) → length (each_position f j count) ≡ count
-length-each_position f j zero = refl
-length-each_position f j (suc count) = ap suc (length-each_position f (j + 1) count)
-
--- and an equation for each item
-pub length-equations : (X : List Item) (us vs : List Term) → length (equations X us vs) ≡ length X
-length-equations X us vs = length-each_position _ 0 (length X)
 
 -- what the equations behind an injectivity tell: the arguments convert, and the equations behind the group hold
 injected-sides : (S : Signature) (s : State) (q : ℕ → Term) (g : ℕ) (f : Family) (ps : List Term) (b d : Built) → IsBuilt S b → IsBuilt S d

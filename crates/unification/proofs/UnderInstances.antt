@@ -1,6 +1,6 @@
 -- Lists of terms that convert one by one, under instantiations and in spines.
-use Rattle.std.proofs.Common.{◌≡◌, ℕ, zero, suc, ◌+◌, ◌<◌, ◌≤◌, ◌⊎◌, inl, inr, List, [], ◌∷◌, ◌++◌, length, map, refl, ap, ap₂, ◌∙◌, arith}
 use mathlib.Core.Path.{fun_ext}
+use Rattle.std.proofs.Common.{◌≡◌, ℕ, zero, suc, ◌+◌, ◌<◌, ◌≤◌, ◌⊎◌, inl, inr, List, [], ◌∷◌, ◌++◌, length, map, refl, ap, ap₂, ◌∙◌, arith}
 use Rattle.theory.specs.Terms.{Term, free_of}
 use Rattle.theory.specs.Terms.Term.{Var, Pi, Lam, App, Let}
 use Rattle.theory.specs.Substitutions.{inst, ups, weaken, extend, fill}
