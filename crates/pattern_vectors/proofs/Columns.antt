@@ -12,7 +12,7 @@ use Rattle.core_terms.specs.declared.pattern.Pat as code
 use Rattle.unification.specs.Built.{Built, built_of}
 use Rattle.pattern_vectors.specs.Matching.{is_as_long, is_constructor, matches, matches_built, matches_all, is_apart, is_apart_from, has_apart}
 use Rattle.pattern_vectors.specs.Whole.{last, is_whole_of, numbers_in}
-use Rattle.pattern_vectors.proofs.Constructors.{found}
+use Rattle.unification.proofs.Constructors.{found}
 use Rattle.pattern_vectors.proofs.Separate.{and-both}
 use Rattle.pattern_vectors.proofs.LastArguments.{last-item, last-none, matches-last, apart-last}
 

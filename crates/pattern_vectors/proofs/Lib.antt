@@ -1,6 +1,5 @@
 pub mod Columns
 pub mod CommonColumns
-pub mod Constructors
 mod Examples
 pub mod LastArguments
 pub mod Meets

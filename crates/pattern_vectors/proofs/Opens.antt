@@ -10,7 +10,7 @@ use Rattle.kernel_reduce.specs.Entries.{constructor_at}
 use Rattle.unification.specs.Built.{Built, built_of}
 use Rattle.pattern_vectors.specs.Matching.{is_as_long, is_constructor, is_there, matches, matches_built, matches_all, is_apart, is_apart_from, has_apart, are_apart}
 use Rattle.pattern_vectors.specs.Columns.{IsWhole, AreWhole, IsOpen, asks_constructor, asks_any, inside, SomeOpen, here, there}
-use Rattle.pattern_vectors.proofs.Constructors.{found-constructor}
+use Rattle.unification.proofs.Constructors.{found-constructor}
 use Rattle.pattern_vectors.proofs.Separate.{and-both}
 
 pub as-long-counted : {A B : Type 0} (pats : Pats) (xs : List A) (ys : List B) → length xs ≡ length ys → is_as_long pats xs ≡ is_as_long pats ys

@@ -7,7 +7,7 @@ use Rattle.theory.specs.Signatures.{Signature}
 use Rattle.core_terms.specs.Patterns.{Pat, Bind, Wild, Dot, Con, Absurd, Pats, nil, cons}
 use Rattle.unification.specs.Built.{Built, built_of}
 use Rattle.pattern_vectors.specs.Matching.{is_as_long, is_constructor, is_there, matches, matches_built, matches_all, is_apart, is_apart_from, has_apart, are_apart}
-use Rattle.pattern_vectors.proofs.Constructors.{built-instance}
+use Rattle.unification.proofs.Constructors.{built-instance}
 use Rattle.pattern_vectors.proofs.Separate.{and-both}
 
 pub as-long-instance : (s : ℕ → Term) (pats : Pats) (terms : List Term) → is_as_long pats (map (inst s) terms) ≡ is_as_long pats terms
