@@ -8,6 +8,7 @@ ghost use Rattle.structural_rec.specs.Meanings.{admission_of};
 ghost use Rattle.structural_rec.specs.Positions as spec;
 
 use crate::positions::{are_different, are_independent, fixed_below, positions_of};
+use crate::terms::small_term_at;
 use core_sig::{Family, Signature};
 use core_terms::{Stop, Term, copy_whole, head, into_spine};
 use kernel_reduce::family;
@@ -27,7 +28,7 @@ pub(crate) fn find_admission(alloc: Global, sig: &Signature, tele: &[Term], j: u
     requires { AreSmallTerms (tele_of tele.now) }
     ensures { Gives (option_map admission_of) result (Ok (spec.admission sig.now (tele_of tele.now) j)) }
 {
-    match tele.get(j as usize) {
+    match small_term_at(tele, j) {
         Some(ty) => admission_at_type(alloc, sig, tele, j, ty),
         None => Ok(None),
     }

@@ -7,6 +7,7 @@ ghost use Rattle.structural_rec.specs.Meanings.{choice_of, failing_of, uses_of};
 
 use crate::admission::find_admission;
 use crate::failing::first_failing;
+use crate::fitting::Place;
 use crate::occurrence::calls_itself;
 use crate::{Choice, Failing, Use};
 use core_sig::Signature;
@@ -47,8 +48,14 @@ fn failing_at(
 {
     match find_admission(alloc, sig, tele, j)? {
         Some(a) => {
-            let row = first_failing(alloc, sig, own, tele.len() as u32, j, &a, uses)?;
-            Ok(Some(row))
+            let p = Place {
+                sig,
+                own,
+                count: tele.len() as u32,
+                position: j,
+                admission: &a,
+            };
+            Ok(Some(first_failing(alloc, &p, uses)?))
         }
         None => Ok(None),
     }

@@ -1,28 +1,29 @@
 ghost use Rattle.std.specs.Prelude.{◌≡◌, ◌≤◌, Ok};
 ghost use Rattle.std.specs.List.{list_all};
-ghost use Rattle.theory.specs.Terms as tree;
 ghost use Rattle.theory.specs.Spines.{spine_of};
 ghost use Rattle.core_terms.specs.Answers.{Gives};
 ghost use Rattle.core_terms.specs.Meanings.{tree_of, tele_of};
-ghost use Rattle.tele_eq.specs.Items.{AreSmallTerms, IsSmall};
+ghost use Rattle.tele_eq.specs.Items.{AreSmallTerms};
 ghost use Rattle.kernel_reduce.specs.Entries.{family_at};
 ghost use Rattle.structural_rec.specs.Fitting as spec;
 ghost use Rattle.structural_rec.specs.Meanings.{admission_of};
 
 use crate::admission::Admission;
+use crate::terms::{lifted, small_term_at, term_at};
 use case_below_gen::is_strict_part;
 use core_sig::Signature;
-use core_terms::{Stop, Term, copy_whole, into_spine, lift};
+use core_terms::{Stop, Term, copy_whole, into_spine};
 use kernel_reduce::family;
 use std::alloc::Global;
 
-/// A small term under so many binders.
-fn lifted(alloc: Global, t: &Term, under: u32) -> Result<Term, Stop>
-    requires small { IsSmall (tree_of t.now) }
-    requires under { under ≤ 2000 }
-    ensures { Gives tree_of result (Ok (tree.lift (tree_of t.now) under 0)) }
-{
-    lift(alloc, t, under, 0)
+/// A position of `count`, with what recursion there rests on, for the function with the constant `own`.
+#[derive(Clone, Copy)]
+pub(crate) struct Place<'a> {
+    pub(crate) sig: &'a Signature,
+    pub(crate) own: u32,
+    pub(crate) count: u32,
+    pub(crate) position: u32,
+    pub(crate) admission: &'a Admission,
 }
 
 /// Whether `part` is a strict part of a term in family `n`.
@@ -38,22 +39,20 @@ fn is_part(sig: &Signature, n: u32, part: &Term, t: &Term) -> bool
 /// Whether the argument at position `i` is a strict part of the clause's own term there.
 fn smaller_at(
     alloc: Global,
-    sig: &Signature,
-    n: u32,
+    p: &Place,
     under: u32,
     args: &[Term],
     terms: &[Term],
-    i: u32,
 ) -> Result<bool, Stop>
     requires small { AreSmallTerms (tele_of terms.now) }
     requires under { under ≤ 2000 }
-    ensures { Gives (λ b. b) result (Ok (spec.pass_at (spec.is_smaller sig.now n under) (tele_of args.now) (tele_of terms.now) i)) }
+    ensures { Gives (λ b. b) result (Ok (spec.pass_at (spec.is_smaller p.now.sig.now p.now.admission.now.number under) (tele_of args.now) (tele_of terms.now) p.now.position)) }
 {
-    match args.get(i as usize) {
-        Some(arg) => match terms.get(i as usize) {
+    match term_at(args, p.position) {
+        Some(arg) => match small_term_at(terms, p.position) {
             Some(own) => {
                 let own = lifted(alloc, own, under)?;
-                Ok(is_part(sig, n, arg, &own))
+                Ok(is_part(p.sig, p.admission.number, arg, &own))
             }
             None => Ok(false),
         },
@@ -67,8 +66,8 @@ fn same_at(alloc: Global, under: u32, args: &[Term], terms: &[Term], i: u32) -> 
     requires under { under ≤ 2000 }
     ensures { Gives (λ b. b) result (Ok (spec.pass_at (spec.is_same under) (tele_of args.now) (tele_of terms.now) i)) }
 {
-    match args.get(i as usize) {
-        Some(arg) => match terms.get(i as usize) {
+    match term_at(args, i) {
+        Some(arg) => match small_term_at(terms, i) {
             Some(own) => {
                 let own = lifted(alloc, own, under)?;
                 Ok(arg.same(&own))
@@ -103,46 +102,40 @@ fn same_at_all(
     }
 }
 
-/// Whether the arguments of a call under so many binders fit position `j` of `count`.
+/// Whether the arguments of a call under so many binders fit the position.
 fn arguments_fit(
     alloc: Global,
-    sig: &Signature,
-    count: u32,
-    j: u32,
-    a: &Admission,
+    p: &Place,
     terms: &[Term],
     under: u32,
     args: &[Term],
 ) -> Result<bool, Stop>
     requires small { AreSmallTerms (tele_of terms.now) }
     requires under { under ≤ 2000 }
-    ensures { Gives (λ b. b) result (Ok (spec.arguments_fit sig.now count j (admission_of a.now) (tele_of terms.now) under (tele_of args.now))) }
+    ensures { Gives (λ b. b) result (Ok (spec.arguments_fit p.now.sig.now p.now.count p.now.position (admission_of p.now.admission.now) (tele_of terms.now) under (tele_of args.now))) }
 {
-    if args.len() < count as usize {
+    if args.len() < p.count as usize {
         return Ok(false);
     }
-    if smaller_at(alloc, sig, a.number, under, args, terms, j)? {
-        same_at_all(alloc, under, args, terms, a.fixed.as_slice())
+    if smaller_at(alloc, p, under, args, terms)? {
+        same_at_all(alloc, under, args, terms, p.admission.fixed.as_slice())
     } else {
         Ok(false)
     }
 }
 
-/// Whether a call under so many binders fits position `j` of `count`.
+/// Whether a call under so many binders fits the position.
 pub(crate) fn fits(
     alloc: Global,
-    sig: &Signature,
-    count: u32,
-    j: u32,
-    a: &Admission,
+    p: &Place,
     terms: &[Term],
     under: u32,
     call: &Term,
 ) -> Result<bool, Stop>
     requires small { AreSmallTerms (tele_of terms.now) }
     requires under { under ≤ 2000 }
-    ensures { Gives (λ b. b) result (Ok (spec.arguments_fit sig.now count j (admission_of a.now) (tele_of terms.now) under (spine_of (tree_of call.now)))) }
+    ensures { Gives (λ b. b) result (Ok (spec.arguments_fit p.now.sig.now p.now.count p.now.position (admission_of p.now.admission.now) (tele_of terms.now) under (spine_of (tree_of call.now)))) }
 {
     let args = into_spine(alloc, copy_whole(alloc, call)?)?;
-    arguments_fit(alloc, sig, count, j, a, terms, under, args.as_slice())
+    arguments_fit(alloc, p, terms, under, args.as_slice())
 }

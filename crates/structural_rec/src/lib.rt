@@ -10,6 +10,7 @@ mod fitting;
 pub mod laws;
 mod occurrence;
 mod positions;
+mod terms;
 
 pub use choice::{Choice, Failing, Use};
 pub use choosing::choose_position;
