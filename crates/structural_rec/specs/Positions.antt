@@ -34,11 +34,14 @@ pub data IsFixed (tele : List Term) (j : ℕ) (ps : List Term) : ℕ → Type 0 
   parameter : {i : ℕ} → have_position j i ps ≡ true → IsFixed tele j ps i
   behind : {k i : ℕ} → IsFixed tele j ps k → mentions tele k i ≡ true → IsFixed tele j ps i
 
+-- position i before the fixed positions that are found behind it, where the parameters or the types of these mention it
+abbrev pub with_fixed : (tele : List Term) (j : ℕ) (ps : List Term) (i : ℕ) (found : List ℕ) → List ℕ
+with_fixed tele j ps i found = cond (have_position j i ps || list_any (λ k. mentions tele k i) found) (i ∷ found) found
+
 -- the fixed positions below `at`, before those that are found already
 abbrev pub fixed_below : (tele : List Term) (j : ℕ) (ps : List Term) (at : ℕ) (found : List ℕ) → List ℕ
 fixed_below tele j ps zero found = found
-fixed_below tele j ps (suc at) found =
-    fixed_below tele j ps at (cond (have_position j at ps || list_any (λ k. mentions tele k at) found) (at ∷ found) found)
+fixed_below tele j ps (suc at) found = fixed_below tele j ps at (with_fixed tele j ps at found)
 
 -- the fixed positions, in the order of the telescope
 abbrev pub fixed_positions : (tele : List Term) (j : ℕ) (ps : List Term) → List ℕ

@@ -94,7 +94,7 @@ fn admission_at(
 {
     match positions_of(alloc, j, indices)? {
         Some(indices) => {
-            let fixed = fixed_below(alloc, tele, j, params, j, Vec::new(alloc))?;
+            let fixed = fixed_below(tele, j, params, j, Vec::new(alloc))?;
             Ok(admission_from(tele, n, fixed, indices))
         }
         None => Ok(None),

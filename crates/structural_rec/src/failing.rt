@@ -34,6 +34,7 @@ fn unless_fits(
 
 /// The first call in `t` that does not fit; `whole` is the application of `t` to what stands behind it.
 #[cycle(failing_call)]
+#[tactic(auto, using(crate::proofs::FailingCalls::failing_append, crate::proofs::FailingCalls::or_assoc))]
 fn failing_call(
     alloc: Global,
     p: &Place,

@@ -75,14 +75,31 @@ fn one_mentions(tele: &[Term], i: u32, positions: &[u32]) -> bool
     }
 }
 
+/// Position `i` before the fixed positions that are found behind it, where the parameters or the types of these mention it.
+fn with_fixed(
+    tele: &[Term],
+    j: u32,
+    params: &[Term],
+    i: u32,
+    mut found: Vec<u32>,
+) -> Result<Vec<u32>, Stop>
+    requires tele { AreSmallTerms (tele_of tele.now) }
+    requires params { AreSmallTerms (tele_of params.now) }
+    ensures { Gives (λ v. v.items) result (Ok (spec.with_fixed (tele_of tele.now) j (tele_of params.now) i found.items)) }
+{
+    if have_position(j, i, params) || one_mentions(tele, i, found.as_slice()) {
+        found.insert(0, i)?;
+    }
+    Ok(found)
+}
+
 /// The fixed positions below `at`, before those that are found already.
 pub(crate) fn fixed_below(
-    alloc: Global,
     tele: &[Term],
     j: u32,
     params: &[Term],
     at: u32,
-    mut found: Vec<u32>,
+    found: Vec<u32>,
 ) -> Result<Vec<u32>, Stop>
     requires tele { AreSmallTerms (tele_of tele.now) }
     requires params { AreSmallTerms (tele_of params.now) }
@@ -91,11 +108,8 @@ pub(crate) fn fixed_below(
     if at == 0 {
         return Ok(found);
     }
-    let at = at - 1;
-    if have_position(j, at, params) || one_mentions(tele, at, found.as_slice()) {
-        found.insert(0, at)?;
-    }
-    fixed_below(alloc, tele, j, params, at, found)
+    let found = with_fixed(tele, j, params, at - 1, found)?;
+    fixed_below(tele, j, params, at - 1, found)
 }
 
 /// The position of a term that stands at `j`, where it is a variable before `j`.
