@@ -12,7 +12,7 @@ use Rattle.core_sig.specs.Meanings.{family_of}
 use Rattle.structural_rec.specs.Positions.{admission_at, admission_with}
 use Rattle.structural_rec.proofs.SmallTerms.{map-take, map-drop}
 
-admission-whole : (tele : List Term) (j n : ℕ) (spine : List Term) (f : Family) → length spine ≡ length f.parameters + length f.indices
+pub admission-whole : (tele : List Term) (j n : ℕ) (spine : List Term) (f : Family) → length spine ≡ length f.parameters + length f.indices
     → admission_with tele j n spine f ≡ admission_at tele j n (take (length f.parameters) spine) (drop (length f.parameters) spine)
 admission-whole tele j n spine f counted = by (length spine == length f.parameters + length f.indices) refl
   where

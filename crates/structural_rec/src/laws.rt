@@ -1,7 +1,37 @@
 //! What the choice of a position means.
-ghost use Rattle.structural_rec.specs.Laws.{AdmissionDecides, AtIsLeastUsable, ConstantIsCalled, FinitaryPartsAreLower, FinitaryPartsEnd, FitsDecides, FixedAreClosed, NotRecursiveIsExact, NotSmallerIsExact, PartsAreLower};
+ghost use Rattle.structural_rec.specs.Laws.{AdmissionDecides, ConstantIsCalled, FinitaryPartsAreLower, FinitaryPartsEnd, FitsDecides, FixedAreClosed, PartsAreLower};
 
 /// The fixed positions are the parameters' variables, closed under those that their types mention.
 pub fn fixed_are_closed()
     ensures { FixedAreClosed }
+{}
+
+/// A position admits recursion exactly where something is found that it rests on.
+pub fn admission_decides()
+    ensures { AdmissionDecides }
+{}
+
+/// A call passes the test exactly where it fits.
+pub fn fits_decides()
+    ensures { FitsDecides }
+{}
+
+/// There is a call exactly where the constant stands in the term.
+pub fn constant_is_called()
+    ensures { ConstantIsCalled }
+{}
+
+/// A strict part is something lower than the whole, at arguments.
+pub fn parts_are_lower()
+    ensures { PartsAreLower }
+{}
+
+/// Where no recursive argument is a function, a strict part is itself lower.
+pub fn finitary_parts_are_lower()
+    ensures { FinitaryPartsAreLower }
+{}
+
+/// Then no term has strict parts within strict parts for ever.
+pub fn finitary_parts_end()
+    ensures { FinitaryPartsEnd }
 {}
