@@ -1,7 +1,9 @@
 mod Examples
 pub mod Admissions
 pub mod AdmittingPositions
+pub mod ChosenPositions
 pub mod FailingCalls
+pub mod FirstFailing
 pub mod FittingCalls
 pub mod FixedPositions
 pub mod LowerParts

@@ -1,5 +1,5 @@
 //! What the choice of a position means.
-ghost use Rattle.structural_rec.specs.Laws.{AdmissionDecides, ConstantIsCalled, FinitaryPartsAreLower, FinitaryPartsEnd, FitsDecides, FixedAreClosed, PartsAreLower};
+ghost use Rattle.structural_rec.specs.Laws.{AdmissionDecides, AtIsLeastUsable, ConstantIsCalled, FinitaryPartsAreLower, FinitaryPartsEnd, FitsDecides, FixedAreClosed, NotRecursiveIsExact, NotSmallerIsExact, PartsAreLower};
 
 /// The fixed positions are the parameters' variables, closed under those that their types mention.
 pub fn fixed_are_closed()
@@ -19,6 +19,22 @@ pub fn fits_decides()
 /// There is a call exactly where the constant stands in the term.
 pub fn constant_is_called()
     ensures { ConstantIsCalled }
+{}
+
+/// `NotRecursive` is chosen exactly where the constant stands in no right side and in no scrutinee.
+pub fn not_recursive_is_exact()
+    ensures { NotRecursiveIsExact }
+{}
+
+/// A position is chosen exactly where the function calls itself and the position is the least usable one.
+pub fn at_is_least_usable()
+    ensures { AtIsLeastUsable }
+{}
+
+/// `NotSmaller` is answered exactly where the function calls itself and no position is usable, with the first failing call of each
+/// position that admits recursion.
+pub fn not_smaller_is_exact()
+    ensures { NotSmallerIsExact }
 {}
 
 /// A strict part is something lower than the whole, at arguments.
