@@ -1,7 +1,8 @@
 -- Strict parts are lower.
-use Rattle.std.proofs.Common.{◌≡◌, ℕ, zero, suc, ◌+◌, ◌<◌, ◌≤◌, List, [], ◌∷◌, length, Option, Some, None, option_map, slice_get, refl, sym, ap, ◌∙◌, subst, arith}
+use Rattle.std.proofs.Common.{◌≡◌, ◌≢◌, ◌⊎◌, inl, inr, ℕ, zero, suc, ◌+◌, ◌<◌, ◌≤◌, List, [], ◌∷◌, length, Option, Some, None, option_map, slice_get, refl, sym, ap, ◌∙◌, subst, arith}
 use Rattle.std.proofs.lemmas.Option.{none-some}
-use Rattle.theory.specs.Terms.{Term, height}
+use Rattle.theory.specs.Terms.{Term, App, Con, height}
+use Rattle.theory.specs.Spines.{head_of}
 use Rattle.theory.specs.Telescopes.{Telescope, applied}
 use Rattle.theory.specs.Families.{Argument, Plain, Recursive, Constructor, Family}
 use Rattle.theory.proofs.Lists.{some_is}
@@ -12,7 +13,7 @@ use Rattle.core_sig.specs.declared.family.ArgKind.TheVariants.{Plain as PlainKin
 use Rattle.case_below_gen.specs.StrictParts.{IsRecursiveArgument, IsStrictPart}
 use Rattle.case_below_gen.specs.StrictParts.IsStrictPart.{itself, inside}
 use Rattle.case_below_gen.proofs.PartTests.{argument-low}
-use Rattle.structural_rec.specs.Laws.{IsFinitary}
+use Rattle.structural_rec.specs.Laws.{IsFinitary, TakesNoConstructor}
 
 recursive-low : (n : ℕ) (f : Family) (t r : Term) (count : ℕ) → IsRecursiveArgument n f t r count → height r < height t
 recursive-low n f t r count is = argument-low t r (length f.parameters + is.at) is.argument
@@ -58,11 +59,42 @@ finitary-lower n f part finitary (inside {t} {r} is rest) =
 
 -- ---- no chain goes on for ever
 
-ends-within : (n : ℕ) (f : Family) → IsFinitary f → (room : ℕ) (chain : ℕ → Term) → height (chain 0) ≤ room → ((i : ℕ) → IsStrictPart n f (chain (suc i)) (chain i)) → ⊥
-ends-within n f finitary zero chain low parts = let lower = finitary-lower n f (chain 1) finitary (parts 0) in omega arith
-ends-within n f finitary (suc room) chain low parts =
-    let lower = finitary-lower n f (chain 1) finitary (parts 0) in
-    ends-within n f finitary room (λ i. chain (suc i)) (omega arith) (λ i. parts (suc i))
+-- only constructors have strict parts
+part-constructor : (n : ℕ) (f : Family) (part : Term) {t : Term} → IsStrictPart n f part t → (number : ℕ) × (head_of t ≡ Con n number)
+part-constructor n f part (itself inner is form) = (is.number, is.head)
+part-constructor n f part (inside is rest) = (is.number, is.head)
 
-pub parts-end : (n : ℕ) (f : Family) (chain : ℕ → Term) → IsFinitary f → ((i : ℕ) → IsStrictPart n f (chain (suc i)) (chain i)) → ⊥
-parts-end n f chain finitary parts = ends-within n f finitary (height (chain 0)) chain (omega arith) parts
+head_of-applied : (h : Term) (us : List Term) → head_of (applied h us) ≡ head_of h
+head_of-applied h [] = refl
+head_of-applied h (u ∷ us) = head_of-applied (App h u) us
+
+-- an argument takes no constructor where the term takes none
+argument-takes : (n : ℕ) (f : Family) (t r : Term) → IsRecursiveArgument n f t r 0 → TakesNoConstructor n f t → TakesNoConstructor n f r
+argument-takes n f t r is takes u s count number (inl same) function = takes u s count number (inr (itself [] is same)) function
+argument-takes n f t r is takes u s count number (inr part) function = takes u s count number (inr (inside is part)) function
+
+-- a part is lower, or no constructor
+lower-or-none : (n : ℕ) (f : Family) (part : Term) {t : Term} → TakesNoConstructor n f t → IsStrictPart n f part t
+    → (height part < height t) ⊎ ((number : ℕ) → head_of part ≢ Con n number)
+lower-or-none n f part takes (itself {t} {r} [] is form) = inl (subst (λ u. height u < height t) (sym form) (recursive-low n f t r 0 is))
+lower-or-none n f part takes (itself {t} {r} (a ∷ inner) is form) =
+    inr (λ number e. takes t r (length inner) number (inl refl) is (sym (head_of-applied r (a ∷ inner)) ∙ (ap head_of (sym form) ∙ e)))
+lower-or-none n f part takes (inside {t} {r} is rest) = elim (lower-or-none n f part (argument-takes n f t r is takes) rest) [
+  | inl lower ↦ let low = recursive-low n f t r 0 is in inl (omega arith)
+  | inr other ↦ inr other
+]
+
+ends-within : (n : ℕ) (f : Family) (room : ℕ) (chain : ℕ → Term) → height (chain 0) ≤ room → ((i : ℕ) → TakesNoConstructor n f (chain i))
+    → ((i : ℕ) → IsStrictPart n f (chain (suc i)) (chain i)) → ⊥
+ends-within n f zero chain low takes parts = elim (lower-or-none n f (chain 1) (takes 0) (parts 0)) [
+  | inl lower ↦ omega arith
+  | inr other ↦ let next = part-constructor n f (chain 2) (parts 1) in other next.0 next.1
+]
+ends-within n f (suc room) chain low takes parts = elim (lower-or-none n f (chain 1) (takes 0) (parts 0)) [
+  | inl lower ↦ ends-within n f room (λ i. chain (suc i)) (omega arith) (λ i. takes (suc i)) (λ i. parts (suc i))
+  | inr other ↦ let next = part-constructor n f (chain 2) (parts 1) in other next.0 next.1
+]
+
+pub parts-end : (n : ℕ) (f : Family) (chain : ℕ → Term) → ((i : ℕ) → TakesNoConstructor n f (chain i))
+    → ((i : ℕ) → IsStrictPart n f (chain (suc i)) (chain i)) → ⊥
+parts-end n f chain takes parts = ends-within n f (height (chain 0)) chain (omega arith) takes parts

@@ -1,10 +1,11 @@
 -- What the choice of a position means.
 use Rattle.std.specs.Prelude.{◌≡◌, ◌≢◌, ◌⊎◌, ◌↔◌, ℕ, suc, ◌+◌, ◌<◌, ◌≤◌, Bool, true, false, Some, List, [], ◌∷◌, ◌++◌, length, slice_get, All}
-use Rattle.theory.specs.Terms.{Term, height}
+use Rattle.theory.specs.Terms.{Term, Con, height}
+use Rattle.theory.specs.Spines.{head_of}
 use Rattle.theory.specs.Telescopes.{applied}
 use Rattle.theory.specs.Families.{Family, Constructor, Argument, Plain, Recursive}
 use Rattle.theory.specs.Signatures.{Signature}
-use Rattle.case_below_gen.specs.StrictParts.{IsStrictPart}
+use Rattle.case_below_gen.specs.StrictParts.{IsRecursiveArgument, IsStrictPart}
 use Rattle.structural_rec.specs.Calls.{Call, calls, has_constant}
 use Rattle.structural_rec.specs.Positions.{Admission, Admits, IsFixed, admission, fixed_positions, is_among}
 use Rattle.structural_rec.specs.Uses.{Use, is_recursive}
@@ -94,12 +95,20 @@ IsFinitary f =
     (number at : ℕ) (c : Constructor) (inner targets : List Term) (level : ℕ) → slice_get f.constructors number ≡ Some c
     → slice_get c.arguments at ≡ Some (Recursive inner targets level) → inner ≡ []
 
--- where no recursive argument is a function, a strict part is itself lower,
+-- where no recursive argument is a function, a strict part is itself lower
 abbrev pub FinitaryPartsAreLower : Type 0
 FinitaryPartsAreLower =
     (n : ℕ) (f : Family) (part t : Term) → IsFinitary f → IsStrictPart n f part t → height part < height t
 
--- and no term has strict parts within strict parts for ever
-abbrev pub FinitaryPartsEnd : Type 0
-FinitaryPartsEnd =
-    (n : ℕ) (f : Family) (chain : ℕ → Term) → IsFinitary f → ((i : ℕ) → IsStrictPart n f (chain (suc i)) (chain i)) → ⊥
+-- In t, and in its strict parts, no recursive argument that is a function is itself a constructor of family n.
+abbrev pub TakesNoConstructor : ℕ → Family → Term → Type 0
+TakesNoConstructor n f t =
+    (u r : Term) (count number : ℕ) → (u ≡ t) ⊎ IsStrictPart n f u t → IsRecursiveArgument n f u r (suc count) → head_of r ≢ Con n number
+
+-- No chain of calls goes on for ever: there is no endless sequence of terms, each a strict part of the one before, unless a
+-- constructor is taken as a function. With such a function there may be one, as a function gives a part at each argument, but its
+-- terms have no type.
+abbrev pub PartsEnd : Type 0
+PartsEnd =
+    (n : ℕ) (f : Family) (chain : ℕ → Term) → ((i : ℕ) → TakesNoConstructor n f (chain i))
+    → ((i : ℕ) → IsStrictPart n f (chain (suc i)) (chain i)) → ⊥

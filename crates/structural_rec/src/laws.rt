@@ -1,5 +1,5 @@
 //! What the choice of a position means.
-ghost use Rattle.structural_rec.specs.Laws.{AdmissionDecides, AtIsLeastUsable, ConstantIsCalled, FinitaryPartsAreLower, FinitaryPartsEnd, FitsDecides, FixedAreClosed, NotRecursiveIsExact, NotSmallerIsExact, PartsAreLower};
+ghost use Rattle.structural_rec.specs.Laws.{AdmissionDecides, AtIsLeastUsable, ConstantIsCalled, FinitaryPartsAreLower, FitsDecides, FixedAreClosed, NotRecursiveIsExact, NotSmallerIsExact, PartsAreLower, PartsEnd};
 
 /// The fixed positions are the parameters' variables, closed under those that their types mention.
 pub fn fixed_are_closed()
@@ -47,7 +47,7 @@ pub fn finitary_parts_are_lower()
     ensures { FinitaryPartsAreLower }
 {}
 
-/// Then no term has strict parts within strict parts for ever.
-pub fn finitary_parts_end()
-    ensures { FinitaryPartsEnd }
+/// No chain of strict parts goes on for ever, unless a constructor is taken as a function.
+pub fn parts_end()
+    ensures { PartsEnd }
 {}
