@@ -10,5 +10,6 @@ pub mod LowerParts
 pub mod Members
 pub mod Occurrences
 pub mod Parts
+pub mod RecursionOrders
 pub mod Samples
 pub mod SmallTerms

@@ -1,5 +1,5 @@
 -- What the choice of a position means.
-use Rattle.std.specs.Prelude.{◌≡◌, ◌≢◌, ◌⊎◌, ◌↔◌, ℕ, suc, ◌+◌, ◌<◌, ◌≤◌, Bool, true, false, Some, List, [], ◌∷◌, ◌++◌, length, slice_get, All}
+use Rattle.std.specs.Prelude.{◌≡◌, ◌≢◌, ◌⊎◌, ◌↔◌, ℕ, suc, ◌+◌, ◌<◌, ◌≤◌, Bool, true, false, Some, List, [], ◌∷◌, ◌++◌, length, slice_get, All, AllPairs}
 use Rattle.theory.specs.Terms.{Term, Con, height}
 use Rattle.theory.specs.Spines.{head_of}
 use Rattle.theory.specs.Telescopes.{applied}
@@ -8,6 +8,7 @@ use Rattle.theory.specs.Signatures.{Signature}
 use Rattle.case_below_gen.specs.StrictParts.{IsRecursiveArgument, IsStrictPart}
 use Rattle.structural_rec.specs.Calls.{Call, calls, has_constant}
 use Rattle.structural_rec.specs.Positions.{Admission, Admits, IsFixed, admission, fixed_positions, is_among}
+use Rattle.structural_rec.specs.Orders.{recursion_order}
 use Rattle.structural_rec.specs.Uses.{Use, is_recursive}
 use Rattle.structural_rec.specs.Fitting.{Fits, AllFit, IsUsable, fits}
 use Rattle.structural_rec.specs.Choices.{Choice, NotRecursive, At, NotSmaller, Failing, choose, failing_row}
@@ -112,3 +113,15 @@ abbrev pub PartsEnd : Type 0
 PartsEnd =
     (n : ℕ) (f : Family) (chain : ℕ → Term) → ((i : ℕ) → TakesNoConstructor n f (chain i))
     → ((i : ℕ) → IsStrictPart n f (chain (suc i)) (chain i)) → ⊥
+
+-- ---- the recursion order
+
+-- Each of `count` positions stands in the order, once, and nothing else does.
+pub record IsOrder (count : ℕ) (order : List ℕ) : Type 0 where
+  pub whole : (i : ℕ) → i < count → is_among i order ≡ true
+  pub within : (i : ℕ) → is_among i order ≡ true → i < count
+  pub once : AllPairs (λ i k. i ≢ k) order
+
+abbrev pub OrderIsWhole : Type 0
+OrderIsWhole =
+    (S : Signature) (tele : List Term) (j : ℕ) (a : Admission) → Admits S tele j a → IsOrder (length tele) (recursion_order (length tele) j a)

@@ -17,14 +17,14 @@ use std::alloc::Global;
 /// What recursion at a position rests on: the number of the family of its type, the fixed positions in the order of the telescope,
 /// and the positions of the indices in the order of the family.
 #[derive(Debug, Drop)]
-pub(crate) struct Admission {
-    pub(crate) number: u32,
-    pub(crate) fixed: Vec<u32>,
-    pub(crate) indices: Vec<u32>,
+pub struct Admission {
+    pub number: u32,
+    pub fixed: Vec<u32>,
+    pub indices: Vec<u32>,
 }
 
 /// What recursion at position `j` rests on, where it admits recursion.
-pub(crate) fn find_admission(alloc: Global, sig: &Signature, tele: &[Term], j: u32) -> Result<Option<Admission>, Stop>
+pub fn find_admission(alloc: Global, sig: &Signature, tele: &[Term], j: u32) -> Result<Option<Admission>, Stop>
     requires { AreSmallTerms (tele_of tele.now) }
     ensures { Gives (option_map admission_of) result (Ok (spec.admission sig.now (tele_of tele.now) j)) }
 {

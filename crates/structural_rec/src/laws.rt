@@ -1,5 +1,5 @@
 //! What the choice of a position means.
-ghost use Rattle.structural_rec.specs.Laws.{AdmissionDecides, AtIsLeastUsable, ConstantIsCalled, FinitaryPartsAreLower, FitsDecides, FixedAreClosed, NotRecursiveIsExact, NotSmallerIsExact, PartsAreLower, PartsEnd};
+ghost use Rattle.structural_rec.specs.Laws.{AdmissionDecides, AtIsLeastUsable, ConstantIsCalled, FinitaryPartsAreLower, FitsDecides, FixedAreClosed, NotRecursiveIsExact, NotSmallerIsExact, OrderIsWhole, PartsAreLower, PartsEnd};
 
 /// The fixed positions are the parameters' variables, closed under those that their types mention.
 pub fn fixed_are_closed()
@@ -50,4 +50,9 @@ pub fn finitary_parts_are_lower()
 /// No chain of strict parts goes on for ever, unless a constructor is taken as a function.
 pub fn parts_end()
     ensures { PartsEnd }
+{}
+
+/// The recursion order at a position that admits recursion has each position of the telescope once.
+pub fn order_is_whole()
+    ensures { OrderIsWhole }
 {}

@@ -9,8 +9,11 @@ mod failing;
 mod fitting;
 pub mod laws;
 mod occurrence;
+mod orders;
 mod positions;
 mod terms;
 
+pub use admission::{Admission, find_admission};
 pub use choice::{Choice, Failing, Use};
 pub use choosing::choose_position;
+pub use orders::recursion_order;
