@@ -1,14 +1,16 @@
 -- Worked cases of the choice of a position. Positions and clauses count from 0.
-use Rattle.std.proofs.Common.{◌≡◌, ℕ, List, [], ◌∷◌, Some, None, refl}
+use Rattle.std.proofs.Common.{◌≡◌, ℕ, true, List, [], ◌∷◌, Some, None, refl}
 use Rattle.theory.specs.Terms.{Term}
 use Rattle.theory.specs.Terms.Term.{Var, Sort, Pi, Lam, App, Let, Const, Fam, Con}
 use Rattle.theory.specs.Telescopes.{applied}
+use Rattle.core_sig.specs.FamilyShapes.{family_shape}
+use Rattle.case_below_gen.specs.PartTests.{has_part}
 use Rattle.structural_rec.specs.Uses.{Use}
 use Rattle.structural_rec.specs.Positions.{Admission, admission}
 use Rattle.structural_rec.specs.Orders.{recursion_order}
 use Rattle.structural_rec.specs.Choices.{Choice, Failing, choose}
 use Rattle.structural_rec.specs.Choices.Choice.{NotRecursive, At, NotSmaller}
-use Rattle.structural_rec.proofs.Samples.{zero, suc, sample, self}
+use Rattle.structural_rec.proofs.Samples.{zero, suc, ord, sample, self}
 
 abbrev side : (clause : ℕ) → List Term → Term → Use
 side clause terms body = record { function = 0; clause = clause; terms = terms; body = body }
@@ -85,6 +87,11 @@ under_binder : choose sample (Fam 0 ∷ []) 9
     ≡ At 0
 unfolding native.Mathlib.Decide.ℕ_discrete
 under_binder = refl
+
+-- f n = \m. f m zero: more arguments than positions, and the row shows them all
+too_many : choose sample (Fam 0 ∷ []) 9 (side 0 (Var 0 ∷ []) (Lam (Fam 0) (self (Var 0 ∷ zero ∷ []))) ∷ []) ≡ NotSmaller (row 0 0 (self (Var 0 ∷ zero ∷ [])) ∷ [])
+unfolding native.Mathlib.Decide.ℕ_discrete
+too_many = refl
 
 -- f (suc n) k = ap (f n): fewer arguments than positions
 too_few : choose sample (Fam 0 ∷ Fam 0 ∷ []) 9
@@ -220,3 +227,15 @@ in_helper : choose sample (Fam 0 ∷ []) 9
     ≡ NotSmaller (record { position = 0; function = 1; clause = 0; call = self (suc (Var 0) ∷ []) } ∷ [])
 unfolding native.Mathlib.Decide.ℕ_discrete
 in_helper = refl
+
+-- with a constructor as a function, strict parts may go on for ever: os (lim os) in lim os, and lim os in os (lim os)
+abbrev lim_os : Term
+lim_os = App (Con 2 2) (Con 2 1)
+
+part_of_lim : has_part 2 (family_shape 2 ord) (App (Con 2 1) lim_os) lim_os ≡ true
+unfolding native.Mathlib.Decide.ℕ_discrete
+part_of_lim = refl
+
+part_of_os : has_part 2 (family_shape 2 ord) lim_os (App (Con 2 1) lim_os) ≡ true
+unfolding native.Mathlib.Decide.ℕ_discrete
+part_of_os = refl
