@@ -1,5 +1,5 @@
 -- A position admits recursion exactly where something is found that recursion there rests on.
-use Rattle.std.proofs.Common.{◌≡◌, ◌≢◌, ℕ, zero, suc, ◌+◌, ◌-◌, ◌<◌, ◌≤◌, Bool, true, false, ◌&&◌, ◌||◌, not, ◌==◌, nat_lt, cond, Option, Some, None, option_map, option_and_then, List, [], ◌∷◌, ◌++◌, length, map, take, drop, slice_get, inl, inr, refl, sym, ap, ap₂, ◌∙◌, subst, arith}
+use Rattle.std.proofs.Common.{◌≡◌, ◌≢◌, ℕ, zero, suc, ◌+◌, ◌-◌, ◌<◌, Bool, true, false, ◌&&◌, ◌||◌, not, ◌==◌, nat_lt, cond, Option, Some, None, option_map, option_and_then, List, [], ◌∷◌, ◌++◌, length, map, take, drop, slice_get, inl, inr, refl, sym, ap, ap₂, ◌∙◌, subst, arith}
 use Rattle.std.specs.Prelude.{◌↔◌, All, AllPairs}
 use Rattle.std.proofs.lemmas.Bool.{false≢true, and_from, or_from, or_parts, not-true, not_from_false}
 use Rattle.std.proofs.lemmas.Bool.Decides.{Decides-eqb, Decides-ltb}
@@ -12,7 +12,7 @@ use Rattle.theory.specs.Terms.{Term, Var, App, Fam}
 use Rattle.theory.specs.Spines.{head_of, spine_of}
 use Rattle.theory.specs.Telescopes.{applied}
 use Rattle.theory.specs.Families.{Family}
-use Rattle.theory.specs.Signatures.{Signature, FamilyOf, IsEntryAt}
+use Rattle.theory.specs.Signatures.{Signature}
 use Rattle.theory.proofs.Lists.{some_is}
 use Rattle.theory.proofs.Spines.{applied-spine}
 use Rattle.core_terms.specs.Levels.{variable}
@@ -135,9 +135,9 @@ independent-tells tele fixed indices (x ∷ last) h i among =
     let parts = and-tells (not (is_among x fixed) && mentions_only tele fixed indices x x) (are_independent tele fixed indices last) h in
     elim (or-tells (x == i) (is_among i last) among) [
       | inl here ↦
-        let one = and-tells (not (is_among x fixed)) (mentions_only tele fixed indices x x) parts.0 in
-        subst (λ k. (is_among k fixed ≡ false) × (mentions_only tele fixed indices k k ≡ true)) ((Decides-eqb x i).0 here)
-        (not-true (is_among x fixed) one.0, one.1)
+          let one = and-tells (not (is_among x fixed)) (mentions_only tele fixed indices x x) parts.0 in
+          subst (λ k. (is_among k fixed ≡ false) × (mentions_only tele fixed indices k k ≡ true)) ((Decides-eqb x i).0 here)
+          (not-true (is_among x fixed) one.0, one.1)
       | inr later ↦ independent-tells tele fixed indices last parts.1 i later
     ]
 

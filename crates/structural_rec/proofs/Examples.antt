@@ -8,7 +8,7 @@ use Rattle.case_below_gen.specs.PartTests.{has_part}
 use Rattle.structural_rec.specs.Uses.{Use}
 use Rattle.structural_rec.specs.Positions.{Admission, admission}
 use Rattle.structural_rec.specs.Orders.{recursion_order}
-use Rattle.structural_rec.specs.Choices.{Choice, Failing, choose}
+use Rattle.structural_rec.specs.Choices.{Failing, choose}
 use Rattle.structural_rec.specs.Choices.Choice.{NotRecursive, At, NotSmaller}
 use Rattle.structural_rec.proofs.Samples.{zero, suc, ord, sample, self}
 

@@ -1,5 +1,5 @@
 -- The test of a call tells what the relation says.
-use Rattle.std.proofs.Common.{◌≡◌, ℕ, ◌≤◌, Bool, true, false, ◌&&◌, ◌||◌, ◌==◌, nat_le, IsTrue, Option, Some, None, option_and_then, List, [], ◌∷◌, length, slice_get, inl, inr, refl, sym, ap, ap₂, ◌∙◌, subst, arith}
+use Rattle.std.proofs.Common.{◌≡◌, ℕ, Bool, true, false, ◌==◌, nat_le, Option, Some, None, option_and_then, List, [], ◌∷◌, length, slice_get, inl, inr, refl, ap, ap₂, ◌∙◌, subst, arith}
 use Rattle.std.specs.List.{list_all}
 use Rattle.std.specs.Prelude.{◌↔◌}
 use Rattle.std.proofs.lemmas.Bool.{false≢true, and_from, leb-true, le-leb}
@@ -9,18 +9,16 @@ use Rattle.theory.specs.Terms.{Term, Term-discrete, lift}
 use Rattle.theory.specs.Spines.{spine_of}
 use Rattle.theory.specs.Families.{Family}
 use Rattle.theory.specs.Signatures.{Signature, FamilyOf, IsEntryAt}
-use Rattle.theory.proofs.Lists.{some_is}
-use Rattle.core_sig.specs.FamilyShapes.{family_shape}
 use Rattle.kernel_reduce.specs.Entries.{family_in, family_at}
 use Rattle.kernel_reduce.proofs.LookUps.{family-found}
-use Rattle.case_below_gen.specs.PartTests.{same, has_part}
+use Rattle.case_below_gen.specs.PartTests.{same}
 use Rattle.case_below_gen.specs.StrictParts.{IsStrictPart}
 use Rattle.case_below_gen.proofs.PartTests.{applied-tells, and-tells, or-tells, part-decides}
 use Rattle.structural_rec.specs.Calls.{Call}
 use Rattle.structural_rec.specs.Positions.{Admission, is_among}
 use Rattle.structural_rec.proofs.LowerParts.{no-inner}
 use Rattle.structural_rec.proofs.Members.{among-first, among-later}
-use Rattle.structural_rec.specs.Fitting.{IsKept, Fits, part_in, is_smaller, is_same, both_pass, pass_at, arguments_fit, fits}
+use Rattle.structural_rec.specs.Fitting.{IsKept, Fits, part_in, is_smaller, is_same, both_pass, pass_at, fits}
 
 -- ---- letter for letter
 

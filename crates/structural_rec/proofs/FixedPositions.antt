@@ -1,5 +1,5 @@
 -- The positions that are found fixed are those of the relation.
-use Rattle.std.proofs.Common.{◌≡◌, ◌⊎◌, ℕ, zero, suc, ◌+◌, ◌<◌, ◌≤◌, Bool, true, false, ◌||◌, ◌&&◌, ◌==◌, nat_lt, cond, List, [], ◌∷◌, inl, inr, refl, sym, ap, ◌∙◌, subst, arith}
+use Rattle.std.proofs.Common.{◌≡◌, ℕ, zero, suc, ◌<◌, ◌≤◌, Bool, true, false, ◌||◌, ◌&&◌, ◌==◌, nat_lt, cond, List, [], ◌∷◌, inl, inr, refl, sym, ap, ◌∙◌, subst, arith}
 use Rattle.std.specs.List.{list_any}
 use Rattle.std.specs.Prelude.{◌↔◌}
 use Rattle.std.proofs.lemmas.Bool.{false≢true, or_left, or_right}
@@ -100,6 +100,7 @@ below-whole tele j ps (suc at) found known k fixed =
     (with-whole tele j ps at found (λ i lt f. known i (omega arith) f)) k fixed
 
 pub fixed-decides : (tele : List Term) (j : ℕ) (ps : List Term) (i : ℕ) → (is_among i (fixed_positions tele j ps) ≡ true) ↔ IsFixed tele j ps i
-fixed-decides tele j ps i =
-    (below-fixed tele j ps j [] (λ k h. absurd (false≢true h)) i,
-    λ fixed. below-whole tele j ps j [] (λ k le f. let lt = fixed-before tele j ps f in absurd (omega arith)) i fixed)
+fixed-decides tele j ps i = (
+  below-fixed tele j ps j [] (λ k h. absurd (false≢true h)) i,
+  λ fixed. below-whole tele j ps j [] (λ k le f. let lt = fixed-before tele j ps f in absurd (omega arith)) i fixed,
+)

@@ -4,12 +4,11 @@ use Rattle.std.proofs.lemmas.Option.{none-some}
 use Rattle.theory.specs.Terms.{Term, App, Con, height}
 use Rattle.theory.specs.Spines.{head_of}
 use Rattle.theory.specs.Telescopes.{Telescope, applied}
-use Rattle.theory.specs.Families.{Argument, Plain, Recursive, Constructor, Family}
+use Rattle.theory.specs.Families.{Argument, Plain, Recursive, Family}
 use Rattle.theory.proofs.Lists.{some_is}
 use Rattle.core_sig.specs.FamilyShapes.{kind_of}
 use Rattle.core_sig.specs.Shapes.{by_kind}
-use Rattle.core_sig.specs.declared.family.ArgKind.{ArgKind}
-use Rattle.core_sig.specs.declared.family.ArgKind.TheVariants.{Plain as PlainKind, Recursive as RecursiveKind}
+use Rattle.core_sig.specs.declared.family.ArgKind.TheVariants.{Recursive as RecursiveKind}
 use Rattle.case_below_gen.specs.StrictParts.{IsRecursiveArgument, IsStrictPart}
 use Rattle.case_below_gen.specs.StrictParts.IsStrictPart.{itself, inside}
 use Rattle.case_below_gen.proofs.PartTests.{argument-low}

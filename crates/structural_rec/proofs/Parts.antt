@@ -1,5 +1,5 @@
 -- The test for strict parts with a family that is looked up; small terms under binders.
-use Rattle.std.proofs.Common.{◌≡◌, ℕ, ◌≤◌, Bool, true, false, nat_le, IsTrue, if◌then◌else◌, Ok, Err, Option, Some, None, option_and_then, refl, sym, ap, ◌∙◌, subst, arith}
+use Rattle.std.proofs.Common.{◌≡◌, ℕ, ◌≤◌, Bool, true, false, nat_le, IsTrue, Ok, Some, refl, sym, ap, ◌∙◌, arith}
 use Rattle.std.specs.Prelude.{◌↔◌, Result}
 use Rattle.theory.specs.Terms.{Term, lift, height}
 use Rattle.theory.specs.Families.{Family}

@@ -2,7 +2,7 @@
 use Rattle.std.proofs.Common.{◌≡◌, ◌≢◌, ◌⊎◌, inl, inr, ℕ, zero, suc, ◌+◌, ◌-◌, ◌<◌, ◌≤◌, Bool, true, false, ◌||◌, ◌==◌, cond, List, [], ◌∷◌, ◌++◌, flat_map, length, refl, sym, ap, ◌∙◌, subst, append_assoc, arith}
 use Rattle.std.specs.List.{range_with_len, list_any}
 use Rattle.std.specs.Prelude.{All, AllPairs}
-use Rattle.std.proofs.lemmas.Bool.{false≢true, or_left, or_right, or_from, or_parts}
+use Rattle.std.proofs.lemmas.Bool.{false≢true, or_left, or_right}
 use Rattle.std.proofs.lemmas.Bool.Decides.{Decides-eqb}
 use Rattle.std.proofs.lemmas.List.Elements.{All-nil, All-cons, All-head, All-tail}
 use Rattle.std.proofs.lemmas.List.Kept.{AllPairs-cons}
@@ -11,7 +11,7 @@ use Rattle.theory.specs.Terms.{Term}
 use Rattle.theory.specs.Signatures.{Signature}
 use Rattle.theory.proofs.Lists.{AllPairs-append}
 use Rattle.case_below_gen.proofs.PartTests.{or-tells}
-use Rattle.structural_rec.specs.Positions.{Admission, Admits, IsFixed, have_position, mentions, is_among, with_fixed, fixed_below, fixed_positions}
+use Rattle.structural_rec.specs.Positions.{Admission, Admits, have_position, mentions, is_among, with_fixed, fixed_below, fixed_positions}
 use Rattle.structural_rec.specs.Orders.{unless_among, recursive_positions, recursion_order}
 use Rattle.structural_rec.specs.Laws.{IsOrder}
 use Rattle.structural_rec.proofs.FixedPositions.{fixed-before, fixed-decides}

@@ -1,5 +1,5 @@
 -- Families and functions that the worked cases are about.
-use Rattle.std.proofs.Common.{ℕ, false, List, [], ◌∷◌, map}
+use Rattle.std.proofs.Common.{false, List, [], ◌∷◌, map}
 use Rattle.theory.specs.Terms.Term.{Var, Sort, Pi, App, Const, Fam, Con}
 use Rattle.theory.specs.Terms.{Term}
 use Rattle.theory.specs.Telescopes.{applied}
@@ -26,9 +26,9 @@ vec = record {
   indices = (Fam 0, 0) ∷ [];
   level = 0;
   constructors =
-    constructor [] (zero ∷ [])
-    ∷ constructor (Plain (Fam 0) 0 ∷ Plain (Var 1) 0 ∷ Recursive [] (Var 1 ∷ []) 0 ∷ []) (suc (Var 2) ∷ [])
-    ∷ [];
+      constructor [] (zero ∷ [])
+      ∷ constructor (Plain (Fam 0) 0 ∷ Plain (Var 1) 0 ∷ Recursive [] (Var 1 ∷ []) 0 ∷ []) (suc (Var 2) ∷ [])
+      ∷ [];
 }
 
 -- zero, successors and limits of sequences
@@ -68,8 +68,8 @@ acc = record {
   indices = (Var 1, 0) ∷ [];
   level = 0;
   constructors =
-    constructor (Plain (Var 1) 0 ∷ Recursive (Var 2 ∷ App (App (Var 2) (Var 0)) (Var 1) ∷ []) (Var 1 ∷ []) 0 ∷ []) (Var 1 ∷ [])
-    ∷ [];
+      constructor (Plain (Var 1) 0 ∷ Recursive (Var 2 ∷ App (App (Var 2) (Var 0)) (Var 1) ∷ []) (Var 1 ∷ []) 0 ∷ []) (Var 1 ∷ [])
+      ∷ [];
 }
 
 abbrev pub sample : Signature

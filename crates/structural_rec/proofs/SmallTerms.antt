@@ -1,6 +1,6 @@
 -- Parts of small lists, and the arguments of a small term.
-use Rattle.std.proofs.Common.{◌≡◌, ℕ, zero, suc, ◌+◌, ◌≤◌, List, [], ◌∷◌, ◌++◌, length, take, drop, map, refl, ap, arith}
-use Rattle.theory.specs.Terms.{Term, App, height, free_of}
+use Rattle.std.proofs.Common.{◌≡◌, ℕ, zero, suc, List, [], ◌∷◌, ◌++◌, take, drop, map, refl, ap, arith}
+use Rattle.theory.specs.Terms.{Term, App}
 use Rattle.theory.specs.Spines.{spine_of}
 use Rattle.tele_eq.specs.Items.{IsSmall, AreSmallTerms}
 

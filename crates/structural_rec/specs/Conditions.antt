@@ -1,5 +1,5 @@
 -- What the choice of a position asks of its caller: terms that are not too high, with few variables.
-use Rattle.std.specs.Prelude.{ℕ, ◌≤◌, List, [], ◌∷◌, length}
+use Rattle.std.specs.Prelude.{◌≤◌, List, [], ◌∷◌, length}
 use Rattle.theory.specs.Terms.{Term}
 use Rattle.tele_eq.specs.Items.{IsSmall, AreSmallTerms}
 use Rattle.structural_rec.specs.Uses.{Use}

@@ -1,5 +1,5 @@
 -- Which calls fit a position that admits recursion, and which positions are usable.
-use Rattle.std.specs.Prelude.{◌≡◌, ℕ, ◌≤◌, Bool, true, false, ◌&&◌, nat_le, Option, Some, None, option_map, List, [], ◌∷◌, length, slice_get, All}
+use Rattle.std.specs.Prelude.{◌≡◌, ℕ, ◌≤◌, Bool, true, false, ◌&&◌, nat_le, Option, Some, None, List, length, slice_get, All}
 use Rattle.std.specs.List.{list_all}
 use Rattle.theory.specs.Terms.{Term, lift}
 use Rattle.theory.specs.Spines.{spine_of}

@@ -1,9 +1,9 @@
 -- What the choice of a position means.
-use Rattle.std.specs.Prelude.{◌≡◌, ◌≢◌, ◌⊎◌, ◌↔◌, ℕ, suc, ◌+◌, ◌<◌, ◌≤◌, Bool, true, false, Some, List, [], ◌∷◌, ◌++◌, length, slice_get, All, AllPairs}
+use Rattle.std.specs.Prelude.{◌≡◌, ◌≢◌, ◌⊎◌, ◌↔◌, ℕ, suc, ◌+◌, ◌<◌, ◌≤◌, true, false, Some, List, [], ◌∷◌, ◌++◌, length, slice_get, All, AllPairs}
 use Rattle.theory.specs.Terms.{Term, Con, height}
 use Rattle.theory.specs.Spines.{head_of}
 use Rattle.theory.specs.Telescopes.{applied}
-use Rattle.theory.specs.Families.{Family, Constructor, Argument, Plain, Recursive}
+use Rattle.theory.specs.Families.{Family, Constructor, Recursive}
 use Rattle.theory.specs.Signatures.{Signature}
 use Rattle.case_below_gen.specs.StrictParts.{IsRecursiveArgument, IsStrictPart}
 use Rattle.structural_rec.specs.Calls.{Call, calls, has_constant}
@@ -11,7 +11,7 @@ use Rattle.structural_rec.specs.Positions.{Admission, Admits, IsFixed, admission
 use Rattle.structural_rec.specs.Orders.{recursion_order}
 use Rattle.structural_rec.specs.Uses.{Use, is_recursive}
 use Rattle.structural_rec.specs.Fitting.{Fits, AllFit, IsUsable, fits}
-use Rattle.structural_rec.specs.Choices.{Choice, NotRecursive, At, NotSmaller, Failing, choose, failing_row}
+use Rattle.structural_rec.specs.Choices.{NotRecursive, At, NotSmaller, Failing, choose, failing_row}
 
 -- ---- what is tested
 

@@ -1,7 +1,7 @@
 -- Which positions of a telescope admit recursion. Positions count from the outermost type on; at position j, the variable that
 -- stands at an earlier position i is `variable j i`.
-use Rattle.std.specs.Prelude.{◌≡◌, ◌≢◌, ◌⊎◌, ℕ, zero, suc, ◌+◌, ◌-◌, ◌<◌, Bool, true, false, ◌&&◌, ◌||◌, not, ◌==◌, nat_lt, cond, Option, Some, None, option_map, option_and_then, List, [], ◌∷◌, ◌++◌, length, map, take, drop, slice_get, All, AllPairs}
-use Rattle.std.specs.List.{list_any, list_all}
+use Rattle.std.specs.Prelude.{◌≡◌, ◌≢◌, ℕ, zero, suc, ◌+◌, ◌-◌, ◌<◌, Bool, true, false, ◌&&◌, ◌||◌, not, ◌==◌, nat_lt, cond, Option, Some, None, option_map, option_and_then, List, [], ◌∷◌, ◌++◌, length, map, take, drop, slice_get, All, AllPairs}
+use Rattle.std.specs.List.{list_any}
 use Rattle.theory.specs.Terms.{Term, Var, Fam}
 use Rattle.theory.specs.Spines.{head_of, spine_of}
 use Rattle.theory.specs.Telescopes.{applied}

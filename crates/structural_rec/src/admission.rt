@@ -24,7 +24,12 @@ pub struct Admission {
 }
 
 /// What recursion at position `j` rests on, where it admits recursion.
-pub fn find_admission(alloc: Global, sig: &Signature, tele: &[Term], j: u32) -> Result<Option<Admission>, Stop>
+pub fn find_admission(
+    alloc: Global,
+    sig: &Signature,
+    tele: &[Term],
+    j: u32,
+) -> Result<Option<Admission>, Stop>
     requires { AreSmallTerms (tele_of tele.now) }
     ensures { Gives (option_map admission_of) result (Ok (spec.admission sig.now (tele_of tele.now) j)) }
 {
@@ -107,15 +112,18 @@ fn admission_from(tele: &[Term], n: u32, fixed: Vec<u32>, indices: Vec<u32>) -> 
     ensures { option_map admission_of result ≡ spec.admission_from (tele_of tele.now) n fixed.items indices.items }
 {
     if are_different(indices.as_slice())
-        && are_independent(tele, fixed.as_slice(), indices.as_slice(), indices.as_slice())
-    {
-        Some(
-            Admission {
-                number: n,
-                fixed,
-                indices,
-            },
+        && are_independent(
+            tele,
+            fixed.as_slice(),
+            indices.as_slice(),
+            indices.as_slice(),
         )
+    {
+        Some(Admission {
+            number: n,
+            fixed,
+            indices,
+        })
     } else {
         None
     }

@@ -93,16 +93,12 @@ fn failing_in(alloc: Global, p: &Place, one: &Use) -> Result<Option<Failing>, St
     ensures { Gives (option_map failing_of) result (Ok (spec.failing_in p.now.sig.now p.now.own p.now.count p.now.position (admission_of p.now.admission.now) (use_of one.now))) }
 {
     match failing_call(alloc, p, one.terms.as_slice(), 0, &one.body, &one.body)? {
-        Some(call) => Ok(
-            Some(
-                Failing {
-                    position: p.position,
-                    function: one.function,
-                    clause: one.clause,
-                    call,
-                },
-            ),
-        ),
+        Some(call) => Ok(Some(Failing {
+            position: p.position,
+            function: one.function,
+            clause: one.clause,
+            call,
+        })),
         None => Ok(None),
     }
 }

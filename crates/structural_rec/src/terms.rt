@@ -23,7 +23,11 @@ pub(crate) fn small_term_at(terms: &[Term], i: u32) -> Option<&Term>
 {
     match terms {
         [] => None,
-        [t, rest @ ..] => if i == 0 { Some(t) } else { small_term_at(rest, i - 1) },
+        [t, rest @ ..] => if i == 0 {
+            Some(t)
+        } else {
+            small_term_at(rest, i - 1)
+        },
     }
 }
 

@@ -1,9 +1,8 @@
-use Rattle.std.proofs.Common.{Ok, option_map, length, take, drop, sym, ap, ap₂, ◌∙◌, ◌+◌, subst}
+use Rattle.std.proofs.Common.{Ok, option_map, length, sym, ap, ◌∙◌, ◌+◌, subst}
 use Rattle.core_terms.specs.Answers.{Gives}
 use Rattle.core_terms.specs.Meanings.{tree_of, tele_of}
 use Rattle.tele_eq.specs.Items.{AreSmallTerms}
 use Rattle.structural_rec.specs.Meanings.{admission_of}
-use Rattle.structural_rec.specs.Positions.{admission_at}
 use Rattle.structural_rec.proofs.Admissions.{admission-split}
 use Rattle.structural_rec.proofs.SmallTerms.{small-take, map-take}
 use Rattle.structural_rec.proofs.admission.admission_with.Goals as goal
