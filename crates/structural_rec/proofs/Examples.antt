@@ -214,6 +214,60 @@ acc_short : choose sample over_acc 9
 unfolding native.Mathlib.Decide.ℕ_discrete
 acc_short = refl
 
+-- len A B a (cons x xs) = len (id A) B a xs over a list of B a: A stays fixed, since the type of B mentions it
+closed_parameter_varies : choose sample (Sort 0 ∷ Pi (Var 0) (Sort 0) ∷ Var 1 ∷ App (Fam 3) (App (Var 1) (Var 0)) ∷ []) 9
+    (side 0 (Var 2 ∷ Var 1 ∷ Var 0 ∷ App (Con 3 0) (App (Var 1) (Var 0)) ∷ []) zero
+    ∷ side 1 (Var 4 ∷ Var 3 ∷ Var 2 ∷ applied (Con 3 1) (App (Var 3) (Var 2) ∷ Var 1 ∷ Var 0 ∷ []) ∷ [])
+    (self (App (Const 8) (Var 4) ∷ Var 3 ∷ Var 2 ∷ Var 0 ∷ []))
+    ∷ [])
+    ≡ NotSmaller (row 3 1 (self (App (Const 8) (Var 4) ∷ Var 3 ∷ Var 2 ∷ Var 0 ∷ [])) ∷ [])
+unfolding native.Mathlib.Decide.ℕ_discrete
+closed_parameter_varies = refl
+
+-- an index that a parameter mentions: Acc A (R x) x
+index_is_fixed : admission sample
+    (Sort 0 ∷ Pi (Var 0) (Pi (Var 1) (Pi (Var 2) (Sort 0))) ∷ Var 1 ∷ applied (Fam 5) (Var 2 ∷ App (Var 1) (Var 0) ∷ Var 0 ∷ []) ∷ []) 3
+    ≡ None
+unfolding native.Mathlib.Decide.ℕ_discrete
+index_is_fixed = refl
+
+-- an index whose type mentions another variable: (k : Nat) (n : c k) (m : Nat) (Two n m)
+index_type_mentions : admission sample (Fam 0 ∷ App (Const 8) (Var 0) ∷ Fam 0 ∷ applied (Fam 4) (Var 1 ∷ Var 0 ∷ []) ∷ []) 3 ≡ None
+unfolding native.Mathlib.Decide.ℕ_discrete
+index_type_mentions = refl
+
+-- the indices stand in the order of the family: (A : Type 0) (m n : Nat) (Two n m)
+indices_exchanged : admission sample (Sort 0 ∷ Fam 0 ∷ Fam 0 ∷ applied (Fam 4) (Var 0 ∷ Var 1 ∷ []) ∷ []) 3
+    ≡ Some (record { number = 4; fixed = []; indices = 2 ∷ 1 ∷ [] })
+unfolding native.Mathlib.Decide.ℕ_discrete
+indices_exchanged = refl
+
+order_exchanged : recursion_order 4 3 (record { number = 4; fixed = []; indices = 2 ∷ 1 ∷ [] }) ≡ 2 ∷ 1 ∷ 3 ∷ 0 ∷ []
+order_exchanged = refl
+
+-- f (suc n) = f (f (suc n)): the outer call is looked at first
+outer_first : choose sample (Fam 0 ∷ []) 9
+    (side 0 (zero ∷ []) zero ∷ side 1 (suc (Var 0) ∷ []) (self (self (suc (Var 0) ∷ []) ∷ [])) ∷ [])
+    ≡ NotSmaller (row 0 1 (self (self (suc (Var 0) ∷ []) ∷ [])) ∷ [])
+unfolding native.Mathlib.Decide.ℕ_discrete
+outer_first = refl
+
+-- f (suc n) = (\g. g n) f: nothing is reduced
+not_reduced : choose sample (Fam 0 ∷ []) 9
+    (side 0 (zero ∷ []) zero
+    ∷ side 1 (suc (Var 0) ∷ []) (App (Lam (Pi (Fam 0) (Fam 0)) (App (Var 0) (Var 1))) (Const 9))
+    ∷ [])
+    ≡ NotSmaller (row 0 1 (Const 9) ∷ [])
+unfolding native.Mathlib.Decide.ℕ_discrete
+not_reduced = refl
+
+-- f (suc n) = f n -> f (suc n): the second part of a product is under a binder
+under_product : choose sample (Fam 0 ∷ []) 9
+    (side 0 (zero ∷ []) (Fam 0) ∷ side 1 (suc (Var 0) ∷ []) (Pi (self (Var 0 ∷ [])) (self (suc (Var 1) ∷ []))) ∷ [])
+    ≡ NotSmaller (row 0 1 (self (suc (Var 1) ∷ [])) ∷ [])
+unfolding native.Mathlib.Decide.ℕ_discrete
+under_product = refl
+
 -- a dot that names the function is no call
 in_dot : choose sample (Fam 0 ∷ []) 9 (side 0 (self (zero ∷ []) ∷ []) zero ∷ []) ≡ NotRecursive
 in_dot = refl

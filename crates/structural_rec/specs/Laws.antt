@@ -107,8 +107,7 @@ TakesNoConstructor n f t =
     (u r : Term) (count number : ℕ) → (u ≡ t) ⊎ IsStrictPart n f u t → IsRecursiveArgument n f u r (suc count) → head_of r ≢ Con n number
 
 -- No chain of calls goes on for ever: there is no endless sequence of terms, each a strict part of the one before, unless a
--- constructor is taken as a function. With such a function there may be one, as a function gives a part at each argument, but its
--- terms have no type.
+-- constructor is taken as a function. That gives a part at any argument whatever, so with one there may be an endless sequence.
 abbrev pub PartsEnd : Type 0
 PartsEnd =
     (n : ℕ) (f : Family) (chain : ℕ → Term) → ((i : ℕ) → TakesNoConstructor n f (chain i))
