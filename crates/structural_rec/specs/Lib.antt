@@ -1,0 +1,9 @@
+pub mod Calls
+pub mod Choices
+pub mod Conditions
+pub mod Fitting
+pub mod Laws
+pub mod Meanings
+pub mod Orders
+pub mod Positions
+pub mod Uses
