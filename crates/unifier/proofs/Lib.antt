@@ -1,0 +1,5 @@
+mod BuiltForms
+mod CycleForms
+mod LawsToCome
+mod Lowering
+mod WaitingTerms
