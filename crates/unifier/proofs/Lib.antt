@@ -1,3 +1,4 @@
+mod BuiltCodes
 mod BuiltForms
 mod CycleForms
 mod LawsToCome
