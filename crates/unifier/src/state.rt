@@ -33,6 +33,7 @@ pub(crate) struct State {
 }
 
 /// The equations at the places of a telescope.
+#[tactic(auto, using(tele_eq::proofs::Growing::growing))]
 pub(crate) fn equations_at(
     alloc: Global,
     tele: &[Item],
