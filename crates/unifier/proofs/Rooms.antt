@@ -7,13 +7,15 @@ use Rattle.theory.specs.Telescopes.{Telescope}
 use Rattle.theory.specs.Signatures.{Signature, reflexivity}
 use Rattle.theory.specs.SignatureScopes.{IsScoped, IsScopedTelescope}
 use Rattle.core_terms.specs.Answers.{is_low, are_low}
+use Rattle.core_terms.specs.Meanings.{tree_of, tele_of}
+use Rattle.core_terms.specs.declared.term.Term as code
 use Rattle.core_terms.specs.declared.stop.Stop.{Stop}
 use Rattle.core_terms.specs.declared.stop.Stop.TheVariants.{Deep}
 use Rattle.tele_eq.specs.Items.{term_at}
 use Rattle.unification.specs.Heights.{are_low_equations, bounded_state}
 use Rattle.unification.specs.States.{Equation, State}
 use Rattle.unification.specs.ScopedStates.{AreScopedEquations}
-use Rattle.unifier.specs.Conditions.{AreBehind, AreLow, AreOver, ArePut, AreTypesOver, HasRoom, IsKept, IsOver, most_levels, most_depth}
+use Rattle.unifier.specs.Conditions.{AreBehind, AreLow, AreOver, ArePut, AreTypesOver, HasRoom, HaveRoomFor, IsKept, IsOver, most_levels, most_depth}
 use Rattle.unifier.proofs.LowTerms.{and-parts, low-height, low-terms}
 
 -- ---- parts of lists
@@ -40,6 +42,15 @@ behind-drop n size zero equations le h = let e : size + 0 ≡ size = omega arith
 behind-drop n size (suc g) [] le h = absurd (omega arith)
 behind-drop n size (suc g) (e ∷ equations) le h =
     let s : size + suc g ≡ size + 1 + g = omega arith in rw s (behind-drop n (size + 1) g equations (omega arith) h.4)
+
+pub over-at : (n k : ℕ) (terms : List code.Term) (t : code.Term) → AreOver n (tele_of terms) → k < length terms → t ≡ get_or terms k t → IsOver n (tree_of t)
+over-at n k [] t h lt e = absurd (omega arith)
+over-at n zero (u ∷ terms) t h lt e = rw e h.0
+over-at n (suc k) (u ∷ terms) t h lt e = over-at n k terms t h.1 (omega arith) e
+
+pub put-room : (n by : ℕ) (terms : List Term) → ArePut n terms → by ≤ 2147500000 → HaveRoomFor by terms
+put-room n by [] h le = tt
+put-room n by (t ∷ terms) h le = let k = h.1 in let l = h.2 in (h.0, omega arith, put-room n by terms h.3 le)
 
 -- ---- states that are kept
 

@@ -131,9 +131,10 @@ deepest (place.Reordered order) = 2147600000
 deepest (place.Solved s) = 2147500000
 deepest (place.Behind b) = 2147500000
 
-abbrev pub AreSides : Sides → Type 0
-AreSides side.Same = Unit {0}
-AreSides (side.Solved s depth) = IsSolution s × (depth ≤ most_depth)
+-- sides of equations over n variables
+abbrev pub AreSides : (n : ℕ) → Sides → Type 0
+AreSides n side.Same = Unit {0}
+AreSides n (side.Solved s depth) = IsSolution s × (s.size ≡ n) × (depth ≤ most_depth)
 
 -- equations that stand behind `size` variables, each of them over those before it
 abbrev pub AreBehind : (n size : ℕ) → List Equation → Type 0

@@ -269,7 +269,7 @@ pub(crate) enum Sides<'a> {
 }
 
 fn side(alloc: Global, n: u32, sides: Sides, t: &Term) -> Result<Term, Stop>
-    requires sides { AreSides sides }
+    requires sides { AreSides n sides }
     requires over { IsOver n (tree_of t.now) }
     ensures { Gives tree_of result (Ok (side_of sides.entry (tree_of t.now))) }
 {
@@ -295,7 +295,7 @@ pub(crate) fn moved(
 ) -> Result<Items<Equation>, Stop>
     requires items { ArePlaces items }
     requires types { ArePlaces types }
-    requires sides { AreSides sides }
+    requires sides { AreSides n sides }
     requires depth { depth + length equations.now ≤ 2147401000 }
     requires equations { AreBehind n size (equations_of equations.now) }
     ensures { Gives equations_of result (Ok (equations_of made ++ spec.moved (environment_of items.entry) (environment_of types.entry) (side_of sides.entry) size depth (equations_of equations.now))) }
@@ -332,7 +332,7 @@ fn moved_equation(
 ) -> Result<Equation, Stop>
     requires items { ArePlaces items }
     requires types { ArePlaces types }
-    requires sides { AreSides sides }
+    requires sides { AreSides n sides }
     requires depth { depth ≤ 2147401000 }
     requires place { IsOver size (tree_of e.now.place.ty) }
     requires ty { IsOver size (tree_of e.now.ty) }
