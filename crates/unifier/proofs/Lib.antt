@@ -1,6 +1,12 @@
-mod BuiltCodes
-mod BuiltForms
-mod CycleForms
-mod LawsToCome
-mod Lowering
-mod WaitingTerms
+pub mod BuiltCodes
+pub mod BuiltForms
+pub mod CycleForms
+pub mod LawsToCome
+pub mod LowTerms
+pub mod Lowering
+pub mod Orders
+pub mod PutTerms
+pub mod RecordItems
+pub mod RecordSizes
+pub mod Rooms
+pub mod WaitingTerms

@@ -110,6 +110,16 @@ pub(crate) fn family_items(
     Ok(made)
 }
 
+/// The variables of a context of `count` types, from the outermost on, behind those that are made.
+pub(crate) fn with_variables(mut made: Tele, count: u32) -> Result<Tele, Stop>
+    ensures { Gives tele_of result (Ok (tele_of made ++ telescopes.variables count)) }
+{
+    for at in (0..count).rev() {
+        made.push(Term::Var(at))?;
+    }
+    Ok(made)
+}
+
 /// The targets of a constructor, and the constructor itself, at parameters and behind its arguments, or Deep.
 pub(crate) fn constructor_terms(
     alloc: Global,
@@ -123,10 +133,7 @@ pub(crate) fn constructor_terms(
     ensures { Gives tele_of result (bounded_terms (spec.constructor_terms n number (tele_of ps.now) (constructor_of (length ps.now) con.now))) }
 {
     let count = con.args.as_slice().len() as u32;
-    let mut values = lifted(alloc, count, ps)?;
-    for at in (0..count).rev() {
-        values.push(Term::Var(at))?;
-    }
+    let values = with_variables(lifted(alloc, count, ps)?, count)?;
     let targets = copy_tele(alloc, con.targets.as_slice())?;
     let mut made = inst_terms(alloc, values.as_slice(), targets.as_slice())?;
     made.push(at_nearest(alloc, Term::Con(n, number), ps, count)?)?;

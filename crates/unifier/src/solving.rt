@@ -9,9 +9,8 @@ ghost use Rattle.unification.specs.Heights.{bounded_state};
 ghost use Rattle.unifier.specs.Meanings.{equations_of, state_of};
 ghost use Rattle.unification.specs.Occurrences as occurrences;
 ghost use Rattle.unification.specs.Solving as spec;
-ghost use Rattle.unifier.specs.Conditions.{ArePlaces, ArePut, AreTypesOver, HasRoom, IsOver, IsPossible, IsSolution, most_depth, most_levels};
+ghost use Rattle.unifier.specs.Conditions.{AreBelow, ArePlaces, ArePut, AreTypesOver, HasRoom, IsOver, IsPossible, IsSolution, most_depth, most_levels};
 ghost use Rattle.unification.specs.Moving.{behind, over_first};
-ghost use Rattle.std.specs.List.{All};
 
 use crate::heights::{checked_state, with_equations};
 use crate::moving::{Behind, Places, Sides, Solution, moved, put, put_terms};
@@ -30,6 +29,7 @@ fn reflexivity(alloc: Global, level: u8, ty: Term, a: Term) -> Result<Term, Stop
 }
 
 /// The types of the variables with these levels, the first of which stands at a depth, behind those that are made.
+#[tactic(auto, using(tele_eq::proofs::Growing::growing))]
 fn new_context(
     alloc: Global,
     ctx: &[Term],
@@ -40,7 +40,7 @@ fn new_context(
 ) -> Result<Tele, Stop>
     requires solution { IsSolution solution }
     requires ctx { AreTypesOver 0 (tele_of ctx.now) }
-    requires levels { All (λ j. j < length ctx.now) order.now }
+    requires levels { AreBelow (length ctx.now) order.now }
     requires depth { depth + length order.now ≤ 2147400000 }
     ensures { Gives tele_of result (Ok (tele_of made ++ spec.new_context (tele_of ctx.now) (solved_environment solution.entry) depth order.now)) }
 {
