@@ -100,25 +100,25 @@ positive (App f a) = omega arith
 positive _ = omega arith
 
 -- each of the terms is lower than h
-abbrev pub AreBelow : (h : ℕ) → List Term → Type 0
-AreBelow h [] = Unit {0}
-AreBelow h (u ∷ us) = (height u < h) × AreBelow h us
+abbrev pub AreLower : (h : ℕ) → List Term → Type 0
+AreLower h [] = Unit {0}
+AreLower h (u ∷ us) = (height u < h) × AreLower h us
 
-below-more : (h k : ℕ) (us : List Term) → h ≤ k → AreBelow h us → AreBelow k us
-below-more h k [] le b = tt
-below-more h k (u ∷ us) le b = (omega (arith, b.0), below-more h k us le b.1)
+lower-more : (h k : ℕ) (us : List Term) → h ≤ k → AreLower h us → AreLower k us
+lower-more h k [] le b = tt
+lower-more h k (u ∷ us) le b = (omega (arith, b.0), lower-more h k us le b.1)
 
 applied-high : (f : Term) (us : List Term) → height f ≤ height (applied f us)
 applied-high f [] = omega arith
 applied-high f (u ∷ us) = let h = applied-high (App f u) us in omega arith
 
-applied-below : (f : Term) (us : List Term) → AreBelow (height (applied f us)) us
-applied-below f [] = tt
-applied-below f (u ∷ us) = (let h = applied-high (App f u) us in omega arith, applied-below (App f u) us)
+pub applied-lower : (f : Term) (us : List Term) → AreLower (height (applied f us)) us
+applied-lower f [] = tt
+applied-lower f (u ∷ us) = (let h = applied-high (App f u) us in omega arith, applied-lower (App f u) us)
 
-behind-below : (f : Term) (ps us : List Term) → AreBelow (height (applied f (ps ++ us))) us
-behind-below f [] us = applied-below f us
-behind-below f (p ∷ ps) us = behind-below (App f p) ps us
+behind-lower : (f : Term) (ps us : List Term) → AreLower (height (applied f (ps ++ us))) us
+behind-lower f [] us = applied-lower f us
+behind-lower f (p ∷ ps) us = behind-lower (App f p) ps us
 
 too-high : (room : ℕ) (v t : Term) → nat_le (height v) room ≡ false → height v < height t → within (suc room) (Some t) ≡ Err Deep
 too-high room v t e lt = ap (λ b. cond b (Ok (Some t)) (Err Deep)) (let f : nat_le (height t) (suc room) ≡ false = grind (arith, nat_tests) in f)
@@ -156,7 +156,7 @@ module _ (S : Signature) (n x room : ℕ) where
       go (Err e) rest = refl
       go (Ok v) rest = at-found wrap us M N lower same (search_in S n x v rest).0 (search_in S n x v rest).1
 
-  among-cut : (wrap : List Term → Term) → ((us : List Term) → AreBelow (height (wrap us)) us) → (arguments : List Argument) (us : List Term) (left : ℕ)
+  among-cut : (wrap : List Term → Term) → ((us : List Term) → AreLower (height (wrap us)) us) → (arguments : List Argument) (us : List Term) (left : ℕ)
       → bounded_by (suc room) (mapped wrap (among_arguments S (whole S n x) arguments us left))
       ≡ bounded_by (suc room) (mapped wrap (among_arguments S cut arguments us left))
   among-cut wrap lower [] us left = refl
@@ -174,4 +174,4 @@ pub search-among : (S : Signature) (x room : ℕ) (t : Term) (left : ℕ) (p : B
     ≡ bounded_by (suc room) (mapped (with_arguments p) (among_arguments S (λ before. search_within S p.n x room) p.constructor.arguments p.arguments left))
 search-among S x room t left p e =
     search-below S x (suc room) t left p e
-    ∙ among-cut S p.n x room (with_arguments p) (behind-below (Con p.n p.number) p.parameters) p.constructor.arguments p.arguments left
+    ∙ among-cut S p.n x room (with_arguments p) (behind-lower (Con p.n p.number) p.parameters) p.constructor.arguments p.arguments left

@@ -1,6 +1,8 @@
 pub mod BuiltCodes
 pub mod BuiltForms
+pub mod ConstructorTurns
 pub mod CycleForms
+pub mod GivenTerms
 pub mod LawsToCome
 pub mod LowTerms
 pub mod Lowering
