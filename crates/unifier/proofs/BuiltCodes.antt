@@ -58,7 +58,7 @@ pub record IsOf (S : Signature) (t : Term) (b : Built) : Type 0 where
   pub there : slice_get b.record.now.cons b.number ≡ Some b.con.now
   pub all : length (spine_of t) ≡ length b.record.now.params + length b.con.now.args
 
-of-pure : (S : Signature) (t : Term) (b : Built) (p : pure.Built) → built_of S t ≡ Some p → IsBuiltAs b p → IsOf S t b
+pub of-pure : (S : Signature) (t : Term) (b : Built) (p : pure.Built) → built_of S t ≡ Some p → IsBuiltAs b p → IsOf S t b
 of-pure S t b p e is =
     let h = built-is S t p e in
     record {

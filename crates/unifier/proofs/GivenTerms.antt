@@ -22,7 +22,8 @@ use Rattle.unifier.specs.Meanings.{equation_of, state_of}
 use Rattle.unifier.specs.declared.state.Equation.{Equation as CodeEquation}
 use Rattle.unifier.specs.declared.state.State as code
 use Rattle.core_terms.specs.Meanings.{tree_of, tele_of}
-use Rattle.std.proofs.lemmas.List.{length-map}
+use Rattle.core_terms.specs.declared.term.Term as term
+use Rattle.std.proofs.lemmas.List.{length-map, map-append}
 use Rattle.unifier.specs.Conditions.{AreBehind, AreGiven, AreOver, IsGiven, IsKept, IsOver, most_depth, most_levels}
 use Rattle.unifier.proofs.CycleForms.{AreLower, applied-lower}
 use Rattle.unifier.proofs.Rooms.{room-kept}
@@ -54,6 +55,12 @@ append-given S n (u ∷ us) vs h k = (h.0, append-given S n us vs h.1 k)
 pub before-given : (S : Signature) (n : ℕ) (us vs : List Term) → AreGiven S n (us ++ vs) → AreGiven S n us × AreGiven S n vs
 before-given S n [] vs h = (tt, h)
 before-given S n (u ∷ us) vs h = let k = before-given S n us vs h.1 in ((h.0, k.0), k.1)
+
+-- the last one and the others
+pub last-given : (S : Signature) (n : ℕ) (old rest : List term.Term) (u : term.Term) → old ≡ rest ++ u ∷ [] → AreGiven S n (tele_of old) → AreGiven S n (tele_of rest) × IsGiven S n (tree_of u)
+last-given S n old rest u e h =
+    let k = before-given S n (tele_of rest) (tree_of u ∷ []) (subst (AreGiven S n) (ap tele_of e ∙ map-append tree_of rest (u ∷ [])) h) in
+    (k.0, k.1.0)
 
 pub drop-given : (S : Signature) (n k : ℕ) (us : List Term) → AreGiven S n us → AreGiven S n (drop k us)
 drop-given S n zero us h = h

@@ -1,6 +1,8 @@
+pub mod AmongCodes
 pub mod BuiltCodes
 pub mod BuiltForms
 pub mod ConstructorTurns
+pub mod CycleCodes
 pub mod CycleForms
 pub mod GivenTerms
 pub mod LawsToCome
