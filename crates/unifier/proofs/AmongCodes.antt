@@ -14,7 +14,7 @@ use Rattle.core_sig.specs.declared.family.Arg.{Arg}
 use Rattle.kernel_reduce.specs.Reduction.{answered, whnf_of}
 use Rattle.unification.specs.Built.{is_direct}
 use Rattle.unification.specs.Cycles.{Search, found_as, here_or, among_arguments}
-use Rattle.unifier.specs.CodeCycles.{search_within}
+use Rattle.unifier.specs.CodeCycles.{at_argument, search_within}
 use Rattle.unifier.proofs.CycleForms.{mapped}
 
 drop-past : {A : Type 0} (xs : List A) (k : ℕ) → length xs ≤ k → drop k xs ≡ []
@@ -36,61 +36,48 @@ module _ (S : Signature) (n x room p : ℕ) (args : List Arg) (us : List code.Te
       nothing (a ∷ arguments) = refl
 
   pub no-arguments : length args ≤ at → answered (Ok None) left ≡ among_from
-  no-arguments le = sym (ap (λ as. among_arguments S (λ before. search_within S n x room) (map (argument_of p) as) (drop at (tele_of us)) left) (drop-past args at le))
+  no-arguments le = sym (ap (λ xs. among_arguments S (λ before. search_within S n x room) (map (argument_of p) xs) (drop at (tele_of us)) left) (drop-past args at le))
 
   module _ (a : Arg) (u : code.Term) (few : at < length args) (is : a ≡ get_or args at a) (there : at < length us) (at_u : u ≡ get_or us at u) where
     -- those behind it
     abbrev behind : Search (List Term)
     behind left = among_arguments S (λ before. search_within S n x room) (map (argument_of p) (drop (at + 1) args)) (drop (at + 1) (tele_of us)) left
 
-    others : Search (List Term)
-    others = found_as (λ ws. tree_of u ∷ ws) behind
-
     at-number : among_from ≡ among_arguments S (λ before. search_within S n x room) (argument_of p a ∷ map (argument_of p) (drop (at + 1) args)) (tree_of u ∷ drop (at + 1) (tele_of us)) left
     at-number =
-        ap₂ (λ as ts. among_arguments S (λ before. search_within S n x room) as ts left)
+        ap₂ (λ xs ts. among_arguments S (λ before. search_within S n x room) xs ts left)
         (ap (map (argument_of p)) (drop-at args at a few is))
         (drop-at (tele_of us) at (tree_of u) (omega (arith, length-map us tree_of)) (map-item tree_of us at u at_u))
 
-    pub not-direct : is_direct (argument_of p a) ≡ false → among_from ≡ mapped (λ ws. tree_of u ∷ ws) (behind left)
-    not-direct e = at-number ∙ ap (λ b. cond b _ (found_as (λ ws. tree_of u ∷ ws) behind left)) e
+    -- what comes of the argument
+    abbrev after : Option Term → Search (List Term)
+    after found = here_or (option_map (λ w. w ∷ drop (at + 1) (tele_of us)) found) (found_as (λ ws. tree_of u ∷ ws) behind)
 
-    at-direct : is_direct (argument_of p a) ≡ true
-        → among_from
-        ≡ and_next (whnf_of S true left (tree_of u)) (λ v rest. and_next (search_within S n x room v rest) (λ found end. here_or (option_map (λ w. w ∷ drop (at + 1) (tele_of us)) found) (found_as (λ ws. tree_of u ∷ ws) behind) end))
-    at-direct e = at-number ∙ ap (λ b. cond b (and_next (whnf_of S true left (tree_of u)) (λ v rest. and_next (search_within S n x room v rest) (λ found end. here_or (option_map (λ w. w ∷ drop (at + 1) (tele_of us)) found) (found_as (λ ws. tree_of u ∷ ws) behind) end))) (found_as (λ ws. tree_of u ∷ ws) behind left)) e
+    later : (r : Result Term Stop) (rest : ℕ)
+        → on_answer r rest (λ v rest. and_next (search_within S n x room v rest) (λ found end. after found end))
+        ≡ and_next (on_answer r rest (λ v rest. search_within S n x room v rest)) (λ found end. after found end)
+    later (Ok v) rest = refl
+    later (Err e) rest = refl
 
-    pub form-refused : (e : Stop) (rest : ℕ) → is_direct (argument_of p a) ≡ true → ◌≡◌ {A = Spent Term} (Err e, rest) (whnf_of S true left (tree_of u))
-        → ◌≡◌ {A = Spent (Option (List Term))} (Err e, rest) among_from
-    form-refused e rest direct h =
-        sym (at-direct direct
-        ∙ ap (λ r. and_next r (λ v rest. and_next (search_within S n x room v rest) (λ found end. here_or (option_map (λ w. w ∷ drop (at + 1) (tele_of us)) found) (found_as (λ ws. tree_of u ∷ ws) behind) end))) (sym h))
+    one-argument : (b : Bool)
+        → cond b (and_next (whnf_of S true left (tree_of u)) (λ v rest. and_next (search_within S n x room v rest) (λ found end. after found end))) (found_as (λ ws. tree_of u ∷ ws) behind left)
+        ≡ and_next (cond b (and_next (whnf_of S true left (tree_of u)) (λ v rest. search_within S n x room v rest)) (answered (Ok None) left)) (λ found end. after found end)
+    one-argument true = later (whnf_of S true left (tree_of u)).0 (whnf_of S true left (tree_of u)).1
+    one-argument false = refl
 
-    at-form : (v : Term) (rest : ℕ) → is_direct (argument_of p a) ≡ true → ◌≡◌ {A = Spent Term} (Ok v, rest) (whnf_of S true left (tree_of u))
-        → among_from ≡ and_next (search_within S n x room v rest) (λ found end. here_or (option_map (λ w. w ∷ drop (at + 1) (tele_of us)) found) (found_as (λ ws. tree_of u ∷ ws) behind) end)
-    at-form v rest direct h =
-        at-direct direct
-        ∙ ap (λ r. and_next r (λ v rest. and_next (search_within S n x room v rest) (λ found end. here_or (option_map (λ w. w ∷ drop (at + 1) (tele_of us)) found) (found_as (λ ws. tree_of u ∷ ws) behind) end))) (sym h)
+    at-argument : among_from ≡ and_next (at_argument S n x room (argument_of p a) (tree_of u) left) (λ found end. after found end)
+    at-argument = at-number ∙ one-argument (is_direct (argument_of p a))
 
-    pub search-refused : (v : Term) (rest end : ℕ) (e : Stop) → is_direct (argument_of p a) ≡ true → ◌≡◌ {A = Spent Term} (Ok v, rest) (whnf_of S true left (tree_of u))
-        → ◌≡◌ {A = Spent (Option Term)} (Err e, end) (search_within S n x room v rest) → ◌≡◌ {A = Spent (Option (List Term))} (Err e, end) among_from
-    search-refused v rest end e direct h k =
-        sym (at-form v rest direct h
-        ∙ ap (λ r. and_next r (λ found end. here_or (option_map (λ w. w ∷ drop (at + 1) (tele_of us)) found) (found_as (λ ws. tree_of u ∷ ws) behind) end)) (sym k))
+    pub argument-refused : (e : Stop) (end : ℕ) → ◌≡◌ {A = Spent (Option Term)} (Err e, end) (at_argument S n x room (argument_of p a) (tree_of u) left)
+        → ◌≡◌ {A = Spent (Option (List Term))} (Err e, end) among_from
+    argument-refused e end h = sym (at-argument ∙ ap (λ r. and_next r (λ found end. after found end)) (sym h))
 
-    pub search-found : (v w : Term) (rest end : ℕ) → is_direct (argument_of p a) ≡ true → ◌≡◌ {A = Spent Term} (Ok v, rest) (whnf_of S true left (tree_of u))
-        → ◌≡◌ {A = Spent (Option Term)} (Ok (Some w), end) (search_within S n x room v rest)
+    pub argument-found : (w : Term) (end : ℕ) → ◌≡◌ {A = Spent (Option Term)} (Ok (Some w), end) (at_argument S n x room (argument_of p a) (tree_of u) left)
         → ◌≡◌ {A = Spent (Option (List Term))} (Ok (Some (w ∷ drop (at + 1) (tele_of us))), end) among_from
-    search-found v w rest end direct h k =
-        sym (at-form v rest direct h
-        ∙ ap (λ r. and_next r (λ found end. here_or (option_map (λ w. w ∷ drop (at + 1) (tele_of us)) found) (found_as (λ ws. tree_of u ∷ ws) behind) end)) (sym k))
+    argument-found w end h = sym (at-argument ∙ ap (λ r. and_next r (λ found end. after found end)) (sym h))
 
-    pub search-nothing : (v : Term) (rest end : ℕ) → is_direct (argument_of p a) ≡ true → ◌≡◌ {A = Spent Term} (Ok v, rest) (whnf_of S true left (tree_of u))
-        → ◌≡◌ {A = Spent (Option Term)} (Ok None, end) (search_within S n x room v rest)
-        → among_from ≡ mapped (λ ws. tree_of u ∷ ws) (behind end)
-    search-nothing v rest end direct h k =
-        at-form v rest direct h
-        ∙ ap (λ r. and_next r (λ found end. here_or (option_map (λ w. w ∷ drop (at + 1) (tele_of us)) found) (found_as (λ ws. tree_of u ∷ ws) behind) end)) (sym k)
+    pub argument-without : (end : ℕ) → ◌≡◌ {A = Spent (Option Term)} (Ok None, end) (at_argument S n x room (argument_of p a) (tree_of u) left) → among_from ≡ mapped (λ ws. tree_of u ∷ ws) (behind end)
+    argument-without end h = at-argument ∙ ap (λ r. and_next r (λ found end. after found end)) (sym h)
 
 -- ---- what stands in the list that is written
 
@@ -103,8 +90,9 @@ kept-at old new zero u lt is same = first old new lt is same
     first (o ∷ old) [] lt is same = absurd (cc)
     first [] new lt is same = absurd (omega arith)
 kept-at [] new (suc at) u lt is same = absurd (omega arith)
-kept-at (o ∷ old) [] (suc at) u lt is same = absurd (let e = ap length same in omega (arith, length-take (suc at + 1) (o ∷ old)))
-kept-at (o ∷ old) (m ∷ new) (suc at) u lt is same = kept-at old new at u (omega arith) is (tail same)
+kept-at (o ∷ old) [] (suc at) u lt is same = absurd (let n : suc at + 1 ≡ suc (at + 1) = omega arith in let e = rw n at same in cc)
+kept-at (o ∷ old) (m ∷ new) (suc at) u lt is same =
+    let n : suc at + 1 ≡ suc (at + 1) = omega arith in rw n (kept-at old new at u (omega arith) is (tail same))
   where
     tail : take (suc at + 1) (m ∷ new) ≡ take (suc at + 1) (o ∷ old) → take (at + 1) new ≡ take (at + 1) old
     tail e = ap (drop 1) (let n : suc at + 1 ≡ suc (at + 1) = omega arith in rw n at e)
@@ -114,7 +102,7 @@ kept-before old new at e = sym (take-less new at) ∙ (ap (take at) e ∙ take-l
   where
     take-less : (us : List code.Term) (at : ℕ) → take at (take (at + 1) us) ≡ take at us
     take-less us zero = refl
-    take-less [] (suc at) = refl
+    take-less [] (suc at) = let n : suc at + 1 ≡ suc (at + 1) = omega arith in rw n refl
     take-less (u ∷ us) (suc at) = let n : suc at + 1 ≡ suc (at + 1) = omega arith in rw n (ap (λ ws. u ∷ ws) (take-less us at))
 
 pub written-at : (us : List code.Term) (at : ℕ) (w : code.Term) → at < length us → drop at (tele_of (set us at w)) ≡ tree_of w ∷ drop (at + 1) (tele_of us)
@@ -133,7 +121,7 @@ pub behind-runs : (at : ℕ) (old new : List code.Term) (u : code.Term) (result 
     → take (at + 1) new ≡ take (at + 1) old → whole ≡ mapped (λ ws. tree_of u ∷ ws) rest → Runs (λ found. cond found (Some (drop (at + 1) (tele_of new))) None) result left rest
     → Runs (λ found. cond found (Some (drop at (tele_of new))) None) result left whole
 behind-runs at old new u (Ok true) left rest whole lt is same e h =
-    ap (λ (us : List Term). ◌,◌ {B = λ _. ℕ} (Ok (Some us)) left) (kept-at old new at u lt is same)
+    ap (λ (us : List Term). answered (Ok (Some us)) left) (kept-at old new at u lt is same)
     ∙ sym (e ∙ ap (mapped (λ ws. tree_of u ∷ ws)) (sym h))
 behind-runs at old new u (Ok false) left rest whole lt is same e h = sym (e ∙ ap (mapped (λ ws. tree_of u ∷ ws)) (sym h))
 behind-runs at old new u (Err x) left rest whole lt is same e h = λ other. sym (e ∙ ap (mapped (λ ws. tree_of u ∷ ws)) (sym (h other)))

@@ -13,7 +13,7 @@ use Rattle.unification.specs.Built.{Built, built_of, is_direct}
 use Rattle.unification.specs.Solutions.{variable_in}
 use Rattle.unification.specs.Cycles.{Search, Below, found_as, here_or, among_arguments, with_arguments, is_variable, below_constructor, in_form, search_in}
 use Rattle.unifier.specs.CodeCycles.{within, search_within}
-use Rattle.unifier.proofs.LawsToCome.{search-goes_on}
+use Rattle.unification.proofs.SearchLaws.{search-goes_on}
 use Rattle.unifier.proofs.BuiltForms.{built-no_variable}
 
 -- ---- in a head form

@@ -1,5 +1,5 @@
 -- Terms that are given: those in a state that is kept, and the arguments of a term.
-use Rattle.std.proofs.Common.{◌≡◌, ℕ, zero, suc, ◌+◌, ◌≤◌, ◌<◌, Bool, true, false, cond, Option, Some, None, List, [], ◌∷◌, ◌++◌, length, take, drop, reverse, slice_get, All, refl, sym, ap, ◌∙◌, subst, arith}
+use Rattle.std.proofs.Common.{◌≡◌, ℕ, zero, suc, ◌+◌, ◌≤◌, ◌<◌, Bool, true, false, cond, Option, Some, None, List, [], ◌∷◌, ◌++◌, length, take, drop, reverse, get_or, slice_get, All, refl, sym, ap, ◌∙◌, subst, arith}
 use Rattle.std.proofs.lemmas.Bool.Decides.{nat_tests}
 use Rattle.std.proofs.lemmas.List.Elements.{All-head, All-tail}
 use Rattle.std.proofs.lemmas.Option.{slice_get_within}
@@ -61,6 +61,11 @@ pub last-given : (S : Signature) (n : ℕ) (old rest : List term.Term) (u : term
 last-given S n old rest u e h =
     let k = before-given S n (tele_of rest) (tree_of u ∷ []) (subst (AreGiven S n) (ap tele_of e ∙ map-append tree_of rest (u ∷ [])) h) in
     (k.0, k.1.0)
+
+pub at-given : (S : Signature) (n : ℕ) (us : List term.Term) (k : ℕ) (u : term.Term) → k < length us → u ≡ get_or us k u → AreGiven S n (tele_of us) → IsGiven S n (tree_of u)
+at-given S n [] k u lt e h = absurd (omega arith)
+at-given S n (v ∷ us) zero u lt e h = subst (IsGiven S n) (ap tree_of (sym e)) h.0
+at-given S n (v ∷ us) (suc k) u lt e h = at-given S n us k u (omega arith) e h.1
 
 pub drop-given : (S : Signature) (n k : ℕ) (us : List Term) → AreGiven S n us → AreGiven S n (drop k us)
 drop-given S n zero us h = h

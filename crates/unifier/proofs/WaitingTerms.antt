@@ -13,7 +13,11 @@ use Rattle.unification.specs.Runs.{size_of}
 use Rattle.unification.specs.Solutions.{variable_in}
 use Rattle.unification.specs.Cycles.{Search, found_as, here_or, among_arguments, with_arguments, below_constructor, in_form, is_variable, search_in}
 use Rattle.unifier.specs.CodeCycles.{within, search_within, search_each, search_too_deep, direct_among, direct_arguments, go_below}
-use Rattle.unifier.proofs.LawsToCome.{search-goes_on, whnf-same, size_of_all, size-positive, built-smaller}
+use Rattle.unification.proofs.BuiltArguments.{built-smaller}
+use Rattle.unification.proofs.ReductionUnits.{Stays, whnf-within}
+use Rattle.unification.proofs.SearchLaws.{search-goes_on}
+use Rattle.unification.proofs.Sizes.{size_of_all, size-positive}
+use Rattle.unification.proofs.SpentUnits.{Leaves, at_most}
 use Rattle.unifier.proofs.BuiltForms.{built-no_variable}
 use Rattle.unifier.proofs.CycleForms.{bounded_by, whole, mapped, found-twice, form-variable, form-other, search-below, positive}
 
@@ -53,8 +57,11 @@ size-append : (us vs : List Term) → size_of_all (us ++ vs) ≡ size_of_all us 
 size-append [] vs = omega arith
 size-append (u ∷ us) vs = let h = size-append us vs in omega arith
 
-at_most : (rest left : ℕ) → rest ≤ left → (rest < left) ⊎ (rest ≡ left)
-at_most rest left le = grind arith
+-- where no unit is spent the term stays as it is
+whnf-same : (S : Signature) (left : ℕ) (t u : Term) (rest : ℕ) → whnf_of S true left t ≡ answered (Ok u) rest → (rest ≤ left) × (rest ≡ left → u ≡ t)
+whnf-same S left t u rest e =
+    let h = whnf-within S true left t in
+    (subst (λ (r : Spent Term). r.1 ≤ left) e h.spends, subst (λ (r : Spent Term). Leaves (Stays left t) r.0 r.1) e h.leaves)
 
 at-head : (S : Signature) (n : ℕ) (u : Term) (terms : List Term) (left : ℕ) (r : Result Term Stop) (rest : ℕ) → whnf_of S true left u ≡ answered r rest
     → ((t : Term) → whnf_of S true left u ≡ answered (Ok t) rest → Ends S n (direct_arguments n (built_of S t) ++ terms) rest) → Ends S n (u ∷ terms) left

@@ -24,6 +24,11 @@ within room (Some t) = cond (nat_le (height t) room) (Ok (Some t)) (Err Deep)
 abbrev pub search_within : Signature → (n x room : ℕ) → Term → Search Term
 search_within S n x room t left = and_next (search_in S n x t left) (λ found rest. answered (within room found) rest)
 
+-- the same in an argument, where it is direct
+abbrev pub at_argument : Signature → (n x room : ℕ) → Argument → Term → Search Term
+at_argument S n x room a u left =
+    cond (is_direct a) (and_next (whnf_of S true left u) (λ v rest. search_within S n x room v rest)) (not_found left)
+
 -- ---- where there is no room: what is found in any term is Deep
 
 -- one term after the other is reduced and searched, until something is found

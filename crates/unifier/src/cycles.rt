@@ -133,14 +133,38 @@ fn among(
     if at >= us.len() || at >= args.len() {
         return Ok(false);
     }
-    if is_direct(&args[at]) {
-        let t = whnf(alloc, sig, &us[at], true, units)?;
-        if let Some(found) = search(alloc, sig, n, x, room, &t, units)? {
-            us[at] = found;
-            return Ok(true);
-        }
+    let found = at_argument(alloc, sig, n, x, room, &args[at], &us[at], units)?;
+    if let Some(found) = found {
+        us[at] = found;
+        return Ok(true);
     }
     among(alloc, sig, n, x, room, args, us, at + 1, units)
+}
+
+/// What is found in one of them, where it is direct.
+#[cycle(search)]
+fn at_argument(
+    alloc: Global,
+    sig: &Signature,
+    n: u32,
+    x: u32,
+    room: u32,
+    arg: &Arg,
+    u: &Term,
+    units: &mut Units,
+) -> Result<Option<Term>, Stop>
+    requires ready { IsReady sig.now }
+    requires room { room ≤ 2000 }
+    requires u { IsGiven sig.now most_levels (tree_of u.now) }
+    ensures answer { (p : ℕ) → Runs (option_map tree_of) result units.new.left (code.at_argument sig.now n x room (argument_of p arg.now) (tree_of u.now) units.old.left) }
+    ensures sum { units.new.left + units.new.spent ≡ units.old.left + units.old.spent }
+    ensures spends { units.new.left ≤ units.old.left }
+{
+    if !is_direct(arg) {
+        return Ok(None);
+    }
+    let t = whnf(alloc, sig, u, true, units)?;
+    search(alloc, sig, n, x, room, &t, units)
 }
 
 /// The variable below the constructor that the term is, where there is no room for what is found.

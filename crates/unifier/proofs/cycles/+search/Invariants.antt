@@ -8,4 +8,7 @@ abbrev pub decreases-below : goal.decreases-below
 decreases-below l = 8000 * l.room + 1
 
 abbrev pub decreases-among : goal.decreases-among
-decreases-among l = 8000 * l.room + 3 + (length l.us.now.items - l.at)
+decreases-among l = 8000 * l.room + 4 + (length l.us.now.items - l.at)
+
+abbrev pub decreases-at_argument : goal.decreases-at_argument
+decreases-at_argument l = 8000 * l.room + 3
