@@ -227,7 +227,7 @@ is-same : (x : ℕ) (o : Option ℕ) → is_variable x o ≡ true → o ≡ Some
 is-same x (Some y) e = ap Some (let f : y ≡ x = grind (arith, nat_tests) in f)
 is-same x None e = absurd (cc)
 
-is-apart : (x : ℕ) (o : Option ℕ) → is_variable x o ≡ false → o ≢ Some x
+pub is-apart : (x : ℕ) (o : Option ℕ) → is_variable x o ≡ false → o ≢ Some x
 is-apart x o e same = absurd (let f : is_variable x (Some x) ≡ false = ap (is_variable x) (sym same) ∙ e in grind (arith, nat_tests))
 
 pub below-all : (S : Signature) (n x : ℕ) (u : Term) (terms : List Term) (left : ℕ)

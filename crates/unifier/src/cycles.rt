@@ -70,12 +70,16 @@ fn search(
     if is_variable(x, t) {
         return within(room, copy_whole(alloc, t)?);
     }
-    match built_of(sig, t) {
-        Some(b) if b.family != n => Ok(None),
-        Some(b) if room == 0 => below_too_deep(alloc, sig, b, x, t, units),
-        Some(b) => below(alloc, sig, b, x, room, t, units),
-        None => Ok(None),
+    let Some(b) = built_of(sig, t) else {
+        return Ok(None);
+    };
+    if b.family != n {
+        return Ok(None);
     }
+    if room == 0 {
+        return below_too_deep(alloc, sig, b, x, t, units);
+    }
+    below(alloc, sig, b, x, room, t, units)
 }
 
 /// The variable below the constructor that the term is.

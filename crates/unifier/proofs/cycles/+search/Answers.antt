@@ -1,13 +1,19 @@
-use Rattle.std.proofs.Common.{◌≡◌, ◌+◌, ◌-◌, ◌≤◌, ◌<◌, Some, Ok, length, drop, sym, ap, ◌∙◌, subst, arith}
+use Rattle.std.proofs.Common.{◌≡◌, ◌<◌, Some, Ok, option_map, length, drop, sym, ap, ◌∙◌, subst, subst₂, arith}
 use Rattle.std.proofs.lemmas.Result.{err_from_is_err_and}
 use Rattle.theory.specs.Spines.{spine_of}
+use Rattle.core_terms.specs.Answers.{Runs}
 use Rattle.core_terms.specs.Meanings.{tree_of, tele_of}
 use Rattle.core_terms.proofs.Builders.{ok_is}
 use Rattle.kernel_reduce.specs.Reduction.{answered}
+use Rattle.unification.specs.Built.{built_of}
+use Rattle.unification.specs.Solutions.{variable_in}
+use Rattle.unifier.specs.CodeCycles.{search_within}
 use Rattle.unifier.specs.Conditions.{AreGiven, most_levels}
 use Rattle.unifier.proofs.AmongCodes.{no-terms, no-arguments, argument-refused, argument-found, argument-without, behind-runs, written-at}
 use Rattle.unifier.proofs.BelowCodes.{below-refused, below-without, below-found, few-terms}
-use Rattle.unifier.proofs.BuiltCodes.{split-first, split-rest}
+use Rattle.unifier.proofs.BuiltCodes.{code-of, code-there, from_code, of-built, split-first, split-rest}
+use Rattle.unifier.proofs.CycleForms.{search-apart, search-none}
+use Rattle.unifier.proofs.WaitingTerms.{is-apart}
 use Rattle.unifier.proofs.GivenTerms.{at-given, drop-given, spine-given}
 use Rattle.unifier.proofs.cycles.+search.Goals as goal
 use Rattle.unifier.proofs.cycles.+search.Goals.{among-then-at-len-via-then-at-len, among-then-at-len-via-else-at-len+then-at-args}
@@ -89,3 +95,31 @@ below-returns-clause-answer t c =
     (rw c.if-not-branch.false at (c.in_ok-among.ensures.answer k))
     (ap tele_of c.into_vec.ensures ∙ split-first (c.in_ok-ps.ps, c.in_ok-ps.us) _ _ T c.in_ok-ps.ensures (ap length c.as_slice-count.ensures))
     (ok_is c.in_ok-head.ensures) (ok_is c.in_ok-applied.ensures) c.within.ensures
+
+pub search-returns-then-b-n-clause-answer : goal.search-returns-then-b-n-clause-answer
+search-returns-then-b-n-clause-answer t c =
+    let S = c.args.sig.now in
+    let T = tree_of c.args.t.now in
+    let found = code-of S T c.in-Some.b c.in-Some.ensures in
+    sym (search-apart S c.args.n c.args.x c.args.room T c.args.units.now.left (from_code c.in-Some.b T) (is-apart c.args.x (variable_in T) (sym c.is_variable.ensures ∙ c.if-is_variable.false)) (of-built S T c.in-Some.b found) c.if-b-n.true)
+
+pub search-returns-then-room-eq0-clause-answer : goal.search-returns-then-room-eq0-clause-answer
+search-returns-then-room-eq0-clause-answer t c =
+    let S = c.args.sig.now in
+    let T = tree_of c.args.t.now in
+    let there = code-there c.in-Some.b (built_of S T) c.in-Some.ensures in
+    subst₂ (λ n room. Runs (option_map tree_of) c.below_too_deep.result c.below_too_deep.new.units.left (search_within S n c.args.x room T c.args.units.now.left)) (there.2.n ∙ c.if-b-n.false) (sym c.if-room-eq0.true)
+    (c.below_too_deep.ensures.answer there.0 there.1 there.2)
+
+pub search-returns-clause-answer : goal.search-returns-clause-answer
+search-returns-clause-answer t c =
+    let S = c.args.sig.now in
+    let T = tree_of c.args.t.now in
+    let there = code-there c.in-Some.b (built_of S T) c.in-Some.ensures in
+    subst (λ n. Runs (option_map tree_of) c.below.result c.below.new.units.left (search_within S n c.args.x c.args.room T c.args.units.now.left)) (there.2.n ∙ c.if-b-n.false)
+    (c.below.ensures.answer there.0 there.1 there.2)
+
+pub search-returns-in_default-clause-answer : goal.search-returns-in_default-clause-answer
+search-returns-in_default-clause-answer t c =
+    let T = tree_of c.args.t.now in
+    sym (search-none c.args.sig.now c.args.n c.args.x c.args.room T c.args.units.now.left (is-apart c.args.x (variable_in T) (sym c.is_variable.ensures ∙ c.if-is_variable.false)) c.in_default.ensures)
