@@ -4,3 +4,4 @@ pub mod PutTerms
 pub mod RecordItems
 pub mod RecordSizes
 pub mod Rooms
+pub mod SolvedStates
