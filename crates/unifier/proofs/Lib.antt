@@ -1,7 +1,15 @@
+pub mod BuiltCodes
+pub mod BuiltForms
+pub mod ConstructorTurns
+pub mod CycleForms
+pub mod GivenTerms
+pub mod LawsToCome
 pub mod LowTerms
+pub mod Lowering
 pub mod Orders
 pub mod PutTerms
 pub mod RecordItems
 pub mod RecordSizes
 pub mod Rooms
 pub mod SolvedStates
+pub mod WaitingTerms

@@ -1,5 +1,5 @@
 -- What the code finds of a variable below constructors. It goes on building what it finds only while that may still be a side.
-use Rattle.std.specs.Prelude.{ℕ, zero, true, cond, nat_le, Option, Some, None, List, [], ◌∷◌, length, drop, Result, Ok, Err}
+use Rattle.std.specs.Prelude.{ℕ, zero, ◌==◌, true, cond, nat_le, Option, Some, None, List, [], ◌∷◌, length, drop, Result, Ok, Err}
 use Rattle.theory.specs.Terms.{Term, height}
 use Rattle.theory.specs.Spines.{spine_of}
 use Rattle.theory.specs.Families.{Argument}
@@ -9,6 +9,7 @@ use Rattle.core_terms.specs.declared.stop.Stop.{Stop}
 use Rattle.core_terms.specs.declared.stop.Stop.TheVariants.{Deep}
 use Rattle.core_sig.specs.Meanings.{constructor_of}
 use Rattle.kernel_reduce.specs.Reduction.{answered, whnf_of}
+use Rattle.unification.specs.Built as pure
 use Rattle.unification.specs.Built.{is_direct}
 use Rattle.unification.specs.Cycles.{Search, not_found, here_or, search_in}
 use Rattle.unifier.specs.declared.built.Built.{Built}
@@ -39,6 +40,11 @@ search_too_deep S n x terms left =
 abbrev pub direct_among : List Argument → List Term → List Term
 direct_among (a ∷ arguments) (u ∷ us) = cond (is_direct a) (u ∷ direct_among arguments us) (direct_among arguments us)
 direct_among _ _ = []
+
+-- the direct arguments of a constructor of family n
+abbrev pub direct_arguments : (n : ℕ) → Option pure.Built → List Term
+direct_arguments n None = []
+direct_arguments n (Some b) = cond (b.n == n) (direct_among b.constructor.arguments b.arguments) []
 
 -- the direct arguments of a constructor in the term that it is
 abbrev pub direct_in : Built → Term → List Term

@@ -4,7 +4,7 @@ ghost use Rattle.core_terms.specs.Meanings.{tree_of, tele_of};
 ghost use Rattle.unification.specs.Groups as spec;
 ghost use Rattle.unifier.specs.Meanings.{equation_of, equations_of, state_of, turn_of};
 ghost use Rattle.unification.specs.States as states;
-ghost use Rattle.unifier.specs.Conditions.{AreGiven, IsGiven, IsKept, LeadsOnWhere, most_levels};
+ghost use Rattle.unifier.specs.Conditions.{AreGiven, IsGiven, IsKept, LeadsToRoomWhere, most_levels};
 ghost use Rattle.unification.specs.ScopedStates.{IsReady};
 ghost use Rattle.unifier.specs.CodeBuilt.{AreOfOneFamily, sides_of, teles_of};
 ghost use Rattle.unification.specs.Built as spec_built;
@@ -211,7 +211,7 @@ fn group_trial(
     ensures answer { Runs (option_map turn_of) result units.new.left (spec.group_trial sig.now (state_of s.now) k units.old.left) }
     ensures sum { units.new.left + units.new.spent ≡ units.old.left + units.old.spent }
     ensures spends { units.new.left ≤ units.old.left }
-    ensures kept { IfOk result (λ found. LeadsOnWhere sig.now (option_map turn_of found)) }
+    ensures room { IfOk result (λ found. LeadsToRoomWhere (option_map turn_of found)) }
 {
     let Some(e) = s.equations.as_slice().get(k as usize) else {
         return Ok(None);
@@ -298,7 +298,7 @@ fn group_turn(
     ensures answer { (m : spec.Membership) → m.parameters ≡ tele_of members.ps → ((p : spec_built.Built) → spec_built.built_of sig.now (tree_of members.left) ≡ Some p → p.family ≡ m.family) → Runs (option_map turn_of) result units.new.left (with_built (spec.group_turn sig.now (state_of s.now) k (equation_of e.now) m (tree_of members.ty)) (tree_of members.left) (tree_of members.right) (spec_built.built_of sig.now (tree_of members.left)) (spec_built.built_of sig.now (tree_of members.right)) units.old.left) }
     ensures sum { units.new.left + units.new.spent ≡ units.old.left + units.old.spent }
     ensures spends { units.new.left ≤ units.old.left }
-    ensures kept { IfOk result (λ found. LeadsOnWhere sig.now (option_map turn_of found)) }
+    ensures room { IfOk result (λ found. LeadsToRoomWhere (option_map turn_of found)) }
 {
     let Members {
         ty,
@@ -346,7 +346,7 @@ pub(crate) fn group_trials(
     ensures answer { Runs (option_map turn_of) result units.new.left (spec.group_trials sig.now (state_of s.now) k units.old.left) }
     ensures sum { units.new.left + units.new.spent ≡ units.old.left + units.old.spent }
     ensures spends { units.new.left ≤ units.old.left }
-    ensures kept { IfOk result (λ found. LeadsOnWhere sig.now (option_map turn_of found)) }
+    ensures room { IfOk result (λ found. LeadsToRoomWhere (option_map turn_of found)) }
 {
     if k == 0 {
         return Ok(None);

@@ -2,7 +2,7 @@ ghost use Rattle.std.specs.Prelude.{◌≡◌, ◌≤◌, ◌+◌, IfOk, slice_g
 ghost use Rattle.core_terms.specs.Answers.{Runs};
 ghost use Rattle.unifier.specs.Meanings.{equation_of, state_of, turn_of};
 ghost use Rattle.unification.specs.Strategy as spec;
-ghost use Rattle.unifier.specs.Conditions.{IsKept, LeadsOn};
+ghost use Rattle.unifier.specs.Conditions.{IsKept, LeadsOn, LeadsToRoom};
 ghost use Rattle.unification.specs.ScopedStates.{IsReady};
 
 use crate::constructors::constructor_trial;
@@ -31,7 +31,7 @@ fn first_trials(
     ensures answer { Runs (λ turn. Some (turn_of turn)) result units.new.left (spec.first_trials sig.now (state_of s.now) (equation_of e.now) units.old.left) }
     ensures sum { units.new.left + units.new.spent ≡ units.old.left + units.old.spent }
     ensures spends { units.new.left ≤ units.old.left }
-    ensures kept { IfOk result (λ found. LeadsOn sig.now (turn_of found)) }
+    ensures room { IfOk result (λ found. LeadsToRoom (turn_of found)) }
 {
     if let Some(turn) = solution_trial(alloc, sig, s, e, units)? {
         return Ok(turn);
