@@ -11,5 +11,6 @@ pub mod PutTerms
 pub mod RecordItems
 pub mod RecordSizes
 pub mod Rooms
+pub mod SolutionTrials
 pub mod SolvedStates
 pub mod WaitingTerms
