@@ -13,4 +13,5 @@ pub mod RecordSizes
 pub mod Rooms
 pub mod SolutionTrials
 pub mod SolvedStates
+pub mod TidiedTerms
 pub mod WaitingTerms

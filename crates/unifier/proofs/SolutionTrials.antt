@@ -4,6 +4,7 @@ use Rattle.std.proofs.lemmas.List.{length-map}
 use Rattle.theory.specs.Terms.{Term, Var, free_of}
 use Rattle.theory.specs.Signatures.{Signature}
 use Rattle.core_terms.specs.Answers.{Gives, IsUnforeseen, Runs, Spent, Unless, and_next, and_then, are_low}
+use Rattle.core_terms.specs.CaseTrees.{Step}
 use Rattle.core_terms.specs.Meanings.{tree_of, tele_of}
 use Rattle.core_terms.specs.declared.term.Term as code
 use Rattle.core_terms.specs.declared.stop.Stop.{Stop}
@@ -11,9 +12,10 @@ use Rattle.core_terms.specs.declared.stop.Stop.TheVariants.{Deep}
 use Rattle.kernel_reduce.specs.Reduction.{answered, nesting, normal_of}
 use Rattle.unification.specs.Heights.{are_low_equations, bounded_state}
 use Rattle.unification.specs.Occurrences.{has_level, dependants, lacks}
-use Rattle.unification.specs.Solutions.{if_free, is_free_of, solution_from, solves, state_solved, variable_in}
+use Rattle.unification.specs.Solutions.{if_free, is_free_of, side_solved, left_step, right_step, solution_from, solve_side, solve_sides, solves, state_solved, turn_by, variable_in}
 use Rattle.unification.specs.Solving.{solved_state}
 use Rattle.unification.specs.States.{Equation, State}
+use Rattle.unification.specs.Turns.{unless_found}
 
 -- the variable and its dependants, as the code has them
 pub lacks-of_code : (ctx : List code.Term) (n x p : ℕ) (moved : List ℕ) (t : Term) (r : Bool) → n ≡ length ctx → p ≡ n - (x + 1)
@@ -102,3 +104,37 @@ state-solved-is s e x p A u h = ap (λ k. and_then (bounded_state (solved_state 
 
 pub level-of_code : (ctx : List code.Term) (n x p : ℕ) → n ≡ length ctx → p ≡ n - (x + 1) → p ≡ length (tele_of ctx) - (x + 1)
 level-of_code ctx n x p en ep = ep ∙ ap (λ k. k - (x + 1)) (en ∙ sym (length-map ctx tree_of))
+
+-- ---- a side that is a variable
+
+pub side-refused : (S : Signature) (s : State) (e : Equation) (A other : Term) (step : ℕ → Term → Step) (v : Option ℕ) (x left rest : ℕ) (refusal : Stop)
+    → Some x ≡ v → Unless (IsUnforeseen refusal) ((Err refusal, rest) ≡ side_solved S s e x A other left)
+    → Unless (IsUnforeseen refusal) ((Err refusal, rest) ≡ solve_side S s e A other step v left)
+side-refused S s e A other step v x left rest refusal is h =
+    λ unless. refused-first refusal rest (side_solved S s e x A other left) (λ found rest. answered (Ok (turn_by (step x) found)) rest) h unless
+    ∙ ap (λ v. solve_side S s e A other step v left) is
+
+pub side-answered : (S : Signature) (s : State) (e : Equation) (A other : Term) (step : ℕ → Term → Step) (v : Option ℕ) (x left rest : ℕ)
+    (found : Option (Term × State)) → Some x ≡ v → (Ok found, rest) ≡ side_solved S s e x A other left
+    → (Ok (turn_by (step x) found), rest) ≡ solve_side S s e A other step v left
+side-answered S s e A other step v x left rest found is h =
+    answered-first found rest (side_solved S s e x A other left) (λ found rest. answered (Ok (turn_by (step x) found)) rest) h
+    ∙ ap (λ v. solve_side S s e A other step v left) is
+
+-- ---- the right side, and else the left one
+
+pub sides-refused : (S : Signature) (s : State) (e : Equation) (A u v : Term) (x left rest : ℕ) (refusal : Stop)
+    → Some x ≡ variable_in v → Unless (IsUnforeseen refusal) ((Err refusal, rest) ≡ side_solved S s e x A u left)
+    → Unless (IsUnforeseen refusal) ((Err refusal, rest) ≡ solve_sides S s e A u v left)
+sides-refused S s e A u v x left rest refusal is h =
+    refused-first refusal rest (solve_side S s e A u (right_step A v) (variable_in v) left)
+    (λ turn rest. unless_found turn (solve_side S s e A v (left_step A u) (variable_in u)) rest)
+    (side-refused S s e A u (right_step A v) (variable_in v) x left rest refusal is h)
+
+pub sides-answered : (S : Signature) (s : State) (e : Equation) (A u v : Term) (x left rest : ℕ) (found : Option (Term × State))
+    → Some x ≡ variable_in v → (Ok found, rest) ≡ side_solved S s e x A u left
+    → unless_found (turn_by (right_step A v x) found) (solve_side S s e A v (left_step A u) (variable_in u)) rest ≡ solve_sides S s e A u v left
+sides-answered S s e A u v x left rest found is h =
+    answered-first (turn_by (right_step A v x) found) rest (solve_side S s e A u (right_step A v) (variable_in v) left)
+    (λ turn rest. unless_found turn (solve_side S s e A v (left_step A u) (variable_in u)) rest)
+    (side-answered S s e A u (right_step A v) (variable_in v) x left rest found is h)
