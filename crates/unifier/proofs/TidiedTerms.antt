@@ -1,14 +1,16 @@
 -- Tidied terms are given, and so is the type of an equation.
-use Rattle.std.proofs.Common.{◌≡◌, ℕ, ◌+◌, ◌≤◌, max, false, length, slice_get, Some, Ok, IfOk, sym, subst as transport, arith}
+use Rattle.std.proofs.Common.{◌≡◌, ℕ, ◌+◌, ◌≤◌, max, false, length, slice_get, Some, Ok, IfOk, ◌∷◌, [], sym, subst as transport, arith}
 use Rattle.theory.specs.Terms.{Term, height}
 use Rattle.theory.specs.Signatures.{Signature, equation}
 use Rattle.theory.specs.SignatureScopes.{IsScoped, IsScopedSignature}
-use Rattle.theory.proofs.ScopedTerms.{scoped-app}
+use Rattle.theory.proofs.ScopedTerms.{scoped-app, scoped_over_more}
 use Rattle.core_terms.specs.Answers.{Spent}
 use Rattle.core_terms.proofs.Answers.{and_next-has}
-use Rattle.kernel_reduce.specs.Reduction.{answered}
+use Rattle.kernel_reduce.specs.Reduction.{answered, most_variables}
 use Rattle.kernel_reduce.specs.Tidying.{tidy_of}
 use Rattle.kernel_reduce.proofs.ScopedReduction.{whnf-scoped}
+use Rattle.kernel_reduce.specs.WellScoped.{CanReduce}
+use Rattle.unification.specs.ScopedStates.{IsReady}
 use Rattle.unification.specs.Turns.{tidied, type_in}
 use Rattle.core_terms.specs.Meanings.{tree_of}
 use Rattle.unifier.specs.Conditions.{IsGiven, IsKept}
@@ -45,3 +47,13 @@ code-type S s e t kept first is =
     let count : length s.ctx + 0 ≡ length s.ctx = omega arith in
     transport (λ t. IsGiven S (length s.ctx) t) (sym is)
     (type-given S (length s.ctx) e.place.level (tree_of e.ty) form.A form.u form.v (transport (λ n. IsGiven S n (tree_of e.ty)) count given.type) form.form)
+
+-- both sides can be compared
+pub both-reduce : (S : Signature) (n : ℕ) (u v : Term) → IsReady S → IsGiven S n u → IsGiven S n v → CanReduce S (u ∷ v ∷ [])
+both-reduce S n u v ready hu hv =
+    record {
+      signature = ready.scoped;
+      terms =
+      (scoped_over_more S n most_variables u (omega (arith, hu.few)) hu.scoped,
+      (scoped_over_more S n most_variables v (omega (arith, hv.few)) hv.scoped, tt));
+    }
