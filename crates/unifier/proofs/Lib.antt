@@ -13,4 +13,7 @@ pub mod PutTerms
 pub mod RecordItems
 pub mod RecordSizes
 pub mod Rooms
+pub mod SolutionTrials
+pub mod SolvedStates
+pub mod TidiedTerms
 pub mod WaitingTerms

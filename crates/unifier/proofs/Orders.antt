@@ -1,6 +1,7 @@
 -- The new order of the variables of a context: the other variables behind a solution, its dependants last.
-use Rattle.std.proofs.Common.{◌≡◌, ℕ, zero, suc, ◌+◌, ◌-◌, ◌≤◌, ◌<◌, ◌==◌, ◌⊎◌, inl, inr, Bool, true, false, ◌||◌, cond, List, [], ◌∷◌, ◌++◌, length, take, drop, refl, ap, ap₂, sym, ◌∙◌, length-append, length-drop, arith}
+use Rattle.std.proofs.Common.{◌≡◌, ℕ, zero, suc, ◌+◌, ◌-◌, ◌≤◌, ◌<◌, ◌==◌, ◌⊎◌, inl, inr, Bool, true, false, ◌||◌, cond, List, [], ◌∷◌, ◌++◌, length, take, drop, refl, ap, ap₂, sym, ◌∙◌, subst as transport, length-append, length-drop, arith}
 use Rattle.std.proofs.lemmas.Bool.Decides.{nat_tests}
+use Rattle.std.proofs.lemmas.List.{length-map}
 use Rattle.theory.specs.Terms.{Term}
 use Rattle.theory.specs.Telescopes.{Telescope}
 use Rattle.tele_eq.specs.Items.{each_position}
@@ -200,3 +201,27 @@ order-none context p e =
     let moved = dependants context p in
     let parts = none-append (without (p ∷ moved) (each_position (λ j. j) 0 (length context))) moved e in
     none-left p 0 (length context) (ap (λ out. without (p ∷ out) (each_position (λ j. j) 0 (length context))) (sym parts.1) ∙ parts.0)
+
+-- the order that the code makes
+pub order-is : (context : Telescope) (p n : ℕ) (moved order : List ℕ) → n ≡ length context → moved ≡ dependants context p
+    → order ≡ without (p ∷ moved) (each_position (λ j. j) 0 n) ++ moved → order ≡ order_without context p
+order-is context p n moved order en em eo = rw (eo, en, em)
+
+order-of_code : (context : List code.Term) (p : ℕ) (moved order : List ℕ) → moved ≡ dependants (tele_of context) p
+    → order ≡ without (p ∷ moved) (each_position (λ j. j) 0 (length context)) ++ moved → order ≡ order_without (tele_of context) p
+order-of_code context p moved order em eo = order-is (tele_of context) p (length context) moved order (sym (length-map context tree_of)) em eo
+
+pub code-fewer : (context : List code.Term) (p : ℕ) (moved order : List ℕ) → p < length context → moved ≡ dependants (tele_of context) p
+    → order ≡ without (p ∷ moved) (each_position (λ j. j) 0 (length context)) ++ moved → length order < length context
+code-fewer context p moved order lt em eo =
+    let many = length-map context tree_of in
+    let few = order-fewer (tele_of context) p (omega arith) in
+    let e = ap length (order-of_code context p moved order em eo) in
+    omega arith
+
+pub code-below : (context : List code.Term) (p : ℕ) (moved order : List ℕ) → p < length context → moved ≡ dependants (tele_of context) p
+    → order ≡ without (p ∷ moved) (each_position (λ j. j) 0 (length context)) ++ moved → AreBelow (length context) order
+code-below context p moved order lt em eo =
+    let many = length-map context tree_of in
+    let below = order-below (tele_of context) p (omega arith) in
+    transport (λ n. AreBelow n order) many (transport (AreBelow (length (tele_of context))) (sym (order-of_code context p moved order em eo)) below)

@@ -16,6 +16,7 @@ use Rattle.theory.proofs.Renaming.{ren-closed}
 use Rattle.theory.proofs.Shifts.{lift-is_ren, lift_var-above}
 use Rattle.core_terms.specs.Answers.{is_low, are_low, bounded_terms, bounded, and_then}
 use Rattle.core_terms.specs.Meanings.{tree_of, tele_of}
+use Rattle.core_terms.specs.declared.term.Term as code
 use Rattle.core_terms.specs.declared.stop.Stop.{Stop}
 use Rattle.core_terms.specs.declared.stop.Stop.TheVariants.{Deep}
 use Rattle.core_sig.specs.Kinds.{HaveKinds}
@@ -103,15 +104,15 @@ head-at n f ps e =
     ∙ ap (applied (Fam n)) (ap (λ k. map (inst (fill no_variable ps)) (variables k)) e ∙ filled no_variable ps))
 
 -- the arguments of a constructor are those of the types that the code has
-pub argument-items-of : (n : ℕ) (f : pure.Family) (ps : List Term) (con : Constructor) → HaveKinds n f 0 con.args → length f.parameters ≡ length ps
-    → argument_items n ps (constructor_of (length ps) con)
+pub argument-items-of : (n : ℕ) (f : pure.Family) (ps : List Term) (p : ℕ) (con : Constructor) → length ps ≡ p → HaveKinds n f 0 con.args → length f.parameters ≡ p
+    → argument_items n ps (constructor_of p con)
     ≡ items_at (inst_telescope (fill no_variable ps) (map (λ a. tree_of a.ty) con.args)) (map (λ a. a.level) con.args)
-argument-items-of n f ps con kinds e =
+argument-items-of n f ps p con ep kinds e =
     ap₂ items_at
-    (ap₂ (λ h p. argument_types (fill no_variable ps) h (map (argument_of p) con.args)) (sym (head-at n f ps e)) (sym e)
+    (ap₂ (λ h k. argument_types (fill no_variable ps) h (map (argument_of k) con.args)) (sym (head-at n f ps (e ∙ sym ep))) (sym e)
     ∙ (argument_types-inst n f 0 (fill no_variable ps) con.args kinds
     ∙ ap (inst_telescope (fill no_variable ps)) (map-map (λ x. x.type) argument_shape con.args)))
-    (levels-of_arguments (length ps) con.args)
+    (levels-of_arguments p con.args)
 
 -- ---- the family at its indices, and a constructor at its arguments
 
@@ -217,13 +218,34 @@ family-items-of n f ps =
     ∙ bounded-item_more (items_at types levels) (whole (length f.indices)) f.level
 
 -- what is made of a constructor's record
-pub constructor-terms-of : (n number : ℕ) (ps : List Term) (con : Constructor)
-    → bounded_terms (constructor_terms n number ps (constructor_of (length ps) con))
+pub constructor-terms-of : (n number : ℕ) (ps : List Term) (p : ℕ) (con : Constructor)
+    → bounded_terms (constructor_terms n number ps (constructor_of p con))
     ≡ and_then (bounded_terms (map (inst (fill no_variable (lifted (length con.args) ps ++ variables (length con.args)))) (tele_of con.targets)))
     (λ ts. and_then (bounded (applied (weaken_by (length con.args) (applied (Con n number) ps)) (variables (length con.args)))) (λ t. Ok (ts ++ t ∷ [])))
-constructor-terms-of n number ps con =
+constructor-terms-of n number ps p con =
     let made : ℕ → List Term = λ k. map (inst (fill (λ v. weaken_by k (fill no_variable ps v)) (variables k))) (tele_of con.targets) in
     let whole : ℕ → Term = λ k. applied (weaken_by k (applied (Con n number) ps)) (variables k) in
-    ap (λ k. bounded_terms (made k ++ whole k ∷ [])) (length-map con.args (argument_of (length ps)))
+    ap (λ k. bounded_terms (made k ++ whole k ∷ [])) (length-map con.args (argument_of p))
     ∙ (ap (λ q. bounded_terms (map (inst q) (tele_of con.targets) ++ whole (length con.args) ∷ [])) (sym (values-are ps (length con.args)))
     ∙ bounded-term_more (map (inst (fill no_variable (lifted (length con.args) ps ++ variables (length con.args)))) (tele_of con.targets)) (whole (length con.args)))
+
+pub map-snoc : {A B : Type 0} (f : A → B) (xs : List A) (x : A) → map f (xs ++ x ∷ []) ≡ map f xs ++ f x ∷ []
+map-snoc f [] x = refl
+map-snoc f (y ∷ xs) x = ap (λ zs. f y ∷ zs) (map-snoc f xs x)
+
+pub ruleset record_laws = (bounded-arguments, family-items-of, constructor-terms-of, map-snoc)
+
+-- what is bounded and there is the same
+pub bounded-is : (ts us : List Term) → Ok us ≡ bounded_terms ts → us ≡ ts
+bounded-is ts us e = go (are_low ts) e
+  where
+    go : (b : Bool) → ◌≡◌ {A = Result (List Term) Stop} (Ok us) (cond b (Ok ts) (Err Deep)) → us ≡ ts
+    go true e = cc
+    go false e = absurd (cc)
+
+-- there is a type for each argument
+pub typed-length : (s : ℕ → Term) (types : Telescope) (made : List code.Term) (args : List Arg) → types ≡ map (λ a. tree_of a.ty) args
+    → Ok (tele_of made) ≡ bounded_terms (inst_telescope s types) → length made ≡ length args
+typed-length s types made args e is =
+    sym (length-map made tree_of)
+    ∙ (ap length (bounded-is (inst_telescope s types) (tele_of made) is) ∙ (length-inst s types ∙ (ap length e ∙ length-map args (λ a. tree_of a.ty))))

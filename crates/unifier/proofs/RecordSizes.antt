@@ -2,6 +2,7 @@
 use Rattle.std.proofs.Common.{◌≡◌, ℕ, zero, suc, ◌+◌, ◌-◌, ◌≤◌, ◌<◌, ◌==◌, max, Bool, true, false, ◌&&◌, cond, List, [], ◌∷◌, ◌++◌, length, map, slice_get, Option, Some, None, option_and_then, All, refl, ap, ap₂, sym, ◌∙◌, subst as transport, arith}
 use Rattle.std.proofs.lemmas.List.{length-map, length-append}
 use Rattle.std.proofs.lemmas.List.Elements.{All-append, All-cons, All-nil, All-tail, All-head, All-map, All-weaker}
+use Rattle.std.proofs.lemmas.Bool.Decides.{nat_tests}
 use Rattle.theory.specs.Terms.{Term, Var, Sort, Fam, Con, height, free_of, lift}
 use Rattle.theory.specs.Substitutions.{inst, ups, fill}
 use Rattle.theory.specs.Telescopes.{Telescope, applied, variables, weaken_by, inst_telescope}
@@ -12,10 +13,12 @@ use Rattle.theory.specs.Scopes.{IsTelescopeOver, IsArgumentOver, AreArgumentsOve
 use Rattle.theory.specs.Signatures.{Signature, Entry, FamilyOf, IsEntryAt}
 use Rattle.theory.specs.SignatureScopes.{IsScoped, IsScopedTelescope, IsScopedArgument, IsScopedArguments, IsScopedConstructor, IsScopedFamily, IsScopedSignature}
 use Rattle.theory.proofs.FreeInstances.{free_of-ups, free_of-inst, free_of-fill, free_of-map_inst, free_of-variables, free_of-weaken_by}
+use Rattle.theory.proofs.FreeVariables.{free_of-lift}
 use Rattle.theory.proofs.Scopes.{Scoped, Places, scoped-applied, scoped-arguments, length-argument_types}
 use Rattle.theory.proofs.ScopedEntries.{All-at}
 use Rattle.theory.proofs.ScopedTypes.{length-variables}
 use Rattle.kernel_reduce.specs.Entries.{family_at, family_in}
+use Rattle.unification.specs.Injecting.{lifted}
 use Rattle.unifier.specs.Conditions.{HaveFewVariables, HasFewVariables, AreOver, most_levels, most_depth}
 use Rattle.tele_eq.specs.Items.{Item}
 use Rattle.unification.specs.Records.{items_at, argument_items, family_items, constructor_terms}
@@ -139,3 +142,18 @@ terms-few n number ps c over h le =
     few-append targets (applied (weaken_by count (applied (Con n number) ps)) (variables count) ∷ [])
     (few-all targets (most_depth + count) (omega arith) (free_of-map_inst (fill s (variables count)) c.targets (length ps + count) (most_depth + count) filled h))
     (omega arith, tt)
+
+lifted-free : (t : Term) (by n m : ℕ) → n + by ≤ m → free_of t ≤ n → free_of (lift t by 0) ≤ m
+lifted-free t by n m le h = let e = free_of-lift t by 0 in grind (arith, nat_tests)
+
+-- terms that stand further in, before the variables there
+lifted-all : (n by m : ℕ) (ps : List Term) → n + by ≤ m → AreOver n ps → All (Scoped m) (lifted by ps)
+lifted-all n by m [] le h = All-nil (Scoped m)
+lifted-all n by m (p ∷ ps) le h =
+    All-cons (Scoped m) (lift p by 0) (lifted by ps) (lifted-free p by n m le h.0.1) (lifted-all n by m ps le h.1)
+
+pub values-few : (count : ℕ) (ps : List Term) → AreOver most_depth ps → count ≤ 2000
+    → All (λ t. free_of t ≤ 3221225472) (lifted count ps ++ variables count)
+values-few count ps h le =
+    All-append (Scoped 3221225472) (lifted count ps) (variables count)
+    (lifted-all most_depth count 3221225472 ps (omega arith) h) (free_of-variables count 3221225472 (omega arith))

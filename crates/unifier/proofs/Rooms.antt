@@ -1,6 +1,7 @@
 -- The numbers in a state that is kept have room, and so have those of its parts.
-use Rattle.std.proofs.Common.{◌≡◌, ℕ, zero, suc, ◌+◌, ◌-◌, ◌≤◌, ◌<◌, ◌==◌, max, Bool, true, false, ◌&&◌, cond, List, [], ◌∷◌, ◌++◌, length, map, drop, get_or, refl, ap, ap₂, sym, ◌∙◌, Result, Ok, Err, IsTrue, All, arith}
+use Rattle.std.proofs.Common.{◌≡◌, ℕ, zero, suc, ◌+◌, ◌-◌, ◌≤◌, ◌<◌, ◌==◌, max, Bool, true, false, ◌&&◌, cond, List, [], ◌∷◌, ◌++◌, length, map, drop, length-drop, get_or, refl, ap, ap₂, sym, ◌∙◌, subst as transport, Result, Ok, Err, IsTrue, All, arith}
 use Rattle.std.proofs.lemmas.Bool.Decides.{nat_tests}
+use Rattle.std.proofs.lemmas.List.{length-map}
 use Rattle.std.proofs.lemmas.List.Elements.{All-head, All-tail}
 use Rattle.theory.specs.Terms.{Term, height, free_of}
 use Rattle.theory.specs.Telescopes.{Telescope}
@@ -12,10 +13,15 @@ use Rattle.core_terms.specs.declared.term.Term as code
 use Rattle.core_terms.specs.declared.stop.Stop.{Stop}
 use Rattle.core_terms.specs.declared.stop.Stop.TheVariants.{Deep}
 use Rattle.tele_eq.specs.Items.{term_at}
+use Rattle.tele_eq.specs.Environments.{put}
+use Rattle.unification.specs.Solving.{reordered}
 use Rattle.unification.specs.Heights.{are_low_equations, bounded_state}
 use Rattle.unification.specs.States.{Equation, State}
 use Rattle.unification.specs.ScopedStates.{AreScopedEquations}
-use Rattle.unifier.specs.Conditions.{AreBehind, AreLow, AreOver, ArePut, AreTypesOver, HasRoom, HaveRoomFor, IsKept, IsOver, most_levels, most_depth}
+use Rattle.unifier.specs.Conditions.{AreBehind, AreBelow, AreLow, AreOver, ArePut, AreTypesOver, HasRoom, HaveRoomFor, IsKept, IsOver, most_levels, most_depth}
+use Rattle.unifier.specs.Meanings.{equation_of, equations_of}
+use Rattle.unifier.specs.declared.state.Equation as equation
+use Rattle.unifier.proofs.PutTerms.{height-reordered}
 use Rattle.unifier.proofs.LowTerms.{and-parts, low-height, low-terms}
 
 -- ---- parts of lists
@@ -47,6 +53,68 @@ pub over-at : (n k : ℕ) (terms : List code.Term) (t : code.Term) → AreOver n
 over-at n k [] t h lt e = absurd (omega arith)
 over-at n zero (u ∷ terms) t h lt e = rw e h.0
 over-at n (suc k) (u ∷ terms) t h lt e = over-at n k terms t h.1 (omega arith) e
+
+over-types : (n k : ℕ) (tele : List code.Term) (t : code.Term) → AreTypesOver n (tele_of tele) → k < length tele → t ≡ get_or tele k t → IsOver (n + k) (tree_of t)
+over-types n k [] t h lt e = absurd (omega arith)
+over-types n zero (a ∷ tele) t h lt e = let k : n + 0 ≡ n = omega arith in rw (k, e) h.0
+over-types n (suc k) (a ∷ tele) t h lt e =
+    let s : n + suc k ≡ n + 1 + k = omega arith in rw s (over-types (n + 1) k tele t h.1 (omega arith) e)
+
+-- the type at the first of the levels
+pub over-first : (tele : List code.Term) (levels : List ℕ) (t : code.Term) → AreTypesOver 0 (tele_of tele) → AreBelow (length tele) levels
+    → 1 ≤ length levels → t ≡ get_or tele (get_or levels 0 0) t → IsOver (get_or levels 0 0) (tree_of t)
+over-first tele [] t h below some e = absurd (omega arith)
+over-first tele (j ∷ levels) t h below some e =
+    let k : 0 + j ≡ j = omega arith in
+    transport (λ n. IsOver n (tree_of t)) k (over-types 0 j tele t h below.0 e)
+
+-- how many types and equations a state has
+pub code-few : (ctx : List code.Term) → AreTypesOver 0 (tele_of ctx) → length ctx ≤ most_levels
+code-few ctx h = let k = types-few 0 (tele_of ctx) h in omega (arith, length-map ctx tree_of)
+
+-- the equations behind the first one
+pub rest-few : (n depth : ℕ) (equations rest : List Equation) → AreBehind n n equations → depth ≤ n → rest ≡ drop 1 equations
+    → depth + length rest ≤ 2147401000
+rest-few n depth equations rest h le e =
+    let k = behind-few n n equations h in
+    let l = length-drop 1 equations in
+    rw e (omega arith)
+
+pub rest-room : (ctx : List code.Term) (equations : List Equation) (rest : List equation.Equation) (depth : ℕ)
+    → AreBehind (length (tele_of ctx)) (length (tele_of ctx)) equations → depth ≤ length ctx → equations_of rest ≡ drop 1 equations
+    → depth + length rest ≤ 2147401000
+rest-room ctx equations rest depth h le e =
+    let many = length-map ctx tree_of in
+    let few = rest-few (length (tele_of ctx)) depth equations (equations_of rest) h (omega arith) e in
+    omega (arith, length-map rest equation_of)
+
+-- ---- terms that are put for the first equation
+
+-- the solving term
+pub put-here : (order : List ℕ) (size depth : ℕ) (t u : Term) → u ≡ put (reordered order) size depth t → height t ≤ 2000
+    → free_of (put (reordered order) size depth t) ≤ depth → depth ≤ most_depth → ArePut depth (u ∷ [])
+put-here order size depth t u e low free le =
+    let h = height-reordered order size depth t in
+    rw e (omega arith, free, le, tt)
+
+-- its reflexivity
+pub put-proof : (order : List ℕ) (size depth i : ℕ) (A B t u r : Term) → r ≡ reflexivity i B u → B ≡ put (reordered order) size depth A
+    → u ≡ put (reordered order) size depth t → height A ≤ 2000 → height t ≤ 2000
+    → free_of (put (reordered order) size depth A) ≤ depth → free_of (put (reordered order) size depth t) ≤ depth
+    → depth ≤ most_depth → ArePut depth (r ∷ [])
+put-proof order size depth i A B t u r er eB eu lowA lowt freeA freet le =
+    let h = height-reordered order size depth A in
+    let k = height-reordered order size depth t in
+    rw (er, eB, eu) (omega arith, omega arith, le, tt)
+
+-- the same of a term that stays
+pub put-same : (depth i : ℕ) (A u r : Term) → r ≡ reflexivity i A u → IsOver depth A → IsOver depth u → ArePut depth (r ∷ [])
+put-same depth i A u r e h k =
+    let ha = h.0 in
+    let fa = h.1 in
+    let hu = k.0 in
+    let fu = k.1 in
+    rw e (omega arith, omega arith, h.2, tt)
 
 pub put-room : (n by : ℕ) (terms : List Term) → ArePut n terms → by ≤ 2147500000 → HaveRoomFor by terms
 put-room n by [] h le = tt

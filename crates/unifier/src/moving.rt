@@ -66,7 +66,7 @@ fn variable_at(alloc: Global, solution: Option<Solution>, depth: u32, j: u32) ->
 }
 
 /// Adds `by` to every variable numbered `from` or more. Its height nothing tests.
-fn raised(alloc: Global, by: u32, from: u32, t: &Term) -> Result<Term, Stop>
+pub(crate) fn raised(alloc: Global, by: u32, from: u32, t: &Term) -> Result<Term, Stop>
     requires numbers { tree.free_of (tree_of t.now) + tree.height (tree_of t.now) + by < 2 ^ 32 }
     requires binders { from + tree.height (tree_of t.now) < 2 ^ 32 }
     ensures { Gives tree_of result (Ok (tree.lift (tree_of t.now) by from)) }
