@@ -5,12 +5,11 @@ use Rattle.std.proofs.lemmas.List.Elements.{All-head, All-tail}
 use Rattle.std.proofs.lemmas.Option.{slice_get_within}
 use Rattle.theory.specs.Terms.{Term, height, free_of}
 use Rattle.theory.specs.Telescopes.{applied}
-use Rattle.theory.specs.Spines.{head_of, spine_of}
+use Rattle.theory.specs.Spines.{spine_of}
 use Rattle.theory.specs.Families.{Argument}
 use Rattle.theory.specs.Signatures.{Signature}
 use Rattle.theory.specs.SignatureScopes.{IsScoped}
 use Rattle.theory.proofs.ScopedTerms.{scoped_over_more, spine-scoped}
-use Rattle.theory.proofs.Spines.{applied-spine}
 use Rattle.kernel_reduce.proofs.Contractions.{spine-free}
 use Rattle.kernel_reduce.specs.Reduction.{most_variables}
 use Rattle.kernel_reduce.specs.WellScoped.{CanReduce}
@@ -25,7 +24,7 @@ use Rattle.core_terms.specs.Meanings.{tree_of, tele_of}
 use Rattle.core_terms.specs.declared.term.Term as term
 use Rattle.std.proofs.lemmas.List.{length-map, map-append}
 use Rattle.unifier.specs.Conditions.{AreBehind, AreGiven, AreOver, IsGiven, IsKept, IsOver, most_depth, most_levels}
-use Rattle.unifier.proofs.CycleForms.{AreLower, applied-lower}
+use Rattle.unifier.proofs.CycleForms.{AreLower, spine-lower}
 use Rattle.unifier.proofs.Rooms.{room-kept}
 
 -- ---- one term
@@ -96,7 +95,7 @@ lower-given S n h (u ∷ us) scoped lower low few =
 pub spine-given : (S : Signature) (n : ℕ) (t : Term) → IsGiven S n t → AreGiven S n (spine_of t)
 spine-given S n t h =
     lower-given S n (height t) (spine_of t) (spine-scoped S n t h.scoped)
-    (subst (λ u. AreLower (height u) (spine_of t)) (applied-spine t) (applied-lower (head_of t) (spine_of t))) h.low h.few
+    (spine-lower t) h.low h.few
 
 
 pub take-over : (n k : ℕ) (us : List Term) → AreOver n us → AreOver n (take k us)
@@ -118,7 +117,7 @@ lower-over n h (u ∷ us) free lower low few =
 pub spine-over : (n : ℕ) (t : Term) → IsOver n t → AreOver n (spine_of t)
 spine-over n t h =
     lower-over n (height t) (spine_of t) (spine-free n t (spine_of t) refl h.1)
-    (subst (λ u. AreLower (height u) (spine_of t)) (applied-spine t) (applied-lower (head_of t) (spine_of t))) h.0 h.2
+    (spine-lower t) h.0 h.2
 
 -- ---- the equations of a state
 

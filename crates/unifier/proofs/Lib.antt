@@ -6,6 +6,7 @@ pub mod ConstructorTurns
 pub mod CycleCodes
 pub mod CycleForms
 pub mod GivenTerms
+pub mod GroupCodes
 pub mod LowTerms
 pub mod Lowering
 pub mod Orders
