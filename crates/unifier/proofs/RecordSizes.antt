@@ -25,7 +25,7 @@ use Rattle.unification.specs.Records.{items_at, argument_items, family_items, co
 
 -- ---- the records of a scoped signature
 
-scoped-over : (T : Signature) (n : ℕ) (tele : Telescope) → IsScopedTelescope T n tele → IsTelescopeOver n tele
+pub scoped-over : (T : Signature) (n : ℕ) (tele : Telescope) → IsScopedTelescope T n tele → IsTelescopeOver n tele
 scoped-over T n [] h = tt
 scoped-over T n (a ∷ tele) h = (h.0.variables, scoped-over T (n + 1) tele h.1)
 
