@@ -5,9 +5,11 @@ pub mod BuiltForms
 pub mod ConstructorTurns
 pub mod CycleCodes
 pub mod CycleForms
+pub mod FoundGroups
 pub mod GivenTerms
 pub mod GroupCodes
 pub mod GroupEquations
+pub mod KeptTurns
 pub mod LowTerms
 pub mod Lowering
 pub mod Orders
