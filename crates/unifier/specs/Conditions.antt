@@ -36,6 +36,16 @@ abbrev pub AreGiven : Signature → (n : ℕ) → List Term → Type 0
 AreGiven S n [] = Unit {0}
 AreGiven S n (t ∷ terms) = IsGiven S n t × AreGiven S n terms
 
+-- no term is higher than 2,000
+abbrev pub AreLow : List Term → Type 0
+AreLow [] = Unit {0}
+AreLow (t ∷ terms) = (height t ≤ 2000) × AreLow terms
+
+-- the levels are those of n variables
+abbrev pub AreBelow : (n : ℕ) → List ℕ → Type 0
+AreBelow n [] = Unit {0}
+AreBelow n (j ∷ levels) = (j < n) × AreBelow n levels
+
 -- terms with at most 2 ^ 31 free variables
 abbrev pub HaveFewVariables : List Term → Type 0
 HaveFewVariables [] = Unit {0}
@@ -49,6 +59,20 @@ pub record IsKept (S : Signature) (s : State) : Type 0 where
   pub scoped : IsScopedState S s
   pub low : bounded_state s ≡ Ok s
   pub few : length s.context + length s.equations ≤ most_levels
+
+-- what a state that is made has by itself: its terms are low, and its variables and equations are few
+pub record IsRoomy (s : State) : Type 0 where
+  pub low : bounded_state s ≡ Ok s
+  pub few : length s.context + length s.equations ≤ most_levels
+
+-- the next state is so
+abbrev pub LeadsToRoom : Turn → Type 0
+LeadsToRoom (Goes step t) = IsRoomy t
+LeadsToRoom turn = Unit {0}
+
+abbrev pub LeadsToRoomWhere : Option Turn → Type 0
+LeadsToRoomWhere (Some turn) = LeadsToRoom turn
+LeadsToRoomWhere None = Unit {0}
 
 -- the next state is kept
 abbrev pub LeadsOn : Signature → Turn → Type 0
@@ -74,6 +98,11 @@ abbrev pub ArePut : (n : ℕ) → List Term → Type 0
 ArePut n [] = Unit {0}
 ArePut n (t ∷ terms) = (height t ≤ 2002) × (free_of t ≤ n) × (n ≤ most_depth) × ArePut n terms
 
+-- the same of terms that are lifted
+abbrev pub HaveRoomFor : (by : ℕ) → List Term → Type 0
+HaveRoomFor by [] = Unit {0}
+HaveRoomFor by (t ∷ terms) = (height t ≤ 2002) × (free_of t + by ≤ 4294960000) × HaveRoomFor by terms
+
 -- the solving term is over the variables of the context, and the levels are in it
 pub record IsSolution (s : Solution) : Type 0 where
   pub by : IsOver s.size (tree_of s.by.now)
@@ -92,7 +121,7 @@ pub record IsBehind (b : Behind) : Type 0 where
   pub new : b.new ≤ most_depth
 
 abbrev pub ArePlaces : Places → Type 0
-ArePlaces (place.Reordered order) = length order.now ≤ most_levels
+ArePlaces (place.Reordered order) = length order.now ≤ most_depth
 ArePlaces (place.Solved s) = IsSolution s
 ArePlaces (place.Behind b) = IsBehind b
 
@@ -102,9 +131,10 @@ deepest (place.Reordered order) = 2147600000
 deepest (place.Solved s) = 2147500000
 deepest (place.Behind b) = 2147500000
 
-abbrev pub AreSides : Sides → Type 0
-AreSides side.Same = Unit {0}
-AreSides (side.Solved s depth) = IsSolution s × (depth ≤ most_depth)
+-- sides of equations over n variables
+abbrev pub AreSides : (n : ℕ) → Sides → Type 0
+AreSides n side.Same = Unit {0}
+AreSides n (side.Solved s depth) = IsSolution s × (s.size ≡ n) × (depth ≤ most_depth)
 
 -- equations that stand behind `size` variables, each of them over those before it
 abbrev pub AreBehind : (n size : ℕ) → List Equation → Type 0

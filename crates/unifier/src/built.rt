@@ -74,14 +74,12 @@ pub(crate) fn split_spine(alloc: Global, t: &Term, count: usize) -> Result<(Tele
     let spine = into_spine(alloc, copy_whole(alloc, t)?)?;
     let mut first = Items::new(alloc);
     let mut rest = Items::new(alloc);
-    let mut at = 0;
     for arg in spine {
-        if at < count {
+        if first.as_slice().len() < count {
             first.push(arg)?;
         } else {
             rest.push(arg)?;
         }
-        at += 1;
     }
     Ok((first, rest))
 }

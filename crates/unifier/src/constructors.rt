@@ -1,8 +1,8 @@
-ghost use Rattle.std.specs.Prelude.{◌≡◌, ◌≤◌, ◌<◌, ◌+◌, option_map, IfOk, slice_get, Some, Ok, take, length, drop};
+ghost use Rattle.std.specs.Prelude.{◌≡◌, ◌≤◌, ◌<◌, ◌+◌, ℕ, option_map, IfOk, IfSome, IsTrue, slice_get, Some, Ok, take, length, drop};
 ghost use Rattle.core_terms.specs.Answers.{Gives, Runs};
 ghost use Rattle.unification.specs.Constructors as spec;
 ghost use Rattle.unifier.specs.Meanings.{equation_of, state_of, turn_of};
-ghost use Rattle.unifier.specs.Conditions.{AreOver, HasRoom, IsGiven, IsKept, IsOver, LeadsOnWhere, most_levels};
+ghost use Rattle.unifier.specs.Conditions.{AreOver, HasRoom, IsGiven, IsKept, IsOver, LeadsToRoomWhere, most_levels};
 ghost use Rattle.unification.specs.Built.{built_of};
 ghost use Rattle.unification.specs.Built as spec_built;
 ghost use Rattle.unifier.specs.CodeBuilt.{AreOfOneFamily, IsBuiltAs, IsKnown, fits_of};
@@ -53,6 +53,9 @@ pub(crate) fn heads(
     ensures answer { Runs (option_map (λ sides. (tree_of sides.0, tree_of sides.1))) result units.new.left (spec.heads sig.now (fits_of wanted) (tree_of left.now) (tree_of right.now) units.old.left) }
     ensures sum { units.new.left + units.new.spent ≡ units.old.left + units.old.spent }
     ensures spends { units.new.left ≤ units.old.left }
+    ensures given { (n : ℕ) → IsGiven sig.now n (tree_of left.now) → IsGiven sig.now n (tree_of right.now) → IfOk result (λ found. IfSome found (λ sides. IsGiven sig.now n (tree_of sides.0) × IsGiven sig.now n (tree_of sides.1))) }
+    ensures family { IfOk result (λ found. IfSome found (λ sides. AreOfOneFamily sig.now (tree_of sides.0) (tree_of sides.1))) }
+    ensures wanted { IfOk result (λ found. IfSome found (λ sides. (p : spec_built.Built) → built_of sig.now (tree_of sides.0) ≡ Some p → IsTrue (fits_of wanted p))) }
 {
     let left = whnf(alloc, sig, left, true, units)?;
     let n = match built_of(sig, &left) {
@@ -80,7 +83,7 @@ pub(crate) fn constructor_trial(
     ensures answer { Runs (option_map turn_of) result units.new.left (spec.constructor_trial sig.now (state_of s.now) (equation_of e.now) units.old.left) }
     ensures sum { units.new.left + units.new.spent ≡ units.old.left + units.old.spent }
     ensures spends { units.new.left ≤ units.old.left }
-    ensures kept { IfOk result (λ found. LeadsOnWhere sig.now (option_map turn_of found)) }
+    ensures room { IfOk result (λ found. LeadsToRoomWhere (option_map turn_of found)) }
 {
     match heads(alloc, sig, Fits::Level, &e.left, &e.right, units)? {
         Some((left, right)) => constructor_turn(alloc, sig, s, e, left, right, units),
@@ -107,7 +110,7 @@ fn constructor_turn(
     ensures answer { Runs (option_map turn_of) result units.new.left (spec.with_built (spec.constructor_turn sig.now (state_of s.now) (equation_of e.now)) (tree_of left) (tree_of right) (built_of sig.now (tree_of left)) (built_of sig.now (tree_of right)) units.old.left) }
     ensures sum { units.new.left + units.new.spent ≡ units.old.left + units.old.spent }
     ensures spends { units.new.left ≤ units.old.left }
-    ensures kept { IfOk result (λ found. LeadsOnWhere sig.now (option_map turn_of found)) }
+    ensures room { IfOk result (λ found. LeadsToRoomWhere (option_map turn_of found)) }
 {
     let (Some(b), Some(d)) = (built_of(sig, &left), built_of(sig, &right)) else {
         return Ok(None);

@@ -2,7 +2,7 @@ ghost use Rattle.std.specs.Prelude.{◌≡◌, ◌≤◌, ◌+◌, option_map, I
 ghost use Rattle.core_terms.specs.Answers.{Runs};
 ghost use Rattle.unification.specs.Deletions as spec;
 ghost use Rattle.unifier.specs.Meanings.{equation_of, state_of, turn_of};
-ghost use Rattle.unifier.specs.Conditions.{IsKept, LeadsOnWhere};
+ghost use Rattle.unifier.specs.Conditions.{IsKept, LeadsToRoomWhere};
 ghost use Rattle.unification.specs.ScopedStates.{IsReady};
 
 use crate::Why;
@@ -29,7 +29,7 @@ pub(crate) fn deletion_trial(
     ensures answer { Runs (option_map turn_of) result units.new.left (spec.deletion_trial sig.now (state_of s.now) (equation_of e.now) units.old.left) }
     ensures sum { units.new.left + units.new.spent ≡ units.old.left + units.old.spent }
     ensures spends { units.new.left ≤ units.old.left }
-    ensures kept { IfOk result (λ found. LeadsOnWhere sig.now (option_map turn_of found)) }
+    ensures room { IfOk result (λ found. LeadsToRoomWhere (option_map turn_of found)) }
 {
     if !convertible(alloc, sig, &e.left, &e.right, units)? {
         return Ok(None);

@@ -114,7 +114,10 @@ pub(crate) fn equations_made(
     if !few || !are_low_items(tele.as_slice()) {
         return Err(Stop::Deep);
     }
-    if !are_low(left.as_slice()) || !are_low(right.as_slice()) {
+    if !are_low(left.as_slice()) {
+        return Err(Stop::Deep);
+    }
+    if !are_low(right.as_slice()) {
         return Err(Stop::Deep);
     }
     tele_equations(alloc, tele, left, right)

@@ -4,11 +4,10 @@ ghost use Rattle.core_terms.specs.Meanings.{tree_of, tele_of};
 ghost use Rattle.tele_eq.specs.Environments as environments;
 ghost use Rattle.tele_eq.specs.Items as items;
 ghost use Rattle.theory.specs.Terms as tree;
-ghost use Rattle.unifier.specs.CodeMoves.{behind_environment, environment_of, side_of, variables_of};
-ghost use Rattle.unifier.specs.Meanings.{equations_of};
+ghost use Rattle.unifier.specs.CodeMoves.{behind_environment, environment_of, equation_moved, side_of, variables_of};
+ghost use Rattle.unifier.specs.Meanings.{equation_of, equations_of};
 ghost use Rattle.unification.specs.Moving as spec;
-ghost use Rattle.unifier.specs.Conditions.{AreBehind, AreOver, ArePlaces, AreSides, IsBehind, IsOver, IsPossible, deepest};
-ghost use Rattle.std.specs.List.{All};
+ghost use Rattle.unifier.specs.Conditions.{AreBehind, AreOver, ArePlaces, AreSides, HaveRoomFor, IsBehind, IsOver, IsPossible, deepest};
 
 use crate::occurrences::place_in;
 use crate::state::Equation;
@@ -67,7 +66,7 @@ fn variable_at(alloc: Global, solution: Option<Solution>, depth: u32, j: u32) ->
 }
 
 /// Adds `by` to every variable numbered `from` or more. Its height nothing tests.
-fn raised(alloc: Global, by: u32, from: u32, t: &Term) -> Result<Term, Stop>
+pub(crate) fn raised(alloc: Global, by: u32, from: u32, t: &Term) -> Result<Term, Stop>
     requires numbers { tree.free_of (tree_of t.now) + tree.height (tree_of t.now) + by < 2 ^ 32 }
     requires binders { from + tree.height (tree_of t.now) < 2 ^ 32 }
     ensures { Gives tree_of result (Ok (tree.lift (tree_of t.now) by from)) }
@@ -107,7 +106,7 @@ fn raised(alloc: Global, by: u32, from: u32, t: &Term) -> Result<Term, Stop>
 
 /// The term at a position, over so many variables fewer than stand around it.
 fn term_at(alloc: Global, terms: &[Term], position: u32, by: u32) -> Result<Term, Stop>
-    requires { All (λ t. (tree.height t ≤ 2002) × (tree.free_of t + by ≤ 4294960000)) (tele_of terms.now) }
+    requires { HaveRoomFor by (tele_of terms.now) }
     ensures { Gives tree_of result (Ok (tree.lift (items.term_at (tele_of terms.now) position) by 0)) }
 {
     match terms {
@@ -270,7 +269,7 @@ pub(crate) enum Sides<'a> {
 }
 
 fn side(alloc: Global, n: u32, sides: Sides, t: &Term) -> Result<Term, Stop>
-    requires sides { AreSides sides }
+    requires sides { AreSides n sides }
     requires over { IsOver n (tree_of t.now) }
     ensures { Gives tree_of result (Ok (side_of sides.entry (tree_of t.now))) }
 {
@@ -282,6 +281,7 @@ fn side(alloc: Global, n: u32, sides: Sides, t: &Term) -> Result<Term, Stop>
 
 /// Equations of terms over `n` variables, that stood behind `size` variables and now stand at a depth, behind those that are made:
 /// `items` stands for the variables in their places, `types` in their types.
+#[tactic(auto, using(tele_eq::proofs::Growing::growing))]
 pub(crate) fn moved(
     alloc: Global,
     n: u32,
@@ -295,7 +295,7 @@ pub(crate) fn moved(
 ) -> Result<Items<Equation>, Stop>
     requires items { ArePlaces items }
     requires types { ArePlaces types }
-    requires sides { AreSides sides }
+    requires sides { AreSides n sides }
     requires depth { depth + length equations.now ≤ 2147401000 }
     requires equations { AreBehind n size (equations_of equations.now) }
     ensures { Gives equations_of result (Ok (equations_of made ++ spec.moved (environment_of items.entry) (environment_of types.entry) (side_of sides.entry) size depth (equations_of equations.now))) }
@@ -303,15 +303,7 @@ pub(crate) fn moved(
     match equations {
         [] => Ok(made),
         [e, rest @ ..] => {
-            made.push(Equation {
-                place: Item {
-                    ty: put(alloc, items, size, depth, &e.place.ty)?,
-                    level: e.place.level,
-                },
-                ty: put(alloc, types, size, depth, &e.ty)?,
-                left: side(alloc, n, sides, &e.left)?,
-                right: side(alloc, n, sides, &e.right)?,
-            })?;
+            made.push(moved_equation(alloc, n, items, types, sides, size, depth, e)?)?;
             moved(
                 alloc,
                 n,
@@ -325,4 +317,36 @@ pub(crate) fn moved(
             )
         }
     }
+}
+
+/// One of them.
+fn moved_equation(
+    alloc: Global,
+    n: u32,
+    items: Places,
+    types: Places,
+    sides: Sides,
+    size: u32,
+    depth: u32,
+    e: &Equation,
+) -> Result<Equation, Stop>
+    requires items { ArePlaces items }
+    requires types { ArePlaces types }
+    requires sides { AreSides n sides }
+    requires depth { depth ≤ 2147401000 }
+    requires place { IsOver size (tree_of e.now.place.ty) }
+    requires ty { IsOver size (tree_of e.now.ty) }
+    requires left { IsOver n (tree_of e.now.left) }
+    requires right { IsOver n (tree_of e.now.right) }
+    ensures { Gives equation_of result (Ok (equation_moved (environment_of items.entry) (environment_of types.entry) (side_of sides.entry) size depth (equation_of e.now))) }
+{
+    Ok(Equation {
+        place: Item {
+            ty: put(alloc, items, size, depth, &e.place.ty)?,
+            level: e.place.level,
+        },
+        ty: put(alloc, types, size, depth, &e.ty)?,
+        left: side(alloc, n, sides, &e.left)?,
+        right: side(alloc, n, sides, &e.right)?,
+    })
 }

@@ -4,7 +4,7 @@ ghost use Rattle.core_terms.specs.Meanings.{tree_of, tele_of};
 ghost use Rattle.tele_eq.specs.Items.{each_position};
 ghost use Rattle.theory.specs.Terms as tree;
 ghost use Rattle.unification.specs.Occurrences as spec;
-ghost use Rattle.std.specs.List.{All};
+ghost use Rattle.unifier.specs.Conditions.{AreLow};
 
 use core_terms::{Stop, Term};
 use std::alloc::Global;
@@ -25,6 +25,7 @@ fn has_level(n: u32, levels: &[u32], t: &Term) -> bool
 }
 
 /// The levels from `at` on whose types have a variable that is found, behind those that are made.
+#[tactic(auto, using(tele_eq::proofs::Growing::listing))]
 fn dependants_from(
     alloc: Global,
     at: u32,
@@ -32,7 +33,7 @@ fn dependants_from(
     types: &[Term],
     mut made: Vec<u32>,
 ) -> Result<Vec<u32>, Stop>
-    requires low { All (λ t. tree.height t ≤ 2000) (tele_of types.now) }
+    requires low { AreLow (tele_of types.now) }
     requires levels { at + length types.now < 2 ^ 32 }
     ensures { Gives (λ v. v.items) result (Ok (made.items ++ spec.dependants_from at found.items (tele_of types.now))) }
 {
@@ -50,7 +51,7 @@ fn dependants_from(
 
 /// The variables whose types depend on the one with level `p`, by their levels.
 pub(crate) fn dependants(alloc: Global, ctx: &[Term], p: u32) -> Result<Vec<u32>, Stop>
-    requires low { All (λ t. tree.height t ≤ 2000) (tele_of ctx.now) }
+    requires low { AreLow (tele_of ctx.now) }
     requires few { length ctx.now < 2 ^ 31 }
     requires p { p < length ctx.now }
     ensures { Gives (λ v. v.items) result (Ok (spec.dependants (tele_of ctx.now) p)) }
@@ -80,6 +81,7 @@ fn is_among(j: u32, levels: &[u32]) -> bool
 }
 
 /// The levels from `at` on, `count` of them, that are neither `p` nor among those left out, behind those that are made.
+#[tactic(auto, using(tele_eq::proofs::Growing::listing))]
 fn others_from(
     alloc: Global,
     p: u32,
@@ -94,13 +96,14 @@ fn others_from(
     if count == 0 {
         return Ok(made);
     }
-    if at != p && !is_among(at, out) {
+    if p != at && !is_among(at, out) {
         made.push(at)?;
     }
     others_from(alloc, p, out, at + 1, count - 1, made)
 }
 
 /// The levels of all variables but the one with level `p`, in their new order: its dependants come last.
+#[tactic(auto, using(tele_eq::proofs::Growing::listing))]
 pub(crate) fn order_without(
     alloc: Global,
     count: u32,
@@ -117,6 +120,7 @@ pub(crate) fn order_without(
 }
 
 /// The place of a level among levels.
+#[tactic(auto, using(crate::proofs::Orders::place_bounds))]
 pub(crate) fn place_in(order: &[u32], j: u32) -> u32
     requires { length order.now < 2 ^ 32 }
     ensures { result ≡ spec.place_in order.now j }

@@ -9,21 +9,22 @@ ghost use Rattle.unification.specs.Heights.{bounded_items};
 ghost use Rattle.unification.specs.Injecting as injecting;
 ghost use Rattle.unification.specs.Records as spec;
 ghost use Rattle.theory.specs.Eliminators.{no_variable};
-ghost use Rattle.theory.specs.Substitutions.{fill};
+ghost use Rattle.theory.specs.Substitutions.{fill, inst};
 ghost use Rattle.theory.specs.Telescopes as telescopes;
 ghost use Rattle.theory.specs.Terms as tree;
 ghost use Rattle.theory.specs.Telescopes.{inst_telescope};
 ghost use Rattle.unifier.specs.Conditions.{AreOver, most_depth};
 
+use crate::moving::raised;
 use core_sig::{Arg, Constructor, Family, types_of};
 use core_terms::{
-    Items, Stop, Tele, Term, applied, applied_to_nearest, checked, copy_tele, inst_tele,
-    inst_terms, lift,
+    Items, Stop, Tele, Term, applied, applied_to_nearest, checked, inst_tele, inst_terms,
 };
 use std::alloc::Global;
 use tele_eq::Item;
 
 /// The telescope of arguments or indices at parameters, or Deep.
+#[tactic(auto, using(crate::proofs::RecordItems::record_laws))]
 fn items_at(alloc: Global, ps: &[Term], args: &[Arg]) -> Result<Items<Item>, Stop>
     requires few { length args.now ≤ 2000 }
     requires ps { AreOver most_depth (tele_of ps.now) }
@@ -63,15 +64,15 @@ pub(crate) fn argument_items(
     items_at(alloc, ps, con.args.as_slice())
 }
 
-/// Each of the terms behind so many variables more, or Deep.
+/// Each of the terms behind so many variables more.
 pub(crate) fn lifted(alloc: Global, by: u32, terms: &[Term]) -> Result<Tele, Stop>
     requires terms { AreOver most_depth (tele_of terms.now) }
     requires by { by ≤ 2000 }
-    ensures { Gives tele_of result (bounded_terms (injecting.lifted by (tele_of terms.now))) }
+    ensures { Gives tele_of result (Ok (injecting.lifted by (tele_of terms.now))) }
 {
     let mut made = Items::new(alloc);
     for t in terms {
-        made.push(lift(alloc, t, by, 0)?)?;
+        made.push(raised(alloc, by, 0, t)?)?;
     }
     Ok(made)
 }
@@ -89,6 +90,7 @@ fn at_nearest(alloc: Global, head: Term, ps: &[Term], count: u32) -> Result<Term
 }
 
 /// The telescope of a family's indices at parameters, and the family at them, or Deep.
+#[tactic(auto, using(crate::proofs::RecordItems::record_laws))]
 pub(crate) fn family_items(
     alloc: Global,
     n: u32,
@@ -110,7 +112,45 @@ pub(crate) fn family_items(
     Ok(made)
 }
 
+/// The variables of a context of `count` types, from the outermost on, behind those that are made.
+pub(crate) fn with_variables(mut made: Tele, count: u32) -> Result<Tele, Stop>
+    ensures { Gives tele_of result (Ok (tele_of made ++ telescopes.variables count)) }
+{
+    for at in (0..count).rev() {
+        made.push(Term::Var(at))?;
+    }
+    Ok(made)
+}
+
+/// The targets of a constructor at parameters, behind its arguments, or Deep.
+fn targets_at(alloc: Global, ps: &[Term], con: &Constructor) -> Result<Tele, Stop>
+    requires few { length con.now.args ≤ 2000 }
+    requires ps { AreOver most_depth (tele_of ps.now) }
+    ensures { Gives tele_of result (bounded_terms (map (inst (fill no_variable (injecting.lifted (length con.now.args) (tele_of ps.now) ++ telescopes.variables (length con.now.args)))) (tele_of con.now.targets))) }
+{
+    let count = con.args.as_slice().len() as u32;
+    let values = with_variables(lifted(alloc, count, ps)?, count)?;
+    inst_terms(alloc, values.as_slice(), con.targets.as_slice())
+}
+
+/// A constructor at parameters and at its arguments, behind these, or Deep.
+fn constructor_at(
+    alloc: Global,
+    n: u32,
+    number: u32,
+    ps: &[Term],
+    con: &Constructor,
+) -> Result<Term, Stop>
+    requires few { length con.now.args ≤ 2000 }
+    requires ps { AreOver most_depth (tele_of ps.now) }
+    ensures { Gives tree_of result (bounded (telescopes.applied (telescopes.weaken_by (length con.now.args) (telescopes.applied (tree.Con n number) (tele_of ps.now))) (telescopes.variables (length con.now.args)))) }
+{
+    let count = con.args.as_slice().len() as u32;
+    at_nearest(alloc, Term::Con(n, number), ps, count)
+}
+
 /// The targets of a constructor, and the constructor itself, at parameters and behind its arguments, or Deep.
+#[tactic(auto, using(crate::proofs::RecordItems::record_laws))]
 pub(crate) fn constructor_terms(
     alloc: Global,
     n: u32,
@@ -122,13 +162,7 @@ pub(crate) fn constructor_terms(
     requires ps { AreOver most_depth (tele_of ps.now) }
     ensures { Gives tele_of result (bounded_terms (spec.constructor_terms n number (tele_of ps.now) (constructor_of (length ps.now) con.now))) }
 {
-    let count = con.args.as_slice().len() as u32;
-    let mut values = lifted(alloc, count, ps)?;
-    for at in (0..count).rev() {
-        values.push(Term::Var(at))?;
-    }
-    let targets = copy_tele(alloc, con.targets.as_slice())?;
-    let mut made = inst_terms(alloc, values.as_slice(), targets.as_slice())?;
-    made.push(at_nearest(alloc, Term::Con(n, number), ps, count)?)?;
+    let mut made = targets_at(alloc, ps, con)?;
+    made.push(constructor_at(alloc, n, number, ps, con)?)?;
     Ok(made)
 }

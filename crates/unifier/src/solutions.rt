@@ -1,9 +1,10 @@
-ghost use Rattle.std.specs.Prelude.{◌≡◌, ◌≤◌, ◌<◌, ◌+◌, length, option_map, IfOk, slice_get, Some, ◌-◌};
-ghost use Rattle.core_terms.specs.Answers.{Runs};
+ghost use Rattle.std.specs.Prelude.{◌≡◌, ◌≤◌, ◌<◌, ◌+◌, length, option_map, IfOk, IfSome, IsTrue, slice_get, Some, Ok, ◌-◌};
+ghost use Rattle.core_terms.specs.Answers.{Gives, Runs};
 ghost use Rattle.core_terms.specs.Meanings.{tree_of, tele_of};
 ghost use Rattle.unifier.specs.Meanings.{equation_of, state_of, turn_of};
 ghost use Rattle.unification.specs.Solutions as spec;
-ghost use Rattle.unifier.specs.Conditions.{IsGiven, IsKept, LeadsOnWhere};
+ghost use Rattle.unifier.specs.Conditions.{AreLow, HasRoom, IsGiven, IsKept, IsOver, IsRoomy, LeadsToRoomWhere};
+ghost use Rattle.theory.specs.Terms as tree;
 ghost use Rattle.unification.specs.Occurrences as occurrences;
 ghost use Rattle.unification.specs.ScopedStates.{IsReady};
 
@@ -34,6 +35,28 @@ fn level_of(n: u32, x: u32) -> u32
     (n as u64).saturating_sub(x as u64 + 1) as u32
 }
 
+/// The dependants of a variable, by their levels.
+fn dependants_of(alloc: Global, s: &State, x: u32) -> Result<Vec<u32>, Stop>
+    requires low { AreLow (tele_of s.now.ctx) }
+    requires few { length s.now.ctx ≤ 2147400000 }
+    requires x { x < length s.now.ctx }
+    ensures { Gives (λ v. v.items) result (Ok (occurrences.dependants (tele_of s.now.ctx) (length s.now.ctx - (x + 1)))) }
+{
+    let ctx = s.ctx.as_slice();
+    dependants(alloc, ctx, level_of(ctx.len() as u32, x))
+}
+
+/// Whether neither a variable nor one of its dependants, which are given, is in a term.
+fn is_free_of(s: &State, x: u32, dependants: &[u32], t: &Term) -> bool
+    requires few { length s.now.ctx ≤ 2147400000 }
+    requires low { tree.height (tree_of t.now) ≤ 2000 }
+    requires dependants { dependants.now ≡ occurrences.dependants (tele_of s.now.ctx) (length s.now.ctx - (x + 1)) }
+    ensures { result ≡ spec.is_free_of (state_of s.now) x (tree_of t.now) }
+{
+    let n = s.ctx.as_slice().len() as u32;
+    lacks(n, level_of(n, x), dependants, t)
+}
+
 /// The term that solves a variable in an equation in `ty`, where it is solvable by `u`. Its dependants are given.
 fn solves(
     alloc: Global,
@@ -53,21 +76,46 @@ fn solves(
     ensures answer { Runs (option_map tree_of) result units.new.left (spec.solves sig.now (state_of s.now) x (tree_of ty.now) (tree_of u.now) units.old.left) }
     ensures sum { units.new.left + units.new.spent ≡ units.old.left + units.old.spent }
     ensures spends { units.new.left ≤ units.old.left }
+    ensures solution { IfOk result (λ found. IfSome found (λ t. IsOver (length s.now.ctx) (tree_of t) × IsTrue (spec.is_free_of (state_of s.now) x (tree_of ty.now)) × IsTrue (spec.is_free_of (state_of s.now) x (tree_of t)))) }
 {
-    let n = s.ctx.as_slice().len() as u32;
-    let p = level_of(n, x);
-    if !lacks(n, p, dependants, ty) {
+    if !is_free_of(s, x, dependants, ty) {
         return Ok(None);
     }
-    if lacks(n, p, dependants, u) {
+    if is_free_of(s, x, dependants, u) {
         return Ok(Some(copy_whole(alloc, u)?));
     }
     let u = normal(alloc, sig, u, true, units)?;
-    if lacks(n, p, dependants, &u) {
+    if is_free_of(s, x, dependants, &u) {
         Ok(Some(u))
     } else {
         Ok(None)
     }
+}
+
+/// A term that solves a variable, with the next state.
+fn with_state(
+    alloc: Global,
+    s: &State,
+    e: &Equation,
+    ty: &Term,
+    x: u32,
+    dependants: &[u32],
+    by: Term,
+) -> Result<Option<(Term, Box<State>)>, Stop>
+    requires state { HasRoom (state_of s.now) }
+    requires first { 0 < length s.now.equations }
+    requires x { x < length s.now.ctx }
+    requires dependants { dependants.now ≡ occurrences.dependants (tele_of s.now.ctx) (length s.now.ctx - (x + 1)) }
+    requires ty { IsOver (length s.now.ctx) (tree_of ty.now) }
+    requires by { IsOver (length s.now.ctx) (tree_of by) }
+    requires ty_free { IsTrue (spec.is_free_of (state_of s.now) x (tree_of ty.now)) }
+    requires by_free { IsTrue (spec.is_free_of (state_of s.now) x (tree_of by)) }
+    ensures answer { Gives (option_map (λ found. (tree_of found.0, state_of found.1.value))) result (spec.state_solved (state_of s.now) (equation_of e.now) x (tree_of ty.now) (Some (tree_of by))) }
+    ensures room { IfOk result (λ found. IfSome found (λ both. IsRoomy (state_of both.1.value))) }
+{
+    let p = level_of(s.ctx.as_slice().len() as u32, x);
+    let next = solve(alloc, s, e.place.level, p, dependants, ty, &by)?;
+    Ok(Some((by, next)))
 }
 
 /// A variable, solved by the other side of its equation: the term that is put, and the next state.
@@ -90,16 +138,48 @@ fn solve_side(
     ensures answer { Runs (option_map (λ found. (tree_of found.0, state_of found.1.value))) result units.new.left (spec.side_solved sig.now (state_of s.now) (equation_of e.now) x (tree_of ty.now) (tree_of other.now) units.old.left) }
     ensures sum { units.new.left + units.new.spent ≡ units.old.left + units.old.spent }
     ensures spends { units.new.left ≤ units.old.left }
+    ensures room { IfOk result (λ found. IfSome found (λ both. IsRoomy (state_of both.1.value))) }
 {
-    let ctx = s.ctx.as_slice();
-    let p = level_of(ctx.len() as u32, x);
-    let dependants = dependants(alloc, ctx, p)?;
+    let dependants = dependants_of(alloc, s, x)?;
     let dependants = dependants.as_slice();
-    let Some(by) = solves(alloc, sig, s, x, dependants, ty, other, units)? else {
+    match solves(alloc, sig, s, x, dependants, ty, other, units)? {
+        Some(by) => with_state(alloc, s, e, ty, x, dependants, by),
+        None => Ok(None),
+    }
+}
+
+/// The left side, where it is a variable, solved by the right one.
+fn solve_left(
+    alloc: Global,
+    sig: &Signature,
+    s: &State,
+    e: &Equation,
+    ty: Term,
+    left: Term,
+    right: Term,
+    units: &mut Units,
+) -> Result<Option<Turn>, Stop>
+    requires ready { IsReady sig.now }
+    requires state { IsKept sig.now (state_of s.now) }
+    requires first { 0 < length s.now.equations }
+    requires ty { IsGiven sig.now (length s.now.ctx) (tree_of ty) }
+    requires left { IsGiven sig.now (length s.now.ctx) (tree_of left) }
+    requires right { IsGiven sig.now (length s.now.ctx) (tree_of right) }
+    ensures answer { Runs (option_map turn_of) result units.new.left (spec.solve_side sig.now (state_of s.now) (equation_of e.now) (tree_of ty) (tree_of right) (spec.left_step (tree_of ty) (tree_of left)) (spec.variable_in (tree_of left)) units.old.left) }
+    ensures sum { units.new.left + units.new.spent ≡ units.old.left + units.old.spent }
+    ensures spends { units.new.left ≤ units.old.left }
+    ensures room { IfOk result (λ found. LeadsToRoomWhere (option_map turn_of found)) }
+{
+    let Some(x) = variable_in(&left) else {
         return Ok(None);
     };
-    let next = solve(alloc, s, e.place.level, p, dependants, ty, &by)?;
-    Ok(Some((by, next)))
+    match solve_side(alloc, sig, s, e, &ty, x, &right, units)? {
+        Some((by, next)) => {
+            let step = single(Rule::SolveLeft(x), ty, left, by);
+            Ok(Some(Turn::Goes(step, next)))
+        }
+        None => Ok(None),
+    }
 }
 
 /// The right side where it is a variable, and else the left one.
@@ -115,28 +195,25 @@ fn solve_sides(
 ) -> Result<Option<Turn>, Stop>
     requires ready { IsReady sig.now }
     requires state { IsKept sig.now (state_of s.now) }
-    requires first { slice_get (state_of s.now).equations 0 ≡ Some (equation_of e.now) }
+    requires first { 0 < length s.now.equations }
     requires ty { IsGiven sig.now (length s.now.ctx) (tree_of ty) }
     requires left { IsGiven sig.now (length s.now.ctx) (tree_of left) }
     requires right { IsGiven sig.now (length s.now.ctx) (tree_of right) }
     ensures answer { Runs (option_map turn_of) result units.new.left (spec.solve_sides sig.now (state_of s.now) (equation_of e.now) (tree_of ty) (tree_of left) (tree_of right) units.old.left) }
     ensures sum { units.new.left + units.new.spent ≡ units.old.left + units.old.spent }
     ensures spends { units.new.left ≤ units.old.left }
-    ensures kept { IfOk result (λ found. LeadsOnWhere sig.now (option_map turn_of found)) }
+    ensures room { IfOk result (λ found. LeadsToRoomWhere (option_map turn_of found)) }
 {
-    if let Some(x) = variable_in(&right) {
-        if let Some((by, next)) = solve_side(alloc, sig, s, e, &ty, x, &left, units)? {
+    let Some(x) = variable_in(&right) else {
+        return solve_left(alloc, sig, s, e, ty, left, right, units);
+    };
+    match solve_side(alloc, sig, s, e, &ty, x, &left, units)? {
+        Some((by, next)) => {
             let step = single(Rule::SolveRight(x), ty, by, right);
-            return Ok(Some(Turn::Goes(step, next)));
+            Ok(Some(Turn::Goes(step, next)))
         }
+        None => solve_left(alloc, sig, s, e, ty, left, right, units),
     }
-    if let Some(x) = variable_in(&left) {
-        if let Some((by, next)) = solve_side(alloc, sig, s, e, &ty, x, &right, units)? {
-            let step = single(Rule::SolveLeft(x), ty, left, by);
-            return Ok(Some(Turn::Goes(step, next)));
-        }
-    }
-    Ok(None)
 }
 
 /// Solution of a variable by the other side of the first equation.
@@ -153,7 +230,7 @@ pub(crate) fn solution_trial(
     ensures answer { Runs (option_map turn_of) result units.new.left (spec.solution_trial sig.now (state_of s.now) (equation_of e.now) units.old.left) }
     ensures sum { units.new.left + units.new.spent ≡ units.old.left + units.old.spent }
     ensures spends { units.new.left ≤ units.old.left }
-    ensures kept { IfOk result (λ found. LeadsOnWhere sig.now (option_map turn_of found)) }
+    ensures room { IfOk result (λ found. LeadsToRoomWhere (option_map turn_of found)) }
 {
     let (left, right) = tidied(alloc, sig, &e.left, &e.right, units)?;
     if variable_in(&left).is_none() && variable_in(&right).is_none() {

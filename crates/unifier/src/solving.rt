@@ -4,14 +4,13 @@ ghost use Rattle.core_terms.specs.Meanings.{tree_of, tele_of};
 ghost use Rattle.theory.specs.Signatures as signatures;
 ghost use Rattle.theory.specs.Terms as tree;
 ghost use Rattle.tele_eq.specs.Environments as environments;
-ghost use Rattle.unifier.specs.CodeMoves.{environment_of, solved_environment, solved_equations, variables_of};
+ghost use Rattle.unifier.specs.CodeMoves.{environment_of, solved_environment, solved_equations, state_with, variables_of};
 ghost use Rattle.unification.specs.Heights.{bounded_state};
 ghost use Rattle.unifier.specs.Meanings.{equations_of, state_of};
 ghost use Rattle.unification.specs.Occurrences as occurrences;
 ghost use Rattle.unification.specs.Solving as spec;
-ghost use Rattle.unifier.specs.Conditions.{ArePlaces, ArePut, AreTypesOver, HasRoom, IsOver, IsPossible, IsSolution, most_depth, most_levels};
+ghost use Rattle.unifier.specs.Conditions.{AreBelow, ArePlaces, ArePut, AreTypesOver, HasRoom, IsOver, IsPossible, IsSolution, most_depth, most_levels};
 ghost use Rattle.unification.specs.Moving.{behind, over_first};
-ghost use Rattle.std.specs.List.{All};
 
 use crate::heights::{checked_state, with_equations};
 use crate::moving::{Behind, Places, Sides, Solution, moved, put, put_terms};
@@ -30,6 +29,7 @@ fn reflexivity(alloc: Global, level: u8, ty: Term, a: Term) -> Result<Term, Stop
 }
 
 /// The types of the variables with these levels, the first of which stands at a depth, behind those that are made.
+#[tactic(auto, using(tele_eq::proofs::Growing::growing))]
 fn new_context(
     alloc: Global,
     ctx: &[Term],
@@ -40,7 +40,7 @@ fn new_context(
 ) -> Result<Tele, Stop>
     requires solution { IsSolution solution }
     requires ctx { AreTypesOver 0 (tele_of ctx.now) }
-    requires levels { All (λ j. j < length ctx.now) order.now }
+    requires levels { AreBelow (length ctx.now) order.now }
     requires depth { depth + length order.now ≤ 2147400000 }
     ensures { Gives tele_of result (Ok (tele_of made ++ spec.new_context (tele_of ctx.now) (solved_environment solution.entry) depth order.now)) }
 {
@@ -52,6 +52,66 @@ fn new_context(
             new_context(alloc, ctx, solution, depth + 1, rest, made)
         }
     }
+}
+
+/// The levels of the variables of a context but the one with level `p`, in their new order. Its dependants are given.
+fn new_order(alloc: Global, ctx: &[Term], p: u32, dependants: &[u32]) -> Result<Vec<u32>, Stop>
+    requires few { length ctx.now ≤ 2147400000 }
+    requires p { p < length ctx.now }
+    requires dependants { dependants.now ≡ occurrences.dependants (tele_of ctx.now) p }
+    ensures order { Gives (λ v. v.items) result (Ok (occurrences.order_without (tele_of ctx.now) p)) }
+    ensures fewer { IfOk result (λ v. length v.items < length ctx.now) }
+    ensures below { IfOk result (λ v. AreBelow (length ctx.now) v.items) }
+{
+    order_without(alloc, ctx.len() as u32, p, dependants)
+}
+
+/// The state in which a variable is solved, or Deep.
+fn solved(
+    alloc: Global,
+    s: &State,
+    level: u8,
+    solution: Solution,
+    ty: &Term,
+) -> Result<Box<State>, Stop>
+    requires state { HasRoom (state_of s.now) }
+    requires first { 0 < length s.now.equations }
+    requires solution { IsSolution solution }
+    requires size { solution.size ≡ length s.now.ctx }
+    requires levels { AreBelow (length s.now.ctx) solution.order.now }
+    requires few { length solution.order.now ≤ 2147400000 }
+    requires ty { IsOver (length s.now.ctx) (tree_of ty.now) }
+    requires ty_put { tree.free_of (environments.put (spec.reordered solution.order.now) solution.size (length solution.order.now) (tree_of ty.now)) ≤ length solution.order.now }
+    requires by_put { tree.free_of (environments.put (spec.reordered solution.order.now) solution.size (length solution.order.now) (tree_of solution.by.now)) ≤ length solution.order.now }
+    ensures answer { Gives (λ b. state_of b.value) result (bounded_state (state_with (state_of s.now) level solution.entry (tree_of ty.now))) }
+    ensures few { IfOk result (λ b. length (state_of b.value).context + length (state_of b.value).equations ≤ most_levels) }
+{
+    let order = solution.order;
+    let depth = order.len() as u32;
+    let ctx = new_context(
+        alloc,
+        s.ctx.as_slice(),
+        solution,
+        0,
+        order,
+        Items::new(alloc),
+    )?;
+    let subst = put_terms(
+        alloc,
+        Places::Solved(solution),
+        solution.size,
+        depth,
+        s.subst.as_slice(),
+    )?;
+    let equations = behind_solved(alloc, s, level, solution, depth, ty)?;
+    checked_state(
+        alloc,
+        State {
+            ctx,
+            equations,
+            subst,
+        },
+    )
 }
 
 /// The state in which the variable with level `p` is solved by a term without it, or Deep. Its dependants are given.
@@ -75,40 +135,15 @@ pub(crate) fn solve(
     ensures answer { Gives (λ b. state_of b.value) result (bounded_state (spec.solved_state (state_of s.now) level p (tree_of ty.now) (tree_of by.now))) }
     ensures few { IfOk result (λ b. length (state_of b.value).context + length (state_of b.value).equations ≤ most_levels) }
 {
-    let size = s.ctx.as_slice().len() as u32;
-    let order = order_without(alloc, size, p, dependants)?;
-    let order = order.as_slice();
-    let depth = order.len() as u32;
+    let ctx = s.ctx.as_slice();
+    let order = new_order(alloc, ctx, p, dependants)?;
     let solution = Solution {
-        size,
-        order,
+        size: ctx.len() as u32,
+        order: order.as_slice(),
         level: p,
         by,
     };
-    let ctx = new_context(
-        alloc,
-        s.ctx.as_slice(),
-        solution,
-        0,
-        order,
-        Items::new(alloc),
-    )?;
-    let subst = put_terms(
-        alloc,
-        Places::Solved(solution),
-        size,
-        depth,
-        s.subst.as_slice(),
-    )?;
-    let equations = behind_solved(alloc, s, level, solution, depth, ty)?;
-    checked_state(
-        alloc,
-        State {
-            ctx,
-            equations,
-            subst,
-        },
-    )
+    solved(alloc, s, level, solution, ty)
 }
 
 /// The equations behind the first one, once it is solved.

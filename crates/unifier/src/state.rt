@@ -1,15 +1,17 @@
-ghost use Rattle.std.specs.Prelude.{◌≡◌, ◌≤◌, ◌+◌, ◌++◌, IfOk, Ok, length};
+ghost use Rattle.std.specs.Prelude.{◌≡◌, ◌≤◌, ◌<◌, ◌+◌, ◌++◌, IfOk, Ok, length};
 ghost use Rattle.core_terms.specs.Answers.{Gives};
-ghost use Rattle.core_terms.specs.Meanings.{tele_of};
+ghost use Rattle.core_terms.specs.Meanings.{tree_of, tele_of};
 ghost use Rattle.tele_eq.specs.Items.{item_of, items_of};
 ghost use Rattle.theory.specs.Telescopes as telescopes;
 ghost use Rattle.unifier.specs.Conditions.{HasFewVariables, HaveFewVariables, most_levels};
 ghost use Rattle.unification.specs.Heights as spec;
-ghost use Rattle.unifier.specs.Meanings.{equations_of, problem_of, state_of};
+ghost use Rattle.unifier.specs.CodeMoves.{equation_with};
+ghost use Rattle.unifier.specs.Meanings.{equation_of, equations_of, problem_of, state_of};
 ghost use Rattle.unification.specs.States as states;
 
 use crate::Problem;
 use crate::heights::{checked_state, equations_made};
+use crate::records::with_variables;
 use core_terms::{Items, Stop, Tele, Term, copy_tele, copy_whole};
 use std::alloc::Global;
 use tele_eq::Item;
@@ -33,6 +35,7 @@ pub(crate) struct State {
 }
 
 /// The equations at the places of a telescope.
+#[tactic(auto, using(tele_eq::proofs::Growing::growing))]
 pub(crate) fn equations_at(
     alloc: Global,
     tele: &[Item],
@@ -43,18 +46,32 @@ pub(crate) fn equations_at(
 ) -> Result<Items<Equation>, Stop>
     ensures { Gives equations_of result (Ok (equations_of made ++ states.equations_at (items_of tele.now) (tele_of types.now) (tele_of left.now) (tele_of right.now))) }
 {
-    match (tele, types, left, right) {
-        ([x, tele @ ..], [ty, types @ ..], [u, left @ ..], [v, right @ ..]) => {
-            made.push(Equation {
-                place: copy_item(alloc, x)?,
-                ty: copy_whole(alloc, ty)?,
-                left: copy_whole(alloc, u)?,
-                right: copy_whole(alloc, v)?,
-            })?;
-            equations_at(alloc, tele, types, left, right, made)
-        }
-        _ => Ok(made),
-    }
+    let [x, tele @ ..] = tele else {
+        return Ok(made);
+    };
+    let [ty, types @ ..] = types else {
+        return Ok(made);
+    };
+    let [u, left @ ..] = left else {
+        return Ok(made);
+    };
+    let [v, right @ ..] = right else {
+        return Ok(made);
+    };
+    made.push(equation_at(alloc, x, ty, u, v)?)?;
+    equations_at(alloc, tele, types, left, right, made)
+}
+
+/// The equation of two terms at a place.
+fn equation_at(alloc: Global, x: &Item, ty: &Term, u: &Term, v: &Term) -> Result<Equation, Stop>
+    ensures { Gives equation_of result (Ok (equation_with (item_of x.now) (tree_of ty.now) (tree_of u.now) (tree_of v.now))) }
+{
+    Ok(Equation {
+        place: copy_item(alloc, x)?,
+        ty: copy_whole(alloc, ty)?,
+        left: copy_whole(alloc, u)?,
+        right: copy_whole(alloc, v)?,
+    })
 }
 
 fn copy_item(alloc: Global, x: &Item) -> Result<Item, Stop>
@@ -70,15 +87,12 @@ fn copy_item(alloc: Global, x: &Item) -> Result<Item, Stop>
 pub(crate) fn variables(alloc: Global, count: u32) -> Result<Tele, Stop>
     ensures { Gives tele_of result (Ok (telescopes.variables count)) }
 {
-    let mut made = Items::new(alloc);
-    for at in (0..count).rev() {
-        made.push(Term::Var(at))?;
-    }
-    Ok(made)
+    with_variables(Items::new(alloc), count)
 }
 
 /// The state from which a problem is solved, or Deep where a term in it is too high.
 pub(crate) fn start(alloc: Global, p: &Problem) -> Result<Box<State>, Stop>
+    requires few { length p.now.ctx < 2147483648 }
     requires left { length p.now.left ≡ length p.now.tele }
     requires right { length p.now.right ≡ length p.now.tele }
     requires few_items { HasFewVariables (items_of p.now.tele) }

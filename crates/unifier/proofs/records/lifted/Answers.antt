@@ -1,0 +1,19 @@
+use Rattle.std.proofs.Common.{◌≤◌, ◌+◌, arith}
+use Rattle.theory.specs.Terms.{height, free_of}
+use Rattle.core_terms.specs.Meanings.{tree_of}
+use Rattle.unifier.specs.Conditions.{IsOver, most_depth}
+use Rattle.unifier.proofs.Rooms.{over-at}
+use Rattle.unifier.proofs.records.lifted.Goals as goal
+
+pub raised-requires-clause-numbers : goal.raised-requires-clause-numbers
+raised-requires-clause-numbers c =
+    let over = over-at most_depth c.loop-t.t-index c.args.terms.now c.t-item.result c.requires.terms (omega arith) c.t-item.is in
+    let low = over.0 in
+    let free = over.1 in
+    omega arith
+
+pub raised-requires-clause-binders : goal.raised-requires-clause-binders
+raised-requires-clause-binders c =
+    let over = over-at most_depth c.loop-t.t-index c.args.terms.now c.t-item.result c.requires.terms (omega arith) c.t-item.is in
+    let low = over.0 in
+    omega arith
