@@ -1,5 +1,6 @@
 -- What is found of a group in a type that is scoped and low.
-use Rattle.std.proofs.Common.{◌≡◌, ℕ, zero, suc, ◌+◌, ◌-◌, ◌≤◌, ◌==◌, true, ◌&&◌, not, Option, Some, IfSome, Ok, List, [], ◌∷◌, map, length, take, drop, All, refl, sym, ap, ap₂, ◌∙◌, subst, max, arith}
+use Rattle.std.proofs.Common.{◌≡◌, ℕ, zero, suc, ◌+◌, ◌-◌, ◌≤◌, ◌==◌, Bool, true, false, ◌&&◌, not, cond, Option, Some, None, option_and_then, Ok, List, [], ◌∷◌, map, length, take, drop, All, refl, sym, ap, ap₂, ◌∙◌, subst, max, arith}
+use Rattle.std.proofs.lemmas.Bool.Decides.{nat_tests}
 use Rattle.std.proofs.lemmas.List.{length-map, length-take}
 use Rattle.std.proofs.lemmas.List.Elements.{All-tail}
 use Rattle.theory.specs.Terms.{Term, height}
@@ -8,6 +9,7 @@ use Rattle.theory.specs.Spines.{head_of, spine_of}
 use Rattle.theory.specs.Families.{Family}
 use Rattle.theory.specs.Signatures.{Signature}
 use Rattle.theory.proofs.HeightInstances.{height-ren}
+use Rattle.theory.proofs.ScopedTerms.{spine-scoped}
 use Rattle.theory.specs.SignatureScopes.{IsScoped}
 use Rattle.core_terms.specs.Answers.{Spent, and_next}
 use Rattle.core_terms.specs.Meanings.{tree_of, tele_of}
@@ -20,10 +22,7 @@ use Rattle.unification.specs.Built.{is_fitting}
 use Rattle.unification.specs.Groups.{are_nearest, have_nearest, lowered, Membership, with_places, membership_with, membership_of, group_trial, group_trials}
 use Rattle.unification.specs.States.{State}
 use Rattle.unification.specs.Turns.{Turn, unless_found}
-use Rattle.unification.proofs.BuiltTerms.{next-some, test-some}
-use Rattle.unification.proofs.ScopedGroups as groups
-use Rattle.unification.proofs.Tests.{equal-numbers}
-use Rattle.unification.proofs.ScopedGroups.{membership-in}
+use Rattle.unification.proofs.Memberships.{membership-is}
 use Rattle.unifier.specs.CodeGroups.{IsGroupOf, membership_from}
 use Rattle.unifier.specs.Conditions.{AreGiven, AreLow, IsGiven, most_levels}
 use Rattle.unifier.specs.declared.groups.Membership.{Membership as CodeMembership}
@@ -32,6 +31,18 @@ use Rattle.unifier.proofs.GroupCodes.{spine-low, take-low}
 lowered-low : (k : ℕ) (us : List Term) → AreLow us → AreLow (map (lowered k) us)
 lowered-low k [] h = tt
 lowered-low k (u ∷ us) h = (let e = height-ren (λ n. n - k) u in omega (arith, h.0), lowered-low k us h.1)
+
+number-same : (n m : ℕ) → (n == m) ≡ true → n ≡ m
+number-same n m e = grind (arith, nat_tests)
+
+-- an answer that is found behind another one, or where a test holds
+next-some : {A B : Type 0} (f : A → Option B) (o : Option A) (y : B) → option_and_then f o ≡ Some y → (x : A) × (o ≡ Some x) × (f x ≡ Some y)
+next-some f (Some x) y e = (x, refl, e)
+next-some f None y e = absurd (grind arith)
+
+test-some : {A : Type 0} (t : Bool) (x y : A) → cond t (Some x) None ≡ Some y → (t ≡ true) × (x ≡ y)
+test-some true x y e = (refl, grind arith)
+test-some false x y e = absurd (grind arith)
 
 -- the lengths and the parameters of a membership
 record HasLengths (k : ℕ) (spine : List Term) (m : Membership) : Type 0 where
@@ -46,7 +57,7 @@ places-lengths k n spine f m e =
     let form = both-true (length f.indices == k) _ parts.0 in
     let places = both-true (length spine == length f.parameters + k) (are_nearest k (drop (length f.parameters) spine)) form.1 in
     subst (HasLengths k spine) tested.1
-    (record { indices = equal-numbers (length f.indices) k form.0; all = equal-numbers (length spine) (length f.parameters + k) places.0; parameters = refl })
+    (record { indices = number-same (length f.indices) k form.0; all = number-same (length spine) (length f.parameters + k) places.0; parameters = refl })
   where
     found : Membership
     found = record { n = n; family = f; parameters = map (lowered k) (take (length f.parameters) spine) }
@@ -72,14 +83,14 @@ group-found S n k t m scoped low few e kinds family =
     let count = ap length h.parameters ∙ length-map (take (length p.family.parameters) (spine_of t)) (lowered k) in
     let taken = length-take (length p.family.parameters) (spine_of t) in
     let made = length-map m.params tree_of in
-    let member = subst (λ o. IfSome o (groups.IsMembership S n)) e (membership-in S n k t scoped) in
+    let member = membership-is S k t p e in
     record {
       family = family;
       kinds = kinds;
       indices = omega (arith, h.indices);
       few = omega (arith, h.all);
       count = omega (arith, h.all);
-      parameters = parameters-given S n (tele_of m.params) member.parameters
+      parameters = parameters-given S n (tele_of m.params) (member.parameters n (spine-scoped S (n + k) t scoped))
           (subst AreLow (sym h.parameters) (lowered-low k (take (length p.family.parameters) (spine_of t)) (take-low (length p.family.parameters) (spine_of t) (spine-low t low)))) few;
     }
 

@@ -13,11 +13,12 @@ use Rattle.unification.specs.Runs.{size_of}
 use Rattle.unification.specs.Solutions.{variable_in}
 use Rattle.unification.specs.Cycles.{Search, found_as, here_or, among_arguments, with_arguments, below_constructor, in_form, is_variable, search_in}
 use Rattle.unifier.specs.CodeCycles.{within, search_within, search_each, search_too_deep, direct_among, direct_arguments, go_below}
-use Rattle.unification.proofs.BuiltArguments.{built-smaller}
-use Rattle.unification.proofs.ReductionUnits.{Stays, whnf-within}
+use Rattle.unification.proofs.Sizes.{built-smaller}
+use Rattle.unification.proofs.Reducts.{IsHead, whnf-within}
 use Rattle.unification.proofs.SearchLaws.{search-goes_on}
 use Rattle.unification.proofs.Sizes.{size_of_all, size-positive}
-use Rattle.unification.proofs.SpentUnits.{Leaves, at_most}
+use Rattle.unification.proofs.SpentUnits.{Leaves}
+use Rattle.unification.proofs.Cases.{less-or_same}
 use Rattle.unifier.proofs.BuiltForms.{built-no_variable}
 use Rattle.unifier.proofs.CycleForms.{bounded_by, whole, mapped, found-twice, form-variable, form-other, search-below, positive}
 
@@ -61,7 +62,7 @@ size-append (u ∷ us) vs = let h = size-append us vs in omega arith
 whnf-same : (S : Signature) (left : ℕ) (t u : Term) (rest : ℕ) → whnf_of S true left t ≡ answered (Ok u) rest → (rest ≤ left) × (rest ≡ left → u ≡ t)
 whnf-same S left t u rest e =
     let h = whnf-within S true left t in
-    (subst (λ (r : Spent Term). r.1 ≤ left) e h.spends, subst (λ (r : Spent Term). Leaves (Stays left t) r.0 r.1) e h.leaves)
+    (subst (λ (r : Spent Term). r.1 ≤ left) e h.spends, (subst (λ (r : Spent Term). Leaves (IsHead S left t) r.0 r.1) e h.leaves).stays)
 
 at-head : (S : Signature) (n : ℕ) (u : Term) (terms : List Term) (left : ℕ) (r : Result Term Stop) (rest : ℕ) → whnf_of S true left u ≡ answered r rest
     → ((t : Term) → whnf_of S true left u ≡ answered (Ok t) rest → Ends S n (direct_arguments n (built_of S t) ++ terms) rest) → Ends S n (u ∷ terms) left
@@ -85,7 +86,7 @@ ends-by S n units fewer zero (u ∷ terms) left le size = absurd (let h = size-p
 ends-by S n units fewer (suc room) (u ∷ terms) left le size =
     at-head S n u terms left (whnf_of S true left u).0 (whnf_of S true left u).1 refl (λ t e.
     let same = whnf-same S left u t (whnf_of S true left u).1 e in
-    ends-next S n units room u t terms left (whnf_of S true left u).1 fewer (ends-by S n units fewer room) le size same.1 (at_most _ left same.0))
+    ends-next S n units room u t terms left (whnf_of S true left u).1 fewer (ends-by S n units fewer room) le size same.1 (less-or_same _ left same.0))
 
 ends-within : (S : Signature) (n units : ℕ) (terms : List Term) (left : ℕ) → left ≤ units → Ends S n terms left
 ends-within S n zero terms left le = ends-by S n zero (λ ts l lt. absurd (omega arith)) (size_of_all terms) terms left le (omega arith)
