@@ -25,7 +25,7 @@ use Rattle.unification.specs.Records.{items_at, argument_items, family_items, co
 
 -- ---- the records of a scoped signature
 
-scoped-over : (T : Signature) (n : ℕ) (tele : Telescope) → IsScopedTelescope T n tele → IsTelescopeOver n tele
+pub scoped-over : (T : Signature) (n : ℕ) (tele : Telescope) → IsScopedTelescope T n tele → IsTelescopeOver n tele
 scoped-over T n [] h = tt
 scoped-over T n (a ∷ tele) h = (h.0.variables, scoped-over T (n + 1) tele h.1)
 
@@ -38,7 +38,7 @@ arguments-over : (T : Signature) (n : ℕ) (arguments : List Argument) → IsSco
 arguments-over T n [] h = tt
 arguments-over T n (a ∷ arguments) h = (argument-over T n a h.0, arguments-over T (n + 1) arguments h.1)
 
-constructor-over : (T : Signature) (n count : ℕ) (c : Constructor) → IsScopedConstructor T n count c → IsConstructorOver n c
+pub constructor-over : (T : Signature) (n count : ℕ) (c : Constructor) → IsScopedConstructor T n count c → IsConstructorOver n c
 constructor-over T n count c h = record {
   arguments = arguments-over T n c.arguments h.arguments;
   targets = All-weaker (IsScoped T (n + length c.arguments)) (λ t. free_of t ≤ n + length c.arguments) (λ t k. k.variables) c.targets h.targets;
@@ -143,7 +143,7 @@ terms-few n number ps c over h le =
     (few-all targets (most_depth + count) (omega arith) (free_of-map_inst (fill s (variables count)) c.targets (length ps + count) (most_depth + count) filled h))
     (omega arith, tt)
 
-lifted-free : (t : Term) (by n m : ℕ) → n + by ≤ m → free_of t ≤ n → free_of (lift t by 0) ≤ m
+pub lifted-free : (t : Term) (by n m : ℕ) → n + by ≤ m → free_of t ≤ n → free_of (lift t by 0) ≤ m
 lifted-free t by n m le h = let e = free_of-lift t by 0 in grind (arith, nat_tests)
 
 -- terms that stand further in, before the variables there

@@ -1,6 +1,14 @@
 -- What the code finds of a group.
-use Rattle.std.specs.Prelude.{ℕ, ◌+◌, ◌-◌, nat_lt, cond}
+use Rattle.std.specs.Prelude.{ℕ, ◌+◌, ◌-◌, nat_lt, cond, List, length, Result}
+use Rattle.theory.specs.Families.{Family, Constructor}
+use Rattle.theory.specs.Telescopes.{variables}
 use Rattle.theory.specs.Terms.{Term, Var, Pi, Lam, App, Let}
+use Rattle.core_terms.specs.Answers.{and_then, bounded_terms}
+use Rattle.core_terms.specs.declared.stop.Stop.{Stop}
+use Rattle.tele_eq.specs.Congruences.{congruences}
+use Rattle.unification.specs.Heights.{bounded_items}
+use Rattle.unification.specs.Injecting.{lifted}
+use Rattle.unification.specs.Records.{argument_items, family_items, constructor_terms}
 use Rattle.core_terms.specs.Meanings.{tele_of}
 use Rattle.core_sig.specs.Meanings.{family_of}
 use Rattle.unification.specs.Groups as pure
@@ -17,3 +25,13 @@ lowered_under k under (Lam a b) = Lam (lowered_under k under a) (lowered_under k
 lowered_under k under (App f a) = App (lowered_under k under f) (lowered_under k under a)
 lowered_under k under (Let a t b) = Let (lowered_under k under a) (lowered_under k under t) (lowered_under k (under + 1) b)
 lowered_under k under t = t
+
+-- what stands for the places and the equations of a group, at parameters behind the equations of the arguments
+abbrev pub group_made_behind : (n number : ℕ) → Family → Constructor → (ps us vs : List Term) → Result (List Term) Stop
+group_made_behind n number f c ps us vs =
+    and_then (bounded_items (argument_items n ps c)) (λ arguments.
+    and_then (bounded_items (family_items n f ps)) (λ family.
+    and_then (bounded_terms (constructor_terms n number ps c)) (λ terms.
+    bounded_terms
+    (congruences (argument_items n ps c) (family_items n f ps) (constructor_terms n number ps c) (lifted (length c.arguments) us)
+    (lifted (length c.arguments) vs) (variables (length c.arguments))))))

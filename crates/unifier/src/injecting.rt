@@ -1,5 +1,5 @@
 ghost use Rattle.std.specs.Prelude.{◌≡◌, ◌≤◌, ◌<◌, ◌+◌, IfOk, drop, length};
-ghost use Rattle.core_terms.specs.Answers.{Gives};
+ghost use Rattle.core_terms.specs.Answers.{Gives, bounded_terms};
 ghost use Rattle.core_terms.specs.Meanings.{tele_of};
 ghost use Rattle.core_sig.specs.Meanings.{constructor_of, family_of};
 ghost use Rattle.unification.specs.Heights as spec;
@@ -9,15 +9,21 @@ ghost use Rattle.unifier.specs.Conditions.{AreOver, ArePlaces, ArePut, HasRoom, 
 ghost use Rattle.unifier.specs.CodeMoves.{environment_of};
 ghost use Rattle.unification.specs.Moving.{behind, over_first};
 ghost use Rattle.core_terms.specs.Levels.{variable};
+ghost use Rattle.tele_eq.specs.Congruences.{congruences};
+ghost use Rattle.tele_eq.specs.Items.{AreSmall, AreSmallTerms, items_of};
+ghost use Rattle.theory.specs.Telescopes.{variables};
+ghost use Rattle.unification.specs.Injecting as injecting;
+ghost use Rattle.unifier.specs.CodeGroups.{group_made_behind};
 
 use crate::built::Built;
 use crate::heights::{equations_made, with_equations};
 use crate::moving::{Behind, Places, Sides, moved};
 use crate::records::{argument_items, constructor_terms, family_items, lifted};
 use crate::state::{Equation, State, equations_at, variables};
+use core_sig::Constructor;
 use core_terms::{Items, Stop, Tele, Term};
 use std::alloc::Global;
-use tele_eq::cong;
+use tele_eq::{Item, cong};
 
 /// What proves each equation of a group, behind the equations of the arguments, or Deep.
 fn group_proofs(
@@ -38,13 +44,57 @@ fn group_proofs(
 {
     let count = built.con.args.as_slice().len() as u32;
     let ps = lifted(alloc, count, ps)?;
-    let arguments = argument_items(alloc, ps.as_slice(), built.con)?;
-    let members = family_items(alloc, built.family, built.record, ps.as_slice())?;
-    let terms = constructor_terms(alloc, built.family, built.number, ps.as_slice(), built.con)?;
+    proofs_behind(alloc, built, ps.as_slice(), left, right)
+}
+
+/// The same at parameters that stand behind the equations of the arguments.
+fn proofs_behind(
+    alloc: Global,
+    built: Built,
+    ps: &[Term],
+    left: &[Term],
+    right: &[Term],
+) -> Result<Tele, Stop>
+    requires known { IsKnown built }
+    requires few_args { length built.con.now.args ≤ 1000 }
+    requires indices { length built.record.now.indices < 1000 }
+    requires parameters { length ps.now ≡ length built.record.now.params }
+    requires ps { AreOver most_depth (tele_of ps.now) }
+    requires left { AreOver most_levels (tele_of left.now) }
+    requires right { AreOver most_levels (tele_of right.now) }
+    ensures { Gives tele_of result (group_made_behind built.entry.family built.entry.number (family_of built.entry.record.now) (constructor_of (length ps.now) built.entry.con.now) (tele_of ps.now) (tele_of left.now) (tele_of right.now)) }
+{
+    let arguments = argument_items(alloc, ps, built.con)?;
+    let members = family_items(alloc, built.family, built.record, ps)?;
+    let terms = constructor_terms(alloc, built.family, built.number, ps, built.con)?;
+    lifted_congruences(alloc, built.con, &arguments, &members, &terms, left, right)
+}
+
+/// Congruences from the equations of a constructor's arguments, behind these, or Deep.
+fn lifted_congruences(
+    alloc: Global,
+    con: &Constructor,
+    arguments: &Items<Item>,
+    members: &Items<Item>,
+    terms: &Tele,
+    left: &[Term],
+    right: &[Term],
+) -> Result<Tele, Stop>
+    requires few_args { length con.now.args ≤ 1000 }
+    requires few_arguments { length arguments.now ≤ 1000 }
+    requires few_members { length members.now ≤ 1000 }
+    requires arguments { AreSmall (items_of arguments.now) }
+    requires members { AreSmall (items_of members.now) }
+    requires terms { AreSmallTerms (tele_of terms.now) }
+    requires left { AreOver most_levels (tele_of left.now) }
+    requires right { AreOver most_levels (tele_of right.now) }
+    ensures { Gives tele_of result (bounded_terms (congruences (items_of arguments.now) (items_of members.now) (tele_of terms.now) (injecting.lifted (length con.now.args) (tele_of left.now)) (injecting.lifted (length con.now.args) (tele_of right.now)) (variables (length con.now.args)))) }
+{
+    let count = con.args.as_slice().len() as u32;
     let left = lifted(alloc, count, left)?;
     let right = lifted(alloc, count, right)?;
     let proofs = variables(alloc, count)?;
-    cong(alloc, &arguments, &members, &terms, &left, &right, &proofs)
+    cong(alloc, arguments, members, terms, &left, &right, &proofs)
 }
 
 /// The equations behind the first `group` ones.
