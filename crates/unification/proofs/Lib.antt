@@ -1,4 +1,56 @@
+pub mod AllowedTurns
+pub mod BuiltArguments
+pub mod BuiltScopes
+pub mod BuiltTerms
+pub mod Cases
+pub mod CycleTrials
+pub mod DeletionTrials
+pub mod Dependants
+pub mod FirstEquations
+pub mod FollowingConstructors
+pub mod FollowingCycles
+pub mod FollowingGroups
+pub mod FollowingRuns
+pub mod FollowingSolutions
+pub mod FollowingTrials
+pub mod FollowingTurns
+pub mod GroupTrials
+pub mod InjectionTrials
+pub mod Levels
+pub mod Memberships
+pub mod MovedEquations
+pub mod MovedStates
+pub mod NewContexts
+pub mod Occurring
+pub mod OutcomeScopes
+pub mod Puts
+pub mod ReductionUnits
+pub mod Reducts
 mod Rows
+pub mod RunLaws
+pub mod RunProperties
 mod Samples
+pub mod ScopedConstructors
+pub mod ScopedCycles
+pub mod ScopedDeletions
+pub mod ScopedEquations
+pub mod ScopedGroups
+pub mod ScopedRecords
+pub mod ScopedSolutions
+pub mod ScopedTurns
+pub mod SearchLaws
+pub mod SearchUnits
+pub mod Sizes
+pub mod SolutionLaws
+pub mod SolutionTrials
+pub mod SolvedContexts
+pub mod SolvedProblems
+pub mod SolvedVariables
+pub mod SpentUnits
 mod SplitRows
 mod StateRows
+pub mod Tests
+pub mod Trials
+pub mod TurnLaws
+pub mod TurnScopes
+pub mod UnderInstances

@@ -1,0 +1,22 @@
+//! What is scoped: the states of runs, their turns and outcomes, and the context behind a solution.
+ghost use Rattle.unification.specs.Laws.{OutcomeScoped, SolvedContext, StartScoped, TurnScoped};
+
+/// The state from which a scoped problem is solved.
+pub fn start_scoped()
+    ensures { StartScoped }
+{}
+
+/// What a scoped state comes to.
+pub fn turn_scoped()
+    ensures { TurnScoped }
+{}
+
+/// The outcome of a scoped problem.
+pub fn outcome_scoped()
+    ensures { OutcomeScoped }
+{}
+
+/// The context behind a solution.
+pub fn solved_context()
+    ensures { SolvedContext }
+{}
