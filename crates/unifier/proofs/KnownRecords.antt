@@ -58,14 +58,14 @@ indices-known b k = scoped-over (first_entries k.S b.family) (length (tele_of b.
 
 -- ---- what is made of it is small
 
-items-made : (X Y : List Item) → Ok Y ≡ bounded_items X → (Y ≡ X) × (are_low_items X ≡ true)
+pub items-made : (X Y : List Item) → Ok Y ≡ bounded_items X → (Y ≡ X) × (are_low_items X ≡ true)
 items-made X Y e = go (are_low_items X) refl e
   where
     go : (b : Bool) → are_low_items X ≡ b → ◌≡◌ {A = Result (List Item) Stop} (Ok Y) (cond b (Ok X) (Err Deep)) → (Y ≡ X) × (are_low_items X ≡ true)
     go true low e = (cc, low)
     go false low e = absurd (cc)
 
-terms-made : (ts us : List Term) → Ok us ≡ bounded_terms ts → (us ≡ ts) × (are_low ts ≡ true)
+pub terms-made : (ts us : List Term) → Ok us ≡ bounded_terms ts → (us ≡ ts) × (are_low ts ≡ true)
 terms-made ts us e = go (are_low ts) refl e
   where
     go : (b : Bool) → are_low ts ≡ b → ◌≡◌ {A = Result (List Term) Stop} (Ok us) (cond b (Ok ts) (Err Deep)) → (us ≡ ts) × (are_low ts ≡ true)

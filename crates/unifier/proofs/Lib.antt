@@ -3,6 +3,7 @@ pub mod BuiltForms
 pub mod ConstructorTurns
 pub mod CycleForms
 pub mod GivenTerms
+pub mod InjectionRooms
 pub mod KnownRecords
 pub mod LawsToCome
 pub mod LowTerms

@@ -44,7 +44,7 @@ constructor-over T n count c h = record {
   targets = All-weaker (IsScoped T (n + length c.arguments)) (λ t. free_of t ≤ n + length c.arguments) (λ t k. k.variables) c.targets h.targets;
 }
 
-family-entry : (o : Option Entry) (f : Family) → option_and_then family_in o ≡ Some f → o ≡ Some (FamilyOf f)
+pub family-entry : (o : Option Entry) (f : Family) → option_and_then family_in o ≡ Some f → o ≡ Some (FamilyOf f)
 family-entry None f e = absurd (cc)
 family-entry (Some (FamilyOf g)) f e = cc
 family-entry (Some _) f e = absurd (cc)
