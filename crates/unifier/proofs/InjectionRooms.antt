@@ -1,5 +1,6 @@
 -- What stands for the places and the equations of a group has few variables.
-use Rattle.std.proofs.Common.{◌≡◌, ℕ, zero, suc, ◌+◌, ◌≤◌, ◌<◌, Bool, true, false, cond, Option, Some, option_map, List, [], ◌∷◌, ◌++◌, length, map, drop, slice_get, All, Result, Ok, Err, refl, ap, ap₂, sym, ◌∙◌, subst as transport, arith}
+use Rattle.std.proofs.Common.{◌≡◌, ℕ, zero, suc, ◌+◌, ◌≤◌, ◌<◌, nat_le, Bool, true, false, cond, Option, Some, option_map, List, [], ◌∷◌, ◌++◌, length, map, drop, slice_get, All, Result, Ok, Err, refl, ap, ap₂, sym, ◌∙◌, subst as transport, arith}
+use Rattle.std.proofs.lemmas.Bool.Decides.{nat_tests}
 use Rattle.std.proofs.lemmas.List.{length-map}
 use Rattle.std.proofs.lemmas.List.Elements.{All-head, All-tail, All-nil, All-cons}
 use Rattle.std.proofs.lemmas.Option.{slice_get-map}
@@ -12,11 +13,13 @@ use Rattle.core_terms.specs.Answers.{and_then, are_low, bounded_terms, is_low}
 use Rattle.core_terms.specs.Meanings.{tree_of, tele_of}
 use Rattle.core_terms.specs.Levels.{variable}
 use Rattle.core_terms.specs.declared.stop.Stop.{Stop}
+use Rattle.core_terms.specs.declared.stop.Stop.TheVariants.{Deep}
 use Rattle.tele_eq.specs.Environments.{Environment}
-use Rattle.tele_eq.specs.Items.{Item, each_position}
+use Rattle.tele_eq.specs.Items.{Item, each_position, item_of, items_of}
+use Rattle.tele_eq.specs.declared.item.Item as code-item
 use Rattle.tele_eq.specs.TelescopicEquality.{equation_behind, equations}
 use Rattle.tele_eq.proofs.ScopeLaws.{scoped_congruences}
-use Rattle.unification.specs.Heights.{bounded_items, group_made, injected_made}
+use Rattle.unification.specs.Heights.{are_low_items, bounded_items, equations_made, group_made, injected_made, most_places}
 use Rattle.unification.specs.Injecting.{group_proofs, injected_equations, lifted}
 use Rattle.unification.specs.Records.{argument_items, family_items, constructor_terms}
 use Rattle.unification.specs.ScopedStates.{IsReady}
@@ -207,3 +210,31 @@ pub code-types : (b : Built) (p : ℕ) (ps us vs : List Term) (types : List code
 code-types b p ps us vs types X ex et =
     sym (length-map types tree_of)
     ∙ (types-many b.family ps us vs (tele_of types) (constructor_of p b.con.now) X ex et ∙ length-map b.con.now.args (argument_of p))
+
+-- ---- the equations of the arguments
+
+pub equations-refused : (X : List Item) (us vs : List Term) (e : Stop) → Err e ≡ bounded_items X → Err e ≡ equations_made X us vs
+equations-refused X us vs e h = go (are_low_items X) (nat_le (length X) most_places) h
+  where
+    go : (low few : Bool) → ◌≡◌ {A = Result (List Item) Stop} (Err e) (cond low (Ok X) (Err Deep))
+        → ◌≡◌ {A = Result Telescope Stop} (Err e) (cond few (and_then (cond low (Ok X) (Err Deep)) (λ items. bounded_terms (equations items us vs))) (Err Deep))
+    go true few h = absurd (cc)
+    go false true h = cc
+    go false false h = cc
+
+pub equations-are : (X : List Item) (us vs types : List Term) → Ok types ≡ equations_made X us vs → (types ≡ equations X us vs) × (length X ≤ 1000)
+equations-are X us vs types h = go (nat_le (length X) most_places) (are_low_items X) refl h
+  where
+    go : (few low : Bool) → nat_le (length X) most_places ≡ few
+        → ◌≡◌ {A = Result Telescope Stop} (Ok types) (cond few (and_then (cond low (Ok X) (Err Deep)) (λ items. bounded_terms (equations items us vs))) (Err Deep))
+        → (types ≡ equations X us vs) × (length X ≤ 1000)
+    go true true few h = ((terms-made (equations X us vs) types h).0, grind (arith, nat_tests))
+    go true false few h = absurd (cc)
+    go false low few h = absurd (cc)
+
+-- as many items as arguments
+pub code-items : (b : Built) (p : ℕ) (ps : List Term) (tele : List code-item.Item) → items_of tele ≡ argument_items b.family ps (constructor_of p b.con.now)
+    → length tele ≡ length b.con.now.args
+code-items b p ps tele e =
+    sym (length-map tele item_of)
+    ∙ (ap length e ∙ (length-argument_items b.family ps (constructor_of p b.con.now) ∙ length-map b.con.now.args (argument_of p)))

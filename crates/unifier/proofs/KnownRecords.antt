@@ -98,14 +98,18 @@ members-many n f ps =
     omega arith
 
 -- the constructor that is known, with as many parameters
+pub arguments-few-known : (b : Built) (ps : List Term) (p : ℕ) → IsKnown b → length ps ≡ p → p ≡ length b.record.now.params → AreOver most_depth ps
+    → length b.con.now.args ≤ 2000 → HasFewVariables (argument_items b.family ps (constructor_of p b.con.now))
+arguments-few-known b ps p known count e over few =
+    arguments-few b.family ps (constructor_of p b.con.now) over
+    (transport (λ k. AreArgumentsOver k (constructor_of p b.con.now).arguments) (length-map b.record.now.params tree_of ∙ (sym e ∙ sym count))
+    (transport (λ k. AreArgumentsOver (length (tele_of b.record.now.params)) (constructor_of k b.con.now).arguments) (sym e) (constructor-known b known).arguments))
+    (omega (arith, length-map b.con.now.args (argument_of p)))
+
 pub arguments-small : (b : Built) (ps : List Term) (p : ℕ) (Y : List Item) → IsKnown b → length ps ≡ p → p ≡ length b.record.now.params → AreOver most_depth ps
     → length b.con.now.args ≤ 2000 → Ok Y ≡ bounded_items (argument_items b.family ps (constructor_of p b.con.now)) → AreSmall Y
 arguments-small b ps p Y known count e over few made =
-    made-small (argument_items b.family ps (constructor_of p b.con.now)) Y made
-    (arguments-few b.family ps (constructor_of p b.con.now) over
-    (transport (λ k. AreArgumentsOver k (constructor_of p b.con.now).arguments) (length-map b.record.now.params tree_of ∙ (sym e ∙ sym count))
-    (transport (λ k. AreArgumentsOver (length (tele_of b.record.now.params)) (constructor_of k b.con.now).arguments) (sym e) (constructor-known b known).arguments))
-    (omega (arith, length-map b.con.now.args (argument_of p))))
+    made-small (argument_items b.family ps (constructor_of p b.con.now)) Y made (arguments-few-known b ps p known count e over few)
 
 pub members-small : (b : Built) (ps : List Term) (Y : List Item) → IsKnown b → length ps ≡ length b.record.now.params → AreOver most_depth ps
     → length b.record.now.indices ≤ 2000 → Ok Y ≡ bounded_items (family_items b.family (family_of b.record.now) ps) → AreSmall Y
