@@ -98,7 +98,8 @@ membership-with S n k (Fam number) spine all =
 membership-with S n k (Var x) spine all = tt
 membership-with S n k _ spine all = tt
 
-membership-in : (S : Signature) (n k : ℕ) (t : Term) → IsScoped S (n + k) t → IfSome (membership_of S k t) (IsMembership S n)
+-- what is found in a scoped type is scoped
+pub membership-in : (S : Signature) (n k : ℕ) (t : Term) → IsScoped S (n + k) t → IfSome (membership_of S k t) (IsMembership S n)
 membership-in S n k t h = membership-with S n k (head_of t) (spine_of t) (spine-scoped S (n + k) t h)
 
 -- ---- the rule

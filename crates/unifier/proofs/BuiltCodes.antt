@@ -58,7 +58,7 @@ pub record IsOf (S : Signature) (t : Term) (b : Built) : Type 0 where
   pub there : slice_get b.record.now.cons b.number ≡ Some b.con.now
   pub all : length (spine_of t) ≡ length b.record.now.params + length b.con.now.args
 
-of-pure : (S : Signature) (t : Term) (b : Built) (p : pure.Built) → built_of S t ≡ Some p → IsBuiltAs b p → IsOf S t b
+pub of-pure : (S : Signature) (t : Term) (b : Built) (p : pure.Built) → built_of S t ≡ Some p → IsBuiltAs b p → IsOf S t b
 of-pure S t b p e is =
     let h = built-is S t p e in
     record {
@@ -124,3 +124,8 @@ split-first lists n m t is e = ap (λ (r : List Term × List Term). r.0) (ok_is 
 
 pub split-rest : (lists : List code.Term × List code.Term) (n m : ℕ) (t : Term) → ◌≡◌ {A = Result (List Term × List Term) Stop} (Ok (teles_of lists)) (Ok (split_of n t)) → n ≡ m → tele_of lists.1 ≡ drop m (spine_of t)
 split-rest lists n m t is e = ap (λ (r : List Term × List Term). r.1) (ok_is is) ∙ ap (λ n. drop n (spine_of t)) e
+
+-- what was found there
+pub code-there : (b : Built) (o : Option pure.Built) → IfThere (IsBuiltAs b) o → (p : pure.Built) × (o ≡ Some p) × IsBuiltAs b p
+code-there b (Some p) is = (p, refl, is)
+code-there b None is = absurd is

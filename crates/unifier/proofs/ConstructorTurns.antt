@@ -12,7 +12,9 @@ use Rattle.core_terms.specs.declared.case_tree.Rule.TheVariants.{Inject}
 use Rattle.core_terms.specs.declared.stop.Stop.{Stop}
 use Rattle.core_sig.specs.Meanings.{constructor_of, family_of}
 use Rattle.kernel_reduce.specs.Reduction.{answered}
+use Rattle.unification.specs.Built as pure
 use Rattle.unification.specs.Built.{built_of, has_no_indices}
+use Rattle.unification.specs.Groups.{Membership, group_turn}
 use Rattle.unification.specs.Constructors.{with_built, constructor_turn}
 use Rattle.unification.specs.Heights.{injection_made}
 use Rattle.unification.specs.States.{Equation, State}
@@ -107,3 +109,56 @@ few-arguments l count args all low = let h = spine_fits l in omega arith
 
 pub arguments-over : (n : ℕ) (l : Term) (us : List code.Term) (count : ℕ) → IsOver n l → tele_of us ≡ drop count (spine_of l) → AreOver n (tele_of us)
 arguments-over n l us count h is = subst (AreOver n) (sym is) (drop-over n count (spine_of l) (spine-over n l h))
+
+-- ---- the same of a group
+
+group-same : (s : State) (g k : ℕ) (b : Built) (m : Membership) (ps : List Term) (l r : Term) → family_of b.record.now ≡ m.family → m.parameters ≡ ps → k ≡ length b.record.now.params
+    → injection_made s g b.family b.number m.family (from_code b l).constructor m.parameters (from_code b l).arguments (from_code b r).arguments ≡ made_of s g k b ps l r
+group-same s g k b m ps l r family parameters count =
+    let f = b.record.now in
+    ap₂ (λ F qs. injection_made s g b.family b.number F (from_code b l).constructor qs (from_code b l).arguments (from_code b r).arguments) (sym family) parameters
+    ∙ (ap (λ n. injection_made s g b.family b.number (family_of f) (constructor_of (length f.params) b.con.now) ps (drop n (spine_of l)) (drop n (spine_of r))) (length-map f.params tree_of)
+    ∙ ap (λ k. made_of s g k b ps l r) (sym count))
+
+same-goes : (x : ℕ) (same other : Trial) (left : ℕ) → cond (x == x) same other left ≡ same left
+same-goes x same other left = ap (λ b. cond b same other left) (same-number x)
+
+-- what a group's turn is known of
+pub record IsTurn (S : Signature) (l r : Term) (b : Built) (m : Membership) (k : ℕ) (ps : List Term) : Type 0 where
+  pub left : IsOf S l b
+  pub right : IsOf S r b
+  pub family : family_of b.record.now ≡ m.family
+  pub parameters : m.parameters ≡ ps
+  pub count : k ≡ length b.record.now.params
+
+pub group-injects : (S : Signature) (s : State) (g : ℕ) (e : Equation) (m : Membership) (type l r : Term) (b : Built) (ps : List Term) (k left : ℕ) → IsTurn S l r b m k ps
+    → goes_to (record { group = g + 1; rule = Inject b.family b.number; ty = type; left = l; right = r }) (made_of s (g + 1) k b ps l r) left
+    ≡ with_built (group_turn S s g e m type) l r (built_of S l) (built_of S r) left
+group-injects S s g e m type l r b ps k left is =
+    let step : Step = record { group = g + 1; rule = Inject b.family b.number; ty = type; left = l; right = r } in
+    sym (ap₂ (λ x y. with_built (group_turn S s g e m type) l r x y left) (of-built S l b is.left) (of-built S r b is.right)
+    ∙ (same-goes b.number _ _ left ∙ ap (λ made. goes_to step made left) (group-same s (g + 1) k b m ps l r is.family is.parameters is.count)))
+
+pub group-goes : (S : Signature) (s : State) (g : ℕ) (e : Equation) (m : Membership) (type l r : Term) (b : Built) (ps : List Term) (k left : ℕ) (t : State) → IsTurn S l r b m k ps → Ok t ≡ made_of s (g + 1) k b ps l r
+    → ◌≡◌ {A = Spent (Option Turn)} (Ok (Some (Goes (record { group = g + 1; rule = Inject b.family b.number; ty = type; left = l; right = r }) t)), left) (with_built (group_turn S s g e m type) l r (built_of S l) (built_of S r) left)
+group-goes S s g e m type l r b ps k left t is made =
+    goes-made _ t (made_of s (g + 1) k b ps l r) left made ∙ group-injects S s g e m type l r b ps k left is
+
+pub group-refused : (S : Signature) (s : State) (g : ℕ) (e : Equation) (m : Membership) (type l r : Term) (b : Built) (ps : List Term) (k left : ℕ) (x : Stop) → IsTurn S l r b m k ps → Err x ≡ made_of s (g + 1) k b ps l r
+    → ◌≡◌ {A = Spent (Option Turn)} (Err x, left) (with_built (group_turn S s g e m type) l r (built_of S l) (built_of S r) left)
+group-refused S s g e m type l r b ps k left x is made =
+    goes-refused _ x (made_of s (g + 1) k b ps l r) left made ∙ group-injects S s g e m type l r b ps k left is
+
+-- the numbers of a group's family
+pub group-indices : (S : Signature) (l : Term) (b : Built) (k : ℕ) → IsOf S l b → ((p : pure.Built) → built_of S l ≡ Some p → length p.family.indices ≡ k) → length b.record.now.indices ≡ k
+group-indices S l b k h all = let e = all (from_code b l) (of-built S l b h) in
+    let n = length-map {B = Term × ℕ} b.record.now.indices (λ i. (tree_of i.ty, i.level)) in
+    omega arith
+
+pub group-parameters : (S : Signature) (l : Term) (b : Built) (k : ℕ) → IsOf S l b → ((p : pure.Built) → built_of S l ≡ Some p → length p.family.parameters ≡ k) → k ≡ length b.record.now.params
+group-parameters S l b k h all = let e = all (from_code b l) (of-built S l b h) in omega (arith, length-map b.record.now.params tree_of)
+
+pub turn-is : (S : Signature) (l r : Term) (b : Built) (m : Membership) (k : ℕ) (ps : List Term) → IsOf S l b → IsOf S r b → ((p : pure.Built) → built_of S l ≡ Some p → p.family ≡ m.family) → m.parameters ≡ ps → k ≡ length b.record.now.params
+    → IsTurn S l r b m k ps
+turn-is S l r b m k ps hl hr family parameters count =
+    record { left = hl; right = hr; family = family (from_code b l) (of-built S l b hl); parameters = parameters; count = count }

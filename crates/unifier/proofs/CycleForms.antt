@@ -1,8 +1,10 @@
 -- What a search below constructors comes to, by what it is in.
-use Rattle.std.proofs.Common.{◌≡◌, ◌≢◌, ℕ, zero, suc, ◌+◌, ◌≤◌, ◌<◌, Bool, true, false, cond, ◌==◌, nat_le, Option, Some, None, option_map, Result, Ok, Err, List, [], ◌∷◌, ◌++◌, refl, sym, ap, ap₂, ◌∙◌, arith}
+use Rattle.std.proofs.Common.{◌≡◌, ◌≢◌, ℕ, zero, suc, ◌+◌, ◌≤◌, ◌<◌, Bool, true, false, cond, ◌==◌, nat_le, Option, Some, None, option_map, Result, Ok, Err, List, [], ◌∷◌, ◌++◌, refl, sym, ap, ap₂, ◌∙◌, subst, arith}
 use Rattle.std.proofs.lemmas.Bool.Decides.{nat_tests}
 use Rattle.theory.specs.Terms.{Term, Var, Con, App, height}
 use Rattle.theory.specs.Telescopes.{applied}
+use Rattle.theory.specs.Spines.{head_of, spine_of}
+use Rattle.theory.proofs.Spines.{applied-spine}
 use Rattle.theory.specs.Families.{Argument}
 use Rattle.theory.specs.Signatures.{Signature}
 use Rattle.core_terms.specs.Answers.{Spent, on_answer, and_next}
@@ -13,7 +15,7 @@ use Rattle.unification.specs.Built.{Built, built_of, is_direct}
 use Rattle.unification.specs.Solutions.{variable_in}
 use Rattle.unification.specs.Cycles.{Search, Below, found_as, here_or, among_arguments, with_arguments, is_variable, below_constructor, in_form, search_in}
 use Rattle.unifier.specs.CodeCycles.{within, search_within}
-use Rattle.unifier.proofs.LawsToCome.{search-goes_on}
+use Rattle.unification.proofs.SearchLaws.{search-goes_on}
 use Rattle.unifier.proofs.BuiltForms.{built-no_variable}
 
 -- ---- in a head form
@@ -115,6 +117,10 @@ applied-high f (u ∷ us) = let h = applied-high (App f u) us in omega arith
 pub applied-lower : (f : Term) (us : List Term) → AreLower (height (applied f us)) us
 applied-lower f [] = tt
 applied-lower f (u ∷ us) = (let h = applied-high (App f u) us in omega arith, applied-lower (App f u) us)
+
+-- the arguments of a term
+pub spine-lower : (t : Term) → AreLower (height t) (spine_of t)
+spine-lower t = subst (λ u. AreLower (height u) (spine_of t)) (applied-spine t) (applied-lower (head_of t) (spine_of t))
 
 behind-lower : (f : Term) (ps us : List Term) → AreLower (height (applied f (ps ++ us))) us
 behind-lower f [] us = applied-lower f us

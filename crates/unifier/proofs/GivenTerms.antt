@@ -1,16 +1,15 @@
 -- Terms that are given: those in a state that is kept, and the arguments of a term.
-use Rattle.std.proofs.Common.{◌≡◌, ℕ, zero, suc, ◌+◌, ◌≤◌, ◌<◌, Bool, true, false, cond, Option, Some, None, List, [], ◌∷◌, ◌++◌, length, take, drop, reverse, slice_get, All, refl, sym, ap, ◌∙◌, subst, arith}
+use Rattle.std.proofs.Common.{◌≡◌, ℕ, zero, suc, ◌+◌, ◌≤◌, ◌<◌, Bool, true, false, cond, Option, Some, None, List, [], ◌∷◌, ◌++◌, length, take, drop, reverse, get_or, slice_get, All, refl, sym, ap, ◌∙◌, subst, arith}
 use Rattle.std.proofs.lemmas.Bool.Decides.{nat_tests}
 use Rattle.std.proofs.lemmas.List.Elements.{All-head, All-tail}
 use Rattle.std.proofs.lemmas.Option.{slice_get_within}
 use Rattle.theory.specs.Terms.{Term, height, free_of}
 use Rattle.theory.specs.Telescopes.{applied}
-use Rattle.theory.specs.Spines.{head_of, spine_of}
+use Rattle.theory.specs.Spines.{spine_of}
 use Rattle.theory.specs.Families.{Argument}
 use Rattle.theory.specs.Signatures.{Signature}
 use Rattle.theory.specs.SignatureScopes.{IsScoped}
 use Rattle.theory.proofs.ScopedTerms.{scoped_over_more, spine-scoped}
-use Rattle.theory.proofs.Spines.{applied-spine}
 use Rattle.kernel_reduce.proofs.Contractions.{spine-free}
 use Rattle.kernel_reduce.specs.Reduction.{most_variables}
 use Rattle.kernel_reduce.specs.WellScoped.{CanReduce}
@@ -22,9 +21,10 @@ use Rattle.unifier.specs.Meanings.{equation_of, state_of}
 use Rattle.unifier.specs.declared.state.Equation.{Equation as CodeEquation}
 use Rattle.unifier.specs.declared.state.State as code
 use Rattle.core_terms.specs.Meanings.{tree_of, tele_of}
-use Rattle.std.proofs.lemmas.List.{length-map}
+use Rattle.core_terms.specs.declared.term.Term as term
+use Rattle.std.proofs.lemmas.List.{length-map, map-append}
 use Rattle.unifier.specs.Conditions.{AreBehind, AreGiven, AreOver, IsGiven, IsKept, IsOver, most_depth, most_levels}
-use Rattle.unifier.proofs.CycleForms.{AreLower, applied-lower}
+use Rattle.unifier.proofs.CycleForms.{AreLower, spine-lower}
 use Rattle.unifier.proofs.Rooms.{room-kept}
 
 -- ---- one term
@@ -55,6 +55,17 @@ pub before-given : (S : Signature) (n : ℕ) (us vs : List Term) → AreGiven S 
 before-given S n [] vs h = (tt, h)
 before-given S n (u ∷ us) vs h = let k = before-given S n us vs h.1 in ((h.0, k.0), k.1)
 
+-- the last one and the others
+pub last-given : (S : Signature) (n : ℕ) (old rest : List term.Term) (u : term.Term) → old ≡ rest ++ u ∷ [] → AreGiven S n (tele_of old) → AreGiven S n (tele_of rest) × IsGiven S n (tree_of u)
+last-given S n old rest u e h =
+    let k = before-given S n (tele_of rest) (tree_of u ∷ []) (subst (AreGiven S n) (ap tele_of e ∙ map-append tree_of rest (u ∷ [])) h) in
+    (k.0, k.1.0)
+
+pub at-given : (S : Signature) (n : ℕ) (us : List term.Term) (k : ℕ) (u : term.Term) → k < length us → u ≡ get_or us k u → AreGiven S n (tele_of us) → IsGiven S n (tree_of u)
+at-given S n [] k u lt e h = absurd (omega arith)
+at-given S n (v ∷ us) zero u lt e h = subst (IsGiven S n) (ap tree_of (sym e)) h.0
+at-given S n (v ∷ us) (suc k) u lt e h = at-given S n us k u (omega arith) e h.1
+
 pub drop-given : (S : Signature) (n k : ℕ) (us : List Term) → AreGiven S n us → AreGiven S n (drop k us)
 drop-given S n zero us h = h
 drop-given S n (suc k) [] h = tt
@@ -84,7 +95,7 @@ lower-given S n h (u ∷ us) scoped lower low few =
 pub spine-given : (S : Signature) (n : ℕ) (t : Term) → IsGiven S n t → AreGiven S n (spine_of t)
 spine-given S n t h =
     lower-given S n (height t) (spine_of t) (spine-scoped S n t h.scoped)
-    (subst (λ u. AreLower (height u) (spine_of t)) (applied-spine t) (applied-lower (head_of t) (spine_of t))) h.low h.few
+    (spine-lower t) h.low h.few
 
 
 pub take-over : (n k : ℕ) (us : List Term) → AreOver n us → AreOver n (take k us)
@@ -106,7 +117,7 @@ lower-over n h (u ∷ us) free lower low few =
 pub spine-over : (n : ℕ) (t : Term) → IsOver n t → AreOver n (spine_of t)
 spine-over n t h =
     lower-over n (height t) (spine_of t) (spine-free n t (spine_of t) refl h.1)
-    (subst (λ u. AreLower (height u) (spine_of t)) (applied-spine t) (applied-lower (head_of t) (spine_of t))) h.0 h.2
+    (spine-lower t) h.0 h.2
 
 -- ---- the equations of a state
 

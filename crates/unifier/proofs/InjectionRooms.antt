@@ -32,7 +32,7 @@ use Rattle.unifier.specs.CodeBuilt.{IsInjected, IsKnown}
 use Rattle.unifier.specs.declared.built.Built.{Built}
 use Rattle.unifier.proofs.GivenTerms.{all-over}
 use Rattle.unifier.proofs.RecordSizes.{family-entry}
-use Rattle.unifier.specs.CodeGroups.{equations_joined, injected_rest}
+use Rattle.unifier.specs.CodeInjections.{equations_joined, injected_rest}
 use Rattle.unifier.specs.Conditions.{AreBehind, AreGiven, AreOver, ArePut, HasRoom, HaveFewVariables, most_depth, most_levels}
 use Rattle.unifier.specs.Meanings.{equation_of, equations_of, state_of}
 use Rattle.unifier.specs.declared.state.State as code

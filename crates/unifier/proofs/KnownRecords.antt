@@ -29,7 +29,7 @@ use Rattle.unification.specs.Heights.{are_low_items, bounded_items, group_made}
 use Rattle.unification.specs.Injecting.{lifted}
 use Rattle.unification.specs.Records.{items_at, argument_items, family_items, constructor_terms}
 use Rattle.unifier.specs.CodeBuilt.{IsKnown}
-use Rattle.unifier.specs.CodeGroups.{group_made_behind}
+use Rattle.unifier.specs.CodeInjections.{group_made_behind}
 use Rattle.unifier.specs.Conditions.{AreOver, HasFewVariables, HaveFewVariables, IsOver, most_depth, most_levels}
 use Rattle.unifier.specs.declared.built.Built.{Built}
 use Rattle.unifier.proofs.LowTerms.{small-items, small-terms}

@@ -1,11 +1,14 @@
+pub mod AmongCodes
+pub mod BelowCodes
 pub mod BuiltCodes
 pub mod BuiltForms
 pub mod ConstructorTurns
+pub mod CycleCodes
 pub mod CycleForms
 pub mod GivenTerms
+pub mod GroupCodes
 pub mod InjectionRooms
 pub mod KnownRecords
-pub mod LawsToCome
 pub mod LowTerms
 pub mod Lowering
 pub mod Orders

@@ -11,9 +11,13 @@ use Rattle.kernel_reduce.specs.Reduction.{answered, whnf_of}
 use Rattle.unification.specs.Built.{Built, built_of, is_direct}
 use Rattle.unification.specs.Runs.{size_of}
 use Rattle.unification.specs.Solutions.{variable_in}
-use Rattle.unification.specs.Cycles.{Search, found_as, here_or, among_arguments, with_arguments, below_constructor, in_form, search_in}
-use Rattle.unifier.specs.CodeCycles.{within, search_within, search_each, search_too_deep, direct_among, direct_arguments}
-use Rattle.unifier.proofs.LawsToCome.{search-goes_on, whnf-same, size_of_all, size-positive, built-smaller}
+use Rattle.unification.specs.Cycles.{Search, found_as, here_or, among_arguments, with_arguments, below_constructor, in_form, is_variable, search_in}
+use Rattle.unifier.specs.CodeCycles.{within, search_within, search_each, search_too_deep, direct_among, direct_arguments, go_below}
+use Rattle.unification.proofs.BuiltArguments.{built-smaller}
+use Rattle.unification.proofs.ReductionUnits.{Stays, whnf-within}
+use Rattle.unification.proofs.SearchLaws.{search-goes_on}
+use Rattle.unification.proofs.Sizes.{size_of_all, size-positive}
+use Rattle.unification.proofs.SpentUnits.{Leaves, at_most}
 use Rattle.unifier.proofs.BuiltForms.{built-no_variable}
 use Rattle.unifier.proofs.CycleForms.{bounded_by, whole, mapped, found-twice, form-variable, form-other, search-below, positive}
 
@@ -53,8 +57,11 @@ size-append : (us vs : List Term) → size_of_all (us ++ vs) ≡ size_of_all us 
 size-append [] vs = omega arith
 size-append (u ∷ us) vs = let h = size-append us vs in omega arith
 
-at_most : (rest left : ℕ) → rest ≤ left → (rest < left) ⊎ (rest ≡ left)
-at_most rest left le = grind arith
+-- where no unit is spent the term stays as it is
+whnf-same : (S : Signature) (left : ℕ) (t u : Term) (rest : ℕ) → whnf_of S true left t ≡ answered (Ok u) rest → (rest ≤ left) × (rest ≡ left → u ≡ t)
+whnf-same S left t u rest e =
+    let h = whnf-within S true left t in
+    (subst (λ (r : Spent Term). r.1 ≤ left) e h.spends, subst (λ (r : Spent Term). Leaves (Stays left t) r.0 r.1) e h.leaves)
 
 at-head : (S : Signature) (n : ℕ) (u : Term) (terms : List Term) (left : ℕ) (r : Result Term Stop) (rest : ℕ) → whnf_of S true left u ≡ answered r rest
     → ((t : Term) → whnf_of S true left u ≡ answered (Ok t) rest → Ends S n (direct_arguments n (built_of S t) ++ terms) rest) → Ends S n (u ∷ terms) left
@@ -213,3 +220,46 @@ search-deep S x t left p e =
     ∙ (or-nothing S p.n x r.0 r.1
     ∙ (among-waiting S p.n x [] (with_arguments p) p.constructor.arguments p.arguments left
     ∙ ap (λ ts. search_too_deep S p.n x ts left) (append-nil (direct_among p.constructor.arguments p.arguments))))
+
+-- ---- one term after the other
+
+is-same : (x : ℕ) (o : Option ℕ) → is_variable x o ≡ true → o ≡ Some x
+is-same x (Some y) e = ap Some (let f : y ≡ x = grind (arith, nat_tests) in f)
+is-same x None e = absurd (cc)
+
+pub is-apart : (x : ℕ) (o : Option ℕ) → is_variable x o ≡ false → o ≢ Some x
+is-apart x o e same = absurd (let f : is_variable x (Some x) ≡ false = ap (is_variable x) (sym same) ∙ e in grind (arith, nat_tests))
+
+pub below-all : (S : Signature) (n x : ℕ) (u : Term) (terms : List Term) (left : ℕ)
+    → search_too_deep S n x (u ∷ terms) left ≡ and_next (go_below S n x u terms left) (λ made rest. search_too_deep S n x made rest)
+below-all S n x u terms left = go (whnf_of S true left u).0 (whnf_of S true left u).1 refl
+  where
+    at-form : (t : Term) (rest : ℕ) (b : Bool) → is_variable x (variable_in t) ≡ b → whnf_of S true left u ≡ answered (Ok t) rest
+        → search_too_deep S n x (u ∷ terms) left
+        ≡ on_answer (cond b (Err Deep) (Ok (direct_arguments n (built_of S t) ++ terms))) rest (λ made rest. search_too_deep S n x made rest)
+    at-form t rest true e is = waiting-found S n x terms u t left rest is (is-same x (variable_in t) e)
+    at-form t rest false e is = waiting-goes S n x terms u t left rest is (is-apart x (variable_in t) e)
+
+    go : (r : Result Term Stop) (rest : ℕ) → whnf_of S true left u ≡ answered r rest
+        → search_too_deep S n x (u ∷ terms) left
+        ≡ and_next (on_answer r rest (λ t rest. answered (cond (is_variable x (variable_in t)) (Err Deep) (Ok (direct_arguments n (built_of S t) ++ terms))) rest)) (λ made rest. search_too_deep S n x made rest)
+    go (Ok t) rest is = at-form t rest (is_variable x (variable_in t)) refl is
+    go (Err e) rest is = waiting-stops S n x terms u left rest e is
+
+pub below-fewer : (S : Signature) (n x : ℕ) (u : Term) (terms made : List Term) (left rest : ℕ) → ◌≡◌ {A = Spent (List Term)} (Ok made, rest) (go_below S n x u terms left)
+    → turns_in S n made rest < turns_in S n (u ∷ terms) left
+below-fewer S n x u terms made left rest e = go (whnf_of S true left u).0 (whnf_of S true left u).1 refl e
+  where
+    at-form : (t : Term) (end : ℕ) (b : Bool) → whnf_of S true left u ≡ answered (Ok t) end
+        → ◌≡◌ {A = Spent (List Term)} (Ok made, rest) (cond b (Err Deep) (Ok (direct_arguments n (built_of S t) ++ terms)), end) → turns_in S n made rest < turns_in S n (u ∷ terms) left
+    at-form t end true is e = absurd (let f = ap (λ (r : Spent (List Term)). r.0) e in cc)
+    at-form t end false is e =
+        let f = ap (λ (r : Spent (List Term)). r.0) e in
+        let m : made ≡ direct_arguments n (built_of S t) ++ terms = cc in
+        subst₂ (λ m l. turns_in S n m l < turns_in S n (u ∷ terms) left) (sym m) (sym (ap (λ (r : Spent (List Term)). r.1) e)) (turns-fall S n u t terms left end is)
+
+    go : (r : Result Term Stop) (end : ℕ) → whnf_of S true left u ≡ answered r end
+        → ◌≡◌ {A = Spent (List Term)} (Ok made, rest) (on_answer r end (λ t rest. answered (cond (is_variable x (variable_in t)) (Err Deep) (Ok (direct_arguments n (built_of S t) ++ terms))) rest))
+        → turns_in S n made rest < turns_in S n (u ∷ terms) left
+    go (Ok t) end is e = at-form t end (is_variable x (variable_in t)) is e
+    go (Err x) end is e = absurd (let f = ap (λ (r : Spent (List Term)). r.0) e in cc)

@@ -1,17 +1,18 @@
 -- What the code finds of a variable below constructors. It goes on building what it finds only while that may still be a side.
-use Rattle.std.specs.Prelude.{ℕ, zero, ◌==◌, true, cond, nat_le, Option, Some, None, List, [], ◌∷◌, length, drop, Result, Ok, Err}
+use Rattle.std.specs.Prelude.{ℕ, zero, ◌==◌, Bool, true, false, cond, nat_le, Option, Some, None, List, [], ◌∷◌, ◌++◌, length, drop, Result, Ok, Err}
 use Rattle.theory.specs.Terms.{Term, height}
 use Rattle.theory.specs.Spines.{spine_of}
 use Rattle.theory.specs.Families.{Argument}
 use Rattle.theory.specs.Signatures.{Signature}
-use Rattle.core_terms.specs.Answers.{and_next}
+use Rattle.core_terms.specs.Answers.{Spent, and_next}
 use Rattle.core_terms.specs.declared.stop.Stop.{Stop}
 use Rattle.core_terms.specs.declared.stop.Stop.TheVariants.{Deep}
 use Rattle.core_sig.specs.Meanings.{constructor_of}
 use Rattle.kernel_reduce.specs.Reduction.{answered, whnf_of}
 use Rattle.unification.specs.Built as pure
 use Rattle.unification.specs.Built.{is_direct}
-use Rattle.unification.specs.Cycles.{Search, not_found, here_or, search_in}
+use Rattle.unification.specs.Cycles.{Search, is_variable, not_found, here_or, search_in}
+use Rattle.unification.specs.Solutions.{variable_in}
 use Rattle.unifier.specs.declared.built.Built.{Built}
 
 -- what is found, or Deep where it is higher than `room`
@@ -22,6 +23,11 @@ within room (Some t) = cond (nat_le (height t) room) (Ok (Some t)) (Err Deep)
 -- the variable x at a head form or below it, where the side has room for so high a term in its place
 abbrev pub search_within : Signature → (n x room : ℕ) → Term → Search Term
 search_within S n x room t left = and_next (search_in S n x t left) (λ found rest. answered (within room found) rest)
+
+-- the same in an argument, where it is direct
+abbrev pub at_argument : Signature → (n x room : ℕ) → Argument → Term → Search Term
+at_argument S n x room a u left =
+    cond (is_direct a) (and_next (whnf_of S true left u) (λ v rest. search_within S n x room v rest)) (not_found left)
 
 -- ---- where there is no room: what is found in any term is Deep
 
@@ -41,10 +47,21 @@ abbrev pub direct_among : List Argument → List Term → List Term
 direct_among (a ∷ arguments) (u ∷ us) = cond (is_direct a) (u ∷ direct_among arguments us) (direct_among arguments us)
 direct_among _ _ = []
 
+-- an argument is there and is direct
+abbrev pub is_direct_at : Option Argument → Bool
+is_direct_at None = false
+is_direct_at (Some a) = is_direct a
+
 -- the direct arguments of a constructor of family n
 abbrev pub direct_arguments : (n : ℕ) → Option pure.Built → List Term
 direct_arguments n None = []
 direct_arguments n (Some b) = cond (b.n == n) (direct_among b.constructor.arguments b.arguments) []
+
+-- The first of the terms that wait is reduced, and its direct arguments wait in its place. It is Deep where it is the variable.
+abbrev pub go_below : Signature → (n x : ℕ) → Term → List Term → ℕ → Spent (List Term)
+go_below S n x u terms left =
+    and_next (whnf_of S true left u) (λ t rest.
+    answered (cond (is_variable x (variable_in t)) (Err Deep) (Ok (direct_arguments n (pure.built_of S t) ++ terms))) rest)
 
 -- the direct arguments of a constructor in the term that it is
 abbrev pub direct_in : Built → Term → List Term

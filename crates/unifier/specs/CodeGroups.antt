@@ -1,25 +1,32 @@
 -- What the code finds of a group.
-use Rattle.std.specs.Prelude.{ℕ, ◌+◌, ◌-◌, nat_lt, cond, List, ◌++◌, length, drop, Result, Ok}
-use Rattle.theory.specs.Families.{Family, Constructor}
-use Rattle.theory.specs.Telescopes.{Telescope, variables}
+use Rattle.std.specs.Prelude.{◌≡◌, ◌≤◌, ℕ, ◌+◌, ◌-◌, nat_lt, Bool, ◌==◌, ◌&&◌, cond, Some, List, length}
 use Rattle.theory.specs.Terms.{Term, Var, Pi, Lam, App, Let}
-use Rattle.core_terms.specs.Answers.{and_then, bounded_terms}
-use Rattle.core_terms.specs.declared.stop.Stop.{Stop}
-use Rattle.tele_eq.specs.Congruences.{congruences}
-use Rattle.unification.specs.Heights.{bounded_items, group_made}
-use Rattle.unification.specs.Injecting.{lifted, injected_equations}
-use Rattle.unification.specs.Moving.{over_first, behind, moved}
-use Rattle.unification.specs.States.{Equation, State, equations_at}
-use Rattle.core_terms.specs.Levels.{variable}
-use Rattle.tele_eq.specs.Items.{Item}
-use Rattle.unification.specs.Records.{argument_items, family_items, constructor_terms}
+use Rattle.theory.specs.Families.{Family}
+use Rattle.theory.specs.Signatures.{Signature}
 use Rattle.core_terms.specs.Meanings.{tele_of}
+use Rattle.core_sig.specs.Kinds.{HasKinds}
+use Rattle.kernel_reduce.specs.Entries.{family_at}
+use Rattle.unification.specs.Built.{is_fitting}
+use Rattle.unifier.specs.Conditions.{AreGiven}
 use Rattle.core_sig.specs.Meanings.{family_of}
 use Rattle.unification.specs.Groups as pure
 use Rattle.unifier.specs.declared.groups.Membership.{Membership}
 
 abbrev pub membership_from : Membership → pure.Membership
 membership_from m = record { n = m.number; family = family_of m.record.now; parameters = tele_of m.params }
+
+-- so many indices stand behind all parameters of a family that no confusion can be made of
+abbrev pub has_places : (k : ℕ) (spine : List Term) → Family → Bool
+has_places k spine f = (length f.indices == k) && ((length spine == length f.parameters + k) && is_fitting f)
+
+-- the family of a group, with the indices at its places, and its parameters over n variables
+pub record IsGroupOf (S : Signature) (n k : ℕ) (m : Membership) : Type 0 where
+  pub family : family_at S m.number ≡ Some (family_of m.record.now)
+  pub kinds : HasKinds m.number m.record.now
+  pub indices : length m.record.now.indices ≡ k
+  pub few : k ≤ 2000
+  pub count : length m.params ≡ length m.record.now.params
+  pub parameters : AreGiven S n (tele_of m.params)
 
 -- a term without the nearest k variables, under so many binders of its own
 abbrev pub lowered_under : (k under : ℕ) → Term → Term
@@ -29,29 +36,3 @@ lowered_under k under (Lam a b) = Lam (lowered_under k under a) (lowered_under k
 lowered_under k under (App f a) = App (lowered_under k under f) (lowered_under k under a)
 lowered_under k under (Let a t b) = Let (lowered_under k under a) (lowered_under k under t) (lowered_under k (under + 1) b)
 lowered_under k under t = t
-
--- what stands for the places and the equations of a group, at parameters behind the equations of the arguments
-abbrev pub group_made_behind : (n number : ℕ) → Family → Constructor → (ps us vs : List Term) → Result (List Term) Stop
-group_made_behind n number f c ps us vs =
-    and_then (bounded_items (argument_items n ps c)) (λ arguments.
-    and_then (bounded_items (family_items n f ps)) (λ family.
-    and_then (bounded_terms (constructor_terms n number ps c)) (λ terms.
-    bounded_terms
-    (congruences (argument_items n ps c) (family_items n f ps) (constructor_terms n number ps c) (lifted (length c.arguments) us)
-    (lifted (length c.arguments) vs) (variables (length c.arguments))))))
-
--- equations between the terms of a telescope, and behind them those of a state from the g-th one on: the terms stand for the g
--- places before these, and the proofs for the equations
-abbrev pub equations_joined : State → (g : ℕ) → List Item → Telescope → (us vs terms proofs : List Term) → List Equation
-equations_joined s g X types us vs terms proofs =
-    let m = length s.context in
-    let new = m + length types in
-    equations_at X types us vs
-    ++ moved (behind m g new variable (over_first new terms)) (behind m g new variable (over_first new proofs)) (λ t. t) (m + g) new (drop g s.equations)
-
--- the equations behind an injectivity, once those of the arguments are made
-abbrev pub injected_rest : State → (g n number : ℕ) → Family → Constructor → (ps us vs : List Term) → Result (List Equation) Stop
-injected_rest s g n number f c ps us vs =
-    and_then (group_made n number f c ps us vs) (λ proofs.
-    and_then (bounded_terms (constructor_terms n number ps c)) (λ terms.
-    Ok (injected_equations s g n number f c ps us vs)))

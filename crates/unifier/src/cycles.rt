@@ -1,4 +1,4 @@
-ghost use Rattle.std.specs.Prelude.{◌≡◌, ◌≤◌, ◌<◌, ◌+◌, ◌++◌, option_map, ℕ, Some, None, Ok, cond, take, drop, map, reverse};
+ghost use Rattle.std.specs.Prelude.{◌≡◌, ◌≤◌, ◌<◌, ◌+◌, ◌++◌, ◌∷◌, [], IfOk, option_map, slice_get, ℕ, Some, None, Ok, cond, take, drop, map, reverse};
 ghost use Rattle.core_terms.specs.Answers.{Gives, Runs};
 ghost use Rattle.core_terms.specs.Meanings.{tree_of, tele_of};
 ghost use Rattle.unification.specs.Cycles as spec;
@@ -11,6 +11,7 @@ ghost use Rattle.core_sig.specs.Meanings.{argument_of};
 ghost use Rattle.unification.specs.Built as spec_built;
 ghost use Rattle.unifier.specs.CodeBuilt.{IsBuiltAs};
 ghost use Rattle.unifier.specs.CodeCycles as code;
+ghost use Rattle.unification.specs.Solutions.{variable_in};
 ghost use Rattle.unification.specs.Turns as turns;
 
 use crate::built::{Built, built_of, has_no_indices, is_direct, is_fitting, split_spine};
@@ -28,6 +29,12 @@ fn is_acyclic(b: Built) -> bool
     ensures { (p : spec_built.Built) → IsBuiltAs b.entry p → result ≡ spec.is_acyclic p }
 {
     has_no_indices(b.record) && is_fitting(b.record)
+}
+
+fn is_variable(x: u32, t: &Term) -> bool
+    ensures { result ≡ spec.is_variable x (variable_in (tree_of t.now)) }
+{
+    matches!(t, Term::Var(y) if *y == x)
 }
 
 /// What is found, or Deep where it is higher than `room`.
@@ -60,15 +67,19 @@ fn search(
     ensures sum { units.new.left + units.new.spent ≡ units.old.left + units.old.spent }
     ensures spends { units.new.left ≤ units.old.left }
 {
-    if variable_in(t) == Some(x) {
+    if is_variable(x, t) {
         return within(room, copy_whole(alloc, t)?);
     }
-    match built_of(sig, t) {
-        Some(b) if b.family != n => Ok(None),
-        Some(b) if room == 0 => below_too_deep(alloc, sig, b, x, t, units),
-        Some(b) => below(alloc, sig, b, x, room, t, units),
-        None => Ok(None),
+    let Some(b) = built_of(sig, t) else {
+        return Ok(None);
+    };
+    if b.family != n {
+        return Ok(None);
     }
+    if room == 0 {
+        return below_too_deep(alloc, sig, b, x, t, units);
+    }
+    below(alloc, sig, b, x, room, t, units)
 }
 
 /// The variable below the constructor that the term is.
@@ -126,14 +137,38 @@ fn among(
     if at >= us.len() || at >= args.len() {
         return Ok(false);
     }
-    if is_direct(&args[at]) {
-        let t = whnf(alloc, sig, &us[at], true, units)?;
-        if let Some(found) = search(alloc, sig, n, x, room, &t, units)? {
-            us[at] = found;
-            return Ok(true);
-        }
+    let found = at_argument(alloc, sig, n, x, room, &args[at], &us[at], units)?;
+    if let Some(found) = found {
+        us[at] = found;
+        return Ok(true);
     }
     among(alloc, sig, n, x, room, args, us, at + 1, units)
+}
+
+/// What is found in one of them, where it is direct.
+#[cycle(search)]
+fn at_argument(
+    alloc: Global,
+    sig: &Signature,
+    n: u32,
+    x: u32,
+    room: u32,
+    arg: &Arg,
+    u: &Term,
+    units: &mut Units,
+) -> Result<Option<Term>, Stop>
+    requires ready { IsReady sig.now }
+    requires room { room ≤ 2000 }
+    requires u { IsGiven sig.now most_levels (tree_of u.now) }
+    ensures answer { (p : ℕ) → Runs (option_map tree_of) result units.new.left (code.at_argument sig.now n x room (argument_of p arg.now) (tree_of u.now) units.old.left) }
+    ensures sum { units.new.left + units.new.spent ≡ units.old.left + units.old.spent }
+    ensures spends { units.new.left ≤ units.old.left }
+{
+    if !is_direct(arg) {
+        return Ok(None);
+    }
+    let t = whnf(alloc, sig, u, true, units)?;
+    search(alloc, sig, n, x, room, &t, units)
 }
 
 /// The variable below the constructor that the term is, where there is no room for what is found.
@@ -157,17 +192,33 @@ fn below_too_deep(
 }
 
 /// The terms with the direct arguments of the constructor that a term is behind them, the first argument last.
-fn with_direct(alloc: Global, b: Built, t: &Term, mut terms: Vec<Term>) -> Result<Vec<Term>, Stop>
+fn with_direct(alloc: Global, b: Built, t: &Term, terms: Vec<Term>) -> Result<Vec<Term>, Stop>
     ensures { Gives (λ made. tele_of made.items) result (Ok (tele_of terms.items ++ reverse (code.direct_in b.entry (tree_of t.now)))) }
 {
     let count = b.record.params.as_slice().len();
     let (_, us) = split_spine(alloc, t, count)?;
     let mut us = us.into_vec();
     let args = b.con.args.as_slice();
+    let mut made = terms;
     'arguments: while let Some(u) = us.pop() {
-        if matches!(args.get(us.len()), Some(arg) if is_direct(arg)) {
-            terms.push(u)?;
-        }
+        made = with_argument(is_direct_at(args, us.len()), u, made)?;
+    }
+    Ok(made)
+}
+
+/// Whether the argument with a number is there and is direct.
+fn is_direct_at(args: &[Arg], at: usize) -> bool
+    ensures { (p : ℕ) → result ≡ code.is_direct_at (slice_get (map (argument_of p) args.now) at) }
+{
+    matches!(args.get(at), Some(arg) if is_direct(arg))
+}
+
+/// The terms with one behind them, where it stands for a direct argument.
+fn with_argument(direct: bool, u: Term, mut terms: Vec<Term>) -> Result<Vec<Term>, Stop>
+    ensures { Gives (λ made. tele_of made.items) result (Ok (tele_of terms.items ++ cond direct (tree_of u ∷ []) [])) }
+{
+    if direct {
+        terms.push(u)?;
     }
     Ok(terms)
 }
@@ -191,17 +242,51 @@ fn search_too_deep(
 {
     let mut waiting = terms;
     'terms: while let Some(u) = waiting.pop() {
-        let t = whnf(alloc, sig, &u, true, units)?;
-        if variable_in(&t) == Some(x) {
-            return Err(Stop::Deep);
-        }
-        if let Some(b) = built_of(sig, &t) {
-            if b.family == n {
-                waiting = with_direct(alloc, b, &t, waiting)?;
-            }
-        }
+        waiting = go_below(alloc, sig, n, x, u, waiting, units)?;
     }
     Ok(())
+}
+
+/// The terms that wait once one more is reduced: its direct arguments, behind the others. Deep where it is the variable.
+fn go_below(
+    alloc: Global,
+    sig: &Signature,
+    n: u32,
+    x: u32,
+    u: Term,
+    waiting: Vec<Term>,
+    units: &mut Units,
+) -> Result<Vec<Term>, Stop>
+    requires ready { IsReady sig.now }
+    requires u { IsGiven sig.now most_levels (tree_of u) }
+    requires waiting { AreGiven sig.now most_levels (tele_of waiting.items) }
+    ensures answer { Runs (λ made. reverse (tele_of made.items)) result units.new.left (code.go_below sig.now n x (tree_of u) (reverse (tele_of waiting.items)) units.old.left) }
+    ensures sum { units.new.left + units.new.spent ≡ units.old.left + units.old.spent }
+    ensures spends { units.new.left ≤ units.old.left }
+    ensures given { IfOk result (λ made. AreGiven sig.now most_levels (tele_of made.items)) }
+{
+    let t = whnf(alloc, sig, &u, true, units)?;
+    if is_variable(x, &t) {
+        return Err(Stop::Deep);
+    }
+    with_arguments(alloc, sig, n, &t, waiting)
+}
+
+/// The terms with the direct arguments of a head form behind them, where it is a constructor of the family.
+fn with_arguments(
+    alloc: Global,
+    sig: &Signature,
+    n: u32,
+    t: &Term,
+    terms: Vec<Term>,
+) -> Result<Vec<Term>, Stop>
+    requires low { tree.height (tree_of t.now) ≤ 2000 }
+    ensures { Gives (λ made. tele_of made.items) result (Ok (tele_of terms.items ++ reverse (code.direct_arguments n (spec_built.built_of sig.now (tree_of t.now))))) }
+{
+    match built_of(sig, t) {
+        Some(b) if b.family == n => with_direct(alloc, b, t, terms),
+        _ => Ok(terms),
+    }
 }
 
 /// The variable below the constructor that a side is, or Deep where the side is too high once it is reduced on the way.

@@ -1,10 +1,10 @@
-ghost use Rattle.std.specs.Prelude.{◌≡◌, ◌+◌, Ok, Some, option_map, IfOk, IfSome, ◌≤◌, ◌<◌, ◌^◌, length, map, take, slice_get};
+ghost use Rattle.std.specs.Prelude.{◌≡◌, ◌+◌, ◌++◌, Ok, Some, option_map, IfOk, IfSome, ◌≤◌, ◌<◌, ◌^◌, length, map, take, slice_get};
 ghost use Rattle.core_terms.specs.Answers.{Gives, Runs};
 ghost use Rattle.core_terms.specs.Meanings.{tree_of, tele_of};
 ghost use Rattle.unification.specs.Groups as spec;
 ghost use Rattle.unifier.specs.Meanings.{equation_of, equations_of, state_of, turn_of};
 ghost use Rattle.unification.specs.States as states;
-ghost use Rattle.unifier.specs.Conditions.{AreGiven, IsGiven, IsKept, LeadsToRoomWhere, most_levels};
+ghost use Rattle.unifier.specs.Conditions.{AreGiven, AreLow, IsGiven, IsKept, LeadsToRoomWhere, most_levels};
 ghost use Rattle.unification.specs.ScopedStates.{IsReady};
 ghost use Rattle.unifier.specs.CodeBuilt.{AreOfOneFamily, sides_of, teles_of};
 ghost use Rattle.unification.specs.Built as spec_built;
@@ -14,7 +14,8 @@ ghost use Rattle.core_sig.specs.Meanings.{family_of};
 ghost use Rattle.std.specs.List.{All};
 ghost use Rattle.core_sig.specs.Kinds.{HasKinds};
 ghost use Rattle.theory.specs.Terms as tree;
-ghost use Rattle.unifier.specs.CodeGroups.{lowered_under, membership_from};
+ghost use Rattle.theory.specs.Spines.{spine_of};
+ghost use Rattle.unifier.specs.CodeGroups.{IsGroupOf, has_places, lowered_under, membership_from};
 
 use crate::built::{built_of, is_fitting, split_spine};
 use crate::constructors::{Fits, heads, inject_sides};
@@ -53,7 +54,7 @@ fn has_nearest(k: u32, t: &Term) -> bool
 }
 
 fn have_nearest(k: u32, terms: &[Term]) -> bool
-    requires { All (λ t. tree.height t ≤ 2000) (tele_of terms.now) }
+    requires { AreLow (tele_of terms.now) }
     ensures { result ≡ spec.have_nearest k (tele_of terms.now) }
 {
     match terms {
@@ -122,7 +123,7 @@ fn membership_of<'a>(
 ) -> Result<Option<Membership<'a>>, Stop>
     requires low { tree.height (tree_of ty.now) ≤ 2000 }
     ensures answer { Gives (option_map membership_from) result (Ok (spec.membership_of sig.now k (tree_of ty.now))) }
-    ensures kinds { IfOk result (λ found. IfSome found (λ m. HasKinds m.number m.record.now)) }
+    ensures found { IfOk result (λ found. IfSome found (λ m. HasKinds m.number m.record.now × (family_at sig.now m.number ≡ Some (family_of m.record.now)))) }
 {
     let Term::Fam(n) = head(ty) else {
         return Ok(None);
@@ -130,20 +131,51 @@ fn membership_of<'a>(
     let Some(f) = family(sig, *n) else {
         return Ok(None);
     };
-    let count = f.params.as_slice().len();
-    let indices = f.indices.as_slice().len();
-    let all = count as u128 + indices as u128;
-    if indices != k as usize || spine_len(ty) as u128 != all || !is_fitting(f) {
+    at_places(alloc, k, *n, f, ty)
+}
+
+/// Whether so many indices stand behind all parameters of a family that no confusion can be made of.
+fn has_places(k: u32, f: &Family, ty: &Term) -> bool
+    requires { tree.height (tree_of ty.now) ≤ 2000 }
+    ensures { result ≡ has_places k (spine_of (tree_of ty.now)) (family_of f.now) }
+{
+    if f.indices.as_slice().len() != k as usize {
+        return false;
+    }
+    let all = f.params.as_slice().len() as u128 + k as u128;
+    if spine_len(ty) as u128 != all {
+        return false;
+    }
+    is_fitting(f)
+}
+
+/// The same of a type that is a family at arguments.
+fn at_places<'a>(
+    alloc: Global,
+    k: u32,
+    n: u32,
+    f: &'a Family,
+    ty: &Term,
+) -> Result<Option<Membership<'a>>, Stop>
+    requires low { tree.height (tree_of ty.now) ≤ 2000 }
+    ensures answer { Gives (option_map membership_from) result (Ok (spec.with_places k n (spine_of (tree_of ty.now)) (family_of f.now))) }
+    ensures same { IfOk result (λ found. IfSome found (λ m. (m.number ≡ n) × (m.record.now ≡ f.now))) }
+{
+    if !has_places(k, f, ty) {
         return Ok(None);
     }
-    let (ps, places) = split_spine(alloc, ty, count)?;
-    if !are_nearest(k, places.as_slice()) || have_nearest(k, ps.as_slice()) {
+    let (ps, places) = split_spine(alloc, ty, f.params.as_slice().len())?;
+    if !are_nearest(k, places.as_slice()) {
         return Ok(None);
     }
+    if have_nearest(k, ps.as_slice()) {
+        return Ok(None);
+    }
+    let params = all_lowered(alloc, k, ps.as_slice())?;
     Ok(Some(Membership {
-        number: *n,
+        number: n,
         record: f,
-        params: all_lowered(alloc, k, ps.as_slice())?,
+        params,
     }))
 }
 
@@ -163,13 +195,25 @@ fn all_lowered(alloc: Global, k: u32, terms: &[Term]) -> Result<Tele, Stop>
 fn sides(alloc: Global, equations: &[Equation]) -> Result<(Tele, Tele), Stop>
     ensures { Gives teles_of result (Ok (sides_of (equations_of equations.now))) }
 {
-    let mut left = Items::new(alloc);
-    let mut right = Items::new(alloc);
-    for e in equations {
-        left.push(copy_whole(alloc, &e.left)?)?;
-        right.push(copy_whole(alloc, &e.right)?)?;
-    }
-    Ok((left, right))
+    with_sides(alloc, equations, Items::new(alloc), Items::new(alloc))
+}
+
+/// The same behind those that are made.
+#[tactic(auto, using(tele_eq::proofs::Growing::growing))]
+fn with_sides(
+    alloc: Global,
+    equations: &[Equation],
+    mut left: Tele,
+    mut right: Tele,
+) -> Result<(Tele, Tele), Stop>
+    ensures { Gives teles_of result (Ok (tele_of left ++ states.left_sides (equations_of equations.now), tele_of right ++ states.right_sides (equations_of equations.now))) }
+{
+    let [e, rest @ ..] = equations else {
+        return Ok((left, right));
+    };
+    left.push(copy_whole(alloc, &e.left)?)?;
+    right.push(copy_whole(alloc, &e.right)?)?;
+    with_sides(alloc, rest, left, right)
 }
 
 /// Whether the types of equations are convertible with others one by one, up to the first that are not.
@@ -187,15 +231,16 @@ fn all_convertible(
     ensures sum { units.new.left + units.new.spent ≡ units.old.left + units.old.spent }
     ensures spends { units.new.left ≤ units.old.left }
 {
-    match (equations, others) {
-        ([e, equations @ ..], [other, others @ ..]) => {
-            if !convertible(alloc, sig, &e.ty, other, units)? {
-                return Ok(false);
-            }
-            all_convertible(alloc, sig, equations, others, units)
-        }
-        _ => Ok(true),
+    let [e, equations @ ..] = equations else {
+        return Ok(true);
+    };
+    let [other, others @ ..] = others else {
+        return Ok(true);
+    };
+    if !convertible(alloc, sig, &e.ty, other, units)? {
+        return Ok(false);
     }
+    all_convertible(alloc, sig, equations, others, units)
 }
 
 /// Injectivity and conflict of the first `k + 1` equations.
@@ -216,10 +261,53 @@ fn group_trial(
     let Some(e) = s.equations.as_slice().get(k as usize) else {
         return Ok(None);
     };
+    last_trial(alloc, sig, s, k, e, units)
+}
+
+/// The same, where the last of them is known.
+fn last_trial(
+    alloc: Global,
+    sig: &Signature,
+    s: &State,
+    k: u32,
+    e: &Equation,
+    units: &mut Units,
+) -> Result<Option<Turn>, Stop>
+    requires ready { IsReady sig.now }
+    requires state { IsKept sig.now (state_of s.now) }
+    requires last { slice_get (state_of s.now).equations k ≡ Some (equation_of e.now) }
+    ensures answer { Runs (option_map turn_of) result units.new.left (spec.last_trial sig.now (state_of s.now) k (Some (equation_of e.now)) units.old.left) }
+    ensures sum { units.new.left + units.new.spent ≡ units.old.left + units.old.spent }
+    ensures spends { units.new.left ≤ units.old.left }
+    ensures room { IfOk result (λ found. LeadsToRoomWhere (option_map turn_of found)) }
+{
     let ty = tidy(alloc, sig, &e.place.ty, units)?;
-    let Some(m) = membership_of(alloc, sig, k, &ty)? else {
-        return Ok(None);
-    };
+    match membership_of(alloc, sig, k, &ty)? {
+        Some(m) => on_membership(alloc, sig, s, k, e, ty, m, units),
+        None => Ok(None),
+    }
+}
+
+/// The same, where the tidied type of its place is a family at the places before it.
+fn on_membership(
+    alloc: Global,
+    sig: &Signature,
+    s: &State,
+    k: u32,
+    e: &Equation,
+    ty: Term,
+    m: Membership,
+    units: &mut Units,
+) -> Result<Option<Turn>, Stop>
+    requires ready { IsReady sig.now }
+    requires state { IsKept sig.now (state_of s.now) }
+    requires last { slice_get (state_of s.now).equations k ≡ Some (equation_of e.now) }
+    requires group { IsGroupOf sig.now (length s.now.ctx) k m }
+    ensures answer { Runs (option_map turn_of) result units.new.left (spec.on_membership sig.now (state_of s.now) k (equation_of e.now) (tree_of ty) (Some (membership_from m)) units.old.left) }
+    ensures sum { units.new.left + units.new.spent ≡ units.old.left + units.old.spent }
+    ensures spends { units.new.left ≤ units.old.left }
+    ensures room { IfOk result (λ found. LeadsToRoomWhere (option_map turn_of found)) }
+{
     let wanted = Fits::Family(m.number);
     let Some((left, right)) = heads(alloc, sig, wanted, &e.left, &e.right, units)? else {
         return Ok(None);
@@ -248,11 +336,7 @@ fn are_equations_of(
     requires ready { IsReady sig.now }
     requires state { IsKept sig.now (state_of s.now) }
     requires k { k < length s.now.equations }
-    requires family { family_at sig.now m.now.number ≡ Some (family_of m.now.record.now) }
-    requires kinds { HasKinds m.now.number m.now.record.now }
-    requires indices { length m.now.record.now.indices ≡ k }
-    requires few_places { k ≤ 2000 }
-    requires ps { AreGiven sig.now (length s.now.ctx) (tele_of m.now.params) }
+    requires group { IsGroupOf sig.now (length s.now.ctx) k m.now }
     ensures answer { Runs (λ holds. holds) result units.new.left (spec.are_equations_of sig.now (membership_from m.now) (take (k + 1) (state_of s.now).equations) units.old.left) }
     ensures sum { units.new.left + units.new.spent ≡ units.old.left + units.old.spent }
     ensures spends { units.new.left ≤ units.old.left }

@@ -15,7 +15,7 @@ ghost use Rattle.theory.specs.Telescopes.{variables};
 ghost use Rattle.tele_eq.specs.TelescopicEquality.{equations};
 ghost use Rattle.unification.specs.Records.{argument_items as argument_items_of};
 ghost use Rattle.unification.specs.Injecting as injecting;
-ghost use Rattle.unifier.specs.CodeGroups.{equations_joined, group_made_behind, injected_rest};
+ghost use Rattle.unifier.specs.CodeInjections.{equations_joined, group_made_behind, injected_rest};
 
 use crate::built::Built;
 use crate::heights::{equations_made, with_equations};

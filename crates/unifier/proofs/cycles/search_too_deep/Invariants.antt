@@ -1,0 +1,17 @@
+use Rattle.std.proofs.Common.{◌≡◌, ◌+◌, ◌≤◌, reverse}
+use Rattle.core_terms.specs.Meanings.{tele_of}
+use Rattle.unifier.specs.CodeCycles.{search_too_deep}
+use Rattle.unifier.specs.Conditions.{AreGiven, most_levels}
+use Rattle.unifier.proofs.WaitingTerms.{turns_in}
+use Rattle.unifier.proofs.cycles.search_too_deep.Given as goal
+
+abbrev pub invariant-terms : goal.invariant-terms
+invariant-terms l = record {
+  meant : search_too_deep l.sig l.n l.x (reverse (tele_of l.waiting.items)) l.units.left ≡ search_too_deep l.sig l.n l.x (reverse (tele_of l.fn.terms.items)) l.fn.units.left;
+  given : AreGiven l.sig most_levels (tele_of l.waiting.items);
+  sum : l.units.left + l.units.spent ≡ l.fn.units.left + l.fn.units.spent;
+  spends : l.units.left ≤ l.fn.units.left;
+}
+
+abbrev pub decreases-terms : goal.decreases-terms
+decreases-terms l = turns_in l.sig l.n (reverse (tele_of l.waiting.items)) l.units.left
