@@ -7,6 +7,7 @@ pub mod CycleCodes
 pub mod CycleForms
 pub mod GivenTerms
 pub mod GroupCodes
+pub mod GroupEquations
 pub mod InjectedTerms
 pub mod InjectionRooms
 pub mod KnownRecords

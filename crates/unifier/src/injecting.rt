@@ -199,9 +199,7 @@ fn injected(
 {
     let tele = argument_items(alloc, ps, built.con)?;
     let types = equations_made(alloc, &tele, left, right)?;
-    with_proofs(
-        alloc, s, group, built, ps, &tele, &types, left, right,
-    )
+    with_proofs(alloc, s, group, built, ps, &tele, &types, left, right)
 }
 
 /// The state with these equations in place of its first `group` ones, or Deep.

@@ -60,7 +60,7 @@ pub returns-clause-room : goal.returns-clause-room
 returns-clause-room c =
     record {
       low = bounded-again
-      (deleted_state (state_of c.args.s.now) c.args.e.now.place.level (tree_of c.in_ok-ty-2.ty) (tree_of c.in_ok-left.left))
-      (state_of c.in_ok-next.next.value) c.in_ok-next.ensures.answer;
+          (deleted_state (state_of c.args.s.now) c.args.e.now.place.level (tree_of c.in_ok-ty-2.ty) (tree_of c.in_ok-left.left))
+          (state_of c.in_ok-next.next.value) c.in_ok-next.ensures.answer;
       few = c.in_ok-next.ensures.few;
     }
