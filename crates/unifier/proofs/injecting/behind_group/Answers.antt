@@ -1,4 +1,4 @@
-use Rattle.std.proofs.Common.{ℕ, length, drop, take, ◌-◌, ap, ◌∙◌}
+use Rattle.std.proofs.Common.{drop, ap, ◌∙◌}
 use Rattle.unifier.specs.Meanings.{equation_of, equations_of}
 use Rattle.unifier.proofs.LowTerms.{map-drop, slice-from}
 use Rattle.unifier.proofs.injecting.behind_group.Goals as goal

@@ -1,4 +1,4 @@
-use Rattle.std.proofs.Common.{◌≡◌, ℕ, refl, ◌+◌, ◌++◌, List, Ok, length, drop, length-drop, ap, ap₂, sym, ◌∙◌, subst as transport, arith}
+use Rattle.std.proofs.Common.{refl, ◌+◌, List, Ok, length, length-drop, ap, ap₂, sym, ◌∙◌, subst as transport, arith}
 use Rattle.std.proofs.lemmas.List.{length-map}
 use Rattle.core_terms.specs.Answers.{Gives}
 use Rattle.core_terms.specs.Meanings.{tree_of, tele_of}

@@ -1,4 +1,4 @@
-use Rattle.std.proofs.Common.{◌≡◌, ℕ, List, length, ap, ap₂, sym, ◌∙◌, subst as transport, arith}
+use Rattle.std.proofs.Common.{List, length, ap, ap₂, sym, ◌∙◌, subst as transport, arith}
 use Rattle.theory.specs.Telescopes.{variables}
 use Rattle.theory.specs.Terms.{Term}
 use Rattle.core_terms.specs.Answers.{Gives, bounded_terms}

@@ -1,4 +1,4 @@
-use Rattle.std.proofs.Common.{◌≡◌, ℕ, List, Result, length, sym, ◌∙◌, subst as transport, arith}
+use Rattle.std.proofs.Common.{List, Result, length, sym, ◌∙◌, subst as transport, arith}
 use Rattle.std.proofs.lemmas.List.{length-map}
 use Rattle.theory.specs.Terms.{Term}
 use Rattle.core_terms.specs.Answers.{Gives}

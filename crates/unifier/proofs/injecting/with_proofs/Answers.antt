@@ -1,9 +1,7 @@
-use Rattle.std.proofs.Common.{◌≡◌, ℕ, ◌+◌, List, Result, Ok, length, ap, ap₂, sym, ◌∙◌, subst as transport, arith}
-use Rattle.theory.specs.Terms.{Term}
+use Rattle.std.proofs.Common.{◌+◌, List, Result, Ok, length, ap, ap₂, sym, ◌∙◌, subst as transport, arith}
 use Rattle.core_terms.specs.Answers.{Gives}
 use Rattle.core_terms.specs.Meanings.{tree_of, tele_of}
 use Rattle.core_terms.specs.declared.stop.Stop.{Stop}
-use Rattle.core_terms.proofs.Builders.{ok_is}
 use Rattle.core_sig.specs.Meanings.{argument_of, constructor_of, family_of}
 use Rattle.std.proofs.lemmas.List.{length-map}
 use Rattle.tele_eq.specs.Items.{items_of}

@@ -1,10 +1,6 @@
-use Rattle.std.proofs.Common.{◌≡◌, ℕ, ◌+◌, length, sym, ap, ◌∙◌, subst as transport, arith}
-use Rattle.theory.specs.Terms.{Term}
+use Rattle.std.proofs.Common.{length}
 use Rattle.core_terms.specs.Meanings.{tree_of}
 use Rattle.core_terms.proofs.Builders.{ok_is}
-use Rattle.unification.specs.Turns.{type_in}
-use Rattle.unifier.specs.Conditions.{IsGiven}
-use Rattle.unifier.specs.Meanings.{equation_of, state_of}
 use Rattle.unifier.proofs.GivenTerms.{code-equation, given-more, given-reduces}
 use Rattle.unifier.proofs.TidiedTerms.{code-type, tidied-scoped}
 use Rattle.unifier.proofs.solutions.solution_trial.Goals as goal
