@@ -20,7 +20,9 @@ pub mod PutTerms
 pub mod RecordItems
 pub mod RecordSizes
 pub mod Rooms
+pub mod RunCodes
 pub mod SolutionTrials
 pub mod SolvedStates
 pub mod TidiedTerms
+pub mod TrialChains
 pub mod WaitingTerms
