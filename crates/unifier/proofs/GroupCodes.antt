@@ -1,5 +1,5 @@
 -- What the code finds of a group is what the definition finds.
-use Rattle.std.proofs.Common.{◌≡◌, ◌≢◌, ℕ, zero, suc, ◌+◌, ◌-◌, ◌≤◌, ◌<◌, ◌==◌, ◌&&◌, Bool, true, false, cond, Option, Some, None, option_map, Result, Ok, Err, List, [], ◌∷◌, ◌++◌, map, length, take, drop, get_or, All, refl, sym, ap, ap₂, ◌∙◌, subst, arith}
+use Rattle.std.proofs.Common.{◌≡◌, ◌≢◌, ℕ, zero, suc, ◌+◌, ◌-◌, ◌≤◌, ◌<◌, ◌==◌, ◌&&◌, Bool, true, false, cond, Option, Some, None, option_map, Result, Ok, Err, List, [], ◌∷◌, ◌++◌, map, length, take, drop, get_or, All, IsTrue, refl, sym, ap, ap₂, ◌∙◌, subst, arith}
 use Rattle.std.proofs.lemmas.Bool.Decides.{nat_tests}
 use Rattle.std.proofs.lemmas.List.{length-map, length-append, length-take, take_all}
 use Rattle.std.proofs.lemmas.List.Elements.{All-cons, All-nil}
@@ -15,10 +15,17 @@ use Rattle.core_sig.specs.Meanings.{family_of}
 use Rattle.core_sig.specs.declared.family.Family.{Family as CodeFamily}
 use Rattle.kernel_reduce.specs.Comparison.{both, second_if, convertible_of}
 use Rattle.kernel_reduce.specs.Reduction.{nesting}
-use Rattle.unification.specs.Built.{is_fitting}
-use Rattle.unification.specs.Groups.{all_convertible}
-use Rattle.unification.specs.States.{types_as_they_stand}
-use Rattle.unifier.specs.CodeGroups.{has_places}
+use Rattle.kernel_reduce.specs.Entries.{family_at}
+use Rattle.unification.specs.Built as pure
+use Rattle.unification.specs.Built.{built_of, is_fitting}
+use Rattle.unification.specs.Constructors.{heads, with_built, with_heads}
+use Rattle.unification.specs.Groups.{all_convertible, are_equations_of, group_turn, if_holds, on_membership}
+use Rattle.unification.specs.States.{Equation as PureEquation, State, types_as_they_stand}
+use Rattle.unification.specs.Turns.{Turn}
+use Rattle.unifier.specs.CodeBuilt.{AreOfOneFamily}
+use Rattle.unifier.specs.CodeGroups.{IsGroupOf, has_places, membership_from}
+use Rattle.unifier.specs.declared.groups.Membership.{Membership}
+use Rattle.unifier.proofs.BuiltForms.{built-is}
 use Rattle.unifier.specs.Conditions.{AreLow}
 use Rattle.unifier.specs.Meanings.{equations_of}
 use Rattle.unifier.specs.declared.state.Equation.{Equation}
@@ -108,3 +115,57 @@ take-low (suc k) (u ∷ us) h = (h.0, take-low k us h.1)
 
 pub spine-low : (t : Term) → height t ≤ 2000 → AreLow (spine_of t)
 spine-low t low = lower-low (height t) (spine_of t) (spine-lower t) low
+
+-- ---- the constructors of a group's members
+
+pub wanted-family : (S : Signature) (n k : ℕ) (m : Membership) (l : Term) (p : pure.Built) → IsGroupOf S n k m → built_of S l ≡ Some p → IsTrue (p.n == m.number) → p.family ≡ family_of m.record.now
+wanted-family S n k m l p is e test =
+    let same : p.n ≡ m.number = grind (arith, nat_tests) in
+    some-is (sym (built-is S l p e).family ∙ (ap (family_at S) same ∙ is.family))
+  where
+    some-is : {A : Type 0} {a b : A} → ◌≡◌ {A = Option A} (Some a) (Some b) → a ≡ b
+    some-is e = cc
+
+pub wanted-indices : (S : Signature) (n k : ℕ) (m : Membership) (l : Term) (p : pure.Built) → IsGroupOf S n k m → built_of S l ≡ Some p → IsTrue (p.n == m.number) → length p.family.indices ≡ k
+wanted-indices S n k m l p is e test =
+    ap (λ (f : Family). length f.indices) (wanted-family S n k m l p is e test) ∙ (count-indices m.record.now k [] ∙ is.indices)
+
+pub wanted-parameters : (S : Signature) (n k : ℕ) (m : Membership) (l : Term) (p : pure.Built) → IsGroupOf S n k m → built_of S l ≡ Some p → IsTrue (p.n == m.number) → length p.family.parameters ≡ length m.params
+wanted-parameters S n k m l p is e test =
+    ap (λ (f : Family). length f.parameters) (wanted-family S n k m l p is e test) ∙ (count-parameters m.record.now k [] ∙ sym is.count)
+
+-- ---- the trial behind the head forms
+
+module _ (S : Signature) (s : State) (k : ℕ) (e : PureEquation) (type : Term) (m : Membership) (left : ℕ) where
+  abbrev pub member_trial : Spent (Option Turn)
+  member_trial = on_membership S s k e type (Some (membership_from m)) left
+
+  abbrev pub member_heads : Spent (Option (Term × Term))
+  member_heads = heads S (λ b. b.n == m.number) e.left e.right left
+
+  abbrev go : (l : Term) (b : pure.Built) (r : Term) (d : pure.Built) → ℕ → Spent (Option Turn)
+  go l b r d units =
+      and_next (are_equations_of S (membership_from m) (take (k + 1) s.equations) units) (λ holds rest. if_holds holds (group_turn S s k e (membership_from m) type l b r d) rest)
+
+  pub heads-refused : (x : Stop) (end : ℕ) → ◌≡◌ {A = Spent (Option (Term × Term))} (Err x, end) member_heads → ◌≡◌ {A = Spent (Option Turn)} (Err x, end) member_trial
+  heads-refused x end h = ap (λ r. and_next r (λ found rest. with_heads S go found rest)) h
+
+  pub heads-none : (end : ℕ) → ◌≡◌ {A = Spent (Option (Term × Term))} (Ok None, end) member_heads → ◌≡◌ {A = Spent (Option Turn)} (Ok None, end) member_trial
+  heads-none end h = ap (λ r. and_next r (λ found rest. with_heads S go found rest)) h
+
+  module _ (l r : Term) (end : ℕ) (found : ◌≡◌ {A = Spent (Option (Term × Term))} (Ok (Some (l, r)), end) member_heads) (one : AreOfOneFamily S l r) where
+    at-heads : go l one.b r one.d end ≡ member_trial
+    at-heads =
+        sym (ap₂ (λ x y. with_built go l r x y end) one.left one.right) ∙ ap (λ r. and_next r (λ found rest. with_heads S go found rest)) found
+
+    pub equations-refused : (x : Stop) (last : ℕ) → ◌≡◌ {A = Spent Bool} (Err x, last) (are_equations_of S (membership_from m) (take (k + 1) s.equations) end) → ◌≡◌ {A = Spent (Option Turn)} (Err x, last) member_trial
+    equations-refused x last h = ap (λ q. and_next q (λ holds rest. if_holds holds (group_turn S s k e (membership_from m) type l one.b r one.d) rest)) h ∙ at-heads
+
+    pub equations-other : (last : ℕ) → ◌≡◌ {A = Spent Bool} (Ok false, last) (are_equations_of S (membership_from m) (take (k + 1) s.equations) end) → ◌≡◌ {A = Spent (Option Turn)} (Ok None, last) member_trial
+    equations-other last h = ap (λ q. and_next q (λ holds rest. if_holds holds (group_turn S s k e (membership_from m) type l one.b r one.d) rest)) h ∙ at-heads
+
+    pub equations-hold : (last : ℕ) → ◌≡◌ {A = Spent Bool} (Ok true, last) (are_equations_of S (membership_from m) (take (k + 1) s.equations) end)
+        → with_built (group_turn S s k e (membership_from m) type) l r (built_of S l) (built_of S r) last ≡ member_trial
+    equations-hold last h =
+        ap₂ (λ x y. with_built (group_turn S s k e (membership_from m) type) l r x y last) one.left one.right
+        ∙ (ap (λ q. and_next q (λ holds rest. if_holds holds (group_turn S s k e (membership_from m) type l one.b r one.d) rest)) h ∙ at-heads)

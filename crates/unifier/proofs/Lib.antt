@@ -5,11 +5,13 @@ pub mod BuiltForms
 pub mod ConstructorTurns
 pub mod CycleCodes
 pub mod CycleForms
+pub mod FoundGroups
 pub mod GivenTerms
 pub mod GroupCodes
 pub mod GroupEquations
 pub mod InjectedTerms
 pub mod InjectionRooms
+pub mod KeptTurns
 pub mod KnownRecords
 pub mod LowTerms
 pub mod Lowering
@@ -18,7 +20,9 @@ pub mod PutTerms
 pub mod RecordItems
 pub mod RecordSizes
 pub mod Rooms
+pub mod RunCodes
 pub mod SolutionTrials
 pub mod SolvedStates
 pub mod TidiedTerms
+pub mod TrialChains
 pub mod WaitingTerms

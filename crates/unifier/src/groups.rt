@@ -303,7 +303,7 @@ fn on_membership(
     requires state { IsKept sig.now (state_of s.now) }
     requires last { slice_get (state_of s.now).equations k ≡ Some (equation_of e.now) }
     requires group { IsGroupOf sig.now (length s.now.ctx) k m }
-    ensures answer { Runs (option_map turn_of) result units.new.left (spec.on_membership sig.now (state_of s.now) k (equation_of e.now) (tree_of ty) (Some (membership_from m)) units.old.left) }
+    ensures answer { Runs (option_map turn_of) result units.new.left (spec.on_membership sig.now (state_of s.now) k (equation_of e.now) (tree_of ty) (Some (membership_from m.entry)) units.old.left) }
     ensures sum { units.new.left + units.new.spent ≡ units.old.left + units.old.spent }
     ensures spends { units.new.left ≤ units.old.left }
     ensures room { IfOk result (λ found. LeadsToRoomWhere (option_map turn_of found)) }

@@ -62,13 +62,28 @@ pub(crate) fn turn(
     ensures spends { units.new.left ≤ units.old.left }
     ensures kept { IfOk result (λ found. LeadsOn sig.now (turn_of found)) }
 {
-    match s.equations.as_slice() {
-        [] => Ok(Turn::Done),
-        [first, rest @ ..] => {
-            match group_trials(alloc, sig, s, rest.len() as u32, units)? {
-                Some(turn) => Ok(turn),
-                None => first_trials(alloc, sig, s, first, units),
-            }
-        }
+    all_trials(alloc, sig, s, units)
+}
+
+/// All trials in their order: groups, and then the rules for the first equation.
+fn all_trials(
+    alloc: Global,
+    sig: &Signature,
+    s: &State,
+    units: &mut Units,
+) -> Result<Turn, Stop>
+    requires ready { IsReady sig.now }
+    requires state { IsKept sig.now (state_of s.now) }
+    ensures answer { Runs (λ turn. Some (turn_of turn)) result units.new.left (spec.turn_of sig.now (state_of s.now) units.old.left) }
+    ensures sum { units.new.left + units.new.spent ≡ units.old.left + units.old.spent }
+    ensures spends { units.new.left ≤ units.old.left }
+    ensures room { IfOk result (λ found. LeadsToRoom (turn_of found)) }
+{
+    let [first, rest @ ..] = s.equations.as_slice() else {
+        return Ok(Turn::Done);
+    };
+    match group_trials(alloc, sig, s, rest.len() as u32, units)? {
+        Some(turn) => Ok(turn),
+        None => first_trials(alloc, sig, s, first, units),
     }
 }
