@@ -18,6 +18,7 @@ pub mod RecordItems
 pub mod RecordSizes
 pub mod Rooms
 pub mod RunCodes
+pub mod RunEnds
 pub mod SolutionTrials
 pub mod SolvedStates
 pub mod TidiedTerms
