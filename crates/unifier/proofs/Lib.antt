@@ -21,6 +21,7 @@ pub mod RunCodes
 pub mod RunEnds
 pub mod SolutionTrials
 pub mod SolvedStates
+pub mod StartCodes
 pub mod TidiedTerms
 pub mod TrialChains
 pub mod WaitingTerms

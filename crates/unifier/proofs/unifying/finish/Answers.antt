@@ -6,7 +6,6 @@ use Rattle.unification.specs.Outcomes.{Absurd}
 use Rattle.unifier.specs.Meanings.{state_of, turn_of}
 use Rattle.unifier.proofs.RunEnds.{fails-end, sticks-end, done-end, goes-end}
 use Rattle.unifier.proofs.unifying.finish.Goals as goal
-use Rattle.unifier.proofs.unifying.finish.Goals.{in-Goes-1, in-Done-1}
 
 pub returns-in-Fails : goal.returns-in-Fails
 returns-in-Fails c = λ outcome at.
@@ -21,5 +20,5 @@ pub returns : goal.returns
 returns c = λ outcome at.
     elim c.in-Done.is [
       inl is ↦ ap Ok (done-end (steps_of c.args.steps) (state_of c.args.state) (turn_of c.args.end) outcome (ap turn_of is) at)
-    | inr is ↦ ?
+    | inr is ↦ absurd (goes-end (state_of c.args.state) (turn_of c.args.end) (step_of is.0) (state_of is.1.value) outcome (ap turn_of is.2) at)
     ]
