@@ -35,7 +35,7 @@ few-terms t us count low e =
     let l = ap length e in let f = spine_fits t in omega (arith, length-map us tree_of, length-drop count (spine_of t))
 
 module _ (S : Signature) (x room left : ℕ) (t : Term) (b : Built) (p : pure.Built) (us : List code.Term) (args : List Arg) (found : built_of S t ≡ Some p) (is : IsBuiltAs b p) (positive : 0 < room)
-  (at_us : tele_of us ≡ drop (length b.record.now.params) (spine_of t)) (at_args : args ≡ b.con.now.args) where
+    (at_us : tele_of us ≡ drop (length b.record.now.params) (spine_of t)) (at_args : args ≡ b.con.now.args) where
   -- the search among the arguments
   abbrev pub among_all : Spent (Option (List Term))
   among_all = among_arguments S (λ before. search_within S b.family x (room - 1)) (map (argument_of (length b.record.now.params)) args) (tele_of us) left

@@ -97,7 +97,6 @@ spine-given S n t h =
     lower-given S n (height t) (spine_of t) (spine-scoped S n t h.scoped)
     (spine-lower t) h.low h.few
 
-
 pub take-over : (n k : ℕ) (us : List Term) → AreOver n us → AreOver n (take k us)
 take-over n zero us h = tt
 take-over n (suc k) [] h = tt

@@ -81,7 +81,6 @@ both-true : (first second : ℕ → Spent Bool) (left end : ℕ) → ◌≡◌ {
 both-true first second left end h = ap (λ r. and_next r (λ holds rest. second_if holds second rest)) h
 
 module _ (S : Signature) (es : List Equation) (e : Equation) (us : List code.Term) (u : code.Term) (left : ℕ) (some : 0 < length es) (is : e ≡ get_or es 0 e) (there : 0 < length us) (at : u ≡ get_or us 0 u) where
-
   at-first : both (λ left. convertible_of S nesting (tree_of e.ty) (tree_of u) left) (λ left. all_convertible S (types_as_they_stand (equations_of (take (length es - 1) (drop 1 es)))) (tele_of (take (length us - 1) (drop 1 us))) left) left
       ≡ all_convertible S (types_as_they_stand (equations_of es)) (tele_of us) left
   at-first = sym (ap₂ (λ ts vs. all_convertible S ts vs left) (first-type es e some is) (first-term us u there at))

@@ -104,9 +104,10 @@ types-given S n j zero es h b = tt
 types-given S n j (suc k) [] h b = tt
 types-given S n j (suc k) (e ∷ es) h b =
     let few = behind-few n (n + j) (e ∷ es) b in
-    let next : n + j + 1 ≡ n + (j + 1) = omega arith in
-    (record { scoped = scoped_over_more S (n + j) most_levels e.type (omega arith) h.0.type; low = b.1.0; few = omega arith },
-    types-given S n (j + 1) k es h.1 (subst (λ m. AreBehind n m es) next b.4))
+    let next : n + j + 1 ≡ n + (j + 1) = omega arith in (
+      record { scoped = scoped_over_more S (n + j) most_levels e.type (omega arith) h.0.type; low = b.1.0; few = omega arith },
+      types-given S n (j + 1) k es h.1 (subst (λ m. AreBehind n m es) next b.4),
+    )
 
 telescope-given : (S : Signature) (n : ℕ) (tele : Telescope) → IsScopedTelescope S n tele → AreLow tele → n + length tele ≤ most_levels → AreGiven S most_levels tele
 telescope-given S n [] h low few = tt
@@ -224,9 +225,9 @@ map-take f (suc k) [] = refl
 map-take f (suc k) (x ∷ xs) = ap (λ ys. f x ∷ ys) (map-take f k xs)
 
 module _ (S : Signature) (s : code.State) (k : ℕ) (m : Membership) (ready : IsReady S) (kept : IsKept S (state_of s)) (within : k < length s.equations) (is : IsGroupOf S (length s.ctx) k m)
-  (es : List CodeEquation) (at : es ≡ s.equations) (ps : List term.Term) (at_ps : ps ≡ m.params) (tele : List CodeItem)
-  (at_tele : ◌≡◌ {A = Result (List Item) Stop} (Ok (items_of tele)) (bounded_items (family_items m.number (family_of m.record.now) (tele_of ps))))
-  (left right : List term.Term) (at_sides : ◌≡◌ {A = Result (List Term × List Term) Stop} (Ok (teles_of (left, right))) (Ok (sides_of (equations_of (take (k + 1) es))))) where
+    (es : List CodeEquation) (at : es ≡ s.equations) (ps : List term.Term) (at_ps : ps ≡ m.params) (tele : List CodeItem)
+    (at_tele : ◌≡◌ {A = Result (List Item) Stop} (Ok (items_of tele)) (bounded_items (family_items m.number (family_of m.record.now) (tele_of ps))))
+    (left right : List term.Term) (at_sides : ◌≡◌ {A = Result (List Term × List Term) Stop} (Ok (teles_of (left, right))) (Ok (sides_of (equations_of (take (k + 1) es))))) where
   same-within : k < length (state_of s).equations
   same-within = let e = length-map s.equations equation_of in omega arith
 

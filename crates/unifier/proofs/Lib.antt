@@ -9,7 +9,10 @@ pub mod FoundGroups
 pub mod GivenTerms
 pub mod GroupCodes
 pub mod GroupEquations
+pub mod InjectedTerms
+pub mod InjectionRooms
 pub mod KeptTurns
+pub mod KnownRecords
 pub mod LowTerms
 pub mod Lowering
 pub mod Orders

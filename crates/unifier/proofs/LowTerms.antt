@@ -88,17 +88,18 @@ height-sides n X left right j =
 pub low-sides : (X : List Item) (left right : List Term) → length left ≡ length X → length right ≡ length X
     → AreLow (equations X left right) → AreLow left × AreLow right
 low-sides X left right el er h =
-    let low : (k : ℕ) → k < length X → height (equation_behind (length X) X left right (0 + k)) ≤ 2000 = low-each (equation_behind (length X) X left right) 0 (length X) h in
-    (low-from_each left (λ k lt.
-    let e : 0 + k ≡ k = omega arith in
-    let l = low k (omega arith) in
-    let sides = height-sides (length X) X left right (0 + k) in
-    rw (← e) (omega (arith, sides.0, l))),
-    low-from_each right (λ k lt.
-    let e : 0 + k ≡ k = omega arith in
-    let l = low k (omega arith) in
-    let sides = height-sides (length X) X left right (0 + k) in
-    rw (← e) (omega (arith, sides.1, l))))
+    let low : (k : ℕ) → k < length X → height (equation_behind (length X) X left right (0 + k)) ≤ 2000 = low-each (equation_behind (length X) X left right) 0 (length X) h in (
+      low-from_each left (λ k lt.
+          let e : 0 + k ≡ k = omega arith in
+          let l = low k (omega arith) in
+          let sides = height-sides (length X) X left right (0 + k) in
+          rw (← e) (omega (arith, sides.0, l))),
+      low-from_each right (λ k lt.
+          let e : 0 + k ≡ k = omega arith in
+          let l = low k (omega arith) in
+          let sides = height-sides (length X) X left right (0 + k) in
+          rw (← e) (omega (arith, sides.1, l))),
+    )
 
 -- where a side is not low the equations are Deep
 abbrev pub DeepWhere : (X : List Item) (left right : List Term) → Type 0

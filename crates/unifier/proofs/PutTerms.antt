@@ -8,7 +8,7 @@ use Rattle.tele_eq.specs.Dependences.{has_variable}
 use Rattle.tele_eq.specs.Environments.{Environment, put_variable, put_under, put}
 use Rattle.unification.specs.Occurrences.{has_level, dependants, lacks, order_without, place_in}
 use Rattle.unification.specs.Solving.{reordered}
-use Rattle.unifier.proofs.Orders.{order-none}
+use Rattle.unification.proofs.SolvedContexts.{length-order}
 
 height-variable : (b c : Bool) (x y z : Term) → height x ≡ 1 → height y ≡ 1 → height z ≡ 1 → height (cond b x (cond c y z)) ≡ 1
 height-variable true c x y z ex ey ez = ex
@@ -142,7 +142,7 @@ free-reordered context p t lt h f = go (length (order_without context p)) refl
   where
     go : (m : ℕ) → length (order_without context p) ≡ m → free_of (put (reordered (order_without context p)) (length context) m t) ≤ m
     go zero e =
-        let closed = lacks-none (dependants context p) (length context) p t (order-none context p e) lt h f in
+        let closed = lacks-none (dependants context p) (length context) p t (omega (arith, length-order context p lt)) lt h f in
         let k = free-put_under (order_without context p) 0 (length context) 0 0 t (omega arith) (λ _. refl) (omega arith) in
         omega arith
     go (suc m) e =

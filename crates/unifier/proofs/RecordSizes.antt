@@ -38,13 +38,13 @@ arguments-over : (T : Signature) (n : ℕ) (arguments : List Argument) → IsSco
 arguments-over T n [] h = tt
 arguments-over T n (a ∷ arguments) h = (argument-over T n a h.0, arguments-over T (n + 1) arguments h.1)
 
-constructor-over : (T : Signature) (n count : ℕ) (c : Constructor) → IsScopedConstructor T n count c → IsConstructorOver n c
+pub constructor-over : (T : Signature) (n count : ℕ) (c : Constructor) → IsScopedConstructor T n count c → IsConstructorOver n c
 constructor-over T n count c h = record {
   arguments = arguments-over T n c.arguments h.arguments;
   targets = All-weaker (IsScoped T (n + length c.arguments)) (λ t. free_of t ≤ n + length c.arguments) (λ t k. k.variables) c.targets h.targets;
 }
 
-family-entry : (o : Option Entry) (f : Family) → option_and_then family_in o ≡ Some f → o ≡ Some (FamilyOf f)
+pub family-entry : (o : Option Entry) (f : Family) → option_and_then family_in o ≡ Some f → o ≡ Some (FamilyOf f)
 family-entry None f e = absurd (cc)
 family-entry (Some (FamilyOf g)) f e = cc
 family-entry (Some _) f e = absurd (cc)
@@ -143,7 +143,7 @@ terms-few n number ps c over h le =
     (few-all targets (most_depth + count) (omega arith) (free_of-map_inst (fill s (variables count)) c.targets (length ps + count) (most_depth + count) filled h))
     (omega arith, tt)
 
-lifted-free : (t : Term) (by n m : ℕ) → n + by ≤ m → free_of t ≤ n → free_of (lift t by 0) ≤ m
+pub lifted-free : (t : Term) (by n m : ℕ) → n + by ≤ m → free_of t ≤ n → free_of (lift t by 0) ≤ m
 lifted-free t by n m le h = let e = free_of-lift t by 0 in grind (arith, nat_tests)
 
 -- terms that stand further in, before the variables there

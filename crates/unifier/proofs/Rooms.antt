@@ -143,8 +143,7 @@ equations-room S n k (e ∷ equations) scoped low few =
     let type = and-parts (is_low e.type) (is_low e.left && (is_low e.right && are_low_equations equations)) place.1 in
     let left = and-parts (is_low e.left) (is_low e.right && are_low_equations equations) type.1 in
     let right = and-parts (is_low e.right) (are_low_equations equations) left.1 in
-    let next : n + (k + 1) ≡ n + k + 1 = omega arith in
-    (
+    let next : n + (k + 1) ≡ n + k + 1 = omega arith in (
       (low-height e.place.type place.0, scoped.0.place.variables, omega arith),
       (low-height e.type type.0, scoped.0.type.variables, omega arith),
       (low-height e.left left.0, scoped.0.left.variables, omega arith),
@@ -155,9 +154,10 @@ equations-room S n k (e ∷ equations) scoped low few =
 terms-room : (S : Signature) (n : ℕ) (terms : List Term) → All (IsScoped S n) terms → are_low terms ≡ true → n ≤ most_levels → AreOver n terms
 terms-room S n [] scoped low few = tt
 terms-room S n (t ∷ terms) scoped low few =
-    let parts = and-parts (is_low t) (are_low terms) low in
-    ((low-height t parts.0, (scoped 0 t (omega arith)).variables, omega arith),
-    terms-room S n terms (All-tail (IsScoped S n) t terms scoped) parts.1 few)
+    let parts = and-parts (is_low t) (are_low terms) low in (
+      (low-height t parts.0, (scoped 0 t (omega arith)).variables, omega arith),
+      terms-room S n terms (All-tail (IsScoped S n) t terms scoped) parts.1 few,
+    )
 
 pub room-kept : (S : Signature) (s : State) → IsKept S s → HasRoom s
 room-kept S s kept =

@@ -53,7 +53,8 @@ pub both-reduce : (S : Signature) (n : ℕ) (u v : Term) → IsReady S → IsGiv
 both-reduce S n u v ready hu hv =
     record {
       signature = ready.scoped;
-      terms =
-      (scoped_over_more S n most_variables u (omega (arith, hu.few)) hu.scoped,
-      (scoped_over_more S n most_variables v (omega (arith, hv.few)) hv.scoped, tt));
+      terms = (
+        scoped_over_more S n most_variables u (omega (arith, hu.few)) hu.scoped,
+        (scoped_over_more S n most_variables v (omega (arith, hv.few)) hv.scoped, tt),
+      );
     }

@@ -11,6 +11,7 @@ use Rattle.kernel_reduce.specs.Entries.{family_at}
 use Rattle.unification.specs.Built as pure
 use Rattle.unification.specs.States.{Equation, left_sides, right_sides}
 use Rattle.unification.specs.ScopedStates.{IsReady}
+use Rattle.unifier.specs.Conditions.{AreGiven}
 use Rattle.unifier.specs.declared.built.Built.{Built}
 use Rattle.unifier.specs.declared.constructors.Fits.{Fits}
 use Rattle.unifier.specs.declared.constructors.Fits.TheVariants.{Level, Family}
@@ -35,6 +36,13 @@ pub record IsKnown (b : Built) : Type 0 where
   pub family : family_at S b.family ≡ Some (family_of b.record.now)
   pub kinds : HasKinds b.family b.record.now
   pub there : slice_get b.record.now.cons b.number ≡ Some b.con.now
+
+-- the same with its parameters and two lists of arguments, over n variables
+pub record IsInjected (b : Built) (n : ℕ) (ps us vs : List Term) : Type 0 where
+  pub known : IsKnown b
+  pub parameters : AreGiven known.S n ps
+  pub left : AreGiven known.S n us
+  pub right : AreGiven known.S n vs
 
 -- two terms are constructors of one family, with all their arguments
 pub record AreOfOneFamily (S : Signature) (l r : Term) : Type 0 where

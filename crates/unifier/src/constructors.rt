@@ -1,11 +1,11 @@
-ghost use Rattle.std.specs.Prelude.{◌≡◌, ◌≤◌, ◌<◌, ◌+◌, ℕ, option_map, IfOk, IfSome, IsTrue, slice_get, Some, Ok, take, length, drop};
+ghost use Rattle.std.specs.Prelude.{◌≡◌, ◌≤◌, ◌<◌, ◌+◌, ℕ, option_map, IfOk, IfSome, IsTrue, slice_get, Some, Ok, ◌∷◌, [], take, length, drop};
 ghost use Rattle.core_terms.specs.Answers.{Gives, Runs};
 ghost use Rattle.unification.specs.Constructors as spec;
 ghost use Rattle.unifier.specs.Meanings.{equation_of, state_of, turn_of};
-ghost use Rattle.unifier.specs.Conditions.{AreOver, HasRoom, IsGiven, IsKept, IsOver, LeadsToRoomWhere, most_levels};
+ghost use Rattle.unifier.specs.Conditions.{HasRoom, IsGiven, IsKept, LeadsToRoomWhere, most_levels};
 ghost use Rattle.unification.specs.Built.{built_of};
 ghost use Rattle.unification.specs.Built as spec_built;
-ghost use Rattle.unifier.specs.CodeBuilt.{AreOfOneFamily, IsBuiltAs, IsKnown, fits_of};
+ghost use Rattle.unifier.specs.CodeBuilt.{AreOfOneFamily, IsBuiltAs, IsInjected, fits_of};
 ghost use Rattle.theory.specs.Spines.{spine_of};
 ghost use Rattle.core_terms.specs.Meanings.{tree_of, tele_of};
 ghost use Rattle.unification.specs.ScopedStates.{IsReady};
@@ -150,14 +150,11 @@ pub(crate) fn inject_sides(
 ) -> Result<Box<State>, Stop>
     requires state { HasRoom (state_of s.now) }
     requires group { group ≤ length s.now.equations }
-    requires known { IsKnown b }
+    requires known { IsInjected b (length s.now.ctx) (tele_of ps.now) (tree_of left.now ∷ []) (tree_of right.now ∷ []) }
     requires indices { length b.record.now.indices < 1000 }
     requires parameters { length ps.now ≡ length b.record.now.params }
     requires left_all { length (spine_of (tree_of left.now)) ≡ length b.record.now.params + length b.con.now.args }
     requires right_all { length (spine_of (tree_of right.now)) ≡ length b.record.now.params + length b.con.now.args }
-    requires ps { AreOver (length s.now.ctx) (tele_of ps.now) }
-    requires left { IsOver (length s.now.ctx) (tree_of left.now) }
-    requires right { IsOver (length s.now.ctx) (tree_of right.now) }
     ensures answer { Gives (λ next. state_of next.value) result (injection_made (state_of s.now) group b.entry.family b.entry.number (family_of b.entry.record.now) (constructor_of (length ps.now) b.entry.con.now) (tele_of ps.now) (drop (length b.entry.record.now.params) (spine_of (tree_of left.now))) (drop (length b.entry.record.now.params) (spine_of (tree_of right.now)))) }
     ensures few { IfOk result (λ next. length (state_of next.value).context + length (state_of next.value).equations ≤ most_levels) }
 {

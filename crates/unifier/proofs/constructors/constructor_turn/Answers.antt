@@ -6,9 +6,10 @@ use Rattle.core_terms.specs.declared.case_tree.Rule.TheVariants.{Inject}
 use Rattle.theory.specs.Spines.{spine_of}
 use Rattle.theory.specs.Terms.{Term}
 use Rattle.unification.specs.Turns.{single}
-use Rattle.unifier.specs.Conditions.{AreOver}
+use Rattle.unifier.specs.Conditions.{AreGiven}
 use Rattle.unifier.specs.Meanings.{equation_of, state_of}
-use Rattle.unifier.proofs.GivenTerms.{given-more, given-over, code-equation, take-over, spine-over}
+use Rattle.unifier.proofs.GivenTerms.{given-more, code-equation, take-given, spine-given}
+use Rattle.unifier.proofs.InjectedTerms.{sides-known}
 use Rattle.unifier.proofs.Rooms.{room-kept}
 use Rattle.unifier.proofs.BuiltCodes.{code-of, other-of}
 use Rattle.unifier.proofs.ConstructorTurns.{count-parameters, code-goes, code-refused}
@@ -37,11 +38,15 @@ pub inject_sides-requires-clause-right_all : goal.inject_sides-requires-clause-r
 inject_sides-requires-clause-right_all c =
     (other-of c.args.sig.now (tree_of c.args.left) (tree_of c.args.right) c.in-Some-Some.b c.in-Some-Some.d c.in-Some-Some.ensures c.in-Some-Some.ensures' c.requires.family c.if-b-d.false).all
 
-pub inject_sides-requires-clause-ps : goal.inject_sides-requires-clause-ps
-inject_sides-requires-clause-ps c =
+pub inject_sides-requires-clause-known : goal.inject_sides-requires-clause-known
+inject_sides-requires-clause-known c =
     let n = length c.args.s.now.ctx in
-    subst (AreOver n) (sym (ap tele_of c.as_slice.ensures ∙ ok_is c.in_ok-ps.ensures))
-    (take-over n (length c.in-Some-Some.b.record.now.params) (spine_of (tree_of c.args.left)) (spine-over n (tree_of c.args.left) (given-over c.args.sig.now n (tree_of c.args.left) c.requires.left)))
+    let S = c.args.sig.now in
+    let l = tree_of c.args.left in
+    sides-known S n l (tree_of c.args.right) c.in-Some-Some.b (tele_of c.as_slice.result.now) c.requires.ready c.in-Some-Some.ensures
+    (subst (AreGiven S n) (sym (ap tele_of c.as_slice.ensures ∙ ok_is c.in_ok-ps.ensures))
+    (take-given S n (length c.in-Some-Some.b.record.now.params) (spine_of l) (spine-given S n l c.requires.left)))
+    c.requires.left c.requires.right
 
 pub returns-in_err-next-clause-answer : goal.returns-in_err-next-clause-answer
 returns-in_err-next-clause-answer c =

@@ -26,10 +26,10 @@ among-at_argument-requires t c =
 pub among-returns-then-at-len-clause-answer : goal.among-returns-then-at-len-clause-answer
 among-returns-then-at-len-clause-answer t c = λ p.
     elim c.then-at-len.branch [
-      among-then-at-len-via-then-at-len w ↦
-        no-terms c.args.sig.now c.args.n c.args.x c.args.room p c.args.args.now c.args.us.now.items c.args.at c.args.units.now.left (omega (arith, w.if-at-len.true, c.len.ensures, c.args.us.now.ok.0))
-    | among-then-at-len-via-else-at-len+then-at-args w ↦
-        no-arguments c.args.sig.now c.args.n c.args.x c.args.room p c.args.args.now c.args.us.now.items c.args.at c.args.units.now.left w.if-at-args.true
+      | among-then-at-len-via-then-at-len w ↦
+          no-terms c.args.sig.now c.args.n c.args.x c.args.room p c.args.args.now c.args.us.now.items c.args.at c.args.units.now.left (omega (arith, w.if-at-len.true, c.len.ensures, c.args.us.now.ok.0))
+      | among-then-at-len-via-else-at-len+then-at-args w ↦
+          no-arguments c.args.sig.now c.args.n c.args.x c.args.room p c.args.args.now c.args.us.now.items c.args.at c.args.units.now.left w.if-at-args.true
     ]
 
 pub among-returns-in_err-found-clause-answer : goal.among-returns-in_err-found-clause-answer

@@ -1,10 +1,9 @@
-use Rattle.std.proofs.Common.{ℕ, length, arith}
+use Rattle.std.proofs.Common.{length, arith}
 use Rattle.core_terms.specs.Meanings.{tree_of}
 use Rattle.core_terms.proofs.Builders.{ok_is}
 use Rattle.unification.specs.Solving.{deleted_state}
-use Rattle.unifier.specs.Conditions.{IsOver, most_depth}
-use Rattle.unifier.specs.Meanings.{equation_of, state_of}
-use Rattle.unifier.proofs.GivenTerms.{code-equation, given-more, given-over, given-reduces}
+use Rattle.unifier.specs.Meanings.{state_of}
+use Rattle.unifier.proofs.GivenTerms.{code-equation, given-more, given-reduces}
 use Rattle.unifier.proofs.Rooms.{room-kept}
 use Rattle.unifier.proofs.SolutionTrials.{bounded-again}
 use Rattle.unifier.proofs.TidiedTerms.{both-reduce, code-type, tidied-scoped}
@@ -60,7 +59,7 @@ pub returns-clause-room : goal.returns-clause-room
 returns-clause-room c =
     record {
       low = bounded-again
-      (deleted_state (state_of c.args.s.now) c.args.e.now.place.level (tree_of c.in_ok-ty-2.ty) (tree_of c.in_ok-left.left))
-      (state_of c.in_ok-next.next.value) c.in_ok-next.ensures.answer;
+          (deleted_state (state_of c.args.s.now) c.args.e.now.place.level (tree_of c.in_ok-ty-2.ty) (tree_of c.in_ok-left.left))
+          (state_of c.in_ok-next.next.value) c.in_ok-next.ensures.answer;
       few = c.in_ok-next.ensures.few;
     }

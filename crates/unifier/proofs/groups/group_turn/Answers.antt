@@ -3,9 +3,10 @@ use Rattle.std.proofs.lemmas.List.{length-map}
 use Rattle.std.proofs.lemmas.Option.{slice_get_within}
 use Rattle.std.proofs.lemmas.Result.{err_from_is_err_and}
 use Rattle.core_terms.specs.Meanings.{tree_of, tele_of}
-use Rattle.unifier.specs.Conditions.{AreOver}
+use Rattle.unifier.specs.Conditions.{AreGiven}
 use Rattle.unifier.specs.Meanings.{equation_of, state_of}
-use Rattle.unifier.proofs.GivenTerms.{all-over, given-more, code-equation}
+use Rattle.unifier.proofs.GivenTerms.{given-more, code-equation}
+use Rattle.unifier.proofs.InjectedTerms.{sides-known}
 use Rattle.unifier.proofs.Rooms.{room-kept}
 use Rattle.unifier.proofs.BuiltCodes.{code-of, other-of}
 use Rattle.unifier.proofs.ConstructorTurns.{group-goes, group-refused, group-indices, group-parameters, turn-is}
@@ -46,10 +47,12 @@ pub inject_sides-requires-clause-right_all : goal.inject_sides-requires-clause-r
 inject_sides-requires-clause-right_all c =
     (other-of c.args.sig.now (tree_of c.args.members.left) (tree_of c.args.members.right) c.in-Some-Some.b c.in-Some-Some.d c.in-Some-Some.ensures c.in-Some-Some.ensures' c.requires.family c.if-b-d.false).all
 
-pub inject_sides-requires-clause-ps : goal.inject_sides-requires-clause-ps
-inject_sides-requires-clause-ps c =
+pub inject_sides-requires-clause-known : goal.inject_sides-requires-clause-known
+inject_sides-requires-clause-known c =
     let n = length c.args.s.now.ctx in
-    subst (AreOver n) (sym (ap tele_of c.as_slice.ensures)) (all-over c.args.sig.now n (tele_of c.args.members.ps) c.requires.ps)
+    let S = c.args.sig.now in
+    sides-known S n (tree_of c.args.members.left) (tree_of c.args.members.right) c.in-Some-Some.b (tele_of c.as_slice.result.now) c.requires.ready
+    c.in-Some-Some.ensures (subst (AreGiven S n) (sym (ap tele_of c.as_slice.ensures)) c.requires.ps) c.requires.left c.requires.right
 
 pub returns-in_err-next-clause-answer : goal.returns-in_err-next-clause-answer
 returns-in_err-next-clause-answer c =

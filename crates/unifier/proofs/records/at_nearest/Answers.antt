@@ -1,10 +1,9 @@
-use Rattle.std.proofs.Common.{Ok, sym, ap, ap₂, ◌∙◌, subst as transport}
+use Rattle.std.proofs.Common.{sym, ap, ◌∙◌, subst as transport}
 use Rattle.theory.specs.Terms.{Term}
 use Rattle.theory.specs.Telescopes.{applied, variables}
 use Rattle.core_terms.specs.Answers.{Gives, bounded}
 use Rattle.core_terms.specs.Meanings.{tree_of, tele_of}
 use Rattle.core_terms.proofs.Builders.{ok_is}
-use Rattle.unification.specs.Injecting.{lifted}
 use Rattle.unifier.proofs.RecordItems.{nearest-is}
 use Rattle.unifier.proofs.records.at_nearest.Goals as goal
 

@@ -1,4 +1,4 @@
-use Rattle.std.proofs.Common.{ℕ, List, length, rules}
+use Rattle.std.proofs.Common.{length, rules}
 use Rattle.core_terms.specs.Meanings.{tele_of}
 use Rattle.unifier.proofs.RecordItems.{constructor-terms-of, map-snoc}
 use Rattle.unifier.proofs.records.constructor_terms.Goals as goal

@@ -1,7 +1,5 @@
-use Rattle.std.proofs.Common.{◌≤◌, ◌+◌, arith}
-use Rattle.theory.specs.Terms.{height, free_of}
-use Rattle.core_terms.specs.Meanings.{tree_of}
-use Rattle.unifier.specs.Conditions.{IsOver, most_depth}
+use Rattle.std.proofs.Common.{arith}
+use Rattle.unifier.specs.Conditions.{most_depth}
 use Rattle.unifier.proofs.Rooms.{over-at}
 use Rattle.unifier.proofs.records.lifted.Goals as goal
 

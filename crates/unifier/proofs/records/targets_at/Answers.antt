@@ -1,4 +1,4 @@
-use Rattle.std.proofs.Common.{◌≡◌, ℕ, ◌≤◌, ◌++◌, List, All, length, map, ap, ap₂, sym, ◌∙◌, subst as transport, arith}
+use Rattle.std.proofs.Common.{◌≡◌, ◌≤◌, ◌++◌, List, All, length, map, ap, ap₂, sym, ◌∙◌, subst as transport}
 use Rattle.theory.specs.Eliminators.{no_variable}
 use Rattle.theory.specs.Substitutions.{fill, inst}
 use Rattle.theory.specs.Telescopes.{variables}

@@ -1,4 +1,4 @@
-use Rattle.std.proofs.Common.{◌≡◌, ◌≤◌, ◌++◌, ◌+◌, length, map, drop}
+use Rattle.std.proofs.Common.{◌≡◌, ◌++◌, length, map, drop}
 use Rattle.core_terms.specs.Meanings.{tree_of}
 use Rattle.tele_eq.specs.Items.{items_of}
 use Rattle.unification.specs.Records.{items_at}

@@ -1,10 +1,6 @@
-use Rattle.std.proofs.Common.{◌≡◌, ℕ, ◌+◌, length, sym, ap, ◌∙◌, subst as transport, arith}
-use Rattle.theory.specs.Terms.{Term}
+use Rattle.std.proofs.Common.{length}
 use Rattle.core_terms.specs.Meanings.{tree_of}
 use Rattle.core_terms.proofs.Builders.{ok_is}
-use Rattle.unification.specs.Turns.{type_in}
-use Rattle.unifier.specs.Conditions.{IsGiven}
-use Rattle.unifier.specs.Meanings.{equation_of, state_of}
 use Rattle.unifier.proofs.GivenTerms.{code-equation, given-more, given-reduces}
 use Rattle.unifier.proofs.TidiedTerms.{code-type, tidied-scoped}
 use Rattle.unifier.proofs.solutions.solution_trial.Goals as goal
@@ -38,8 +34,8 @@ solve_sides-requires-clause-left c =
     let equation = code-equation c.args.sig.now c.args.s.now 0 c.args.e.now c.requires.state c.requires.first in
     record {
       scoped = (tidied-scoped c.args.sig.now (length c.args.s.now.ctx) (tree_of c.args.e.now.left) (tree_of c.args.e.now.right)
-      (tree_of c.in_ok-left.left) (tree_of c.in_ok-left.right) c.args.units.now.left c.tidied.new.units.left c.requires.ready.scoped
-      equation.left.scoped equation.right.scoped c.in_ok-left.ensures.answer).0;
+          (tree_of c.in_ok-left.left) (tree_of c.in_ok-left.right) c.args.units.now.left c.tidied.new.units.left c.requires.ready.scoped
+          equation.left.scoped equation.right.scoped c.in_ok-left.ensures.answer).0;
       low = c.in_ok-left.ensures.low.0;
       few = equation.left.few;
     }
@@ -49,8 +45,8 @@ solve_sides-requires-clause-right c =
     let equation = code-equation c.args.sig.now c.args.s.now 0 c.args.e.now c.requires.state c.requires.first in
     record {
       scoped = (tidied-scoped c.args.sig.now (length c.args.s.now.ctx) (tree_of c.args.e.now.left) (tree_of c.args.e.now.right)
-      (tree_of c.in_ok-left.left) (tree_of c.in_ok-left.right) c.args.units.now.left c.tidied.new.units.left c.requires.ready.scoped
-      equation.left.scoped equation.right.scoped c.in_ok-left.ensures.answer).1;
+          (tree_of c.in_ok-left.left) (tree_of c.in_ok-left.right) c.args.units.now.left c.tidied.new.units.left c.requires.ready.scoped
+          equation.left.scoped equation.right.scoped c.in_ok-left.ensures.answer).1;
       low = c.in_ok-left.ensures.low.1;
       few = equation.left.few;
     }

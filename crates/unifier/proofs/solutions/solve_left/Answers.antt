@@ -1,4 +1,4 @@
-use Rattle.std.proofs.Common.{Ok, Some, None, sym, ap, ◌∙◌}
+use Rattle.std.proofs.Common.{Ok, Some, None, ap, ◌∙◌}
 use Rattle.std.proofs.lemmas.Result.{err_from_is_err_and}
 use Rattle.core_terms.specs.Meanings.{tree_of}
 use Rattle.kernel_reduce.specs.Reduction.{answered}

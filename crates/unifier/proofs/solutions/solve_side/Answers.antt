@@ -1,12 +1,9 @@
-use Rattle.std.proofs.Common.{ℕ, length, Option, Some, None, Ok, ◌-◌, ◌+◌, ap, refl}
+use Rattle.std.proofs.Common.{length, Some, None, ◌-◌, ◌+◌, refl}
 use Rattle.std.proofs.lemmas.Result.{err_from_is_err_and}
-use Rattle.theory.specs.Terms.{Term}
-use Rattle.core_terms.specs.Answers.{Spent}
 use Rattle.core_terms.specs.Meanings.{tree_of, tele_of}
 use Rattle.kernel_reduce.specs.Reduction.{answered}
 use Rattle.unification.specs.Occurrences.{dependants}
 use Rattle.unification.specs.Solutions.{solves, state_solved}
-use Rattle.unification.specs.States.{State}
 use Rattle.unifier.specs.Meanings.{equation_of, state_of}
 use Rattle.unifier.proofs.Rooms.{room-kept, types-low}
 use Rattle.unifier.proofs.SolutionTrials.{answered-first, refused-first, refused-none, runs-behind}

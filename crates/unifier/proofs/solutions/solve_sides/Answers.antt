@@ -1,4 +1,4 @@
-use Rattle.std.proofs.Common.{ℕ, Ok, Some, None, ap, ◌∙◌, subst as transport}
+use Rattle.std.proofs.Common.{Ok, Some, None, ap, ◌∙◌, subst as transport}
 use Rattle.std.proofs.lemmas.Result.{err_from_is_err_and}
 use Rattle.core_terms.specs.Answers.{Runs, Spent}
 use Rattle.std.specs.Prelude.{Option, option_map}

@@ -1,7 +1,6 @@
 use Rattle.std.proofs.Common.{◌∙◌, arith}
 use Rattle.core_terms.specs.Meanings.{tree_of}
 use Rattle.core_terms.proofs.Builders.{ok_is}
-use Rattle.unifier.specs.Conditions.{most_levels}
 use Rattle.unifier.specs.Meanings.{equations_of}
 use Rattle.unifier.proofs.Rooms.{code-few, put-here, put-proof, rest-room}
 use Rattle.unifier.proofs.solving.behind_solved.Goals as goal

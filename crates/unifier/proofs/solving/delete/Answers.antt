@@ -1,8 +1,8 @@
-use Rattle.std.proofs.Common.{◌≡◌, ◌∷◌, [], ℕ, length, ap, ap₂, sym, ◌∙◌, subst as transport, arith}
+use Rattle.std.proofs.Common.{◌∷◌, [], length, ap, ap₂, sym, ◌∙◌, subst as transport, arith}
 use Rattle.std.proofs.lemmas.List.{length-map}
 use Rattle.theory.specs.Signatures.{reflexivity}
 use Rattle.core_terms.specs.Answers.{Gives}
-use Rattle.core_terms.specs.Meanings.{tree_of, tele_of}
+use Rattle.core_terms.specs.Meanings.{tree_of}
 use Rattle.core_terms.proofs.Builders.{ok_is}
 use Rattle.unifier.specs.Meanings.{equations_of, state_of}
 use Rattle.unifier.proofs.Rooms.{code-few, rest-room}

@@ -1,4 +1,4 @@
-use Rattle.std.proofs.Common.{ℕ, ◌<◌, ◌∷◌, ◌++◌, List, Ok, length, refl}
+use Rattle.std.proofs.Common.{◌<◌, ◌∷◌, ◌++◌, Ok, length, refl}
 use Rattle.core_terms.specs.Answers.{IsUnforeseen}
 use Rattle.core_terms.proofs.Answers.{stands-has}
 use Rattle.tele_eq.specs.Items.{each_position}

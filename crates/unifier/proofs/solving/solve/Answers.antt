@@ -1,4 +1,4 @@
-use Rattle.std.proofs.Common.{◌≡◌, ℕ, List, length, ap, sym, ◌∙◌, refl, subst as transport, arith}
+use Rattle.std.proofs.Common.{length, ap, sym, ◌∙◌, refl, subst as transport, arith}
 use Rattle.std.proofs.lemmas.List.{length-map}
 use Rattle.core_terms.specs.Answers.{Gives}
 use Rattle.core_terms.specs.Meanings.{tree_of, tele_of}
