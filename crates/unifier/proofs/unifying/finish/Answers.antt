@@ -19,6 +19,6 @@ returns-in-Sticks c = λ outcome at.
 pub returns : goal.returns
 returns c = λ outcome at.
     elim c.in-Done.is [
-      inl is ↦ ap Ok (done-end (steps_of c.args.steps) (state_of c.args.state) (turn_of c.args.end) outcome (ap turn_of is) at)
-    | inr is ↦ absurd (goes-end (state_of c.args.state) (turn_of c.args.end) (step_of is.0) (state_of is.1.value) outcome (ap turn_of is.2) at)
+      | inl is ↦ ap Ok (done-end (steps_of c.args.steps) (state_of c.args.state) (turn_of c.args.end) outcome (ap turn_of is) at)
+      | inr is ↦ absurd (goes-end (state_of c.args.state) (turn_of c.args.end) (step_of is.0) (state_of is.1.value) outcome (ap turn_of is.2) at)
     ]
