@@ -21,8 +21,10 @@ pub mod RecordItems
 pub mod RecordSizes
 pub mod Rooms
 pub mod RunCodes
+pub mod RunEnds
 pub mod SolutionTrials
 pub mod SolvedStates
+pub mod StartCodes
 pub mod TidiedTerms
 pub mod TrialChains
 pub mod WaitingTerms

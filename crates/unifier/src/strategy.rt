@@ -66,12 +66,7 @@ pub(crate) fn turn(
 }
 
 /// All trials in their order: groups, and then the rules for the first equation.
-fn all_trials(
-    alloc: Global,
-    sig: &Signature,
-    s: &State,
-    units: &mut Units,
-) -> Result<Turn, Stop>
+fn all_trials(alloc: Global, sig: &Signature, s: &State, units: &mut Units) -> Result<Turn, Stop>
     requires ready { IsReady sig.now }
     requires state { IsKept sig.now (state_of s.now) }
     ensures answer { Runs (λ turn. Some (turn_of turn)) result units.new.left (spec.turn_of sig.now (state_of s.now) units.old.left) }

@@ -87,6 +87,23 @@ pub fn unify(
     ensures spends { units.new.left ≤ units.old.left }
     ensures scoped { IfOk result (λ o. IsScopedOutcome sig.now (length p.now.ctx) (outcome_of o)) }
 {
+    run_of_problem(alloc, sig, p, units)
+}
+
+/// The run of a problem.
+fn run_of_problem(
+    alloc: Global,
+    sig: &Signature,
+    p: &Problem,
+    units: &mut Units,
+) -> Result<Outcome, Stop>
+    requires ready { IsReady sig.now }
+    requires problem { IsScopedProblem sig.now (problem_of p.now) }
+    requires few { length p.now.ctx + length p.now.tele < context_limit }
+    ensures answer { Runs outcome_of result units.new.left (spec.unify_of sig.now (problem_of p.now) units.old.left) }
+    ensures sum { units.new.left + units.new.spent ≡ units.old.left + units.old.spent }
+    ensures spends { units.new.left ≤ units.old.left }
+{
     let state = start(alloc, p)?;
     run(alloc, sig, state, units)
 }
