@@ -1,0 +1,7 @@
+pub mod Abstractions
+pub mod Laws
+pub mod Meanings
+pub mod Needed
+pub mod NormalForms
+pub mod Occurrences
+pub mod Orders
