@@ -11,7 +11,7 @@ use Rattle.unification.specs.Solving.{reordered}
 use Rattle.with_abstraction.specs.NormalForms.{NormalForms, normal_forms_of}
 use Rattle.with_abstraction.specs.Needed.{widened, needed}
 use Rattle.with_abstraction.specs.Occurrences.{without}
-use Rattle.with_abstraction.specs.Orders.{behind, in_front, new_order, arranged}
+use Rattle.with_abstraction.specs.Orders.{behind, in_front, arranged}
 
 -- The telescope with the new variable, the goal over it, the place of the new variable, and for each other place the number of the
 -- variable of the context that stands there.
@@ -31,18 +31,22 @@ opened t kept j (a ∷ types) = cond (is_among j kept) (lift a 1 0) (without t a
 abbrev pub opened_types : (n : ℕ) (t S : Term) (types : List Term) → List Term
 opened_types n t S types = opened t (needed n types S) 0 types
 
--- a goal over n variables without t, as it stands behind all variables in their new order
-abbrev pub arranged_goal : (n : ℕ) (t : Term) (types : List Term) (goal : Term) → Term
-arranged_goal n t types goal = put (reordered (new_order n types)) (n + 1) (n + 1) (without t goal)
+-- a goal over n variables without t, behind these variables and the new one in an order
+abbrev pub arranged_goal : (order : List ℕ) (n : ℕ) (t : Term) (goal : Term) → Term
+arranged_goal order n t goal = put (reordered order) (n + 1) (n + 1) (without t goal)
+
+-- the types of the context and of the new variable, in the order of the levels in front of it, itself, and those behind it
+abbrev pub placed_with : (n : ℕ) (t : Term) (types : List Term) (goal : Term) (front behind : List ℕ) → Abstracted
+placed_with n t types goal front behind = record {
+  telescope = arranged (front ++ n ∷ behind) n types 0 (front ++ n ∷ behind);
+  goal = arranged_goal (front ++ n ∷ behind) n t goal;
+  place = length front;
+  order = map (λ j. n - (j + 1)) (front ++ behind);
+}
 
 -- the new variable of type S behind the context whose types are opened, and all of these in their new order
 abbrev pub arranged_with : (n : ℕ) (t S : Term) (types : List Term) (goal : Term) → Abstracted
-arranged_with n t S types goal = record {
-  telescope = arranged (new_order n types) n (types ++ lift S 1 0 ∷ []) 0 (new_order n types);
-  goal = arranged_goal n t types goal;
-  place = length (in_front n types);
-  order = map (λ j. n - (j + 1)) (in_front n types ++ behind n types);
-}
+arranged_with n t S types goal = placed_with n t (types ++ lift S 1 0 ∷ []) goal (in_front n types) (behind n types)
 
 -- the scrutinee has the type S
 abbrev pub abstracted : NormalForms → (S : Term) → Abstracted

@@ -73,7 +73,8 @@ AbstractionScoped =
 
 -- ---- no occurrence is left
 
--- The new variable alone stands for the scrutinee in the goal: no other subterm of the new goal is the scrutinee at the arguments.
+-- The new variable alone stands for the scrutinee in the goal: no other subterm of the new goal, one under binders neither, is the
+-- scrutinee at the arguments.
 -- The same holds of each type of the telescope, but not of those that the scrutinee's type needs.
 pub record LeavesNone (m : NormalForms) (type : Term) (a : Abstracted) : Type 0 where
   pub goal : (u : Term) → occurs u 0 a.goal ≡ true → at_terms (arguments m.scrutinee a) u ≡ m.scrutinee → u ≡ Var (length m.types - a.place)

@@ -1,4 +1,5 @@
 pub mod Abstractions
+pub mod Conditions
 pub mod Laws
 pub mod Meanings
 pub mod Needed

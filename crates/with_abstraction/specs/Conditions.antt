@@ -1,0 +1,24 @@
+-- What the code is asked about: terms over variables that are few enough for numbers of 32 bits, and no term higher than 2,000.
+use Rattle.std.specs.Prelude.{◌≤◌, ℕ, List, [], ◌∷◌}
+use Rattle.theory.specs.Terms.{Term, height, free_of}
+use Rattle.with_abstraction.specs.NormalForms.{NormalForms}
+
+-- a term over n variables
+pub record IsOver (n : ℕ) (t : Term) : Type 0 where
+  pub low : height t ≤ 2000
+  pub free : free_of t ≤ n
+
+abbrev pub AreOver : (n : ℕ) → List Term → Type 0
+AreOver n [] = Unit {0}
+AreOver n (t ∷ terms) = IsOver n t × AreOver n terms
+
+-- the terms are no higher than they may be
+abbrev pub AreLow : List Term → Type 0
+AreLow [] = Unit {0}
+AreLow (t ∷ terms) = (height t ≤ 2000) × AreLow terms
+
+-- normal forms over n variables
+pub record AreFormsOver (n : ℕ) (m : NormalForms) : Type 0 where
+  pub goal : IsOver n m.goal
+  pub types : AreOver n m.types
+  pub scrutinee : IsOver n m.scrutinee
