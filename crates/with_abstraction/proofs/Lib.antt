@@ -1,2 +1,5 @@
+pub mod FormScopes
+pub mod NormalRuns
 mod Rows
 mod Samples
+pub mod Widths

@@ -12,10 +12,10 @@ ghost use Rattle.with_abstraction.specs.Orders as orders;
 use crate::Abstracted;
 use crate::arranging::{arranged, arranged_goal};
 use crate::normal_forms::{NormalForms, normal_forms};
-use crate::opening::opened_types;
+use crate::opening::{lifted, opened_types};
 use crate::orders::{behind, new_order, numbers, others_from};
 use core_sig::Signature;
-use core_terms::{Items, MAX_HEIGHT, Stop, Tele, Term, Units, lift};
+use core_terms::{Items, MAX_HEIGHT, Stop, Tele, Term, Units};
 use std::alloc::Global;
 
 /// Telescope and goal, with the levels in front of the new variable and those behind it.
@@ -28,7 +28,7 @@ fn placed(
     front: &[u32],
     behind: &[u32],
 ) -> Result<Abstracted, Stop>
-    requires few { n ≤ 2147483648 }
+    requires few { n ≤ 2147483647 }
     requires low { tree.height (tree_of t.now) ≤ 2000 }
     requires types { AreLow (tele_of types.now) }
     requires goal { IsOver 2147483648 (tree_of goal.now) }
@@ -57,7 +57,7 @@ fn arranged_with(
     mut types: Tele,
     goal: &Term,
 ) -> Result<Abstracted, Stop>
-    requires few { n ≤ 2147483648 }
+    requires few { n ≤ 2147483647 }
     requires count { length types ≡ n }
     requires low { tree.height (tree_of t.now) ≤ 2000 }
     requires ty { IsOver 2147483648 (tree_of ty.now) }
@@ -67,13 +67,13 @@ fn arranged_with(
 {
     let behind = behind(alloc, n, types.as_slice())?;
     let front = others_from(alloc, behind.as_slice(), 0, n, Vec::new(alloc))?;
-    types.push(lift(alloc, ty, 1, 0)?)?;
+    types.push(lifted(alloc, ty, 1)?)?;
     placed(alloc, n, t, types.as_slice(), goal, front.as_slice(), behind.as_slice())
 }
 
 /// The abstraction of normal forms, where `ty` is the scrutinee's type.
 fn abstracted(alloc: Global, forms: &NormalForms, ty: &Term) -> Result<Abstracted, Stop>
-    requires few { length forms.now.types ≤ 2147483648 }
+    requires few { length forms.now.types ≤ 2147483647 }
     requires forms { AreFormsOver (length forms.now.types) (forms_of forms.now) }
     requires ty { IsOver (length forms.now.types) (tree_of ty.now) }
     ensures { Gives abstracted_of result (Ok (spec.abstracted (forms_of forms.now) (tree_of ty.now))) }

@@ -1,8 +1,8 @@
-ghost use Rattle.std.specs.Prelude.{◌≡◌, ◌≤◌, ◌+◌, ◌++◌, [], ◌∷◌, IfOk, Ok, length};
-ghost use Rattle.core_terms.specs.Answers.{Runs, and_next};
+ghost use Rattle.std.specs.Prelude.{◌≡◌, ◌≤◌, ◌+◌, [], ◌∷◌, IfOk, length};
+ghost use Rattle.core_terms.specs.Answers.{Runs};
 ghost use Rattle.core_terms.specs.Meanings.{tree_of, tele_of};
 ghost use Rattle.theory.specs.SignatureScopes.{IsScopedSignature};
-ghost use Rattle.kernel_reduce.specs.Reduction.{answered, most_variables};
+ghost use Rattle.kernel_reduce.specs.Reduction.{most_variables};
 ghost use Rattle.kernel_reduce.specs.WellScoped.{AreScoped, AreWellScoped};
 ghost use Rattle.with_abstraction.specs.Conditions.{AreFormsOver};
 ghost use Rattle.with_abstraction.specs.Meanings.{forms_of};
@@ -21,26 +21,26 @@ pub(crate) struct NormalForms {
     pub(crate) scrutinee: Term,
 }
 
-/// The plain normal forms of the types, the first one first, behind those that are made.
-#[tactic(auto, using(tele_eq::proofs::Growing::growing))]
+/// The plain normal forms of the types, the first one first.
 fn plain_normals(
     alloc: Global,
     sig: &Signature,
     types: &[Term],
-    mut made: Tele,
     units: &mut Units,
-) -> Result<Tele, Stop>
+) -> Result<Vec<Term>, Stop>
     requires signature { IsScopedSignature sig.now }
     requires types { AreScoped sig.now most_variables (tele_of types.now) }
-    ensures answer { Runs tele_of result units.new.left (and_next (spec.plain_normals_of sig.now (tele_of types.now) units.old.left) (λ others end. answered (Ok (tele_of made ++ others)) end)) }
+    ensures answer { Runs (λ v. tele_of v.items) result units.new.left (spec.plain_normals_of sig.now (tele_of types.now) units.old.left) }
     ensures sum { units.new.left + units.new.spent ≡ units.old.left + units.old.spent }
     ensures spends { units.new.left ≤ units.old.left }
 {
     match types {
-        [] => Ok(made),
+        [] => Ok(Vec::new(alloc)),
         [ty, rest @ ..] => {
-            made.push(normal(alloc, sig, ty, false, units)?)?;
-            plain_normals(alloc, sig, rest, made, units)
+            let first = normal(alloc, sig, ty, false, units)?;
+            let mut normals = plain_normals(alloc, sig, rest, units)?;
+            normals.insert(0, first)?;
+            Ok(normals)
         }
     }
 }
@@ -58,13 +58,14 @@ pub(crate) fn normal_forms(
     ensures answer { Runs forms_of result units.new.left (spec.normal_forms_of sig.now (tele_of ctx.now) (tree_of goal.now) (tree_of scrutinee.now) units.old.left) }
     ensures sum { units.new.left + units.new.spent ≡ units.old.left + units.old.spent }
     ensures spends { units.new.left ≤ units.old.left }
+    ensures over { IfOk result (λ m. AreFormsOver (length ctx.now) (forms_of m)) }
 {
     let goal = normal(alloc, sig, goal, false, units)?;
-    let types = plain_normals(alloc, sig, ctx.as_slice(), Items::new(alloc), units)?;
+    let types = plain_normals(alloc, sig, ctx.as_slice(), units)?;
     let scrutinee = normal(alloc, sig, scrutinee, false, units)?;
     Ok(NormalForms {
         goal,
-        types,
+        types: Items::from_vec(types),
         scrutinee,
     })
 }

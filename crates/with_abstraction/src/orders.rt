@@ -75,7 +75,7 @@ pub(crate) fn is_among(j: u32, levels: &[u32]) -> bool
 }
 
 /// The levels from `j` on, `count` of them, that are not left out, behind those that are made.
-#[tactic(auto, using(tele_eq::proofs::Growing::growing))]
+#[tactic(auto, using(tele_eq::proofs::Growing::listing))]
 pub(crate) fn others_from(
     alloc: Global,
     out: &[u32],
