@@ -1,13 +1,18 @@
 -- How runs of normal forms go on, or end with a refusal.
-use Rattle.std.proofs.Common.{◌≡◌, ℕ, ◌-◌, ◌≤◌, List, [], ◌∷◌, length, take, drop, get_or, Result, Ok, Err, refl, ap, sym, ◌∙◌, subst as transport, arith}
+use Rattle.std.proofs.Common.{◌≡◌, ℕ, ◌-◌, ◌≤◌, ◌<◌, true, false, List, [], ◌∷◌, length, take, drop, get_or, Result, Ok, Err, refl, ap, sym, ◌∙◌, subst as transport, arith}
+use Rattle.std.proofs.lemmas.Bool.Decides.{nat_tests}
 use Rattle.std.proofs.lemmas.List.{take_all}
 use Rattle.theory.specs.Signatures.{Signature}
-use Rattle.theory.specs.Terms.{Term}
-use Rattle.core_terms.specs.Answers.{Spent, and_next}
+use Rattle.theory.specs.Terms.{Term, height}
+use Rattle.core_terms.specs.Answers.{Spent, Gives, Runs, and_next, is_low}
 use Rattle.core_terms.specs.Meanings.{tree_of, tele_of}
 use Rattle.core_terms.specs.declared.stop.Stop.{Stop}
+use Rattle.core_terms.specs.declared.stop.Stop.TheVariants.{Deep}
 use Rattle.core_terms.specs.declared.term.Term as code
-use Rattle.kernel_reduce.specs.Reduction.{answered}
+use Rattle.kernel_reduce.specs.Reduction.{answered, if_low}
+use Rattle.with_abstraction.specs.declared.abstracted.Abstracted as code_abstracted
+use Rattle.with_abstraction.specs.Abstractions.{Abstracted, abstracted, abstract_over_of}
+use Rattle.with_abstraction.specs.Meanings.{abstracted_of}
 use Rattle.with_abstraction.specs.NormalForms.{NormalForms, plain_normal_of, plain_normals_of, normal_forms_of}
 
 -- a refusal of the first part is that of the whole
@@ -98,3 +103,40 @@ forms-normal S context slice goal t G u types left more last rest same h k l =
     (k ∙ ap (λ (types : List code.Term). plain_normals_of S (tele_of types) more) same)
     (continued (plain_normal_of S t last) (λ u end. answered (Ok (record { goal = G; types = types; scrutinee = u })) end) u rest
     (answered (Ok (forms G u types)) rest) l refl))
+
+-- ---- the abstraction of normal forms
+
+abbrev from_forms : Term → NormalForms → ℕ → Spent Abstracted
+from_forms type m rest = if_low (is_low type) (answered (Ok (abstracted m type))) rest
+
+pub abstraction-refused : (S : Signature) (context : List Term) (goal t type : Term) (left rest : ℕ) (e : Stop)
+    → answered (Err e) rest ≡ normal_forms_of S context goal t left → answered (Err e) rest ≡ abstract_over_of S context goal t type left
+abstraction-refused S context goal t type left rest e h = refused (normal_forms_of S context goal t left) (from_forms type) e rest h
+
+low-no : (t : Term) → 2000 < height t → is_low t ≡ false
+low-no t lt = grind (arith, nat_tests)
+
+low-yes : (t : Term) → height t ≤ 2000 → is_low t ≡ true
+low-yes t le = grind (arith, nat_tests)
+
+pub abstraction-deep : (S : Signature) (context : List Term) (goal t type : Term) (m : NormalForms) (left rest : ℕ) → 2000 < height type
+    → answered (Ok m) rest ≡ normal_forms_of S context goal t left → answered (Err Deep) rest ≡ abstract_over_of S context goal t type left
+abstraction-deep S context goal t type m left rest lt h =
+    continued (normal_forms_of S context goal t left) (from_forms type) m rest (answered (Err Deep) rest) h
+    (ap (λ b. if_low b (answered (Ok (abstracted m type))) rest) (sym (low-no type lt)))
+
+pub abstraction-is : (S : Signature) (context : List Term) (goal t type : Term) (m : NormalForms) (left rest : ℕ) → height type ≤ 2000
+    → answered (Ok m) rest ≡ normal_forms_of S context goal t left
+    → answered (Ok (abstracted m type)) rest ≡ abstract_over_of S context goal t type left
+abstraction-is S context goal t type m left rest le h =
+    continued (normal_forms_of S context goal t left) (from_forms type) m rest (answered (Ok (abstracted m type)) rest) h
+    (ap (λ b. if_low b (answered (Ok (abstracted m type))) rest) (sym (low-yes type le)))
+
+-- what is made of normal forms is the answer of the call
+pub abstraction-runs : (result : Result code_abstracted.Abstracted Stop) (S : Signature) (context : List Term) (goal t type : Term) (m : NormalForms) (left rest : ℕ)
+    → height type ≤ 2000 → Gives abstracted_of result (Ok (abstracted m type)) → answered (Ok m) rest ≡ normal_forms_of S context goal t left
+    → Runs abstracted_of result rest (abstract_over_of S context goal t type left)
+abstraction-runs (Ok a) S context goal t type m left rest le is h =
+    ap (λ (r : Result Abstracted Stop). answered r rest) is ∙ abstraction-is S context goal t type m left rest le h
+abstraction-runs (Err e) S context goal t type m left rest le is h =
+    λ other. ap (λ (r : Result Abstracted Stop). answered r rest) (is other) ∙ abstraction-is S context goal t type m left rest le h

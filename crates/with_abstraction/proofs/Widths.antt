@@ -1,5 +1,5 @@
 -- Heights and numbers of free variables of the terms that are made.
-use Rattle.std.proofs.Common.{◌≡◌, ℕ, zero, suc, ◌+◌, ◌-◌, ◌≤◌, ◌<◌, max, nat_lt, nat_le, Bool, true, false, cond, List, [], ◌∷◌, ◌++◌, length, map, Result, Ok, Err, refl, ap, sym, ◌∙◌, subst as transport, arith}
+use Rattle.std.proofs.Common.{◌≡◌, ℕ, zero, suc, ◌+◌, ◌-◌, ◌≤◌, ◌<◌, max, nat_lt, nat_le, Bool, true, false, cond, List, [], ◌∷◌, ◌++◌, length, map, Result, Ok, Err, IfOk, refl, ap, ap₂, sym, ◌∙◌, subst as transport, arith}
 use Rattle.std.proofs.lemmas.Bool.Decides.{nat_tests}
 use Rattle.std.proofs.lemmas.List.{length-map}
 use Rattle.theory.specs.Terms.{Term, Var, Sort, Pi, Lam, App, Let, Const, Fam, Con, Elim, AxiomK, height, free_of, lift, lift_var}
@@ -9,11 +9,15 @@ use Rattle.core_terms.specs.Meanings.{tree_of, tele_of}
 use Rattle.core_terms.specs.declared.term.Term as code
 use Rattle.core_terms.specs.declared.stop.Stop.{Stop}
 use Rattle.core_terms.specs.declared.stop.Stop.TheVariants.{Deep}
+use Rattle.tele_eq.specs.Items.{each_position}
+use Rattle.unification.specs.Occurrences as levels
 use Rattle.unification.specs.Occurrences.{is_among}
 use Rattle.with_abstraction.specs.Occurrences.{is_occurrence, without_under, without}
 use Rattle.with_abstraction.specs.Abstractions.{opened}
 use Rattle.with_abstraction.specs.Conditions.{IsOver, AreOver, AreTypesOver, AreLow}
 use Rattle.with_abstraction.specs.Needed.{widened}
+use Rattle.with_abstraction.specs.Orders.{behind, in_front}
+use Rattle.with_abstraction.proofs.BehindLevels.{length-both}
 
 low-test : (t : Term) → height t ≤ 2000 → is_low t ≡ true
 low-test t le = grind (arith, nat_tests)
@@ -167,3 +171,32 @@ pub opened-low_made : (t : Term) (kept : List ℕ) (made : List code.Term) (type
     → AreLow (tele_of made ++ opened t kept 0 types)
 opened-low_made t kept made types none h =
     transport (λ (front : List code.Term). AreLow (tele_of front ++ opened t kept 0 types)) (sym none) (opened-low t kept 0 types h)
+
+pub ok-inner : {A : Type 0} (x y : A) → ◌≡◌ {A = Result A Stop} (Ok x) (Ok y) → x ≡ y
+ok-inner x y e = transport (λ r. IfOk r (λ z. x ≡ z)) e refl
+
+-- what stands at the end of low terms
+pub low-end : (terms : List code.Term) (t : code.Term) (u : Term) → ◌≡◌ {A = Result Term Stop} (Ok (tree_of t)) (Ok (lift u 1 0)) → height u ≤ 2000
+    → AreLow (tele_of terms) → AreLow (tele_of (terms ++ t ∷ []))
+low-end [] t u e le h =
+    let same : height (tree_of t) ≡ height (lift u 1 0) = ap height (ok-inner (tree_of t) (lift u 1 0) e) in
+    let k : height (lift u 1 0) ≡ height u = height-lift u 1 0 in
+    (omega arith, tt)
+low-end (a ∷ terms) t u e le h = (h.0, low-end terms t u e le h.1)
+
+-- the levels in front of the new variable and behind it are as many as the types
+pub levels-fit : (n : ℕ) (types slice : List code.Term) (front last made out first second : List ℕ) → slice ≡ types → length types ≡ n
+    → ◌≡◌ {A = Result (List ℕ) Stop} (Ok last) (Ok (behind n (tele_of slice))) → out ≡ last → made ≡ []
+    → ◌≡◌ {A = Result (List ℕ) Stop} (Ok front) (Ok (made ++ levels.without out (each_position (λ j. j) 0 n))) → first ≡ front → second ≡ last
+    → length first + length second ≤ n
+levels-fit n types slice front last made out first second same count is_behind out_is none is_front one two =
+    let b : last ≡ behind n (tele_of types) =
+    ok-inner last (behind n (tele_of slice)) is_behind ∙ ap (λ (s : List code.Term). behind n (tele_of s)) same in
+    let f : front ≡ in_front n (tele_of types) =
+    ok-inner front (made ++ levels.without out (each_position (λ j. j) 0 n)) is_front
+    ∙ ap₂ (λ (m : List ℕ) (o : List ℕ). m ++ levels.without o (each_position (λ j. j) 0 n)) none (out_is ∙ b) in
+    let x : length first ≡ length (in_front n (tele_of types)) = ap length (one ∙ f) in
+    let y : length second ≡ length (behind n (tele_of types)) = ap length (two ∙ b) in
+    let all : length (in_front n (tele_of types)) + length (behind n (tele_of types)) ≡ n =
+    length-both n (tele_of types) (length-map types tree_of ∙ count) in
+    omega arith

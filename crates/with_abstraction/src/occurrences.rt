@@ -1,4 +1,4 @@
-ghost use Rattle.std.specs.Prelude.{◌≡◌, ◌≤◌, ◌<◌, ◌+◌, ◌^◌, IsTrue, Ok, ◌↔◌};
+ghost use Rattle.std.specs.Prelude.{◌≡◌, ◌≤◌, ◌<◌, ◌+◌, ◌^◌, IfOk, IsTrue, Ok, ◌↔◌};
 ghost use Rattle.core_terms.specs.Answers.{Gives};
 ghost use Rattle.core_terms.specs.Meanings.{tree_of};
 ghost use Rattle.theory.specs.Terms as tree;
@@ -103,7 +103,8 @@ pub(crate) fn without_under(
 pub(crate) fn without(alloc: Global, t: &Term, u: &Term) -> Result<Term, Stop>
     requires low { tree.height (tree_of t.now) ≤ 2000 }
     requires over { IsOver 2147483648 (tree_of u.now) }
-    ensures { Gives tree_of result (Ok (spec.without (tree_of t.now) (tree_of u.now))) }
+    ensures is { Gives tree_of result (Ok (spec.without (tree_of t.now) (tree_of u.now))) }
+    ensures low { IfOk result (λ v. tree.height (tree_of v) ≤ 2000) }
 {
     without_under(alloc, t, 0, u)
 }
