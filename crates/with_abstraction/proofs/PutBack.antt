@@ -27,16 +27,16 @@ same-is a b h = go (Term-discrete ℕ_discrete a b) h
     go (yes e) k = e
     go (no e) k = absurd (cc)
 
-test-same : (x y : ℕ) (a b : Term) → x ≡ y → cond (x == y) a b ≡ a
+pub test-same : (x y : ℕ) (a b : Term) → x ≡ y → cond (x == y) a b ≡ a
 test-same x y a b e = ap (λ c. cond c a b) (eq-eqb x y e)
 
-test-lower : (x y : ℕ) (a b : Term) → x < y → cond (nat_lt x y) a b ≡ a
+pub test-lower : (x y : ℕ) (a b : Term) → x < y → cond (nat_lt x y) a b ≡ a
 test-lower x y a b lt = grind (arith, nat_tests)
 
-test-higher : (x y : ℕ) (a b : Term) → y ≤ x → cond (nat_lt x y) a b ≡ b
+pub test-higher : (x y : ℕ) (a b : Term) → y ≤ x → cond (nat_lt x y) a b ≡ b
 test-higher x y a b le = grind (arith, nat_tests)
 
-test-other : (x y : ℕ) (a b : Term) → (x ≡ y → ⊥) → cond (x == y) a b ≡ b
+pub test-other : (x y : ℕ) (a b : Term) → (x ≡ y → ⊥) → cond (x == y) a b ≡ b
 test-other x y a b ne = go (x == y) refl
   where
     go : (c : Bool) → (x == y) ≡ c → cond c a b ≡ b
@@ -125,11 +125,11 @@ fill-place s (u ∷ us) (suc q) lt =
     ap (fill (extend s u) us) (let e : length (u ∷ us) - (suc q + 1) ≡ length us - (q + 1) = omega arith in e)
     ∙ fill-place (extend s u) us q (omega arith)
 
-under-lower : (s : ℕ → Term) (under v : ℕ) → v < under → under_binders under s v ≡ Var v
+pub under-lower : (s : ℕ → Term) (under v : ℕ) → v < under → under_binders under s v ≡ Var v
 unfolding under_binders
 under-lower s under v lt = test-lower v under (Var v) (lift (s (v - under)) under 0) lt
 
-under-higher : (s : ℕ → Term) (under v : ℕ) → under ≤ v → under_binders under s v ≡ lift (s (v - under)) under 0
+pub under-higher : (s : ℕ → Term) (under v : ℕ) → under ≤ v → under_binders under s v ≡ lift (s (v - under)) under 0
 unfolding under_binders
 under-higher s under v le = test-higher v under (Var v) (lift (s (v - under)) under 0) le
 
@@ -183,15 +183,15 @@ variable-back values order n t under v lt h = by (below-or_from v under)
         ∙ level-back values order n t under l low (h l low (eq-eqb v (n + 1 - (l + 1) + under) here))
         ∙ ap (λ w. subst_under (Var w) under t under) (let e : n + 1 + under - (l + 1) ≡ v = omega arith in e)
 
-first : (values : List Term) (order : List ℕ) (n : ℕ) (t : Term) (under : ℕ) (a : Term) (other : ℕ → Bool)
+pub first : (values : List Term) (order : List ℕ) (n : ℕ) (t : Term) (under : ℕ) (a : Term) (other : ℕ → Bool)
     → ((l : ℕ) → l < n + 1 → (has_variable (n + 1 - (l + 1) + under) a || other l) ≡ true → Stands values order n t l) → EachStands values order n t under a
 first values order n t under a other h l lt k = h l lt (or-left (has_variable (n + 1 - (l + 1) + under) a) (other l) k)
 
-second : (values : List Term) (order : List ℕ) (n : ℕ) (t : Term) (under : ℕ) (a : Term) (other : ℕ → Bool)
+pub second : (values : List Term) (order : List ℕ) (n : ℕ) (t : Term) (under : ℕ) (a : Term) (other : ℕ → Bool)
     → ((l : ℕ) → l < n + 1 → (other l || has_variable (n + 1 - (l + 1) + under) a) ≡ true → Stands values order n t l) → EachStands values order n t under a
 second values order n t under a other h l lt k = h l lt (or-right (other l) (has_variable (n + 1 - (l + 1) + under) a) k)
 
-body : (values : List Term) (order : List ℕ) (n : ℕ) (t : Term) (under : ℕ) (b : Term) (other : ℕ → Bool)
+pub body : (values : List Term) (order : List ℕ) (n : ℕ) (t : Term) (under : ℕ) (b : Term) (other : ℕ → Bool)
     → ((l : ℕ) → l < n + 1 → (other l || has_variable (n + 1 - (l + 1) + under + 1) b) ≡ true → Stands values order n t l) → EachStands values order n t (under + 1) b
 body values order n t under b other h l lt k =
     h l lt (or-right (other l) (has_variable (n + 1 - (l + 1) + under + 1) b)

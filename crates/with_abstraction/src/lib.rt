@@ -7,6 +7,7 @@
 mod abstracted;
 mod abstracting;
 mod arranging;
+pub mod laws;
 mod needed;
 mod normal_forms;
 mod occurrences;
