@@ -1,5 +1,5 @@
 -- In the new order each type has no variables but those that stand before its own.
-use Rattle.std.proofs.Common.{◌≡◌, ℕ, zero, suc, ◌+◌, ◌-◌, ◌≤◌, ◌<◌, ◌⊎◌, inl, inr, Bool, true, false, ◌||◌, cond, List, [], ◌∷◌, ◌++◌, length, refl, sym, ap, ◌∙◌, subst as transport, arith}
+use Rattle.std.proofs.Common.{◌≡◌, ℕ, zero, suc, ◌+◌, ◌-◌, ◌≤◌, ◌<◌, ◌⊎◌, inl, inr, Bool, true, false, cond, List, [], ◌∷◌, ◌++◌, length, refl, sym, subst as transport, arith}
 use Rattle.theory.specs.Terms.{Term}
 use Rattle.tele_eq.specs.Dependences.{has_variable}
 use Rattle.tele_eq.specs.Items.{term_at, each_position}
@@ -99,11 +99,11 @@ front-follows n types s h at (suc count) e done tail knows k =
     by out in_ false is after = (
       front-within n types s h at (omega arith) is done knows,
       in_
-      (λ l lt none. elim (here-or_below l at lt) [
-        | inl same ↦ transport (λ x. is_among x (done ++ at ∷ []) ≡ true) (sym same) (among-right at done (at ∷ []) (among-own at []))
-        | inr lower ↦ among-left l done (at ∷ []) (knows l lower none)
-      ])
-      (transport (λ (levels : List ℕ). EachFollows n all levels tail) (sym (snoc-append done at rest)) after),
+          (λ l lt none. elim (here-or_below l at lt) [
+            | inl same ↦ transport (λ x. is_among x (done ++ at ∷ []) ≡ true) (sym same) (among-right at done (at ∷ []) (among-own at []))
+            | inr lower ↦ among-left l done (at ∷ []) (knows l lower none)
+          ])
+          (transport (λ (levels : List ℕ). EachFollows n all levels tail) (sym (snoc-append done at rest)) after),
     )
 
 not-cons : (l j : ℕ) (levels : List ℕ) → (j ≡ l → ⊥) → is_among l levels ≡ false → is_among l (j ∷ levels) ≡ false
@@ -154,12 +154,12 @@ behind-follows n types s h j found (a ∷ rest) e done lower new others =
     by in_ out true known = (
       behind-within n types s h j (omega arith) done lower new,
       in_
-      (λ l lt. elim (here-or_below l j lt) [
-        | inl same ↦ transport (λ x. is_among x (done ++ j ∷ []) ≡ true) (sym same) (among-right j done (j ∷ []) (among-own j []))
-        | inr low ↦ among-left l done (j ∷ []) (lower l low)
-      ])
-      (among-left n done (j ∷ []) new)
-      (λ l le lt none. among-left l done (j ∷ []) (known l (omega arith) lt (not-cons l j there (λ same. omega arith) none))),
+          (λ l lt. elim (here-or_below l j lt) [
+            | inl same ↦ transport (λ x. is_among x (done ++ j ∷ []) ≡ true) (sym same) (among-right j done (j ∷ []) (among-own j []))
+            | inr low ↦ among-left l done (j ∷ []) (lower l low)
+          ])
+          (among-left n done (j ∷ []) new)
+          (λ l le lt none. among-left l done (j ∷ []) (known l (omega arith) lt (not-cons l j there (λ same. omega arith) none))),
     )
     by in_ out false known =
         out
@@ -180,11 +180,12 @@ behind-follows n types s h j found (a ∷ rest) e done lower new others =
 -- all of them, with the new variable between
 pub all-follow : (n : ℕ) (types : List Term) (s : Term) → IsOpened n types s → EachFollows n (types ++ s ∷ []) [] (new_order n types)
 all-follow n types s h =
-    front-follows n types s h 0 n (omega arith) [] (n ∷ behind n types) (λ l lt. absurd (omega arith))
-    (new-within,
-    behind-follows n types s h 0 (n ∷ []) types (let e : length types ≡ n = h.count in omega arith) (in_front n types ++ n ∷ []) (λ l lt. absurd (omega arith))
-    (among-right n (in_front n types) (n ∷ []) (among-own n []))
-    (λ l le lt none. among-left l (in_front n types) (n ∷ []) (in-front_among n types l lt none)))
+    front-follows n types s h 0 n (omega arith) [] (n ∷ behind n types) (λ l lt. absurd (omega arith)) (
+      new-within,
+      behind-follows n types s h 0 (n ∷ []) types (let e : length types ≡ n = h.count in omega arith) (in_front n types ++ n ∷ []) (λ l lt. absurd (omega arith))
+          (among-right n (in_front n types) (n ∷ []) (among-own n []))
+          (λ l le lt none. among-left l (in_front n types) (n ∷ []) (in-front_among n types l lt none)),
+    )
   where
     new-within : IsWithin n (in_front n types) (term_at (types ++ s ∷ []) n)
     new-within l lt has =

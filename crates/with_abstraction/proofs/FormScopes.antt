@@ -1,13 +1,13 @@
 -- Normal forms of scoped terms are scoped, and low; a context has as many of them as types. They give no units back.
-use Rattle.std.proofs.Common.{◌≡◌, ℕ, zero, suc, ◌+◌, ◌≤◌, ◌<◌, false, List, [], ◌∷◌, length, Result, Ok, Err, IfOk, refl, ap, subst as transport, arith}
+use Rattle.std.proofs.Common.{◌≡◌, ℕ, suc, ◌+◌, ◌≤◌, false, List, [], ◌∷◌, length, Result, Ok, Err, IfOk, refl, ap, subst as transport, arith}
 use Rattle.std.proofs.lemmas.List.{length-map}
-use Rattle.theory.specs.Terms.{Term, height, free_of}
+use Rattle.theory.specs.Terms.{Term, height}
 use Rattle.theory.specs.Telescopes.{Telescope}
 use Rattle.theory.specs.Signatures.{Signature}
 use Rattle.theory.specs.Conversion.{Converts}
 use Rattle.theory.specs.SignatureScopes.{IsScoped, IsScopedSignature, IsScopedTelescope}
 use Rattle.theory.proofs.ScopedTerms.{scoped_over_more}
-use Rattle.core_terms.specs.Answers.{Spent, and_next}
+use Rattle.core_terms.specs.Answers.{and_next}
 use Rattle.core_terms.specs.Meanings.{tree_of, tele_of}
 use Rattle.core_terms.specs.declared.term.Term as code
 use Rattle.core_terms.proofs.Answers.{and_next-has, and_next-spends}

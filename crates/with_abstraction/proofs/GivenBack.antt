@@ -1,26 +1,25 @@
 -- At the variables of the context, and t for the new one, the goal and the types are what they were.
-use Rattle.std.proofs.Common.{◌≡◌, ℕ, zero, suc, ◌+◌, ◌-◌, ◌≤◌, ◌<◌, ◌==◌, ◌⊎◌, inl, inr, nat_lt, Bool, true, false, ◌||◌, cond, List, [], ◌∷◌, ◌++◌, length, map, take, drop, get_or, length-append, Result, Ok, Err, IfOk, refl, sym, ap, ap₂, ◌∙◌, subst as transport, eq-eqb, add-one, arith}
-use Rattle.std.proofs.lemmas.Bool.Decides.{nat_tests, Decides-eqb}
+use Rattle.std.proofs.Common.{◌≡◌, ℕ, zero, suc, ◌+◌, ◌-◌, ◌≤◌, ◌<◌, ◌==◌, ◌⊎◌, inl, inr, Bool, true, false, ◌||◌, cond, List, [], ◌∷◌, ◌++◌, length, map, take, drop, get_or, length-append, Result, Ok, Err, IfOk, refl, sym, ap, ap₂, ◌∙◌, subst as transport, add-one, arith}
+use Rattle.std.proofs.lemmas.Bool.Decides.{Decides-eqb}
 use Rattle.std.proofs.lemmas.List.{length-map, map-append}
 use Rattle.theory.specs.Terms.{Term, Var, Sort, lift, free_of}
 use Rattle.theory.specs.Telescopes.{Telescope}
 use Rattle.theory.specs.Signatures.{Signature}
 use Rattle.theory.specs.SignatureScopes.{IsScoped}
 use Rattle.theory.proofs.Commuting.{subst_cancels}
-use Rattle.core_terms.specs.Instances.{instance_of}
 use Rattle.core_terms.specs.Substitution.{subst_under}
 use Rattle.core_terms.proofs.Instances.{instance-none}
 use Rattle.core_terms.proofs.SubstUnder.{subst_under-none}
 use Rattle.tele_eq.specs.Dependences.{has_variable}
-use Rattle.tele_eq.specs.Environments.{put_under, put}
+use Rattle.tele_eq.specs.Environments.{put}
 use Rattle.tele_eq.specs.Items.{term_at, each_position}
 use Rattle.tele_eq.proofs.Growing.{append-none, snoc-append}
 use Rattle.unification.specs.Occurrences as levels
 use Rattle.unification.specs.Occurrences.{is_among, place_in}
 use Rattle.unification.specs.Solving.{reordered}
-use Rattle.unification.proofs.Cases.{either, here-or_below}
+use Rattle.unification.proofs.Cases.{here-or_below}
 use Rattle.unification.proofs.Levels.{among-cases, among-own, among-later, place-before}
-use Rattle.with_abstraction.specs.Abstractions.{Abstracted, opened_types, arranged_with, abstracted}
+use Rattle.with_abstraction.specs.Abstractions.{opened_types, arranged_with, abstracted}
 use Rattle.with_abstraction.specs.Laws.{AbstractionGivesBack, GivesBack, arguments, at_terms, types_at_terms, type_of_variable, argument_types}
 use Rattle.with_abstraction.specs.Needed.{widened, needed}
 use Rattle.with_abstraction.specs.NormalForms.{NormalForms, normal_forms_of}
@@ -138,7 +137,7 @@ stands-done n t order done rest l e h =
       value = get-place (value_of n t) done rest l (Sort 0) h;
     })
 
-each-stands : (n : ℕ) (t : Term) (order done rest : List ℕ) (x : Term) → order ≡ done ++ rest → IsWithin n done x
+pub each-stands : (n : ℕ) (t : Term) (order done rest : List ℕ) (x : Term) → order ≡ done ++ rest → IsWithin n done x
     → EachStands (map (value_of n t) done) order n t 0 x
 each-stands n t order done rest x e within l lt has =
     stands-done n t order done rest l e
@@ -226,7 +225,7 @@ order-below n types e l h =
     ])
     h
 
-length-order : (n : ℕ) (types : List Term) → length types ≡ n → length (new_order n types) ≡ n + 1
+pub length-order : (n : ℕ) (types : List Term) → length types ≡ n → length (new_order n types) ≡ n + 1
 length-order n types e =
     let both = length-both n types e in
     let all : length (new_order n types) ≡ length (in_front n types) + suc (length (behind n types)) = length-append (in_front n types) (n ∷ behind n types) in
@@ -271,7 +270,7 @@ given-back S n m type h k =
           ∙ sym (types-by_level n m.scrutinee type m.types types m.goal count c);
     }
 
-has-weaker : {A : Type 0} (P Q : NormalForms → Type 0) (r : Result NormalForms A) → IfOk r P → ((m : NormalForms) → P m → Q m) → IfOk r Q
+pub has-weaker : {A : Type 0} (P Q : NormalForms → Type 0) (r : Result NormalForms A) → IfOk r P → ((m : NormalForms) → P m → Q m) → IfOk r Q
 has-weaker P Q (Ok m) h k = k m h
 has-weaker P Q (Err e) h k = tt
 

@@ -2,6 +2,7 @@ pub mod BehindLevels
 pub mod Following
 pub mod FormScopes
 pub mod GivenBack
+pub mod LeftNone
 pub mod NeededLevels
 pub mod NormalRuns
 pub mod OpenedTypes

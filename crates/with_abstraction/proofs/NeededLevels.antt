@@ -1,12 +1,12 @@
 -- The variables that a scrutinee's type needs: those that it has, closed under those that their types have.
-use Rattle.std.proofs.Common.{◌≡◌, ℕ, zero, suc, ◌+◌, ◌-◌, ◌≤◌, ◌<◌, ◌⊎◌, inl, inr, Bool, true, false, ◌||◌, cond, List, [], ◌∷◌, length, refl, sym, ap, ◌∙◌, subst as transport, arith}
+use Rattle.std.proofs.Common.{◌≡◌, ℕ, zero, suc, ◌+◌, ◌-◌, ◌≤◌, ◌<◌, ◌⊎◌, inl, inr, Bool, true, false, ◌||◌, cond, List, [], ◌∷◌, sym, subst as transport, arith}
 use Rattle.theory.specs.Terms.{Term}
 use Rattle.tele_eq.specs.Dependences.{has_variable}
 use Rattle.tele_eq.specs.Items.{term_at}
 use Rattle.unification.specs.Occurrences.{is_among}
-use Rattle.unification.proofs.Cases.{either, here-or_below}
+use Rattle.unification.proofs.Cases.{here-or_below}
 use Rattle.unification.proofs.Levels.{among-cases, among-own, among-later}
-use Rattle.with_abstraction.specs.Needed.{is_mentioned, needed_below, needed}
+use Rattle.with_abstraction.specs.Needed.{is_mentioned, needed_below}
 use Rattle.with_abstraction.proofs.Variables.{or-left, or-right}
 
 -- what is found is kept, with a level before it or without

@@ -1,5 +1,5 @@
 -- The types of a context without the scrutinee: where they stand, and which variables they have.
-use Rattle.std.proofs.Common.{◌≡◌, ℕ, zero, suc, ◌+◌, ◌-◌, ◌≤◌, ◌<◌, ◌⊎◌, inl, inr, Bool, true, false, ◌||◌, cond, List, [], ◌∷◌, ◌++◌, length, refl, sym, ap, ◌∙◌, subst as transport, arith}
+use Rattle.std.proofs.Common.{◌≡◌, ℕ, zero, suc, ◌+◌, ◌-◌, ◌≤◌, ◌<◌, ◌⊎◌, inl, inr, Bool, true, false, cond, List, [], ◌∷◌, length, ap, ◌∙◌, subst as transport, arith}
 use Rattle.theory.specs.Terms.{Term, lift}
 use Rattle.tele_eq.specs.Dependences.{has_variable}
 use Rattle.tele_eq.specs.Items.{term_at}
@@ -107,12 +107,13 @@ needed-front n t S types e l h = elim (either (is_among l (behind n (opened_type
     others : AreOthers n kept (n ∷ [])
     others i h = elim (among-cases i n [] h) [
       | inr none ↦ absurd (cc)
-      | inl same ↦
-          (omega arith,
-          elim (either (is_among i kept)) [
-            | inr absent ↦ absent
-            | inl present ↦ let lt : i < n = needed-low n wide S i present in absurd (omega arith)
-          ])
+      | inl same ↦ (
+        omega arith,
+        elim (either (is_among i kept)) [
+          | inr absent ↦ absent
+          | inl present ↦ let lt : i < n = needed-low n wide S i present in absurd (omega arith)
+        ],
+      )
     ]
 
     before : (j i : ℕ) → i < n → has_variable (n - (i + 1)) (term_at wide j) ≡ true → i < j

@@ -3,19 +3,18 @@ use Rattle.std.proofs.Common.{◌≡◌, ℕ, zero, suc, ◌+◌, ◌-◌, ◌�
 use native.Mathlib.Decide.{ℕ_discrete}
 use Rattle.std.proofs.lemmas.Bool.Decides.{nat_tests, Decides-eqb}
 use Rattle.theory.specs.Terms.{Term, Term-discrete, Var, Sort, Pi, Lam, App, Let, Const, Fam, Con, Elim, AxiomK, lift, lift_var, subst_var, free_of}
-use Rattle.theory.specs.Substitutions.{inst, extend, fill}
+use Rattle.theory.specs.Substitutions.{extend, fill}
 use Rattle.theory.specs.Eliminators.{no_variable}
 use Rattle.theory.proofs.Instances.{ap₃}
 use Rattle.core_terms.specs.Instances.{under_binders, instance_of}
-use Rattle.core_terms.specs.Levels.{variable}
 use Rattle.core_terms.specs.Substitution.{subst_under}
 use Rattle.kernel_reduce.specs.Comparison.{same}
 use Rattle.tele_eq.specs.Dependences.{has_variable}
-use Rattle.tele_eq.specs.Environments.{Environment, put_variable, put_under, put}
+use Rattle.tele_eq.specs.Environments.{put_variable, put_under}
 use Rattle.unification.specs.Occurrences.{place_in}
 use Rattle.unification.specs.Solving.{reordered}
 use Rattle.unification.proofs.Cases.{below-or_from}
-use Rattle.with_abstraction.specs.Occurrences.{is_occurrence, without_under, without}
+use Rattle.with_abstraction.specs.Occurrences.{is_occurrence, without_under}
 use Rattle.with_abstraction.proofs.Variables.{or-left, or-right}
 
 -- ---- t for the new variable

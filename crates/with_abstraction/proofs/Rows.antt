@@ -1,8 +1,8 @@
 -- Abstractions over scrutinees, worked by hand. The telescope, the goal, the place and the order are told whole.
 use native.Mathlib.Decide.{ℕ_discrete}
-use Rattle.std.proofs.Common.{◌≡◌, Ok, Err, [], ◌∷◌, ◌++◌, refl, false, ℕ, List}
+use Rattle.std.proofs.Common.{◌≡◌, Ok, Err, [], ◌∷◌, refl, false, ℕ, List}
 use Rattle.theory.specs.Terms.{Term}
-use Rattle.theory.specs.Terms.Term.{Var, Sort, Pi, Lam, App, Let, Elim}
+use Rattle.theory.specs.Terms.Term.{Var, Sort, Pi, Lam, App}
 use Rattle.theory.specs.Telescopes.{Telescope}
 use Rattle.core_terms.specs.declared.stop.Stop.TheVariants.{Fuel}
 use Rattle.kernel_reduce.specs.Reduction.{answered}

@@ -1,5 +1,5 @@
 -- A signature for examples: Nat, Fin and Has behind the prelude.
-use Rattle.std.proofs.Common.{ℕ, Bool, [], ◌∷◌, ◌++◌}
+use Rattle.std.proofs.Common.{Bool, [], ◌∷◌, ◌++◌}
 use Rattle.theory.specs.Terms.{Term}
 use Rattle.theory.specs.Terms.Term.{Var, App, Fam, Con}
 use Rattle.theory.specs.Families.{Plain, Recursive, Family}

@@ -1,32 +1,29 @@
 -- An abstraction is scoped: each type is over those before it, and each variable of the context stands once.
-use Rattle.std.proofs.Common.{◌≡◌, ℕ, zero, suc, ◌+◌, ◌-◌, ◌≤◌, ◌<◌, ◌⊎◌, inl, inr, max, nat_lt, Bool, true, false, ◌||◌, cond, List, [], ◌∷◌, ◌++◌, length, map, length-append, Result, Ok, Err, IfOk, refl, sym, ap, ◌∙◌, subst as transport, arith}
-use Rattle.std.proofs.lemmas.Bool.Decides.{nat_tests}
+use Rattle.std.proofs.Common.{◌≡◌, ℕ, zero, suc, ◌+◌, ◌-◌, ◌≤◌, ◌<◌, inl, inr, Bool, true, false, cond, List, [], ◌∷◌, ◌++◌, length, map, length-append, Ok, IfOk, refl, sym, ap, ◌∙◌, subst as transport, arith}
 use Rattle.std.proofs.lemmas.List.{length-map}
-use Rattle.theory.specs.Terms.{Term, Var, Sort, Pi, Lam, App, Let, Const, Fam, Con, Elim, AxiomK, lift, lift_var, height}
+use Rattle.theory.specs.Terms.{Term, Var, Sort, Pi, Lam, App, Let, Const, Fam, Con, Elim, AxiomK, lift, lift_var}
 use Rattle.theory.specs.Telescopes.{Telescope}
 use Rattle.theory.specs.Signatures.{Signature}
 use Rattle.theory.specs.SignatureScopes.{IsScoped, IsScopedTelescope}
 use Rattle.theory.proofs.ScopedTerms.{scoped-pi, scoped-lam, scoped-app, scoped-let, pi-scoped, lam-scoped, app-scoped, let-scoped, var-scoped, sort-scoped, scoped_over_more, lift-scoped}
-use Rattle.core_terms.specs.Answers.{Spent, and_next, is_low}
+use Rattle.core_terms.specs.Answers.{is_low}
 use Rattle.core_terms.proofs.Answers.{and_next-has, and_next-spends}
 use Rattle.kernel_reduce.specs.Reduction.{answered, if_low}
-use Rattle.kernel_reduce.specs.WellScoped.{AreWellScoped}
-use Rattle.tele_eq.specs.Items.{term_at, each_position}
+use Rattle.tele_eq.specs.Items.{term_at}
 use Rattle.tele_eq.proofs.Growing.{append-none, snoc-append}
 use Rattle.unification.specs.Occurrences.{is_among}
-use Rattle.unification.specs.Solving.{reordered}
 use Rattle.unification.proofs.Levels.{among-cases, among-own, among-later, among-left, among-right}
 use Rattle.unification.proofs.Cases.{either}
 use Rattle.unification.proofs.SolvedContexts.{reordered-term}
-use Rattle.with_abstraction.specs.Abstractions.{Abstracted, opened, opened_types, arranged_with, abstracted, abstract_over_of}
+use Rattle.with_abstraction.specs.Abstractions.{Abstracted, opened, opened_types, arranged_with, abstracted}
 use Rattle.with_abstraction.specs.Laws.{AbstractionScoped, AbstractionSpends, IsScopedAbstraction}
 use Rattle.with_abstraction.specs.Needed.{widened, needed}
 use Rattle.with_abstraction.specs.NormalForms.{NormalForms, normal_forms_of}
 use Rattle.with_abstraction.specs.Occurrences.{is_occurrence, without_under, without}
 use Rattle.with_abstraction.specs.Orders.{behind, in_front, new_order, arranged}
 use Rattle.with_abstraction.proofs.BehindLevels.{length-both}
-use Rattle.with_abstraction.proofs.Following.{IsWithin, EachFollows, term-left, term-last, all-follow, all-among, in-front_among}
-use Rattle.with_abstraction.proofs.FormScopes.{AreFitting, AreFormsFitting, forms-fitting, forms-spend, types-count, types-scoped}
+use Rattle.with_abstraction.proofs.Following.{EachFollows, all-follow, all-among, in-front_among}
+use Rattle.with_abstraction.proofs.FormScopes.{AreFormsFitting, forms-fitting, forms-spend, types-count, types-scoped}
 use Rattle.with_abstraction.proofs.OpenedTypes.{is-opened, opened-count}
 
 -- ---- terms without a term
@@ -79,9 +76,10 @@ widened-scoped S n j (a ∷ types) le h =
 
 opened-scoped : (S : Signature) (n : ℕ) (t : Term) (kept : List ℕ) (j : ℕ) (types : List Term) → EachScoped S n types → EachScoped S (n + 1) (opened t kept j types)
 opened-scoped S n t kept j [] h = tt
-opened-scoped S n t kept j (a ∷ types) h =
-    (either-scoped S (n + 1) (is_among j kept) (lift a 1 0) (without t a) (lift-scoped S n a 1 0 h.0) (without-scoped S t n 0 a (omega arith) h.0),
-    opened-scoped S n t kept (j + 1) types h.1)
+opened-scoped S n t kept j (a ∷ types) h = (
+  either-scoped S (n + 1) (is_among j kept) (lift a 1 0) (without t a) (lift-scoped S n a 1 0 h.0) (without-scoped S t n 0 a (omega arith) h.0),
+  opened-scoped S n t kept (j + 1) types h.1,
+)
 
 end-scoped : (S : Signature) (n : ℕ) (terms : List Term) (s : Term) → EachScoped S n terms → IsScoped S n s → EachScoped S n (terms ++ s ∷ [])
 end-scoped S n [] s h k = (k, tt)
@@ -103,10 +101,11 @@ all-scoped S n t type types e h k =
 pub arranged-scoped : (S : Signature) (n : ℕ) (all : List Term) (order done rest : List ℕ) (d : ℕ) → order ≡ done ++ rest → d ≡ length done
     → EachFollows n all done rest → EachScoped S (n + 1) all → IsScopedTelescope S d (arranged order n all d rest)
 arranged-scoped S n all order done [] d e same follows scoped = tt
-arranged-scoped S n all order done (j ∷ rest) d e same follows scoped =
-    (reordered-term S (n + 1) order done (j ∷ rest) (term_at all j) d e (each-scoped S (n + 1) all j scoped) follows.0 (omega arith),
-    arranged-scoped S n all order (done ++ j ∷ []) rest (d + 1) (e ∙ sym (snoc-append done j rest))
-    (let l : length (done ++ j ∷ []) ≡ length done + 1 = length-append done (j ∷ []) in omega arith) follows.1 scoped)
+arranged-scoped S n all order done (j ∷ rest) d e same follows scoped = (
+  reordered-term S (n + 1) order done (j ∷ rest) (term_at all j) d e (each-scoped S (n + 1) all j scoped) follows.0 (omega arith),
+  arranged-scoped S n all order (done ++ j ∷ []) rest (d + 1) (e ∙ sym (snoc-append done j rest))
+      (let l : length (done ++ j ∷ []) ≡ length done + 1 = length-append done (j ∷ []) in omega arith) follows.1 scoped,
+)
 
 length-arranged : (order : List ℕ) (n : ℕ) (all : List Term) (d : ℕ) (rest : List ℕ) → length (arranged order n all d rest) ≡ length rest
 length-arranged order n all d [] = refl

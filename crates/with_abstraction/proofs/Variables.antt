@@ -1,9 +1,9 @@
 -- Which variables terms have that are lifted, or without a term.
-use Rattle.std.proofs.Common.{◌≡◌, ℕ, zero, suc, ◌+◌, ◌-◌, ◌≤◌, ◌<◌, ◌==◌, nat_lt, Bool, true, false, ◌||◌, cond, refl, sym, ap, ◌∙◌, subst as transport, eq-eqb, arith}
+use Rattle.std.proofs.Common.{◌≡◌, ℕ, suc, ◌+◌, ◌≤◌, ◌==◌, nat_lt, Bool, true, false, ◌||◌, cond, refl, subst as transport, eq-eqb, arith}
 use Rattle.std.proofs.lemmas.Bool.Decides.{nat_tests, Decides-eqb}
 use Rattle.theory.specs.Terms.{Term, Var, Sort, Pi, Lam, App, Let, Const, Fam, Con, Elim, AxiomK, lift, lift_var}
 use Rattle.tele_eq.specs.Dependences.{has_variable}
-use Rattle.with_abstraction.specs.Occurrences.{is_occurrence, without_under, without}
+use Rattle.with_abstraction.specs.Occurrences.{is_occurrence, without_under}
 
 pub or-cases : (P : Type 0) (b c : Bool) → (b || c) ≡ true → (b ≡ true → P) → (c ≡ true → P) → P
 or-cases P true c e h k = h refl

@@ -1,5 +1,5 @@
 -- Heights and numbers of free variables of the terms that are made.
-use Rattle.std.proofs.Common.{◌≡◌, ℕ, zero, suc, ◌+◌, ◌-◌, ◌≤◌, ◌<◌, max, nat_lt, nat_le, Bool, true, false, cond, List, [], ◌∷◌, ◌++◌, length, map, Result, Ok, Err, IfOk, refl, ap, ap₂, sym, ◌∙◌, subst as transport, arith}
+use Rattle.std.proofs.Common.{◌≡◌, ℕ, suc, ◌+◌, ◌-◌, ◌≤◌, nat_lt, Bool, true, false, cond, List, [], ◌∷◌, ◌++◌, length, Result, Ok, Err, IfOk, refl, ap, ap₂, sym, ◌∙◌, subst as transport, arith}
 use Rattle.std.proofs.lemmas.Bool.Decides.{nat_tests}
 use Rattle.std.proofs.lemmas.List.{length-map}
 use Rattle.theory.specs.Terms.{Term, Var, Sort, Pi, Lam, App, Let, Const, Fam, Con, Elim, AxiomK, height, free_of, lift, lift_var}
@@ -14,7 +14,7 @@ use Rattle.unification.specs.Occurrences as levels
 use Rattle.unification.specs.Occurrences.{is_among}
 use Rattle.with_abstraction.specs.Occurrences.{is_occurrence, without_under, without}
 use Rattle.with_abstraction.specs.Abstractions.{opened}
-use Rattle.with_abstraction.specs.Conditions.{IsOver, AreOver, AreTypesOver, AreLow}
+use Rattle.with_abstraction.specs.Conditions.{AreOver, AreTypesOver, AreLow}
 use Rattle.with_abstraction.specs.Needed.{widened}
 use Rattle.with_abstraction.specs.Orders.{behind, in_front}
 use Rattle.with_abstraction.proofs.BehindLevels.{length-both}

@@ -1,5 +1,5 @@
 -- What is to be proved of the abstraction of a scrutinee: nothing is lost, what is made is scoped, and no occurrence is left.
-use Rattle.std.specs.Prelude.{◌≡◌, ◌≢◌, ℕ, ◌+◌, ◌-◌, ◌<◌, ◌≤◌, true, false, IfOk, List, [], ◌∷◌, ◌++◌, length, map, take, drop}
+use Rattle.std.specs.Prelude.{◌≡◌, ℕ, ◌+◌, ◌-◌, ◌<◌, ◌≤◌, true, false, IfOk, List, [], ◌∷◌, ◌++◌, length, map, take, drop}
 use Rattle.theory.specs.Terms.{Term, Var, lift}
 use Rattle.theory.specs.Substitutions.{inst, fill}
 use Rattle.theory.specs.Telescopes.{Telescope}

@@ -39,7 +39,12 @@ fn placed(
     let order = order.as_slice();
     let tele = arranged(alloc, order, n, types, 0, order, Items::new(alloc))?;
     let goal = arranged_goal(alloc, order, n, t, goal)?;
-    let variables = numbers(alloc, n, behind, numbers(alloc, n, front, Items::new(alloc))?)?;
+    let variables = numbers(
+        alloc,
+        n,
+        behind,
+        numbers(alloc, n, front, Items::new(alloc))?,
+    )?;
     Ok(Abstracted {
         tele,
         goal,
@@ -68,7 +73,15 @@ fn arranged_with(
     let behind = behind(alloc, n, types.as_slice())?;
     let front = others_from(alloc, behind.as_slice(), 0, n, Vec::new(alloc))?;
     types.push(lifted(alloc, ty, 1)?)?;
-    placed(alloc, n, t, types.as_slice(), goal, front.as_slice(), behind.as_slice())
+    placed(
+        alloc,
+        n,
+        t,
+        types.as_slice(),
+        goal,
+        front.as_slice(),
+        behind.as_slice(),
+    )
 }
 
 /// The abstraction of normal forms, where `ty` is the scrutinee's type.

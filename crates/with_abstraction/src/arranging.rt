@@ -22,13 +22,7 @@ fn place_in(order: &[u32], j: u32) -> u32
 {
     match order {
         [] => 0,
-        [i, rest @ ..] => {
-            if *i == j {
-                0
-            } else {
-                place_in(rest, j) + 1
-            }
-        }
+        [i, rest @ ..] => { if *i == j { 0 } else { place_in(rest, j) + 1 } }
     }
 }
 

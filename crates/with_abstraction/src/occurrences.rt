@@ -32,8 +32,7 @@ fn is_lifted(t: &Term, by: u32, from: u32, u: &Term) -> bool
             is_lifted(f, by, from, g) && is_lifted(a, by, from, b)
         }
         (Term::Let(a, v, b), Term::Let(c, w, d)) => {
-            is_lifted(a, by, from, c) && is_lifted(v, by, from, w)
-                && is_lifted(b, by, from + 1, d)
+            is_lifted(a, by, from, c) && is_lifted(v, by, from, w) && is_lifted(b, by, from + 1, d)
         }
         (Term::Const(c), Term::Const(d)) => d == c,
         (Term::Fam(f), Term::Fam(g)) => g == f,
@@ -53,12 +52,7 @@ fn is_occurrence(t: &Term, under: u32, u: &Term) -> bool
 }
 
 /// A term in which the variable `under` stands for each occurrence of `t`, and the variables from there on make room for it.
-pub(crate) fn without_under(
-    alloc: Global,
-    t: &Term,
-    under: u32,
-    u: &Term,
-) -> Result<Term, Stop>
+pub(crate) fn without_under(alloc: Global, t: &Term, under: u32, u: &Term) -> Result<Term, Stop>
     requires low { tree.height (tree_of t.now) ≤ 2000 }
     requires under { under + tree.height (tree_of u.now) ≤ 2000 }
     requires free { tree.free_of (tree_of u.now) ≤ 2147483648 + under }

@@ -25,13 +25,7 @@ pub(crate) fn lifted(alloc: Global, t: &Term, by: u32) -> Result<Term, Stop>
 /// The types of a context of `n` variables, the first of which is that of the variable with level `j`, each as a term over all `n`
 /// variables, behind those that are made.
 #[tactic(auto, using(tele_eq::proofs::Growing::growing))]
-fn widened(
-    alloc: Global,
-    n: u32,
-    j: u32,
-    types: &[Term],
-    mut made: Tele,
-) -> Result<Tele, Stop>
+fn widened(alloc: Global, n: u32, j: u32, types: &[Term], mut made: Tele) -> Result<Tele, Stop>
     requires types { AreTypesOver j (tele_of types.now) }
     requires few { n ≤ 2147483647 }
     requires levels { j + length types.now ≤ n }
@@ -88,12 +82,7 @@ fn opened(
 }
 
 /// The types of a context without `t`, one variable further in, where `ty` is the type of `t`.
-pub(crate) fn opened_types(
-    alloc: Global,
-    t: &Term,
-    ty: &Term,
-    types: &[Term],
-) -> Result<Tele, Stop>
+pub(crate) fn opened_types(alloc: Global, t: &Term, ty: &Term, types: &[Term]) -> Result<Tele, Stop>
     requires low { tree.height (tree_of t.now) ≤ 2000 }
     requires ty { tree.height (tree_of ty.now) ≤ 2000 }
     requires types { AreTypesOver 0 (tele_of types.now) }
@@ -104,5 +93,12 @@ pub(crate) fn opened_types(
 {
     let all = all_widened(alloc, types)?;
     let kept = needed(alloc, types.len() as u32, all.as_slice(), ty)?;
-    opened(alloc, t, kept.as_slice(), 0, all.as_slice(), Items::new(alloc))
+    opened(
+        alloc,
+        t,
+        kept.as_slice(),
+        0,
+        all.as_slice(),
+        Items::new(alloc),
+    )
 }

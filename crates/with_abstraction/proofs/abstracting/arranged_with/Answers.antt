@@ -1,4 +1,4 @@
-use Rattle.std.proofs.Common.{◌≡◌, List, ◌∷◌, [], ◌++◌, sym, ◌∙◌, subst as transport}
+use Rattle.std.proofs.Common.{List, sym, ◌∙◌, subst as transport}
 use Rattle.core_terms.specs.Meanings.{tree_of, tele_of}
 use Rattle.with_abstraction.specs.Conditions.{AreLow}
 use Rattle.with_abstraction.proofs.Widths.{low-end, levels-fit}

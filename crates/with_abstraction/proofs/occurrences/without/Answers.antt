@@ -1,4 +1,4 @@
-use Rattle.std.proofs.Common.{ℕ, ◌≤◌, arith}
+use Rattle.std.proofs.Common.{◌≤◌, arith}
 use Rattle.theory.specs.Terms.{height}
 use Rattle.core_terms.specs.Answers.{IsUnforeseen}
 use Rattle.core_terms.specs.Meanings.{tree_of}

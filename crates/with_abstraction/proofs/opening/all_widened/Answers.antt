@@ -1,4 +1,4 @@
-use Rattle.std.proofs.Common.{◌≡◌, List, length, sym, ◌∙◌, refl, subst as transport}
+use Rattle.std.proofs.Common.{◌≡◌, List, length, sym, ◌∙◌, refl}
 use Rattle.std.proofs.lemmas.List.{length-map}
 use Rattle.std.proofs.lemmas.Result.{IfOk-weaker}
 use Rattle.theory.specs.Terms.{Term}
@@ -6,7 +6,7 @@ use Rattle.core_terms.specs.Answers.{IsUnforeseen}
 use Rattle.core_terms.specs.Meanings.{tree_of, tele_of}
 use Rattle.core_terms.proofs.Answers.{stands-has}
 use Rattle.with_abstraction.specs.Conditions.{AreOver, AreLow}
-use Rattle.with_abstraction.proofs.Widths.{IsWide, is-wide_made}
+use Rattle.with_abstraction.proofs.Widths.{is-wide_made}
 use Rattle.with_abstraction.proofs.opening.all_widened.Goals as goal
 
 pub returns-clause-over : goal.returns-clause-over
