@@ -73,9 +73,9 @@ AbstractionScoped =
 
 -- ---- no occurrence is left
 
--- The new variable alone stands for the scrutinee in the goal: no other subterm of the new goal, one under binders neither, is the
--- scrutinee at the arguments.
--- The same holds of each type of the telescope, but not of those that the scrutinee's type needs.
+-- The new variable alone stands for the scrutinee: a term that occurs in the new goal, under binders too, and is the scrutinee at the
+-- arguments, is the new variable. The same holds of each type of the telescope, but not of those that the scrutinee's type needs; and
+-- it occurs in no type before its own.
 pub record LeavesNone (m : NormalForms) (type : Term) (a : Abstracted) : Type 0 where
   pub goal : (u : Term) → occurs u 0 a.goal ≡ true → at_terms (arguments m.scrutinee a) u ≡ m.scrutinee → u ≡ Var (length m.types - a.place)
   pub types : (j : ℕ) (u : Term) → j < length m.types

@@ -1,4 +1,4 @@
-ghost use Rattle.std.specs.Prelude.{◌≡◌, ◌≤◌, ◌<◌, ◌+◌, ◌-◌, ◌^◌, ◌++◌, [], ◌∷◌, IfOk, Ok, length, map};
+ghost use Rattle.std.specs.Prelude.{◌≡◌, ◌≤◌, ◌+◌, [], ◌∷◌, IfOk, Ok, length};
 ghost use Rattle.core_terms.specs.Answers.{Gives, Runs};
 ghost use Rattle.core_terms.specs.Meanings.{tree_of, tele_of};
 ghost use Rattle.theory.specs.Terms as tree;
@@ -7,7 +7,6 @@ ghost use Rattle.with_abstraction.specs.Abstractions as spec;
 ghost use Rattle.with_abstraction.specs.Conditions.{AreFormsOver, AreLow, IsOver};
 ghost use Rattle.with_abstraction.specs.Laws.{IsScopedAbstraction};
 ghost use Rattle.with_abstraction.specs.Meanings.{abstracted_of, forms_of};
-ghost use Rattle.with_abstraction.specs.Orders as orders;
 
 use crate::Abstracted;
 use crate::arranging::{arranged, arranged_goal};

@@ -1,9 +1,9 @@
-ghost use Rattle.std.specs.Prelude.{◌≡◌, ◌≤◌, ◌<◌, ◌+◌, ◌^◌, ◌++◌, IfOk, Ok, length};
+ghost use Rattle.std.specs.Prelude.{◌≡◌, ◌≤◌, ◌+◌, ◌++◌, IfOk, Ok, length};
 ghost use Rattle.core_terms.specs.Answers.{Gives};
 ghost use Rattle.core_terms.specs.Meanings.{tree_of, tele_of};
 ghost use Rattle.theory.specs.Terms as tree;
 ghost use Rattle.with_abstraction.specs.Abstractions as spec;
-ghost use Rattle.with_abstraction.specs.Conditions.{AreLow, AreOver, AreTypesOver, IsOver};
+ghost use Rattle.with_abstraction.specs.Conditions.{AreLow, AreOver, AreTypesOver};
 ghost use Rattle.with_abstraction.specs.Needed.{widened as wide};
 
 use crate::needed::needed;
