@@ -1,28 +1,34 @@
--- Trials of a deletion, which takes the first equation out, and of what is stuck.
-use Rattle.std.proofs.Common.{◌≡◌, ℕ, ◌+◌, ◌<◌, ◌⊎◌, inl, inr, [], ◌∷◌, length, drop, slice_get, Bool, true, false, cond, Some, Ok, refl, arith}
+-- What the trial of a deletion comes to, which takes the first equation out, and the last trial, which says why no rule goes on.
+use Rattle.std.proofs.Common.{◌≡◌, ℕ, ◌+◌, ◌<◌, ◌≤◌, ◌⊎◌, inl, inr, Bool, true, false, IsTrue, Some, List, [], ◌∷◌, length, drop, slice_get, refl, arith}
 use Rattle.theory.specs.Terms.{Term}
 use Rattle.theory.specs.Signatures.{Signature, reflexivity}
+use Rattle.theory.specs.Conversion.{Converts}
+use Rattle.theory.proofs.Congruence.{converts-trans, converts-sym}
+use Rattle.core_terms.specs.declared.case_tree.Rule.TheVariants.{Delete}
 use Rattle.core_terms.specs.Levels.{variable}
-use Rattle.kernel_reduce.specs.Comparison.{convertible_of}
-use Rattle.kernel_reduce.specs.Reduction.{nesting}
-use Rattle.kernel_reduce.specs.Tidying.{tidy_of}
 use Rattle.unification.specs.States.{Equation, State}
 use Rattle.unification.specs.Moving.{over_first, behind}
 use Rattle.unification.specs.Solving.{deleted_state}
 use Rattle.unification.specs.Runs.{size_of_sides}
 use Rattle.unification.specs.Heights.{bounded_state}
-use Rattle.unification.specs.Turns.{Sticks, sticks_at, type_in}
+use Rattle.unification.specs.Turns.{Goes, Sticks, type_in}
 use Rattle.unification.specs.Deletions.{deletion_step, delete, if_convertible, deletion_trial}
 use Rattle.unification.specs.Sticking.{why_stuck, stuck_trial}
 use Rattle.unification.specs.Laws.{Falls}
 use Rattle.unification.specs.Laws.Falls.{units, size}
+use Rattle.unification.specs.Rules.Steps.{delete as deleted}
+use Rattle.unification.specs.ScopedStates.{IsReady, IsScopedState}
 use Rattle.unification.specs.declared.why.Why.TheVariants.{NeedsK}
-use Rattle.kernel_reduce.proofs.ComparisonLaws.{convertible-spends}
-use Rattle.unification.proofs.SpentUnits.{Any, any-within, answered-within, and_next-within, at_most}
-use Rattle.unification.proofs.ReductionUnits.{tidy-within}
+use Rattle.unification.proofs.Cases.{less-or_same}
+use Rattle.unification.proofs.Comparisons.{compared-within}
+use Rattle.unification.proofs.MovedStates.{deleted_state-scoped}
+use Rattle.unification.proofs.Reducts.{reduced-within}
+use Rattle.unification.proofs.ScopedEquations.{bounded_state-has}
 use Rattle.unification.proofs.Sizes.{size-positive, sides-moved, sides-behind}
-use Rattle.unification.proofs.AllowedTurns.{IsOnward, Allows, IsTrial, none-is, goes_to-is, on_tidied-within, on_tidied-is, sticks_at-is, bounded_state-has}
+use Rattle.unification.proofs.Trials.{Found, Comes, none-comes, applies-comes, goes_to-comes, cond-comes, on_tidied-comes}
+use Rattle.unification.proofs.TurnProperties.{IsTurn, AreScopedSides, sticks-is, sticks_at-is, tried, first-at, type-scoped, first-as, single-scoped}
 
+-- the equations behind a deletion are smaller
 deleted-smaller : (s : State) (e : Equation) (i : ℕ) (A u : Term) → slice_get s.equations 0 ≡ Some e
     → size_of_sides (deleted_state s i A u).equations < size_of_sides s.equations
 deleted-smaller s e i A u at =
@@ -40,35 +46,58 @@ deleted-falls : (s : State) (left : ℕ) (e : Equation) (i : ℕ) (A u : Term) (
 deleted-falls s left e i A u rest at (inl less) = units less
 deleted-falls s left e i A u rest at (inr same) = size same refl (deleted-smaller s e i A u at)
 
-delete-is : (S : Signature) (s : State) (left : ℕ) (e : Equation) → slice_get s.equations 0 ≡ Some e → S.has_k ≡ true → IsTrial S s left (delete S s e)
-delete-is S s left e at k rest le =
-    and_next-within Any (Allows S s left) (tidy_of S rest (type_in e.type)) _ rest (tidy-within S rest (type_in e.type)) (λ A end l a.
-    on_tidied-within S s left e.left e.right _ end (λ u v end' l'.
-    goes_to-is S s left (deletion_step A u v) (bounded_state (deleted_state s e.place.level A u)) end'
-    (bounded_state-has (λ t. IsOnward S s left (deletion_step A u v) t end') (deleted_state s e.place.level A u)
+delete-is : (S : Signature) (s : State) (left : ℕ) (e : Equation) (others : List Equation) → s.equations ≡ e ∷ others → S.has_k ≡ true
+    → Converts S e.left e.right → (rest : ℕ) → rest ≤ left → Comes (IsTurn S s left) (delete S s e) rest
+delete-is S s left e others first on converts rest le =
+    reduced-within (Found (IsTurn S s left)) S false (type_in e.type) rest _ (λ A middle l hA.
+    on_tidied-comes (IsTurn S s left) S e.left e.right _ middle (λ u v end l' hu hv.
+    goes_to-comes (IsTurn S s left) (deletion_step A u v) (bounded_state (deleted_state s e.place.level A u)) end
+    (bounded_state-has (λ t. IsTurn S s left (Goes (deletion_step A u v) t) end) (deleted_state s e.place.level A u)
     (record {
-      falls = deleted-falls s left e e.place.level A u end' at (at_most end' left (omega arith));
-      whole = refl;
-      deletes = λ none. absurd cc;
+      allowed = record {
+        falls = deleted-falls s left e e.place.level A u end (first-at s e others first) (less-or_same end left (omega arith));
+        whole = refl;
+        deletes = λ none. absurd cc;
+      };
+      right = λ ready scoped.
+          (let is = tried S s e others first scoped in
+          let n = length s.context in
+          let type = hA.reduct.scoped n ready.scoped (type-scoped S s e is) in
+          let term = hu.scoped n ready.scoped is.equation.left in
+          record {
+            good = (
+              (
+                single-scoped S n Delete A u v type term (hv.scoped n ready.scoped is.equation.right),
+                deleted_state-scoped S s e.place.level A u ready scoped is.equation.level type term,
+              ),
+              refl,
+            );
+            follows =
+                deleted s e A u v on (first-as S s e A u v is hA.reduct.converts hu.converts hv.converts)
+                (converts-trans (converts-sym hu.converts) (converts-trans converts hv.converts));
+          });
     }))))
 
-if_convertible-is : (S : Signature) (s : State) (left : ℕ) (e : Equation) (holds : Bool) → slice_get s.equations 0 ≡ Some e
-    → IsTrial S s left (if_convertible S s e holds)
-if_convertible-is S s left e false at = none-is S s left
-if_convertible-is S s left e true at = by_case S.has_k refl
+sides-scoped : (S : Signature) (s : State) (e : Equation) (others : List Equation) → s.equations ≡ e ∷ others → IsReady S → IsScopedState S s
+    → AreScopedSides S s e.left e.right
+sides-scoped S s e others first ready scoped = let is = tried S s e others first scoped in (is.equation.left, is.equation.right)
+
+pub deletion_trial-is : (S : Signature) (s : State) (left : ℕ) (e : Equation) (others : List Equation) → s.equations ≡ e ∷ others → (rest : ℕ) → rest ≤ left
+    → Comes (IsTurn S s left) (deletion_trial S s e) rest
+deletion_trial-is S s left e others first rest le =
+    compared-within (Found (IsTurn S s left)) S e.left e.right rest (λ holds end. if_convertible S s e holds end) (λ holds end l h. by holds h end (omega arith))
   where
-    by_case : (k : Bool) → S.has_k ≡ k → IsTrial S s left (cond k (delete S s e) (sticks_at S NeedsK e.left e.right))
-    by_case true k = delete-is S s left e at k
-    by_case false k = sticks_at-is S s left NeedsK e.left e.right
+    by : (holds : Bool) → (IsTrue holds → Converts S e.left e.right) → (end : ℕ) → end ≤ left → Comes (IsTurn S s left) (if_convertible S s e holds) end
+    by true h end l =
+        cond-comes (IsTurn S s left) S.has_k _ _ end (λ on. delete-is S s left e others first on (h refl) end l)
+        (λ off. sticks_at-is S s left NeedsK e.left e.right end (sides-scoped S s e others first))
+    by false h end l = none-comes (IsTurn S s left) end
 
-pub deletion_trial-is : (S : Signature) (s : State) (left : ℕ) (e : Equation) → slice_get s.equations 0 ≡ Some e → IsTrial S s left (deletion_trial S s e)
-deletion_trial-is S s left e at rest le =
-    and_next-within Any (Allows S s left) (convertible_of S nesting e.left e.right rest) _ rest
-    (any-within rest (convertible_of S nesting e.left e.right rest) (convertible-spends S nesting e.left e.right rest)) (λ holds end l a.
-    if_convertible-is S s left e holds at end (omega arith))
+-- ---- no rule goes on
 
--- ---- stuck
-
-pub stuck_trial-is : (S : Signature) (s : State) (left : ℕ) (e : Equation) → IsTrial S s left (stuck_trial S e)
-stuck_trial-is S s left e =
-    on_tidied-is S s left e.left e.right _ (λ u v rest le. answered-within (Allows S s left) (Ok (Some (Sticks (why_stuck S u v) u v))) rest tt)
+pub stuck_trial-is : (S : Signature) (s : State) (left : ℕ) (e : Equation) (others : List Equation) → s.equations ≡ e ∷ others → (rest : ℕ)
+    → Comes (IsTurn S s left) (stuck_trial S e) rest
+stuck_trial-is S s left e others first rest =
+    on_tidied-comes (IsTurn S s left) S e.left e.right _ rest (λ u v end l hu hv.
+    applies-comes (IsTurn S s left) (Sticks (why_stuck S u v) u v) end
+    (sticks-is S s left (why_stuck S u v) e.left e.right u v end (sides-scoped S s e others first) hu hv))

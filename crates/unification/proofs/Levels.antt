@@ -1,6 +1,6 @@
 -- Lists of levels: which levels are among them, where, and in which order.
-use Rattle.std.proofs.Common.{◌≡◌, ℕ, zero, suc, ◌+◌, ◌<◌, ◌≤◌, ◌⊎◌, inl, inr, Bool, true, false, ◌||◌, ◌==◌, cond, Some, List, [], ◌∷◌, ◌++◌, length, slice_get, refl, ap, ◌∙◌, subst, arith, eq-eqb, add-one}
-use Rattle.std.proofs.lemmas.Bool.Decides.{Decides-eqb}
+use Rattle.std.proofs.Common.{◌≡◌, ℕ, zero, suc, ◌+◌, ◌<◌, ◌≤◌, ◌⊎◌, inl, inr, ◌==◌, ◌||◌, Bool, true, false, cond, Some, List, [], ◌∷◌, ◌++◌, length, slice_get, refl, ap, subst, ◌∙◌, arith, eq-eqb, add-one}
+use Rattle.std.proofs.lemmas.Bool.{eqb-true}
 use Rattle.tele_eq.specs.Items.{each_position}
 use Rattle.tele_eq.proofs.Carrying.{IsFrom}
 use Rattle.unification.specs.Occurrences.{is_among, without, place_in}
@@ -12,7 +12,7 @@ pub among-cases : (j i : ℕ) (levels : List ℕ) → is_among j (i ∷ levels) 
 among-cases j i levels h = by (i == j) refl h
   where
     by : (b : Bool) → (i == j) ≡ b → (b || is_among j levels) ≡ true → (i ≡ j) ⊎ (is_among j levels ≡ true)
-    by true e k = inl ((Decides-eqb i j).0 e)
+    by true e k = inl (eqb-true i j e)
     by false e k = inr k
 
 pub among-own : (i : ℕ) (levels : List ℕ) → is_among i (i ∷ levels) ≡ true
@@ -71,7 +71,7 @@ place-there (i ∷ levels) j h = by (place-there levels j) (i == j) refl h
     by : (is_among j levels ≡ true → (place_in levels j < length levels) × (slice_get levels (place_in levels j) ≡ Some j))
         → (b : Bool) → (i == j) ≡ b → (b || is_among j levels) ≡ true
         → (cond b 0 (place_in levels j + 1) < length (i ∷ levels)) × (slice_get (i ∷ levels) (cond b 0 (place_in levels j + 1)) ≡ Some j)
-    by rest true e k = (omega arith, ap Some ((Decides-eqb i j).0 e))
+    by rest true e k = (omega arith, ap Some (eqb-true i j e))
     by rest false e k =
         let low : place_in levels j < length levels = (rest k).0 in
         (omega arith, ap (λ x. slice_get (i ∷ levels) x) (add-one (place_in levels j)) ∙ (rest k).1)
@@ -120,7 +120,7 @@ without-first o out at (suc count) lt = by (without-first o out (at + 1) count (
         → (b : Bool) → (o == at) ≡ b
         → cond (b || is_among at out) (without (o ∷ out) (each_position (λ j. j) (at + 1) count)) (at ∷ without (o ∷ out) (each_position (λ j. j) (at + 1) count))
         ≡ cond (is_among at out) (without out (each_position (λ j. j) (at + 1) count)) (at ∷ without out (each_position (λ j. j) (at + 1) count))
-    by rest true e = let same : o ≡ at = (Decides-eqb o at).0 e in absurd (omega arith)
+    by rest true e = let same : o ≡ at = eqb-true o at e in absurd (omega arith)
     by rest false e = ap (λ (xs : List ℕ). cond (is_among at out) xs (at ∷ xs)) rest
 
 -- levels in order that are left out of so many make these so many fewer
@@ -153,7 +153,7 @@ length-without (o ∷ out) at (suc count) from low =
         → (b : Bool) → (o == at) ≡ b
         → length (cond (b || is_among at out) (without (o ∷ out) levels) (at ∷ without (o ∷ out) levels)) + length (o ∷ out) ≡ suc count
     by shorter same true e =
-        let is : o ≡ at = (Decides-eqb o at).0 e in
+        let is : o ≡ at = eqb-true o at e in
         let rest : length (without out levels) + length out ≡ count =
         shorter (from-lower (at + 1) (o + 1) out (omega arith) from.1)
         (λ j k. let lt : j < at + suc count = low j (among-later j o out k) in omega arith) in

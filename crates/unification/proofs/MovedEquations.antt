@@ -1,17 +1,15 @@
 -- Equations that move behind other variables are scoped there, where what stands for their variables is.
-use Rattle.std.proofs.Common.{◌≡◌, ℕ, zero, suc, ◌+◌, ◌-◌, ◌<◌, ◌≤◌, ◌⊎◌, inl, inr, nat_lt, cond, IfSome, List, [], ◌∷◌, ◌++◌, length, drop, slice_get, All, ap, subst, arith}
-use Rattle.std.proofs.lemmas.Bool.Decides.{nat_tests}
+use Rattle.std.proofs.Common.{◌≡◌, ℕ, zero, suc, ◌+◌, ◌-◌, ◌<◌, ◌≤◌, ◌⊎◌, inl, inr, IfSome, List, [], ◌∷◌, ◌++◌, length, drop, slice_get, All, ap, sym, subst, arith}
 use Rattle.theory.specs.Terms.{Term}
 use Rattle.theory.specs.Signatures.{Signature}
 use Rattle.theory.specs.SignatureScopes.{IsScoped}
 use Rattle.theory.proofs.ScopedTerms.{var-scoped, scoped_over_more}
-use Rattle.core_terms.specs.Levels.{variable}
 use Rattle.tele_eq.specs.Environments.{Environment, put}
 use Rattle.tele_eq.proofs.ScopedTerms.{in-outside}
 use Rattle.unification.specs.Moving.{over_first, behind, moved_item, moved}
 use Rattle.unification.specs.ScopedStates.{HasForm, IsScopedEquation, AreScopedEquations}
 use Rattle.unification.specs.States.{Equation}
-use Rattle.unification.proofs.Cases.{below-or_from}
+use Rattle.unification.proofs.Cases.{below-or_from, first-of_three, second-of_three, third-of_three}
 use Rattle.unification.proofs.Occurring.{put-all}
 
 pub equations-more : (S : Signature) (n k l : ℕ) (es : List Equation) → k ≡ l → AreScopedEquations S n k es → AreScopedEquations S n l es
@@ -50,24 +48,12 @@ pub behind-stands : (S : Signature) (n count new : ℕ) (variables places : Envi
     → ((j d : ℕ) → new ≤ d → IsScoped S d (places d j)) → StandsFrom S (n + count) new (behind n count new variables places)
 behind-stands S n count new variables places own placed i j d lt le = by (below-or_from j n) (below-or_from j (n + count))
   where
-    first : (x y w : Term) → j < n → x ≡ cond (nat_lt j n) x (cond (nat_lt j (n + count)) y w)
-    first x y w h = grind (arith, nat_tests)
-
-    second : (x y w : Term) → n ≤ j → j < n + count → y ≡ cond (nat_lt j n) x (cond (nat_lt j (n + count)) y w)
-    second x y w h k = grind (arith, nat_tests)
-
-    third : (x y w : Term) → n ≤ j → n + count ≤ j → w ≡ cond (nat_lt j n) x (cond (nat_lt j (n + count)) y w)
-    third x y w h k = grind (arith, nat_tests)
-
-    further : Term
-    further = variable d (new + (j - (n + count)))
-
     by : (j < n) ⊎ (n ≤ j) → (j < n + count) ⊎ (n + count ≤ j) → IsScoped S d (behind n count new variables places d j)
-    by (inl h) _ = subst (IsScoped S d) (first (variables d j) (places d (j - n)) (variable d (new + (j - (n + count)))) h) (own j d h (omega arith))
+    by (inl h) _ = subst (IsScoped S d) (sym (first-of_three j n (n + count) _ _ _ h)) (own j d h (omega arith))
     by (inr h) (inl k) =
-        subst (IsScoped S d) (second (variables d j) (places d (j - n)) (variable d (new + (j - (n + count)))) h k) (placed (j - n) d (omega arith))
+        subst (IsScoped S d) (sym (second-of_three j n (n + count) _ _ _ h k)) (placed (j - n) d (omega arith))
     by (inr h) (inr k) =
-        subst (IsScoped S d) (third (variables d j) (places d (j - n)) (variable d (new + (j - (n + count)))) h k) (var-scoped (omega arith))
+        subst (IsScoped S d) (sym (third-of_three j n (n + count) _ _ _ h k)) (var-scoped (omega arith))
 
 -- ---- moved equations
 

@@ -1,7 +1,7 @@
 -- The states behind a solution, a deletion and an injectivity are scoped.
-use Rattle.std.proofs.Common.{◌≡◌, ℕ, zero, suc, ◌+◌, ◌-◌, ◌<◌, ◌≤◌, inl, inr, true, ◌==◌, Some, List, [], ◌∷◌, ◌++◌, length, map, drop, slice_get, All, IfOk, refl, sym, ap, ◌∙◌, subst, arith, eq-eqb}
-use Rattle.std.proofs.lemmas.Bool.Decides.{Decides-eqb}
-use Rattle.std.proofs.lemmas.List.Elements.{All-nil, All-cons, All-weaker, All-map}
+use Rattle.std.proofs.Common.{◌≡◌, ℕ, ◌+◌, ◌-◌, ◌<◌, ◌≤◌, inl, inr, ◌==◌, true, Some, IfOk, List, [], ◌∷◌, ◌++◌, length, map, drop, slice_get, All, refl, sym, subst, ◌∙◌, arith, eq-eqb}
+use Rattle.std.proofs.lemmas.List.Elements.{All-weaker, All-map}
+use Rattle.std.proofs.lemmas.Bool.{eqb-true}
 use Rattle.theory.specs.Terms.{Term, top}
 use Rattle.theory.specs.Telescopes.{Telescope, variables}
 use Rattle.theory.specs.Families.{Family, Constructor}
@@ -9,13 +9,13 @@ use Rattle.theory.specs.PreludeFamilies.{equality_family}
 use Rattle.theory.specs.Signatures.{Signature, FamilyOf, IsEntryAt, reflexivity}
 use Rattle.theory.specs.SignatureScopes.{IsScoped}
 use Rattle.theory.proofs.ScopedTerms.{app-scoped, var-scoped}
+use Rattle.theory.proofs.Lists.{only}
 use Rattle.core_terms.specs.Levels.{variable}
 use Rattle.core_terms.specs.Answers.{bounded_terms}
 use Rattle.core_terms.proofs.Answers.{and_then-has, and_then-is}
 use Rattle.tele_eq.specs.Environments.{put}
-use Rattle.tele_eq.specs.Items.{Item, each_position}
 use Rattle.tele_eq.specs.ScopeLaws.{HasAllIdentities}
-use Rattle.tele_eq.specs.TelescopicEquality.{equations, equation_behind}
+use Rattle.tele_eq.specs.TelescopicEquality.{equations}
 use Rattle.tele_eq.proofs.Growing.{append-none}
 use Rattle.tele_eq.proofs.ScopeLaws.{scoped_congruences}
 use Rattle.unification.specs.Heights.{bounded_state, equations_made, group_made, injected_made, injection_made}
@@ -33,14 +33,12 @@ use Rattle.unification.proofs.Occurring.{put-all}
 use Rattle.unification.proofs.ScopedEquations.{telescope-equations, bounded_state-has}
 use Rattle.unification.proofs.ScopedRecords.{variables-scoped, lifted-scoped, length-argument_items, argument_items-scoped, family_items-scoped, constructor_terms-scoped}
 use Rattle.unification.proofs.SolvedContexts.{IsOver, other-among, over-others, length-order, length-new_context, reordered-term, solved-scoped, solved_context-scoped}
+use Rattle.unification.proofs.Counts.{length-equations, length-equations_at}
 
-pub reflexivity-scoped : (S : Signature) (n i : ℕ) (A u : Term) → HasAllIdentities S → i < top → IsScoped S n A → IsScoped S n u
+reflexivity-scoped : (S : Signature) (n i : ℕ) (A u : Term) → HasAllIdentities S → i < top → IsScoped S n A → IsScoped S n u
     → IsScoped S n (reflexivity i A u)
 reflexivity-scoped S n i A u has low h k =
     app-scoped (app-scoped (record { variables = omega arith; entries = (equality_family i, (has i low).entry, omega arith) }) h) k
-
-one : (S : Signature) (n : ℕ) (t : Term) → IsScoped S n t → All (IsScoped S n) (t ∷ [])
-one S n t h = All-cons (IsScoped S n) t [] h (All-nil (IsScoped S n))
 
 variable-scoped : (S : Signature) (j d : ℕ) → j < d → IsScoped S d (variable d j)
 variable-scoped S j d lt = var-scoped (omega arith)
@@ -63,17 +61,17 @@ solved_state-scoped S s i p A u ready scoped lt low ha hu fa fu =
     let s' = solved n order p u in
     let A' = put (reordered order) n m A in
     let u' = put (reordered order) n m u in
-    let counted : length (new_context s.context s' 0 order) ≡ m = length-new_context s.context n p u order order 0 in
+    let counted : length (new_context s.context s' 0 order) ≡ m = length-new_context s.context s' 0 order in
     let whole : order ≡ order ++ [] = sym (append-none order) in
     let moved_A : IsScoped S m A' = reordered-term S n order order [] A m whole ha (lacking-over s.context p A fa) (omega arith) in
     let moved_u : IsScoped S m u' = reordered-term S n order order [] u m whole hu (lacking-over s.context p u fu) (omega arith) in
     let own : (j d : ℕ) → j < n → m ≤ d → IsScoped S d (s' d j) = λ j d below le. each j d below le in
     let items : StandsFrom S (n + 1) m (behind n 1 m s' (over_first m (u' ∷ []))) =
-    behind-stands S n 1 m s' (over_first m (u' ∷ [])) own (λ j d le. over_first-scoped S m (u' ∷ []) j d (one S m u' moved_u) le) in
+    behind-stands S n 1 m s' (over_first m (u' ∷ [])) own (λ j d le. over_first-scoped S m (u' ∷ []) j d (only (IsScoped S m) u' moved_u) le) in
     let equal = reflexivity i A' u' in
     let types : StandsFrom S (n + 1) m (behind n 1 m s' (over_first m (equal ∷ []))) =
     behind-stands S n 1 m s' (over_first m (equal ∷ [])) own
-    (λ j d le. over_first-scoped S m (equal ∷ []) j d (one S m equal (reflexivity-scoped S m i A' u' ready.identities low moved_A moved_u)) le) in
+    (λ j d le. over_first-scoped S m (equal ∷ []) j d (only (IsScoped S m) equal (reflexivity-scoped S m i A' u' ready.identities low moved_A moved_u)) le) in
     let side : (t : Term) → IsScoped S n t → IsScoped S m (put s' n m t) = λ t h. put-all S s' n m t (λ j below d le. own j d below le) h in
     record {
       context = solved_context-scoped S s.context p u scoped.context lt hu fu;
@@ -91,7 +89,7 @@ solved_state-scoped S s i p A u ready scoped lt low ha hu fa fu =
     each j d below le =
         solved-scoped S (length s.context) p u (order_without s.context p) (order_without s.context p) [] j d (sym (append-none (order_without s.context p))) hu
         (elim (either (j == p)) [
-          | inl same ↦ inr ((Decides-eqb j p).0 same, lacking-over s.context p u fu)
+          | inl same ↦ inr (eqb-true j p same, lacking-over s.context p u fu)
           | inr not_same ↦
               let other : j ≡ p → ⊥ = (λ (e : j ≡ p). let t : (j == p) ≡ true = eq-eqb j p e in cc) in
               inl (other, other-among s.context p j below other)
@@ -103,7 +101,7 @@ pub solved_state-context : (s : State) (i p : ℕ) (A u : Term) → p < length s
 solved_state-context s i p A u lt =
     let order = order_without s.context p in
     let counted : length (new_context s.context (solved (length s.context) order p u) 0 order) ≡ length order =
-    length-new_context s.context (length s.context) p u order order 0 in
+    length-new_context s.context (solved (length s.context) order p u) 0 order in
     let fewer : length order + 1 ≡ length s.context = length-order s.context p lt in
     counted ∙ omega arith
 
@@ -116,10 +114,10 @@ deleted_state-scoped S s i A u ready scoped low ha hu =
     let equal = reflexivity i A u in
     let own : (j d : ℕ) → j < n → n ≤ d → IsScoped S d (variable d j) = λ j d lt le. variable-scoped S j d (omega arith) in
     let items : StandsFrom S (n + 1) n (behind n 1 n variable (over_first n (u ∷ []))) =
-    behind-stands S n 1 n variable (over_first n (u ∷ [])) own (λ j d le. over_first-scoped S n (u ∷ []) j d (one S n u hu) le) in
+    behind-stands S n 1 n variable (over_first n (u ∷ [])) own (λ j d le. over_first-scoped S n (u ∷ []) j d (only (IsScoped S n) u hu) le) in
     let types : StandsFrom S (n + 1) n (behind n 1 n variable (over_first n (equal ∷ []))) =
     behind-stands S n 1 n variable (over_first n (equal ∷ [])) own
-    (λ j d le. over_first-scoped S n (equal ∷ []) j d (one S n equal (reflexivity-scoped S n i A u ready.identities low ha hu)) le) in
+    (λ j d le. over_first-scoped S n (equal ∷ []) j d (only (IsScoped S n) equal (reflexivity-scoped S n i A u ready.identities low ha hu)) le) in
     record {
       context = scoped.context;
       equations =
@@ -141,19 +139,6 @@ pub record IsInjection (S : Signature) (m n number : ℕ) (f : Family) (c : Cons
   pub right : All (IsScoped S m) vs
   pub left_length : length us ≡ length c.arguments
   pub right_length : length vs ≡ length c.arguments
-
-length-each : (f : ℕ → Term) (j count : ℕ) → length (each_position f j count) ≡ count
-length-each f j zero = refl
-length-each f j (suc count) = ap suc (length-each f (j + 1) count)
-
-length-equations_at : (X : List Item) (types : Telescope) (us vs : List Term) → length types ≡ length X → length us ≡ length X → length vs ≡ length X
-    → length (equations_at X types us vs) ≡ length X
-length-equations_at [] types us vs a b c = refl
-length-equations_at (x ∷ X) [] us vs a b c = absurd (omega arith)
-length-equations_at (x ∷ X) (t ∷ types) [] vs a b c = absurd (omega arith)
-length-equations_at (x ∷ X) (t ∷ types) (u ∷ us) [] a b c = absurd (omega arith)
-length-equations_at (x ∷ X) (t ∷ types) (u ∷ us) (v ∷ vs) a b c =
-    ap suc (length-equations_at X types us vs (omega arith) (omega arith) (omega arith))
 
 group_proofs-scoped : (S : Signature) (m n number : ℕ) (f : Family) (c : Constructor) (ps us vs : List Term) → IsReady S
     → IsInjection S m n number f c ps us vs → All (IsScoped S (m + length c.arguments)) (group_proofs n number f c ps us vs)
@@ -187,7 +172,7 @@ injected_state-scoped S s g n number f c ps us vs ready scoped is =
     let first = equations_at X (equations X us vs) us vs in
     let counted : length X ≡ length c.arguments = length-argument_items n ps c in
     let many : length first ≡ length X =
-    length-equations_at X (equations X us vs) us vs (length-each (equation_behind (length X) X us vs) 0 (length X)) (is.left_length ∙ sym counted)
+    length-equations_at X (equations X us vs) us vs (length-equations X us vs) (is.left_length ∙ sym counted)
     (is.right_length ∙ sym counted) in
     let others = moved (behind m g new variable (over_first new terms)) (behind m g new variable (over_first new proofs)) (λ t. t) (m + g) new (drop g s.equations) in
     record {

@@ -1,6 +1,6 @@
 -- Only what stands for the variables that occur in a term decides where it is scoped: renamed, and with terms put for variables.
-use Rattle.std.proofs.Common.{◌≡◌, ℕ, zero, suc, ◌+◌, ◌-◌, ◌<◌, ◌≤◌, ◌⊎◌, inl, inr, Bool, true, false, ◌||◌, nat_lt, cond, refl, ap, subst, arith, eq-eqb}
-use Rattle.std.proofs.lemmas.Bool.Decides.{nat_tests}
+use Rattle.std.proofs.Common.{◌≡◌, ℕ, zero, suc, ◌+◌, ◌-◌, ◌<◌, ◌≤◌, ◌⊎◌, inl, inr, ◌||◌, Bool, true, refl, sym, subst, arith, eq-eqb}
+use Rattle.std.proofs.lemmas.Bool.{or_left, or_right}
 use Rattle.theory.specs.Terms.{Term, free_of}
 use Rattle.theory.specs.Terms.Term.{Var, Sort, Pi, Lam, App, Let, Const, Fam, Con, Elim, AxiomK}
 use Rattle.theory.specs.Substitutions.{up, ren}
@@ -9,20 +9,11 @@ use Rattle.theory.specs.SignatureScopes.{HasEntries, IsScoped}
 use Rattle.theory.proofs.ScopedTerms.{scoped-pi, scoped-lam, scoped-app, scoped-let, pi-scoped, lam-scoped, app-scoped, let-scoped, var-scoped, scoped_over_more}
 use Rattle.tele_eq.specs.Dependences.{has_variable}
 use Rattle.tele_eq.specs.Environments.{Environment, put, put_under, put_variable}
-use Rattle.unification.proofs.Cases.{below-or_from}
-
-or-left : (a b : Bool) → a ≡ true → (a || b) ≡ true
-or-left a b e = ap (λ x. x || b) e
-
-or-right : (a b : Bool) → b ≡ true → (a || b) ≡ true
-or-right true b e = refl
-or-right false b e = e
+use Rattle.unification.proofs.Cases.{below-or_from, first-of_three, second-of_three}
+use Rattle.unification.proofs.Variables.{variable-below}
 
 leaf : (S : Signature) (t : Term) (m : ℕ) → HasEntries S t → free_of t ≡ 0 → IsScoped S m t
 leaf S t m e f = record { variables = omega arith; entries = e }
-
-variable-below : {S : Signature} {n v : ℕ} → IsScoped S n (Var v) → v < n
-variable-below k = omega (arith, k.variables)
 
 -- ---- renaming
 
@@ -40,20 +31,20 @@ pub ren-where : (S : Signature) (r : ℕ → ℕ) (n m : ℕ) (t : Term) → Ren
 ren-where S r n m (Var v) h k =
     let lt : v < n = variable-below k in var-scoped (h v lt (eq-eqb v v refl))
 ren-where S r n m (Pi a b) h k =
-    pi-scoped (ren-where S r n m a (λ v lt o. h v lt (or-left (has_variable v a) (has_variable (v + 1) b) o)) (scoped-pi k).0)
-    (ren-where S (up r) (n + 1) (m + 1) b (renames-under r n m b (λ v lt o. h v lt (or-right (has_variable v a) (has_variable (v + 1) b) o))) (scoped-pi k).1)
+    pi-scoped (ren-where S r n m a (λ v lt o. h v lt (or_left (has_variable v a) (has_variable (v + 1) b) o)) (scoped-pi k).0)
+    (ren-where S (up r) (n + 1) (m + 1) b (renames-under r n m b (λ v lt o. h v lt (or_right (has_variable v a) (has_variable (v + 1) b) o))) (scoped-pi k).1)
 ren-where S r n m (Lam a b) h k =
-    lam-scoped (ren-where S r n m a (λ v lt o. h v lt (or-left (has_variable v a) (has_variable (v + 1) b) o)) (scoped-lam k).0)
-    (ren-where S (up r) (n + 1) (m + 1) b (renames-under r n m b (λ v lt o. h v lt (or-right (has_variable v a) (has_variable (v + 1) b) o))) (scoped-lam k).1)
+    lam-scoped (ren-where S r n m a (λ v lt o. h v lt (or_left (has_variable v a) (has_variable (v + 1) b) o)) (scoped-lam k).0)
+    (ren-where S (up r) (n + 1) (m + 1) b (renames-under r n m b (λ v lt o. h v lt (or_right (has_variable v a) (has_variable (v + 1) b) o))) (scoped-lam k).1)
 ren-where S r n m (App f a) h k =
-    app-scoped (ren-where S r n m f (λ v lt o. h v lt (or-left (has_variable v f) (has_variable v a) o)) (scoped-app k).0)
-    (ren-where S r n m a (λ v lt o. h v lt (or-right (has_variable v f) (has_variable v a) o)) (scoped-app k).1)
+    app-scoped (ren-where S r n m f (λ v lt o. h v lt (or_left (has_variable v f) (has_variable v a) o)) (scoped-app k).0)
+    (ren-where S r n m a (λ v lt o. h v lt (or_right (has_variable v f) (has_variable v a) o)) (scoped-app k).1)
 ren-where S r n m (Let a t b) h k =
     let-scoped
-    (ren-where S r n m a (λ v lt o. h v lt (or-left (has_variable v a || has_variable v t) (has_variable (v + 1) b) (or-left (has_variable v a) (has_variable v t) o))) (scoped-let k).0)
-    (ren-where S r n m t (λ v lt o. h v lt (or-left (has_variable v a || has_variable v t) (has_variable (v + 1) b) (or-right (has_variable v a) (has_variable v t) o))) (scoped-let k).1)
+    (ren-where S r n m a (λ v lt o. h v lt (or_left (has_variable v a || has_variable v t) (has_variable (v + 1) b) (or_left (has_variable v a) (has_variable v t) o))) (scoped-let k).0)
+    (ren-where S r n m t (λ v lt o. h v lt (or_left (has_variable v a || has_variable v t) (has_variable (v + 1) b) (or_right (has_variable v a) (has_variable v t) o))) (scoped-let k).1)
     (ren-where S (up r) (n + 1) (m + 1) b
-    (renames-under r n m b (λ v lt o. h v lt (or-right (has_variable v a || has_variable v t) (has_variable (v + 1) b) o))) (scoped-let k).2)
+    (renames-under r n m b (λ v lt o. h v lt (or_right (has_variable v a || has_variable v t) (has_variable (v + 1) b) o))) (scoped-let k).2)
 ren-where S r n m (Sort i) h k = leaf S (Sort i) m k.entries refl
 ren-where S r n m (Const i) h k = leaf S (Const i) m k.entries refl
 ren-where S r n m (Fam i) h k = leaf S (Fam i) m k.entries refl
@@ -72,19 +63,13 @@ put-variable_where : (S : Signature) (z : Environment) (size d under v : ℕ) �
     → IsScoped S (d + under) (put_variable z size d under v)
 put-variable_where S z size d under v low lt = by (below-or_from v under)
   where
-    own : (x y w : Term) → v < under → x ≡ cond (nat_lt v under) x (cond (nat_lt v (size + under)) y w)
-    own x y w h = grind (arith, nat_tests)
-
-    placed : (x y w : Term) → under ≤ v → v < size + under → y ≡ cond (nat_lt v under) x (cond (nat_lt v (size + under)) y w)
-    placed x y w le h = grind (arith, nat_tests)
-
     by : (v < under) ⊎ (under ≤ v) → IsScoped S (d + under) (put_variable z size d under v)
     by (inl h) =
-        subst (IsScoped S (d + under)) (own (Var v) (z (d + under) (size + under - (v + 1))) (Var (v - size + d)) h) (var-scoped (omega arith))
+        subst (IsScoped S (d + under)) (sym (first-of_three v under (size + under) _ _ _ h)) (var-scoped (omega arith))
     by (inr le) =
         let p = size + under - (v + 1) in
         let same : v ≡ size - (p + 1) + under = omega arith in
-        subst (IsScoped S (d + under)) (placed (Var v) (z (d + under) p) (Var (v - size + d)) le lt)
+        subst (IsScoped S (d + under)) (sym (second-of_three v under (size + under) _ _ _ le lt))
         (low p (omega arith) (eq-eqb v (size - (p + 1) + under) same) (d + under) (omega arith))
 
 put-under_where : (S : Signature) (z : Environment) (size d : ℕ) (t : Term) (under : ℕ) → IsPutUnder S z size d under t → IsScoped S (size + under) t
@@ -100,19 +85,19 @@ put-under_where S z size d t under h k = each t under h k
     first : (under : ℕ) (a : Term) (other : ℕ → Bool)
         → ((p : ℕ) → p < size → (has_variable (size - (p + 1) + under) a || other p) ≡ true → (d' : ℕ) → d ≤ d' → IsScoped S d' (z d' p))
         → IsPutUnder S z size d under a
-    first under a other h p lt o = h p lt (or-left (has_variable (size - (p + 1) + under) a) (other p) o)
+    first under a other h p lt o = h p lt (or_left (has_variable (size - (p + 1) + under) a) (other p) o)
 
     second : (under : ℕ) (a : Term) (other : ℕ → Bool)
         → ((p : ℕ) → p < size → (other p || has_variable (size - (p + 1) + under) a) ≡ true → (d' : ℕ) → d ≤ d' → IsScoped S d' (z d' p))
         → IsPutUnder S z size d under a
-    second under a other h p lt o = h p lt (or-right (other p) (has_variable (size - (p + 1) + under) a) o)
+    second under a other h p lt o = h p lt (or_right (other p) (has_variable (size - (p + 1) + under) a) o)
 
     body : (under : ℕ) (b : Term) (other : ℕ → Bool)
         → ((p : ℕ) → p < size → (other p || has_variable (size - (p + 1) + under + 1) b) ≡ true → (d' : ℕ) → d ≤ d' → IsScoped S d' (z d' p))
         → IsPutUnder S z size d (under + 1) b
     body under b other h p lt o =
         h p lt
-        (or-right (other p) (has_variable (size - (p + 1) + under + 1) b)
+        (or_right (other p) (has_variable (size - (p + 1) + under + 1) b)
         (subst (λ x. has_variable x b ≡ true) (let e : size - (p + 1) + (under + 1) ≡ size - (p + 1) + under + 1 = omega arith in e) o))
 
     each : (t : Term) (under : ℕ) → IsPutUnder S z size d under t → IsScoped S (size + under) t → IsScoped S (d + under) (put_under z size d under t)
@@ -133,7 +118,7 @@ put-under_where S z size d t under h k = each t under h k
     each (Let a t b) under h k =
         let others : ℕ → Bool = λ p. has_variable (size - (p + 1) + under + 1) b in
         let both : ℕ → Bool = λ p. has_variable (size - (p + 1) + under) a || has_variable (size - (p + 1) + under) t in
-        let outer : (p : ℕ) → p < size → both p ≡ true → (d' : ℕ) → d ≤ d' → IsScoped S d' (z d' p) = λ p lt o. h p lt (or-left (both p) (others p) o) in
+        let outer : (p : ℕ) → p < size → both p ≡ true → (d' : ℕ) → d ≤ d' → IsScoped S d' (z d' p) = λ p lt o. h p lt (or_left (both p) (others p) o) in
         let-scoped (each a under (first under a (λ p. has_variable (size - (p + 1) + under) t) outer) (scoped-let k).0)
         (each t under (second under t (λ p. has_variable (size - (p + 1) + under) a) outer) (scoped-let k).1)
         (back under (put_under z size d (under + 1) b) (each b (under + 1) (body under b both h) (next under b (scoped-let k).2)))

@@ -1,6 +1,5 @@
 -- Runs: from each state there is one, and no other.
-use Rattle.std.proofs.Common.{◌≡◌, ◌≢◌, ℕ, zero, suc, ◌<◌, ◌≤◌, nat_lt, cond, Option, Some, None, Result, Ok, Err, IfOk, [], ◌∷◌, length, refl, ap, ap₂, subst, sym, ◌∙◌, arith}
-use Rattle.std.proofs.lemmas.Bool.Decides.{nat_tests}
+use Rattle.std.proofs.Common.{◌≡◌, ◌≢◌, ℕ, zero, suc, ◌<◌, ◌≤◌, Option, Some, None, Result, Ok, Err, IfOk, [], ◌∷◌, length, refl, ap, ap₂, sym, subst, ◌∙◌, arith}
 use Rattle.theory.specs.Signatures.{Signature}
 use Rattle.core_terms.specs.Answers.{Spent, on_answer}
 use Rattle.core_terms.specs.CaseTrees.{Step}
@@ -15,6 +14,7 @@ use Rattle.unification.specs.Runs.Run.{ends, refused, goes}
 use Rattle.unification.specs.Laws.{Falls, RunsEnd, RunIsUnique}
 use Rattle.unification.specs.Laws.Falls.{units, variables, size}
 use Rattle.unification.proofs.TurnLaws.{turn-is_there, turn-falls}
+use Rattle.unification.proofs.Cases.{first-of_two, second-of_two}
 
 -- a going comes to a run from this state on
 abbrev IsRunOf : Signature → Going → State → ℕ → Type 0
@@ -48,20 +48,17 @@ measured-runs : (S : Signature) (fewer shorter smaller : Going) (s t : State) (l
     → (rest ≡ left → length t.context ≡ length s.context → size_of_sides t.equations < size_of_sides s.equations → IsRunOf S smaller t rest)
     → IsRunOf S (by_measure fewer shorter smaller s left) t rest
 measured-runs S fewer shorter smaller s t left rest (units less) h k l =
-    subst (λ r. Run S t rest r.0 r.1) (first (fewer t rest) _ less) (h t rest less)
-  where
-    first : (x y : Spent Outcome) → rest < left → x ≡ cond (nat_lt rest left) x y
-    first x y lt = grind (arith, nat_tests)
+    subst (λ r. Run S t rest r.0 r.1) (sym (first-of_two rest left (fewer t rest) _ less)) (h t rest less)
 measured-runs S fewer shorter smaller s t left rest (variables same less) h k l =
-    subst (λ r. Run S t rest r.0 r.1) (second (fewer t rest) (shorter t rest) (smaller t rest)) (subst (λ n. IsRunOf S shorter t n) (sym same) (k t less))
-  where
-    second : (x y z : Spent Outcome) → y ≡ cond (nat_lt rest left) x (cond (nat_lt (length t.context) (length s.context)) y z)
-    second x y z = grind (arith, nat_tests)
+    subst (λ r. Run S t rest r.0 r.1)
+    (sym (second-of_two rest left (fewer t rest) _ (omega arith)
+    ∙ first-of_two (length t.context) (length s.context) (shorter t rest) (smaller t rest) less))
+    (subst (λ n. IsRunOf S shorter t n) (sym same) (k t less))
 measured-runs S fewer shorter smaller s t left rest (size same same' less) h k l =
-    subst (λ r. Run S t rest r.0 r.1) (third (fewer t rest) (shorter t rest) (smaller t rest)) (l same same' less)
-  where
-    third : (x y z : Spent Outcome) → z ≡ cond (nat_lt rest left) x (cond (nat_lt (length t.context) (length s.context)) y z)
-    third x y z = grind (arith, nat_tests)
+    subst (λ r. Run S t rest r.0 r.1)
+    (sym (second-of_two rest left (fewer t rest) _ (omega arith)
+    ∙ second-of_two (length t.context) (length s.context) (shorter t rest) (smaller t rest) (omega arith)))
+    (l same same' less)
 
 by_size-runs : (S : Signature) (fewer shorter : Going) (n : ℕ) (s : State) (left : ℕ) → size_of_sides s.equations ≤ n
     → ((t : State) (rest : ℕ) → rest < left → IsRunOf S fewer t rest)

@@ -1,11 +1,13 @@
 -- A signature for examples: behind the prelude Nat, Fin, Has, Box, Vec, K, W, D, Tk, Het, Tree, and constants.
-use Rattle.std.proofs.Common.{ℕ, zero, suc, Bool, [], ◌∷◌, ◌++◌}
+use Rattle.std.proofs.Common.{ℕ, zero, suc, Bool, List, [], ◌∷◌, ◌++◌}
 use Rattle.theory.specs.Terms.{Term}
 use Rattle.theory.specs.Terms.Term.{Var, Sort, Pi, Lam, App, Const, Fam, Con}
-use Rattle.theory.specs.Telescopes.{applied}
-use Rattle.theory.specs.Families.{Plain, Recursive, Family}
+use Rattle.theory.specs.Telescopes.{Telescope, applied}
+use Rattle.theory.specs.Families.{Argument, Plain, Recursive, Constructor, Family}
 use Rattle.theory.specs.Prelude.{prelude}
 use Rattle.theory.specs.Signatures.{Signature, FamilyOf, Definition}
+use Rattle.core_terms.specs.CaseTrees.{Step}
+use Rattle.core_terms.specs.declared.case_tree.Rule.{Rule}
 use Rattle.tele_eq.specs.Items.{Item}
 
 abbrev pub item : Term → Item
@@ -31,9 +33,6 @@ fsuc n i = App (App (Con 47 1) n) i
 
 abbrev pub Has : Term → Term → Term
 Has n i = App (App (Fam 48) n) i
-
-abbrev pub here_term : Term → Term
-here_term n = App (Con 48 0) n
 
 abbrev pub there_term : Term → Term → Term → Term
 there_term n i h = App (App (App (Con 48 1) n) i) h
@@ -93,156 +92,83 @@ up n = App (Const 55) n
 abbrev pub one : Term
 one = Const 56
 
+abbrev constructor_with : List Argument → (targets : List Term) → Constructor
+constructor_with arguments targets = record { name = []; arguments = arguments; targets = targets }
+
+abbrev family_with : (parameters : Telescope) → (indices : List (Term × ℕ)) → (level : ℕ) → List Constructor → Family
+family_with parameters indices level constructors =
+    record { name = []; parameters = parameters; indices = indices; level = level; constructors = constructors }
+
 abbrev pub nat_family : Family
-nat_family = record {
-  name = [];
-  parameters = [];
-  indices = [];
-  level = 0;
-  constructors =
-      record { name = []; arguments = []; targets = [] }
-      ∷ record { name = []; arguments = Recursive [] [] 0 ∷ []; targets = [] }
-      ∷ [];
-}
+nat_family = family_with [] [] 0
+    (constructor_with [] []
+    ∷ constructor_with (Recursive [] [] 0 ∷ []) []
+    ∷ [])
 
 -- Fin : Nat -> Type 0, with fzero : (n : Nat) -> Fin (suc n) and fsuc : (n : Nat) -> Fin n -> Fin (suc n)
 abbrev pub fin_family : Family
-fin_family = record {
-  name = [];
-  parameters = [];
-  indices = (Nat, 0) ∷ [];
-  level = 0;
-  constructors =
-      record { name = []; arguments = Plain Nat 0 ∷ []; targets = suc_term (Var 0) ∷ [] }
-      ∷ record { name = []; arguments = Plain Nat 0 ∷ Recursive [] (Var 0 ∷ []) 0 ∷ []; targets = suc_term (Var 1) ∷ [] }
-      ∷ [];
-}
+fin_family = family_with [] ((Nat, 0) ∷ []) 0
+    (constructor_with (Plain Nat 0 ∷ []) (suc_term (Var 0) ∷ [])
+    ∷ constructor_with (Plain Nat 0 ∷ Recursive [] (Var 0 ∷ []) 0 ∷ []) (suc_term (Var 1) ∷ [])
+    ∷ [])
 
 -- Has : (n : Nat) -> Fin n -> Type 0, with here : (n : Nat) -> Has (suc n) (fzero n)
 -- and there : (n : Nat) -> (i : Fin n) -> Has n i -> Has (suc n) (fsuc n i)
 abbrev pub has_family : Family
-has_family = record {
-  name = [];
-  parameters = [];
-  indices = (Nat, 0) ∷ (Fin (Var 0), 0) ∷ [];
-  level = 0;
-  constructors =
-      record { name = []; arguments = Plain Nat 0 ∷ []; targets = suc_term (Var 0) ∷ fzero (Var 0) ∷ [] }
-      ∷ record {
-        name = [];
-        arguments = Plain Nat 0 ∷ Plain (Fin (Var 0)) 0 ∷ Recursive [] (Var 1 ∷ Var 0 ∷ []) 0 ∷ [];
-        targets = suc_term (Var 2) ∷ fsuc (Var 2) (Var 1) ∷ [];
-      }
-      ∷ [];
-}
+has_family = family_with [] ((Nat, 0) ∷ (Fin (Var 0), 0) ∷ []) 0
+    (constructor_with (Plain Nat 0 ∷ []) (suc_term (Var 0) ∷ fzero (Var 0) ∷ [])
+    ∷ constructor_with (Plain Nat 0 ∷ Plain (Fin (Var 0)) 0 ∷ Recursive [] (Var 1 ∷ Var 0 ∷ []) 0 ∷ []) (suc_term (Var 2) ∷ fsuc (Var 2) (Var 1) ∷ [])
+    ∷ [])
 
 -- Box : (n : Nat) -> (i : Fin n) -> Has n i -> Type 0,
 -- with box : (n : Nat) -> (i : Fin n) -> (h : Has n i) -> Box (suc n) (fsuc n i) (there n i h)
 abbrev pub box_family : Family
-box_family = record {
-  name = [];
-  parameters = [];
-  indices = (Nat, 0) ∷ (Fin (Var 0), 0) ∷ (Has (Var 1) (Var 0), 0) ∷ [];
-  level = 0;
-  constructors =
-      record {
-        name = [];
-        arguments = Plain Nat 0 ∷ Plain (Fin (Var 0)) 0 ∷ Plain (Has (Var 1) (Var 0)) 0 ∷ [];
-        targets = suc_term (Var 2) ∷ fsuc (Var 2) (Var 1) ∷ there_term (Var 2) (Var 1) (Var 0) ∷ [];
-      }
-      ∷ [];
-}
+box_family = family_with [] ((Nat, 0) ∷ (Fin (Var 0), 0) ∷ (Has (Var 1) (Var 0), 0) ∷ []) 0
+    (constructor_with (Plain Nat 0 ∷ Plain (Fin (Var 0)) 0 ∷ Plain (Has (Var 1) (Var 0)) 0 ∷ []) (suc_term (Var 2) ∷ fsuc (Var 2) (Var 1) ∷ there_term (Var 2) (Var 1) (Var 0) ∷ [])
+    ∷ [])
 
 -- Vec (A : Type 0) : Nat -> Type 0
 abbrev pub vec_family : Family
-vec_family = record {
-  name = [];
-  parameters = Sort 0 ∷ [];
-  indices = (Nat, 0) ∷ [];
-  level = 0;
-  constructors =
-      record { name = []; arguments = []; targets = zero_term ∷ [] }
-      ∷ record {
-        name = [];
-        arguments = Plain Nat 0 ∷ Plain (Var 1) 0 ∷ Recursive [] (Var 1 ∷ []) 0 ∷ [];
-        targets = suc_term (Var 2) ∷ [];
-      }
-      ∷ [];
-}
+vec_family = family_with (Sort 0 ∷ []) ((Nat, 0) ∷ []) 0
+    (constructor_with [] (zero_term ∷ [])
+    ∷ constructor_with (Plain Nat 0 ∷ Plain (Var 1) 0 ∷ Recursive [] (Var 1 ∷ []) 0 ∷ []) (suc_term (Var 2) ∷ [])
+    ∷ [])
 
 -- K (n : Nat) : Fin n -> Type 0, with k : (i : Fin n) -> K n i
 abbrev pub k_family : Family
-k_family = record {
-  name = [];
-  parameters = Nat ∷ [];
-  indices = (Fin (Var 0), 0) ∷ [];
-  level = 0;
-  constructors = record { name = []; arguments = Plain (Fin (Var 0)) 0 ∷ []; targets = Var 0 ∷ [] } ∷ [];
-}
+k_family = family_with (Nat ∷ []) ((Fin (Var 0), 0) ∷ []) 0
+    (constructor_with (Plain (Fin (Var 0)) 0 ∷ []) (Var 0 ∷ []) ∷ [])
 
 -- W : (n : Nat) -> (i : Fin n) -> K n i -> Type 0, with w : (n : Nat) -> (i : Fin n) -> W n i (k n i)
 abbrev pub w_family : Family
-w_family = record {
-  name = [];
-  parameters = [];
-  indices = (Nat, 0) ∷ (Fin (Var 0), 0) ∷ (K (Var 1) (Var 0), 0) ∷ [];
-  level = 0;
-  constructors =
-      record {
-        name = [];
-        arguments = Plain Nat 0 ∷ Plain (Fin (Var 0)) 0 ∷ [];
-        targets = Var 1 ∷ Var 0 ∷ k_term (Var 1) (Var 0) ∷ [];
-      }
-      ∷ [];
-}
+w_family = family_with [] ((Nat, 0) ∷ (Fin (Var 0), 0) ∷ (K (Var 1) (Var 0), 0) ∷ []) 0
+    (constructor_with (Plain Nat 0 ∷ Plain (Fin (Var 0)) 0 ∷ []) (Var 1 ∷ Var 0 ∷ k_term (Var 1) (Var 0) ∷ [])
+    ∷ [])
 
 -- D (p : Nat) : Nat -> Type 0, with mk : D p ((\y. konst zero y) p)
 abbrev pub d_family : Family
-d_family = record {
-  name = [];
-  parameters = Nat ∷ [];
-  indices = (Nat, 0) ∷ [];
-  level = 0;
-  constructors =
-      record { name = []; arguments = []; targets = App (Lam Nat (konst zero_term (Var 0))) (Var 0) ∷ [] } ∷ [];
-}
+d_family = family_with (Nat ∷ []) ((Nat, 0) ∷ []) 0
+    (constructor_with [] (App (Lam Nat (konst zero_term (Var 0))) (Var 0) ∷ []) ∷ [])
 
 -- Tk, with ak : Tk, bk : Nat -> Tk and ck : Nat -> Tk
 abbrev pub tk_family : Family
-tk_family = record {
-  name = [];
-  parameters = [];
-  indices = [];
-  level = 0;
-  constructors =
-      record { name = []; arguments = []; targets = [] }
-      ∷ record { name = []; arguments = Plain Nat 0 ∷ []; targets = [] }
-      ∷ record { name = []; arguments = Plain Nat 0 ∷ []; targets = [] }
-      ∷ [];
-}
+tk_family = family_with [] [] 0
+    (constructor_with [] []
+    ∷ constructor_with (Plain Nat 0 ∷ []) []
+    ∷ constructor_with (Plain Nat 0 ∷ []) []
+    ∷ [])
 
 -- Het (A : Type 0) (a : A) : (B : Type 0) -> B -> Type 1, with het : Het A a A a
 abbrev pub het_family : Family
-het_family = record {
-  name = [];
-  parameters = Sort 0 ∷ Var 0 ∷ [];
-  indices = (Sort 0, 1) ∷ (Var 0, 0) ∷ [];
-  level = 1;
-  constructors = record { name = []; arguments = []; targets = Var 1 ∷ Var 0 ∷ [] } ∷ [];
-}
+het_family = family_with (Sort 0 ∷ Var 0 ∷ []) ((Sort 0, 1) ∷ (Var 0, 0) ∷ []) 1
+    (constructor_with [] (Var 1 ∷ Var 0 ∷ []) ∷ [])
 
 -- Tree, with leaf : Nat -> Tree and node : Tree -> Tree -> Tree
 abbrev pub tree_family : Family
-tree_family = record {
-  name = [];
-  parameters = [];
-  indices = [];
-  level = 0;
-  constructors =
-      record { name = []; arguments = Plain Nat 0 ∷ []; targets = [] }
-      ∷ record { name = []; arguments = Recursive [] [] 0 ∷ Recursive [] [] 0 ∷ []; targets = [] }
-      ∷ [];
-}
+tree_family = family_with [] [] 0
+    (constructor_with (Plain Nat 0 ∷ []) []
+    ∷ constructor_with (Recursive [] [] 0 ∷ Recursive [] [] 0 ∷ []) []
+    ∷ [])
 
 -- so many constructors suc around a term
 abbrev pub sucs : ℕ → Term → Term
@@ -272,3 +198,7 @@ sample k = record {
       ∷ [];
   has_k = k;
 }
+
+-- a step on the last of so many equations
+abbrev pub step : (group : ℕ) → Rule → (ty u v : Term) → Step
+step group rule ty u v = record { group = group; rule = rule; ty = ty; left = u; right = v }

@@ -1,6 +1,7 @@
 -- Equations between scoped terms at the places of a scoped telescope, and the states from which problems are solved.
-use Rattle.std.proofs.Common.{◌≡◌, ℕ, suc, ◌+◌, ◌<◌, Bool, true, false, cond, nat_le, List, [], ◌∷◌, length, map, All, Ok, Err, IfOk, refl, sym, subst, arith}
+use Rattle.std.proofs.Common.{◌≡◌, ℕ, suc, ◌+◌, ◌<◌, nat_le, Bool, true, false, cond, Ok, Err, IfOk, List, [], ◌∷◌, length, map, All, refl, sym, subst, arith}
 use Rattle.std.proofs.lemmas.List.Elements.{All-head, All-tail}
+use Rattle.std.proofs.lemmas.Result.{IfOk-at_ok}
 use Rattle.theory.specs.Terms.{Term, top}
 use Rattle.theory.specs.Telescopes.{Telescope}
 use Rattle.theory.specs.Signatures.{Signature, equation}
@@ -17,8 +18,8 @@ use Rattle.tele_eq.proofs.ScopeLaws.{scoped_equations}
 use Rattle.unification.specs.Heights.{bounded_items, bounded_state, equations_made, most_places, are_low_items, start_made}
 use Rattle.unification.specs.Laws.{StartScoped}
 use Rattle.unification.specs.ScopedStates.{AreScopedEquations, IsScopedState}
-use Rattle.unification.proofs.ScopedRecords.{variables-scoped}
 use Rattle.unification.specs.States.{Problem, State, equations_at, starting}
+use Rattle.unification.proofs.ScopedRecords.{variables-scoped}
 
 -- ---- their forms
 
@@ -47,7 +48,7 @@ equations-form X left right =
 
 -- ---- their scopes
 
-pub equations_at-scoped : (S : Signature) (n k : ℕ) (X : List Item) (types : Telescope) (left right : List Term)
+equations_at-scoped : (S : Signature) (n k : ℕ) (X : List Item) (types : Telescope) (left right : List Term)
     → IsScopedTelescope S (n + k) (map (λ item. item.type) X) → All (λ item. item.level < top) X → IsScopedTelescope S (n + k) types → HaveForms X types
     → All (IsScoped S n) left → All (IsScoped S n) right → AreScopedEquations S n k (equations_at X types left right)
 equations_at-scoped S n k [] types left right hx levels ht forms hl hr = tt
@@ -101,24 +102,18 @@ equations_made-has P X us vs h = by (nat_le (length X) most_places)
 
 -- ---- the first state
 
-pub start-scoped : StartScoped
-start-scoped S p ready scoped =
-    and_then-has (λ types. types ≡ equations p.telescope p.left p.right) (IsScopedState S) (equations_made p.telescope p.left p.right)
+pub start_made-has : (P : State → Type 0) (p : Problem) → P (starting p (equations p.telescope p.left p.right)) → IfOk (start_made p) P
+start_made-has P p h =
+    and_then-has (λ types. types ≡ equations p.telescope p.left p.right) P (equations_made p.telescope p.left p.right)
     (λ types. bounded_state (starting p types)) (equations_made-has (λ types. types ≡ equations p.telescope p.left p.right) p.telescope p.left p.right refl)
-    (λ types e. bounded_state-has (IsScopedState S) (starting p types) (state types e))
-  where
-    state : (types : Telescope) → types ≡ equations p.telescope p.left p.right → IsScopedState S (starting p types)
-    state types e = record {
-      context = scoped.context;
-      equations =
-          subst (λ x. AreScopedEquations S (length p.context) 0 (equations_at p.telescope x p.left p.right)) (sym e)
-          (telescope-equations S (length p.context) p.telescope p.left p.right ready.identities scoped.telescope scoped.left scoped.right);
-      solution = variables-scoped S (length p.context) (length p.context) (omega arith);
-    }
+    (λ types e. bounded_state-has P (starting p types) (subst (λ x. P (starting p x)) (sym e) h))
 
--- its context is that of the problem
-pub start-context : (p : Problem) → IfOk (start_made p) (λ s. s.context ≡ p.context)
-start-context p =
-    and_then-has (λ types. Unit {0}) (λ s. s.context ≡ p.context) (equations_made p.telescope p.left p.right)
-    (λ types. bounded_state (starting p types)) (equations_made-has (λ types. Unit {0}) p.telescope p.left p.right tt)
-    (λ types e. bounded_state-has (λ s. s.context ≡ p.context) (starting p types) refl)
+pub start-is : (p : Problem) (s : State) → start_made p ≡ Ok s → s ≡ starting p (equations p.telescope p.left p.right)
+start-is p s e = IfOk-at_ok (λ t. t ≡ starting p (equations p.telescope p.left p.right)) e (start_made-has (λ t. t ≡ starting p (equations p.telescope p.left p.right)) p refl)
+
+pub start-scoped : StartScoped
+start-scoped S p ready scoped = start_made-has (IsScopedState S) p (record {
+  context = scoped.context;
+  equations = telescope-equations S (length p.context) p.telescope p.left p.right ready.identities scoped.telescope scoped.left scoped.right;
+  solution = variables-scoped S (length p.context) (length p.context) (omega arith);
+})

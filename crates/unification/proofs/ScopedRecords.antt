@@ -1,6 +1,6 @@
 -- What a family of a scoped signature brings at scoped parameters is scoped.
-use Rattle.std.proofs.Common.{◌≡◌, ℕ, zero, suc, ◌+◌, ◌<◌, ◌≤◌, Some, List, [], ◌∷◌, ◌++◌, length, map, slice_get, refl, sym, ap, ◌∙◌, arith}
-use Rattle.std.proofs.lemmas.List.{length-map}
+use Rattle.std.proofs.Common.{◌≡◌, ℕ, zero, suc, ◌+◌, ◌<◌, ◌≤◌, Some, List, [], ◌∷◌, ◌++◌, length, map, slice_get, refl, ap, sym, ◌∙◌, arith}
+use Rattle.std.proofs.lemmas.List.{length-map, length-append}
 use Rattle.std.proofs.lemmas.List.Elements.{All-nil, All-cons, All-head, All-tail, All-append, All-weaker, All-map}
 use Rattle.std.proofs.lemmas.Option.{slice_get_within}
 use Rattle.std.specs.List.{All}
@@ -94,18 +94,33 @@ items-scoped S m (a ∷ types) (l ∷ levels) h k =
       levels = All-cons (λ item. item.level < top) (record { type = a; level = l }) (items_at types levels) (All-head (λ l. l < top) l levels k) rest.levels;
     }
 
-length-items : (types : Telescope) (levels : List ℕ) → length types ≡ length levels → length (items_at types levels) ≡ length types
-length-items [] levels e = refl
-length-items (a ∷ types) [] e = absurd (omega arith)
-length-items (a ∷ types) (l ∷ levels) e = ap suc (length-items types levels (omega arith))
+-- as many items as types
+length-items_at : (types : Telescope) (levels : List ℕ) → length types ≡ length levels → length (items_at types levels) ≡ length types
+length-items_at [] levels e = refl
+length-items_at (a ∷ types) [] e = absurd (omega arith)
+length-items_at (a ∷ types) (l ∷ levels) e = ap suc (length-items_at types levels (omega arith))
 
 -- there is a place for each argument
 pub length-argument_items : (n : ℕ) (ps : List Term) (c : Constructor) → length (argument_items n ps c) ≡ length c.arguments
 length-argument_items n ps c =
     let counted = length-argument_types (fill no_variable ps) (applied (Fam n) ps) c.arguments in
-    length-items (argument_types (fill no_variable ps) (applied (Fam n) ps) c.arguments) (map level_of c.arguments)
+    length-items_at (argument_types (fill no_variable ps) (applied (Fam n) ps) c.arguments) (map level_of c.arguments)
     (counted ∙ sym (length-map c.arguments level_of))
     ∙ counted
+
+-- the indices, and the family at them
+pub length-family_items : (n : ℕ) (f : Family) (ps : List Term) → length (family_items n f ps) ≡ length f.indices + 1
+length-family_items n f ps =
+    length-items_at _ _ (types ∙ sym levels) ∙ types
+  where
+    types : length (inst_telescope (fill no_variable ps) (index_types f) ++ applied (weaken_by (length f.indices) (applied (Fam n) ps)) (variables (length f.indices)) ∷ [])
+        ≡ length f.indices + 1
+    types =
+        length-append (inst_telescope (fill no_variable ps) (index_types f)) _
+        ∙ ap (λ i. i + 1) (length-inst_telescope (fill no_variable ps) (index_types f) ∙ length-map f.indices _)
+
+    levels : length (map (λ (i : Term × ℕ). i.1) f.indices ++ f.level ∷ []) ≡ length f.indices + 1
+    levels = length-append (map (λ (i : Term × ℕ). i.1) f.indices) _ ∙ ap (λ i. i + 1) (length-map f.indices _)
 
 -- ---- families of a scoped signature
 

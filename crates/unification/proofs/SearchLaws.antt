@@ -1,6 +1,5 @@
 -- A search goes on in each argument as it began.
-use Rattle.std.proofs.Common.{◌≡◌, ℕ, zero, suc, ◌<◌, ◌≤◌, Bool, true, false, ◌==◌, nat_lt, cond, Option, Some, None, option_map, Result, Ok, Err, List, [], ◌∷◌, ◌++◌, drop, refl, ap, sym, ◌∙◌, subst, arith}
-use Rattle.std.proofs.lemmas.Bool.Decides.{nat_tests}
+use Rattle.std.proofs.Common.{◌≡◌, ℕ, zero, suc, ◌<◌, ◌≤◌, nat_lt, ◌==◌, Bool, true, false, cond, Option, Some, None, option_map, Result, Ok, Err, List, [], ◌∷◌, length, refl, ap, sym, subst, ◌∙◌, arith}
 use Rattle.theory.specs.Terms.{Term, height}
 use Rattle.theory.specs.Terms.Term.{App}
 use Rattle.theory.specs.Spines.{spine_of}
@@ -14,29 +13,26 @@ use Rattle.unification.specs.Solutions.{variable_in}
 use Rattle.unification.specs.Cycles.{Search, not_found, found_as, here_or, Below, among_arguments, with_arguments, is_variable, below_constructor, in_form, by_less, no_argument, by_room, by_units, search_in}
 use Rattle.unification.specs.Laws.{SearchGoesOn}
 use Rattle.unification.proofs.SpentUnits.{Leaves, Within, Any, any-within}
-use Rattle.unification.proofs.ReductionUnits.{Stays, whnf-within}
-use Rattle.unification.proofs.BuiltArguments.{built-last}
-use Rattle.unification.proofs.SearchUnits.{Spends, BelowSpends, by_less-spends, by_room-spends, by_units-spends, search-spends}
+use Rattle.unification.proofs.Constructors.{found}
+use Rattle.unification.proofs.Reducts.{IsHead, whnf-within}
+use Rattle.unification.proofs.SearchedVariables.{Finds, FindsBelow, by_less-finds, no_argument-finds, by_room-finds, by_units-finds, search-finds}
+use Rattle.std.proofs.lemmas.Bool.{ltb-true, ltb-false}
+use Rattle.std.proofs.lemmas.List.Elements.{All-nil, All-append, All-weaker, All-drop, All-head, All-tail}
+use Rattle.std.specs.List.{All}
+use Rattle.theory.proofs.Lists.{only}
 
 -- ---- heights of arguments
 
 -- each of the terms is lower than so much
 abbrev AreLower : ℕ → List Term → Type 0
-AreLower high [] = Unit {0}
-AreLower high (u ∷ us) = (height u < high) × AreLower high us
-
-lower-drop : (high n : ℕ) (us : List Term) → AreLower high us → AreLower high (drop n us)
-lower-drop high zero us h = h
-lower-drop high (suc n) [] h = tt
-lower-drop high (suc n) (u ∷ us) h = lower-drop high n us h.1
-
-lower-more : (high more : ℕ) (us : List Term) (a : Term) → high ≤ more → height a < more → AreLower high us → AreLower more (us ++ a ∷ [])
-lower-more high more [] a le lt h = (lt, tt)
-lower-more high more (u ∷ us) a le lt h = (let k : height u < high = h.0 in omega arith, lower-more high more us a le lt h.1)
+AreLower high us = All (λ u. height u < high) us
 
 spine-lower : (t : Term) → AreLower (height t) (spine_of t)
-spine-lower (App f a) = lower-more (height f) (height (App f a)) (spine_of f) a (omega arith) (omega arith) (spine-lower f)
-spine-lower _ = tt
+spine-lower (App f a) =
+    All-append (λ u. height u < height (App f a)) (spine_of f) (a ∷ [])
+    (All-weaker (λ u. height u < height f) (λ u. height u < height (App f a)) (λ u lt. omega arith) (spine_of f) (spine-lower f))
+    (only (λ u. height u < height (App f a)) a (omega arith))
+spine-lower _ = All-nil _
 
 height-positive : (t : Term) → 0 < height t
 height-positive (App f a) = omega arith
@@ -44,8 +40,7 @@ height-positive _ = omega arith
 
 built-lower : (S : Signature) (t : Term) (b : Built) → built_of S t ≡ Some b → AreLower (height t) b.arguments
 built-lower S t b e =
-    let last = built-last S t b e in
-    subst (AreLower (height t)) (sym last.1) (lower-drop (height t) last.0 (spine_of t) (spine-lower t))
+    subst (AreLower (height t)) (sym (found S t b e).arguments) (All-drop (λ u. height u < height t) (length b.family.parameters) (spine_of t) (spine-lower t))
 
 -- ---- two ways to go on
 
@@ -60,6 +55,13 @@ next-same {A = A} P first go other left h k = by_answer first.0 first.1 h.spends
     by_answer : (r : Result A Stop) (rest : ℕ) → rest ≤ left → Leaves P r rest → on_answer r rest go ≡ on_answer r rest other
     by_answer (Ok a) rest le p = k a rest le p
     by_answer (Err e) rest le p = refl
+
+-- a way to go on that gives no units back
+abbrev BelowSpends : Below → Type 0
+BelowSpends below = (before : ℕ) (t : Term) (left : ℕ) → (below before t left).1 ≤ left
+
+below-spends : (S : Signature) (n x : ℕ) (below : Below) → FindsBelow S n x below → BelowSpends below
+below-spends S n x below finds before t left = (finds before t left).spends
 
 -- They agree on what is found with at most so many units, if some are spent or the term is lower than so much.
 abbrev Agree : (most high : ℕ) → Below → Below → Type 0
@@ -90,10 +92,10 @@ among-same : (S : Signature) (below other : Below) (most high : ℕ) → Agree m
     → among_arguments S below arguments us left ≡ among_arguments S other arguments us left
 among-same S below other most high agree spends (a ∷ arguments) (u ∷ us) left le low =
     let behind : (end : ℕ) → end ≤ most → among_arguments S below arguments us end ≡ among_arguments S other arguments us end =
-    λ end l. among-same S below other most high agree spends arguments us end l low.1 in
+    λ end l. among-same S below other most high agree spends arguments us end l (All-tail (λ u. height u < high) u us low) in
     cond-same (is_direct a) _ _ _ _
-    (λ e. next-same (Stays left u) (whnf_of S true left u) _ _ left (whnf-within S true left u) (λ v rest l stays.
-    argument-same S below other most high agree spends a u arguments us left rest v le l (λ same. subst (λ w. height w < high) (sym (stays same)) low.0) behind))
+    (λ e. next-same (IsHead S left u) (whnf_of S true left u) _ _ left (whnf-within S true left u) (λ v rest l reached.
+    argument-same S below other most high agree spends a u arguments us left rest v le l (λ same. subst (λ w. height w < high) (sym (reached.stays same)) (All-head (λ u. height u < high) u us low)) behind))
     (λ e. found_as-same (λ ws. u ∷ ws) (among_arguments S below arguments us) (among_arguments S other arguments us) left (behind left le))
 among-same S below other most high agree spends [] us left le low = refl
 among-same S below other most high agree spends (a ∷ arguments) [] left le low = refl
@@ -127,45 +129,40 @@ form-same S n x below other t left agree spends =
 abbrev AgreeBelow : (left : ℕ) → (search other : Term → Search Term) → Type 0
 AgreeBelow left search other = (t : Term) (rest : ℕ) → rest < left → search t rest ≡ other t rest
 
-fewer : (rest before : ℕ) → nat_lt rest before ≡ true → rest < before
-fewer rest before e = grind (arith, nat_tests)
-
-as_many : (rest before : ℕ) → nat_lt rest before ≡ false → before ≤ rest
-as_many rest before e = grind (arith, nat_tests)
-
 room-same : (S : Signature) (n x : ℕ) (units others : Term → Search Term) (room more : ℕ) (t : Term) (left : ℕ) → height t ≤ room → height t ≤ more
-    → AgreeBelow left units others → ((t : Term) → Spends (others t)) → by_room S n x units room t left ≡ by_room S n x others more t left
+    → AgreeBelow left units others → Finds S n x others → by_room S n x units room t left ≡ by_room S n x others more t left
 room-same S n x units others zero more t left le k agree spends = let h = height-positive t in absurd (omega arith)
 room-same S n x units others (suc room) zero t left le k agree spends = let h = height-positive t in absurd (omega arith)
 room-same S n x units others (suc room) (suc more) t left le k agree spends =
     form-same S n x (by_less units (by_room S n x units room)) (by_less others (by_room S n x others more)) t left
     (λ before rest v l l' low.
     cond-same (nat_lt rest before) _ _ _ _
-    (λ e. let less = fewer rest before e in agree v rest (omega arith))
-    (λ e. let many = as_many rest before e in let lower : height v < height t = low (omega arith) in
+    (λ e. let less = ltb-true rest before e in agree v rest (omega arith))
+    (λ e. let many = ltb-false rest before e in let lower : height v < height t = low (omega arith) in
     room-same S n x units others room more v rest (omega arith) (omega arith) (λ w m less. agree w m (omega arith)) spends))
-    (by_less-spends others (by_room S n x others more) spends (λ u. by_room-spends S n x others more u spends))
+    (below-spends S n x (by_less others (by_room S n x others more))
+    (by_less-finds S n x others (by_room S n x others more) spends (by_room-finds S n x others spends more)))
 
 units-same : (S : Signature) (n x : ℕ) (units more : ℕ) (t : Term) (left : ℕ) → left ≤ units → left ≤ more → by_units S n x units t left ≡ by_units S n x more t left
 units-same S n x zero zero t left le k = refl
 units-same S n x zero (suc more) t left le k =
     room-same S n x no_argument (by_units S n x more) (height t) (height t) t left (omega arith) (omega arith)
-    (λ v rest less. absurd (omega arith)) (by_units-spends S n x more)
+    (λ v rest less. absurd (omega arith)) (by_units-finds S n x more)
 units-same S n x (suc units) zero t left le k =
     room-same S n x (by_units S n x units) no_argument (height t) (height t) t left (omega arith) (omega arith)
-    (λ v rest less. absurd (omega arith)) (λ v rest. omega arith)
+    (λ v rest less. absurd (omega arith)) (no_argument-finds S n x)
 units-same S n x (suc units) (suc more) t left le k =
     room-same S n x (by_units S n x units) (by_units S n x more) (height t) (height t) t left (omega arith) (omega arith)
-    (λ v rest less. units-same S n x units more v rest (omega arith) (omega arith)) (by_units-spends S n x more)
+    (λ v rest less. units-same S n x units more v rest (omega arith) (omega arith)) (by_units-finds S n x more)
 
 -- with room enough, a search that agrees below so many units is the whole search
 room-search : (S : Signature) (n x : ℕ) (units : Term → Search Term) (room : ℕ) (t : Term) (left : ℕ) → height t ≤ room → AgreeBelow left units (search_in S n x)
     → by_room S n x units room t left ≡ search_in S n x t left
 room-search S n x units room t zero le agree =
-    room-same S n x units no_argument room (height t) t zero le (omega arith) (λ v rest less. absurd (omega arith)) (λ v rest. omega arith)
+    room-same S n x units no_argument room (height t) t zero le (omega arith) (λ v rest less. absurd (omega arith)) (no_argument-finds S n x)
 room-search S n x units room t (suc left) le agree =
     room-same S n x units (by_units S n x left) room (height t) t (suc left) le (omega arith)
-    (λ v rest less. agree v rest less ∙ units-same S n x rest left v rest (omega arith) (omega arith)) (by_units-spends S n x left)
+    (λ v rest less. agree v rest less ∙ units-same S n x rest left v rest (omega arith) (omega arith)) (by_units-finds S n x left)
 
 room-goes_on : (S : Signature) (n x : ℕ) (units : Term → Search Term) (room : ℕ) (t : Term) (left : ℕ) → height t ≤ room → AgreeBelow left units (search_in S n x)
     → by_room S n x units room t left ≡ in_form S n x (λ before. search_in S n x) t left
@@ -173,13 +170,13 @@ room-goes_on S n x units zero t left le agree = let h = height-positive t in abs
 room-goes_on S n x units (suc room) t left le agree =
     form-same S n x (by_less units (by_room S n x units room)) (λ before. search_in S n x) t left
     (λ before rest v l l' low. by_test before rest v l l' low (nat_lt rest before) refl)
-    (λ before v. search-spends S n x v)
+    (λ before v m. (search-finds S n x v m).spends)
   where
     by_test : (before rest : ℕ) (v : Term) → before ≤ left → rest ≤ before → (rest ≡ before → height v < height t) → (b : Bool) → nat_lt rest before ≡ b
         → cond b (units v rest) (by_room S n x units room v rest) ≡ search_in S n x v rest
-    by_test before rest v l l' low true e = let less = fewer rest before e in agree v rest (omega arith)
+    by_test before rest v l l' low true e = let less = ltb-true rest before e in agree v rest (omega arith)
     by_test before rest v l l' low false e =
-        let many = as_many rest before e in
+        let many = ltb-false rest before e in
         let lower : height v < height t = low (omega arith) in
         room-search S n x units room v rest (omega arith) (λ w m less. agree w m (omega arith))
 

@@ -1,14 +1,17 @@
 -- Sizes of terms and of the sides of equations.
-use Rattle.std.proofs.Common.{◌≡◌, ℕ, zero, suc, ◌+◌, ◌-◌, ◌<◌, ◌≤◌, Bool, true, false, cond, nat_lt, Some, List, [], ◌∷◌, ◌++◌, drop, slice_get, refl, ap, arith}
+use Rattle.std.proofs.Common.{◌≡◌, ℕ, zero, suc, ◌+◌, ◌-◌, ◌<◌, ◌≤◌, nat_lt, Bool, true, false, cond, Some, List, [], ◌∷◌, ◌++◌, length, drop, slice_get, refl, ap, arith}
 use Rattle.theory.specs.Terms.{Term}
 use Rattle.theory.specs.Terms.Term.{Var, Sort, Pi, Lam, App, Let}
 use Rattle.theory.specs.Telescopes.{Telescope}
 use Rattle.theory.specs.Spines.{spine_of}
+use Rattle.theory.specs.Signatures.{Signature}
 use Rattle.tele_eq.specs.Items.{Item}
 use Rattle.tele_eq.specs.Environments.{Environment, put_variable, put_under, put}
 use Rattle.unification.specs.States.{Equation, equations_at}
 use Rattle.unification.specs.Moving.{moved}
 use Rattle.unification.specs.Runs.{size_of, size_of_sides}
+use Rattle.unification.specs.Built.{Built, built_of}
+use Rattle.unification.proofs.Constructors.{found}
 
 -- the size of a list of terms
 abbrev pub size_of_all : List Term → ℕ
@@ -82,3 +85,12 @@ put-nothing s under _ = refl
 
 pub size-put : (s : Environment) (t : Term) → size_of (put s 0 0 t) ≡ size_of t
 size-put s t = put-nothing s 0 t
+
+-- the arguments of a constructor are smaller together than the term
+pub built-smaller : (S : Signature) (t : Term) (b : Built) → built_of S t ≡ Some b → size_of_all b.arguments < size_of t
+built-smaller S t b e =
+    let is = found S t b e in
+    let same : size_of_all b.arguments ≡ size_of_all (drop (length b.family.parameters) (spine_of t)) = ap size_of_all is.arguments in
+    let less = size-drop (length b.family.parameters) (spine_of t) in
+    let whole = size-spine t in
+    omega arith

@@ -1,39 +1,48 @@
--- Trials of a solution: it makes the context shorter, or where there is no variable it makes the equations smaller.
-use Rattle.std.proofs.Common.{◌≡◌, ℕ, ◌+◌, ◌-◌, ◌<◌, ◌≤◌, ◌⊎◌, inl, inr, Bool, true, false, cond, Option, Some, None, IfSome, Ok, IfOk, [], ◌∷◌, length, drop, slice_get, ap, ap₂, sym, ◌∙◌, arith}
+-- What the trial of a solution comes to. It makes the context shorter, or where there is no variable it makes the equations smaller.
+use Rattle.std.proofs.Common.{◌≡◌, ℕ, ◌+◌, ◌-◌, ◌<◌, ◌≤◌, ◌⊎◌, inl, inr, Bool, true, false, cond, Option, Some, None, IfSome, Ok, IfOk, List, [], ◌∷◌, length, drop, slice_get, refl, ap₂, sym, subst as transport, ◌∙◌, arith}
 use Rattle.std.proofs.lemmas.List.{length-map}
 use Rattle.theory.specs.Terms.{Term}
-use Rattle.theory.specs.Telescopes.{Telescope}
+use Rattle.theory.specs.Terms.Term.{Var}
 use Rattle.theory.specs.Signatures.{Signature, reflexivity}
-use Rattle.core_terms.specs.Answers.{Spent, and_next}
-use Rattle.core_terms.proofs.Answers.{and_then-has}
+use Rattle.theory.specs.SignatureScopes.{IsScoped}
+use Rattle.theory.specs.Conversion.{Converts}
+use Rattle.theory.specs.Conversion.Converts.{same as itself}
+use Rattle.theory.proofs.Congruence.{converts-trans}
+use Rattle.core_terms.specs.Answers.{and_next}
 use Rattle.core_terms.specs.CaseTrees.{Step}
-use Rattle.kernel_reduce.specs.Reduction.{answered, nesting, normal_of}
+use Rattle.core_terms.specs.declared.case_tree.Rule.TheVariants.{SolveRight, SolveLeft}
+use Rattle.core_terms.proofs.Answers.{and_then-has}
+use Rattle.kernel_reduce.specs.Reduction.{nesting, normal_of}
 use Rattle.kernel_reduce.specs.Tidying.{tidy_of}
 use Rattle.tele_eq.specs.Environments.{Environment, put}
-use Rattle.unification.specs.States.{Equation, State}
-use Rattle.unification.specs.Occurrences.{order_without}
-use Rattle.unification.specs.Moving.{over_first, behind}
-use Rattle.unification.specs.Solving.{reordered, solved, solved_state}
 use Rattle.unification.specs.Heights.{bounded_state}
-use Rattle.unification.specs.Runs.{size_of, size_of_sides}
-use Rattle.unification.specs.Turns.{type_in}
-use Rattle.unification.specs.Solutions.{variable_in, is_free_of, if_free, solution_from, solves, state_solved, side_solved, turn_by, solve_side, right_step, left_step, solve_sides, with_variable, solution_trial}
 use Rattle.unification.specs.Laws.{Falls}
 use Rattle.unification.specs.Laws.Falls.{units, variables, size}
-use Rattle.unification.proofs.SpentUnits.{Within, Any, answered-within, and_next-within, at_most}
-use Rattle.unification.proofs.ReductionUnits.{tidy-within, normal-within}
+use Rattle.unification.specs.Moving.{over_first, behind}
+use Rattle.unification.specs.Occurrences.{order_without}
+use Rattle.unification.specs.Rules.{Steps, level_of}
+use Rattle.unification.specs.Rules.Steps.{solve_right, solve_left}
+use Rattle.unification.specs.Runs.{size_of, size_of_sides}
+use Rattle.unification.specs.ScopedStates.{IsReady, IsScopedState, IsScopedStep, variables_behind}
+use Rattle.unification.specs.Solutions.{variable_in, is_free_of, if_free, solution_from, solves, state_solved, side_solved, turn_by, solve_side, right_step, left_step, solve_sides, with_variable, solution_trial}
+use Rattle.unification.specs.Solving.{reordered, solved, solved_state}
+use Rattle.unification.specs.States.{Equation, State}
+use Rattle.unification.specs.Turns.{Goes, type_in}
+use Rattle.unification.proofs.Cases.{less-or_same}
+use Rattle.unification.proofs.MovedStates.{solved_state-scoped, solved_state-context}
+use Rattle.unification.proofs.Reducts.{IsReduct, reduced-within, normal-within}
+use Rattle.unification.proofs.ScopedEquations.{bounded_state-has}
 use Rattle.unification.proofs.Sizes.{size-positive, size-put, sides-moved, sides-behind}
-use Rattle.unification.proofs.NewContexts.{order-shorter, order-none, new_context-length}
-use Rattle.unification.proofs.AllowedTurns.{DeletesWithK, Allows, IsTrial, none-is, or_else-is, on_tidied-is, bounded_state-has}
+use Rattle.unification.proofs.SolvedContexts.{length-order, length-order_of_none, length-new_context}
+use Rattle.unification.proofs.SpentUnits.{Within, answered-within, and_next-within, cond-within}
+use Rattle.unification.proofs.Trials.{Found, Comes, none-comes, or_else-comes, on_tidied-comes}
+use Rattle.unification.proofs.TurnProperties.{DeletesWithK, IsTurn, IsTried, tried, first-at, type-scoped, first-as, single-scoped}
+use Rattle.unification.proofs.Variables.{variable-is, variable-low}
 
 -- ---- the state behind a solution
 
 put-of_none : (s : Environment) (n m : ℕ) → n ≡ 0 → m ≡ 0 → (t : Term) → size_of (put s n m t) ≡ size_of t
 put-of_none s n m e f t = ap₂ (λ i j. size_of (put s i j t)) e f ∙ size-put s t
-
-order-of_none : (context : Telescope) (p : ℕ) → length context ≡ 0 → length (order_without context p) ≡ 0
-order-of_none [] p e = ap length (order-none p)
-order-of_none (a ∷ context) p e = absurd (omega arith)
 
 solved-smaller : (s : State) (e : Equation) (i p : ℕ) (A u : Term) → slice_get s.equations 0 ≡ Some e → length s.context ≡ 0
     → size_of_sides (solved_state s i p A u).equations < size_of_sides s.equations
@@ -47,99 +56,210 @@ solved-smaller s e i p A u at none =
     let items = behind n 1 m s' (over_first m (u' ∷ [])) in
     let types = behind n 1 m s' (over_first m (reflexivity i A' u' ∷ [])) in
     let same : size_of_sides (solved_state s i p A u).equations ≡ size_of_sides (drop 1 s.equations) =
-    sides-moved items types (put s' n m) (n + 1) m (drop 1 s.equations) (put-of_none s' n m none (order-of_none s.context p none)) in
+    sides-moved items types (put s' n m) (n + 1) m (drop 1 s.equations) (put-of_none s' n m none (length-order_of_none s.context p none)) in
     let after = sides-behind s.equations 0 e at in
     let positive = size-positive e.left in
     omega arith
 
 solved-falls : (s : State) (e : Equation) (i x : ℕ) (A u : Term) (left rest : ℕ) → slice_get s.equations 0 ≡ Some e → rest ≤ left
     → Falls s left (solved_state s i (length s.context - (x + 1)) A u) rest
-solved-falls s e i x A u left rest at le = by_units (at_most rest left le)
+solved-falls s e i x A u left rest at le = by_units (less-or_same rest left le)
   where
     p : ℕ
     p = length s.context - (x + 1)
 
     context-length : length (solved_state s i p A u).context ≡ length (order_without s.context p)
-    context-length = new_context-length s.context (solved (length s.context) (order_without s.context p) p u) 0 (order_without s.context p)
+    context-length = length-new_context s.context (solved (length s.context) (order_without s.context p) p u) 0 (order_without s.context p)
 
     by_context : rest ≡ left → (0 < length s.context) ⊎ (0 ≡ length s.context) → Falls s left (solved_state s i p A u) rest
     by_context same (inl some) =
-        let shorter = order-shorter s.context p (omega arith) in
+        let shorter : length (order_without s.context p) + 1 ≡ length s.context = length-order s.context p (omega arith) in
         let h = context-length in
         variables same (omega arith)
     by_context same (inr none) =
-        let empty = order-of_none s.context p (sym none) in
+        let empty = length-order_of_none s.context p (sym none) in
         let h = context-length in
         size same (omega arith) (solved-smaller s e i p A u at (sym none))
 
     by_units : (rest < left) ⊎ (rest ≡ left) → Falls s left (solved_state s i p A u) rest
     by_units (inl less) = units less
-    by_units (inr same) = by_context same (at_most 0 (length s.context) (omega arith))
+    by_units (inr same) = by_context same (less-or_same 0 (length s.context) (omega arith))
 
--- ---- trials
+-- ---- the solving term
 
--- the state with the solving term
-abbrev Solves : State → (left : ℕ) → Option (Term × State) → ℕ → Type 0
-Solves s left found rest = IfSome found (λ p. Falls s left p.1 rest × (length p.1.solution ≡ length s.solution))
+-- other converts to u, and variable x is solvable by u in an equation in A
+record IsSolution (S : Signature) (s : State) (x : ℕ) (A other u : Term) : Type 0 where
+  pub reduct : IsReduct S other u
+  pub type : is_free_of s x A ≡ true
+  pub term : is_free_of s x u ≡ true
 
-state_solved-solves : (s : State) (e : Equation) (x : ℕ) (A : Term) (found : Option Term) (left rest : ℕ) → slice_get s.equations 0 ≡ Some e → rest ≤ left
-    → IfOk (state_solved s e x A found) (λ o. Solves s left o rest)
-state_solved-solves s e x A None left rest at le = tt
-state_solved-solves s e x A (Some u) left rest at le =
-    and_then-has (λ t. Falls s left t rest × (length t.solution ≡ length s.solution)) (λ o. Solves s left o rest)
-    (bounded_state (solved_state s e.place.level (length s.context - (x + 1)) A u)) _
-    (bounded_state-has (λ t. Falls s left t rest × (length t.solution ≡ length s.solution)) (solved_state s e.place.level (length s.context - (x + 1)) A u)
-    (solved-falls s e e.place.level x A u left rest at le, length-map s.solution _))
-    (λ t h. h)
-
-solution_from-within : (S : Signature) (s : State) (x : ℕ) (u : Term) (left : ℕ) → Within left Any (solution_from S s x u left)
-solution_from-within S s x u left =
-    by_case (is_free_of s x u) (normal_of S true nesting u left) (normal-within S true nesting u left)
+-- a term that solves, from the side itself or from its normal form
+solution_from-within : (S : Signature) (s : State) (x : ℕ) (A other : Term) (left : ℕ) → is_free_of s x A ≡ true
+    → Within left (Found (λ u rest. IsSolution S s x A other u)) (solution_from S s x other left)
+solution_from-within S s x A other left type =
+    cond-within (Found (λ u rest. IsSolution S s x A other u)) (is_free_of s x other) _ _ left
+    (λ free. answered-within (Found (λ u rest. IsSolution S s x A other u)) (Ok (Some other)) left
+    (record { reduct = record { converts = itself; scoped = λ n closed h. h }; type = type; term = free }))
+    (λ taken. and_next-within (λ v rest. IsReduct S other v) (Found (λ u rest. IsSolution S s x A other u)) (normal_of S true nesting other left) _ left
+    (normal-within S true nesting other left) (λ v rest le h.
+    answered-within (Found (λ u rest. IsSolution S s x A other u)) (Ok (if_free s x v)) rest (normal v h (is_free_of s x v) refl)))
   where
-    by_case : (b : Bool) (r : Spent Term) → Within left Any r
-        → Within left Any (cond b (answered (Ok (Some u)) left) (and_next r (λ v rest. answered (Ok (if_free s x v)) rest)))
-    by_case true r h = answered-within Any (Ok (Some u)) left tt
-    by_case false r h = and_next-within Any Any r _ left h (λ v rest le a. answered-within Any (Ok (if_free s x v)) rest tt)
+    normal : (v : Term) → IsReduct S other v → (b : Bool) → is_free_of s x v ≡ b → IfSome (cond b (Some v) None) (IsSolution S s x A other)
+    normal v h true e = record { reduct = h; type = type; term = e }
+    normal v h false e = tt
 
-solves-within : (S : Signature) (s : State) (x : ℕ) (A u : Term) (left : ℕ) → Within left Any (solves S s x A u left)
-solves-within S s x A u left = by_case (is_free_of s x A) (solution_from S s x u left) (solution_from-within S s x u left)
+solves-within : (S : Signature) (s : State) (x : ℕ) (A other : Term) (left : ℕ)
+    → Within left (Found (λ u rest. IsSolution S s x A other u)) (solves S s x A other left)
+solves-within S s x A other left =
+    cond-within (Found (λ u rest. IsSolution S s x A other u)) (is_free_of s x A) _ _ left
+    (λ free. solution_from-within S s x A other left free)
+    (λ taken. answered-within (Found (λ u rest. IsSolution S s x A other u)) (Ok None) left tt)
+
+-- ---- the step
+
+-- what is known of a step that solves variable x of a scoped state by u
+record IsSolving (S : Signature) (s : State) (e : Equation) (x : ℕ) (A u : Term) (step : Step) : Type 0 where
+  pub tried : IsTried S s e
+  pub variable : x < length s.context
+  pub type_scoped : IsScoped S (length s.context) A
+  pub term_scoped : IsScoped S (length s.context) u
+  pub step_scoped : IsScopedStep S (length s.context) step
+  pub count : variables_behind step.rule (length s.context) ≡ length s.context - 1
+  pub follows : Steps S s step (solved_state s e.place.level (level_of (length s.context) x) A u)
+
+-- each solving term makes such a step
+abbrev Solving : Signature → State → Equation → (A other : Term) → (x : ℕ) → (Term → Step) → Type 0
+Solving S s e A other x step =
+    (u : Term) → IsSolution S s x A other u
+    → DeletesWithK S (step u) × (IsReady S → IsScopedState S s → IsSolving S s e x A u (step u))
+
+-- the step by a solving term
+state_solved-is : (S : Signature) (s : State) (left : ℕ) (e : Equation) (x : ℕ) (A other : Term) (step : Term → Step) (found : Option Term) (rest : ℕ)
+    → slice_get s.equations 0 ≡ Some e → rest ≤ left → Solving S s e A other x step → IfSome found (IsSolution S s x A other)
+    → IfOk (state_solved s e x A found) (λ pair. IfSome (turn_by step pair) (λ turn. IsTurn S s left turn rest))
+state_solved-is S s left e x A other step None rest at le solving h = tt
+state_solved-is S s left e x A other step (Some u) rest at le solving h =
+    and_then-has (λ t. IsTurn S s left (Goes (step u) t) rest) (λ pair. IfSome (turn_by step pair) (λ turn. IsTurn S s left turn rest))
+    (bounded_state (solved_state s e.place.level p A u)) _
+    (bounded_state-has (λ t. IsTurn S s left (Goes (step u) t) rest) (solved_state s e.place.level p A u)
+    (record {
+      allowed = record {
+        falls = solved-falls s e e.place.level x A u left rest at le;
+        whole = length-map s.solution _;
+        deletes = (solving u h).0;
+      };
+      right = λ ready scoped.
+          (let is = (solving u h).1 ready scoped in
+          let low : x < length s.context = is.variable in
+          record {
+            good = (
+              (
+                is.step_scoped,
+                solved_state-scoped S s e.place.level p A u ready scoped (omega arith) is.tried.equation.level is.type_scoped is.term_scoped h.type h.term,
+              ),
+              solved_state-context s e.place.level p A u (omega arith) ∙ sym is.count,
+            );
+            follows = is.follows;
+          });
+    }))
+    (λ t k. k)
   where
-    by_case : (b : Bool) (r : Spent (Option Term)) → Within left Any r → Within left Any (cond b r (answered (Ok None) left))
-    by_case true r h = h
-    by_case false r h = answered-within Any (Ok None) left tt
+    p : ℕ
+    p = length s.context - (x + 1)
 
-turn_by-allows : (S : Signature) (s : State) (left : ℕ) (step : Term → Step) (found : Option (Term × State)) (rest : ℕ) → ((t : Term) → DeletesWithK S (step t))
-    → Solves s left found rest → Allows S s left (turn_by step found) rest
-turn_by-allows S s left step None rest k h = tt
-turn_by-allows S s left step (Some p) rest k h = record { falls = h.0; whole = h.1; deletes = k p.0 }
+solve_side-is : (S : Signature) (s : State) (left : ℕ) (e : Equation) (A other : Term) (step : ℕ → Term → Step) (found : Option ℕ) (rest : ℕ)
+    → slice_get s.equations 0 ≡ Some e → rest ≤ left → ((x : ℕ) → found ≡ Some x → Solving S s e A other x (step x))
+    → Comes (IsTurn S s left) (solve_side S s e A other step found) rest
+solve_side-is S s left e A other step None rest at le solving = none-comes (IsTurn S s left) rest
+solve_side-is S s left e A other step (Some x) rest at le solving =
+    and_next-within (λ pair end. IfSome (turn_by (step x) pair) (λ turn. IsTurn S s left turn end)) (Found (IsTurn S s left))
+    (side_solved S s e x A other rest) _ rest
+    (and_next-within (Found (λ u end. IsSolution S s x A other u)) (λ pair end. IfSome (turn_by (step x) pair) (λ turn. IsTurn S s left turn end))
+    (solves S s x A other rest) _ rest (solves-within S s x A other rest) (λ found end l h.
+    answered-within (λ pair end. IfSome (turn_by (step x) pair) (λ turn. IsTurn S s left turn end)) (state_solved s e x A found) end
+    (state_solved-is S s left e x A other (step x) found end at (omega arith) (solving x refl) h)))
+    (λ pair end l h. answered-within (Found (IsTurn S s left)) (Ok (turn_by (step x) pair)) end h)
 
-solve_side-is : (S : Signature) (s : State) (left : ℕ) (e : Equation) (A other : Term) (step : ℕ → Term → Step) (found : Option ℕ) → slice_get s.equations 0 ≡ Some e
-    → ((x : ℕ) (t : Term) → DeletesWithK S (step x t)) → IsTrial S s left (solve_side S s e A other step found)
-solve_side-is S s left e A other step None at k rest le = none-is S s left rest le
-solve_side-is S s left e A other step (Some x) at k rest le =
-    and_next-within (Solves s left) (Allows S s left) (side_solved S s e x A other rest) _ rest
-    (and_next-within Any (Solves s left) (solves S s x A other rest) _ rest (solves-within S s x A other rest) (λ found end l a.
-    answered-within (Solves s left) (state_solved s e x A found) end (state_solved-solves s e x A found left end at (omega arith))))
-    (λ found end l h. answered-within (Allows S s left) (Ok (turn_by (step x) found)) end (turn_by-allows S s left (step x) found end (k x) h))
+-- ---- the rule
 
-solve_sides-is : (S : Signature) (s : State) (left : ℕ) (e : Equation) (A u v : Term) → slice_get s.equations 0 ≡ Some e → IsTrial S s left (solve_sides S s e A u v)
-solve_sides-is S s left e A u v at =
-    or_else-is S s left (solve_side S s e A u (right_step A v) (variable_in v)) (solve_side S s e A v (left_step A u) (variable_in u))
-    (solve_side-is S s left e A u (right_step A v) (variable_in v) at (λ x t k is. cc))
-    (solve_side-is S s left e A v (left_step A u) (variable_in u) at (λ x t k is. cc))
+solve_sides-is : (S : Signature) (s : State) (left : ℕ) (e : Equation) (others : List Equation) → s.equations ≡ e ∷ others → (A u v : Term)
+    → IsReduct S (type_in e.type) A → IsReduct S e.left u → IsReduct S e.right v → (rest : ℕ) → rest ≤ left
+    → Comes (IsTurn S s left) (solve_sides S s e A u v) rest
+solve_sides-is S s left e others first A u v hA hu hv rest le =
+    or_else-comes (IsTurn S s left) (solve_side S s e A u (right_step A v) (variable_in v)) (solve_side S s e A v (left_step A u) (variable_in u)) rest
+    (solve_side-is S s left e A u (right_step A v) (variable_in v) rest (first-at s e others first) le solves_right)
+    (λ end l. solve_side-is S s left e A v (left_step A u) (variable_in u) end (first-at s e others first) (omega arith) solves_left)
+  where
+    solves_right : (x : ℕ) → variable_in v ≡ Some x → Solving S s e A u x (right_step A v x)
+    solves_right x is w h = (
+      λ k e. cc,
+      λ ready scoped.
+          (let is_tried = tried S s e others first scoped in
+          let n = length s.context in
+          let type = hA.scoped n ready.scoped (type-scoped S s e is_tried) in
+          let right = hv.scoped n ready.scoped is_tried.equation.right in
+          let term = h.reduct.scoped n ready.scoped (hu.scoped n ready.scoped is_tried.equation.left) in
+          let low = variable-low S n v x is right in
+          record {
+            tried = is_tried;
+            variable = low;
+            type_scoped = type;
+            term_scoped = term;
+            step_scoped = single-scoped S n (SolveRight x) A w v type term right;
+            count = refl;
+            follows =
+                transport (λ t. Steps S s (right_step A t x w) (solved_state s e.place.level (level_of (length s.context) x) A w)) (sym (variable-is v x is))
+                (solve_right s e x A w
+                (first-as S s e A w (Var x) is_tried hA.converts (converts-trans hu.converts h.reduct.converts)
+                (transport (Converts S e.right) (variable-is v x is) hv.converts))
+                (record { variable = low; type = h.type; term = h.term }));
+          }),
+    )
 
-tidied_type-is : (S : Signature) (s : State) (left : ℕ) (e : Equation) (u v : Term) → slice_get s.equations 0 ≡ Some e
-    → IsTrial S s left (λ rest. and_next (tidy_of S rest (type_in e.type)) (λ A end. solve_sides S s e A u v end))
-tidied_type-is S s left e u v at rest le =
-    and_next-within Any (Allows S s left) (tidy_of S rest (type_in e.type)) _ rest (tidy-within S rest (type_in e.type)) (λ A end l a.
-    solve_sides-is S s left e A u v at end (omega arith))
+    solves_left : (x : ℕ) → variable_in u ≡ Some x → Solving S s e A v x (left_step A u x)
+    solves_left x is w h = (
+      λ k e. cc,
+      λ ready scoped.
+          (let is_tried = tried S s e others first scoped in
+          let n = length s.context in
+          let type = hA.scoped n ready.scoped (type-scoped S s e is_tried) in
+          let left = hu.scoped n ready.scoped is_tried.equation.left in
+          let term = h.reduct.scoped n ready.scoped (hv.scoped n ready.scoped is_tried.equation.right) in
+          let low = variable-low S n u x is left in
+          record {
+            tried = is_tried;
+            variable = low;
+            type_scoped = type;
+            term_scoped = term;
+            step_scoped = single-scoped S n (SolveLeft x) A u w type left term;
+            count = refl;
+            follows =
+                transport (λ t. Steps S s (left_step A t x w) (solved_state s e.place.level (level_of (length s.context) x) A w)) (sym (variable-is u x is))
+                (solve_left s e x A w
+                (first-as S s e A (Var x) w is_tried hA.converts (transport (Converts S e.left) (variable-is u x is) hu.converts)
+                (converts-trans hv.converts h.reduct.converts))
+                (record { variable = low; type = h.type; term = h.term }));
+          }),
+    )
 
-with_variable-is : (S : Signature) (s : State) (left : ℕ) (e : Equation) (u v : Term) (from_left from_right : Option ℕ) → slice_get s.equations 0 ≡ Some e
-    → IsTrial S s left (with_variable S s e u v from_left from_right)
-with_variable-is S s left e u v None None at rest le = none-is S s left rest le
-with_variable-is S s left e u v None (Some y) at rest le = tidied_type-is S s left e u v at rest le
-with_variable-is S s left e u v (Some x) from_right at rest le = tidied_type-is S s left e u v at rest le
+with_variable-is : (S : Signature) (s : State) (left : ℕ) (e : Equation) (others : List Equation) → s.equations ≡ e ∷ others → (u v : Term)
+    → IsReduct S e.left u → IsReduct S e.right v → (from_left from_right : Option ℕ) (rest : ℕ) → rest ≤ left
+    → Comes (IsTurn S s left) (with_variable S s e u v from_left from_right) rest
+with_variable-is S s left e others first u v hu hv from_left from_right rest le = by from_left from_right
+  where
+    goes : Within rest (Found (IsTurn S s left)) (and_next (tidy_of S rest (type_in e.type)) (λ A end. solve_sides S s e A u v end))
+    goes =
+        reduced-within (Found (IsTurn S s left)) S false (type_in e.type) rest _ (λ A end l h.
+        solve_sides-is S s left e others first A u v h.reduct hu hv end (omega arith))
 
-pub solution_trial-is : (S : Signature) (s : State) (left : ℕ) (e : Equation) → slice_get s.equations 0 ≡ Some e → IsTrial S s left (solution_trial S s e)
-solution_trial-is S s left e at =
-    on_tidied-is S s left e.left e.right _ (λ u v. with_variable-is S s left e u v (variable_in u) (variable_in v) at)
+    by : (o o' : Option ℕ) → Comes (IsTurn S s left) (with_variable S s e u v o o') rest
+    by None None = none-comes (IsTurn S s left) rest
+    by None (Some y) = goes
+    by (Some x) None = goes
+    by (Some x) (Some y) = goes
+
+pub solution_trial-is : (S : Signature) (s : State) (left : ℕ) (e : Equation) (others : List Equation) → s.equations ≡ e ∷ others → (rest : ℕ) → rest ≤ left
+    → Comes (IsTurn S s left) (solution_trial S s e) rest
+solution_trial-is S s left e others first rest le =
+    on_tidied-comes (IsTurn S s left) S e.left e.right _ rest (λ u v end l hu hv.
+    with_variable-is S s left e others first u v hu hv (variable_in u) (variable_in v) end (omega arith))

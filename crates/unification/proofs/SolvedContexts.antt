@@ -1,5 +1,6 @@
 -- The context behind a solution: the other variables stand in it once each, and each type is over what stands before it.
-use Rattle.std.proofs.Common.{◌≡◌, ℕ, zero, suc, ◌+◌, ◌-◌, ◌<◌, ◌≤◌, ◌⊎◌, inl, inr, Bool, true, false, cond, List, [], ◌∷◌, ◌++◌, length, drop, refl, sym, ap, ◌∙◌, subst, arith, get_or-drop, length-drop, length-append}
+use Rattle.std.proofs.Common.{◌≡◌, ℕ, zero, suc, ◌+◌, ◌-◌, ◌<◌, ◌≤◌, ◌⊎◌, inl, inr, Bool, true, false, cond, List, [], ◌∷◌, ◌++◌, length, drop, refl, ap, sym, get_or-drop, length-drop, length-append, drop_of_length-le, subst, ◌∙◌, arith}
+use Rattle.std.proofs.lemmas.Bool.{not-true}
 use Rattle.theory.specs.Terms.{Term}
 use Rattle.theory.specs.Terms.Term.{Sort}
 use Rattle.theory.specs.Telescopes.{Telescope}
@@ -7,14 +8,14 @@ use Rattle.theory.specs.Signatures.{Signature}
 use Rattle.theory.specs.SignatureScopes.{IsScoped, IsScopedTelescope}
 use Rattle.theory.proofs.ScopedTerms.{var-scoped, sort-scoped, scoped_over_more}
 use Rattle.tele_eq.specs.Dependences.{has_variable}
-use Rattle.tele_eq.specs.Environments.{put}
+use Rattle.tele_eq.specs.Environments.{put, Environment}
 use Rattle.tele_eq.specs.Items.{term_at, each_position}
 use Rattle.tele_eq.proofs.Carrying.{where-same, where-other}
 use Rattle.tele_eq.proofs.Growing.{snoc-append}
 use Rattle.unification.specs.Laws.{SolvedContext}
 use Rattle.unification.specs.Occurrences.{has_level, dependants_from, dependants, lacks, is_among, without, order_without, place_in}
 use Rattle.unification.specs.Solving.{reordered, solved, new_context}
-use Rattle.unification.proofs.Cases.{either, not-true, here-or_below}
+use Rattle.unification.proofs.Cases.{either, here-or_below}
 use Rattle.unification.proofs.Dependants.{dependants-order, dependants-below, none-occurs, type-lacks}
 use Rattle.unification.proofs.Levels.{among-cases, among-own, among-left, among-right, not-among-head, not-among-tail, among-from, place-there, place-before, each-among, among-without, length-without}
 use Rattle.unification.proofs.Occurring.{put-where}
@@ -59,6 +60,11 @@ length-order context p lt =
       | inr there ↦ let low : j < length context = dependants-within context p j lt there in omega arith
     ]
 
+-- with no variable there is none left
+pub length-order_of_none : (context : Telescope) (p : ℕ) → length context ≡ 0 → length (order_without context p) ≡ 0
+length-order_of_none [] p e = ap (λ types. length (dependants_from (p + 1) (p ∷ []) types)) (drop_of_length-le [] (omega arith))
+length-order_of_none (a ∷ context) p e = absurd (omega arith)
+
 -- ---- what stands for the variables
 
 -- each variable that occurs in a term of the context has its level among these
@@ -102,11 +108,11 @@ AreOver n p u context done (j ∷ rest) =
     ((i : ℕ) → i < j → has_variable (j - (i + 1)) (term_at context j) ≡ true → Stands n p u done i)
     × AreOver n p u context (done ++ j ∷ []) rest
 
-type-scoped : (S : Signature) (n : ℕ) (context : Telescope) (j : ℕ) → IsScopedTelescope S n context → IsScoped S (n + j) (term_at context j)
-type-scoped S n [] j h = sort-scoped 0
-type-scoped S n (a ∷ context) zero h = scoped_over_more S n (n + 0) a (omega arith) h.0
-type-scoped S n (a ∷ context) (suc j) h =
-    scoped_over_more S (n + 1 + j) (n + suc j) (term_at context j) (omega arith) (type-scoped S (n + 1) context j h.1)
+term_at-scoped : (S : Signature) (n : ℕ) (context : Telescope) (j : ℕ) → IsScopedTelescope S n context → IsScoped S (n + j) (term_at context j)
+term_at-scoped S n [] j h = sort-scoped 0
+term_at-scoped S n (a ∷ context) zero h = scoped_over_more S n (n + 0) a (omega arith) h.0
+term_at-scoped S n (a ∷ context) (suc j) h =
+    scoped_over_more S (n + 1 + j) (n + suc j) (term_at context j) (omega arith) (term_at-scoped S (n + 1) context j h.1)
 
 types-scoped : (S : Signature) (n p : ℕ) (u : Term) (context : Telescope) (order : List ℕ) → IsScopedTelescope S 0 context → IsScoped S n u
     → (done rest : List ℕ) (depth : ℕ) → order ≡ done ++ rest → depth ≡ length done → AreOver n p u context done rest
@@ -115,15 +121,15 @@ types-scoped S n p u context order scoped h done [] depth e d over = tt
 types-scoped S n p u context order scoped h done (j ∷ rest) depth e d over = (
   put-where S (solved n order p u) j depth (term_at context j)
       (λ i lt occurs d' deep. solved-scoped S n p u order done (j ∷ rest) i d' e h (over.0 i lt occurs) (omega arith))
-      (scoped_over_more S (0 + j) j (term_at context j) (omega arith) (type-scoped S 0 context j scoped)),
+      (scoped_over_more S (0 + j) j (term_at context j) (omega arith) (term_at-scoped S 0 context j scoped)),
   types-scoped S n p u context order scoped h (done ++ j ∷ []) rest (depth + 1) (e ∙ sym (snoc-append done j rest))
       (omega (arith, length-append done (j ∷ []))) over.1,
 )
 
-pub length-new_context : (context : Telescope) (n p : ℕ) (u : Term) (order rest : List ℕ) (depth : ℕ)
-    → length (new_context context (solved n order p u) depth rest) ≡ length rest
-length-new_context context n p u order [] depth = refl
-length-new_context context n p u order (j ∷ rest) depth = ap suc (length-new_context context n p u order rest (depth + 1))
+-- there is a type for each level
+pub length-new_context : (context : Telescope) (s : Environment) (depth : ℕ) (levels : List ℕ) → length (new_context context s depth levels) ≡ length levels
+length-new_context context s depth [] = refl
+length-new_context context s depth (j ∷ levels) = ap suc (length-new_context context s (depth + 1) levels)
 
 -- a level that is not left out is among the others at the beginning; a dependant is over these and the dependants before it
 
@@ -279,7 +285,7 @@ pub solved-context : SolvedContext
 solved-context S s i p A u scoped lt h free =
     let order = order_without s.context p in
     let counted : length (new_context s.context (solved (length s.context) order p u) 0 order) ≡ length order =
-    length-new_context s.context (length s.context) p u order order 0 in
+    length-new_context s.context (solved (length s.context) order p u) 0 order in
     record {
       shorter = ap (λ k. k + 1) counted ∙ length-order s.context p lt;
       each = λ j low other.

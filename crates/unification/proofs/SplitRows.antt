@@ -1,13 +1,11 @@
 -- Problems as they come up where a variable of an indexed family is split, with their outcomes. Units, sides, contexts and reasons
 -- are those of another implementation.
 use native.Mathlib.Decide.{ℕ_discrete}
-use Rattle.std.proofs.Common.{◌≡◌, ℕ, false, Ok, Err, [], ◌∷◌, refl}
+use Rattle.std.proofs.Common.{◌≡◌, false, Ok, Err, [], ◌∷◌, refl}
 use Rattle.theory.specs.Terms.{Term, lift}
 use Rattle.theory.specs.Terms.Term.{Var, Sort, Pi, Lam, App, Con}
 use Rattle.theory.specs.Telescopes.{Telescope}
 use Rattle.theory.specs.Signatures.{equation, reflexivity}
-use Rattle.core_terms.specs.CaseTrees.{Step}
-use Rattle.core_terms.specs.declared.case_tree.Rule.{Rule}
 use Rattle.core_terms.specs.declared.case_tree.Rule.TheVariants.{SolveRight, SolveLeft, Inject, Conflict, Cycle}
 use Rattle.core_terms.specs.declared.stop.Stop.TheVariants.{Deep}
 use Rattle.kernel_reduce.specs.Reduction.{answered}
@@ -15,10 +13,7 @@ use Rattle.unification.specs.States.{Problem}
 use Rattle.unification.specs.Outcomes.{Solved, Absurd, Stuck}
 use Rattle.unification.specs.Runs.{unify_of}
 use Rattle.unification.specs.declared.why.Why.TheVariants.{NeedsK, NotRigid, OccursNotRigid, Depends, NeedsIndexEquations}
-use Rattle.unification.proofs.Samples.{sample, item, Nat, zero_term, suc_term, Fin, fzero, fsuc, Has, there_term, Box, box, Vec, K, k_term, W, w_term, konst, D, Tk, Het, Tree, node, first, add, up, one}
-
-abbrev step : (group : ℕ) → Rule → (ty u v : Term) → Step
-step group rule ty u v = record { group = group; rule = rule; ty = ty; left = u; right = v }
+use Rattle.unification.proofs.Samples.{sample, item, step, Nat, zero_term, suc_term, Fin, fzero, fsuc, Has, there_term, Box, box, Vec, K, k_term, W, w_term, konst, D, Tk, Het, Tree, node, first, add, up, one}
 
 -- ---- equations between members of the identity family: refl is matched with e : Eq.0 A a b
 

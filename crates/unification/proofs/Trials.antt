@@ -1,86 +1,70 @@
--- What holds of each turn that a trial answers, from what holds of its parts. Nothing is said of refusals, and of a rule that does
--- not apply.
-use Rattle.std.proofs.Common.{◌≡◌, ℕ, ◌<◌, Bool, true, false, cond, Option, Some, None, IfSome, Result, Ok, Err, IfOk, refl, arith}
+-- What holds of each turn that a trial comes to, and of the units that are left behind it, from what holds of its parts. Nothing is said
+-- of refusals, and of a rule that does not apply.
+use Rattle.std.proofs.Common.{◌≡◌, ℕ, ◌≤◌, Bool, true, false, cond, Option, Some, None, IfSome, Result, Ok, Err, IfOk}
 use Rattle.theory.specs.Terms.{Term}
-use Rattle.theory.specs.Terms.Term.{Var}
 use Rattle.theory.specs.Signatures.{Signature}
-use Rattle.theory.specs.SignatureScopes.{IsScoped, IsScopedSignature}
-use Rattle.core_terms.specs.Answers.{Spent, and_next}
 use Rattle.core_terms.specs.CaseTrees.{Step}
 use Rattle.core_terms.specs.declared.stop.Stop.{Stop}
-use Rattle.core_terms.proofs.Answers.{Answers, and_next-has}
-use Rattle.kernel_reduce.specs.Reduction.{answered, whnf_of}
-use Rattle.kernel_reduce.specs.Tidying.{tidy_of}
-use Rattle.kernel_reduce.proofs.ScopedReduction.{whnf-scoped}
-use Rattle.unification.specs.Solutions.{variable_in}
 use Rattle.unification.specs.States.{State}
 use Rattle.unification.specs.Turns.{Trial, Turn, Goes, Fails, Sticks, does_not_apply, applies, goes_to, tidied, on_tidied, fails_at, sticks_at, unless_found, or_else}
 use Rattle.unification.specs.declared.why.Why.{Why}
+use Rattle.unification.proofs.SpentUnits.{Within, answered-within, and_next-within, cond-within_at}
+use Rattle.unification.proofs.Reducts.{IsReduct, reduced-within}
 
--- each turn that is answered has P
-abbrev pub Turns : (Turn → Type 0) → Trial → Type 0
-Turns P trial = (left : ℕ) → Answers (λ turn. IfSome turn P) (trial left)
+-- what is found has P, with the units behind it
+abbrev pub Found : {A : Type 0} → (A → ℕ → Type 0) → Option A → ℕ → Type 0
+Found P found rest = IfSome found (λ a. P a rest)
 
--- of an answer of which nothing is to be known
-pub any-answer : {A : Type 0} (r : Result A Stop) → IfOk r (λ a. Unit {0})
-any-answer (Ok a) = tt
-any-answer (Err e) = tt
+-- a trial that begins with so many units gives none back, and the turn that it comes to has P
+abbrev pub Comes : (Turn → ℕ → Type 0) → Trial → (left : ℕ) → Type 0
+Comes P trial left = Within left (Found P) (trial left)
 
-pub does_not_apply-has : (P : Turn → Type 0) → Turns P does_not_apply
-does_not_apply-has P left = tt
+pub none-comes : (P : Turn → ℕ → Type 0) (left : ℕ) → Comes P does_not_apply left
+none-comes P left = answered-within (Found P) (Ok None) left tt
 
-pub applies-has : (P : Turn → Type 0) (turn : Turn) → P turn → Turns P (applies turn)
-applies-has P turn h left = h
+pub applies-comes : (P : Turn → ℕ → Type 0) (turn : Turn) (left : ℕ) → P turn left → Comes P (applies turn) left
+applies-comes P turn left h = answered-within (Found P) (Ok (Some turn)) left h
 
-pub goes_to-has : (P : Turn → Type 0) (step : Step) (made : Result State Stop) → IfOk made (λ s. P (Goes step s)) → Turns P (goes_to step made)
-goes_to-has P step made h left =
-    and_next-has (λ s. P (Goes step s)) (λ turn. IfSome turn P) (answered made left) (λ s rest. applies (Goes step s) rest) h (λ s rest is. is)
+pub goes_to-comes : (P : Turn → ℕ → Type 0) (step : Step) (made : Result State Stop) (left : ℕ) → IfOk made (λ t. P (Goes step t) left)
+    → Comes P (goes_to step made) left
+goes_to-comes P step (Ok t) left h = answered-within (Found P) (Ok (Some (Goes step t))) left h
+goes_to-comes P step (Err e) left h = answered-within (Found P) (Err e) left tt
 
-unless_found-has : (P : Turn → Type 0) (turn : Option Turn) (second : Trial) → IfSome turn P → Turns P second → Turns P (unless_found turn second)
-unless_found-has P (Some turn) second h k left = h
-unless_found-has P None second h k left = k left
+unless_found-comes : (P : Turn → ℕ → Type 0) (found : Option Turn) (second : Trial) (left : ℕ) → Found P found left → Comes P second left
+    → Comes P (unless_found found second) left
+unless_found-comes P (Some turn) second left h k = applies-comes P turn left h
+unless_found-comes P None second left h k = k
 
-pub or_else-has : (P : Turn → Type 0) (first second : Trial) → Turns P first → Turns P second → Turns P (or_else first second)
-or_else-has P first second h k left =
-    and_next-has (λ turn. IfSome turn P) (λ turn. IfSome turn P) (first left) (λ turn rest. unless_found turn second rest) (h left)
-    (λ turn rest is. unless_found-has P turn second is k rest)
+pub or_else-comes : (P : Turn → ℕ → Type 0) (first second : Trial) (left : ℕ) → Comes P first left
+    → ((rest : ℕ) → rest ≤ left → Comes P second rest) → Comes P (or_else first second) left
+or_else-comes P first second left h k =
+    and_next-within (Found P) (Found P) (first left) _ left h (λ found rest le is. unless_found-comes P found second rest is (k rest le))
 
-pub where-has : (P : Turn → Type 0) (test : Bool) (one other : Trial) → (test ≡ true → Turns P one) → Turns P other → Turns P (cond test one other)
-where-has P true one other h k = h refl
-where-has P false one other h k = k
+-- one of two trials, each of which may know the test
+pub cond-comes : (P : Turn → ℕ → Type 0) (test : Bool) (one other : Trial) (left : ℕ) → (test ≡ true → Comes P one left)
+    → (test ≡ false → Comes P other left) → Comes P (cond test one other) left
+cond-comes P test one other left h k = cond-within_at (Found P) test one other left h k
 
--- ---- reduced terms
+-- ---- tidied sides
 
--- a term that is reduced is scoped where it was
-pub reduced-has : {A : Type 0} (P : A → Type 0) (S : Signature) (delta : Bool) (n : ℕ) (t : Term) (left : ℕ) (go : Term → ℕ → Spent A) → IsScopedSignature S
-    → IsScoped S n t → ((u : Term) (rest : ℕ) → IsScoped S n u → Answers P (go u rest)) → Answers P (and_next (whnf_of S delta left t) go)
-reduced-has P S delta n t left go scoped h k = and_next-has (IsScoped S n) P (whnf_of S delta left t) go (whnf-scoped S delta left n t scoped h) k
+tidied-within : (S : Signature) (u v : Term) (left : ℕ) → Within left (λ sides rest. IsReduct S u sides.0 × IsReduct S v sides.1) (tidied S u v left)
+tidied-within S u v left =
+    reduced-within _ S false u left _ (λ u' rest le h.
+    reduced-within _ S false v rest _ (λ v' end le' k.
+    answered-within (λ (sides : Term × Term) last. IsReduct S u sides.0 × IsReduct S v sides.1) (Ok (u', v')) end (h.reduct, k.reduct)))
 
-pub on_tidied-has : (P : Turn → Type 0) (S : Signature) (n : ℕ) (u v : Term) (go : Term → Term → Trial) → IsScopedSignature S → IsScoped S n u → IsScoped S n v
-    → ((l r : Term) → IsScoped S n l → IsScoped S n r → Turns P (go l r)) → Turns P (on_tidied S u v go)
-on_tidied-has P S n u v go scoped hu hv k left =
-    and_next-has (λ (sides : Term × Term). IsScoped S n sides.0 × IsScoped S n sides.1) (λ turn. IfSome turn P) (tidied S u v left)
-    (λ sides rest. go sides.0 sides.1 rest)
-    (reduced-has (λ (sides : Term × Term). IsScoped S n sides.0 × IsScoped S n sides.1) S false n u left
-    (λ l rest. and_next (tidy_of S rest v) (λ r end. answered (Ok (l, r)) end)) scoped hu
-    (λ l rest hl.
-    reduced-has (λ (sides : Term × Term). IsScoped S n sides.0 × IsScoped S n sides.1) S false n v rest (λ r end. answered (Ok (l, r)) end) scoped hv
-    (λ r end hr. (hl, hr))))
-    (λ sides rest is. k sides.0 sides.1 is.0 is.1 rest)
+pub on_tidied-comes : (P : Turn → ℕ → Type 0) (S : Signature) (u v : Term) (go : Term → Term → Trial) (left : ℕ)
+    → ((u' v' : Term) (rest : ℕ) → rest ≤ left → IsReduct S u u' → IsReduct S v v' → Comes P (go u' v') rest) → Comes P (on_tidied S u v go) left
+on_tidied-comes P S u v go left h =
+    and_next-within (λ (sides : Term × Term) rest. IsReduct S u sides.0 × IsReduct S v sides.1) (Found P) (tidied S u v left)
+    (λ sides rest. go sides.0 sides.1 rest) left (tidied-within S u v left) (λ sides rest le k. h sides.0 sides.1 rest le k.0 k.1)
 
-pub fails_at-has : (P : Turn → Type 0) (S : Signature) (n : ℕ) (step : Step) (u v : Term) → IsScopedSignature S → IsScoped S n u → IsScoped S n v
-    → ((l r : Term) → IsScoped S n l → IsScoped S n r → P (Fails step l r)) → Turns P (fails_at S step u v)
-fails_at-has P S n step u v scoped hu hv k =
-    on_tidied-has P S n u v (λ l r. applies (Fails step l r)) scoped hu hv (λ l r hl hr. applies-has P (Fails step l r) (k l r hl hr))
+pub fails_at-comes : (P : Turn → ℕ → Type 0) (S : Signature) (step : Step) (u v : Term) (left : ℕ)
+    → ((u' v' : Term) (rest : ℕ) → rest ≤ left → IsReduct S u u' → IsReduct S v v' → P (Fails step u' v') rest) → Comes P (fails_at S step u v) left
+fails_at-comes P S step u v left h =
+    on_tidied-comes P S u v _ left (λ u' v' rest le k l. applies-comes P (Fails step u' v') rest (h u' v' rest le k l))
 
-pub sticks_at-has : (P : Turn → Type 0) (S : Signature) (n : ℕ) (why : Why) (u v : Term) → IsScopedSignature S → IsScoped S n u → IsScoped S n v
-    → ((l r : Term) → IsScoped S n l → IsScoped S n r → P (Sticks why l r)) → Turns P (sticks_at S why u v)
-sticks_at-has P S n why u v scoped hu hv k =
-    on_tidied-has P S n u v (λ l r. applies (Sticks why l r)) scoped hu hv (λ l r hl hr. applies-has P (Sticks why l r) (k l r hl hr))
-
--- ---- variables
-
--- a side that is a variable is that of the context
-pub variable-low : (S : Signature) (n : ℕ) (t : Term) → IsScoped S n t → IfSome (variable_in t) (λ x. x < n)
-variable-low S n (Var x) h = omega (arith, h.variables)
-variable-low S n _ h = tt
+pub sticks_at-comes : (P : Turn → ℕ → Type 0) (S : Signature) (why : Why) (u v : Term) (left : ℕ)
+    → ((u' v' : Term) (rest : ℕ) → rest ≤ left → IsReduct S u u' → IsReduct S v v' → P (Sticks why u' v') rest) → Comes P (sticks_at S why u v) left
+sticks_at-comes P S why u v left h =
+    on_tidied-comes P S u v _ left (λ u' v' rest le k l. applies-comes P (Sticks why u' v') rest (h u' v' rest le k l))

@@ -1,0 +1,12 @@
+//! The laws of solutions: a solved problem is unified.
+ghost use Rattle.unification.specs.Laws.{RunUnifies, SolvedIsUnified};
+
+/// The two sides of each equation of a solved problem convert under its solution, where its injectivities are coherent.
+pub fn solved_is_unified()
+    ensures { SolvedIsUnified }
+{}
+
+/// The same of what the run of a problem answers.
+pub fn run_unifies()
+    ensures { RunUnifies }
+{}
