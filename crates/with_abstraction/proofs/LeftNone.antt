@@ -1,8 +1,9 @@
 -- No occurrence of the scrutinee is left: what stands for it in the new goal, or in a type that is not needed, is the new variable.
-use Rattle.std.proofs.Common.{◌≡◌, ℕ, zero, suc, ◌+◌, ◌-◌, ◌≤◌, ◌<◌, ◌==◌, nat_lt, Bool, true, false, ◌||◌, cond, List, [], ◌∷◌, ◌++◌, length, map, take, drop, refl, sym, ap, ap₂, ◌∙◌, subst as transport, eq-eqb, add-one, arith}
+use Rattle.std.proofs.Common.{◌≡◌, ℕ, suc, ◌+◌, ◌-◌, ◌≤◌, ◌<◌, ◌==◌, nat_lt, Bool, true, false, ◌||◌, cond, List, [], ◌∷◌, ◌++◌, length, map, take, drop, refl, sym, ap, ap₂, ◌∙◌, subst as transport, eq-eqb, add-one, arith}
 use native.Mathlib.Decide.{ℕ_discrete}
 use Rattle.std.proofs.lemmas.Bool.Decides.{nat_tests, Decides-eqb}
-use Rattle.std.proofs.lemmas.List.{length-map, take-append-drop}
+use Rattle.std.proofs.lemmas.List.{length-map, length-take-le, take-append-drop, take-map}
+use Rattle.std.proofs.lemmas.Bool.{or_left}
 use Rattle.theory.specs.Terms.{Term, Term-discrete, Var, Sort, Pi, Lam, App, Let, Const, Fam, Con, Elim, AxiomK, lift, lift_var, free_of}
 use Rattle.theory.specs.Substitutions.{ren, inst, fill}
 use Rattle.theory.specs.Eliminators.{no_variable}
@@ -19,6 +20,7 @@ use Rattle.tele_eq.specs.Items.{term_at}
 use Rattle.tele_eq.proofs.Growing.{append-none, snoc-append}
 use Rattle.unification.specs.Occurrences.{is_among, place_in}
 use Rattle.unification.specs.Solving.{reordered}
+use Rattle.unification.proofs.Cases.{first-of_two, second-of_two}
 use Rattle.unification.proofs.Levels.{among-own, among-later, place-there}
 use Rattle.with_abstraction.specs.Abstractions.{opened_types, abstracted}
 use Rattle.with_abstraction.specs.Laws.{AbstractionLeavesNone, LeavesNone, arguments, at_terms}
@@ -30,9 +32,9 @@ use Rattle.with_abstraction.proofs.Following.{IsWithin, EachFollows, term-left, 
 use Rattle.with_abstraction.proofs.FormScopes.{AreFormsFitting, forms-fitting, types-count, types-scoped}
 use Rattle.with_abstraction.proofs.GivenBack.{AreBelow, front-below, arguments-by_level, each-stands, length-order, has-weaker}
 use Rattle.with_abstraction.proofs.OpenedTypes.{opened-type, opened-count, is-opened}
-use Rattle.with_abstraction.proofs.PutBack.{value_of, Stands, EachStands, first, second, body, put-back, without-back, same-is, test-lower, test-higher, under-higher}
+use Rattle.with_abstraction.proofs.PutBack.{value_of, Stands, EachStands, first, second, body, put-back, without-back, same-is, under-higher}
 use Rattle.with_abstraction.proofs.ScopedAbstractions.{all-scoped, each-scoped, without-scoped}
-use Rattle.with_abstraction.proofs.Variables.{or-cases, or-left}
+use Rattle.with_abstraction.proofs.Variables.{or-cases}
 use Rattle.with_abstraction.proofs.Widths.{occurrence-out}
 
 -- ---- terms under binders
@@ -98,8 +100,8 @@ placed values order n under x = put_under (reordered order) (n + 1) (length valu
 
 new-placed : (values : List Term) (order : List ℕ) (n under : ℕ) → placed values order n under (Var under) ≡ Var (length values + under - (place_in order n + 1))
 new-placed values order n under =
-    test-higher under under (Var under) _ (omega arith)
-    ∙ test-lower under (n + 1 + under) (reordered order (length values + under) (n + 1 + under - (under + 1))) (Var (under - (n + 1) + length values)) (omega arith)
+    second-of_two under under (Var under) _ (omega arith)
+    ∙ first-of_two under (n + 1 + under) (reordered order (length values + under) (n + 1 + under - (under + 1))) (Var (under - (n + 1) + length values)) (omega arith)
     ∙ ap (reordered order (length values + under)) (let e : n + 1 + under - (under + 1) ≡ n = omega arith in e)
 
 root : (values : List Term) (order : List ℕ) (n : ℕ) (t u g : Term) (under : ℕ) → free_of (without_under t under g) ≤ n + 1 + under
@@ -206,7 +208,7 @@ none-left values order n t u (Let a v b) under free stands at occ =
     let inner : ℕ → Bool = λ l. has_variable (n + 1 - (l + 1) + under + 1) wb in
     node values order n t u (Let a v b) (Let wa wv wb) under refl free stands at
     (λ top low s inside.
-    let outer : (l : ℕ) → l < n + 1 → both l ≡ true → Stands values order n t l = λ l lt k. s l lt (or-left (both l) (inner l) k) in
+    let outer : (l : ℕ) → l < n + 1 → both l ≡ true → Stands values order n t l = λ l lt k. s l lt (or_left (both l) (inner l) k) in
     or-cases (IsNew values order n u) (is_occurrence u under (placed values order n under (Let wa wv wb)))
     (occurs u under (placed values order n under wa) || occurs u under (placed values order n under wv) || occurs u (under + 1) (placed values order n (under + 1) wb)) inside top
     (λ parts. or-cases (IsNew values order n u) (occurs u under (placed values order n under wa) || occurs u under (placed values order n under wv))
@@ -269,16 +271,6 @@ arranged-at order n all done (i ∷ rest) d j follows h =
               (transport (λ (levels_of : List ℕ). IsWithin n levels_of (term_at all j)) (snoc-append done i (take p rest)) there.1),
         )
 
-take-map : (f : ℕ → Term) (k : ℕ) (xs : List ℕ) → take k (map f xs) ≡ map f (take k xs)
-take-map f zero xs = refl
-take-map f (suc k) [] = refl
-take-map f (suc k) (x ∷ xs) = ap (λ rest. f x ∷ rest) (take-map f k xs)
-
-length-taken : (k : ℕ) (xs : List ℕ) → k ≤ length xs → length (take k xs) ≡ k
-length-taken zero xs le = refl
-length-taken (suc k) [] le = absurd (omega arith)
-length-taken (suc k) (x ∷ xs) le = ap suc (length-taken k xs (omega arith))
-
 -- ---- the goal and the types
 
 left-none : (S : Signature) (n : ℕ) (m : NormalForms) (type : Term) → AreFormsFitting S n m → IsScoped S n type → LeavesNone m type (abstracted m type)
@@ -340,7 +332,7 @@ left-none S n m type h k = record { goal = goal; types = of_types }
         term-left types (lift type 1 0) j (omega (arith, c)) ∙ opened-type N m.scrutinee type m.types j refl low
         ∙ ap (λ b. cond b (lift w 1 0) (without m.scrutinee w)) none in
         let terms = map (value_of N m.scrutinee) (take q order) in
-        let e : length terms ≡ q = length-map (take q order) (value_of N m.scrutinee) ∙ length-taken q order (omega arith) in
+        let e : length terms ≡ q = length-map (take q order) (value_of N m.scrutinee) ∙ length-take-le q order (omega arith) in
         let free : free_of (term_at all j) ≤ N + 1 =
         (each-scoped S (N + 1) all j (all-scoped S N m.scrutinee type m.types refl (types-scoped S 0 n m.types h.types) whole)).variables in
         let own : free_of (without m.scrutinee w) ≤ N + 1 = transport (λ x. free_of x ≤ N + 1) is free in

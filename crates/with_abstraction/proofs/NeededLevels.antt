@@ -1,5 +1,6 @@
 -- The variables that a scrutinee's type needs: those that it has, closed under those that their types have.
 use Rattle.std.proofs.Common.{◌≡◌, ℕ, zero, suc, ◌+◌, ◌-◌, ◌≤◌, ◌<◌, ◌⊎◌, inl, inr, Bool, true, false, ◌||◌, cond, List, [], ◌∷◌, sym, subst as transport, arith}
+use Rattle.std.proofs.lemmas.Bool.{or_left, or_right}
 use Rattle.theory.specs.Terms.{Term}
 use Rattle.tele_eq.specs.Dependences.{has_variable}
 use Rattle.tele_eq.specs.Items.{term_at}
@@ -7,7 +8,6 @@ use Rattle.unification.specs.Occurrences.{is_among}
 use Rattle.unification.proofs.Cases.{here-or_below}
 use Rattle.unification.proofs.Levels.{among-cases, among-own, among-later}
 use Rattle.with_abstraction.specs.Needed.{is_mentioned, needed_below}
-use Rattle.with_abstraction.proofs.Variables.{or-left, or-right}
 
 -- what is found is kept, with a level before it or without
 found-more : (b : Bool) (i p : ℕ) (found : List ℕ) → is_among i found ≡ true → is_among i (cond b (p ∷ found) found) ≡ true
@@ -56,7 +56,7 @@ needed-own n types S (suc p) found i lt h =
           needed-found n types S p (cond test (p ∷ found) found) i
           (transport (λ x. is_among x (cond test (p ∷ found) found) ≡ true) (sym e)
           (found-new test p found
-          (or-left (has_variable (n - (p + 1)) S) (is_mentioned n types p found) (transport (λ x. has_variable (n - (x + 1)) S ≡ true) e h))))
+          (or_left (has_variable (n - (p + 1)) S) (is_mentioned n types p found) (transport (λ x. has_variable (n - (x + 1)) S ≡ true) e h))))
       | inr lower ↦ needed-own n types S p (cond test (p ∷ found) found) i lower h
     ]
 
@@ -65,10 +65,10 @@ mentioned : (n : ℕ) (types : List Term) (p : ℕ) (levels : List ℕ) (j : ℕ
 mentioned n types p [] j h k = absurd (cc)
 mentioned n types p (i ∷ levels) j h k = elim (among-cases j i levels h) [
   | inl e ↦
-      or-left (has_variable (n - (p + 1)) (term_at types i)) (is_mentioned n types p levels)
+      or_left (has_variable (n - (p + 1)) (term_at types i)) (is_mentioned n types p levels)
       (transport (λ x. has_variable (n - (p + 1)) (term_at types x) ≡ true) (sym e) k)
   | inr there ↦
-      or-right (has_variable (n - (p + 1)) (term_at types i)) (is_mentioned n types p levels) (mentioned n types p levels j there k)
+      or_right (has_variable (n - (p + 1)) (term_at types i)) (is_mentioned n types p levels) (mentioned n types p levels j there k)
 ]
 
 -- So are those of their types, where each type has only variables that stand before its own.
@@ -92,7 +92,7 @@ needed-closed n types S before (suc p) found j i le lt h k =
                   needed-found n types S p all i
                   (transport (λ x. is_among x all ≡ true) (sym e)
                   (found-new test p found
-                  (or-right (has_variable (n - (p + 1)) S) (is_mentioned n types p found)
+                  (or_right (has_variable (n - (p + 1)) S) (is_mentioned n types p found)
                   (mentioned n types p found j known (transport (λ x. has_variable (n - (x + 1)) (term_at types j) ≡ true) e k)))))
             ]
           ]

@@ -2,6 +2,7 @@
 use Rattle.std.proofs.Common.{◌≡◌, ℕ, zero, suc, ◌+◌, ◌-◌, ◌≤◌, ◌<◌, ◌==◌, ◌⊎◌, inl, inr, nat_lt, Bool, true, false, ◌||◌, cond, List, [], ◌∷◌, length, get_or, refl, sym, ap, ap₂, ◌∙◌, subst as transport, eq-eqb, arith}
 use native.Mathlib.Decide.{ℕ_discrete}
 use Rattle.std.proofs.lemmas.Bool.Decides.{nat_tests, Decides-eqb}
+use Rattle.std.proofs.lemmas.Bool.{or_left, or_right}
 use Rattle.theory.specs.Terms.{Term, Term-discrete, Var, Sort, Pi, Lam, App, Let, Const, Fam, Con, Elim, AxiomK, lift, lift_var, subst_var, free_of}
 use Rattle.theory.specs.Substitutions.{extend, fill}
 use Rattle.theory.specs.Eliminators.{no_variable}
@@ -13,9 +14,8 @@ use Rattle.tele_eq.specs.Dependences.{has_variable}
 use Rattle.tele_eq.specs.Environments.{put_variable, put_under}
 use Rattle.unification.specs.Occurrences.{place_in}
 use Rattle.unification.specs.Solving.{reordered}
-use Rattle.unification.proofs.Cases.{below-or_from}
+use Rattle.unification.proofs.Cases.{below-or_from, first-of_two, second-of_two}
 use Rattle.with_abstraction.specs.Occurrences.{is_occurrence, without_under}
-use Rattle.with_abstraction.proofs.Variables.{or-left, or-right}
 
 -- ---- t for the new variable
 
@@ -29,12 +29,6 @@ same-is a b h = go (Term-discrete ℕ_discrete a b) h
 pub test-same : (x y : ℕ) (a b : Term) → x ≡ y → cond (x == y) a b ≡ a
 test-same x y a b e = ap (λ c. cond c a b) (eq-eqb x y e)
 
-pub test-lower : (x y : ℕ) (a b : Term) → x < y → cond (nat_lt x y) a b ≡ a
-test-lower x y a b lt = grind (arith, nat_tests)
-
-pub test-higher : (x y : ℕ) (a b : Term) → y ≤ x → cond (nat_lt x y) a b ≡ b
-test-higher x y a b le = grind (arith, nat_tests)
-
 pub test-other : (x y : ℕ) (a b : Term) → (x ≡ y → ⊥) → cond (x == y) a b ≡ b
 test-other x y a b ne = go (x == y) refl
   where
@@ -45,7 +39,7 @@ test-other x y a b ne = go (x == y) refl
 -- the new variable becomes t
 new-is : (t : Term) (under : ℕ) → subst_under (Var under) under t under ≡ lift t under 0
 new-is t under =
-    test-higher under under (Var under) (cond (under == under) (lift t under 0) (Var (under - 1))) (omega arith)
+    second-of_two under under (Var under) (cond (under == under) (lift t under 0) (Var (under - 1))) (omega arith)
     ∙ test-same under under (lift t under 0) (Var (under - 1)) refl
 
 -- a variable that made room comes back
@@ -59,11 +53,11 @@ other-is t under w = by (below-or_from w under)
     by (inl lt) =
         let e : lift_var w 1 under ≡ w = grind (arith, nat_tests) in
         ap (λ x. subst_var x under (lift t under 0)) e
-        ∙ test-lower w under (Var w) (cond (w == under) (lift t under 0) (Var (w - 1))) lt
+        ∙ first-of_two w under (Var w) (cond (w == under) (lift t under 0) (Var (w - 1))) lt
     by (inr le) =
         let e : lift_var w 1 under ≡ w + 1 = grind (arith, nat_tests) in
         ap (λ x. subst_var x under (lift t under 0)) e
-        ∙ test-higher (w + 1) under (Var (w + 1)) (cond ((w + 1) == under) (lift t under 0) (Var (w + 1 - 1))) (omega arith)
+        ∙ second-of_two (w + 1) under (Var (w + 1)) (cond ((w + 1) == under) (lift t under 0) (Var (w + 1 - 1))) (omega arith)
         ∙ test-other (w + 1) under (lift t under 0) (Var (w + 1 - 1)) (λ (s : w + 1 ≡ under). omega arith)
         ∙ ap Var (let f : w + 1 - 1 ≡ w = omega arith in f)
 
@@ -126,11 +120,11 @@ fill-place s (u ∷ us) (suc q) lt =
 
 pub under-lower : (s : ℕ → Term) (under v : ℕ) → v < under → under_binders under s v ≡ Var v
 unfolding under_binders
-under-lower s under v lt = test-lower v under (Var v) (lift (s (v - under)) under 0) lt
+under-lower s under v lt = first-of_two v under (Var v) (lift (s (v - under)) under 0) lt
 
 pub under-higher : (s : ℕ → Term) (under v : ℕ) → under ≤ v → under_binders under s v ≡ lift (s (v - under)) under 0
 unfolding under_binders
-under-higher s under v le = test-higher v under (Var v) (lift (s (v - under)) under 0) le
+under-higher s under v le = second-of_two v under (Var v) (lift (s (v - under)) under 0) le
 
 lifted-variable : (m under : ℕ) → lift (Var m) under 0 ≡ Var (m + under)
 lifted-variable m under = ap Var (let e : lift_var m under 0 ≡ m + under = grind (arith, nat_tests) in e)
@@ -159,7 +153,7 @@ level-back values order n t under l lt h =
         ap (λ u. lift u under 0) (test-other l n t (Var (n - (l + 1))) (λ (s : l ≡ n). omega arith))
         ∙ lifted-variable (n - (l + 1)) under
         ∙ sym
-        (test-higher v under (Var v) (cond (v == under) (lift t under 0) (Var (v - 1))) (omega arith)
+        (second-of_two v under (Var v) (cond (v == under) (lift t under 0) (Var (v - 1))) (omega arith)
         ∙ test-other v under (lift t under 0) (Var (v - 1)) (λ (s : v ≡ under). omega arith)
         ∙ ap Var (let f : v - 1 ≡ n - (l + 1) + under = omega arith in f))
 
@@ -170,30 +164,30 @@ variable-back values order n t under v lt h = by (below-or_from v under)
     by : (v < under) ⊎ (under ≤ v)
         → instance_of values under (put_variable (reordered order) (n + 1) (length values) under v) ≡ subst_under (Var v) under t under
     by (inl lower) =
-        ap (instance_of values under) (test-lower v under (Var v) _ lower)
+        ap (instance_of values under) (first-of_two v under (Var v) _ lower)
         ∙ under-lower (fill no_variable values) under v lower
-        ∙ sym (test-lower v under (Var v) (cond (v == under) (lift t under 0) (Var (v - 1))) lower)
+        ∙ sym (first-of_two v under (Var v) (cond (v == under) (lift t under 0) (Var (v - 1))) lower)
     by (inr le) =
         let l = n + 1 + under - (v + 1) in
         let low : l < n + 1 = omega arith in
         let here : v ≡ n + 1 - (l + 1) + under = omega arith in
         ap (instance_of values under)
-        (test-higher v under (Var v) _ le ∙ test-lower v (n + 1 + under) (reordered order (length values + under) l) (Var (v - (n + 1) + length values)) lt)
+        (second-of_two v under (Var v) _ le ∙ first-of_two v (n + 1 + under) (reordered order (length values + under) l) (Var (v - (n + 1) + length values)) lt)
         ∙ level-back values order n t under l low (h l low (eq-eqb v (n + 1 - (l + 1) + under) here))
         ∙ ap (λ w. subst_under (Var w) under t under) (let e : n + 1 + under - (l + 1) ≡ v = omega arith in e)
 
 pub first : (values : List Term) (order : List ℕ) (n : ℕ) (t : Term) (under : ℕ) (a : Term) (other : ℕ → Bool)
     → ((l : ℕ) → l < n + 1 → (has_variable (n + 1 - (l + 1) + under) a || other l) ≡ true → Stands values order n t l) → EachStands values order n t under a
-first values order n t under a other h l lt k = h l lt (or-left (has_variable (n + 1 - (l + 1) + under) a) (other l) k)
+first values order n t under a other h l lt k = h l lt (or_left (has_variable (n + 1 - (l + 1) + under) a) (other l) k)
 
 pub second : (values : List Term) (order : List ℕ) (n : ℕ) (t : Term) (under : ℕ) (a : Term) (other : ℕ → Bool)
     → ((l : ℕ) → l < n + 1 → (other l || has_variable (n + 1 - (l + 1) + under) a) ≡ true → Stands values order n t l) → EachStands values order n t under a
-second values order n t under a other h l lt k = h l lt (or-right (other l) (has_variable (n + 1 - (l + 1) + under) a) k)
+second values order n t under a other h l lt k = h l lt (or_right (other l) (has_variable (n + 1 - (l + 1) + under) a) k)
 
 pub body : (values : List Term) (order : List ℕ) (n : ℕ) (t : Term) (under : ℕ) (b : Term) (other : ℕ → Bool)
     → ((l : ℕ) → l < n + 1 → (other l || has_variable (n + 1 - (l + 1) + under + 1) b) ≡ true → Stands values order n t l) → EachStands values order n t (under + 1) b
 body values order n t under b other h l lt k =
-    h l lt (or-right (other l) (has_variable (n + 1 - (l + 1) + under + 1) b)
+    h l lt (or_right (other l) (has_variable (n + 1 - (l + 1) + under + 1) b)
     (transport (λ m. has_variable m b ≡ true) (let e : n + 1 - (l + 1) + (under + 1) ≡ n + 1 - (l + 1) + under + 1 = omega arith in e) k))
 
 -- a term over n + 1 variables, where each of them that occurs stands for its own
@@ -216,7 +210,7 @@ put-back values order n t (App g a) under f h =
 put-back values order n t (Let a u b) under f h =
     let inner : ℕ → Bool = λ l. has_variable (n + 1 - (l + 1) + under + 1) b in
     let both : ℕ → Bool = λ l. has_variable (n + 1 - (l + 1) + under) a || has_variable (n + 1 - (l + 1) + under) u in
-    let outer : (l : ℕ) → l < n + 1 → both l ≡ true → Stands values order n t l = λ l lt k. h l lt (or-left (both l) (inner l) k) in
+    let outer : (l : ℕ) → l < n + 1 → both l ≡ true → Stands values order n t l = λ l lt k. h l lt (or_left (both l) (inner l) k) in
     ap₃ Let (put-back values order n t a under (omega arith) (first values order n t under a (λ l. has_variable (n + 1 - (l + 1) + under) u) outer))
     (put-back values order n t u under (omega arith) (second values order n t under u (λ l. has_variable (n + 1 - (l + 1) + under) a) outer))
     (put-back values order n t b (under + 1) (omega arith) (body values order n t under b both h))

@@ -1,5 +1,6 @@
 -- Which variables terms have that are lifted, or without a term.
 use Rattle.std.proofs.Common.{◌≡◌, ℕ, suc, ◌+◌, ◌≤◌, ◌==◌, nat_lt, Bool, true, false, ◌||◌, cond, refl, subst as transport, eq-eqb, arith}
+use Rattle.std.proofs.lemmas.Bool.{or_left, or_right}
 use Rattle.std.proofs.lemmas.Bool.Decides.{nat_tests, Decides-eqb}
 use Rattle.theory.specs.Terms.{Term, Var, Sort, Pi, Lam, App, Let, Const, Fam, Con, Elim, AxiomK, lift, lift_var}
 use Rattle.tele_eq.specs.Dependences.{has_variable}
@@ -9,16 +10,8 @@ pub or-cases : (P : Type 0) (b c : Bool) → (b || c) ≡ true → (b ≡ true �
 or-cases P true c e h k = h refl
 or-cases P false c e h k = k e
 
-pub or-left : (b c : Bool) → b ≡ true → (b || c) ≡ true
-or-left true c e = refl
-or-left false c e = absurd (cc)
-
-pub or-right : (b c : Bool) → c ≡ true → (b || c) ≡ true
-or-right true c e = refl
-or-right false c e = e
-
 pub or-map : (b c d e : Bool) → (b ≡ true → d ≡ true) → (c ≡ true → e ≡ true) → (b || c) ≡ true → (d || e) ≡ true
-or-map b c d e h k both = or-cases ((d || e) ≡ true) b c both (λ x. or-left d e (h x)) (λ x. or-right d e (k x))
+or-map b c d e h k both = or-cases ((d || e) ≡ true) b c both (λ x. or_left d e (h x)) (λ x. or_right d e (k x))
 
 lifted-variable : (v by from w : ℕ) → (lift_var w by from == (v + from)) ≡ true → by ≤ v
 lifted-variable v by from w h = by_test (nat_lt w from) refl h
