@@ -1,17 +1,11 @@
 -- A constructor with all its arguments: what is found in a term, and what that tells of the term.
-use Rattle.std.proofs.Common.{◌≡◌, ◌≢◌, ℕ, ◌+◌, ◌≤◌, ◌<◌, Bool, true, false, cond, ◌==◌, Option, Some, None, option_and_then, option_map, List, map, length, take, drop, slice_get, refl, sym, ap, ap₂, ◌∙◌, subst, arith}
+use Rattle.std.proofs.Common.{◌≡◌, ◌≢◌, ℕ, ◌+◌, Bool, true, false, cond, ◌==◌, Option, Some, None, option_and_then, List, length, take, drop, slice_get, refl, ap, ◌∙◌, subst, arith}
 use Rattle.std.proofs.lemmas.Bool.Decides.{nat_tests}
-use Rattle.std.proofs.lemmas.List.{length-map}
-use Rattle.std.proofs.lemmas.Option.{slice_get-map}
 use Rattle.theory.specs.Terms.{Term, Var, Con}
 use Rattle.theory.specs.Terms.Term.{Sort, Pi, Lam, App, Let, Const, Fam, Elim, AxiomK}
 use Rattle.theory.specs.Spines.{head_of, spine_of}
 use Rattle.theory.specs.Families.{Family, Constructor}
 use Rattle.theory.specs.Signatures.{Signature}
-use Rattle.core_terms.specs.Meanings.{tree_of, tele_of}
-use Rattle.core_sig.specs.Meanings.{argument_of, constructor_of, family_of}
-use Rattle.core_sig.specs.declared.family.Constructor.{Constructor as CodeConstructor}
-use Rattle.core_sig.specs.declared.family.Family.{Family as CodeFamily}
 use Rattle.kernel_reduce.specs.Entries.{family_at}
 use Rattle.unification.specs.Built.{Built, built_of, with_all, with_spine}
 use Rattle.unification.specs.Solutions.{variable_in}

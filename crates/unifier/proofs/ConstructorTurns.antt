@@ -1,17 +1,16 @@
 -- What a trial comes to where both sides are constructors.
-use Rattle.std.proofs.Common.{◌≡◌, ◌≢◌, ℕ, ◌+◌, ◌≤◌, ◌<◌, ◌==◌, Bool, true, false, cond, Option, Some, None, option_map, Result, Ok, Err, IfOk, List, map, length, take, drop, refl, sym, ap, ap₂, ◌∙◌, subst, arith}
+use Rattle.std.proofs.Common.{◌≡◌, ℕ, ◌+◌, ◌≤◌, ◌==◌, Bool, true, cond, Option, Some, Result, Ok, Err, List, length, take, drop, sym, ap, ap₂, ◌∙◌, subst, arith}
 use Rattle.std.proofs.lemmas.Bool.Decides.{nat_tests}
 use Rattle.std.proofs.lemmas.List.{length-map, length-take, length-drop}
 use Rattle.theory.specs.Terms.{Term, height}
 use Rattle.theory.specs.Spines.{spine_of}
 use Rattle.theory.specs.Signatures.{Signature}
-use Rattle.core_terms.specs.Answers.{Spent, Gives, Runs, IsUnforeseen, and_then, and_next}
+use Rattle.core_terms.specs.Answers.{Spent}
 use Rattle.core_terms.specs.CaseTrees.{Step}
 use Rattle.core_terms.specs.Meanings.{tree_of, tele_of}
 use Rattle.core_terms.specs.declared.case_tree.Rule.TheVariants.{Inject}
 use Rattle.core_terms.specs.declared.stop.Stop.{Stop}
 use Rattle.core_sig.specs.Meanings.{constructor_of, family_of}
-use Rattle.kernel_reduce.specs.Reduction.{answered}
 use Rattle.unification.specs.Built as pure
 use Rattle.unification.specs.Built.{built_of, has_no_indices}
 use Rattle.unification.specs.Groups.{Membership, group_turn}
@@ -19,7 +18,6 @@ use Rattle.unification.specs.Constructors.{with_built, constructor_turn}
 use Rattle.unification.specs.Heights.{injection_made}
 use Rattle.unification.specs.States.{Equation, State}
 use Rattle.unification.specs.Turns.{Goes, Trial, Turn, goes_to, type_in}
-use Rattle.unifier.specs.CodeBuilt.{AreOfOneFamily, IfThere, IsBuiltAs}
 use Rattle.unifier.specs.declared.built.Built.{Built}
 use Rattle.unifier.specs.Conditions.{AreOver, IsOver}
 use Rattle.core_terms.specs.declared.term.Term as code

@@ -1,23 +1,21 @@
 -- What the code finds of a variable below constructors is what the definition finds.
-use Rattle.std.proofs.Common.{◌≡◌, ◌≢◌, ℕ, zero, suc, ◌+◌, ◌≤◌, ◌<◌, ◌==◌, Bool, true, false, cond, Option, Some, None, option_map, Result, Ok, Err, List, [], ◌∷◌, ◌++◌, map, length, take, drop, reverse, get_or, slice_get, refl, sym, ap, ap₂, ◌∙◌, subst, append_assoc, append-nil, add-one, arith}
+use Rattle.std.proofs.Common.{◌≡◌, ◌≢◌, ℕ, zero, ◌<◌, ◌==◌, Bool, true, false, cond, Option, Some, None, Ok, Err, List, [], ◌∷◌, ◌++◌, length, drop, reverse, slice_get, refl, sym, ap, ap₂, ◌∙◌, subst, append_assoc, append-nil, arith}
 use Rattle.std.proofs.lemmas.Bool.Decides.{nat_tests}
 use Rattle.std.proofs.lemmas.List.{length-map, map-append, reverse-append, reverse-reverse}
-use Rattle.theory.specs.Terms.{Term, height}
-use Rattle.theory.specs.Telescopes.{applied}
+use Rattle.theory.specs.Terms.{Term}
 use Rattle.theory.specs.Spines.{spine_of}
 use Rattle.theory.specs.Families.{Argument}
 use Rattle.theory.specs.Signatures.{Signature}
-use Rattle.core_terms.specs.Answers.{Spent, and_next, on_answer}
+use Rattle.core_terms.specs.Answers.{Spent, and_next}
 use Rattle.core_terms.specs.Meanings.{tree_of, tele_of}
 use Rattle.core_terms.specs.declared.stop.Stop.{Stop}
 use Rattle.core_terms.specs.declared.term.Term as code
-use Rattle.core_sig.specs.Meanings.{argument_of, constructor_of}
-use Rattle.core_sig.specs.declared.family.Arg.{Arg}
+use Rattle.core_sig.specs.Meanings.{constructor_of}
 use Rattle.unification.specs.Built as pure
 use Rattle.unification.specs.Built.{built_of, is_direct}
 use Rattle.unifier.specs.CodeBuilt.{IsBuiltAs}
 use Rattle.unifier.specs.CodeCycles.{direct_among, direct_arguments, direct_in, go_below, is_direct_at, search_too_deep, search_within}
-use Rattle.unifier.specs.Conditions.{AreGiven, IsGiven, most_levels}
+use Rattle.unifier.specs.Conditions.{AreGiven, IsGiven}
 use Rattle.unifier.specs.declared.built.Built.{Built}
 use Rattle.unifier.proofs.BuiltCodes.{IsOf, from_code, of-built, of-pure}
 use Rattle.unifier.proofs.BuiltForms.{built-is}

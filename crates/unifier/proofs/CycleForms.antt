@@ -1,7 +1,7 @@
 -- What a search below constructors comes to, by what it is in.
-use Rattle.std.proofs.Common.{◌≡◌, ◌≢◌, ℕ, zero, suc, ◌+◌, ◌≤◌, ◌<◌, Bool, true, false, cond, ◌==◌, nat_le, Option, Some, None, option_map, Result, Ok, Err, List, [], ◌∷◌, ◌++◌, refl, sym, ap, ap₂, ◌∙◌, subst, arith}
+use Rattle.std.proofs.Common.{◌≡◌, ◌≢◌, ℕ, suc, ◌≤◌, ◌<◌, Bool, true, false, cond, ◌==◌, nat_le, Option, Some, None, option_map, Result, Ok, Err, List, [], ◌∷◌, ◌++◌, refl, sym, ap, ◌∙◌, subst, arith}
 use Rattle.std.proofs.lemmas.Bool.Decides.{nat_tests}
-use Rattle.theory.specs.Terms.{Term, Var, Con, App, height}
+use Rattle.theory.specs.Terms.{Term, Con, App, height}
 use Rattle.theory.specs.Telescopes.{applied}
 use Rattle.theory.specs.Spines.{head_of, spine_of}
 use Rattle.theory.proofs.Spines.{applied-spine}

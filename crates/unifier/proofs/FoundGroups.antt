@@ -1,5 +1,5 @@
 -- What is found of a group in a type that is scoped and low.
-use Rattle.std.proofs.Common.{◌≡◌, ℕ, zero, suc, ◌+◌, ◌-◌, ◌≤◌, ◌==◌, Bool, true, false, ◌&&◌, not, cond, Option, Some, None, option_and_then, Ok, List, [], ◌∷◌, map, length, take, drop, All, refl, sym, ap, ap₂, ◌∙◌, subst, max, arith}
+use Rattle.std.proofs.Common.{◌≡◌, ℕ, zero, suc, ◌+◌, ◌-◌, ◌≤◌, ◌==◌, Bool, true, false, cond, Option, Some, None, option_and_then, Ok, List, [], ◌∷◌, map, length, take, drop, All, refl, sym, ap, ◌∙◌, subst, arith}
 use Rattle.std.proofs.lemmas.Bool.Decides.{nat_tests}
 use Rattle.std.proofs.lemmas.List.{length-map, length-take}
 use Rattle.std.proofs.lemmas.List.Elements.{All-tail}
@@ -18,13 +18,12 @@ use Rattle.core_sig.specs.Meanings.{family_of}
 use Rattle.kernel_reduce.specs.Entries.{family_at}
 use Rattle.kernel_reduce.proofs.LookUps.{both-true}
 use Rattle.kernel_reduce.proofs.SpineLengths.{spine_fits}
-use Rattle.unification.specs.Built.{is_fitting}
-use Rattle.unification.specs.Groups.{are_nearest, have_nearest, lowered, Membership, with_places, membership_with, membership_of, group_trial, group_trials}
+use Rattle.unification.specs.Groups.{are_nearest, lowered, Membership, with_places, membership_with, membership_of, group_trial, group_trials}
 use Rattle.unification.specs.States.{State}
 use Rattle.unification.specs.Turns.{Turn, unless_found}
 use Rattle.unification.proofs.Memberships.{membership-is}
 use Rattle.unifier.specs.CodeGroups.{IsGroupOf, membership_from}
-use Rattle.unifier.specs.Conditions.{AreGiven, AreLow, IsGiven, most_levels}
+use Rattle.unifier.specs.Conditions.{AreGiven, AreLow, most_levels}
 use Rattle.unifier.specs.declared.groups.Membership.{Membership as CodeMembership}
 use Rattle.unifier.proofs.GroupCodes.{spine-low, take-low}
 

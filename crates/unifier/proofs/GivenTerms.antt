@@ -1,10 +1,8 @@
 -- Terms that are given: those in a state that is kept, and the arguments of a term.
-use Rattle.std.proofs.Common.{◌≡◌, ℕ, zero, suc, ◌+◌, ◌≤◌, ◌<◌, Bool, true, false, cond, Option, Some, None, List, [], ◌∷◌, ◌++◌, length, take, drop, reverse, get_or, slice_get, All, refl, sym, ap, ◌∙◌, subst, arith}
-use Rattle.std.proofs.lemmas.Bool.Decides.{nat_tests}
-use Rattle.std.proofs.lemmas.List.Elements.{All-head, All-tail}
+use Rattle.std.proofs.Common.{◌≡◌, ℕ, zero, suc, ◌+◌, ◌≤◌, ◌<◌, Bool, true, false, cond, Some, List, [], ◌∷◌, ◌++◌, length, take, drop, get_or, slice_get, All, refl, sym, ap, ◌∙◌, subst, arith}
+use Rattle.std.proofs.lemmas.List.Elements.{All-tail}
 use Rattle.std.proofs.lemmas.Option.{slice_get_within}
 use Rattle.theory.specs.Terms.{Term, height, free_of}
-use Rattle.theory.specs.Telescopes.{applied}
 use Rattle.theory.specs.Spines.{spine_of}
 use Rattle.theory.specs.Families.{Argument}
 use Rattle.theory.specs.Signatures.{Signature}

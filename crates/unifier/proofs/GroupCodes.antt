@@ -1,13 +1,13 @@
 -- What the code finds of a group is what the definition finds.
-use Rattle.std.proofs.Common.{◌≡◌, ◌≢◌, ℕ, zero, suc, ◌+◌, ◌-◌, ◌≤◌, ◌<◌, ◌==◌, ◌&&◌, Bool, true, false, cond, Option, Some, None, option_map, Result, Ok, Err, List, [], ◌∷◌, ◌++◌, map, length, take, drop, get_or, All, IsTrue, refl, sym, ap, ap₂, ◌∙◌, subst, arith}
+use Rattle.std.proofs.Common.{◌≡◌, ◌≢◌, ℕ, zero, suc, ◌+◌, ◌-◌, ◌≤◌, ◌<◌, ◌==◌, ◌&&◌, Bool, true, false, Option, Some, None, Ok, Err, List, [], ◌∷◌, length, take, drop, get_or, All, IsTrue, sym, ap, ap₂, ◌∙◌, arith}
 use Rattle.std.proofs.lemmas.Bool.Decides.{nat_tests}
-use Rattle.std.proofs.lemmas.List.{length-map, length-append, length-take, take_all}
+use Rattle.std.proofs.lemmas.List.{length-map, take_all}
 use Rattle.std.proofs.lemmas.List.Elements.{All-cons, All-nil}
 use Rattle.theory.specs.Terms.{Term, height}
-use Rattle.theory.specs.Spines.{head_of, spine_of}
+use Rattle.theory.specs.Spines.{spine_of}
 use Rattle.theory.specs.Families.{Family}
 use Rattle.theory.specs.Signatures.{Signature}
-use Rattle.core_terms.specs.Answers.{Spent, Runs, and_next}
+use Rattle.core_terms.specs.Answers.{Spent, and_next}
 use Rattle.core_terms.specs.Meanings.{tree_of, tele_of}
 use Rattle.core_terms.specs.declared.stop.Stop.{Stop}
 use Rattle.core_terms.specs.declared.term.Term as code

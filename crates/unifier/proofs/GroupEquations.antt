@@ -1,9 +1,9 @@
 -- The equations of a group, against those of the telescope of its family.
-use Rattle.std.proofs.Common.{◌≡◌, ℕ, zero, suc, ◌+◌, ◌-◌, ◌≤◌, ◌<◌, nat_le, Bool, true, false, cond, Some, Result, Ok, Err, IfOk, List, [], ◌∷◌, ◌++◌, map, length, take, All, refl, sym, ap, ap₂, ◌∙◌, subst, arith}
+use Rattle.std.proofs.Common.{◌≡◌, ℕ, zero, suc, ◌+◌, ◌≤◌, ◌<◌, nat_le, Bool, true, false, cond, Result, Ok, Err, IfOk, List, [], ◌∷◌, ◌++◌, map, length, take, All, refl, sym, ap, ap₂, ◌∙◌, subst, arith}
 use Rattle.std.proofs.lemmas.Bool.Decides.{nat_tests}
 use Rattle.std.proofs.lemmas.List.{length-map, length-append, length-take}
 use Rattle.std.proofs.lemmas.List.Elements.{All-cons, All-nil}
-use Rattle.theory.specs.Terms.{Term, height, free_of}
+use Rattle.theory.specs.Terms.{Term, free_of}
 use Rattle.theory.specs.Families.{index_types}
 use Rattle.theory.specs.Substitutions.{fill}
 use Rattle.theory.specs.Eliminators.{no_variable}
@@ -14,9 +14,8 @@ use Rattle.theory.specs.Scopes.{IsTelescopeOver}
 use Rattle.theory.specs.Signatures.{Signature}
 use Rattle.theory.specs.SignatureScopes.{IsScoped, IsScopedTelescope}
 use Rattle.theory.proofs.ScopedTerms.{scoped_over_more}
-use Rattle.kernel_reduce.specs.Entries.{family_at}
 use Rattle.kernel_reduce.proofs.LookUps.{family-found}
-use Rattle.core_terms.specs.Answers.{Spent, Runs, and_then, and_next, are_low, bounded_terms}
+use Rattle.core_terms.specs.Answers.{Spent, and_then, and_next, are_low, bounded_terms}
 use Rattle.core_terms.specs.Meanings.{tree_of, tele_of}
 use Rattle.core_terms.specs.declared.stop.Stop.{Stop}
 use Rattle.core_terms.specs.declared.term.Term as term
@@ -25,7 +24,6 @@ use Rattle.core_terms.specs.declared.stop.Stop.TheVariants.{Deep}
 use Rattle.core_sig.specs.Meanings.{family_of}
 use Rattle.tele_eq.specs.Items.{Item, each_position, item_of, items_of}
 use Rattle.tele_eq.specs.declared.item.Item.{Item as CodeItem}
-use Rattle.tele_eq.specs.ScopeLaws.{AreScopedItems}
 use Rattle.tele_eq.specs.TelescopicEquality.{equations, equation_behind}
 use Rattle.tele_eq.proofs.ScopeLaws.{scoped_equations}
 use Rattle.unification.specs.Groups.{all_convertible, are_equations_of}
@@ -35,7 +33,7 @@ use Rattle.unification.specs.ScopedStates.{IsReady, AreScopedEquations}
 use Rattle.unification.specs.States.{Equation, State, left_sides, right_sides, types_as_they_stand}
 use Rattle.unification.proofs.ScopedRecords.{family_items-scoped}
 use Rattle.unifier.specs.CodeGroups.{IsGroupOf, membership_from}
-use Rattle.unifier.specs.Conditions.{AreBehind, AreGiven, AreLow, AreOver, HasFewVariables, HaveFewVariables, IsGiven, IsKept, most_depth, most_levels}
+use Rattle.unifier.specs.Conditions.{AreBehind, AreGiven, AreLow, AreOver, HasFewVariables, HaveFewVariables, IsKept, most_depth, most_levels}
 use Rattle.unifier.specs.CodeBuilt.{sides_of, teles_of}
 use Rattle.unifier.specs.Meanings.{equation_of, equations_of, state_of}
 use Rattle.unifier.specs.declared.groups.Membership.{Membership}

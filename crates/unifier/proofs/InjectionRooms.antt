@@ -1,14 +1,14 @@
 -- What stands for the places and the equations of a group has few variables.
-use Rattle.std.proofs.Common.{◌≡◌, ℕ, zero, suc, ◌+◌, ◌≤◌, ◌<◌, nat_le, Bool, true, false, cond, Option, Some, option_map, List, [], ◌∷◌, ◌++◌, length, map, drop, slice_get, All, Result, Ok, Err, refl, ap, ap₂, sym, ◌∙◌, subst as transport, arith}
+use Rattle.std.proofs.Common.{◌≡◌, ℕ, zero, suc, ◌+◌, ◌≤◌, nat_le, Bool, true, false, cond, Some, option_map, List, [], ◌∷◌, ◌++◌, length, drop, slice_get, All, Result, Ok, Err, refl, ap, ap₂, sym, ◌∙◌, subst as transport, arith}
 use Rattle.std.proofs.lemmas.Bool.Decides.{nat_tests}
 use Rattle.std.proofs.lemmas.List.{length-map}
 use Rattle.std.proofs.lemmas.List.Elements.{All-head, All-tail, All-nil, All-cons}
 use Rattle.std.proofs.lemmas.Option.{slice_get-map}
 use Rattle.theory.specs.Families.{Family, Constructor}
 use Rattle.theory.specs.Signatures.{Signature, FamilyOf, IsEntryAt}
-use Rattle.theory.specs.SignatureScopes.{IsScoped, IsScopedSignature}
+use Rattle.theory.specs.SignatureScopes.{IsScoped}
 use Rattle.theory.specs.Telescopes.{Telescope, variables}
-use Rattle.theory.specs.Terms.{Term, height, free_of}
+use Rattle.theory.specs.Terms.{Term}
 use Rattle.core_terms.specs.Answers.{and_then, are_low, bounded_terms, is_low}
 use Rattle.core_terms.specs.Meanings.{tree_of, tele_of}
 use Rattle.core_terms.specs.Levels.{variable}
@@ -19,7 +19,7 @@ use Rattle.tele_eq.specs.Items.{Item, each_position, item_of, items_of}
 use Rattle.tele_eq.specs.declared.item.Item as code-item
 use Rattle.tele_eq.specs.TelescopicEquality.{equation_behind, equations}
 use Rattle.tele_eq.proofs.ScopeLaws.{scoped_congruences}
-use Rattle.unification.specs.Heights.{are_low_items, bounded_items, equations_made, group_made, injected_made, most_places}
+use Rattle.unification.specs.Heights.{are_low_items, bounded_items, equations_made, group_made, most_places}
 use Rattle.unification.specs.Injecting.{group_proofs, injected_equations, lifted}
 use Rattle.unification.specs.Records.{argument_items, family_items, constructor_terms}
 use Rattle.unification.specs.ScopedStates.{IsReady}

@@ -1,5 +1,5 @@
 -- What a state that is kept comes to.
-use Rattle.std.proofs.Common.{◌≡◌, ℕ, ◌+◌, ◌≤◌, Option, Some, None, Result, Ok, Err, IfOk, IfSome, length, sym, ap, subst, arith}
+use Rattle.std.proofs.Common.{ℕ, ◌+◌, ◌≤◌, Option, Some, Result, Ok, Err, IfOk, IfSome, sym, subst, arith}
 use Rattle.theory.specs.Signatures.{Signature}
 use Rattle.theory.proofs.ScopedTerms.{scoped_over_more}
 use Rattle.core_terms.specs.Answers.{Spent, Runs}

@@ -1,12 +1,11 @@
 -- What is known of the record of a constructor that the code has found.
-use Rattle.std.proofs.Common.{◌≡◌, ℕ, zero, suc, ◌+◌, ◌≤◌, ◌<◌, max, Bool, true, false, cond, Some, Option, option_map, List, [], ◌∷◌, ◌++◌, length, map, slice_get, All, Result, Ok, Err, refl, ap, ap₂, sym, ◌∙◌, subst as transport, arith}
+use Rattle.std.proofs.Common.{◌≡◌, ℕ, zero, suc, ◌+◌, ◌≤◌, ◌<◌, Bool, true, false, cond, option_map, List, [], ◌∷◌, ◌++◌, length, map, All, Result, Ok, Err, refl, ap, ap₂, sym, ◌∙◌, subst as transport, arith}
 use Rattle.std.proofs.lemmas.List.{length-map, length-append}
 use Rattle.std.proofs.lemmas.Option.{slice_get-map}
-use Rattle.theory.specs.Terms.{Term, Var, Fam, free_of, height, lift}
+use Rattle.theory.specs.Terms.{Term, Fam, free_of, lift}
 use Rattle.theory.specs.Families as pure
 use Rattle.theory.specs.Families.{argument_types, index_types, level_of}
 use Rattle.theory.specs.Scopes.{IsTelescopeOver, AreArgumentsOver, IsConstructorOver}
-use Rattle.theory.specs.Signatures.{Signature}
 use Rattle.theory.specs.SignatureScopes.{IsScopedConstructor, IsScopedFamily}
 use Rattle.theory.specs.Eliminators.{no_variable}
 use Rattle.theory.specs.Substitutions.{fill}
@@ -30,7 +29,7 @@ use Rattle.unification.specs.Injecting.{lifted}
 use Rattle.unification.specs.Records.{items_at, argument_items, family_items, constructor_terms}
 use Rattle.unifier.specs.CodeBuilt.{IsKnown}
 use Rattle.unifier.specs.CodeInjections.{group_made_behind}
-use Rattle.unifier.specs.Conditions.{AreOver, HasFewVariables, HaveFewVariables, IsOver, most_depth, most_levels}
+use Rattle.unifier.specs.Conditions.{AreOver, HasFewVariables, HaveFewVariables, most_depth}
 use Rattle.unifier.specs.declared.built.Built.{Built}
 use Rattle.unifier.proofs.LowTerms.{small-items, small-terms}
 use Rattle.unifier.proofs.RecordSizes.{arguments-few, constructor-over, family-few, family-scoped, lifted-free, scoped-over, terms-few}

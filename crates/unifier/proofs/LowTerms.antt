@@ -1,8 +1,8 @@
 -- Lists whose terms are low.
-use Rattle.std.proofs.Common.{◌≡◌, ℕ, zero, suc, ◌+◌, ◌-◌, ◌≤◌, ◌<◌, ◌==◌, max, nat_lt, nat_le, Bool, true, false, ◌&&◌, cond, List, [], ◌∷◌, ◌++◌, length, map, take, drop, length-drop, get_or, refl, ap, ap₂, sym, ◌∙◌, Result, Ok, Err, IsTrue, arith}
+use Rattle.std.proofs.Common.{◌≡◌, ℕ, zero, suc, ◌+◌, ◌-◌, ◌≤◌, ◌<◌, nat_le, Bool, true, false, ◌&&◌, cond, List, [], ◌∷◌, length, map, take, drop, length-drop, refl, ap₂, Result, Ok, Err, arith}
 use Rattle.std.proofs.lemmas.Bool.Decides.{nat_tests}
 use Rattle.std.proofs.lemmas.List.{take_all}
-use Rattle.theory.specs.Terms.{Term, Var, Sort, Pi, Lam, App, Let, Const, Fam, Con, Elim, AxiomK, height, free_of, lift}
+use Rattle.theory.specs.Terms.{Term, height}
 use Rattle.theory.specs.Telescopes.{Telescope}
 use Rattle.theory.proofs.Heights.{height-lift}
 use Rattle.core_terms.specs.Answers.{is_low, are_low, bounded_terms, and_then}
@@ -15,7 +15,7 @@ use Rattle.tele_eq.specs.Environments.{Environment, outside}
 use Rattle.tele_eq.specs.Items.{Item, AreSmall, AreSmallTerms, each_position, term_at}
 use Rattle.tele_eq.specs.TelescopicEquality.{Lefts, as_bound, left_below, unless_fixed, equation_behind, equations}
 use Rattle.unifier.specs.Conditions.{AreLow, HaveFewVariables, HasFewVariables}
-use Rattle.unification.specs.Heights.{most_places, bounded_items, equations_made, are_low_items}
+use Rattle.unification.specs.Heights.{most_places, equations_made, are_low_items}
 
 pub and-parts : (b c : Bool) → (b && c) ≡ true → (b ≡ true) × (c ≡ true)
 and-parts true true e = (refl, refl)

@@ -1,12 +1,11 @@
 -- Heights and free variables of terms that are put for others.
-use Rattle.std.proofs.Common.{◌≡◌, ℕ, zero, suc, ◌+◌, ◌-◌, ◌≤◌, ◌<◌, ◌==◌, max, nat_lt, Bool, true, false, ◌||◌, not, cond, List, [], ◌∷◌, length, refl, ap, ap₂, sym, ◌∙◌, IsTrue, arith, rules}
+use Rattle.std.proofs.Common.{◌≡◌, ℕ, zero, suc, ◌+◌, ◌-◌, ◌≤◌, ◌<◌, ◌==◌, max, nat_lt, Bool, true, false, ◌||◌, not, cond, List, length, refl, ap₂, IsTrue, arith, rules}
 use Rattle.std.proofs.lemmas.Bool.Decides.{nat_tests}
 use Rattle.theory.specs.Terms.{Term, Var, Sort, Pi, Lam, App, Let, Const, Fam, Con, Elim, AxiomK, height, free_of}
 use Rattle.theory.specs.Telescopes.{Telescope}
-use Rattle.core_terms.specs.Levels.{variable}
 use Rattle.tele_eq.specs.Dependences.{has_variable}
-use Rattle.tele_eq.specs.Environments.{Environment, put_variable, put_under, put}
-use Rattle.unification.specs.Occurrences.{has_level, dependants, lacks, order_without, place_in}
+use Rattle.tele_eq.specs.Environments.{put_under, put}
+use Rattle.unification.specs.Occurrences.{has_level, dependants, lacks, order_without}
 use Rattle.unification.specs.Solving.{reordered}
 use Rattle.unification.proofs.SolvedContexts.{length-order}
 

@@ -1,10 +1,9 @@
 -- Telescopes and terms that a family's record brings at parameters, as code makes them.
-use Rattle.std.proofs.Common.{◌≡◌, ℕ, zero, suc, ◌+◌, ◌-◌, ◌≤◌, ◌<◌, ◌==◌, max, nat_lt, Bool, true, false, ◌&&◌, cond, List, [], ◌∷◌, ◌++◌, length, map, refl, ap, ap₂, sym, ◌∙◌, subst as transport, Result, Ok, Err, IsTrue, arith}
-use Rattle.std.proofs.lemmas.Bool.Decides.{nat_tests}
-use Rattle.std.proofs.lemmas.List.{length-map, map-append}
+use Rattle.std.proofs.Common.{◌≡◌, ℕ, zero, suc, ◌+◌, Bool, true, false, ◌&&◌, cond, List, [], ◌∷◌, ◌++◌, length, map, refl, ap, ap₂, sym, ◌∙◌, Result, Ok, Err, arith}
+use Rattle.std.proofs.lemmas.List.{length-map}
 use Rattle.std.proofs.lemmas.Simd.{map-map}
 use mathlib.Core.Path.{fun_ext}
-use Rattle.theory.specs.Terms.{Term, Var, Sort, Pi, Lam, App, Let, Const, Fam, Con, Elim, AxiomK, height, free_of, lift}
+use Rattle.theory.specs.Terms.{Term, App, Fam, Con, free_of, lift}
 use Rattle.theory.specs.Substitutions.{inst, ups, extend, fill, ren}
 use Rattle.theory.specs.Telescopes.{Telescope, applied, variables, weaken_by, inst_telescope}
 use Rattle.theory.specs.Eliminators.{no_variable}
@@ -21,7 +20,7 @@ use Rattle.core_terms.specs.declared.stop.Stop.{Stop}
 use Rattle.core_terms.specs.declared.stop.Stop.TheVariants.{Deep}
 use Rattle.core_sig.specs.Kinds.{HaveKinds}
 use Rattle.core_sig.specs.Meanings.{argument_with, argument_of, constructor_of, family_of}
-use Rattle.core_sig.specs.Shapes.{argument_shape, types_of}
+use Rattle.core_sig.specs.Shapes.{argument_shape}
 use Rattle.core_sig.specs.declared.family.ArgKind.{ArgKind}
 use Rattle.core_sig.specs.declared.family.ArgKind.TheVariants.{Plain, Recursive}
 use Rattle.core_sig.specs.declared.family.Arg.{Arg}

@@ -1,26 +1,23 @@
 -- What a family's record brings at parameters is over the variables of the parameters and, where it is a telescope, its own.
-use Rattle.std.proofs.Common.{◌≡◌, ℕ, zero, suc, ◌+◌, ◌-◌, ◌≤◌, ◌<◌, ◌==◌, max, Bool, true, false, ◌&&◌, cond, List, [], ◌∷◌, ◌++◌, length, map, slice_get, Option, Some, None, option_and_then, All, refl, ap, ap₂, sym, ◌∙◌, subst as transport, arith}
-use Rattle.std.proofs.lemmas.List.{length-map, length-append}
-use Rattle.std.proofs.lemmas.List.Elements.{All-append, All-cons, All-nil, All-tail, All-head, All-map, All-weaker}
+use Rattle.std.proofs.Common.{◌≡◌, ℕ, suc, ◌+◌, ◌≤◌, List, [], ◌∷◌, ◌++◌, length, map, slice_get, Option, Some, None, option_and_then, All, refl, ap, arith}
+use Rattle.std.proofs.lemmas.List.{length-map}
+use Rattle.std.proofs.lemmas.List.Elements.{All-append, All-cons, All-nil, All-tail, All-head, All-weaker}
 use Rattle.std.proofs.lemmas.Bool.Decides.{nat_tests}
-use Rattle.theory.specs.Terms.{Term, Var, Sort, Fam, Con, height, free_of, lift}
+use Rattle.theory.specs.Terms.{Term, Fam, Con, free_of, lift}
 use Rattle.theory.specs.Substitutions.{inst, ups, fill}
 use Rattle.theory.specs.Telescopes.{Telescope, applied, variables, weaken_by, inst_telescope}
 use Rattle.theory.specs.Eliminators.{no_variable}
-use Rattle.theory.specs.Families as pure
 use Rattle.theory.specs.Families.{Argument, Plain, Recursive, Constructor, Family, argument_types, level_of, index_types}
 use Rattle.theory.specs.Scopes.{IsTelescopeOver, IsArgumentOver, AreArgumentsOver, IsConstructorOver}
-use Rattle.theory.specs.Signatures.{Signature, Entry, FamilyOf, IsEntryAt}
+use Rattle.theory.specs.Signatures.{Signature, Entry, FamilyOf}
 use Rattle.theory.specs.SignatureScopes.{IsScoped, IsScopedTelescope, IsScopedArgument, IsScopedArguments, IsScopedConstructor, IsScopedFamily, IsScopedSignature}
 use Rattle.theory.proofs.FreeInstances.{free_of-ups, free_of-inst, free_of-fill, free_of-map_inst, free_of-variables, free_of-weaken_by}
 use Rattle.theory.proofs.FreeVariables.{free_of-lift}
 use Rattle.theory.proofs.Scopes.{Scoped, Places, scoped-applied, scoped-arguments, length-argument_types}
-use Rattle.theory.proofs.ScopedEntries.{All-at}
 use Rattle.theory.proofs.ScopedTypes.{length-variables}
 use Rattle.kernel_reduce.specs.Entries.{family_at, family_in}
 use Rattle.unification.specs.Injecting.{lifted}
-use Rattle.unifier.specs.Conditions.{HaveFewVariables, HasFewVariables, AreOver, most_levels, most_depth}
-use Rattle.tele_eq.specs.Items.{Item}
+use Rattle.unifier.specs.Conditions.{HaveFewVariables, HasFewVariables, AreOver, most_depth}
 use Rattle.unification.specs.Records.{items_at, argument_items, family_items, constructor_terms}
 
 -- ---- the records of a scoped signature

@@ -1,8 +1,7 @@
 -- The numbers in a state that is kept have room, and so have those of its parts.
-use Rattle.std.proofs.Common.{◌≡◌, ℕ, zero, suc, ◌+◌, ◌-◌, ◌≤◌, ◌<◌, ◌==◌, max, Bool, true, false, ◌&&◌, cond, List, [], ◌∷◌, ◌++◌, length, map, drop, length-drop, get_or, refl, ap, ap₂, sym, ◌∙◌, subst as transport, Result, Ok, Err, IsTrue, All, arith}
-use Rattle.std.proofs.lemmas.Bool.Decides.{nat_tests}
+use Rattle.std.proofs.Common.{◌≡◌, ℕ, zero, suc, ◌+◌, ◌≤◌, ◌<◌, Bool, true, false, ◌&&◌, cond, List, [], ◌∷◌, length, drop, length-drop, get_or, refl, subst as transport, Result, Ok, Err, All, arith}
 use Rattle.std.proofs.lemmas.List.{length-map}
-use Rattle.std.proofs.lemmas.List.Elements.{All-head, All-tail}
+use Rattle.std.proofs.lemmas.List.Elements.{All-tail}
 use Rattle.theory.specs.Terms.{Term, height, free_of}
 use Rattle.theory.specs.Telescopes.{Telescope}
 use Rattle.theory.specs.Signatures.{Signature, reflexivity}
@@ -22,7 +21,7 @@ use Rattle.unifier.specs.Conditions.{AreBehind, AreBelow, AreLow, AreOver, ArePu
 use Rattle.unifier.specs.Meanings.{equation_of, equations_of}
 use Rattle.unifier.specs.declared.state.Equation as equation
 use Rattle.unifier.proofs.PutTerms.{height-reordered}
-use Rattle.unifier.proofs.LowTerms.{and-parts, low-height, low-terms}
+use Rattle.unifier.proofs.LowTerms.{and-parts, low-height}
 
 -- ---- parts of lists
 

@@ -1,5 +1,5 @@
 -- What a trial of a solution comes to.
-use Rattle.std.proofs.Common.{◌≡◌, ℕ, ◌+◌, ◌-◌, ◌≤◌, ◌<◌, Bool, true, false, ◌&&◌, not, cond, Option, Some, None, List, ◌∷◌, length, Result, Ok, Err, IsTrue, refl, sym, ap, ap₂, ◌∙◌, subst as transport, arith}
+use Rattle.std.proofs.Common.{◌≡◌, ℕ, ◌+◌, ◌-◌, ◌≤◌, ◌<◌, Bool, true, false, ◌&&◌, not, cond, Option, Some, None, List, ◌∷◌, length, Result, Ok, Err, refl, sym, ap, ap₂, ◌∙◌, subst as transport, arith}
 use Rattle.std.proofs.lemmas.List.{length-map}
 use Rattle.theory.specs.Terms.{Term, Var, free_of}
 use Rattle.theory.specs.Signatures.{Signature}

@@ -1,6 +1,6 @@
 -- Tidied terms are given, and so is the type of an equation.
-use Rattle.std.proofs.Common.{◌≡◌, ℕ, ◌+◌, ◌≤◌, max, false, length, slice_get, Some, Ok, IfOk, ◌∷◌, [], sym, subst as transport, arith}
-use Rattle.theory.specs.Terms.{Term, height}
+use Rattle.std.proofs.Common.{◌≡◌, ℕ, ◌+◌, false, length, slice_get, Some, Ok, IfOk, ◌∷◌, [], sym, subst as transport, arith}
+use Rattle.theory.specs.Terms.{Term}
 use Rattle.theory.specs.Signatures.{Signature, equation}
 use Rattle.theory.specs.SignatureScopes.{IsScoped, IsScopedSignature}
 use Rattle.theory.proofs.ScopedTerms.{scoped-app, scoped_over_more}

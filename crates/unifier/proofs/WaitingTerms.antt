@@ -1,5 +1,5 @@
 -- Terms that wait for a search below constructors: it ends, and comes to what the search in one after the other comes to.
-use Rattle.std.proofs.Common.{◌≡◌, ◌≢◌, ℕ, zero, suc, ◌+◌, ◌≤◌, ◌<◌, ◌⊎◌, Bool, true, false, cond, ◌==◌, nat_le, Option, Some, None, option_map, Result, Ok, Err, List, [], ◌∷◌, ◌++◌, refl, sym, ap, ap₂, ◌∙◌, subst, subst₂, append-nil, inl, inr, arith}
+use Rattle.std.proofs.Common.{◌≡◌, ◌≢◌, ℕ, zero, suc, ◌+◌, ◌≤◌, ◌<◌, ◌⊎◌, Bool, true, false, cond, ◌==◌, nat_le, Option, Some, None, option_map, Result, Ok, Err, List, [], ◌∷◌, ◌++◌, refl, sym, ap, ◌∙◌, subst, subst₂, append-nil, inl, inr, arith}
 use Rattle.std.proofs.lemmas.Bool.Decides.{nat_tests}
 use Rattle.theory.specs.Terms.{Term, height}
 use Rattle.theory.specs.Families.{Argument}
@@ -11,7 +11,7 @@ use Rattle.kernel_reduce.specs.Reduction.{answered, whnf_of}
 use Rattle.unification.specs.Built.{Built, built_of, is_direct}
 use Rattle.unification.specs.Runs.{size_of}
 use Rattle.unification.specs.Solutions.{variable_in}
-use Rattle.unification.specs.Cycles.{Search, found_as, here_or, among_arguments, with_arguments, below_constructor, in_form, is_variable, search_in}
+use Rattle.unification.specs.Cycles.{Search, found_as, here_or, among_arguments, with_arguments, below_constructor, is_variable, search_in}
 use Rattle.unifier.specs.CodeCycles.{within, search_within, search_each, search_too_deep, direct_among, direct_arguments, go_below}
 use Rattle.unification.proofs.Sizes.{built-smaller}
 use Rattle.unification.proofs.Reducts.{IsHead, whnf-within}
@@ -19,7 +19,6 @@ use Rattle.unification.proofs.SearchLaws.{search-goes_on}
 use Rattle.unification.proofs.Sizes.{size_of_all, size-positive}
 use Rattle.unification.proofs.SpentUnits.{Leaves}
 use Rattle.unification.proofs.Cases.{less-or_same}
-use Rattle.unifier.proofs.BuiltForms.{built-no_variable}
 use Rattle.unifier.proofs.CycleForms.{bounded_by, whole, mapped, found-twice, form-variable, form-other, search-below, positive}
 
 -- ---- the search ends

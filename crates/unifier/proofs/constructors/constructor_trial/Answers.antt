@@ -1,6 +1,5 @@
 use Rattle.std.proofs.Common.{length}
 use Rattle.core_terms.specs.Meanings.{tree_of}
-use Rattle.unifier.specs.Meanings.{equation_of, state_of}
 use Rattle.unifier.proofs.GivenTerms.{given-more, code-equation}
 use Rattle.unifier.proofs.constructors.constructor_trial.Goals as goal
 

@@ -1,7 +1,7 @@
-use Rattle.std.proofs.Common.{reverse, sym, ap, ◌∙◌, subst, arith}
+use Rattle.std.proofs.Common.{reverse, ◌∙◌, arith}
 use Rattle.std.proofs.lemmas.Result.{err_from_is_err_and}
-use Rattle.core_terms.specs.Meanings.{tree_of, tele_of}
-use Rattle.unifier.specs.Conditions.{AreGiven, most_levels}
+use Rattle.core_terms.specs.Meanings.{tele_of}
+use Rattle.unifier.specs.Conditions.{most_levels}
 use Rattle.unifier.proofs.GivenTerms.{last-given}
 use Rattle.unifier.proofs.CycleCodes.{waiting-refused, waiting-on, waiting-fewer}
 use Rattle.unifier.proofs.cycles.search_too_deep.Goals as goal

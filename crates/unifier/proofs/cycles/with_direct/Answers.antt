@@ -1,4 +1,4 @@
-use Rattle.std.proofs.Common.{◌≡◌, Ok, length, map, reverse, ◌++◌, sym, ap, ap₂, ◌∙◌, slice_get, arith}
+use Rattle.std.proofs.Common.{◌≡◌, Ok, length, map, reverse, ◌++◌, ap, ap₂, ◌∙◌, slice_get, arith}
 use Rattle.core_terms.specs.Meanings.{tree_of, tele_of}
 use Rattle.core_terms.proofs.Builders.{ok_is}
 use Rattle.core_sig.specs.Meanings.{argument_of}

@@ -1,5 +1,4 @@
 use Rattle.std.proofs.Common.{◌≤◌, arith}
-use Rattle.core_terms.specs.Meanings.{tree_of}
 use Rattle.core_terms.proofs.Builders.{ok_is}
 use Rattle.core_terms.proofs.Lists.{value-has}
 use Rattle.theory.specs.Terms.{height}

@@ -1,9 +1,6 @@
-use Rattle.std.proofs.Common.{ap, subst}
+use Rattle.std.proofs.Common.{subst}
 use Rattle.std.proofs.lemmas.Result.{err_from_is_err_and}
 use Rattle.core_terms.specs.Answers.{Runs}
-use Rattle.core_terms.specs.Meanings.{tele_of}
-use Rattle.unifier.specs.Conditions.{AreOver, most_depth}
-use Rattle.unifier.specs.Meanings.{state_of}
 use Rattle.unifier.proofs.GroupEquations.{code-parameters, code-left_length, code-right_length, code-few_items, code-few_left, code-few_right, code-types_given, code-others_given, code-stops, code-runs, code-few, if-ok}
 use Rattle.unifier.proofs.groups.are_equations_of.Goals as goal
 

@@ -1,4 +1,4 @@
-use Rattle.std.proofs.Common.{Ok, sym, ap, inl, inr, ◌∙◌}
+use Rattle.std.proofs.Common.{Ok, ap, inl, inr, ◌∙◌}
 use Rattle.std.proofs.lemmas.List.{map-append}
 use Rattle.core_terms.specs.Meanings.{tree_of, tele_of}
 use Rattle.core_terms.specs.TreeMeanings.{step_of, steps_of}
