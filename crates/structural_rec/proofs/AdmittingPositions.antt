@@ -8,7 +8,7 @@ use Rattle.std.proofs.lemmas.List.Elements.{All-nil, All-cons, All-head, All-tai
 use Rattle.std.proofs.lemmas.List.Kept.{AllPairs-cons}
 use Rattle.std.proofs.lemmas.Option.{none-some}
 use Rattle.std.proofs.Math.Seq.{take-append_seam, drop-append_seam}
-use Rattle.theory.specs.Terms.{Term, Var, App, Fam}
+use Rattle.theory.specs.Terms.{Term, Var, Fam}
 use Rattle.theory.specs.Spines.{head_of, spine_of}
 use Rattle.theory.specs.Telescopes.{applied}
 use Rattle.theory.specs.Families.{Family}
@@ -23,6 +23,7 @@ use Rattle.case_below_gen.proofs.PartTests.{and-tells, or-tells}
 use Rattle.structural_rec.specs.Positions.{Admission, Admits, admission, admission_of, admission_in, admission_with, admission_at, admission_from, are_different, are_independent, family_number, fixed_positions, is_among, mentions, mentions_only, position_of, positions_of}
 use Rattle.structural_rec.proofs.Admissions.{admission-whole}
 use Rattle.structural_rec.proofs.FixedPositions.{mentions-before}
+use Rattle.structural_rec.proofs.LowerParts.{head_of-applied}
 use Rattle.structural_rec.proofs.Members.{among-first, among-later}
 
 -- ---- positions of variables
@@ -250,10 +251,6 @@ admission-tells S tele j a h = at-type (slice_get tele j) refl h
     at-type (Some t) e h = of-type t e h
 
 -- ---- and each admission is found
-
-head_of-applied : (h : Term) (us : List Term) → head_of (applied h us) ≡ head_of h
-head_of-applied h [] = refl
-head_of-applied h (u ∷ us) = head_of-applied (App h u) us
 
 admission-found : (S : Signature) (tele : List Term) (j : ℕ) (a : Admission) → Admits S tele j a → admission S tele j ≡ Some a
 admission-found S tele j a m =

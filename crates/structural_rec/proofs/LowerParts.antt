@@ -63,7 +63,7 @@ part-constructor : (n : ℕ) (f : Family) (part : Term) {t : Term} → IsStrictP
 part-constructor n f part (itself inner is form) = (is.number, is.head)
 part-constructor n f part (inside is rest) = (is.number, is.head)
 
-head_of-applied : (h : Term) (us : List Term) → head_of (applied h us) ≡ head_of h
+pub head_of-applied : (h : Term) (us : List Term) → head_of (applied h us) ≡ head_of h
 head_of-applied h [] = refl
 head_of-applied h (u ∷ us) = head_of-applied (App h u) us
 

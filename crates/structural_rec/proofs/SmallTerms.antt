@@ -1,5 +1,5 @@
 -- Parts of small lists, and the arguments of a small term.
-use Rattle.std.proofs.Common.{◌≡◌, ℕ, zero, suc, List, [], ◌∷◌, ◌++◌, take, drop, map, refl, ap, arith}
+use Rattle.std.proofs.Common.{ℕ, zero, suc, List, [], ◌∷◌, ◌++◌, take, arith}
 use Rattle.theory.specs.Terms.{Term, App}
 use Rattle.theory.specs.Spines.{spine_of}
 use Rattle.tele_eq.specs.Items.{IsSmall, AreSmallTerms}
@@ -19,13 +19,3 @@ small-spine (App f a) h =
     let few = h.1 in
     small-append (spine_of f) a (small-spine f (omega arith, omega arith)) (omega arith, omega arith)
 small-spine _ h = tt
-
-pub map-take : {A B : Type 0} (f : A → B) (n : ℕ) (xs : List A) → map f (take n xs) ≡ take n (map f xs)
-map-take f zero xs = refl
-map-take f (suc n) [] = refl
-map-take f (suc n) (x ∷ xs) = ap (λ ys. f x ∷ ys) (map-take f n xs)
-
-pub map-drop : {A B : Type 0} (f : A → B) (n : ℕ) (xs : List A) → map f (drop n xs) ≡ drop n (map f xs)
-map-drop f zero xs = refl
-map-drop f (suc n) [] = refl
-map-drop f (suc n) (x ∷ xs) = map-drop f n xs

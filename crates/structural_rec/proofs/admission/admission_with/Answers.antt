@@ -1,15 +1,16 @@
+use Rattle.std.proofs.lemmas.List.{take-map}
 use Rattle.std.proofs.Common.{Ok, option_map, length, sym, ap, ◌∙◌, ◌+◌, subst}
 use Rattle.core_terms.specs.Answers.{Gives}
 use Rattle.core_terms.specs.Meanings.{tree_of, tele_of}
 use Rattle.tele_eq.specs.Items.{AreSmallTerms}
 use Rattle.structural_rec.specs.Meanings.{admission_of}
 use Rattle.structural_rec.proofs.Admissions.{admission-split}
-use Rattle.structural_rec.proofs.SmallTerms.{small-take, map-take}
+use Rattle.structural_rec.proofs.SmallTerms.{small-take}
 use Rattle.structural_rec.proofs.admission.admission_with.Goals as goal
 
 pub admission_at-requires-clause-params : goal.admission_at-requires-clause-params
 admission_at-requires-clause-params c =
-    subst AreSmallTerms (sym (map-take tree_of (length c.as_slice-count.result.now) c.args.spine.now))
+    subst AreSmallTerms (take-map tree_of (length c.as_slice-count.result.now) c.args.spine.now)
     (small-take (length c.as_slice-count.result.now) (tele_of c.args.spine.now) c.requires.spine)
 
 pub returns : goal.returns
