@@ -1,6 +1,0 @@
-pub mod CodeBuilt
-pub mod CodeCycles
-pub mod CodeGroups
-pub mod CodeMoves
-pub mod Conditions
-pub mod Meanings
