@@ -36,12 +36,21 @@ fn unit_matches(rt: HostRuntime) -> Result<(), Fail> {
     Ok(())
 }
 
+/// How many patterns two vectors have in common, where they have some.
+fn common(alloc: Global, a: Pat, b: Pat) -> Result<Option<usize>, Stop> {
+    let a = pattern(alloc, a)?;
+    let b = pattern(alloc, b)?;
+    match meet(alloc, &a, &b)? {
+        Some(both) => Ok(Some(both.as_slice().len())),
+        None => Ok(None),
+    }
+}
+
 #[test]
 fn unit_meets(rt: HostRuntime) -> Result<(), Fail> {
     let alloc = rt.alloc();
-    let star = star(alloc)?;
-    let both = meet(alloc, &pattern(alloc, Pat::Wild)?, &star)?;
-    assert!(rt; matches!(both, Some(pats) if matches!(pats.as_slice(), [Pat::Con(_, 0, _)])));
-    assert!(rt; meet(alloc, &pattern(alloc, Pat::Absurd)?, &star)?.is_none());
+    let star = Pat::Con(unit(0), 0, Items::new(alloc));
+    assert_eq!(rt; common(alloc, Pat::Wild, star)?, Some(1));
+    assert_eq!(rt; common(alloc, Pat::Absurd, Pat::Wild)?, None);
     Ok(())
 }
