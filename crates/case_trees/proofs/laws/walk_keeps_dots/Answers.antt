@@ -1,0 +1,5 @@
+use Rattle.case_trees.proofs.OwnWalkLaws.{walk_keeps_dots}
+use Rattle.case_trees.proofs.laws.walk_keeps_dots.Goals as goal
+
+pub returns : goal.returns
+returns c = walk_keeps_dots

@@ -1,0 +1,193 @@
+-- What holds of walks and trees, whatever way they are found.
+use Rattle.std.specs.Prelude.{◌≡◌, ℕ, ◌+◌, ◌-◌, ◌<◌, ◌≤◌, true, false, Some, Err, IfOk, List, length, map, slice_get}
+use Rattle.theory.specs.Terms.{Term, Var}
+use Rattle.theory.specs.Substitutions.{inst}
+use Rattle.theory.specs.Telescopes.{Telescope}
+use Rattle.theory.specs.Families.{Constructor}
+use Rattle.theory.specs.Signatures.{Signature}
+use Rattle.core_terms.specs.Patterns as pattern
+use Rattle.core_terms.specs.Patterns.{Pats}
+use Rattle.core_terms.specs.Clauses.{Clause, Clauses, Right, Is}
+use Rattle.core_terms.specs.CaseTrees.{Walk, Tree}
+use Rattle.core_terms.specs.declared.case_tree.Origin.{Origin}
+use Rattle.core_terms.specs.declared.case_tree.Origin.TheVariants.{Old, Arg}
+use Rattle.kernel_reduce.specs.Laws.{IsHeadForm}
+use Rattle.tele_eq.specs.ReflexivityLaws.{EachConverts}
+use Rattle.pattern_vectors.specs.Matching.{matches_all, are_apart}
+use Rattle.unification.specs.ScopedStates.{IsReady}
+use Rattle.case_trees.specs.Points.{Point, start_at, under_solution}
+use Rattle.case_trees.specs.Problems.{Member, problem_of}
+use Rattle.case_trees.specs.Stops.{TreeStop}
+use Rattle.case_trees.specs.OwnWalks.{walked_dots, own_walk_of}
+use Rattle.case_trees.specs.Trees.{split_of}
+use Rattle.case_trees.specs.Places.{all_variable_places, all_variables_found, all_dot_places, clause_at}
+use Rattle.case_trees.specs.Standing.{IsAbsurdProblem, HasFamily, StandsAt, IsNode, EachLeaf}
+use Rattle.case_trees.specs.Scoped.{IsScopedPoint, IsClauseFor, AreClausesFor, IsScopedWalk, IsScopedTree, IsScopedStop}
+use Rattle.case_trees.specs.Kept.{KeptAll}
+use Rattle.case_trees.specs.Asking.{SomeOpenAt}
+use Rattle.case_trees.specs.Causes.{WalkCause, TreeCause}
+
+-- ---- what is asked
+
+-- a context, a goal and the terms of columns, over a signature
+pub record IsGiven (S : Signature) (context : Telescope) (goal : Term) (terms : List Term) : Type 0 where
+  pub ready : IsReady S
+  pub scoped : IsScopedPoint S (start_at context goal terms)
+
+-- the walk of a clause, with a condition and what holds of it then
+abbrev pub OfWalk : ((S : Signature) → (start : Point) → (number : ℕ) → (pats : Pats) → (w : Walk) → Type 0) → Type 0
+OfWalk Holds =
+    (S : Signature) (context : Telescope) (goal : Term) (terms : List Term) (pats : Pats) (binds : ℕ) (right : Right) (number left : ℕ) →
+    IsGiven S context goal terms → IsClauseFor S terms pats binds →
+    IfOk (own_walk_of S context goal terms (Is pats binds right) number left).0 (Holds S (start_at context goal terms) number pats)
+
+-- the same of the tree of clauses
+abbrev pub OfTree : ((S : Signature) → (start : Point) → (clauses : Clauses) → (t : Tree) → Type 0) → Type 0
+OfTree Holds =
+    (S : Signature) (context : Telescope) (goal : Term) (terms : List Term) (clauses : Clauses) (left : ℕ) →
+    IsGiven S context goal terms → AreClausesFor S terms clauses →
+    IfOk (split_of S context goal terms clauses left).0 (Holds S (start_at context goal terms) clauses)
+
+-- ---- walks and trees end
+
+-- No units are given back.
+abbrev pub WalkSpends : Type 0
+WalkSpends =
+    (S : Signature) (context : Telescope) (goal : Term) (terms : List Term) (c : Clause) (number left : ℕ) →
+    (own_walk_of S context goal terms c number left).1 ≤ left
+
+abbrev pub TreeSpends : Type 0
+TreeSpends =
+    (S : Signature) (context : Telescope) (goal : Term) (terms : List Term) (clauses : Clauses) (left : ℕ) →
+    (split_of S context goal terms clauses left).1 ≤ left
+
+-- ---- scopes
+
+abbrev pub WalkScoped : Type 0
+WalkScoped = OfWalk (λ S start number pats w. IsScopedWalk S w)
+
+abbrev pub TreeScoped : Type 0
+TreeScoped = OfTree (λ S start clauses t. IsScopedTree S t)
+
+abbrev pub WalkStopScoped : Type 0
+WalkStopScoped =
+    (S : Signature) (context : Telescope) (goal : Term) (terms : List Term) (pats : Pats) (binds : ℕ) (right : Right) (number left : ℕ)
+    (e : TreeStop) → IsGiven S context goal terms → IsClauseFor S terms pats binds →
+    (own_walk_of S context goal terms (Is pats binds right) number left).0 ≡ Err e → IsScopedStop S e
+
+abbrev pub TreeStopScoped : Type 0
+TreeStopScoped =
+    (S : Signature) (context : Telescope) (goal : Term) (terms : List Term) (clauses : Clauses) (left : ℕ) (e : TreeStop) →
+    IsGiven S context goal terms → AreClausesFor S terms clauses → (split_of S context goal terms clauses left).0 ≡ Err e →
+    IsScopedStop S e
+
+-- ---- where walks and trees stand
+
+-- A walk ends at a point that splits lead to, with its terms as far as they were compared.
+pub record IsWalkAt (S : Signature) (start : Point) (w : Walk) : Type 0 where
+  pub p : Point
+  pub node : IsNode S start p
+  pub context : w.ctx ≡ p.context
+  pub goal : w.goal ≡ p.goal
+  pub substitution : w.subst ≡ p.substitution
+  pub terms : EachConverts S p.terms w.terms
+
+abbrev pub WalkStands : Type 0
+WalkStands = OfWalk (λ S start number pats w. IsWalkAt S start w)
+
+-- A tree is one of the split rule: each split has one branch for each constructor, in order; an absurd branch is the end of a run,
+-- and a solved one stands over the solution of one.
+abbrev pub TreeStands : Type 0
+TreeStands = OfTree (λ S start clauses t. StandsAt S start t)
+
+-- a substitution has a term for each variable of the starting context: it leads from the first goal and the first terms to those
+-- that are there
+pub record LeadsTo (S : Signature) (start : Point) (goal : Term) (s us : List Term) : Type 0 where
+  pub whole : length s ≡ length start.context
+  pub goal_there : under_solution s start.goal ≡ goal
+  pub terms_there : EachConverts S (map (under_solution s) start.terms) us
+
+abbrev pub WalkLeads : Type 0
+WalkLeads = OfWalk (λ S start number pats w. LeadsTo S start w.goal w.subst w.terms)
+
+abbrev pub LeavesLead : Type 0
+LeavesLead =
+    OfTree (λ S start clauses t.
+    EachLeaf (λ number context goal substitution terms binds. LeadsTo S start goal substitution terms) t)
+
+-- the level of a variable of the context that is split, or of a constructor's argument behind its n variables
+abbrev pub origin_level : (n : ℕ) → Origin → ℕ
+origin_level n (Old x) = n - (x + 1)
+origin_level n (Arg j) = n + j
+
+-- ---- matching
+
+-- A walk that ends has terms that its clause matches; or the clause has ( ) at a variable for which no constructor can be there.
+pub data IsWalkEnd (S : Signature) (pats : Pats) (w : Walk) : Type 0 where
+  matched : matches_all S pats w.terms ≡ true → IsWalkEnd S pats w
+  absurd : (t : Term) (x : ℕ) (type : Term) (m : Member) → SomeOpenAt S pats w.terms pattern.Absurd t → IsHeadForm S false t (Var x)
+      → HasFamily S w.ctx x type m
+      → ((number : ℕ) (c : Constructor) → slice_get m.family.constructors number ≡ Some c → IsAbsurdProblem S (problem_of w.ctx x m number c))
+      → IsWalkEnd S pats w
+
+abbrev pub WalkEnds : Type 0
+WalkEnds = OfWalk (λ S start number pats w. IsWalkEnd S pats w)
+
+-- The bindings of a walk are the terms at the clause's variables.
+abbrev pub WalkBinds : Type 0
+WalkBinds = OfWalk (λ S start number pats w. all_variable_places S pats w.terms ≡ w.binds)
+
+-- The dots that are kept are those at places that are there, which mention no variable without a term: what is written, with the
+-- bindings for the clause's variables, and the term there.
+abbrev pub WalkKeepsDots : Type 0
+WalkKeepsDots = OfWalk (λ S start number pats w. w.dots ≡ walked_dots (all_variables_found S pats w.terms) (all_dot_places S pats w.terms))
+
+-- Where the clause matches, all of its dots are kept.
+abbrev pub WalkKeepsAllDots : Type 0
+WalkKeepsAllDots =
+    OfWalk (λ S start number pats w. matches_all S pats w.terms ≡ true →
+    w.dots ≡ map (λ d. (under_solution w.binds d.0, d.1)) (all_dot_places S pats w.terms))
+
+-- A leaf is one of its clause: its terms are matched by the clause and are apart from every earlier clause of the list, and the terms
+-- at the clause's variables are kept from the bindings: each is the binding, or its head form, a constructor, with arguments that are
+-- kept so, since an earlier clause was compared there.
+pub record IsLeafOf (S : Signature) (clauses : Clauses) (number : ℕ) (us bs : List Term) : Type 0 where
+  pub pats : Pats
+  pub binds : ℕ
+  pub right : Right
+  pub clause : clause_at clauses number ≡ Some (Is pats binds right)
+  pub matched : matches_all S pats us ≡ true
+  pub apart : (j earlier_binds : ℕ) (earlier : Pats) (earlier_right : Right) → j < number →
+      clause_at clauses j ≡ Some (Is earlier earlier_binds earlier_right) → are_apart S earlier us ≡ true
+  pub bound : KeptAll S bs (all_variable_places S pats us)
+
+abbrev pub LeavesMatch : Type 0
+LeavesMatch =
+    OfTree (λ S start clauses t.
+    EachLeaf (λ number context goal substitution terms binds. IsLeafOf S clauses number terms binds) t)
+
+-- First match: whatever is put for the variables of a leaf, its clause matches the terms, and no earlier clause does.
+abbrev pub FirstMatch : Type 0
+FirstMatch =
+    OfTree (λ S start clauses t.
+    EachLeaf (λ number context goal substitution terms binds.
+    (s : ℕ → Term) (j count : ℕ) (pats : Pats) (right : Right) → clause_at clauses j ≡ Some (Is pats count right) →
+    (j ≡ number → matches_all S pats (map (inst s) terms) ≡ true)
+    × (j < number → matches_all S pats (map (inst s) terms) ≡ false)) t)
+
+-- ---- refusals have their causes
+
+-- A walk is never Uncovered.
+abbrev pub WalkCaused : Type 0
+WalkCaused =
+    (S : Signature) (context : Telescope) (goal : Term) (terms : List Term) (pats : Pats) (binds : ℕ) (right : Right) (number left : ℕ)
+    (e : TreeStop) → IsGiven S context goal terms → IsClauseFor S terms pats binds →
+    (own_walk_of S context goal terms (Is pats binds right) number left).0 ≡ Err e →
+    WalkCause S (start_at context goal terms) number pats e
+
+-- A tree is never Impossible or NotAbsurd. What is uncovered is apart from every clause, at a point of the tree.
+abbrev pub TreeCaused : Type 0
+TreeCaused =
+    (S : Signature) (context : Telescope) (goal : Term) (terms : List Term) (clauses : Clauses) (left : ℕ) (e : TreeStop) →
+    IsGiven S context goal terms → AreClausesFor S terms clauses → (split_of S context goal terms clauses left).0 ≡ Err e →
+    TreeCause S (start_at context goal terms) clauses e

@@ -1,0 +1,92 @@
+//! The laws of walks and trees.
+ghost use Rattle.case_trees.specs.Laws.{WalkSpends, TreeSpends, WalkBinds, WalkKeepsDots, WalkKeepsAllDots, WalkStands, WalkEnds, WalkScoped, WalkStopScoped, WalkCaused, TreeScoped, TreeStopScoped, TreeCaused, TreeStands, WalkLeads, LeavesLead, LeavesMatch, FirstMatch};
+
+/// No walk gives units back.
+pub fn walk_spends()
+    ensures { WalkSpends }
+{}
+
+/// No tree gives units back.
+pub fn tree_spends()
+    ensures { TreeSpends }
+{}
+
+/// The bindings of a walk are the terms at the clause's variables.
+pub fn walk_binds()
+    ensures { WalkBinds }
+{}
+
+/// The dots of a walk are those of its terms that mention no variable without a term, with what is written there.
+pub fn walk_keeps_dots()
+    ensures { WalkKeepsDots }
+{}
+
+/// Where a clause matches, its walk has all of its dots.
+pub fn walk_keeps_all_dots()
+    ensures { WalkKeepsAllDots }
+{}
+
+/// A leaf is matched by its clause and apart from every earlier one.
+pub fn leaves_match()
+    ensures { LeavesMatch }
+{}
+
+/// Whatever is put for the variables of a leaf, its clause matches, and no earlier one.
+pub fn first_match()
+    ensures { FirstMatch }
+{}
+
+/// The substitution of a walk leads from the start to where the walk ends.
+pub fn walk_leads()
+    ensures { WalkLeads }
+{}
+
+/// The substitution of a leaf leads there from the start.
+pub fn leaves_lead()
+    ensures { LeavesLead }
+{}
+
+/// A walk stands where solved problems lead to.
+pub fn walk_stands()
+    ensures { WalkStands }
+{}
+
+/// The terms of a walk are matched by its clause, or a variable has no constructor.
+pub fn walk_ends()
+    ensures { WalkEnds }
+{}
+
+/// A split has one branch for each constructor, in order: an absurd one is the end of a run, a solved one stands over the solution of one.
+pub fn tree_stands()
+    ensures { TreeStands }
+{}
+
+/// What a walk answers of scoped terms is scoped.
+pub fn walk_scoped()
+    ensures { WalkScoped }
+{}
+
+/// What ends a walk of scoped terms is scoped.
+pub fn walk_stop_scoped()
+    ensures { WalkStopScoped }
+{}
+
+/// What ends a walk has its cause at the clause.
+pub fn walk_caused()
+    ensures { WalkCaused }
+{}
+
+/// A tree of scoped terms is scoped.
+pub fn tree_scoped()
+    ensures { TreeScoped }
+{}
+
+/// What ends a tree of scoped terms is scoped.
+pub fn tree_stop_scoped()
+    ensures { TreeStopScoped }
+{}
+
+/// What ends a tree has its cause at a clause of the list; what is uncovered is apart from all of them.
+pub fn tree_caused()
+    ensures { TreeCaused }
+{}
