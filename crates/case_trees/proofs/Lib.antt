@@ -12,6 +12,7 @@ pub mod Leading
 pub mod LeftClauses
 pub mod LiveClauses
 pub mod Looks
+pub mod OriginLaws
 pub mod OwnPlaces
 pub mod OwnTerms
 pub mod OwnWalkLaws
@@ -23,6 +24,8 @@ pub mod ScopedProblems
 pub mod ScopedWalks
 pub mod ScopedWorking
 pub mod SharedTerms
+pub mod SolvedOrders
+pub mod SolvedOrigins
 pub mod SpentUnits
 pub mod StableSteps
 pub mod TidiedSteps

@@ -1,15 +1,14 @@
 -- Where a tree is split, and what ends it there: it is scoped, and has its cause at the clause that asks.
 use Rattle.std.proofs.Common.{◌≡◌, ℕ, ◌+◌, Some, option_and_then, List, length, sym, ap, ◌∙◌, subst as transport, arith}
-use Rattle.std.specs.List.{All}
 use Rattle.theory.specs.Terms.{Term, Var}
 use Rattle.theory.specs.Signatures.{Signature}
 use Rattle.theory.specs.SignatureScopes.{IsScoped}
-use Rattle.core_terms.specs.Patterns.{Pat, Pats}
+use Rattle.core_terms.specs.Patterns.{Pat}
 use Rattle.core_terms.specs.Clauses.{Clauses}
 use Rattle.core_terms.specs.declared.stop.Stop.{Stop}
 use Rattle.unification.specs.Outcomes as outcome
 use Rattle.unification.specs.ScopedStates.{IsReady}
-use Rattle.case_trees.specs.Pairs.{Pairs, terms_in, all_open}
+use Rattle.case_trees.specs.Pairs.{terms_in}
 use Rattle.case_trees.specs.Points.{Point}
 use Rattle.case_trees.specs.Problems.{type_of_variable, problem_of}
 use Rattle.case_trees.specs.Stops as stop
@@ -18,18 +17,16 @@ use Rattle.case_trees.specs.Looking.{Look, Found, Passed, Looked, Ran, if_expect
 use Rattle.case_trees.specs.Trees.{Live, SplitAt, as_split, look}
 use Rattle.case_trees.specs.Standing.{Runs}
 use Rattle.case_trees.specs.Scoped.{IsScopedPoint, IsScopedStop}
-use Rattle.case_trees.specs.Asking.{SomeOpenAt, Asks}
+use Rattle.case_trees.specs.Asking.{Asks}
 use Rattle.case_trees.specs.Causes as cause
 use Rattle.case_trees.specs.Causes.{IsAnyNumber, CommonCause, TreeCause}
 use Rattle.case_trees.proofs.Answered.{and_next-holds}
-use Rattle.case_trees.proofs.Looks.{TidiesTo, AllPairs, LookHas, LookHolds, ForcedHolds}
+use Rattle.case_trees.proofs.Looks.{TidiesTo, LookHas, LookHolds, ForcedHolds}
 use Rattle.case_trees.proofs.Running.{AllRun, RunHas, all-run}
-use Rattle.case_trees.proofs.Shapes.{HaveShapes}
-use Rattle.case_trees.proofs.OwnPlaces.{IsAsking, HasNone, AreWorked}
 use Rattle.case_trees.proofs.LiveClauses.{IsLiveAt}
 use Rattle.case_trees.proofs.TidiedSteps.{tidied-none}
 use Rattle.case_trees.proofs.WalkLooks.{LookedAt, type-holds}
-use Rattle.case_trees.proofs.WalkStanding.{IsAt, IsSplit, looked-split, problem-outcome, type-there, head-form-of, tidied-form, tidied-scoped, no-variable, pairs-weaker, pairs-both, all-open-scoped, some-open, open-asks}
+use Rattle.case_trees.proofs.WalkStanding.{IsAt, IsSplit, looked-split, problem-outcome, type-there, head-form-of, tidied-form, tidied-scoped, no-variable, IsOpenIn}
 
 -- what ends the tree is scoped and has its cause
 pub record IsTreeEnd (S : Signature) (start : Point) (clauses : Clauses) (e : TreeStop) : Type 0 where
@@ -38,23 +35,6 @@ pub record IsTreeEnd (S : Signature) (start : Point) (clauses : Clauses) (e : Tr
 
 pub tree-halts : (S : Signature) (start : Point) (clauses : Clauses) (e : Stop) → IsTreeEnd S start clauses (stop.Halts e)
 tree-halts S start clauses e = record { scoped = tt; caused = cause.halted e }
-
--- an open pair among pairs with these patterns and terms
-pub record IsOpenIn (S : Signature) (n : ℕ) (pats : Pats) (terms : List Term) (pair : Pat × Term) : Type 0 where
-  pub scoped : IsScoped S n pair.1
-  pub place : SomeOpenAt S pats terms pair.0 pair.1
-  pub asks : IsAsking pair.0
-  pub none : HasNone S pair.1
-
-pub all-open-in : (S : Signature) (n : ℕ) (pats : Pats) (pairs : Pairs) → HaveShapes S pats pairs → AreWorked S pairs → All (IsScoped S n) (terms_in pairs)
-    → AllPairs (IsOpenIn S n pats (terms_in pairs)) (all_open pairs)
-all-open-in S n pats pairs shapes worked scoped =
-    pairs-weaker (λ o. IsScoped S n o.1 × (SomeOpenAt S pats (terms_in pairs) o.0 o.1 × (IsAsking o.0 × HasNone S o.1))) (IsOpenIn S n pats (terms_in pairs)) (all_open pairs)
-    (λ o is. record { scoped = is.0; place = is.1.0; asks = is.1.1.0; none = is.1.1.1 })
-    (pairs-both (λ o. IsScoped S n o.1) (λ o. SomeOpenAt S pats (terms_in pairs) o.0 o.1 × (IsAsking o.0 × HasNone S o.1)) (all_open pairs)
-    (all-open-scoped S n pairs scoped)
-    (pairs-both (λ o. SomeOpenAt S pats (terms_in pairs) o.0 o.1) (λ o. IsAsking o.0 × HasNone S o.1) (all_open pairs)
-    (some-open S pats pairs shapes worked) (open-asks S pairs worked)))
 
 -- the clause that asks at a point
 pub record IsAsker (S : Signature) (start : Point) (clauses : Clauses) (p : Point) (c : Live) : Type 0 where

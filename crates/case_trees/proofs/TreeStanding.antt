@@ -47,11 +47,11 @@ use Rattle.case_trees.specs.Causes as cause
 use Rattle.case_trees.proofs.Looks.{AllPairs, first-holds}
 use Rattle.case_trees.proofs.OwnPlaces.{AreWorked, all-worked}
 use Rattle.case_trees.proofs.LiveClauses.{IsLiveAt, AreLiveAt, AllWorked, all-live-at, live-works, all-live-move}
-use Rattle.case_trees.proofs.TreeLooks.{IsTreeEnd, tree-halts, IsOpenIn, all-open-in, IsAsker, SplitHas, looks-split, forced-ends}
+use Rattle.case_trees.proofs.TreeLooks.{IsTreeEnd, tree-halts, IsAsker, SplitHas, looks-split, forced-ends}
 use Rattle.case_trees.proofs.Running.{AllRun}
 use Rattle.case_trees.proofs.Shapes.{terms-moved}
 use Rattle.case_trees.proofs.WalkTurns.{keeping-holds, become-holds}
-use Rattle.case_trees.proofs.WalkStanding.{IsAt, problem-outcome, IsSplit}
+use Rattle.case_trees.proofs.WalkStanding.{IsAt, problem-outcome, IsSplit, IsOpenIn, all-open-in}
 use Rattle.case_trees.specs.Kept.{KeptAll}
 use Rattle.case_trees.proofs.KeptConversion.{all-convert}
 use Rattle.case_trees.proofs.Leading.{Leads, each-trans, leads-start, leads-moved}

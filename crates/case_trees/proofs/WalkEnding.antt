@@ -40,12 +40,12 @@ use Rattle.case_trees.proofs.Shapes.{all-shapes, all-done-match}
 use Rattle.case_trees.proofs.OwnWalkLaws.{IsOwn, IsOwnWorked, own-starts, own-works, own-moves}
 use Rattle.case_trees.proofs.WalkLeading.{own-kept_on}
 use Rattle.case_trees.proofs.OwnTerms.{all-kept}
-use Rattle.case_trees.proofs.OwnPlaces.{IsAsking, HasNone}
+use Rattle.case_trees.proofs.OwnPlaces.{IsAsking}
 use Rattle.case_trees.proofs.TidiedSteps.{tidied-none}
 use Rattle.case_trees.proofs.Clashing.{all-clash, all-clash-scoped, some-pattern}
 use Rattle.case_trees.proofs.WalkTurns.{Claims, Turns, keeping-holds, walk-holds}
 use Rattle.case_trees.proofs.WalkLooks.{LookedAt, IsOther, Outcomes, look-holds}
-use Rattle.case_trees.proofs.WalkStanding.{IsStanding, IsSplit, standing-start, standing-kept, standing-moved, looked-split, pairs-weaker, pairs-both, all-open-scoped, some-open, open-asks, tidied-form, tidied-scoped, no-variable, head-form-of, type-there, problem-outcome}
+use Rattle.case_trees.proofs.WalkStanding.{IsStanding, IsSplit, standing-start, standing-kept, standing-moved, looked-split, tidied-form, tidied-scoped, no-variable, head-form-of, type-there, problem-outcome, IsOpenIn, all-open-in}
 
 -- the walk stands at a point, and is matched there or absurd
 pub record IsEnd (S : Signature) (start : Point) (pats : Pats) (w : Walk) : Type 0 where
@@ -54,11 +54,8 @@ pub record IsEnd (S : Signature) (start : Point) (pats : Pats) (w : Walk) : Type
   pub scoped : IsScopedWalk S w
 
 -- an open pair at a point
-pub record IsOpenAt (S : Signature) (pats : Pats) (p : Point) (pair : Pat × Term) : Type 0 where
-  pub scoped : IsScoped S (length p.context) pair.1
-  pub place : SomeOpenAt S pats p.terms pair.0 pair.1
-  pub asks : IsAsking pair.0
-  pub none : HasNone S pair.1
+abbrev IsOpenAt : Signature → Pats → Point → (Pat × Term) → Type 0
+IsOpenAt S pats p pair = IsOpenIn S (length p.context) pats p.terms pair
 
 walk-stands : (S : Signature) (start p : Point) (pairs : Pairs) → IsStanding S start p → IsWalkAt S start (walk_at p pairs)
 walk-stands S start p pairs h =
@@ -222,18 +219,8 @@ ending-outcomes S start clause pats binds ready patterns = record {
 pairs-open : (S : Signature) (start : Point) (pats : Pats) (p : Point) (pairs : Pairs) → IsOwnWorked S pats p pairs → IsStanding S start p
     → AllPairs (IsOpenAt S pats p) (all_open pairs)
 pairs-open S start pats p pairs own h =
-    pairs-weaker (λ o. IsScoped S (length p.context) o.1 × (SomeOpenAt S pats (terms_in pairs) o.0 o.1 × (IsAsking o.0 × HasNone S o.1))) (IsOpenAt S pats p) (all_open pairs)
-    (λ o is.
-    record {
-      scoped = is.0;
-      place = transport (λ us. SomeOpenAt S pats us o.0 o.1) (sym own.own.terms) is.1.0;
-      asks = is.1.1.0;
-      none = is.1.1.1;
-    })
-    (pairs-both (λ o. IsScoped S (length p.context) o.1) (λ o. SomeOpenAt S pats (terms_in pairs) o.0 o.1 × (IsAsking o.0 × HasNone S o.1)) (all_open pairs)
-    (all-open-scoped S (length p.context) pairs (transport (All (IsScoped S (length p.context))) own.own.terms h.scoped.terms))
-    (pairs-both (λ o. SomeOpenAt S pats (terms_in pairs) o.0 o.1) (λ o. IsAsking o.0 × HasNone S o.1) (all_open pairs)
-    (some-open S pats pairs own.own.shapes own.worked) (open-asks S pairs own.worked)))
+    transport (λ us. AllPairs (IsOpenIn S (length p.context) pats us) (all_open pairs)) (sym own.own.terms)
+    (all-open-in S (length p.context) pats pairs own.own.shapes own.worked (transport (All (IsScoped S (length p.context))) own.own.terms h.scoped.terms))
 
 ending-turns : (S : Signature) (start : Point) (clause : ℕ) (pats : Pats) (binds : ℕ) → IsReady S → AreScopedPatterns S binds pats → AreWhole S pats → Turns S clause (ending-claims S start clause pats)
 unfolding ending-claims

@@ -50,11 +50,11 @@ pairs-append : (O : (Pat × Term) → Type 0) (first rest : List (Pat × Term)) 
 pairs-append O [] rest h k = k
 pairs-append O (pair ∷ first) rest h k = (h.0, pairs-append O first rest h.1 k)
 
-pub pairs-weaker : (O P : (Pat × Term) → Type 0) (pairs : List (Pat × Term)) → ((pair : Pat × Term) → O pair → P pair) → AllPairs O pairs → AllPairs P pairs
+pairs-weaker : (O P : (Pat × Term) → Type 0) (pairs : List (Pat × Term)) → ((pair : Pat × Term) → O pair → P pair) → AllPairs O pairs → AllPairs P pairs
 pairs-weaker O P [] h all = tt
 pairs-weaker O P (pair ∷ pairs) h all = (h pair all.0, pairs-weaker O P pairs h all.1)
 
-pub pairs-both : (O P : (Pat × Term) → Type 0) (pairs : List (Pat × Term)) → AllPairs O pairs → AllPairs P pairs → AllPairs (λ pair. O pair × P pair) pairs
+pairs-both : (O P : (Pat × Term) → Type 0) (pairs : List (Pat × Term)) → AllPairs O pairs → AllPairs P pairs → AllPairs (λ pair. O pair × P pair) pairs
 pairs-both O P [] h k = tt
 pairs-both O P (pair ∷ pairs) h k = ((h.0, k.0), pairs-both O P pairs h.1 k.1)
 
@@ -70,7 +70,7 @@ mutual
   open-scoped S n (Keeps written t) h = tt
   open-scoped S n (Clashes pat t) h = tt
 
-  pub all-open-scoped : (S : Signature) (n : ℕ) (pairs : Pairs) → All (IsScoped S n) (terms_in pairs) → AllPairs (λ o. IsScoped S n o.1) (all_open pairs)
+  all-open-scoped : (S : Signature) (n : ℕ) (pairs : Pairs) → All (IsScoped S n) (terms_in pairs) → AllPairs (λ o. IsScoped S n o.1) (all_open pairs)
   all-open-scoped S n nil h = tt
   all-open-scoped S n (cons pair pairs) h =
       pairs-append (λ o. IsScoped S n o.1) (open_in pair) (all_open pairs)
@@ -99,7 +99,7 @@ mutual
   pair-open S _ _ (shape.apart pat t far) worked = tt
 
   -- an open pair stands at its place in the terms
-  pub some-open : (S : Signature) (pats : Pats) (pairs : Pairs) → HaveShapes S pats pairs → AreWorked S pairs
+  some-open : (S : Signature) (pats : Pats) (pairs : Pairs) → HaveShapes S pats pairs → AreWorked S pairs
       → AllPairs (λ o. SomeOpenAt S pats (terms_in pairs) o.0 o.1) (all_open pairs)
   some-open S _ _ shape.none worked = tt
   some-open S _ _ (shape.more pat pats pair pairs one others) worked =
@@ -119,10 +119,27 @@ mutual
   pair-asks S (Clashes pat t) worked = tt
 
   -- an open pair asks for a constructor, and the head form of its term is none
-  pub open-asks : (S : Signature) (pairs : Pairs) → AreWorked S pairs → AllPairs (λ o. IsAsking o.0 × HasNone S o.1) (all_open pairs)
+  open-asks : (S : Signature) (pairs : Pairs) → AreWorked S pairs → AllPairs (λ o. IsAsking o.0 × HasNone S o.1) (all_open pairs)
   open-asks S nil worked = tt
   open-asks S (cons pair pairs) worked =
       pairs-append (λ o. IsAsking o.0 × HasNone S o.1) (open_in pair) (all_open pairs) (pair-asks S pair worked.0) (open-asks S pairs worked.1)
+
+-- an open pair among pairs with these patterns and terms
+pub record IsOpenIn (S : Signature) (n : ℕ) (pats : Pats) (terms : List Term) (pair : Pat × Term) : Type 0 where
+  pub scoped : IsScoped S n pair.1
+  pub place : SomeOpenAt S pats terms pair.0 pair.1
+  pub asks : IsAsking pair.0
+  pub none : HasNone S pair.1
+
+pub all-open-in : (S : Signature) (n : ℕ) (pats : Pats) (pairs : Pairs) → HaveShapes S pats pairs → AreWorked S pairs → All (IsScoped S n) (terms_in pairs)
+    → AllPairs (IsOpenIn S n pats (terms_in pairs)) (all_open pairs)
+all-open-in S n pats pairs shapes worked scoped =
+    pairs-weaker (λ o. IsScoped S n o.1 × (SomeOpenAt S pats (terms_in pairs) o.0 o.1 × (IsAsking o.0 × HasNone S o.1))) (IsOpenIn S n pats (terms_in pairs)) (all_open pairs)
+    (λ o is. record { scoped = is.0; place = is.1.0; asks = is.1.1.0; none = is.1.1.1 })
+    (pairs-both (λ o. IsScoped S n o.1) (λ o. SomeOpenAt S pats (terms_in pairs) o.0 o.1 × (IsAsking o.0 × HasNone S o.1)) (all_open pairs)
+    (all-open-scoped S n pairs scoped)
+    (pairs-both (λ o. SomeOpenAt S pats (terms_in pairs) o.0 o.1) (λ o. IsAsking o.0 × HasNone S o.1) (all_open pairs)
+    (some-open S pats pairs shapes worked) (open-asks S pairs worked)))
 
 -- ---- points
 

@@ -8,20 +8,22 @@ use Rattle.theory.specs.Signatures.{Signature}
 use Rattle.core_terms.specs.Patterns as pattern
 use Rattle.core_terms.specs.Patterns.{Pats}
 use Rattle.core_terms.specs.Clauses.{Clause, Clauses, Right, Is}
-use Rattle.core_terms.specs.CaseTrees.{Walk, Tree}
+use Rattle.core_terms.specs.CaseTrees.{Step, Walk, Tree}
 use Rattle.core_terms.specs.declared.case_tree.Origin.{Origin}
 use Rattle.core_terms.specs.declared.case_tree.Origin.TheVariants.{Old, Arg}
 use Rattle.kernel_reduce.specs.Laws.{IsHeadForm}
 use Rattle.tele_eq.specs.ReflexivityLaws.{EachConverts}
 use Rattle.pattern_vectors.specs.Matching.{matches_all, are_apart}
-use Rattle.unification.specs.ScopedStates.{IsReady}
+use Rattle.unification.specs.Outcomes.{Solved}
+use Rattle.unification.specs.ScopedStates.{IsReady, IsScopedProblem}
 use Rattle.case_trees.specs.Points.{Point, start_at, under_solution}
 use Rattle.case_trees.specs.Problems.{Member, problem_of}
+use Rattle.case_trees.specs.Origins.{first_origins, origins_behind}
 use Rattle.case_trees.specs.Stops.{TreeStop}
 use Rattle.case_trees.specs.OwnWalks.{walked_dots, own_walk_of}
 use Rattle.case_trees.specs.Trees.{split_of}
 use Rattle.case_trees.specs.Places.{all_variable_places, all_variables_found, all_dot_places, clause_at}
-use Rattle.case_trees.specs.Standing.{IsAbsurdProblem, HasFamily, StandsAt, IsNode, EachLeaf}
+use Rattle.case_trees.specs.Standing.{Runs, IsAbsurdProblem, HasFamily, StandsAt, IsNode, EachLeaf}
 use Rattle.case_trees.specs.Scoped.{IsScopedPoint, IsClauseFor, AreClausesFor, IsScopedWalk, IsScopedTree, IsScopedStop}
 use Rattle.case_trees.specs.Kept.{KeptAll}
 use Rattle.case_trees.specs.Asking.{SomeOpenAt}
@@ -119,6 +121,17 @@ LeavesLead =
 abbrev pub origin_level : (n : ℕ) → Origin → ℕ
 origin_level n (Old x) = n - (x + 1)
 origin_level n (Arg j) = n + j
+
+-- Each variable of a new context stands for itself at its origin.
+abbrev pub OriginsTell : Type 0
+OriginsTell =
+    (S : Signature) (context : Telescope) (x : ℕ) (m : Member) (number : ℕ) (c : Constructor) (steps : List Step) (new : Telescope)
+    (solution : List Term) (origins : List Origin) → IsReady S → IsScopedProblem S (problem_of context x m number c) →
+    Runs S (problem_of context x m number c) (Solved steps new solution) →
+    origins ≡ origins_behind steps (problem_of context x m number c).context (first_origins (length context) (length c.arguments)) →
+    (length origins ≡ length new)
+    × ((k : ℕ) (o : Origin) → slice_get origins k ≡ Some o →
+    slice_get solution (origin_level (length context) o) ≡ Some (Var (length new - (k + 1))))
 
 -- ---- matching
 

@@ -1,5 +1,5 @@
 //! The laws of walks and trees.
-ghost use Rattle.case_trees.specs.Laws.{WalkSpends, TreeSpends, WalkBinds, WalkKeepsDots, WalkKeepsAllDots, WalkStands, WalkEnds, WalkScoped, WalkStopScoped, WalkCaused, TreeScoped, TreeStopScoped, TreeCaused, TreeStands, WalkLeads, LeavesLead, LeavesMatch, FirstMatch};
+ghost use Rattle.case_trees.specs.Laws.{WalkSpends, TreeSpends, WalkBinds, WalkKeepsDots, WalkKeepsAllDots, WalkStands, WalkEnds, WalkScoped, WalkStopScoped, WalkCaused, TreeScoped, TreeStopScoped, TreeCaused, OriginsTell, TreeStands, WalkLeads, LeavesLead, LeavesMatch, FirstMatch};
 
 /// No walk gives units back.
 pub fn walk_spends()
@@ -89,4 +89,9 @@ pub fn tree_stop_scoped()
 /// What ends a tree has its cause at a clause of the list; what is uncovered is apart from all of them.
 pub fn tree_caused()
     ensures { TreeCaused }
+{}
+
+/// Each variable of the context behind a solved problem stands for itself at its origin.
+pub fn origins_tell()
+    ensures { OriginsTell }
 {}
