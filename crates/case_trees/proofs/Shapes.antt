@@ -15,8 +15,8 @@ use Rattle.unification.specs.Built.{Built, built_of}
 use Rattle.pattern_vectors.specs.Columns.{IsWhole, AreWhole}
 use Rattle.pattern_vectors.specs.Matching.{is_as_long, is_constructor, matches, matches_all, matches_built, is_apart}
 use Rattle.unification.proofs.Constructors.{found-constructor, instance_of, built-instance}
-use Rattle.pattern_vectors.proofs.Opens.{as-long-counted}
-use Rattle.pattern_vectors.proofs.Staying.{apart_stays}
+use Rattle.pattern_vectors.proofs.Opens.{as-long-counted, numbers-same}
+use Rattle.pattern_vectors.proofs.Staying.{apart-stays}
 use Rattle.pattern_vectors.proofs.Separate.{and-both}
 use Rattle.case_trees.specs.Pairs.{Pair, Pairs, Waits, Binds, Passes, Keeps, Builds, Clashes, nil, cons, waiting, term_in, terms_in, clashes, some_clashes, open_in, all_open, with_terms, all_with_terms}
 use Rattle.case_trees.proofs.Workings as work
@@ -47,11 +47,6 @@ mutual
         → HaveShapes S (pattern.cons pat pats) (cons pair pairs)
 
 -- ---- working
-
-pub numbers-same : (n number : ℕ) (b : Built) → is_constructor n number b ≡ true → (b.n ≡ n) × (b.number ≡ number)
-numbers-same n number b is =
-    let (first, second) = and-both (b.n == n) (b.number == number) is in
-    (grind (arith, nat_tests), grind (arith, nat_tests))
 
 -- as many patterns as the constructor has arguments
 pub whole-long : (S : Signature) (n number : ℕ) (pats : Pats) (t : Term) (b : Built) → IsWhole S (pattern.Con n number pats) → built_of S t ≡ Some b
@@ -146,15 +141,6 @@ mutual
   pub terms-moved : (s : ℕ → Term) (pairs : Pairs) → terms_in (all_with_terms (inst s) pairs) ≡ map (inst s) (terms_in pairs)
   terms-moved s nil = refl
   terms-moved s (cons pair pairs) = ap₂ (λ t ts. t ∷ ts) (term-moved s pair) (terms-moved s pairs)
-
-pub apart-stays : (S : Signature) (s : ℕ → Term) (pat : Pat) (t : Term) → is_apart S pat t ≡ true → is_apart S pat (inst s t) ≡ true
-apart-stays S s pat t far =
-    single (is_apart S pat (inst s t))
-    (apart_stays S s (pattern.cons pat pattern.nil) (t ∷ []) (or_left (is_apart S pat t) false far))
-  where
-    single : (b : Bool) → (b || false) ≡ true → b ≡ true
-    single true e = refl
-    single false e = e
 
 clash-stays : (S : Signature) (s : ℕ → Term) (pat : Pat) (t : Term) → IsClash S pat t → IsClash S pat (inst s t)
 clash-stays S s _ _ (another n number pats t b e other) = another n number pats (inst s t) (instance_of s b) (built-instance S s t b e) other

@@ -6,7 +6,8 @@ use Rattle.theory.specs.Telescopes.{Telescope}
 use Rattle.tele_eq.specs.Items.{each_position}
 use Rattle.tele_eq.proofs.Carrying.{IsFrom}
 use Rattle.theory.proofs.Lists.{some_is}
-use Rattle.unification.specs.Occurrences.{is_among, without, place_in, dependants, order_without}
+use Rattle.tele_eq.specs.Levels.{place_in, is_among}
+use Rattle.unification.specs.Occurrences.{without, dependants, order_without}
 use Rattle.unification.proofs.Levels.{among-cases, among-own, among-later, not-among-head, among-from, from-lower}
 use Rattle.unification.proofs.Dependants.{dependants-order, dependants-below}
 

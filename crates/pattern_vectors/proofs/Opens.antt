@@ -23,7 +23,8 @@ as-long-counted (cons pat pats) [] (y ∷ ys) e = absurd (grind arith)
 as-long-counted (cons pat pats) (x ∷ xs) [] e = absurd (grind arith)
 as-long-counted (cons pat pats) (x ∷ xs) (y ∷ ys) e = as-long-counted pats xs ys (grind arith)
 
-numbers-same : (n number : ℕ) (b : Built) → is_constructor n number b ≡ true → (b.n ≡ n) × (b.number ≡ number)
+-- the constructor of a pattern
+pub numbers-same : (n number : ℕ) (b : Built) → is_constructor n number b ≡ true → (b.n ≡ n) × (b.number ≡ number)
 numbers-same n number b is =
     let (first, second) = and-both (b.n == n) (b.number == number) is in
     (grind (arith, nat_tests), grind (arith, nat_tests))

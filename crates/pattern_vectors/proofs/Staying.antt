@@ -69,7 +69,8 @@ some-column true b c d first rest is = or_left c d (first refl)
 some-column false b c d first rest is = or_right c d (rest is)
 
 mutual
-  apart-stays : (S : Signature) (s : ℕ → Term) (pat : Pat) (t : Term) → is_apart S pat t ≡ true → is_apart S pat (inst s t) ≡ true
+  -- a pattern that is apart from a term is apart from its instances
+  pub apart-stays : (S : Signature) (s : ℕ → Term) (pat : Pat) (t : Term) → is_apart S pat t ≡ true → is_apart S pat (inst s t) ≡ true
   apart-stays S s Bind t is = absurd (false≢true is)
   apart-stays S s Wild t is = absurd (false≢true is)
   apart-stays S s (Dot forced) t is = absurd (false≢true is)

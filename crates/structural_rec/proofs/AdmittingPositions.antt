@@ -20,7 +20,8 @@ use Rattle.core_sig.proofs.Arguments.{spine_of-applied}
 use Rattle.kernel_reduce.specs.Entries.{family_in, family_at}
 use Rattle.kernel_reduce.proofs.LookUps.{family-found}
 use Rattle.case_below_gen.proofs.PartTests.{and-tells, or-tells}
-use Rattle.structural_rec.specs.Positions.{Admission, Admits, admission, admission_of, admission_in, admission_with, admission_at, admission_from, are_different, are_independent, family_number, fixed_positions, is_among, mentions, mentions_only, position_of, positions_of}
+use Rattle.tele_eq.specs.Levels.{is_among}
+use Rattle.structural_rec.specs.Positions.{Admission, Admits, admission, admission_of, admission_in, admission_with, admission_at, admission_from, are_different, are_independent, family_number, fixed_positions, mentions, mentions_only, position_of, positions_of}
 use Rattle.structural_rec.proofs.Admissions.{admission-whole}
 use Rattle.structural_rec.proofs.FixedPositions.{mentions-before}
 use Rattle.structural_rec.proofs.LowerParts.{head_of-applied}

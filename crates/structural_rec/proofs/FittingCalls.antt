@@ -15,7 +15,8 @@ use Rattle.case_below_gen.specs.PartTests.{same}
 use Rattle.case_below_gen.specs.StrictParts.{IsStrictPart}
 use Rattle.case_below_gen.proofs.PartTests.{applied-tells, and-tells, or-tells, part-decides}
 use Rattle.structural_rec.specs.Calls.{Call}
-use Rattle.structural_rec.specs.Positions.{Admission, is_among}
+use Rattle.tele_eq.specs.Levels.{is_among}
+use Rattle.structural_rec.specs.Positions.{Admission}
 use Rattle.structural_rec.proofs.LowerParts.{no-inner}
 use Rattle.structural_rec.proofs.Members.{among-first, among-later}
 use Rattle.structural_rec.specs.Fitting.{IsKept, Fits, part_in, is_smaller, is_same, both_pass, pass_at, fits}

@@ -6,7 +6,8 @@ use Rattle.std.proofs.lemmas.Bool.{false≢true, or_left, or_right}
 use Rattle.std.proofs.lemmas.Bool.Decides.{Decides-eqb, Decides-ltb}
 use Rattle.theory.specs.Terms.{Term}
 use Rattle.case_below_gen.proofs.PartTests.{or-tells, and-tells}
-use Rattle.structural_rec.specs.Positions.{is_among, have_position, mentions, IsFixed, with_fixed, fixed_below, fixed_positions}
+use Rattle.tele_eq.specs.Levels.{is_among}
+use Rattle.structural_rec.specs.Positions.{have_position, mentions, IsFixed, with_fixed, fixed_below, fixed_positions}
 use Rattle.structural_rec.specs.Positions.IsFixed.{parameter, behind}
 use Rattle.structural_rec.proofs.Members.{among-first, among-later, any-tells, any-found}
 

@@ -4,7 +4,7 @@ use Rattle.std.specs.List.{list_any}
 use Rattle.std.proofs.lemmas.Bool.{false≢true, or_left, or_right}
 use Rattle.std.proofs.lemmas.Bool.Decides.{Decides-eqb}
 use Rattle.case_below_gen.proofs.PartTests.{or-tells}
-use Rattle.structural_rec.specs.Positions.{is_among}
+use Rattle.tele_eq.specs.Levels.{is_among}
 
 -- an element that passes a test
 pub record HasMember (p : ℕ → Bool) (xs : List ℕ) : Type 0 where

@@ -11,7 +11,8 @@ use Rattle.theory.specs.Terms.{Term}
 use Rattle.theory.specs.Signatures.{Signature}
 use Rattle.theory.proofs.Lists.{AllPairs-append}
 use Rattle.case_below_gen.proofs.PartTests.{or-tells}
-use Rattle.structural_rec.specs.Positions.{Admission, Admits, have_position, mentions, is_among, with_fixed, fixed_below, fixed_positions}
+use Rattle.tele_eq.specs.Levels.{is_among}
+use Rattle.structural_rec.specs.Positions.{Admission, Admits, have_position, mentions, with_fixed, fixed_below, fixed_positions}
 use Rattle.structural_rec.specs.Orders.{unless_among, recursive_positions, recursion_order}
 use Rattle.structural_rec.specs.Laws.{IsOrder}
 use Rattle.structural_rec.proofs.FixedPositions.{fixed-before, fixed-decides}

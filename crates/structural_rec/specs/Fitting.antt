@@ -10,7 +10,8 @@ use Rattle.kernel_reduce.specs.Entries.{family_at}
 use Rattle.case_below_gen.specs.PartTests.{same, has_part}
 use Rattle.case_below_gen.specs.StrictParts.{IsStrictPart}
 use Rattle.structural_rec.specs.Calls.{Call, calls}
-use Rattle.structural_rec.specs.Positions.{Admission, Admits, is_among}
+use Rattle.tele_eq.specs.Levels.{is_among}
+use Rattle.structural_rec.specs.Positions.{Admission, Admits}
 use Rattle.structural_rec.specs.Uses.{Use}
 
 -- the argument of a call at position i is the clause's own term there, letter for letter

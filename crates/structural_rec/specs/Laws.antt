@@ -7,7 +7,8 @@ use Rattle.theory.specs.Families.{Family, Constructor, Recursive}
 use Rattle.theory.specs.Signatures.{Signature}
 use Rattle.case_below_gen.specs.StrictParts.{IsRecursiveArgument, IsStrictPart}
 use Rattle.structural_rec.specs.Calls.{Call, calls, has_constant}
-use Rattle.structural_rec.specs.Positions.{Admission, Admits, IsFixed, admission, fixed_positions, is_among}
+use Rattle.tele_eq.specs.Levels.{is_among}
+use Rattle.structural_rec.specs.Positions.{Admission, Admits, IsFixed, admission, fixed_positions}
 use Rattle.structural_rec.specs.Orders.{recursion_order}
 use Rattle.structural_rec.specs.Uses.{Use, is_recursive}
 use Rattle.structural_rec.specs.Fitting.{Fits, AllFit, IsUsable, fits}

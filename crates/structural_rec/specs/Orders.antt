@@ -1,7 +1,8 @@
 -- The order in which a function is recursive at a position.
 use Rattle.std.specs.Prelude.{ℕ, cond, List, [], ◌∷◌, ◌++◌, flat_map}
 use Rattle.std.specs.List.{range_with_len}
-use Rattle.structural_rec.specs.Positions.{Admission, is_among}
+use Rattle.tele_eq.specs.Levels.{is_among}
+use Rattle.structural_rec.specs.Positions.{Admission}
 
 -- the positions that recursion at j goes over: the fixed ones, those of the indices in the family's order, and j
 abbrev pub recursive_positions : (j : ℕ) → Admission → List ℕ

@@ -10,9 +10,7 @@ use Rattle.theory.specs.Signatures.{Signature, FamilyOf, IsEntryAt}
 use Rattle.core_terms.specs.Levels.{variable}
 use Rattle.kernel_reduce.specs.Entries.{family_at}
 use Rattle.tele_eq.specs.Dependences.{has_variable}
-
-abbrev pub is_among : ℕ → List ℕ → Bool
-is_among i positions = list_any (λ k. k == i) positions
+use Rattle.tele_eq.specs.Levels.{is_among}
 
 -- ---- what types mention
 

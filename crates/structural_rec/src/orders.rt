@@ -5,7 +5,7 @@ ghost use Rattle.structural_rec.specs.Meanings.{admission_of};
 ghost use Rattle.structural_rec.specs.Orders as spec;
 
 use crate::admission::Admission;
-use crate::positions::is_among;
+use tele_eq::is_among;
 use core_terms::Stop;
 use std::alloc::Global;
 

@@ -8,17 +8,7 @@ ghost use Rattle.structural_rec.specs.Positions as spec;
 
 use core_terms::{Stop, Term};
 use std::alloc::Global;
-use tele_eq::has_variable;
-
-/// Whether a position is among others.
-pub(crate) fn is_among(i: u32, positions: &[u32]) -> bool
-    ensures { result ≡ spec.is_among i positions.now }
-{
-    match positions {
-        [] => false,
-        [position, rest @ ..] => *position == i || is_among(i, rest),
-    }
-}
+use tele_eq::{has_variable, is_among};
 
 /// Whether a variable is free in one of the terms.
 fn have_variable(n: u32, terms: &[Term]) -> bool

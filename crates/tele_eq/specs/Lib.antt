@@ -3,6 +3,7 @@ pub mod Congruences
 pub mod Dependences
 pub mod Environments
 pub mod Items
+pub mod Levels
 pub mod ReflexivityLaws
 pub mod ScopeLaws
 pub mod TelescopicEquality

@@ -2,10 +2,11 @@
 use Rattle.std.proofs.Common.{◌≡◌, ℕ, zero, suc, ◌+◌, ◌-◌, ◌<◌, ◌≤◌, ◌⊎◌, inl, inr, ◌||◌, Bool, true, false, cond, List, [], ◌∷◌, length, refl, subst, arith}
 use Rattle.theory.specs.Terms.{Term}
 use Rattle.theory.specs.Telescopes.{Telescope}
+use Rattle.tele_eq.specs.Levels.{has_level, is_among}
 use Rattle.tele_eq.specs.Dependences.{has_variable}
 use Rattle.tele_eq.specs.Items.{term_at}
 use Rattle.tele_eq.proofs.Carrying.{IsFrom}
-use Rattle.unification.specs.Occurrences.{has_level, dependants_from, is_among}
+use Rattle.unification.specs.Occurrences.{dependants_from}
 use Rattle.unification.proofs.Levels.{among-cases, among-own, among-later, not-among-tail, among-from, from-lower}
 
 pub dependants-order : (at : ℕ) (found : List ℕ) (types : Telescope) → IsFrom at (dependants_from at found types)

@@ -3,7 +3,8 @@ use Rattle.std.proofs.Common.{◌≡◌, ℕ, zero, suc, ◌+◌, ◌<◌, ◌�
 use Rattle.std.proofs.lemmas.Bool.{eqb-true}
 use Rattle.tele_eq.specs.Items.{each_position}
 use Rattle.tele_eq.proofs.Carrying.{IsFrom}
-use Rattle.unification.specs.Occurrences.{is_among, without, place_in}
+use Rattle.tele_eq.specs.Levels.{place_in, is_among}
+use Rattle.unification.specs.Occurrences.{without}
 use Rattle.unification.proofs.Cases.{either}
 
 -- ---- what is among levels

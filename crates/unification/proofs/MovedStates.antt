@@ -140,19 +140,22 @@ pub record IsInjection (S : Signature) (m n number : ℕ) (f : Family) (c : Cons
   pub left_length : length us ≡ length c.arguments
   pub right_length : length vs ≡ length c.arguments
 
-group_proofs-scoped : (S : Signature) (m n number : ℕ) (f : Family) (c : Constructor) (ps us vs : List Term) → IsReady S
-    → IsInjection S m n number f c ps us vs → All (IsScoped S (m + length c.arguments)) (group_proofs n number f c ps us vs)
-group_proofs-scoped S m n number f c ps us vs ready is =
+-- congruences of scoped terms
+pub group_proofs-scoped : (S : Signature) (m n number : ℕ) (owner f : Family) (c : Constructor) (ps us vs : List Term) → IsReady S
+    → IsEntryAt S n (FamilyOf owner) → slice_get owner.constructors number ≡ Some c → IsEntryAt S n (FamilyOf f)
+    → All (IsScoped S m) ps → All (IsScoped S m) us → All (IsScoped S m) vs
+    → All (IsScoped S (m + length c.arguments)) (group_proofs n number f c ps us vs)
+group_proofs-scoped S m n number owner f c ps us vs ready at there family hp hu hv =
     let count = length c.arguments in
     let ps' = lifted count ps in
-    let lifted_ps : All (IsScoped S (m + count)) ps' = lifted-scoped S m count ps is.parameters in
+    let lifted_ps : All (IsScoped S (m + count)) ps' = lifted-scoped S m count ps hp in
     scoped_congruences S (m + count) (argument_items n ps' c) (family_items n f ps') (constructor_terms n number ps' c) (lifted count us)
     (lifted count vs) (variables count) ready.identities
-    (argument_items-scoped S n number (m + count) is.owner c ps' ready.scoped is.entry is.constructor lifted_ps)
-    (family_items-scoped S n (m + count) f ps' ready.scoped is.family lifted_ps)
+    (argument_items-scoped S n number (m + count) owner c ps' ready.scoped at there lifted_ps)
+    (family_items-scoped S n (m + count) f ps' ready.scoped family lifted_ps)
     (subst (λ k. All (IsScoped S (m + count + k)) (constructor_terms n number ps' c)) (sym (length-argument_items n ps' c))
-    (constructor_terms-scoped S n number (m + count) is.owner c ps' ready.scoped is.entry is.constructor lifted_ps))
-    (lifted-scoped S m count us is.left) (lifted-scoped S m count vs is.right) (variables-scoped S (m + count) count (omega arith))
+    (constructor_terms-scoped S n number (m + count) owner c ps' ready.scoped at there lifted_ps))
+    (lifted-scoped S m count us hu) (lifted-scoped S m count vs hv) (variables-scoped S (m + count) count (omega arith))
 
 pub injected_state-scoped : (S : Signature) (s : State) (g n number : ℕ) (f : Family) (c : Constructor) (ps us vs : List Term) → IsReady S
     → IsScopedState S s → IsInjection S (length s.context) n number f c ps us vs → IsScopedState S (injected_state s g n number f c ps us vs)
@@ -168,7 +171,7 @@ injected_state-scoped S s g n number f c ps us vs ready scoped is =
     (λ j d le. over_first-scoped S new terms j d (constructor_terms-scoped S n number m is.owner c ps ready.scoped is.entry is.constructor is.parameters) le) in
     let types : StandsFrom S (m + g) new (behind m g new variable (over_first new proofs)) =
     behind-stands S m g new variable (over_first new proofs) own
-    (λ j d le. over_first-scoped S new proofs j d (group_proofs-scoped S m n number f c ps us vs ready is) le) in
+    (λ j d le. over_first-scoped S new proofs j d (group_proofs-scoped S m n number is.owner f c ps us vs ready is.entry is.constructor is.family is.parameters is.left is.right) le) in
     let first = equations_at X (equations X us vs) us vs in
     let counted : length X ≡ length c.arguments = length-argument_items n ps c in
     let many : length first ≡ length X =

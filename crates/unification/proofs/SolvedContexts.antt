@@ -7,13 +7,14 @@ use Rattle.theory.specs.Telescopes.{Telescope}
 use Rattle.theory.specs.Signatures.{Signature}
 use Rattle.theory.specs.SignatureScopes.{IsScoped, IsScopedTelescope}
 use Rattle.theory.proofs.ScopedTerms.{var-scoped, sort-scoped, scoped_over_more}
+use Rattle.tele_eq.specs.Levels.{has_level, place_in, is_among}
 use Rattle.tele_eq.specs.Dependences.{has_variable}
 use Rattle.tele_eq.specs.Environments.{put, Environment}
 use Rattle.tele_eq.specs.Items.{term_at, each_position}
 use Rattle.tele_eq.proofs.Carrying.{where-same, where-other}
 use Rattle.tele_eq.proofs.Growing.{snoc-append}
 use Rattle.unification.specs.Laws.{SolvedContext}
-use Rattle.unification.specs.Occurrences.{has_level, dependants_from, dependants, lacks, is_among, without, order_without, place_in}
+use Rattle.unification.specs.Occurrences.{dependants_from, dependants, lacks, without, order_without}
 use Rattle.unification.specs.Solving.{reordered, solved, new_context}
 use Rattle.unification.proofs.Cases.{either, here-or_below}
 use Rattle.unification.proofs.Dependants.{dependants-order, dependants-below, none-occurs, type-lacks}
@@ -30,7 +31,8 @@ out-from : (context : Telescope) (p i : ℕ) → is_among i (left_out context p)
 out-from context p i h =
     among-from p (left_out context p) (omega arith, dependants-order (p + 1) (p ∷ []) (drop (p + 1) context)) i h
 
-dependants-within : (context : Telescope) (p i : ℕ) → p < length context → is_among i (dependants context p) ≡ true → i < length context
+-- dependants are levels of the context
+pub dependants-within : (context : Telescope) (p i : ℕ) → p < length context → is_among i (dependants context p) ≡ true → i < length context
 dependants-within context p i lt h =
     let low : i < p + 1 + length (drop (p + 1) context) = dependants-below (p + 1) (p ∷ []) (drop (p + 1) context) i h in
     omega (arith, length-drop (p + 1) context)

@@ -11,7 +11,8 @@ use Rattle.core_terms.specs.Levels.{variable}
 use Rattle.tele_eq.specs.Dependences.{has_variable}
 use Rattle.tele_eq.specs.Environments.{Environment, put}
 use Rattle.tele_eq.proofs.Carrying.{where-same, where-other}
-use Rattle.unification.specs.Occurrences.{dependants, has_level, lacks, order_without, place_in}
+use Rattle.tele_eq.specs.Levels.{has_level, place_in}
+use Rattle.unification.specs.Occurrences.{dependants, lacks, order_without}
 use Rattle.unification.specs.Solving.{reordered, solved}
 use Rattle.unification.proofs.Cases.{below-or_from, same-or_not, first-of_two, second-of_two}
 use Rattle.unification.proofs.Levels.{place-there}

@@ -13,7 +13,8 @@ use Rattle.core_terms.specs.declared.stop.Stop.{Stop}
 use Rattle.kernel_reduce.specs.Reduction.{answered}
 use Rattle.tele_eq.specs.ReflexivityLaws.{EachConverts}
 use Rattle.unification.specs.States.{State, Problem}
-use Rattle.unification.specs.Occurrences.{lacks, order_without, place_in}
+use Rattle.tele_eq.specs.Levels.{place_in}
+use Rattle.unification.specs.Occurrences.{lacks, order_without}
 use Rattle.unification.specs.Solving.{solved_state}
 use Rattle.unification.specs.Heights.{start_made}
 use Rattle.unification.specs.Turns.{Turn, Goes, Fails}

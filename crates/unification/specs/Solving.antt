@@ -7,7 +7,8 @@ use Rattle.core_terms.specs.Levels.{variable}
 use Rattle.tele_eq.specs.Items.{term_at}
 use Rattle.tele_eq.specs.Environments.{Environment, put}
 use Rattle.unification.specs.States.{State}
-use Rattle.unification.specs.Occurrences.{order_without, place_in}
+use Rattle.tele_eq.specs.Levels.{place_in}
+use Rattle.unification.specs.Occurrences.{order_without}
 use Rattle.unification.specs.Moving.{over_first, behind, moved}
 
 -- the variables of a context in a new order

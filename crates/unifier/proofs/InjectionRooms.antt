@@ -25,6 +25,7 @@ use Rattle.unification.specs.Records.{argument_items, family_items, constructor_
 use Rattle.unification.specs.ScopedStates.{IsReady}
 use Rattle.unification.specs.Moving.{over_first, behind, moved}
 use Rattle.unification.specs.States.{Equation, State, equations_at}
+use Rattle.unification.proofs.MovedStates.{group_proofs-scoped}
 use Rattle.unification.proofs.ScopedRecords.{variables-scoped, lifted-scoped, length-argument_items, argument_items-scoped, family_items-scoped, constructor_terms-scoped}
 use Rattle.core_sig.specs.Meanings.{argument_of, constructor_of, family_of}
 use Rattle.core_terms.specs.declared.term.Term as code-term
@@ -72,22 +73,6 @@ proofs-made n number f c ps us vs made e =
     let family = and_then (bounded_items (family_items n f ps')) (λ family. terms) in
     last-of (bounded_terms (constructor_terms n number ps' c)) last made
     (last-of (bounded_items (family_items n f ps')) terms made (last-of (bounded_items (argument_items n ps' c)) family made e))
-
--- congruences of scoped terms
-pub proofs-scoped : (S : Signature) (m n number : ℕ) (f : Family) (c : Constructor) (ps us vs : List Term) → IsReady S
-    → IsEntryAt S n (FamilyOf f) → slice_get f.constructors number ≡ Some c → All (IsScoped S m) ps → All (IsScoped S m) us → All (IsScoped S m) vs
-    → All (IsScoped S (m + length c.arguments)) (group_proofs n number f c ps us vs)
-proofs-scoped S m n number f c ps us vs ready at there hp hu hv =
-    let count = length c.arguments in
-    let ps' = lifted count ps in
-    let lifted_ps : All (IsScoped S (m + count)) ps' = lifted-scoped S m count ps hp in
-    scoped_congruences S (m + count) (argument_items n ps' c) (family_items n f ps') (constructor_terms n number ps' c) (lifted count us)
-    (lifted count vs) (variables count) ready.identities
-    (argument_items-scoped S n number (m + count) f c ps' ready.scoped at there lifted_ps)
-    (family_items-scoped S n (m + count) f ps' ready.scoped at lifted_ps)
-    (transport (λ k. All (IsScoped S (m + count + k)) (constructor_terms n number ps' c)) (sym (length-argument_items n ps' c))
-    (constructor_terms-scoped S n number (m + count) f c ps' ready.scoped at there lifted_ps))
-    (lifted-scoped S m count us hu) (lifted-scoped S m count vs hv) (variables-scoped S (m + count) count (omega arith))
 
 joined-same : (s : State) (g n number : ℕ) (f : Family) (c : Constructor) (ps us vs : List Term) (X : List Item) (types terms proofs : List Term)
     → X ≡ argument_items n ps c → types ≡ equations X us vs → length types ≡ length c.arguments
@@ -201,7 +186,7 @@ proofs-put b n p ps us vs proofs h e made few =
     made-put S (n + length b.con.now.args) (group_proofs b.family b.number f c ps us vs) proofs
     (proofs-made b.family b.number f c ps us vs proofs made)
     (transport (λ k. All (IsScoped S (n + k)) (group_proofs b.family b.number f c ps us vs)) (length-map b.con.now.args (argument_of p))
-    (proofs-scoped S n b.family b.number f c ps us vs h.known.ready (entry-there b h.known) (constructor-there b p h.known e)
+    (group_proofs-scoped S n b.family b.number f f c ps us vs h.known.ready (entry-there b h.known) (constructor-there b p h.known e) (entry-there b h.known)
     (given-scoped S n ps h.parameters) (given-scoped S n us h.left) (given-scoped S n vs h.right))) few
 
 -- how many types there are in the code

@@ -7,19 +7,9 @@ use Rattle.core_terms.specs.declared.term.Term as code
 use Rattle.unification.proofs.SolvedContexts.{length-order}
 use Rattle.unifier.specs.Conditions.{AreBelow}
 use Rattle.tele_eq.specs.Items.{each_position}
-use Rattle.unification.specs.Occurrences.{has_level, dependants_from, dependants, is_among, without, order_without, place_in}
+use Rattle.tele_eq.specs.Levels.{has_level, place_in, is_among}
+use Rattle.unification.specs.Occurrences.{dependants_from, dependants, without, order_without}
 use Rattle.unifier.proofs.LowTerms.{slice-from, map-drop}
-
-place-step : (b : Bool) (n length_of : ℕ) → n ≤ length_of → cond b 0 (n + 1) ≤ suc length_of
-place-step true n length_of h = omega arith
-place-step false n length_of h = omega arith
-
--- a place is within the list
-pub place_in-within : (order : List ℕ) (j : ℕ) → place_in order j ≤ length order
-place_in-within [] j = omega arith
-place_in-within (i ∷ order) j = place-step (i == j) (place_in order j) (length order) (place_in-within order j)
-
-pub ruleset place_bounds = (place_in-within)
 
 -- the dependants, found in the types behind the variable
 pub dependants-sliced : (made found : List ℕ) (p : ℕ) (context : List code.Term) → made ≡ [] → found ≡ p ∷ []

@@ -5,7 +5,8 @@ use Rattle.theory.specs.Terms.{Term, Var, Sort, Pi, Lam, App, Let, Const, Fam, C
 use Rattle.theory.specs.Telescopes.{Telescope}
 use Rattle.tele_eq.specs.Dependences.{has_variable}
 use Rattle.tele_eq.specs.Environments.{put_under, put}
-use Rattle.unification.specs.Occurrences.{has_level, dependants, lacks, order_without}
+use Rattle.tele_eq.specs.Levels.{has_level}
+use Rattle.unification.specs.Occurrences.{dependants, lacks, order_without}
 use Rattle.unification.specs.Solving.{reordered}
 use Rattle.unification.proofs.SolvedContexts.{length-order}
 

@@ -11,7 +11,8 @@ use Rattle.core_terms.specs.declared.stop.Stop.{Stop}
 use Rattle.core_terms.specs.declared.stop.Stop.TheVariants.{Deep}
 use Rattle.kernel_reduce.specs.Reduction.{answered, nesting, normal_of}
 use Rattle.unification.specs.Heights.{are_low_equations, bounded_state}
-use Rattle.unification.specs.Occurrences.{has_level, dependants, lacks}
+use Rattle.tele_eq.specs.Levels.{has_level}
+use Rattle.unification.specs.Occurrences.{dependants, lacks}
 use Rattle.unification.specs.Solutions.{if_free, is_free_of, side_solved, left_step, right_step, solution_from, solve_side, solve_sides, solves, state_solved, turn_by, variable_in}
 use Rattle.unification.specs.Solving.{solved_state}
 use Rattle.unification.specs.States.{Equation, State}

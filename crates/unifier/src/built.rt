@@ -13,15 +13,15 @@ use std::alloc::Global;
 
 /// The constructor that a term is, with its family. The term has all its arguments.
 #[derive(Clone, Copy)]
-pub(crate) struct Built<'a> {
-    pub(crate) family: u32,
-    pub(crate) number: u32,
-    pub(crate) record: &'a Family,
-    pub(crate) con: &'a Constructor,
+pub struct Built<'a> {
+    pub family: u32,
+    pub number: u32,
+    pub record: &'a Family,
+    pub con: &'a Constructor,
 }
 
 /// The constructor that the term is with all its arguments.
-pub(crate) fn built_of<'a>(sig: &'a Signature, t: &Term) -> Option<Built<'a>>
+pub fn built_of<'a>(sig: &'a Signature, t: &Term) -> Option<Built<'a>>
     requires low { tree.height (tree_of t.now) ≤ 2000 }
     ensures { MatchOption result (spec.built_of sig.now (tree_of t.now) ≡ None) (λ b. IfThere (IsBuiltAs b) (spec.built_of sig.now (tree_of t.now))) }
 {
@@ -68,7 +68,7 @@ pub(crate) fn is_direct(arg: &Arg) -> bool
 }
 
 /// The first `count` arguments of a term's head, and the others.
-pub(crate) fn split_spine(alloc: Global, t: &Term, count: usize) -> Result<(Tele, Tele), Stop>
+pub fn split_spine(alloc: Global, t: &Term, count: usize) -> Result<(Tele, Tele), Stop>
     ensures { Gives teles_of result (Ok (split_of count (tree_of t.now))) }
 {
     let spine = into_spine(alloc, copy_whole(alloc, t)?)?;

@@ -24,7 +24,7 @@ fn is_low(t: &Term) -> bool
     t.height() <= MAX_HEIGHT
 }
 
-pub(crate) fn are_low(terms: &[Term]) -> bool
+pub fn are_low(terms: &[Term]) -> bool
     ensures { result ≡ answers.are_low (tele_of terms.now) }
 {
     match terms {

@@ -25,7 +25,15 @@ mod trials;
 mod turn;
 mod unifying;
 
+pub use built::{Built, built_of, split_spine};
+pub use heights::are_low;
+pub use moving::Solution;
+pub use occurrences::dependants;
 pub use outcome::Outcome;
 pub use problem::Problem;
+pub use records::{argument_items, constructor_terms, family_items, lifted};
+pub use solutions::variable_in;
+pub use solving::{new_context, new_order};
+pub use state::variables;
 pub use unification::Why;
 pub use unifying::unify;

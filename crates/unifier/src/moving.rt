@@ -9,19 +9,18 @@ ghost use Rattle.unifier.specs.Meanings.{equation_of, equations_of};
 ghost use Rattle.unification.specs.Moving as spec;
 ghost use Rattle.unifier.specs.Conditions.{AreBehind, AreOver, ArePlaces, AreSides, HaveRoomFor, IsBehind, IsOver, IsPossible, deepest};
 
-use crate::occurrences::place_in;
 use crate::state::Equation;
 use core_terms::{Items, Stop, Tele, Term, copy_whole, variable};
 use std::alloc::Global;
-use tele_eq::Item;
+use tele_eq::{Item, place_in};
 
 /// A term that solves the variable with a level in a context of `size` variables, and the levels of the others in their new order.
 #[derive(Clone, Copy)]
-pub(crate) struct Solution<'a> {
-    pub(crate) size: u32,
-    pub(crate) order: &'a [u32],
-    pub(crate) level: u32,
-    pub(crate) by: &'a Term,
+pub struct Solution<'a> {
+    pub size: u32,
+    pub order: &'a [u32],
+    pub level: u32,
+    pub by: &'a Term,
 }
 
 /// Terms over the first `over` variables for the first `count` places behind `size` variables; the further places stand from

@@ -2,27 +2,14 @@ ghost use Rattle.std.specs.Prelude.{◌≡◌, ◌<◌, ◌+◌, ◌^◌, ◌∷
 ghost use Rattle.core_terms.specs.Answers.{Gives};
 ghost use Rattle.core_terms.specs.Meanings.{tree_of, tele_of};
 ghost use Rattle.tele_eq.specs.Items.{each_position};
+ghost use Rattle.tele_eq.specs.Levels as levels;
 ghost use Rattle.theory.specs.Terms as tree;
 ghost use Rattle.unification.specs.Occurrences as spec;
 ghost use Rattle.unifier.specs.Conditions.{AreLow};
 
 use core_terms::{Stop, Term};
 use std::alloc::Global;
-use tele_eq::has_variable;
-
-/// Whether a variable with one of the levels is free in a term over `n` variables.
-fn has_level(n: u32, levels: &[u32], t: &Term) -> bool
-    requires { tree.height (tree_of t.now) ≤ 2000 }
-    ensures { result ≡ spec.has_level n levels.now (tree_of t.now) }
-{
-    match levels {
-        [] => false,
-        [p, rest @ ..] => {
-            let number = (n as u64).saturating_sub(*p as u64 + 1);
-            has_variable(number, t) || has_level(n, rest, t)
-        }
-    }
-}
+use tele_eq::{has_level, has_variable, is_among};
 
 /// The levels from `at` on whose types have a variable that is found, behind those that are made.
 #[tactic(auto, using(tele_eq::proofs::Growing::listing))]
@@ -50,7 +37,7 @@ fn dependants_from(
 }
 
 /// The variables whose types depend on the one with level `p`, by their levels.
-pub(crate) fn dependants(alloc: Global, ctx: &[Term], p: u32) -> Result<Vec<u32>, Stop>
+pub fn dependants(alloc: Global, ctx: &[Term], p: u32) -> Result<Vec<u32>, Stop>
     requires low { AreLow (tele_of ctx.now) }
     requires few { length ctx.now < 2 ^ 31 }
     requires p { p < length ctx.now }
@@ -65,19 +52,10 @@ pub(crate) fn dependants(alloc: Global, ctx: &[Term], p: u32) -> Result<Vec<u32>
 /// Whether neither the variable with level `p` nor one of its dependants is in a term of the context.
 pub(crate) fn lacks(n: u32, p: u32, dependants: &[u32], t: &Term) -> bool
     requires { tree.height (tree_of t.now) ≤ 2000 }
-    ensures { result ≡ not (spec.has_level n (p ∷ dependants.now) (tree_of t.now)) }
+    ensures { result ≡ not (levels.has_level n (p ∷ dependants.now) (tree_of t.now)) }
 {
     let number = (n as u64).saturating_sub(p as u64 + 1);
     !(has_variable(number, t) || has_level(n, dependants, t))
-}
-
-fn is_among(j: u32, levels: &[u32]) -> bool
-    ensures { result ≡ spec.is_among j levels.now }
-{
-    match levels {
-        [] => false,
-        [i, rest @ ..] => *i == j || is_among(j, rest),
-    }
 }
 
 /// The levels from `at` on, `count` of them, that are neither `p` nor among those left out, behind those that are made.
@@ -117,16 +95,4 @@ pub(crate) fn order_without(
         order.push(*j)?;
     }
     Ok(order)
-}
-
-/// The place of a level among levels.
-#[tactic(auto, using(crate::proofs::Orders::place_bounds))]
-pub(crate) fn place_in(order: &[u32], j: u32) -> u32
-    requires { length order.now < 2 ^ 32 }
-    ensures { result ≡ spec.place_in order.now j }
-{
-    match order {
-        [] => 0,
-        [i, rest @ ..] => { if *i == j { 0 } else { place_in(rest, j) + 1 } }
-    }
 }

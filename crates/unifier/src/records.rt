@@ -52,7 +52,7 @@ fn with_levels(types: Vec<Term>, args: &[Arg], mut made: Items<Item>) -> Result<
 }
 
 /// The telescope of a constructor's arguments at parameters, or Deep.
-pub(crate) fn argument_items(
+pub fn argument_items(
     alloc: Global,
     ps: &[Term],
     con: &Constructor,
@@ -65,7 +65,7 @@ pub(crate) fn argument_items(
 }
 
 /// Each of the terms behind so many variables more.
-pub(crate) fn lifted(alloc: Global, by: u32, terms: &[Term]) -> Result<Tele, Stop>
+pub fn lifted(alloc: Global, by: u32, terms: &[Term]) -> Result<Tele, Stop>
     requires terms { AreOver most_depth (tele_of terms.now) }
     requires by { by ≤ 2000 }
     ensures { Gives tele_of result (Ok (injecting.lifted by (tele_of terms.now))) }
@@ -91,7 +91,7 @@ fn at_nearest(alloc: Global, head: Term, ps: &[Term], count: u32) -> Result<Term
 
 /// The telescope of a family's indices at parameters, and the family at them, or Deep.
 #[tactic(auto, using(crate::proofs::RecordItems::record_laws))]
-pub(crate) fn family_items(
+pub fn family_items(
     alloc: Global,
     n: u32,
     f: &Family,
@@ -151,7 +151,7 @@ fn constructor_at(
 
 /// The targets of a constructor, and the constructor itself, at parameters and behind its arguments, or Deep.
 #[tactic(auto, using(crate::proofs::RecordItems::record_laws))]
-pub(crate) fn constructor_terms(
+pub fn constructor_terms(
     alloc: Global,
     n: u32,
     number: u32,

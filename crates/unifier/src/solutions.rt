@@ -19,7 +19,7 @@ use kernel_reduce::{normal, tidy};
 use std::alloc::Global;
 
 /// The number of a variable.
-pub(crate) fn variable_in(t: &Term) -> Option<u32>
+pub fn variable_in(t: &Term) -> Option<u32>
     ensures { result ≡ spec.variable_in (tree_of t.now) }
 {
     match t {

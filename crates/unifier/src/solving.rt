@@ -30,7 +30,7 @@ fn reflexivity(alloc: Global, level: u8, ty: Term, a: Term) -> Result<Term, Stop
 
 /// The types of the variables with these levels, the first of which stands at a depth, behind those that are made.
 #[tactic(auto, using(tele_eq::proofs::Growing::growing))]
-fn new_context(
+pub fn new_context(
     alloc: Global,
     ctx: &[Term],
     solution: Solution,
@@ -55,7 +55,7 @@ fn new_context(
 }
 
 /// The levels of the variables of a context but the one with level `p`, in their new order. Its dependants are given.
-fn new_order(alloc: Global, ctx: &[Term], p: u32, dependants: &[u32]) -> Result<Vec<u32>, Stop>
+pub fn new_order(alloc: Global, ctx: &[Term], p: u32, dependants: &[u32]) -> Result<Vec<u32>, Stop>
     requires few { length ctx.now ≤ 2147400000 }
     requires p { p < length ctx.now }
     requires dependants { dependants.now ≡ occurrences.dependants (tele_of ctx.now) p }

@@ -84,7 +84,7 @@ fn copy_item(alloc: Global, x: &Item) -> Result<Item, Stop>
 }
 
 /// The variables of a context of `count` types, from the outermost on.
-pub(crate) fn variables(alloc: Global, count: u32) -> Result<Tele, Stop>
+pub fn variables(alloc: Global, count: u32) -> Result<Tele, Stop>
     ensures { Gives tele_of result (Ok (telescopes.variables count)) }
 {
     with_variables(Items::new(alloc), count)

@@ -1,10 +1,10 @@
 -- The variables behind the new one: in order, below the context's length, and the type of a variable before it mentions none.
 use Rattle.std.proofs.Common.{◌≡◌, ℕ, zero, suc, ◌+◌, ◌-◌, ◌≤◌, ◌<◌, ◌⊎◌, inl, inr, Bool, true, false, ◌||◌, cond, List, [], ◌∷◌, length, refl, subst as transport, arith}
 use Rattle.theory.specs.Terms.{Term}
+use Rattle.tele_eq.specs.Levels.{has_level, is_among}
 use Rattle.tele_eq.specs.Dependences.{has_variable}
 use Rattle.tele_eq.specs.Items.{term_at}
 use Rattle.tele_eq.proofs.Carrying.{IsFrom}
-use Rattle.unification.specs.Occurrences.{has_level, is_among}
 use Rattle.unification.proofs.Cases.{either}
 use Rattle.unification.proofs.Dependants.{none-occurs}
 use Rattle.unification.proofs.Levels.{among-cases, among-own, among-later, not-among-tail, among-from, from-lower, length-without}

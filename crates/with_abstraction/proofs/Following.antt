@@ -1,11 +1,11 @@
 -- In the new order each type has no variables but those that stand before its own.
 use Rattle.std.proofs.Common.{◌≡◌, ℕ, zero, suc, ◌+◌, ◌-◌, ◌≤◌, ◌<◌, ◌⊎◌, inl, inr, Bool, true, false, cond, List, [], ◌∷◌, ◌++◌, length, refl, sym, subst as transport, arith}
 use Rattle.theory.specs.Terms.{Term}
+use Rattle.tele_eq.specs.Levels.{has_level, is_among}
 use Rattle.tele_eq.specs.Dependences.{has_variable}
 use Rattle.tele_eq.specs.Items.{term_at, each_position}
 use Rattle.tele_eq.proofs.Growing.{append-none, snoc-append}
 use Rattle.unification.specs.Occurrences as levels
-use Rattle.unification.specs.Occurrences.{has_level, is_among}
 use Rattle.unification.proofs.Cases.{either, here-or_below}
 use Rattle.unification.proofs.Levels.{among-cases, among-own, among-later, among-left, among-right, among-from, each-among, among-without}
 use Rattle.with_abstraction.specs.Orders.{behind_from, behind, in_front, new_order}

@@ -10,12 +10,12 @@ use Rattle.theory.proofs.Commuting.{subst_cancels}
 use Rattle.core_terms.specs.Substitution.{subst_under}
 use Rattle.core_terms.proofs.Instances.{instance-none}
 use Rattle.core_terms.proofs.SubstUnder.{subst_under-none}
+use Rattle.tele_eq.specs.Levels.{place_in, is_among}
 use Rattle.tele_eq.specs.Dependences.{has_variable}
 use Rattle.tele_eq.specs.Environments.{put}
 use Rattle.tele_eq.specs.Items.{term_at, each_position}
 use Rattle.tele_eq.proofs.Growing.{append-none, snoc-append}
 use Rattle.unification.specs.Occurrences as levels
-use Rattle.unification.specs.Occurrences.{is_among, place_in}
 use Rattle.unification.specs.Solving.{reordered}
 use Rattle.unification.proofs.Cases.{here-or_below}
 use Rattle.unification.proofs.Levels.{among-cases, among-own, among-later, place-before}

@@ -14,11 +14,11 @@ use Rattle.theory.proofs.Shifts.{lift-is_ren}
 use Rattle.core_terms.specs.Instances.{under_binders, instance_of}
 use Rattle.core_terms.proofs.Instances.{instance-is_inst}
 use Rattle.kernel_reduce.specs.Comparison.{same}
+use Rattle.tele_eq.specs.Levels.{place_in, is_among}
 use Rattle.tele_eq.specs.Dependences.{has_variable}
 use Rattle.tele_eq.specs.Environments.{put_under, put}
 use Rattle.tele_eq.specs.Items.{term_at}
 use Rattle.tele_eq.proofs.Growing.{append-none, snoc-append}
-use Rattle.unification.specs.Occurrences.{is_among, place_in}
 use Rattle.unification.specs.Solving.{reordered}
 use Rattle.unification.proofs.Cases.{first-of_two, second-of_two}
 use Rattle.unification.proofs.Levels.{among-own, among-later, place-there}

@@ -2,9 +2,9 @@
 use Rattle.std.proofs.Common.{◌≡◌, ℕ, zero, suc, ◌+◌, ◌-◌, ◌≤◌, ◌<◌, ◌⊎◌, inl, inr, Bool, true, false, ◌||◌, cond, List, [], ◌∷◌, sym, subst as transport, arith}
 use Rattle.std.proofs.lemmas.Bool.{or_left, or_right}
 use Rattle.theory.specs.Terms.{Term}
+use Rattle.tele_eq.specs.Levels.{is_among}
 use Rattle.tele_eq.specs.Dependences.{has_variable}
 use Rattle.tele_eq.specs.Items.{term_at}
-use Rattle.unification.specs.Occurrences.{is_among}
 use Rattle.unification.proofs.Cases.{here-or_below}
 use Rattle.unification.proofs.Levels.{among-cases, among-own, among-later}
 use Rattle.with_abstraction.specs.Needed.{is_mentioned, needed_below}

@@ -1,9 +1,9 @@
 -- The types of a context without the scrutinee: where they stand, and which variables they have.
 use Rattle.std.proofs.Common.{◌≡◌, ℕ, zero, suc, ◌+◌, ◌-◌, ◌≤◌, ◌<◌, ◌⊎◌, inl, inr, Bool, true, false, cond, List, [], ◌∷◌, length, ap, ◌∙◌, subst as transport, arith}
 use Rattle.theory.specs.Terms.{Term, lift}
+use Rattle.tele_eq.specs.Levels.{is_among}
 use Rattle.tele_eq.specs.Dependences.{has_variable}
 use Rattle.tele_eq.specs.Items.{term_at}
-use Rattle.unification.specs.Occurrences.{is_among}
 use Rattle.unification.proofs.Cases.{either, here-or_below}
 use Rattle.unification.proofs.Levels.{among-cases}
 use Rattle.with_abstraction.specs.Abstractions.{opened, opened_types}

@@ -12,7 +12,7 @@ use Rattle.core_terms.specs.Substitution.{subst_under}
 use Rattle.kernel_reduce.specs.Comparison.{same}
 use Rattle.tele_eq.specs.Dependences.{has_variable}
 use Rattle.tele_eq.specs.Environments.{put_variable, put_under}
-use Rattle.unification.specs.Occurrences.{place_in}
+use Rattle.tele_eq.specs.Levels.{place_in}
 use Rattle.unification.specs.Solving.{reordered}
 use Rattle.unification.proofs.Cases.{below-or_from, first-of_two, second-of_two}
 use Rattle.with_abstraction.specs.Occurrences.{is_occurrence, without_under}

@@ -11,7 +11,7 @@ use Rattle.core_terms.proofs.Answers.{and_next-has, and_next-spends}
 use Rattle.kernel_reduce.specs.Reduction.{answered, if_low}
 use Rattle.tele_eq.specs.Items.{term_at}
 use Rattle.tele_eq.proofs.Growing.{append-none, snoc-append}
-use Rattle.unification.specs.Occurrences.{is_among}
+use Rattle.tele_eq.specs.Levels.{is_among}
 use Rattle.unification.proofs.Levels.{among-cases, among-own, among-later, among-left, among-right}
 use Rattle.unification.proofs.Cases.{either}
 use Rattle.unification.proofs.SolvedContexts.{reordered-term}

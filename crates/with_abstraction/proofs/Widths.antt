@@ -11,7 +11,7 @@ use Rattle.core_terms.specs.declared.stop.Stop.{Stop}
 use Rattle.core_terms.specs.declared.stop.Stop.TheVariants.{Deep}
 use Rattle.tele_eq.specs.Items.{each_position}
 use Rattle.unification.specs.Occurrences as levels
-use Rattle.unification.specs.Occurrences.{is_among}
+use Rattle.tele_eq.specs.Levels.{is_among}
 use Rattle.with_abstraction.specs.Occurrences.{is_occurrence, without_under, without}
 use Rattle.with_abstraction.specs.Abstractions.{opened}
 use Rattle.with_abstraction.specs.Conditions.{AreOver, AreTypesOver, AreLow}

@@ -6,7 +6,7 @@ use Rattle.theory.specs.Signatures.{Signature}
 use Rattle.core_terms.specs.Answers.{Spent, and_next, is_low}
 use Rattle.kernel_reduce.specs.Reduction.{answered, if_low}
 use Rattle.tele_eq.specs.Environments.{put}
-use Rattle.unification.specs.Occurrences.{is_among}
+use Rattle.tele_eq.specs.Levels.{is_among}
 use Rattle.unification.specs.Solving.{reordered}
 use Rattle.with_abstraction.specs.NormalForms.{NormalForms, normal_forms_of}
 use Rattle.with_abstraction.specs.Needed.{widened, needed}

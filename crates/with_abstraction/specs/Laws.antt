@@ -8,7 +8,7 @@ use Rattle.theory.specs.Signatures.{Signature}
 use Rattle.theory.specs.SignatureScopes.{IsScoped, IsScopedTelescope}
 use Rattle.kernel_reduce.specs.WellScoped.{AreWellScoped}
 use Rattle.tele_eq.specs.Items.{term_at}
-use Rattle.unification.specs.Occurrences.{is_among, place_in}
+use Rattle.tele_eq.specs.Levels.{place_in, is_among}
 use Rattle.with_abstraction.specs.NormalForms.{NormalForms, normal_forms_of}
 use Rattle.with_abstraction.specs.Needed.{widened, needed}
 use Rattle.with_abstraction.specs.Occurrences.{occurs}

@@ -6,7 +6,7 @@ use Rattle.theory.specs.Telescopes.{Telescope}
 use Rattle.tele_eq.specs.Environments.{put}
 use Rattle.tele_eq.specs.Items.{each_position, term_at}
 use Rattle.unification.specs.Occurrences as levels
-use Rattle.unification.specs.Occurrences.{has_level}
+use Rattle.tele_eq.specs.Levels.{has_level}
 use Rattle.unification.specs.Solving.{reordered}
 
 -- Those levels from j on whose types have a variable with a level that is found. Each of them is then found itself.

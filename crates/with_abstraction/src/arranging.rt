@@ -13,18 +13,7 @@ ghost use Rattle.with_abstraction.specs.Orders as spec;
 use crate::occurrences::without;
 use core_terms::{Stop, Tele, Term, copy_whole, variable};
 use std::alloc::Global;
-
-/// The place of a level among levels.
-fn place_in(order: &[u32], j: u32) -> u32
-    requires { length order.now < 2 ^ 32 }
-    ensures is { result ≡ occurring.place_in order.now j }
-    ensures low { result ≤ length order.now }
-{
-    match order {
-        [] => 0,
-        [i, rest @ ..] => { if *i == j { 0 } else { place_in(rest, j) + 1 } }
-    }
-}
+use tele_eq::place_in;
 
 /// The variable that stands for variable `n` of a term over `size` variables, under so many binders of the term's own.
 fn put_variable(order: &[u32], size: u32, depth: u32, under: u32, n: u32) -> Term

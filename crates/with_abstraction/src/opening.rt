@@ -8,9 +8,9 @@ ghost use Rattle.with_abstraction.specs.Needed.{widened as wide};
 
 use crate::needed::needed;
 use crate::occurrences::without;
-use crate::orders::is_among;
 use core_terms::{Items, Stop, Tele, Term, lift};
 use std::alloc::Global;
+use tele_eq::is_among;
 
 /// A term so many variables further in.
 #[tactic(auto, using(crate::proofs::Widths::bounded_lift))]

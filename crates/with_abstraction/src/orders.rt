@@ -9,21 +9,7 @@ ghost use Rattle.with_abstraction.specs.Orders as spec;
 
 use core_terms::{Items, Stop, Term};
 use std::alloc::Global;
-use tele_eq::has_variable;
-
-/// Whether a variable with one of the levels is free in a term over `n` variables.
-fn has_level(n: u32, levels: &[u32], t: &Term) -> bool
-    requires { tree.height (tree_of t.now) ≤ 2000 }
-    ensures { result ≡ occurring.has_level n levels.now (tree_of t.now) }
-{
-    match levels {
-        [] => false,
-        [p, rest @ ..] => {
-            let number = (n as u64).saturating_sub(*p as u64 + 1);
-            has_variable(number, t) || has_level(n, rest, t)
-        }
-    }
-}
+use tele_eq::{has_level, is_among};
 
 /// The levels from `j` on whose types have a variable that is found, behind those that are made.
 #[tactic(auto, using(tele_eq::proofs::Growing::growing))]
@@ -62,16 +48,6 @@ pub(crate) fn behind(alloc: Global, n: u32, types: &[Term]) -> Result<Vec<u32>, 
     let mut found = Vec::new(alloc);
     found.push(n)?;
     behind_from(alloc, n, 0, found, types, Vec::new(alloc))
-}
-
-/// Whether the level is one of them.
-pub(crate) fn is_among(j: u32, levels: &[u32]) -> bool
-    ensures { result ≡ occurring.is_among j levels.now }
-{
-    match levels {
-        [] => false,
-        [i, rest @ ..] => *i == j || is_among(j, rest),
-    }
 }
 
 /// The levels from `j` on, `count` of them, that are not left out, behind those that are made.

@@ -1,5 +1,5 @@
 use Rattle.std.proofs.Common.{length}
-use Rattle.unifier.proofs.occurrences.+is_among.Given as goal
+use Rattle.tele_eq.proofs.levels.+is_among.Given as goal
 
 abbrev pub decreases-is_among : goal.decreases-is_among
 decreases-is_among l = length l.levels.now

@@ -1,5 +1,5 @@
 use Rattle.std.proofs.Common.{length}
-use Rattle.with_abstraction.proofs.orders.+has_level.Given as goal
+use Rattle.tele_eq.proofs.levels.+has_level.Given as goal
 
 abbrev pub decreases-has_level : goal.decreases-has_level
 decreases-has_level l = length l.levels.now

@@ -1,5 +1,0 @@
-use Rattle.std.proofs.Common.{length}
-use Rattle.unifier.proofs.occurrences.+has_level.Given as goal
-
-abbrev pub decreases-has_level : goal.decreases-has_level
-decreases-has_level l = length l.levels.now
