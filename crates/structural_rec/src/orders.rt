@@ -5,9 +5,9 @@ ghost use Rattle.structural_rec.specs.Meanings.{admission_of};
 ghost use Rattle.structural_rec.specs.Orders as spec;
 
 use crate::admission::Admission;
-use tele_eq::is_among;
 use core_terms::Stop;
 use std::alloc::Global;
+use tele_eq::is_among;
 
 /// The recursion order at position `j` over `count` positions: the fixed ones, those of the indices in the family's order, `j`, and
 /// then the others in their old order.

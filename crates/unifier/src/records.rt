@@ -52,11 +52,7 @@ fn with_levels(types: Vec<Term>, args: &[Arg], mut made: Items<Item>) -> Result<
 }
 
 /// The telescope of a constructor's arguments at parameters, or Deep.
-pub fn argument_items(
-    alloc: Global,
-    ps: &[Term],
-    con: &Constructor,
-) -> Result<Items<Item>, Stop>
+pub fn argument_items(alloc: Global, ps: &[Term], con: &Constructor) -> Result<Items<Item>, Stop>
     requires few { length con.now.args ≤ 2000 }
     requires ps { AreOver most_depth (tele_of ps.now) }
     ensures { (n : ℕ) (f : pure.Family) → HaveKinds n f 0 con.now.args → length f.parameters ≡ length ps.now → Gives items_of result (bounded_items (spec.argument_items n (tele_of ps.now) (constructor_of (length ps.now) con.now))) }
@@ -91,12 +87,7 @@ fn at_nearest(alloc: Global, head: Term, ps: &[Term], count: u32) -> Result<Term
 
 /// The telescope of a family's indices at parameters, and the family at them, or Deep.
 #[tactic(auto, using(crate::proofs::RecordItems::record_laws))]
-pub fn family_items(
-    alloc: Global,
-    n: u32,
-    f: &Family,
-    ps: &[Term],
-) -> Result<Items<Item>, Stop>
+pub fn family_items(alloc: Global, n: u32, f: &Family, ps: &[Term]) -> Result<Items<Item>, Stop>
     requires kinds { HasKinds n f.now }
     requires few { length f.now.indices ≤ 2000 }
     requires ps { AreOver most_depth (tele_of ps.now) }
