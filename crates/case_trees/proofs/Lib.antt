@@ -2,6 +2,10 @@ pub mod Answered
 pub mod Arguments
 pub mod Clashing
 pub mod Comparing
+pub mod ConstructorForms
+pub mod ConstructorStates
+pub mod ConstructorTurns
+pub mod GoingTurns
 pub mod HeadChains
 pub mod HeadForms
 mod HeightRows
@@ -24,6 +28,7 @@ pub mod ScopedProblems
 pub mod ScopedWalks
 pub mod ScopedWorking
 pub mod SharedTerms
+pub mod SolvedConstructors
 pub mod SolvedOrders
 pub mod SolvedOrigins
 pub mod SpentUnits
