@@ -14,7 +14,9 @@ pub mod KeptConversion
 pub mod KeptTerms
 pub mod Leading
 pub mod LeftClauses
+pub mod LeftPatterns
 pub mod LiveClauses
+pub mod LiveGoing
 pub mod Looks
 pub mod OriginLaws
 pub mod OwnPlaces
@@ -32,14 +34,17 @@ pub mod SolvedConstructors
 pub mod SolvedOrders
 pub mod SolvedOrigins
 pub mod SpentUnits
+pub mod SplitConstructors
 pub mod StableSteps
 pub mod TidiedSteps
+pub mod TreeGoing
 mod TreeRows
 pub mod TreeLooks
 pub mod TreeMatching
 pub mod TreeStanding
 pub mod TreeUnits
 pub mod WalkEnding
+pub mod WalkGoing
 pub mod WalkLeading
 pub mod WalkLooks
 mod WalkRows

@@ -46,15 +46,15 @@ use Rattle.case_trees.proofs.ScopedProblems.{IsMemberIn, member-in, type_of-scop
 
 -- ---- open pairs
 
-pairs-append : (O : (Pat × Term) → Type 0) (first rest : List (Pat × Term)) → AllPairs O first → AllPairs O rest → AllPairs O (first ++ rest)
+pub pairs-append : (O : (Pat × Term) → Type 0) (first rest : List (Pat × Term)) → AllPairs O first → AllPairs O rest → AllPairs O (first ++ rest)
 pairs-append O [] rest h k = k
 pairs-append O (pair ∷ first) rest h k = (h.0, pairs-append O first rest h.1 k)
 
-pairs-weaker : (O P : (Pat × Term) → Type 0) (pairs : List (Pat × Term)) → ((pair : Pat × Term) → O pair → P pair) → AllPairs O pairs → AllPairs P pairs
+pub pairs-weaker : (O P : (Pat × Term) → Type 0) (pairs : List (Pat × Term)) → ((pair : Pat × Term) → O pair → P pair) → AllPairs O pairs → AllPairs P pairs
 pairs-weaker O P [] h all = tt
 pairs-weaker O P (pair ∷ pairs) h all = (h pair all.0, pairs-weaker O P pairs h all.1)
 
-pairs-both : (O P : (Pat × Term) → Type 0) (pairs : List (Pat × Term)) → AllPairs O pairs → AllPairs P pairs → AllPairs (λ pair. O pair × P pair) pairs
+pub pairs-both : (O P : (Pat × Term) → Type 0) (pairs : List (Pat × Term)) → AllPairs O pairs → AllPairs P pairs → AllPairs (λ pair. O pair × P pair) pairs
 pairs-both O P [] h k = tt
 pairs-both O P (pair ∷ pairs) h k = ((h.0, k.0), pairs-both O P pairs h.1 k.1)
 
@@ -70,7 +70,7 @@ mutual
   open-scoped S n (Keeps written t) h = tt
   open-scoped S n (Clashes pat t) h = tt
 
-  all-open-scoped : (S : Signature) (n : ℕ) (pairs : Pairs) → All (IsScoped S n) (terms_in pairs) → AllPairs (λ o. IsScoped S n o.1) (all_open pairs)
+  pub all-open-scoped : (S : Signature) (n : ℕ) (pairs : Pairs) → All (IsScoped S n) (terms_in pairs) → AllPairs (λ o. IsScoped S n o.1) (all_open pairs)
   all-open-scoped S n nil h = tt
   all-open-scoped S n (cons pair pairs) h =
       pairs-append (λ o. IsScoped S n o.1) (open_in pair) (all_open pairs)
@@ -119,7 +119,7 @@ mutual
   pair-asks S (Clashes pat t) worked = tt
 
   -- an open pair asks for a constructor, and the head form of its term is none
-  open-asks : (S : Signature) (pairs : Pairs) → AreWorked S pairs → AllPairs (λ o. IsAsking o.0 × HasNone S o.1) (all_open pairs)
+  pub open-asks : (S : Signature) (pairs : Pairs) → AreWorked S pairs → AllPairs (λ o. IsAsking o.0 × HasNone S o.1) (all_open pairs)
   open-asks S nil worked = tt
   open-asks S (cons pair pairs) worked =
       pairs-append (λ o. IsAsking o.0 × HasNone S o.1) (open_in pair) (all_open pairs) (pair-asks S pair worked.0) (open-asks S pairs worked.1)

@@ -1,5 +1,5 @@
 //! The laws of walks and trees.
-ghost use Rattle.case_trees.specs.Laws.{WalkSpends, TreeSpends, WalkBinds, WalkKeepsDots, WalkKeepsAllDots, WalkStands, WalkEnds, WalkScoped, WalkStopScoped, WalkCaused, TreeScoped, TreeStopScoped, TreeCaused, OriginsTell, SolvedIsBuilt, TreeStands, WalkLeads, LeavesLead, LeavesMatch, FirstMatch};
+ghost use Rattle.case_trees.specs.Laws.{WalkSpends, TreeSpends, WalkGoesOn, TreeGoesOn, WalkBinds, WalkKeepsDots, WalkKeepsAllDots, WalkStands, WalkEnds, WalkScoped, WalkStopScoped, WalkCaused, TreeScoped, TreeStopScoped, TreeCaused, OriginsTell, SolvedIsBuilt, TreeStands, WalkLeads, LeavesLead, LeavesMatch, FirstMatch};
 
 /// No walk gives units back.
 pub fn walk_spends()
@@ -9,6 +9,16 @@ pub fn walk_spends()
 /// No tree gives units back.
 pub fn tree_spends()
     ensures { TreeSpends }
+{}
+
+/// A walk goes on as it began: its measure is never used up.
+pub fn walk_goes_on()
+    ensures { WalkGoesOn }
+{}
+
+/// A tree goes on as it began in each of its branches.
+pub fn tree_goes_on()
+    ensures { TreeGoesOn }
 {}
 
 /// The bindings of a walk are the terms at the clause's variables.
