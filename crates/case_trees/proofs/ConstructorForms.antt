@@ -252,29 +252,29 @@ unfolding Compared
 compared-alike S zero = λ a b n number left e. tt
 compared-alike S (suc room) = λ a b n number left e.
     if_low-ok (λ holds. holds ≡ true → HasAlike S a b) (is_low a && is_low b) _ left
-    (charge-ok (λ holds. holds ≡ true → HasAlike S a b) _ left (λ rest. by a b n number rest e (same a b) refl))
+    (charge-ok (λ holds. holds ≡ true → HasAlike S a b) _ left (λ rest. by (compared-alike S room) a b n number rest e (same a b) refl))
   where
-    reduced : (a b : Term) (n number left : ℕ) → head_of a ≡ Con n number
+    reduced : Compared S room → (a b : Term) (n number left : ℕ) → head_of a ≡ Con n number
         → IfOk (on_heads S a b (heads_convertible (convertible_of S room)) left).0 (λ holds. holds ≡ true → HasAlike S a b)
-    reduced a b n number left e =
+    reduced go a b n number left e =
         and_next-ok (λ w. w ≡ a) (λ holds. holds ≡ true → HasAlike S a b) (whnf_of S true left a) _
         (rests-itself S true left a (no-step S true a n number e)) (λ w rest is.
         and_next-ok (HeadForm S b) (λ holds. holds ≡ true → HasAlike S a b) (whnf_of S true rest b) _ (whnf-form S rest b) (λ d end form.
         transport (λ u. IfOk (heads_convertible (convertible_of S room) u d end).0 (λ holds. holds ≡ true → HasAlike S a b)) (sym is)
         (there d form (heads_convertible (convertible_of S room) a d end).0
-        (heads-compared S room (compared-alike S room) a d n number end e form.rests))))
+        (heads-compared S room go a d n number end e form.rests))))
       where
         there : (d : Term) → HeadForm S b d → (r : Result Bool Stop) → IfOk r (λ holds. holds ≡ true → IsAlike a d)
             → IfOk r (λ holds. holds ≡ true → HasAlike S a b)
         there d form (Ok holds) h = λ yes. record { form = d; head = form; alike = h yes }
         there d form (Err e) h = tt
 
-    by : (a b : Term) (n number left : ℕ) → head_of a ≡ Con n number → (test : Bool) → same a b ≡ test
+    by : Compared S room → (a b : Term) (n number left : ℕ) → head_of a ≡ Con n number → (test : Bool) → same a b ≡ test
         → IfOk (unless_same test (on_heads S a b (heads_convertible (convertible_of S room))) left).0 (λ holds. holds ≡ true → HasAlike S a b)
-    by a b n number left e true equal = λ yes.
+    by go a b n number left e true equal = λ yes.
         transport (HasAlike S a) (same-tells a b equal)
         (record { form = a; head = record { reaches = here a; rests = no-step S true a n number e }; alike = record { head = refl; count = refl } })
-    by a b n number left e false other = reduced a b n number left e
+    by go a b n number left e false other = reduced go a b n number left e
 
 -- what is found convertible to a constructor with all its arguments has that constructor
 pub convertible-has : (S : Signature) (room : ℕ) (a b : Term) (c : Built) (left : ℕ) → built_of S a ≡ Some c

@@ -14,7 +14,7 @@ use Rattle.tele_eq.specs.Environments.{Environment, put}
 use Rattle.tele_eq.specs.TelescopicEquality.{equations}
 use Rattle.unification.specs.Built.{Built, built_of}
 use Rattle.unification.specs.Injecting.{group_proofs, injected_state}
-use Rattle.unification.specs.Moving.{over_first, behind, moved}
+use Rattle.unification.specs.Moving.{over_first, behind, moved_item, moved}
 use Rattle.unification.specs.Occurrences.{lacks, order_without}
 use Rattle.unification.specs.Records.{argument_items, constructor_terms}
 use Rattle.unification.specs.Rules as rule
@@ -65,6 +65,14 @@ standing S n number level s h k e at =
 
 -- ---- the last equation stays
 
+abbrev moved_one : (items types : Environment) (side : Term → Term) (size depth : ℕ) → Equation → Equation
+moved_one items types side size depth e = record {
+  place = moved_item items size depth e.place;
+  type = put types size depth e.type;
+  left = side e.left;
+  right = side e.right;
+}
+
 -- equations that are moved, with one more behind them
 pub record MovedLast (items types : Environment) (side : Term → Term) (size depth : ℕ) (es : List Equation) (last : Equation) : Type 0 where
   pub front : List Equation
@@ -75,10 +83,17 @@ pub record MovedLast (items types : Environment) (side : Term → Term) (size de
 
 moved-last : (items types : Environment) (side : Term → Term) (size depth : ℕ) (es : List Equation) (last : Equation)
     → MovedLast items types side size depth es last
-moved-last items types side size depth [] last = record { front = []; end = _; whole = refl; left = refl; right = refl }
+moved-last items types side size depth [] last =
+    record { front = []; end = moved_one items types side size depth last; whole = refl; left = refl; right = refl }
 moved-last items types side size depth (e ∷ es) last =
     let h = moved-last items types side (size + 1) (depth + 1) es last in
-    record { front = _; end = h.end; whole = ap₂ ◌∷◌ refl h.whole; left = h.left; right = h.right }
+    record {
+      front = moved_one items types side size depth e ∷ h.front;
+      end = h.end;
+      whole = ap (λ rest. moved_one items types side size depth e ∷ rest) h.whole;
+      left = h.left;
+      right = h.right;
+    }
 
 -- where other equations than the last go out
 moved-waits : (S : Signature) (n number level : ℕ) (s t : State) (h : Waits S n number level s) (new : List Equation) (items types : Environment)

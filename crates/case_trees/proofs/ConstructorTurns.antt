@@ -13,6 +13,7 @@ use Rattle.kernel_reduce.specs.Reduction.{nesting, normal_of}
 use Rattle.kernel_reduce.specs.Tidying.{tidy_of}
 use Rattle.unification.specs.Built.{Built, built_of, is_fitting, has_no_indices}
 use Rattle.unification.specs.Constructors.{same_constructor, constructor_turn, constructor_trial, injection_step}
+use Rattle.unification.specs.Cycles.{cycle_trial}
 use Rattle.unification.specs.Deletions.{deletion_step, delete, if_convertible, deletion_trial}
 use Rattle.unification.specs.Groups.{Membership, membership_of, are_equations_of, group_turn, if_holds, on_membership, last_trial, group_trial, group_trials}
 use Rattle.unification.specs.Heights.{bounded_state, injection_made}
@@ -21,6 +22,7 @@ use Rattle.unification.specs.ScopedStates.{IsReady, IsScopedState}
 use Rattle.unification.specs.Solutions.{variable_in, is_free_of, if_free, solution_from, solves, state_solved, side_solved, turn_by, solve_side, right_step, left_step, solve_sides, with_variable, solution_trial}
 use Rattle.unification.specs.Solving.{solved_state, deleted_state}
 use Rattle.unification.specs.States.{Equation, State}
+use Rattle.unification.specs.Sticking.{stuck_trial}
 use Rattle.unification.specs.Strategy.{first_trials, trials, turn_of}
 use Rattle.unification.specs.Turns.{Turn, Done, Goes, Fails, Sticks, type_in}
 use Rattle.unification.specs.declared.why.Why.TheVariants.{NeedsK}

@@ -1,5 +1,5 @@
 -- A solved problem of a constructor puts that constructor for the variable.
-use Rattle.std.proofs.Common.{◌≡◌, ◌⊎◌, inl, inr, ℕ, zero, suc, ◌+◌, ◌-◌, ◌<◌, ◌≤◌, ◌==◌, Option, Some, None, option_and_then, Result, Ok, Err, IfOk, List, [], ◌∷◌, ◌++◌, length, map, take, drop, slice_get, refl, sym, ap, ap₂, ◌∙◌, subst as transport, arith}
+use Rattle.std.proofs.Common.{◌≡◌, ◌⊎◌, inl, inr, ℕ, zero, suc, ◌+◌, ◌-◌, ◌<◌, ◌≤◌, ◌==◌, Option, Some, None, IfSome, option_and_then, Result, Ok, Err, IfOk, List, [], ◌∷◌, ◌++◌, length, map, take, drop, slice_get, refl, sym, ap, ap₂, ◌∙◌, subst as transport, arith}
 use Rattle.std.proofs.lemmas.Bool.{eqb-true}
 use Rattle.std.proofs.lemmas.List.{length-append, length-map, length-take, take-append-drop}
 use Rattle.std.proofs.lemmas.Option.{option_and_then_some, cond_some}
@@ -57,6 +57,9 @@ SolvedHas S n number level (outcome.Solved steps context solution) = HasIt S n n
 SolvedHas S n number level (outcome.Absurd steps context u v) = Unit {0}
 SolvedHas S n number level (outcome.Stuck steps context u v why) = Unit {0}
 
+abbrev EndHas : Signature → (n number level : ℕ) → Option Outcome → Type 0
+EndHas S n number level o = IfSome o (SolvedHas S n number level)
+
 before-has : (S : Signature) (n number level : ℕ) (step : Step) (o : Outcome) → SolvedHas S n number level o → SolvedHas S n number level (before step o)
 before-has S n number level step (outcome.Solved steps context solution) h = h
 before-has S n number level step (outcome.Absurd steps context u v) h = tt
@@ -71,19 +74,13 @@ none-waits S n number level s none (inr waits) =
 
 run-has : (S : Signature) (n number level : ℕ) → IsReady S → (s : State) (left end : ℕ) (result : Result Outcome Stop) → IsScopedState S s
     → Tracks S n number level s → Run S s left result end → IfOk result (SolvedHas S n number level)
-run-has S n number level ready s left end result scoped tracks (run.ends _ _ rest turn o is e) = by turn is e
+run-has S n number level ready s left end result scoped tracks (run.ends _ _ rest turn o is e) = transport (EndHas S n number level) e (by turn is)
   where
-    by : (turn : Turn) → turn_of S s left ≡ (Ok (Some turn), rest) → end_of s turn ≡ Some o → SolvedHas S n number level o
-    by Done is e =
-        transport (λ found. SolvedEnd found) e
-        (none-waits S n number level s ((turn-at S s left rest Done is).right ready scoped).follows tracks)
-      where
-        SolvedEnd : Option Outcome → Type 0
-        SolvedEnd (Some o) = SolvedHas S n number level o
-        SolvedEnd None = Unit {0}
-    by (Goes step t) is e = absurd (grind arith)
-    by (Fails step u v) is e = absurd (grind arith)
-    by (Sticks why u v) is e = absurd (grind arith)
+    by : (turn : Turn) → turn_of S s left ≡ (Ok (Some turn), rest) → EndHas S n number level (end_of s turn)
+    by Done is = none-waits S n number level s ((turn-at S s left rest Done is).right ready scoped).follows tracks
+    by (Goes step t) is = tt
+    by (Fails step u v) is = tt
+    by (Sticks why u v) is = tt
 run-has S n number level ready s left end result scoped tracks (run.refused _ _ rest x is) = tt
 run-has S n number level ready s left end result scoped tracks (run.goes _ t _ rest _ step result' is further) =
     behind result'
@@ -108,13 +105,15 @@ last-at : (X : List Item) (types us vs : List Term) (u v : Term) → length type
     → HasLast (equations_at X types (us ++ u ∷ []) (vs ++ v ∷ [])) u v
 last-at [] types us vs u v ht hu hv = absurd (omega (arith, length-append us (u ∷ [])))
 last-at (x ∷ X) [] us vs u v ht hu hv = absurd (omega arith)
-last-at (x ∷ []) (a ∷ types) [] [] u v ht hu hv = record { before = []; last = _; whole = refl; left = refl; right = refl }
+last-at (x ∷ []) (a ∷ types) [] [] u v ht hu hv =
+    record { before = []; last = record { place = x; type = a; left = u; right = v }; whole = refl; left = refl; right = refl }
 last-at (x ∷ (y ∷ X)) (a ∷ types) [] [] u v ht hu hv = absurd (omega arith)
 last-at (x ∷ X) (a ∷ types) [] (w ∷ vs) u v ht hu hv = absurd (omega (arith, length-append vs (v ∷ [])))
 last-at (x ∷ X) (a ∷ types) (w ∷ us) [] u v ht hu hv = absurd (omega (arith, length-append us (u ∷ [])))
 last-at (x ∷ X) (a ∷ types) (w ∷ us) (z ∷ vs) u v ht hu hv =
     let h = last-at X types us vs u v (omega arith) (omega arith) (omega arith) in
-    record { before = _; last = h.last; whole = ap₂ ◌∷◌ refl h.whole; left = h.left; right = h.right }
+    let first : Equation = record { place = x; type = a; left = w; right = z } in
+    record { before = first ∷ h.before; last = h.last; whole = ap (λ es. first ∷ es) h.whole; left = h.left; right = h.right }
 
 ren-applied : (r : ℕ → ℕ) (h : Term) (us : List Term) → ren r (applied h us) ≡ applied (ren r h) (map (ren r) us)
 ren-applied r h [] = refl
@@ -189,13 +188,14 @@ fill-behind s (u ∷ us) i =
 
 fill-at : (s : ℕ → Term) (us : List Term) (x : ℕ) (t : Term) → x < length us → slice_get us (length us - (x + 1)) ≡ Some t → fill s us x ≡ t
 fill-at s [] x t less e = absurd (omega arith)
-fill-at s (u ∷ us) x t less e = by (below-or_from x (length us))
+fill-at s (u ∷ us) x t less e = by (below-or_from x (length us)) (λ low there. fill-at (extend s u) us x t low there)
   where
-    by : (x < length us) ⊎ (length us ≤ x) → fill (extend s u) us x ≡ t
-    by (inl low) =
+    by : (x < length us) ⊎ (length us ≤ x) → (x < length us → slice_get us (length us - (x + 1)) ≡ Some t → fill (extend s u) us x ≡ t)
+        → fill (extend s u) us x ≡ t
+    by (inl low) rest =
         let place : suc (length us) - (x + 1) ≡ suc (length us - (x + 1)) = omega arith in
-        fill-at (extend s u) us x t low (sym (ap (slice_get (u ∷ us)) place) ∙ e)
-    by (inr high) =
+        rest low (sym (ap (slice_get (u ∷ us)) place) ∙ e)
+    by (inr high) rest =
         let place : suc (length us) - (x + 1) ≡ 0 = omega arith in
         let last : x ≡ length us + 0 = omega arith in
         let same : Some u ≡ Some t = sym (ap (slice_get (u ∷ us)) place) ∙ e in
