@@ -1,6 +1,6 @@
 -- Terms whose head form is a constructor with all its arguments: instances of them, terms that reach them, normal forms, and terms
 -- that are found convertible to a constructor.
-use Rattle.std.proofs.Common.{◌≡◌, ℕ, zero, suc, ◌+◌, ◌==◌, ◌&&◌, Bool, true, false, cond, Option, Some, None, option_and_then, Result, Ok, Err, IfOk, List, [], ◌∷◌, ◌++◌, length, take, drop, slice_get, refl, sym, ap, ap₂, ◌∙◌, subst as transport, arith}
+use Rattle.std.proofs.Common.{◌≡◌, ℕ, zero, suc, ◌+◌, ◌==◌, ◌&&◌, Bool, true, false, cond, Option, Some, None, option_and_then, Result, Ok, Err, IfOk, [], ◌∷◌, length, take, drop, slice_get, refl, sym, ap, ap₂, ◌∙◌, subst as transport, arith}
 use Rattle.std.proofs.lemmas.Bool.{false≢true}
 use Rattle.std.proofs.lemmas.Bool.Decides.{nat_tests}
 use Rattle.std.proofs.lemmas.List.{length-append}
@@ -9,13 +9,13 @@ use Rattle.theory.specs.Substitutions.{inst}
 use Rattle.theory.specs.Spines.{head_of, spine_of}
 use Rattle.theory.specs.Families.{Family, Constructor}
 use Rattle.theory.specs.Signatures.{Signature, HasClosedBodies}
-use Rattle.core_terms.specs.Answers.{Spent, bounded, is_low}
+use Rattle.core_terms.specs.Answers.{Spent, is_low}
 use Rattle.core_terms.specs.declared.stop.Stop.{Stop}
 use Rattle.core_terms.proofs.Answers.{bounded-has}
 use Rattle.kernel_reduce.specs.Comparison.{same, second_if, heads_convertible, unless_same, on_heads, convertible_of}
 use Rattle.kernel_reduce.specs.Entries.{family_at}
 use Rattle.kernel_reduce.specs.Reduction.{charge, whnf_of, normal_children, normal_of}
-use Rattle.kernel_reduce.specs.Steps.{elimination_step, first_of, beta_step, application_step, step_of}
+use Rattle.kernel_reduce.specs.Steps.{application_step, step_of}
 use Rattle.kernel_reduce.proofs.ComparisonLaws.{same-tells}
 use Rattle.unification.specs.Built.{Built, with_all, with_spine, built_of}
 use Rattle.unification.proofs.Constructors.{found, instance_of, built-instance}

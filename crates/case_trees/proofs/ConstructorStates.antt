@@ -1,6 +1,6 @@
 -- States of unification in which a constructor is to come to a term of the solution: the last equation is between the constructor and
 -- that term, or the head form of the term is the constructor.
-use Rattle.std.proofs.Common.{◌≡◌, ◌⊎◌, inl, inr, ℕ, ◌+◌, ◌-◌, ◌<◌, ◌≤◌, true, Option, Some, None, option_map, List, [], ◌∷◌, ◌++◌, length, map, drop, slice_get, refl, sym, ap, ap₂, ◌∙◌, subst as transport, arith}
+use Rattle.std.proofs.Common.{◌≡◌, ◌⊎◌, inl, inr, ℕ, ◌+◌, ◌<◌, ◌≤◌, true, Some, option_map, List, [], ◌∷◌, ◌++◌, length, drop, slice_get, refl, sym, ap, ◌∙◌, subst as transport, arith}
 use Rattle.std.proofs.lemmas.List.{append_assoc, drop-append-le}
 use Rattle.std.proofs.lemmas.Option.{slice_get-map, slice_get_within}
 use Rattle.theory.specs.Terms.{Term, Var}
@@ -23,7 +23,7 @@ use Rattle.unification.specs.Solving.{reordered, solved, solved_state, deleted_s
 use Rattle.unification.specs.States.{Equation, State, equations_at}
 use Rattle.unification.proofs.Constructors.{instance_of, built-instance}
 use Rattle.unification.proofs.SolvedVariables.{solution_at, solved-is_inst, solved-agrees}
-use Rattle.case_trees.specs.HeadSteps.{Reaches, HeadForm, HasConstructor}
+use Rattle.case_trees.specs.HeadSteps.{Reaches, HasConstructor}
 use Rattle.case_trees.proofs.ConstructorForms.{built-has, constructor-stays, constructor-reached, constructor-form}
 use Rattle.case_trees.proofs.HeadChains.{chain-stays}
 use Rattle.case_trees.proofs.GoingTurns.{AreHeads}

@@ -1,8 +1,8 @@
 -- A turn of unification keeps track of a constructor that is to come to a term of the solution.
-use Rattle.std.proofs.Common.{◌≡◌, ◌⊎◌, inl, inr, ℕ, zero, suc, ◌+◌, ◌-◌, ◌<◌, ◌≤◌, ◌==◌, Bool, true, false, cond, Option, Some, None, IfSome, Result, Ok, Err, IfOk, List, [], ◌∷◌, length, take, slice_get, refl, sym, ap, ◌∙◌, subst as transport, arith}
+use Rattle.std.proofs.Common.{◌≡◌, ◌⊎◌, inl, inr, ℕ, zero, suc, ◌+◌, ◌<◌, ◌≤◌, ◌==◌, Bool, true, false, cond, Option, Some, None, IfSome, Result, Ok, Err, IfOk, List, [], ◌∷◌, length, take, slice_get, refl, sym, ap, ◌∙◌, subst as transport, arith}
 use Rattle.std.proofs.lemmas.Bool.{eqb-true}
 use Rattle.theory.specs.Terms.{Term, Var}
-use Rattle.theory.specs.Signatures.{Signature, HasClosedBodies}
+use Rattle.theory.specs.Signatures.{Signature}
 use Rattle.theory.specs.SignatureScopes.{IsScoped}
 use Rattle.core_terms.specs.Answers.{and_next}
 use Rattle.core_terms.specs.CaseTrees.{Step}
@@ -12,7 +12,7 @@ use Rattle.kernel_reduce.specs.Comparison.{convertible_of}
 use Rattle.kernel_reduce.specs.Reduction.{nesting, normal_of}
 use Rattle.kernel_reduce.specs.Tidying.{tidy_of}
 use Rattle.unification.specs.Built.{Built, built_of, is_fitting, has_no_indices}
-use Rattle.unification.specs.Constructors.{same_constructor, constructor_turn, constructor_trial, injection_step}
+use Rattle.unification.specs.Constructors.{constructor_turn, constructor_trial, injection_step}
 use Rattle.unification.specs.Cycles.{cycle_trial}
 use Rattle.unification.specs.Deletions.{deletion_step, delete, if_convertible, deletion_trial}
 use Rattle.unification.specs.Groups.{Membership, membership_of, are_equations_of, group_turn, if_holds, on_membership, last_trial, group_trial, group_trials}
@@ -30,15 +30,14 @@ use Rattle.unification.proofs.MovedStates.{injection_made-has}
 use Rattle.unification.proofs.ScopedEquations.{bounded_state-has}
 use Rattle.unification.proofs.SpentUnits.{any-answer}
 use Rattle.unification.proofs.TurnLaws.{turn-has}
-use Rattle.unification.proofs.TurnProperties.{IsTurn, FollowsWhole, first-at, tried}
+use Rattle.unification.proofs.TurnProperties.{FollowsWhole, first-at, tried}
 use Rattle.unification.proofs.UnderInstances.{closed-bodies}
 use Rattle.unification.proofs.Variables.{variable-is, variable-below}
-use Rattle.case_trees.specs.HeadSteps.{Reaches, here, more, HasConstructor}
+use Rattle.case_trees.specs.HeadSteps.{Reaches, HasConstructor}
 use Rattle.case_trees.proofs.Answered.{and_next-ok}
 use Rattle.case_trees.proofs.ConstructorForms.{built-has, built-reached, normal-built, convertible-has}
-use Rattle.case_trees.proofs.ConstructorStates.{HasIt, Waits, Tracks, left-has, standing, waits-solved, solves-last, waits-deleted, injected-tracks, has-stepped}
+use Rattle.case_trees.proofs.ConstructorStates.{Waits, Tracks, standing, waits-solved, solves-last, waits-deleted, injected-tracks, has-stepped}
 use Rattle.case_trees.proofs.GoingTurns.{OnGoing, MayGo, GoesWith, or_else-goes, cond-goes, goes_to-goes, tidy-goes, on_tidied-goes, fails_at-goes, sticks_at-goes, stuck_trial-goes, AreHeads, on_constructors-goes, cycle_trial-goes}
-use Rattle.case_trees.proofs.HeadForms.{built-rests}
 use Rattle.case_trees.proofs.ScopedPoints.{chain-scoped}
 
 -- ---- groups

@@ -1,5 +1,5 @@
 -- What holds of each state that a trial of unification leads to, from what holds of its parts. Nothing is said of ends and refusals.
-use Rattle.std.proofs.Common.{◌≡◌, ℕ, ◌==◌, Bool, true, false, cond, Option, Some, None, IfSome, Result, Ok, Err, IfOk, refl, sym, ap, ◌∙◌, subst as transport, arith}
+use Rattle.std.proofs.Common.{◌≡◌, ℕ, ◌==◌, Bool, true, false, cond, Option, Some, None, IfSome, Result, Ok, Err, IfOk, refl, sym, subst as transport, arith}
 use Rattle.std.proofs.lemmas.Bool.{eqb-true}
 use Rattle.theory.specs.Terms.{Term}
 use Rattle.theory.specs.Signatures.{Signature}
@@ -10,11 +10,11 @@ use Rattle.kernel_reduce.specs.Reduction.{whnf_of}
 use Rattle.kernel_reduce.specs.Tidying.{tidy_of}
 use Rattle.unification.specs.Built.{Built, built_of}
 use Rattle.unification.specs.Constructors.{where_fits, both_heads, right_head, heads, with_built, with_heads, on_constructors}
-use Rattle.unification.specs.Cycles.{is_acyclic, reduced_side, cycle_at, cycle_search, cycle_step, left_variable, right_variable, left_constructor, left_form, cycle_trial}
+use Rattle.unification.specs.Cycles.{is_acyclic, reduced_side, cycle_at, cycle_search, cycle_step, right_variable, left_constructor, left_form, cycle_trial}
 use Rattle.unification.specs.Solutions.{variable_in}
 use Rattle.unification.specs.States.{Equation, State}
 use Rattle.unification.specs.Sticking.{stuck_trial}
-use Rattle.unification.specs.Turns.{Trial, Turn, Done, Goes, Fails, Sticks, applies, does_not_apply, goes_to, tidied, on_tidied, fails_at, sticks_at, unless_found, or_else}
+use Rattle.unification.specs.Turns.{Trial, Turn, Done, Goes, Fails, Sticks, does_not_apply, goes_to, tidied, on_tidied, fails_at, sticks_at, unless_found, or_else}
 use Rattle.unification.specs.declared.why.Why.{Why}
 use Rattle.unification.proofs.SpentUnits.{any-answer}
 use Rattle.case_trees.specs.HeadSteps.{Reaches, HeadForm}

@@ -1,11 +1,11 @@
 -- The constructor and absurd patterns that are left: working leaves no more of them, and fewer where an open pair gets a constructor.
-use Rattle.std.proofs.Common.{◌≡◌, ℕ, suc, ◌+◌, ◌≤◌, Bool, true, false, ◌||◌, Option, Some, None, List, [], ◌∷◌, ◌++◌, map, refl, sym, ap, ap₂, ◌∙◌, subst as transport, arith}
+use Rattle.std.proofs.Common.{◌≡◌, ℕ, suc, ◌+◌, ◌≤◌, false, None, List, [], ◌∷◌, refl, sym, ap₂, ◌∙◌, arith}
 use Rattle.std.proofs.lemmas.Bool.{true≢false, or_parts}
 use Rattle.theory.specs.Terms.{Term}
 use Rattle.theory.specs.Signatures.{Signature}
 use Rattle.core_terms.specs.Patterns as pattern
 use Rattle.core_terms.specs.Patterns.{Pat, Pats}
-use Rattle.unification.specs.Built.{Built, built_of}
+use Rattle.unification.specs.Built.{built_of}
 use Rattle.case_trees.specs.HeadSteps.{HasConstructor}
 use Rattle.case_trees.specs.Pairs.{Pair, Pairs, Waits, Binds, Passes, Keeps, Builds, Clashes, nil, cons, waiting, clashes, some_clashes, open_in, all_open, with_terms, all_with_terms, patterns_in, all_patterns, left_in, all_left}
 use Rattle.case_trees.proofs.ConstructorForms.{constructor-form}

@@ -1,11 +1,10 @@
 -- The patterns that are left in the clauses of a node: working leaves no more of them, and fewer behind a solved problem of the first
 -- clause's open pair.
-use Rattle.std.proofs.Common.{◌≡◌, ℕ, suc, ◌+◌, ◌≤◌, Bool, true, false, ◌&&◌, cond, Result, Ok, Err, IfOk, List, [], ◌∷◌, length, map, refl, sym, ap, ap₂, ◌∙◌, subst as transport, arith}
+use Rattle.std.proofs.Common.{◌≡◌, ℕ, suc, ◌+◌, ◌≤◌, Bool, true, false, cond, Result, Ok, Err, IfOk, List, [], ◌∷◌, refl, ap, ap₂, ◌∙◌, arith}
 use Rattle.std.specs.List.{All}
 use Rattle.theory.specs.Terms.{Term}
 use Rattle.theory.specs.Signatures.{Signature}
 use Rattle.theory.specs.SignatureScopes.{IsScoped}
-use Rattle.theory.specs.Telescopes.{Telescope}
 use Rattle.core_terms.specs.Answers.{and_then}
 use Rattle.core_terms.specs.Patterns.{Pat}
 use Rattle.core_terms.specs.declared.stop.Stop.{Stop}
@@ -13,9 +12,9 @@ use Rattle.core_terms.specs.declared.stop.Stop.TheVariants.{Deep}
 use Rattle.unification.specs.ScopedStates.{IsReady}
 use Rattle.case_trees.specs.HeadSteps.{HasConstructor}
 use Rattle.case_trees.specs.Keeping.{keep_all}
-use Rattle.case_trees.specs.Pairs.{Pairs, terms_in, some_clashes, all_with_terms, are_low_pairs, all_left}
+use Rattle.case_trees.specs.Pairs.{Pairs, terms_in, some_clashes, all_with_terms, are_low_pairs}
 use Rattle.case_trees.specs.Points.{Point, point_keeping, under_solution, moved_pairs}
-use Rattle.case_trees.specs.Stops.{TreeStop, or_halts, halting, answers}
+use Rattle.case_trees.specs.Stops.{or_halts, halting, answers}
 use Rattle.case_trees.specs.Trees.{Live, Node, patterns_left, unless_dropped, worked, moved_live}
 use Rattle.case_trees.specs.Working.{of_columns, work_pairs}
 use Rattle.case_trees.proofs.Answered.{Holds, and_next-holds}
@@ -38,7 +37,7 @@ pub data LiveBecome (S : Signature) : List Live → List Live → Type 0 where
 -- the node after working: in the same context, with what becomes of the clauses
 pub record IsWorkedTo (S : Signature) (p : Point) (live : List Live) (node : Node) : Type 0 where
   pub context : node.point.context ≡ p.context
-  pub live : LiveBecome S live node.live
+  pub becomes : LiveBecome S live node.live
 
 unless_dropped-becomes : (S : Signature) (p : Point) (c : Live) (live : List Live) (new : Pairs) (node : Node) → AllBecome S c.pairs new
     → IsWorkedTo S p live node → IsWorkedTo S p (c ∷ live) (unless_dropped (record { number = c.number; pairs = new }) node)
@@ -46,18 +45,18 @@ unless_dropped-becomes S p c live new node all h = by (some_clashes new) refl
   where
     by : (test : Bool) → some_clashes new ≡ test
         → IsWorkedTo S p (c ∷ live) (cond test node (record node { live = record { number = c.number; pairs = new } ∷ node.live }))
-    by true e = record { context = h.context; live = drops c live node.live new all e h.live }
-    by false e = record { context = h.context; live = keeps c live node.live new all e h.live }
+    by true e = record { context = h.context; becomes = drops c live node.live new all e h.becomes }
+    by false e = record { context = h.context; becomes = keeps c live node.live new all e h.becomes }
 
 pub worked-becomes : (S : Signature) (p : Point) (live : List Live) (left : ℕ) → Holds (IsWorkedTo S p live) (λ e. Unit {0}) (worked S p live left).0
-worked-becomes S p [] left = record { context = refl; live = none }
+worked-becomes S p [] left = record { context = refl; becomes = none }
 worked-becomes S p (c ∷ live) left =
     and_next-holds (AllBecome S c.pairs) (IsWorkedTo S p (c ∷ live)) (λ e. Unit {0}) (halting (work_pairs S of_columns c.pairs left)) _
     (become-holds S c.pairs left (λ e. Unit {0}) (λ e. tt)) (λ new rest all.
     and_next-holds (λ (next : Point). next.context ≡ p.context) (IsWorkedTo S p (c ∷ live)) (λ e. Unit {0}) (answers (or_halts (point_keeping S p new)) rest) _
     (keeping-holds S (λ (next : Point). next.context ≡ p.context) (λ e. Unit {0}) (record p { terms = keep_all S new p.terms }) (λ e. tt) refl) (λ next middle same.
     and_next-holds (IsWorkedTo S next live) (IsWorkedTo S p (c ∷ live)) (λ e. Unit {0}) (worked S next live middle) _ (worked-becomes S next live middle)
-    (λ node end h. unless_dropped-becomes S p c live new node all (record { context = h.context ∙ same; live = h.live }))))
+    (λ node end h. unless_dropped-becomes S p c live new node all (record { context = h.context ∙ same; becomes = h.becomes }))))
 
 pub live-fewer : (S : Signature) (live new : List Live) → LiveBecome S live new → patterns_left new ≤ patterns_left live
 live-fewer S _ _ none = omega arith

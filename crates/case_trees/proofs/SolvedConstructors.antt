@@ -1,5 +1,5 @@
 -- A solved problem of a constructor puts that constructor for the variable.
-use Rattle.std.proofs.Common.{◌≡◌, ◌⊎◌, inl, inr, ℕ, zero, suc, ◌+◌, ◌-◌, ◌<◌, ◌≤◌, ◌==◌, Option, Some, None, IfSome, option_and_then, Result, Ok, Err, IfOk, List, [], ◌∷◌, ◌++◌, length, map, take, drop, slice_get, refl, sym, ap, ap₂, ◌∙◌, subst as transport, arith}
+use Rattle.std.proofs.Common.{◌≡◌, ◌⊎◌, inl, inr, ℕ, suc, ◌+◌, ◌-◌, ◌<◌, ◌≤◌, ◌==◌, Option, Some, IfSome, Result, Ok, Err, IfOk, List, [], ◌∷◌, ◌++◌, length, map, take, drop, slice_get, refl, sym, ap, ap₂, ◌∙◌, subst as transport, arith}
 use Rattle.std.proofs.lemmas.Bool.{eqb-true}
 use Rattle.std.proofs.lemmas.List.{length-append, length-map, length-take, take-append-drop}
 use Rattle.std.proofs.lemmas.Option.{option_and_then_some, cond_some}
@@ -9,7 +9,7 @@ use Rattle.theory.specs.Substitutions.{ren, inst, fill, extend}
 use Rattle.theory.specs.Eliminators.{no_variable}
 use Rattle.theory.specs.Spines.{head_of, spine_of}
 use Rattle.theory.specs.Telescopes.{Telescope, applied, variables, weaken_by}
-use Rattle.theory.specs.Families.{Family, Constructor}
+use Rattle.theory.specs.Families.{Constructor}
 use Rattle.theory.specs.Signatures.{Signature}
 use Rattle.theory.proofs.Lists.{some_is, slice_get-append}
 use Rattle.theory.proofs.ScopedTypes.{length-variables}
@@ -18,12 +18,11 @@ use Rattle.core_terms.specs.declared.stop.Stop.{Stop}
 use Rattle.kernel_reduce.specs.Entries.{family_at}
 use Rattle.tele_eq.specs.Items.{Item}
 use Rattle.tele_eq.specs.TelescopicEquality.{equations}
-use Rattle.unification.specs.Built.{Built, built_of}
-use Rattle.unification.specs.Heights.{start_made}
+use Rattle.unification.specs.Built.{built_of}
 use Rattle.unification.specs.Injecting.{lifted}
 use Rattle.unification.specs.Outcomes as outcome
 use Rattle.unification.specs.Outcomes.{Outcome, before}
-use Rattle.unification.specs.Records.{argument_items, constructor_terms}
+use Rattle.unification.specs.Records.{argument_items}
 use Rattle.unification.specs.Runs as run
 use Rattle.unification.specs.Runs.{Run, behind_step, end_of, run_of, unify_of}
 use Rattle.unification.specs.ScopedStates.{IsReady, IsScopedState, IsScopedProblem}
@@ -39,9 +38,7 @@ use Rattle.unification.proofs.ScopedRecords.{length-argument_items}
 use Rattle.unification.proofs.TurnLaws.{turn-at}
 use Rattle.case_trees.specs.HeadSteps.{HasConstructor}
 use Rattle.case_trees.specs.Laws.{SolvedIsBuilt}
-use Rattle.case_trees.specs.Points.{under_solution}
 use Rattle.case_trees.specs.Problems.{Member, member_with, member_at, member_of, problem_of}
-use Rattle.case_trees.specs.Standing.{Runs}
 use Rattle.case_trees.proofs.Arguments.{head-applied, spine-applied}
 use Rattle.case_trees.proofs.ConstructorForms.{built-at}
 use Rattle.case_trees.proofs.ConstructorStates.{HasIt, Waits, Tracks}
@@ -113,7 +110,7 @@ last-at (x ∷ X) (a ∷ types) (w ∷ us) [] u v ht hu hv = absurd (omega (arit
 last-at (x ∷ X) (a ∷ types) (w ∷ us) (z ∷ vs) u v ht hu hv =
     let h = last-at X types us vs u v (omega arith) (omega arith) (omega arith) in
     let first : Equation = record { place = x; type = a; left = w; right = z } in
-    record { before = first ∷ h.before; last = h.last; whole = ap (λ es. first ∷ es) h.whole; left = h.left; right = h.right }
+    record { before = first ∷ h.before; last = h.last; whole = ap (λ es. first ∷ es) {y = h.before ++ h.last ∷ []} h.whole; left = h.left; right = h.right }
 
 ren-applied : (r : ℕ → ℕ) (h : Term) (us : List Term) → ren r (applied h us) ≡ applied (ren r h) (map (ren r) us)
 ren-applied r h [] = refl

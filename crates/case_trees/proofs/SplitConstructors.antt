@@ -1,5 +1,5 @@
 -- Behind a solved problem an open pair with its variable has the constructor, and what was scoped is scoped again.
-use Rattle.std.proofs.Common.{◌≡◌, ℕ, true, ◌&&◌, Bool, false, cond, Some, Result, Ok, Err, IfOk, List, [], ◌∷◌, ◌++◌, length, map, take, slice_get, sym, subst as transport, arith}
+use Rattle.std.proofs.Common.{◌≡◌, ℕ, Some, IfOk, List, [], ◌++◌, length, take, slice_get, sym, subst as transport, arith}
 use Rattle.std.proofs.lemmas.List.Elements.{All-append, All-take, All-cons, All-nil}
 use Rattle.std.specs.List.{All}
 use Rattle.theory.specs.Terms.{Term, Var, Sort, Con}
@@ -24,7 +24,6 @@ use Rattle.case_trees.specs.Standing.{Runs}
 use Rattle.case_trees.specs.Scoped.{IsScopedPoint, IsScopedPair, AreScopedPairs}
 use Rattle.case_trees.proofs.ConstructorForms.{constructor-reached}
 use Rattle.case_trees.proofs.HeadChains.{chain-stays}
-use Rattle.case_trees.proofs.Looks.{TidiesTo}
 use Rattle.case_trees.proofs.ScopedPoints.{all-under-scoped}
 use Rattle.case_trees.proofs.ScopedProblems.{problem-scoped}
 use Rattle.case_trees.proofs.Shapes.{terms-moved}

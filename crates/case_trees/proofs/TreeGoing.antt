@@ -1,13 +1,13 @@
 -- A tree goes on as it began in each of its branches: the measure is never used up.
-use Rattle.std.proofs.Common.{◌≡◌, ℕ, zero, suc, ◌+◌, ◌≤◌, false, Some, None, Result, Ok, Err, IfOk, List, [], ◌∷◌, length, map, take, slice_get, refl, sym, ap, ◌∙◌, subst as transport, arith}
+use Rattle.std.proofs.Common.{◌≡◌, ℕ, zero, suc, ◌+◌, ◌≤◌, Some, None, Result, Ok, Err, IfOk, List, [], ◌∷◌, length, take, slice_get, refl, sym, subst as transport, arith}
 use Rattle.std.proofs.lemmas.List.Elements.{All-head, All-tail}
 use Rattle.std.specs.List.{All}
 use Rattle.theory.specs.Terms.{Term}
 use Rattle.theory.specs.Telescopes.{Telescope}
 use Rattle.theory.specs.Families.{Constructor}
 use Rattle.theory.specs.Signatures.{Signature}
-use Rattle.theory.specs.SignatureScopes.{IsScoped, IsScopedTelescope}
-use Rattle.core_terms.specs.Answers.{and_next, and_then}
+use Rattle.theory.specs.SignatureScopes.{IsScopedTelescope}
+use Rattle.core_terms.specs.Answers.{and_then}
 use Rattle.core_terms.specs.Patterns.{Pat}
 use Rattle.core_terms.specs.declared.stop.Stop.{Stop}
 use Rattle.unification.specs.Outcomes as outcome
@@ -15,10 +15,10 @@ use Rattle.unification.specs.Outcomes.{Outcome}
 use Rattle.unification.specs.ScopedStates.{IsReady}
 use Rattle.case_trees.specs.Laws.{TreeGoesOn}
 use Rattle.case_trees.specs.Looking.{Look, Found, Passed, Looked, Ran, first_found, look_at_type, run_all}
-use Rattle.case_trees.specs.Pairs.{Pairs, terms_in, some_clashes, all_open}
+use Rattle.case_trees.specs.Pairs.{Pairs, all_open}
 use Rattle.case_trees.specs.Points.{Point, bounded_point, moved_point, under_solution, solution_for}
-use Rattle.case_trees.specs.Problems.{Member, problem_of}
-use Rattle.case_trees.specs.Scoped.{IsScopedPoint, AreScopedPairs}
+use Rattle.case_trees.specs.Problems.{problem_of}
+use Rattle.case_trees.specs.Scoped.{AreScopedPairs}
 use Rattle.case_trees.specs.Standing.{Runs}
 use Rattle.case_trees.specs.Stops.{TreeStop, or_halts, answers}
 use Rattle.case_trees.specs.Trees.{Live, Node, SplitAt, as_split, look, patterns_left, worked, moved_live, solved_node, Growing, branch_by, grow_branches, split_at, by_first, by_live, one_node, nowhere, by_patterns, tree_from}
@@ -31,7 +31,6 @@ use Rattle.case_trees.proofs.SplitConstructors.{IsPut, solution-puts, put-scoped
 use Rattle.case_trees.proofs.WalkGoing.{and_next-same, AsksIn, all-ask}
 use Rattle.case_trees.proofs.WalkLooks.{LookedAt, type-holds}
 use Rattle.case_trees.proofs.WalkTurns.{keeping-holds}
-use Rattle.case_trees.proofs.Workings.{AllBecome}
 
 -- ---- where a node is split
 
@@ -132,7 +131,7 @@ branch-same S go other p c live s number d run (outcome.Solved steps context sol
     split.at.is_open.scoped split.at there runs in
     and_next-same (IsFewer S (patterns_left (c ∷ live))) (answers (or_halts (solved_node p (c ∷ live) context (solution_for p solution))) left) _ _
     (solved-fewer S p c live split.pair s.looked.member.n number context solution split.at.is_open put scoped) (λ node rest fewer.
-    ap (λ grown. and_next grown _) (alike node.point node.live rest fewer.0 fewer.1))
+    rw (alike node.point node.live rest fewer.0 fewer.1) refl)
 
 branches-same : (S : Signature) (go other : Growing) (p : Point) (c : Live) (live : List Live) (s : SplitAt) (number : ℕ) (cs : List Constructor) (runs : List Ran)
     (left : ℕ) → IsReady S → IsScopedTelescope S 0 p.context → AreLiveScoped S (length p.context) (c ∷ live) → IsSplitFor S p c.pairs s
@@ -146,14 +145,12 @@ branches-same S go other p c live s number (d ∷ cs) (run ∷ runs) left ready 
     let here : number + 0 ≡ number = omega arith in
     let there : slice_get s.looked.member.family.constructors number ≡ Some d =
     transport (λ k. slice_get s.looked.member.family.constructors k ≡ Some d) here (at 0 d refl) in
-    ap (λ first. and_next first _)
-    (branch-same S go other p c live s number d run run.outcome left ready context scoped split there all.0.runs alike)
-    ∙ and_next-same (λ branch. Unit {0}) (branch_by other p (c ∷ live) run run.outcome left) _ _ (any-holds (branch_by other p (c ∷ live) run run.outcome left).0)
+    rw (branch-same S go other p c live s number d run run.outcome left ready context scoped split there all.0.runs alike)
+    (and_next-same (λ branch. Unit {0}) (branch_by other p (c ∷ live) run run.outcome left) _ _ (any-holds (branch_by other p (c ∷ live) run run.outcome left).0)
     (λ branch rest any.
-    ap (λ others. and_next others _)
-    (branches-same S go other p c live s (number + 1) cs runs rest ready context scoped split
+    rw (branches-same S go other p c live s (number + 1) cs runs rest ready context scoped split
     (λ j d e. let next : number + suc j ≡ number + 1 + j = omega arith in
-    transport (λ k. slice_get s.looked.member.family.constructors k ≡ Some d) next (at (suc j) d e)) all.1 alike))
+    transport (λ k. slice_get s.looked.member.family.constructors k ≡ Some d) next (at (suc j) d e)) all.1 alike) refl))
   where
     any-holds : {A : Type 0} (r : Result A TreeStop) → Holds (λ a. Unit {0}) (λ e. Unit {0}) r
     any-holds (Ok a) = tt
@@ -171,10 +168,9 @@ first-same S go other p c live (pair ∷ others) left ready context scoped ask a
     (first-holds (IsSplitFor S p c.pairs) (λ e. Unit {0}) (AsksIn S (length p.context) c.pairs) S c.number p.context (look S c.number p.context) (pair ∷ others)
     (λ e. tt) ask (looks-for S c.number p c.pairs) (λ pair u o to e. tt) None None left tt tt)
     (λ s rest split.
-    ap (λ grown. and_next grown _)
-    (branches-same S go other p c live s 0 s.looked.member.family.constructors s.runs rest ready context scoped split
+    rw (branches-same S go other p c live s 0 s.looked.member.family.constructors s.runs rest ready context scoped split
     (λ j d e. let place : j ≡ 0 + j = omega arith in
-    transport (λ k. slice_get s.looked.member.family.constructors k ≡ Some d) place e) split.runs alike))
+    transport (λ k. slice_get s.looked.member.family.constructors k ≡ Some d) place e) split.runs alike) refl)
 
 live-same : (S : Signature) (go other : Growing) (p : Point) (live new : List Live) (left : ℕ) → IsReady S → IsScopedTelescope S 0 p.context
     → AreLiveScoped S (length p.context) new → LiveBecome S live new → GrowAlike S go other new → by_live S go p new left ≡ by_live S other p new left
@@ -192,8 +188,8 @@ one-same : (S : Signature) (go other : Growing) (p : Point) (live : List Live) (
 one-same S go other p live left ready context scoped alike =
     and_next-same (IsWorkedTo S p live) (worked S p live left) _ _ (worked-becomes S p live left) (λ node rest h.
     live-same S go other node.point live node.live rest ready (transport (IsScopedTelescope S 0) (sym h.context) context)
-    (transport (λ (G : Telescope). AreLiveScoped S (length G) node.live) (sym h.context) (live-become-scoped S (length p.context) ready live node.live h.live scoped))
-    h.live (alike node.live h.live))
+    (transport (λ (G : Telescope). AreLiveScoped S (length G) node.live) (sym h.context) (live-become-scoped S (length p.context) ready live node.live h.becomes scoped))
+    h.becomes (alike node.live h.becomes))
 
 -- ---- the measure
 

@@ -1,6 +1,6 @@
 -- A walk goes on as it began: the constructor and absurd patterns that are left become fewer at each turn, so that the measure is never
 -- used up.
-use Rattle.std.proofs.Common.{◌≡◌, ℕ, zero, suc, ◌≤◌, false, Option, Some, None, Result, Ok, Err, List, [], ◌∷◌, length, refl, sym, ap, ◌∙◌, subst as transport, arith}
+use Rattle.std.proofs.Common.{◌≡◌, ℕ, zero, suc, ◌≤◌, false, Option, Some, None, Result, Ok, Err, List, [], ◌∷◌, length, refl, sym, subst as transport, arith}
 use Rattle.std.specs.List.{All}
 use Rattle.theory.specs.Terms.{Term}
 use Rattle.theory.specs.Signatures.{Signature}
@@ -19,7 +19,7 @@ use Rattle.case_trees.specs.Stops.{TreeStop, Stopping, or_halts, halting, answer
 use Rattle.case_trees.specs.Working.{of_columns, work_pairs}
 use Rattle.case_trees.proofs.Answered.{Holds}
 use Rattle.case_trees.proofs.LeftPatterns.{SomeOpenIn, all-fewer, all-there, some-left, all-falls}
-use Rattle.case_trees.proofs.Looks.{AllPairs, LookHolds, first-holds}
+use Rattle.case_trees.proofs.Looks.{AllPairs, first-holds}
 use Rattle.case_trees.proofs.OwnPlaces.{IsAsking, HasNone, all-worked}
 use Rattle.case_trees.proofs.ScopedWorking.{all-become-scoped}
 use Rattle.case_trees.proofs.SplitConstructors.{solution-puts, put-scoped, pairs-scoped}
@@ -81,7 +81,7 @@ leading S pairs = record {
 }
 
 -- behind the solution of a pair that asks, fewer patterns are left
-fewer-left : (S : Signature) (n number : ℕ) (f : Term → Term) (pairs : Pairs) (pair : Pat × Term) (m : ℕ) → AsksIn S m pairs pair → HasConstructor S n number (f pair.1)
+pub fewer-left : (S : Signature) (n number : ℕ) (f : Term → Term) (pairs : Pairs) (pair : Pat × Term) (m : ℕ) → AsksIn S m pairs pair → HasConstructor S n number (f pair.1)
     → (new : Pairs) → AllBecome S (all_with_terms f pairs) new → some_clashes new ≡ false → suc (all_left new) ≤ all_left pairs
 fewer-left S n number f pairs pair m asks has new all clean = all-falls S n number f pairs new pair.0 pair.1 asks.there asks.asks has all clean
 
