@@ -26,6 +26,7 @@ use Rattle.case_trees.specs.OwnWalks.{walked_dots, walk_from, own_walk_of}
 use Rattle.case_trees.specs.Trees as tree
 use Rattle.case_trees.specs.Trees.{Live, tree_from, split_of}
 use Rattle.case_trees.specs.Places.{all_variable_places, all_variables_found, all_dot_places, clause_at}
+use Rattle.case_trees.specs.Splits.{EachSplit, IsAskedFor}
 use Rattle.case_trees.specs.Standing.{Runs, IsAbsurdProblem, HasFamily, StandsAt, IsNode, EachLeaf}
 use Rattle.case_trees.specs.Scoped.{IsScopedPoint, AreScopedPairs, IsClauseFor, AreClausesFor, IsScopedWalk, IsScopedTree, IsScopedStop}
 use Rattle.case_trees.specs.HeadSteps.{HasConstructor}
@@ -119,6 +120,10 @@ WalkStands = OfWalk (λ S start number pats w. IsWalkAt S start w)
 -- and a solved one stands over the solution of one.
 abbrev pub TreeStands : Type 0
 TreeStands = OfTree (λ S start clauses t. StandsAt S start t)
+
+-- Each split of a tree is asked for by the first clause that is left: at its variable, for a constructor of its family.
+abbrev pub SplitsAsked : Type 0
+SplitsAsked = OfTree (λ S start clauses t. EachSplit (IsAskedFor S start clauses) t)
 
 -- a substitution has a term for each variable of the starting context: it leads from the first goal and the first terms to those
 -- that are there

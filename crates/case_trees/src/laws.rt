@@ -1,5 +1,5 @@
 //! The laws of walks and trees.
-ghost use Rattle.case_trees.specs.Laws.{WalkSpends, TreeSpends, WalkGoesOn, TreeGoesOn, WalkBinds, WalkKeepsDots, WalkKeepsAllDots, WalkStands, WalkEnds, WalkScoped, WalkStopScoped, WalkCaused, TreeScoped, TreeStopScoped, TreeCaused, OriginsTell, SolvedIsBuilt, TreeStands, WalkLeads, LeavesLead, LeavesMatch, FirstMatch};
+ghost use Rattle.case_trees.specs.Laws.{WalkSpends, TreeSpends, WalkGoesOn, TreeGoesOn, WalkBinds, WalkKeepsDots, WalkKeepsAllDots, WalkStands, WalkEnds, WalkScoped, WalkStopScoped, WalkCaused, TreeScoped, TreeStopScoped, TreeCaused, OriginsTell, SolvedIsBuilt, TreeStands, SplitsAsked, WalkLeads, LeavesLead, LeavesMatch, FirstMatch};
 
 /// No walk gives units back.
 pub fn walk_spends()
@@ -69,6 +69,11 @@ pub fn walk_ends()
 /// A split has one branch for each constructor, in order: an absurd one is the end of a run, a solved one stands over the solution of one.
 pub fn tree_stands()
     ensures { TreeStands }
+{}
+
+/// Each split is asked for by the first clause that is left.
+pub fn splits_asked()
+    ensures { SplitsAsked }
 {}
 
 /// What a walk answers of scoped terms is scoped.
