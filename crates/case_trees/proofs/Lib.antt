@@ -18,6 +18,11 @@ pub mod LeftPatterns
 pub mod LiveClauses
 pub mod LiveGoing
 pub mod Looks
+pub mod MoreUnits
+pub mod MoreUnitsRuns
+pub mod MoreUnitsSearches
+pub mod MoreUnitsTurns
+pub mod MoreUnitsWalks
 pub mod OriginLaws
 pub mod OwnPlaces
 pub mod OwnTerms

@@ -1,5 +1,5 @@
 -- Where a tree is split, and what ends it there: it is scoped, and has its cause at the clause that asks.
-use Rattle.std.proofs.Common.{◌≡◌, ℕ, ◌+◌, Some, option_and_then, List, length, sym, ap, ◌∙◌, subst as transport, arith}
+use Rattle.std.proofs.Common.{◌≡◌, ℕ, ◌+◌, option_and_then, List, length, sym, ap, ◌∙◌, subst as transport, arith}
 use Rattle.theory.specs.Terms.{Term, Var}
 use Rattle.theory.specs.Signatures.{Signature}
 use Rattle.theory.specs.SignatureScopes.{IsScoped}

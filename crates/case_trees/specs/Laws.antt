@@ -1,5 +1,5 @@
 -- What holds of walks and trees, whatever way they are found.
-use Rattle.std.specs.Prelude.{◌≡◌, ℕ, ◌+◌, ◌-◌, ◌<◌, ◌≤◌, true, false, Some, Err, IfOk, List, length, map, take, slice_get, All}
+use Rattle.std.specs.Prelude.{◌≡◌, ◌≢◌, ℕ, ◌+◌, ◌-◌, ◌<◌, ◌≤◌, true, false, Some, Ok, Err, IfOk, List, length, map, take, slice_get, All}
 use Rattle.theory.specs.Terms.{Term, Var}
 use Rattle.theory.specs.Substitutions.{inst}
 use Rattle.theory.specs.Telescopes.{Telescope}
@@ -11,6 +11,7 @@ use Rattle.core_terms.specs.Clauses.{Clause, Clauses, Right, Is}
 use Rattle.core_terms.specs.CaseTrees.{Step, Walk, Tree}
 use Rattle.core_terms.specs.declared.case_tree.Origin.{Origin}
 use Rattle.core_terms.specs.declared.case_tree.Origin.TheVariants.{Old, Arg}
+use Rattle.core_terms.specs.declared.stop.Stop.TheVariants.{Fuel}
 use Rattle.kernel_reduce.specs.Laws.{IsHeadForm}
 use Rattle.tele_eq.specs.ReflexivityLaws.{EachConverts}
 use Rattle.pattern_vectors.specs.Matching.{matches_all, are_apart}
@@ -20,7 +21,8 @@ use Rattle.case_trees.specs.Pairs.{Pairs}
 use Rattle.case_trees.specs.Points.{Point, start_at, under_solution}
 use Rattle.case_trees.specs.Problems.{Member, problem_of}
 use Rattle.case_trees.specs.Origins.{first_origins, origins_behind}
-use Rattle.case_trees.specs.Stops.{TreeStop}
+use Rattle.case_trees.specs.Stops as stop
+use Rattle.case_trees.specs.Stops.{TreeStop, answers}
 use Rattle.case_trees.specs.OwnWalks as walk
 use Rattle.case_trees.specs.OwnWalks.{walked_dots, walk_from, own_walk_of}
 use Rattle.case_trees.specs.Trees as tree
@@ -81,6 +83,34 @@ TreeGoesOn =
     (S : Signature) (p : Point) (live : List Live) (left : ℕ) → IsReady S → IsScopedPoint S p →
     All (λ c. (binds : ℕ) × AreScopedPairs S (length p.context) binds c.pairs) live →
     tree_from S p live left ≡ tree.one_node S (tree_from S) p live left
+
+-- ---- units
+
+-- What a walk comes to, unless it wants units, it comes to with more of them too, and so many more are left.
+abbrev pub WalkWithMoreUnits : Type 0
+WalkWithMoreUnits =
+    (S : Signature) (context : Telescope) (goal : Term) (terms : List Term) (c : Clause) (number left more : ℕ) →
+    (own_walk_of S context goal terms c number left).0 ≢ Err (stop.Halts Fuel) →
+    own_walk_of S context goal terms c number (left + more)
+    ≡ answers (own_walk_of S context goal terms c number left).0 ((own_walk_of S context goal terms c number left).1 + more)
+
+abbrev pub TreeWithMoreUnits : Type 0
+TreeWithMoreUnits =
+    (S : Signature) (context : Telescope) (goal : Term) (terms : List Term) (clauses : Clauses) (left more : ℕ) →
+    (split_of S context goal terms clauses left).0 ≢ Err (stop.Halts Fuel) →
+    split_of S context goal terms clauses (left + more)
+    ≡ answers (split_of S context goal terms clauses left).0 ((split_of S context goal terms clauses left).1 + more)
+
+-- So there is one walk of a clause, and one tree of clauses, whatever units there are.
+abbrev pub WalkIsUnique : Type 0
+WalkIsUnique =
+    (S : Signature) (context : Telescope) (goal : Term) (terms : List Term) (c : Clause) (number left other : ℕ) (w v : Walk) →
+    (own_walk_of S context goal terms c number left).0 ≡ Ok w → (own_walk_of S context goal terms c number other).0 ≡ Ok v → w ≡ v
+
+abbrev pub TreeIsUnique : Type 0
+TreeIsUnique =
+    (S : Signature) (context : Telescope) (goal : Term) (terms : List Term) (clauses : Clauses) (left other : ℕ) (t u : Tree) →
+    (split_of S context goal terms clauses left).0 ≡ Ok t → (split_of S context goal terms clauses other).0 ≡ Ok u → t ≡ u
 
 -- ---- scopes
 

@@ -1,5 +1,5 @@
 //! The laws of walks and trees.
-ghost use Rattle.case_trees.specs.Laws.{WalkSpends, TreeSpends, WalkGoesOn, TreeGoesOn, WalkBinds, WalkKeepsDots, WalkKeepsAllDots, WalkStands, WalkEnds, WalkScoped, WalkStopScoped, WalkCaused, TreeScoped, TreeStopScoped, TreeCaused, OriginsTell, SolvedIsBuilt, TreeStands, SplitsAsked, WalkLeads, LeavesLead, LeavesMatch, FirstMatch};
+ghost use Rattle.case_trees.specs.Laws.{WalkSpends, TreeSpends, WalkGoesOn, TreeGoesOn, WalkWithMoreUnits, TreeWithMoreUnits, WalkIsUnique, TreeIsUnique, WalkBinds, WalkKeepsDots, WalkKeepsAllDots, WalkStands, WalkEnds, WalkScoped, WalkStopScoped, WalkCaused, TreeScoped, TreeStopScoped, TreeCaused, OriginsTell, SolvedIsBuilt, TreeStands, SplitsAsked, WalkLeads, LeavesLead, LeavesMatch, FirstMatch};
 
 /// No walk gives units back.
 pub fn walk_spends()
@@ -19,6 +19,26 @@ pub fn walk_goes_on()
 /// A tree goes on as it began in each of its branches.
 pub fn tree_goes_on()
     ensures { TreeGoesOn }
+{}
+
+/// With more units a walk comes to what it came to, unless it wanted units.
+pub fn walk_with_more_units()
+    ensures { WalkWithMoreUnits }
+{}
+
+/// With more units a tree comes to what it came to, unless it wanted units.
+pub fn tree_with_more_units()
+    ensures { TreeWithMoreUnits }
+{}
+
+/// There is one walk of a clause, whatever units there are.
+pub fn walk_is_unique()
+    ensures { WalkIsUnique }
+{}
+
+/// There is one tree of a list of clauses, whatever units there are.
+pub fn tree_is_unique()
+    ensures { TreeIsUnique }
 {}
 
 /// The bindings of a walk are the terms at the clause's variables.
