@@ -1,10 +1,8 @@
 -- The patterns that are left in the clauses of a node: working leaves no more of them, and fewer behind a solved problem of the first
 -- clause's open pair.
 use Rattle.std.proofs.Common.{◌≡◌, ℕ, suc, ◌+◌, ◌≤◌, Bool, true, false, cond, Result, Ok, Err, IfOk, List, [], ◌∷◌, refl, ap, ap₂, ◌∙◌, arith}
-use Rattle.std.specs.List.{All}
 use Rattle.theory.specs.Terms.{Term}
 use Rattle.theory.specs.Signatures.{Signature}
-use Rattle.theory.specs.SignatureScopes.{IsScoped}
 use Rattle.core_terms.specs.Answers.{and_then}
 use Rattle.core_terms.specs.Patterns.{Pat}
 use Rattle.core_terms.specs.declared.stop.Stop.{Stop}
@@ -12,13 +10,14 @@ use Rattle.core_terms.specs.declared.stop.Stop.TheVariants.{Deep}
 use Rattle.unification.specs.ScopedStates.{IsReady}
 use Rattle.case_trees.specs.HeadSteps.{HasConstructor}
 use Rattle.case_trees.specs.Keeping.{keep_all}
-use Rattle.case_trees.specs.Pairs.{Pairs, terms_in, some_clashes, all_with_terms, are_low_pairs}
+use Rattle.case_trees.specs.Pairs.{Pairs, some_clashes, all_with_terms, are_low_pairs}
 use Rattle.case_trees.specs.Points.{Point, point_keeping, under_solution, moved_pairs}
 use Rattle.case_trees.specs.Stops.{or_halts, halting, answers}
 use Rattle.case_trees.specs.Trees.{Live, Node, patterns_left, unless_dropped, worked, moved_live}
 use Rattle.case_trees.specs.Working.{of_columns, work_pairs}
 use Rattle.case_trees.proofs.Answered.{Holds, and_next-holds}
 use Rattle.case_trees.proofs.LeftPatterns.{all-fewer, all-same, some-left}
+use Rattle.case_trees.proofs.LiveClauses.{AreLiveScoped}
 use Rattle.case_trees.proofs.ScopedWorking.{all-become-scoped}
 use Rattle.case_trees.proofs.WalkGoing.{AsksIn, fewer-left}
 use Rattle.case_trees.proofs.WalkTurns.{keeping-holds, become-holds}
@@ -65,11 +64,7 @@ live-fewer S _ _ (keeps c live others new all clean rest) = omega (arith, all-fe
 
 -- ---- scopes
 
--- the terms of each clause are scoped
-abbrev pub AreLiveScoped : Signature → ℕ → List Live → Type 0
-AreLiveScoped S n [] = Unit {0}
-AreLiveScoped S n (c ∷ live) = All (IsScoped S n) (terms_in c.pairs) × AreLiveScoped S n live
-
+-- working keeps the terms of the clauses scoped
 pub live-become-scoped : (S : Signature) (n : ℕ) → IsReady S → (live new : List Live) → LiveBecome S live new → AreLiveScoped S n live → AreLiveScoped S n new
 live-become-scoped S n ready _ _ none h = tt
 live-become-scoped S n ready _ _ (drops c live others new all clash rest) h = live-become-scoped S n ready live others rest h.1

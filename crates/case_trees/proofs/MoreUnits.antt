@@ -1,6 +1,7 @@
 -- With more units a call answers as it did, unless there were too few, and so many more are left: calls one behind the other, and
 -- those of reduction.
-use Rattle.std.proofs.Common.{◌≡◌, ℕ, zero, suc, ◌+◌, Bool, true, false, ◌&&◌, cond, Option, Some, None, Result, Ok, Err, refl, sym, ap, ◌∙◌, subst as transport, arith}
+use Rattle.std.proofs.Common.{◌≡◌, ◌⊎◌, inl, inr, ℕ, zero, suc, ◌+◌, ◌-◌, ◌<◌, ◌≤◌, Bool, true, false, ◌&&◌, cond, Option, Some, None, Result, Ok, Err, refl, sym, ap, ◌∙◌, subst as transport, arith}
+use Rattle.std.proofs.lemmas.Result.{IfOk-at_ok}
 use Rattle.theory.specs.Terms.{Term, Var, Sort, Pi, Lam, App, Let, Const, Fam, Con, Elim, AxiomK}
 use Rattle.theory.specs.Signatures.{Signature}
 use Rattle.core_terms.specs.Answers.{SpentOr, Spent, and_then, and_next, on_answer, is_low, bounded}
@@ -8,6 +9,7 @@ use Rattle.core_terms.specs.declared.stop.Stop.TheVariants.{Fuel, Deep}
 use Rattle.kernel_reduce.specs.Comparison.{same, second_if, both, on_heads, heads_convertible, unless_same, convertible_of}
 use Rattle.kernel_reduce.specs.Reduction.{if_low, charge, without_units, with_unit, whnf_of, with_children, normal_children, normal_of}
 use Rattle.kernel_reduce.specs.Steps.{step_of}
+use Rattle.unification.proofs.Cases.{below-or_from}
 
 -- Two calls, of which the second one has so many units more: where the first one ends for another reason than want of them, so does
 -- the second, with as many more left.
@@ -39,6 +41,23 @@ cond-lasts fuel more false one other one' other' h k = k
 -- a call with its units
 abbrev pub AlwaysLasts : {A E : Type 0} → (fuel : E) → (ℕ → SpentOr E A) → Type 0
 AlwaysLasts fuel call = (left more : ℕ) → Lasts fuel more (call left) (call (left + more))
+
+once : {A E : Type 0} (fuel : E) (call : ℕ → SpentOr E A) → AlwaysLasts fuel call → (left other : ℕ) (a b : A) → left ≤ other → (call left).0 ≡ Ok a
+    → (call other).0 ≡ Ok b → a ≡ b
+once fuel call h left other a b le e e' =
+    let place : left + (other - left) ≡ other = omega arith in
+    let later = h left (other - left) (λ bad. absurd (grind (arith, sym bad ∙ e))) in
+    let same : Ok a ≡ Ok b = sym e ∙ (sym (ap (λ (r : SpentOr _ _). r.0) later) ∙ (ap (λ n. (call n).0) place ∙ e')) in
+    IfOk-at_ok (λ x. a ≡ x) same refl
+
+-- whatever units there are, it is the same that is answered
+pub answered-once : {A E : Type 0} (fuel : E) (call : ℕ → SpentOr E A) → AlwaysLasts fuel call → (left other : ℕ) (a b : A) → (call left).0 ≡ Ok a
+    → (call other).0 ≡ Ok b → a ≡ b
+answered-once fuel call h left other a b e e' = by (below-or_from left other)
+  where
+    by : (left < other) ⊎ (other ≤ left) → a ≡ b
+    by (inl less) = once fuel call h left other a b (omega arith) e e'
+    by (inr le) = sym (once fuel call h other left b a le e' e)
 
 pub if_low-lasts : {A : Type 0} (test : Bool) (next : ℕ → Spent A) → AlwaysLasts Fuel next → AlwaysLasts Fuel (if_low test next)
 if_low-lasts true next h = h

@@ -1,6 +1,5 @@
 -- With more units a walk and a tree come to what they came to, unless there were too few.
-use Rattle.std.proofs.Common.{◌≡◌, ◌⊎◌, inl, inr, ℕ, zero, suc, ◌+◌, ◌-◌, ◌<◌, ◌≤◌, true, false, Option, Some, None, Ok, List, [], ◌∷◌, length, slice_get, refl, sym, ap, ◌∙◌, arith}
-use Rattle.std.proofs.lemmas.Result.{IfOk-at_ok}
+use Rattle.std.proofs.Common.{ℕ, zero, suc, ◌+◌, true, false, Option, Some, None, List, [], ◌∷◌, length, slice_get, refl, ap}
 use Rattle.theory.specs.Terms.{Term}
 use Rattle.theory.specs.Telescopes.{Telescope}
 use Rattle.theory.specs.Families.{Constructor}
@@ -18,8 +17,7 @@ use Rattle.unification.specs.Outcomes as outcome
 use Rattle.unification.specs.Outcomes.{Outcome}
 use Rattle.unification.specs.Runs.{unify_of}
 use Rattle.unification.specs.Solutions.{variable_in}
-use Rattle.unification.proofs.Cases.{below-or_from}
-use Rattle.case_trees.specs.Laws.{WalkWithMoreUnits, TreeWithMoreUnits, WalkIsUnique, TreeIsUnique}
+use Rattle.case_trees.specs.Laws.{WalkWithMoreUnits, TreeWithMoreUnits, OutcomeIsUnique, WalkIsUnique, TreeIsUnique}
 use Rattle.case_trees.specs.Looking.{Look, Found, Passed, Looked, Ran, stuck_at, Further, behind_look, at_open, first_found, look_at_type, unless_stuck, run_all}
 use Rattle.case_trees.specs.OwnWalks as walk
 use Rattle.case_trees.specs.OwnWalks.{Turn, Goes, Ends, own_outcome, run_own, absurd_outcome, run_pattern, Walking, behind_turn, at_pairs, own_walk_of}
@@ -30,7 +28,7 @@ use Rattle.case_trees.specs.Stops.{TreeStop, Halts, Stopping, or_halts, halting,
 use Rattle.case_trees.specs.Trees as tree
 use Rattle.case_trees.specs.Trees.{Live, Node, SplitAt, Growing, all_live, patterns_left, worked, solved_node, branch_by, grow_branches, split_at, by_first, by_live, one_node, split_of}
 use Rattle.case_trees.specs.Working.{Rooms, of_columns, of_arguments, compared_head, compared, unless_clash, work_pattern, work_patterns, work_pair, work_pairs}
-use Rattle.case_trees.proofs.MoreUnits.{Lasts, answers-last, and_next-lasts, cond-lasts, AlwaysLasts, whnf-lasts}
+use Rattle.case_trees.proofs.MoreUnits.{answered-once, Lasts, answers-last, and_next-lasts, cond-lasts, AlwaysLasts, whnf-lasts}
 use Rattle.case_trees.proofs.MoreUnitsRuns.{unify-lasts}
 
 -- ---- working
@@ -309,26 +307,13 @@ tree_with_more_units = λ S context goal terms clauses left more.
 
 -- ---- one answer
 
-once : {A : Type 0} (call : ℕ → Stopping A) → AlwaysLasts Stops call → (left other : ℕ) (a b : A) → left ≤ other → (call left).0 ≡ Ok a
-    → (call other).0 ≡ Ok b → a ≡ b
-once call h left other a b le e e' =
-    let place : left + (other - left) ≡ other = omega arith in
-    let later = h left (other - left) (λ bad. absurd (grind (arith, sym bad ∙ e))) in
-    let same : Ok a ≡ Ok b =
-    sym e ∙ (sym (ap (λ (r : Stopping _). r.0) later) ∙ (ap (λ n. (call n).0) place ∙ e')) in
-    IfOk-at_ok (λ x. a ≡ x) same refl
-
-answered-once : {A : Type 0} (call : ℕ → Stopping A) → AlwaysLasts Stops call → (left other : ℕ) (a b : A) → (call left).0 ≡ Ok a → (call other).0 ≡ Ok b → a ≡ b
-answered-once call h left other a b e e' = by (below-or_from left other)
-  where
-    by : (left < other) ⊎ (other ≤ left) → a ≡ b
-    by (inl less) = once call h left other a b (omega arith) e e'
-    by (inr le) = sym (once call h other left b a le e' e)
+pub outcome_is_unique : OutcomeIsUnique
+outcome_is_unique = λ S p o other h k. answered-once Fuel (unify_of S p) (unify-lasts S p) h.units k.units o other h.run k.run
 
 pub walk_is_unique : WalkIsUnique
 walk_is_unique = λ S context goal terms c number left other w v.
-    answered-once (own_walk_of S context goal terms c number) (λ units more. walk_with_more_units S context goal terms c number units more) left other w v
+    answered-once Stops (own_walk_of S context goal terms c number) (λ units more. walk_with_more_units S context goal terms c number units more) left other w v
 
 pub tree_is_unique : TreeIsUnique
 tree_is_unique = λ S context goal terms clauses left other t u.
-    answered-once (split_of S context goal terms clauses) (λ units more. tree_with_more_units S context goal terms clauses units more) left other t u
+    answered-once Stops (split_of S context goal terms clauses) (λ units more. tree_with_more_units S context goal terms clauses units more) left other t u

@@ -24,7 +24,8 @@ use Rattle.case_trees.specs.Stops.{TreeStop, or_halts, answers}
 use Rattle.case_trees.specs.Trees.{Live, Node, SplitAt, as_split, look, patterns_left, worked, moved_live, solved_node, Growing, branch_by, grow_branches, split_at, by_first, by_live, one_node, nowhere, by_patterns, tree_from}
 use Rattle.case_trees.proofs.Answered.{Holds, and_next-holds}
 use Rattle.case_trees.proofs.LeftPatterns.{some-left}
-use Rattle.case_trees.proofs.LiveGoing.{LiveBecome, drops, keeps, IsWorkedTo, worked-becomes, live-fewer, AreLiveScoped, live-become-scoped, live_with_terms, moved-is, live-falls}
+use Rattle.case_trees.proofs.LiveClauses.{AreLiveScoped}
+use Rattle.case_trees.proofs.LiveGoing.{LiveBecome, drops, keeps, IsWorkedTo, worked-becomes, live-fewer, live-become-scoped, live_with_terms, moved-is, live-falls}
 use Rattle.case_trees.proofs.Looks.{AllPairs, LookHas, LookHolds, first-holds}
 use Rattle.case_trees.proofs.Running.{AllRun, RunHas, all-run}
 use Rattle.case_trees.proofs.SplitConstructors.{IsPut, solution-puts, put-scoped, pairs-scoped}

@@ -50,7 +50,7 @@ use Rattle.case_trees.specs.Places.{clause_at}
 use Rattle.case_trees.specs.Causes as cause
 use Rattle.case_trees.proofs.Looks.{AllPairs, first-holds}
 use Rattle.case_trees.proofs.OwnPlaces.{IsAsking, AreWorked, all-worked}
-use Rattle.case_trees.proofs.LiveClauses.{IsLiveAt, AreLiveAt, AllWorked, all-live-at, live-works, all-live-move}
+use Rattle.case_trees.proofs.LiveClauses.{IsLiveAt, AreLiveAt, AreLiveScoped, AllWorked, all-live-at, live-works, all-live-move}
 use Rattle.case_trees.proofs.TreeLooks.{IsTreeEnd, tree-halts, IsAsker, SplitHas, looks-split, forced-ends}
 use Rattle.case_trees.proofs.Running.{AllRun}
 use Rattle.case_trees.proofs.Shapes.{terms-moved}
@@ -65,17 +65,12 @@ use Rattle.case_trees.proofs.ScopedPoints.{all-kept-scoped, moved-scoped, all-un
 use Rattle.case_trees.proofs.ScopedWalks.{all-bound-scoped}
 use Rattle.case_trees.proofs.ScopedWorking.{waiting-scoped, all-become-scoped}
 
--- the terms of each clause that is left are scoped
-abbrev LiveScoped : Signature → ℕ → List Live → Type 0
-LiveScoped S n [] = Unit {0}
-LiveScoped S n (c ∷ live) = All (IsScoped S n) (terms_in c.pairs) × LiveScoped S n live
-
 -- what is known of a point and of the clauses that are left there
 record IsReadyAt (S : Signature) (start : Point) (clauses : Clauses) (p : Point) (live : List Live) : Type 0 where
   left : AreLeft S 0 clauses live p.terms
   leads : Leads S start p
   scoped : IsScopedPoint S p
-  live_scoped : LiveScoped S (length p.context) live
+  live_scoped : AreLiveScoped S (length p.context) live
   at : IsAt S start p
   live_at : AreLiveAt S clauses at.plain live
 
@@ -88,7 +83,7 @@ both-hold P R Q (Err e) h k = h
 -- the point but for its terms, with the clauses that are left
 record IsFrame (S : Signature) (clauses : Clauses) (plain : List Term) (n : ℕ) (p : Point) (node : Node) : Type 0 where
   point : node.point ≡ record p { terms = node.point.terms }
-  scoped : LiveScoped S n node.live
+  scoped : AreLiveScoped S n node.live
   live : AreLiveAt S clauses plain node.live
   worked : AllWorked S node.live
 
@@ -102,7 +97,7 @@ dropped-frame S clauses plain n p c node h all is done = by (some_clashes c.pair
     by false e = record { point = h.point; scoped = (all, h.scoped); live = (is, h.live); worked = (done e, h.worked) }
 
 worked-frame : (S : Signature) (start : Point) (clauses : Clauses) (plain : List Term) (n : ℕ) (p : Point) (live : List Live) (left : ℕ) → IsReady S
-    → LiveScoped S n live → AreLiveAt S clauses plain live
+    → AreLiveScoped S n live → AreLiveAt S clauses plain live
     → Holds (IsFrame S clauses plain n p) (IsTreeEnd S start clauses) (worked S p live left).0
 worked-frame S start clauses plain n p [] left ready h is = record { point = refl; scoped = tt; live = tt; worked = tt }
 worked-frame S start clauses plain n p (c ∷ live) left ready h is =
@@ -127,14 +122,14 @@ worked-frame S start clauses plain n p (c ∷ live) left ready h is =
 
 -- ---- solutions
 
-live-moved : (S : Signature) (n m : ℕ) (solution : List Term) (live : List Live) → All (IsScoped S m) solution → LiveScoped S n live
-    → IfOk (moved_live solution live) (LiveScoped S m)
+live-moved : (S : Signature) (n m : ℕ) (solution : List Term) (live : List Live) → All (IsScoped S m) solution → AreLiveScoped S n live
+    → IfOk (moved_live solution live) (AreLiveScoped S m)
 live-moved S n m solution [] all h = tt
 live-moved S n m solution (c ∷ live) all h = by (are_low_pairs (moved_pairs solution c.pairs)) (moved_live solution live) (live-moved S n m solution live all h.1)
   where
-    by : (low : Bool) (others : Result (List Live) Stop) → IfOk others (LiveScoped S m)
+    by : (low : Bool) (others : Result (List Live) Stop) → IfOk others (AreLiveScoped S m)
         → IfOk (and_then (cond low (Ok (moved_pairs solution c.pairs)) (Err Deep)) (λ pairs.
-        and_then others (λ more_live. Ok (record { number = c.number; pairs = pairs } ∷ more_live)))) (LiveScoped S m)
+        and_then others (λ more_live. Ok (record { number = c.number; pairs = pairs } ∷ more_live)))) (AreLiveScoped S m)
     by true (Ok moved) k =
         (transport (All (IsScoped S m)) (sym (terms-moved (fill no_variable solution) c.pairs)) (all-under-scoped S n m solution (terms_in c.pairs) all h.0), k)
     by true (Err e) k = tt
@@ -172,7 +167,7 @@ solved-ready S start clauses p live x found number c steps context solution read
     out = problem-outcome S p x found number c (outcome.Solved steps context solution) ready h.scoped split there runs
 
     by : (low : Bool) (moved : Result (List Live) Stop)
-        → IfOk moved (λ m. AreLeft S 0 clauses m (map (under_solution (solution_for p solution)) p.terms)) → IfOk moved (LiveScoped S (length context))
+        → IfOk moved (λ m. AreLeft S 0 clauses m (map (under_solution (solution_for p solution)) p.terms)) → IfOk moved (AreLiveScoped S (length context))
         → IsScopedPoint S (moved_point p context (solution_for p solution)) → Leads S start (moved_point p context (solution_for p solution))
         → IfOk moved (AreLiveAt S clauses (map (under_solution (solution_for p solution)) h.at.plain))
         → Holds (IsMoved S start clauses p context solution) (IsTreeEnd S start clauses)
@@ -420,7 +415,7 @@ tree-stands : (S : Signature) (start : Point) (clauses : Clauses) → IsReady S 
 tree-stands S start clauses ready zero = node-stands S start clauses nowhere ready (λ p live left h. tree-halts S start clauses Deep)
 tree-stands S start clauses ready (suc patterns) = node-stands S start clauses (by_patterns S patterns) ready (tree-stands S start clauses ready patterns)
 
-all-live-scoped : (S : Signature) (n number : ℕ) (terms : List Term) (clauses : Clauses) → All (IsScoped S n) terms → LiveScoped S n (all_live number terms clauses)
+all-live-scoped : (S : Signature) (n number : ℕ) (terms : List Term) (clauses : Clauses) → All (IsScoped S n) terms → AreLiveScoped S n (all_live number terms clauses)
 all-live-scoped S n number terms clause.nil all = tt
 all-live-scoped S n number terms (clause.cons (Is pats binds right) clauses) all =
     (waiting-scoped S n pats terms all, all-live-scoped S n (number + 1) terms clauses all)

@@ -15,8 +15,9 @@ use Rattle.core_terms.specs.declared.stop.Stop.TheVariants.{Fuel}
 use Rattle.kernel_reduce.specs.Laws.{IsHeadForm}
 use Rattle.tele_eq.specs.ReflexivityLaws.{EachConverts}
 use Rattle.pattern_vectors.specs.Matching.{matches_all, are_apart}
-use Rattle.unification.specs.Outcomes.{Solved}
+use Rattle.unification.specs.Outcomes.{Outcome, Solved}
 use Rattle.unification.specs.ScopedStates.{IsReady, IsScopedProblem}
+use Rattle.unification.specs.States.{Problem}
 use Rattle.case_trees.specs.Pairs.{Pairs}
 use Rattle.case_trees.specs.Points.{Point, start_at, under_solution}
 use Rattle.case_trees.specs.Problems.{Member, problem_of}
@@ -101,7 +102,10 @@ TreeWithMoreUnits =
     split_of S context goal terms clauses (left + more)
     ≡ answers (split_of S context goal terms clauses left).0 ((split_of S context goal terms clauses left).1 + more)
 
--- So there is one walk of a clause, and one tree of clauses, whatever units there are.
+-- So a problem has one outcome, a clause one walk, and a list of clauses one tree, whatever units there are.
+abbrev pub OutcomeIsUnique : Type 0
+OutcomeIsUnique = (S : Signature) (p : Problem) (outcome other : Outcome) → Runs S p outcome → Runs S p other → outcome ≡ other
+
 abbrev pub WalkIsUnique : Type 0
 WalkIsUnique =
     (S : Signature) (context : Telescope) (goal : Term) (terms : List Term) (c : Clause) (number left other : ℕ) (w v : Walk) →

@@ -1,5 +1,5 @@
 //! The laws of walks and trees.
-ghost use Rattle.case_trees.specs.Laws.{WalkSpends, TreeSpends, WalkGoesOn, TreeGoesOn, WalkWithMoreUnits, TreeWithMoreUnits, WalkIsUnique, TreeIsUnique, WalkBinds, WalkKeepsDots, WalkKeepsAllDots, WalkStands, WalkEnds, WalkScoped, WalkStopScoped, WalkCaused, TreeScoped, TreeStopScoped, TreeCaused, OriginsTell, SolvedIsBuilt, TreeStands, SplitsAsked, WalkLeads, LeavesLead, LeavesMatch, FirstMatch};
+ghost use Rattle.case_trees.specs.Laws.{WalkSpends, TreeSpends, WalkGoesOn, TreeGoesOn, WalkWithMoreUnits, TreeWithMoreUnits, OutcomeIsUnique, WalkIsUnique, TreeIsUnique, WalkBinds, WalkKeepsDots, WalkKeepsAllDots, WalkStands, WalkEnds, WalkScoped, WalkStopScoped, WalkCaused, TreeScoped, TreeStopScoped, TreeCaused, OriginsTell, SolvedIsBuilt, TreeStands, SplitsAsked, WalkLeads, LeavesLead, LeavesMatch, FirstMatch};
 
 /// No walk gives units back.
 pub fn walk_spends()
@@ -29,6 +29,11 @@ pub fn walk_with_more_units()
 /// With more units a tree comes to what it came to, unless it wanted units.
 pub fn tree_with_more_units()
     ensures { TreeWithMoreUnits }
+{}
+
+/// A problem has one outcome, whatever units there are.
+pub fn outcome_is_unique()
+    ensures { OutcomeIsUnique }
 {}
 
 /// There is one walk of a clause, whatever units there are.
