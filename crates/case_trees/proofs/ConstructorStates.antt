@@ -29,13 +29,13 @@ use Rattle.case_trees.proofs.HeadChains.{chain-stays}
 use Rattle.case_trees.proofs.GoingTurns.{AreHeads}
 
 -- the term at a level has the constructor
-pub record HasIt (S : Signature) (n number level : ℕ) (solution : List Term) : Type 0 where
+pub record HasConstructorAt (S : Signature) (n number level : ℕ) (solution : List Term) : Type 0 where
   pub term : Term
   pub there : slice_get solution level ≡ Some term
   pub has : HasConstructor S n number term
 
 -- The last equation has the constructor on its left, and on its right the term at a level of the solution.
-pub record Waits (S : Signature) (n number level : ℕ) (s : State) : Type 0 where
+pub record AwaitsConstructor (S : Signature) (n number level : ℕ) (s : State) : Type 0 where
   pub before : List Equation
   pub last : Equation
   pub whole : s.equations ≡ before ++ last ∷ []
@@ -45,16 +45,16 @@ pub record Waits (S : Signature) (n number level : ℕ) (s : State) : Type 0 whe
   pub constructor : built.number ≡ number
   pub right : slice_get s.solution level ≡ Some last.right
 
-abbrev pub Tracks : Signature → (n number level : ℕ) → State → Type 0
-Tracks S n number level s = HasIt S n number level s.solution ⊎ Waits S n number level s
+abbrev pub HasOrAwaits : Signature → (n number level : ℕ) → State → Type 0
+HasOrAwaits S n number level s = HasConstructorAt S n number level s.solution ⊎ AwaitsConstructor S n number level s
 
-pub left-has : (S : Signature) (n number level : ℕ) (s : State) (h : Waits S n number level s) → HasConstructor S n number h.last.left
+pub left-has : (S : Signature) (n number level : ℕ) (s : State) (h : AwaitsConstructor S n number level s) → HasConstructor S n number h.last.left
 left-has S n number level s h =
     transport (λ k. HasConstructor S k number h.last.left) h.family
     (transport (λ k. HasConstructor S h.built.n k h.last.left) h.constructor (built-has S h.last.left h.built h.left))
 
 -- an equation of the state is the last one, or stands before it
-pub standing : (S : Signature) (n number level : ℕ) (s : State) (h : Waits S n number level s) (k : ℕ) (e : Equation) → slice_get s.equations k ≡ Some e
+pub standing : (S : Signature) (n number level : ℕ) (s : State) (h : AwaitsConstructor S n number level s) (k : ℕ) (e : Equation) → slice_get s.equations k ≡ Some e
     → (k + 1 ≤ length h.before) ⊎ (h.last ≡ e)
 standing S n number level s h k e at =
     by (slice_get-pushed h.before h.last k e (sym (ap (λ es. slice_get es k) h.whole) ∙ at))
@@ -73,7 +73,7 @@ moved_one items types side size depth e = record {
   right = side e.right;
 }
 
--- equations that are moved, with one more behind them
+-- equations that are moved, with a last one
 pub record MovedLast (items types : Environment) (side : Term → Term) (size depth : ℕ) (es : List Equation) (last : Equation) : Type 0 where
   pub front : List Equation
   pub end : Equation
@@ -96,11 +96,11 @@ moved-last items types side size depth (e ∷ es) last =
     }
 
 -- where other equations than the last go out
-moved-waits : (S : Signature) (n number level : ℕ) (s t : State) (h : Waits S n number level s) (new : List Equation) (items types : Environment)
+moved-awaits : (S : Signature) (n number level : ℕ) (s t : State) (h : AwaitsConstructor S n number level s) (new : List Equation) (items types : Environment)
     (side : Term → Term) (size depth g : ℕ) → t.equations ≡ new ++ moved items types side size depth (drop g s.equations) → g ≤ length h.before
     → ((b : Built) → built_of S h.last.left ≡ Some b → (d : Built) × ((built_of S (side h.last.left) ≡ Some d) × ((d.n ≡ b.n) × (d.number ≡ b.number))))
-    → slice_get t.solution level ≡ Some (side h.last.right) → Waits S n number level t
-moved-waits S n number level s t h new items types side size depth g whole le keeps right =
+    → slice_get t.solution level ≡ Some (side h.last.right) → AwaitsConstructor S n number level t
+moved-awaits S n number level s t h new items types side size depth g whole le keeps right =
     let m = moved-last items types side size depth (drop g h.before) h.last in
     let rest : drop g s.equations ≡ drop g h.before ++ h.last ∷ [] = ap (drop g) h.whole ∙ drop-append-le g h.before (h.last ∷ []) le in
     let (d, (is, (family, constructor))) = keeps h.built h.left in
@@ -129,7 +129,7 @@ solved-there : (s : State) (i p : ℕ) (A u t : Term) (level : ℕ) → slice_ge
 solved-there s i p A u t level e = slice_get-map (Behind s p u) s.solution level ∙ ap (option_map (Behind s p u)) e
 
 pub has-solved : (S : Signature) → HasClosedBodies S → (n number level : ℕ) (s : State) (i p : ℕ) (A u : Term) → p < length s.context
-    → lacks s.context p u ≡ true → HasIt S n number level s.solution → HasIt S n number level (solved_state s i p A u).solution
+    → lacks s.context p u ≡ true → HasConstructorAt S n number level s.solution → HasConstructorAt S n number level (solved_state s i p A u).solution
 has-solved S closed n number level s i p A u less free h =
     record {
       term = Behind s p u h.term;
@@ -138,14 +138,14 @@ has-solved S closed n number level s i p A u less free h =
           (constructor-stays S (solution_at s.context p u) closed n number h.term h.has);
     }
 
-pub waits-solved : (S : Signature) (n number level : ℕ) (s : State) (h : Waits S n number level s) (i p : ℕ) (A u : Term) → p < length s.context
-    → lacks s.context p u ≡ true → 1 ≤ length h.before → Waits S n number level (solved_state s i p A u)
-waits-solved S n number level s h i p A u less free le =
+pub awaits-solved : (S : Signature) (n number level : ℕ) (s : State) (h : AwaitsConstructor S n number level s) (i p : ℕ) (A u : Term) → p < length s.context
+    → lacks s.context p u ≡ true → 1 ≤ length h.before → AwaitsConstructor S n number level (solved_state s i p A u)
+awaits-solved S n number level s h i p A u less free le =
     let m = length (order_without s.context p) in
     let s' = solved (length s.context) (order_without s.context p) p u in
     let A' = put (reordered (order_without s.context p)) (length s.context) m A in
     let u' = put (reordered (order_without s.context p)) (length s.context) m u in
-    moved-waits S n number level s (solved_state s i p A u) h [] (behind (length s.context) 1 m s' (over_first m (u' ∷ [])))
+    moved-awaits S n number level s (solved_state s i p A u) h [] (behind (length s.context) 1 m s' (over_first m (u' ∷ [])))
     (behind (length s.context) 1 m s' (over_first m (reflexivity i A' u' ∷ []))) (Behind s p u) (length s.context + 1) m 1 refl le
     (λ b e. (
       instance_of (solution_at s.context p u) b,
@@ -157,9 +157,9 @@ waits-solved S n number level s h i p A u less free le =
     (solved-there s i p A u h.last.right level h.right)
 
 -- the last equation is solved, where its right side is found to be the variable
-pub solves-last : (S : Signature) → HasClosedBodies S → (n number level : ℕ) (s : State) (h : Waits S n number level s) (i x : ℕ) (A u : Term)
+pub solves-last : (S : Signature) → HasClosedBodies S → (n number level : ℕ) (s : State) (h : AwaitsConstructor S n number level s) (i x : ℕ) (A u : Term)
     → x < length s.context → lacks s.context (level_of (length s.context) x) u ≡ true → Reaches S h.last.right (Var x) → HasConstructor S n number u
-    → HasIt S n number level (solved_state s i (level_of (length s.context) x) A u).solution
+    → HasConstructorAt S n number level (solved_state s i (level_of (length s.context) x) A u).solution
 solves-last S closed n number level s h i x A u less free reaches has =
     let p = level_of (length s.context) x in
     let q = solution_at s.context p u in
@@ -175,31 +175,31 @@ solves-last S closed n number level s h i x A u less free reaches has =
 
 -- ---- a deletion and an injectivity
 
-pub waits-deleted : (S : Signature) (n number level : ℕ) (s : State) (h : Waits S n number level s) (i : ℕ) (A u : Term) → 1 ≤ length h.before
-    → Waits S n number level (deleted_state s i A u)
-waits-deleted S n number level s h i A u le =
+pub awaits-deleted : (S : Signature) (n number level : ℕ) (s : State) (h : AwaitsConstructor S n number level s) (i : ℕ) (A u : Term) → 1 ≤ length h.before
+    → AwaitsConstructor S n number level (deleted_state s i A u)
+awaits-deleted S n number level s h i A u le =
     let m = length s.context in
-    moved-waits S n number level s (deleted_state s i A u) h [] (behind m 1 m variable (over_first m (u ∷ [])))
+    moved-awaits S n number level s (deleted_state s i A u) h [] (behind m 1 m variable (over_first m (u ∷ [])))
     (behind m 1 m variable (over_first m (reflexivity i A u ∷ []))) (λ t. t) (m + 1) m 1 refl le (λ b e. same-built S h.last.left b e) h.right
 
-waits-injected : (S : Signature) (n number level : ℕ) (s : State) (h : Waits S n number level s) (g k l : ℕ) (f : Family) (c : Constructor) (ps us vs : List Term)
-    → g ≤ length h.before → Waits S n number level (injected_state s g k l f c ps us vs)
-waits-injected S n number level s h g k l f c ps us vs le =
+awaits-injected : (S : Signature) (n number level : ℕ) (s : State) (h : AwaitsConstructor S n number level s) (g k l : ℕ) (f : Family) (c : Constructor) (ps us vs : List Term)
+    → g ≤ length h.before → AwaitsConstructor S n number level (injected_state s g k l f c ps us vs)
+awaits-injected S n number level s h g k l f c ps us vs le =
     let m = length s.context in
     let new = m + length c.arguments in
     let X = argument_items k ps c in
-    moved-waits S n number level s (injected_state s g k l f c ps us vs) h (equations_at X (equations X us vs) us vs)
+    moved-awaits S n number level s (injected_state s g k l f c ps us vs) h (equations_at X (equations X us vs) us vs)
     (behind m g new variable (over_first new (constructor_terms k l ps c)))
     (behind m g new variable (over_first new (group_proofs k l f c ps us vs))) (λ t. t) (m + g) new g refl le (λ b e. same-built S h.last.left b e) h.right
 
 -- the last of the equations that go out has constructors on both sides
-pub injected-tracks : (S : Signature) (n number level : ℕ) (s : State) (h : Waits S n number level s) (k : ℕ) (e : Equation) → slice_get s.equations k ≡ Some e
+pub injected-tracks : (S : Signature) (n number level : ℕ) (s : State) (h : AwaitsConstructor S n number level s) (k : ℕ) (e : Equation) → slice_get s.equations k ≡ Some e
     → (l : Term) (b : Built) (r : Term) (d : Built) → AreHeads S e.left e.right l b r d → b.number ≡ d.number
-    → (m j : ℕ) (f : Family) (c : Constructor) (ps us vs : List Term) → Tracks S n number level (injected_state s (k + 1) m j f c ps us vs)
+    → (m j : ℕ) (f : Family) (c : Constructor) (ps us vs : List Term) → HasOrAwaits S n number level (injected_state s (k + 1) m j f c ps us vs)
 injected-tracks S n number level s h k e at l b r d is same m j f c ps us vs = by (standing S n number level s h k e at)
   where
-    by : (k + 1 ≤ length h.before) ⊎ (h.last ≡ e) → Tracks S n number level (injected_state s (k + 1) m j f c ps us vs)
-    by (inl le) = inr (waits-injected S n number level s h (k + 1) m j f c ps us vs le)
+    by : (k + 1 ≤ length h.before) ⊎ (h.last ≡ e) → HasOrAwaits S n number level (injected_state s (k + 1) m j f c ps us vs)
+    by (inl le) = inr (awaits-injected S n number level s h (k + 1) m j f c ps us vs le)
     by (inr last) =
         let left : HasConstructor S n number e.left = transport (λ (x : Equation). HasConstructor S n number x.left) last (left-has S n number level s h) in
         let (b', (found, (family, constructor))) = constructor-form S n number e.left l left is.left in
@@ -220,7 +220,7 @@ injected-tracks S n number level s h k e at l b r d is same m j f c ps us vs = b
 -- ---- where it is there already it stays, at any step of the rules
 
 pub has-stepped : (S : Signature) → HasClosedBodies S → (n number level : ℕ) (s t : State) (step : Step) → Steps S s step t
-    → HasIt S n number level s.solution → HasIt S n number level t.solution
+    → HasConstructorAt S n number level s.solution → HasConstructorAt S n number level t.solution
 has-stepped S closed n number level s _ _ (rule.solve_right _ e x A u first solvable) h =
     let less : x < length s.context = solvable.variable in
     has-solved S closed n number level s e.place.level (level_of (length s.context) x) A u (omega arith) solvable.term h

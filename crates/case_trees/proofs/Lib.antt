@@ -5,6 +5,7 @@ pub mod Comparing
 pub mod ConstructorForms
 pub mod ConstructorStates
 pub mod ConstructorTurns
+pub mod GoingSolutions
 pub mod GoingTurns
 pub mod HeadChains
 pub mod HeadForms
@@ -19,6 +20,7 @@ pub mod LiveClauses
 pub mod LiveGoing
 pub mod Looks
 pub mod MoreUnits
+pub mod MoreUnitsLooks
 pub mod MoreUnitsRuns
 pub mod MoreUnitsSearches
 pub mod MoreUnitsTurns

@@ -1,4 +1,4 @@
--- The patterns that are left in the clauses of a node: working leaves no more of them, and fewer behind a solved problem of the first
+-- The patterns that are left in the clauses of a node: working leaves no more of them, and fewer after a solved problem of the first
 -- clause's open pair.
 use Rattle.std.proofs.Common.{◌≡◌, ℕ, suc, ◌+◌, ◌≤◌, Bool, true, false, cond, Result, Ok, Err, IfOk, List, [], ◌∷◌, refl, ap, ap₂, ◌∙◌, arith}
 use Rattle.theory.specs.Terms.{Term}
@@ -71,7 +71,7 @@ live-become-scoped S n ready _ _ (drops c live others new all clash rest) h = li
 live-become-scoped S n ready _ _ (keeps c live others new all clean rest) h =
     (all-become-scoped S n ready.scoped c.pairs new all h.0, live-become-scoped S n ready live others rest h.1)
 
--- ---- behind a solution
+-- ---- after a solution
 
 -- the clauses with `f` of each term
 abbrev pub live_with_terms : (f : Term → Term) → List Live → List Live

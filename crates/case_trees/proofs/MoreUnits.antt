@@ -1,4 +1,4 @@
--- With more units a call answers as it did, unless there were too few, and so many more are left: calls one behind the other, and
+-- With more units a call answers as it did, unless there were too few, and so many more are left: calls one after the other, and
 -- those of reduction.
 use Rattle.std.proofs.Common.{◌≡◌, ◌⊎◌, inl, inr, ℕ, zero, suc, ◌+◌, ◌-◌, ◌<◌, ◌≤◌, Bool, true, false, ◌&&◌, cond, Option, Some, None, Result, Ok, Err, refl, sym, ap, ◌∙◌, subst as transport, arith}
 use Rattle.std.proofs.lemmas.Result.{IfOk-at_ok}
@@ -27,7 +27,7 @@ on_answer-lasts fuel more (Ok a) n second go other h k = λ fine.
 on_answer-lasts fuel more (Err e) n second go other h k = λ fine.
     ap (λ call. and_next call other) (h (λ none. fine (ap (λ r. and_then r (λ a. Err fuel)) none)))
 
--- one call behind another one
+-- one call after another one
 pub and_next-lasts : {A B E : Type 0} (fuel : E) (more : ℕ) (first second : SpentOr E A) (go other : A → ℕ → SpentOr E B) → Lasts fuel more first second
     → ((a : A) (rest : ℕ) → Lasts fuel more (go a rest) (other a (rest + more))) → Lasts fuel more (and_next first go) (and_next second other)
 and_next-lasts fuel more first second go other h k = on_answer-lasts fuel more first.0 first.1 second go other h k

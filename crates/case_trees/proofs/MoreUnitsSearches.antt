@@ -39,7 +39,7 @@ built-lower : (S : Signature) (t : Term) (b : Built) → built_of S t ≡ Some b
 built-lower S t b e =
     transport (AreLower (height t)) (sym (found S t b e).arguments) (All-drop (λ u. height u < height t) (length b.family.parameters) (spine_of t) (spine-lower t))
 
--- ---- one call behind another one, of which something is known
+-- ---- one call after another one, of which something is known
 
 next-lasts : {A B : Type 0} (P : A → ℕ → Type 0) (more : ℕ) (first second : Spent A) (go other : A → ℕ → Spent B) (left : ℕ) → Within left P first
     → Lasts Fuel more first second → ((a : A) (rest : ℕ) → rest ≤ left → P a rest → Lasts Fuel more (go a rest) (other a (rest + more)))

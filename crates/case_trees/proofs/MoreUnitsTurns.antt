@@ -27,7 +27,7 @@ use Rattle.case_trees.proofs.MoreUnits.{answers-last, and_next-lasts, cond-lasts
 abbrev TrialLasts : Trial → Type 0
 TrialLasts trial = AlwaysLasts Fuel trial
 
--- ---- trials one behind the other
+-- ---- trials one after the other
 
 unless_found-lasts : (found : Option Turn) (second : Trial) → TrialLasts second → TrialLasts (unless_found found second)
 unless_found-lasts (Some turn) second h = λ left more fine. refl

@@ -41,7 +41,7 @@ use Rattle.case_trees.specs.Laws.{SolvedIsBuilt}
 use Rattle.case_trees.specs.Problems.{Member, member_with, member_at, member_of, problem_of}
 use Rattle.case_trees.proofs.Arguments.{head-applied, spine-applied}
 use Rattle.case_trees.proofs.ConstructorForms.{built-at}
-use Rattle.case_trees.proofs.ConstructorStates.{HasIt, Waits, Tracks}
+use Rattle.case_trees.proofs.ConstructorStates.{HasConstructorAt, AwaitsConstructor, HasOrAwaits}
 use Rattle.case_trees.proofs.ConstructorTurns.{turn-tracks}
 use Rattle.case_trees.proofs.GoingTurns.{MayGo}
 use Rattle.case_trees.proofs.SolvedOrigins.{variable-at}
@@ -50,7 +50,7 @@ use Rattle.case_trees.proofs.SolvedOrigins.{variable-at}
 
 -- where the outcome is a solution, it has the constructor at the level
 abbrev SolvedHas : Signature → (n number level : ℕ) → Outcome → Type 0
-SolvedHas S n number level (outcome.Solved steps context solution) = HasIt S n number level solution
+SolvedHas S n number level (outcome.Solved steps context solution) = HasConstructorAt S n number level solution
 SolvedHas S n number level (outcome.Absurd steps context u v) = Unit {0}
 SolvedHas S n number level (outcome.Stuck steps context u v why) = Unit {0}
 
@@ -63,18 +63,18 @@ before-has S n number level step (outcome.Absurd steps context u v) h = tt
 before-has S n number level step (outcome.Stuck steps context u v why) h = tt
 
 -- with no equation left the constructor is there
-none-waits : (S : Signature) (n number level : ℕ) (s : State) → s.equations ≡ [] → Tracks S n number level s → HasIt S n number level s.solution
-none-waits S n number level s none (inl has) = has
-none-waits S n number level s none (inr waits) =
+none-awaited : (S : Signature) (n number level : ℕ) (s : State) → s.equations ≡ [] → HasOrAwaits S n number level s → HasConstructorAt S n number level s.solution
+none-awaited S n number level s none (inl has) = has
+none-awaited S n number level s none (inr waits) =
     let count : length (waits.before ++ waits.last ∷ []) ≡ 0 = ap length (sym waits.whole ∙ none) in
     absurd (omega (arith, length-append waits.before (waits.last ∷ [])))
 
 run-has : (S : Signature) (n number level : ℕ) → IsReady S → (s : State) (left end : ℕ) (result : Result Outcome Stop) → IsScopedState S s
-    → Tracks S n number level s → Run S s left result end → IfOk result (SolvedHas S n number level)
+    → HasOrAwaits S n number level s → Run S s left result end → IfOk result (SolvedHas S n number level)
 run-has S n number level ready s left end result scoped tracks (run.ends _ _ rest turn o is e) = transport (EndHas S n number level) e (by turn is)
   where
     by : (turn : Turn) → turn_of S s left ≡ (Ok (Some turn), rest) → EndHas S n number level (end_of s turn)
-    by Done is = none-waits S n number level s ((turn-at S s left rest Done is).right ready scoped).follows tracks
+    by Done is = none-awaited S n number level s ((turn-at S s left rest Done is).right ready scoped).follows tracks
     by (Goes step t) is = tt
     by (Fails step u v) is = tt
     by (Sticks why u v) is = tt
@@ -82,7 +82,7 @@ run-has S n number level ready s left end result scoped tracks (run.refused _ _ 
 run-has S n number level ready s left end result scoped tracks (run.goes _ t _ rest _ step result' is further) =
     behind result'
     (run-has S n number level ready t rest end result' ((turn-at S s left rest (Goes step t) is).right ready scoped).good.0.1
-    (transport (λ r. IfOk r (MayGo (Tracks S n number level))) (ap (λ (r : Result (Option Turn) Stop × ℕ). r.0) is) (turn-tracks S n number level s ready scoped tracks left)) further)
+    (transport (λ r. IfOk r (MayGo (HasOrAwaits S n number level))) (ap (λ (r : Result (Option Turn) Stop × ℕ). r.0) is) (turn-tracks S n number level s ready scoped tracks left)) further)
   where
     behind : (r : Result Outcome Stop) → IfOk r (SolvedHas S n number level) → IfOk (behind_step step r) (SolvedHas S n number level)
     behind (Ok o) h = before-has S n number level step o h
@@ -147,7 +147,7 @@ member-family S _ spine m e = absurd (grind arith)
 starts : (S : Signature) (context : Telescope) (x : ℕ) (type : Term) (m : Member) (number : ℕ) (c : Constructor) → IsScopedProblem S (problem_of context x m number c)
     → x < length context → member_of S type ≡ Some m → slice_get m.family.constructors number ≡ Some c
     → (types : Telescope) → length types ≡ length (problem_of context x m number c).telescope
-    → Waits S m.n number (length context - (x + 1)) (starting (problem_of context x m number c) types)
+    → AwaitsConstructor S m.n number (length context - (x + 1)) (starting (problem_of context x m number c) types)
 starts S context x type m number c scoped less member there types counted =
     let p = problem_of context x m number c in
     let count = length c.arguments in
@@ -205,13 +205,13 @@ taken-at n us k t le less e =
     sym (slice_get-append (take n us) (drop n us) k low) ∙ (ap (λ ts. slice_get ts k) (take-append-drop n us) ∙ e)
 
 solved-has : (S : Signature) (p : Problem) (n number level units : ℕ) (steps : List Step) (new : Telescope) (solution : List Term) → IsReady S → IsScopedProblem S p
-    → ((types : Telescope) → length types ≡ length p.telescope → Waits S n number level (starting p types))
-    → (unify_of S p units).0 ≡ Ok (outcome.Solved steps new solution) → HasIt S n number level solution
+    → ((types : Telescope) → length types ≡ length p.telescope → AwaitsConstructor S n number level (starting p types))
+    → (unify_of S p units).0 ≡ Ok (outcome.Solved steps new solution) → HasConstructorAt S n number level solution
 solved-has S p n number level units steps new solution ready scoped waits e =
     IfOk-at_ok (SolvedHas S n number level) e
     (unify-has S p units (SolvedHas S n number level) (λ s start.
     run-has S n number level ready s units (run_of S s units).1 (run_of S s units).0 (IfOk-at_ok (IsScopedState S) start (start-scoped S p ready scoped))
-    (transport (λ (q : State). Tracks S n number level q) (sym (start-is p s start))
+    (transport (λ (q : State). HasOrAwaits S n number level q) (sym (start-is p s start))
     (inr (waits (equations p.telescope p.left p.right) (length-equations p.telescope p.left p.right))))
     (runs-end S s units)))
 

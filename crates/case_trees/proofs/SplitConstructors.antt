@@ -1,4 +1,4 @@
--- Behind a solved problem an open pair with its variable has the constructor, and what was scoped is scoped again.
+-- After a solved problem an open pair with its variable has the constructor, and what was scoped is scoped again.
 use Rattle.std.proofs.Common.{◌≡◌, ℕ, Some, IfOk, List, [], ◌++◌, length, take, slice_get, sym, subst as transport, arith}
 use Rattle.std.proofs.lemmas.List.Elements.{All-append, All-take, All-cons, All-nil}
 use Rattle.std.specs.List.{All}
@@ -68,7 +68,7 @@ solution-puts S O context pair x found number c steps new solution ready scoped 
       has = constructor-reached S found.member.n number (inst q pair.1) (inst q (Var x)) (chain-stays S q (closed-bodies S ready.scoped) pair.1 (Var x) reaches) put;
     }
 
--- the terms of pairs behind it
+-- the terms of pairs after it
 pub put-scoped : (S : Signature) (context : Telescope) (t : Term) (n number : ℕ) (new : Telescope) (solution : List Term) (pairs : Pairs)
     → IsPut S context t n number new solution → All (IsScoped S (length context)) (terms_in pairs)
     → All (IsScoped S (length new)) (terms_in (moved_pairs (take (length context) solution) pairs))

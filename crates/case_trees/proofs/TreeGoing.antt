@@ -75,7 +75,7 @@ GrowAlike S go other live =
     (next : Point) (moved : List Live) (rest : ℕ) → IsScopedTelescope S 0 next.context → LeaveFewer S (length next.context) moved (patterns_left live)
     → go next moved rest ≡ other next moved rest
 
--- a node behind a solution
+-- a node after a solution
 abbrev IsFewer : Signature → (k : ℕ) → Node → Type 0
 IsFewer S k node = IsScopedTelescope S 0 node.point.context × LeaveFewer S (length node.point.context) node.live k
 

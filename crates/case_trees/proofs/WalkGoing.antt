@@ -80,7 +80,7 @@ leading S pairs = record {
   Open = λ p pair. AsksIn S (length p.context) pairs pair;
 }
 
--- behind the solution of a pair that asks, fewer patterns are left
+-- after the solution of a pair that asks, fewer patterns are left
 pub fewer-left : (S : Signature) (n number : ℕ) (f : Term → Term) (pairs : Pairs) (pair : Pat × Term) (m : ℕ) → AsksIn S m pairs pair → HasConstructor S n number (f pair.1)
     → (new : Pairs) → AllBecome S (all_with_terms f pairs) new → some_clashes new ≡ false → suc (all_left new) ≤ all_left pairs
 fewer-left S n number f pairs pair m asks has new all clean = all-falls S n number f pairs new pair.0 pair.1 asks.there asks.asks has all clean

@@ -39,7 +39,7 @@ IsOfFamily pattern.Absurd n = Unit {0}
 IsOfFamily pat n = ⊥
 
 -- A clause of the list asks for a constructor of variable x, of family n, at a point in this context. The clause is not apart from the
--- terms there, as far as it has reduced them, and each clause before it is apart from them, as far as these were compared.
+-- terms there, as far as it has reduced them, and each clause before it is apart from them, as far as any clause was compared with them.
 pub record IsAskedFor (S : Signature) (start : Point) (clauses : Clauses) (context : Telescope) (x n : ℕ) : Type 0 where
   pub p : Point
   pub context_there : p.context ≡ context
