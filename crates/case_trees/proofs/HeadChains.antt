@@ -28,7 +28,7 @@ with-form S t left next (Some u) e h = by (next u).0 (h u)
     by (Ok w) k = record { reaches = more t u w e k.reaches; rests = k.rests }
     by (Err d) k = tt
 
-whnf-form : (S : Signature) (left : ℕ) (t : Term) → IfOk (whnf_of S true left t).0 (HeadForm S t)
+pub whnf-form : (S : Signature) (left : ℕ) (t : Term) → IfOk (whnf_of S true left t).0 (HeadForm S t)
 whnf-form S zero t = if_low-ok (HeadForm S t) (is_low t) _ zero (without-form S t (step_of S true t) refl)
 whnf-form S (suc left) t = if_low-ok (HeadForm S t) (is_low t) _ (suc left) (with-form S t left (whnf_of S true left) (step_of S true t) refl (whnf-form S left))
 
@@ -51,7 +51,7 @@ one-form S t w v h k = chain-one S t w v h.reaches k.reaches h.rests k.rests
 pub built-form : (S : Signature) (t : Term) (b : Built) → built_of S t ≡ Some b → HeadForm S t t
 built-form S t b e = record { reaches = here t; rests = built-rests S true t b e }
 
-chain-stays : (S : Signature) (s : ℕ → Term) → HasClosedBodies S → (t w : Term) → Reaches S t w → Reaches S (inst s t) (inst s w)
+pub chain-stays : (S : Signature) (s : ℕ → Term) → HasClosedBodies S → (t w : Term) → Reaches S t w → Reaches S (inst s t) (inst s w)
 chain-stays S s closed _ _ (here t) = here (inst s t)
 chain-stays S s closed _ _ (more t u w e rest) =
     more (inst s t) (inst s u) (inst s w) (by (step_of S true t) e (step-stays S true s closed t)) (chain-stays S s closed u w rest)

@@ -135,6 +135,15 @@ same-patterns pats qs n m right other e = ap patterns_of e
     patterns_of : Clause → Pats
     patterns_of (Is ps k r) = ps
 
+-- one clause more before those that are apart
+earlier-apart : (S : Signature) (pats : Pats) (binds : ℕ) (right : Right) (clauses : Clauses) (us : List Term) → are_apart S pats us ≡ true → (place : ℕ)
+    → ((j n : ℕ) (qs : Pats) (other : Right) → j < place → clause_at clauses j ≡ Some (Is qs n other) → are_apart S qs us ≡ true)
+    → (j n : ℕ) (qs : Pats) (other : Right) → j < suc place → clause_at (clause.cons (Is pats binds right) clauses) j ≡ Some (Is qs n other)
+    → are_apart S qs us ≡ true
+earlier-apart S pats binds right clauses us far place h zero n qs other less e =
+    transport (λ ps. are_apart S ps us ≡ true) (same-patterns pats qs binds n right other (some_is e)) far
+earlier-apart S pats binds right clauses us far place h (suc j) n qs other less e = h j n qs other (omega arith) e
+
 pub first-left : (S : Signature) (number : ℕ) (clauses : Clauses) (c : Live) (live : List Live) (us : List Term) → AreLeft S number clauses (c ∷ live) us
     → all_open c.pairs ≡ [] → IsFirst S number clauses c us
 first-left S _ _ _ _ us (left number pats binds right clauses pairs live _ whole has clean rest) done =
@@ -162,11 +171,24 @@ first-left S _ _ c live us (gone number pats binds right clauses _ _ far rest) d
       apart = earlier-apart S pats binds right clauses us far h.place h.apart;
       bound = h.bound;
     }
-  where
-    earlier-apart : (S : Signature) (pats : Pats) (binds : ℕ) (right : Right) (clauses : Clauses) (us : List Term) → are_apart S pats us ≡ true → (place : ℕ)
-        → ((j n : ℕ) (qs : Pats) (other : Right) → j < place → clause_at clauses j ≡ Some (Is qs n other) → are_apart S qs us ≡ true)
-        → (j n : ℕ) (qs : Pats) (other : Right) → j < suc place → clause_at (clause.cons (Is pats binds right) clauses) j ≡ Some (Is qs n other)
-        → are_apart S qs us ≡ true
-    earlier-apart S pats binds right clauses us far place h zero n qs other less e =
-        transport (λ ps. are_apart S ps us ≡ true) (same-patterns pats qs binds n right other (some_is e)) far
-    earlier-apart S pats binds right clauses us far place h (suc j) n qs other less e = h j n qs other (omega arith) e
+
+-- the first clause that is left clashes nowhere, and those before it are apart
+pub record IsLeading (S : Signature) (number : ℕ) (clauses : Clauses) (c : Live) (us : List Term) : Type 0 where
+  pub place : ℕ
+  pub at : c.number ≡ number + place
+  pub clean : some_clashes c.pairs ≡ false
+  pub apart : (j earlier_binds : ℕ) (earlier : Pats) (earlier_right : Right) → j < place → clause_at clauses j ≡ Some (Is earlier earlier_binds earlier_right)
+      → are_apart S earlier us ≡ true
+
+pub leading-left : (S : Signature) (number : ℕ) (clauses : Clauses) (c : Live) (live : List Live) (us : List Term) → AreLeft S number clauses (c ∷ live) us
+    → IsLeading S number clauses c us
+leading-left S _ _ _ _ us (left number pats binds right clauses pairs live _ whole has clean rest) =
+    record { place = zero; at = omega arith; clean = clean; apart = λ j n qs other less e. absurd (omega arith) }
+leading-left S _ _ c live us (gone number pats binds right clauses _ _ far rest) =
+    let h = leading-left S (number + 1) clauses c live us rest in
+    record {
+      place = suc h.place;
+      at = (let e : c.number ≡ number + 1 + h.place = h.at in omega arith);
+      clean = h.clean;
+      apart = earlier-apart S pats binds right clauses us far h.place h.apart;
+    }

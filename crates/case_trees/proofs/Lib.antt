@@ -2,6 +2,11 @@ pub mod Answered
 pub mod Arguments
 pub mod Clashing
 pub mod Comparing
+pub mod ConstructorForms
+pub mod ConstructorStates
+pub mod ConstructorTurns
+pub mod GoingSolutions
+pub mod GoingTurns
 pub mod HeadChains
 pub mod HeadForms
 mod HeightRows
@@ -10,8 +15,16 @@ pub mod KeptConversion
 pub mod KeptTerms
 pub mod Leading
 pub mod LeftClauses
+pub mod LeftPatterns
 pub mod LiveClauses
+pub mod LiveGoing
 pub mod Looks
+pub mod MoreUnits
+pub mod MoreUnitsLooks
+pub mod MoreUnitsRuns
+pub mod MoreUnitsSearches
+pub mod MoreUnitsTurns
+pub mod MoreUnitsWalks
 pub mod OriginLaws
 pub mod OwnPlaces
 pub mod OwnTerms
@@ -24,17 +37,21 @@ pub mod ScopedProblems
 pub mod ScopedWalks
 pub mod ScopedWorking
 pub mod SharedTerms
+pub mod SolvedConstructors
 pub mod SolvedOrders
 pub mod SolvedOrigins
 pub mod SpentUnits
+pub mod SplitConstructors
 pub mod StableSteps
 pub mod TidiedSteps
+pub mod TreeGoing
 mod TreeRows
 pub mod TreeLooks
 pub mod TreeMatching
 pub mod TreeStanding
 pub mod TreeUnits
 pub mod WalkEnding
+pub mod WalkGoing
 pub mod WalkLeading
 pub mod WalkLooks
 mod WalkRows

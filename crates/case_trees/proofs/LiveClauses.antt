@@ -1,9 +1,11 @@
 -- The clauses that are left at a node, each with the terms that it has reduced.
 use Rattle.std.proofs.Common.{◌≡◌, ℕ, suc, ◌+◌, Bool, true, false, cond, Some, Result, Ok, Err, IfOk, List, [], ◌∷◌, map, sym, subst as transport, arith}
+use Rattle.std.specs.List.{All}
 use Rattle.theory.specs.Terms.{Term}
 use Rattle.theory.specs.Substitutions.{fill}
 use Rattle.theory.specs.Eliminators.{no_variable}
 use Rattle.theory.specs.Signatures.{Signature, HasClosedBodies}
+use Rattle.theory.specs.SignatureScopes.{IsScoped}
 use Rattle.core_terms.specs.Answers.{and_then}
 use Rattle.core_terms.specs.Patterns.{Pats}
 use Rattle.core_terms.specs.Clauses as clause
@@ -41,6 +43,11 @@ pub record IsLiveAt (S : Signature) (clauses : Clauses) (plain : List Term) (c :
 abbrev pub AreLiveAt : Signature → Clauses → (plain : List Term) → List Live → Type 0
 AreLiveAt S clauses plain [] = Unit {0}
 AreLiveAt S clauses plain (c ∷ live) = IsLiveAt S clauses plain c × AreLiveAt S clauses plain live
+
+-- the terms of each of the clauses are scoped
+abbrev pub AreLiveScoped : Signature → ℕ → List Live → Type 0
+AreLiveScoped S n [] = Unit {0}
+AreLiveScoped S n (c ∷ live) = All (IsScoped S n) (terms_in c.pairs) × AreLiveScoped S n live
 
 -- each of the clauses is worked
 abbrev pub AllWorked : Signature → List Live → Type 0

@@ -21,7 +21,7 @@ use Rattle.case_trees.specs.HeadSteps.{Reaches, HeadForm}
 use Rattle.case_trees.specs.Kept as kept
 use Rattle.case_trees.specs.Kept.{KeptFrom, KeptAll, at_arguments}
 
-chain-scoped : (S : Signature) (n : ℕ) → IsScopedSignature S → (t w : Term) → Reaches S t w → IsScoped S n t → IsScoped S n w
+pub chain-scoped : (S : Signature) (n : ℕ) → IsScopedSignature S → (t w : Term) → Reaches S t w → IsScoped S n t → IsScoped S n w
 chain-scoped S n scoped _ _ (chain.here t) h = h
 chain-scoped S n scoped _ _ (chain.more t u w e rest) h =
     chain-scoped S n scoped u w rest (transport (λ o. IfSome o (IsScoped S n)) e (step-scoped S true n t scoped h))

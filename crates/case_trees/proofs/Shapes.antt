@@ -1,7 +1,6 @@
 -- Pairs keep to the patterns of their clause.
-use Rattle.std.proofs.Common.{◌≡◌, ℕ, Bool, true, false, ◌||◌, ◌==◌, Some, List, [], ◌∷◌, ◌++◌, length, map, refl, ap, ap₂, sym, ◌∙◌, arith}
-use Rattle.std.proofs.lemmas.Bool.{false≢true, true≢false, and_from, or_left, or_parts}
-use Rattle.std.proofs.lemmas.Bool.Decides.{nat_tests}
+use Rattle.std.proofs.Common.{◌≡◌, ℕ, true, false, Some, List, [], ◌∷◌, ◌++◌, length, map, refl, ap, ap₂, sym, ◌∙◌, arith}
+use Rattle.std.proofs.lemmas.Bool.{false≢true, true≢false, and_from, or_parts}
 use Rattle.std.proofs.lemmas.List.{map-append}
 use Rattle.theory.specs.Terms.{Term, Con}
 use Rattle.theory.specs.Substitutions.{inst}
@@ -16,8 +15,6 @@ use Rattle.pattern_vectors.specs.Columns.{IsWhole, AreWhole}
 use Rattle.pattern_vectors.specs.Matching.{is_as_long, is_constructor, matches, matches_all, matches_built, is_apart}
 use Rattle.unification.proofs.Constructors.{found-constructor, instance_of, built-instance}
 use Rattle.pattern_vectors.proofs.Opens.{as-long-counted, numbers-same}
-use Rattle.pattern_vectors.proofs.Staying.{apart-stays}
-use Rattle.pattern_vectors.proofs.Separate.{and-both}
 use Rattle.case_trees.specs.Pairs.{Pair, Pairs, Waits, Binds, Passes, Keeps, Builds, Clashes, nil, cons, waiting, term_in, terms_in, clashes, some_clashes, open_in, all_open, with_terms, all_with_terms}
 use Rattle.case_trees.proofs.Workings as work
 use Rattle.case_trees.proofs.Workings.{ReducesTo, Works, WorkAll, Becomes, AllBecome}

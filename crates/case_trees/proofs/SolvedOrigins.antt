@@ -130,7 +130,7 @@ each-at f at (suc count) (suc k) a e =
     let next : at + 1 + k ≡ at + suc k = omega arith in
     (omega arith, same ∙ ap f next)
 
-variable-at : (m k : ℕ) → k < m → slice_get (variables m) k ≡ Some (Var (m - (k + 1)))
+pub variable-at : (m k : ℕ) → k < m → slice_get (variables m) k ≡ Some (Var (m - (k + 1)))
 variable-at zero k low = absurd (omega arith)
 variable-at (suc m) zero low = let same : m ≡ suc m - (0 + 1) = omega arith in ap (λ i. Some (Var i)) same
 variable-at (suc m) (suc k) low =

@@ -103,7 +103,7 @@ with-reaches S t left next (Some u) e h = by (next u).0 (h u)
     by (Ok w) k = more t u w e k
     by (Err d) k = tt
 
-tidy-reaches : (S : Signature) (left : ℕ) (t : Term) → IfOk (whnf_of S false left t).0 (Reaches S t)
+pub tidy-reaches : (S : Signature) (left : ℕ) (t : Term) → IfOk (whnf_of S false left t).0 (Reaches S t)
 tidy-reaches S zero t = if_low-ok (Reaches S t) (is_low t) _ zero (without-reaches S t (step_of S false t))
 tidy-reaches S (suc left) t =
     if_low-ok (Reaches S t) (is_low t) _ (suc left) (with-reaches S t left (whnf_of S false left) (step_of S false t) (with-delta S t) (tidy-reaches S left))

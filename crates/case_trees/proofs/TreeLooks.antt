@@ -1,5 +1,5 @@
 -- Where a tree is split, and what ends it there: it is scoped, and has its cause at the clause that asks.
-use Rattle.std.proofs.Common.{◌≡◌, ℕ, ◌+◌, Some, option_and_then, List, length, sym, ap, ◌∙◌, subst as transport, arith}
+use Rattle.std.proofs.Common.{◌≡◌, ℕ, ◌+◌, option_and_then, List, length, sym, ap, ◌∙◌, subst as transport, arith}
 use Rattle.theory.specs.Terms.{Term, Var}
 use Rattle.theory.specs.Signatures.{Signature}
 use Rattle.theory.specs.SignatureScopes.{IsScoped}
@@ -59,26 +59,30 @@ ended-commonly : (S : Signature) (start : Point) (clauses : Clauses) (p : Point)
 ended-commonly S start clauses p c h e scoped k =
     record { scoped = scoped; caused = cause.common c.number h.live.binds h.live.pats h.live.right e h.live.there k }
 
-pub record SplitHas (S : Signature) (p : Point) (s : SplitAt) : Type 0 where
+-- one of the pairs with O is split
+pub record SplitHas (S : Signature) (O : (Pat × Term) → Type 0) (p : Point) (s : SplitAt) : Type 0 where
+  pub pair : Pat × Term
+  pub at : LookedAt S O p.context pair s.variable s.looked
   pub split : IsSplit S p s.variable s.looked
   pub type : IsScoped S (length p.context) s.looked.type
   pub runs : AllRun S p.context s.variable s.looked.member 0 s.looked.member.family.constructors s.runs
 
 pub looks-split : (S : Signature) (start : Point) (clauses : Clauses) (p : Point) (c : Live) (h : IsAsker S start clauses p c) → IsReady S → IsScopedPoint S p
-    → LookHolds (SplitHas S p) (IsTreeEnd S start clauses) (IsOpenIn S (length p.context) h.live.pats (terms_in c.pairs)) S c.number (look S c.number p.context)
+    → LookHolds (SplitHas S (IsOpenIn S (length p.context) h.live.pats (terms_in c.pairs)) p) (IsTreeEnd S start clauses)
+    (IsOpenIn S (length p.context) h.live.pats (terms_in c.pairs)) S c.number (look S c.number p.context)
 looks-split S start clauses p c h ready scoped = λ pair x left o tidy.
-    and_next-holds (LookedAt S Open p.context pair x) (LookHas (SplitHas S p) Q c.number) Q (look_at_type S c.number p.context pair.0 x left) _
+    and_next-holds (LookedAt S Open p.context pair x) (LookHas (SplitHas S Open p) Q c.number) Q (look_at_type S c.number p.context pair.0 x left) _
     (type-holds S c.number Open Q p.context pair x left (tree-halts S start clauses) o tidy (λ type to none.
     ended-commonly S start clauses p c h (stop.WrongConstructor c.number p.context type)
     (scoped.context, type-there S p pair.1 x type ready scoped o.scoped tidy to)
     (cause.wrong_constructor (record p { terms = h.at.plain }) pair.0 x type (asked S start clauses p c pair (Var x) h o tidy)
     (head-form-of S (type_of_variable p.context x) type to) (λ m e. sym (ap (option_and_then (if_expected pair.0)) e) ∙ none))))
     (λ found rest at.
-    and_next-holds (RunHas S p.context x found.member 0 found.member.family.constructors) (LookHas (SplitHas S p) Q c.number) Q
+    and_next-holds (RunHas S p.context x found.member 0 found.member.family.constructors) (LookHas (SplitHas S Open p) Q c.number) Q
     (run_all S p.context x found.member 0 found.member.family.constructors rest) _
     (all-run S p.context x found.member 0 found.member.family.constructors rest Q (tree-halts S start clauses))
     (λ runs end has.
-    by pair x found at.is_open at.tidies at.expected (looked-split S p pair x found ready scoped at.is_open.scoped at.tidies at.reduces at.member)
+    by pair x found at (looked-split S p pair x found ready scoped at.is_open.scoped at.tidies at.reduces at.member)
     (type-there S p pair.1 x found.type ready scoped at.is_open.scoped at.tidies at.reduces) runs has))
   where
     Q : TreeStop → Type 0
@@ -87,18 +91,17 @@ looks-split S start clauses p c h ready scoped = λ pair x left o tidy.
     Open : (Pat × Term) → Type 0
     Open = IsOpenIn S (length p.context) h.live.pats (terms_in c.pairs)
 
-    by : (pair : Pat × Term) (x : ℕ) (found : Looked) → Open pair → TidiesTo S pair.1 (Var x) → if_expected pair.0 found.member ≡ Some found.member
-        → IsSplit S p x found → IsScoped S (length p.context) found.type → (runs : Look (List Ran))
-        → RunHas S p.context x found.member 0 found.member.family.constructors runs → LookHas (SplitHas S p) Q c.number (as_split x found runs)
-    by pair x found o tidy expected split type (Found runs) has = record { split = split; type = type; runs = has }
-    by pair x found o tidy expected split type (Passed r) has =
+    by : (pair : Pat × Term) (x : ℕ) (found : Looked) → LookedAt S Open p.context pair x found → IsSplit S p x found → IsScoped S (length p.context) found.type → (runs : Look (List Ran))
+        → RunHas S p.context x found.member 0 found.member.family.constructors runs → LookHas (SplitHas S Open p) Q c.number (as_split x found runs)
+    by pair x found at split type (Found runs) has = record { pair = pair; at = at; split = split; type = type; runs = has }
+    by pair x found at split type (Passed r) has =
         let from_zero : 0 + has.place ≡ has.place = omega arith in
         let runs : Runs S (problem_of p.context x found.member has.place has.c) (outcome.Stuck has.steps r.context r.left r.right r.why) =
         transport (λ j. Runs S (problem_of p.context x found.member j has.c) (outcome.Stuck has.steps r.context r.left r.right r.why)) from_zero has.runs in
         let out = problem-outcome S p x found has.place has.c (outcome.Stuck has.steps r.context r.left r.right r.why) ready scoped split has.there runs in
         ended-commonly S start clauses p c h (stop.Stuck c.number r.context r.left r.right r.why) (out.1, out.2, out.3)
         (cause.stuck (record p { terms = h.at.plain }) pair.0 x found.member has.place has.c has.steps r.context r.left r.right r.why
-        (asked S start clauses p c pair (Var x) h o tidy) expected tt
+        (asked S start clauses p c pair (Var x) h at.is_open at.tidies) at.expected tt
         (record { type = found.type; node = h.at.node; family = split.family; constructor = has.there }) runs)
 
 -- a pair without a variable

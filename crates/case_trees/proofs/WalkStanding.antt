@@ -1,5 +1,6 @@
 -- Where a walk ends: at a point that solved problems lead to, matched by its clause, or at a variable for which no constructor can be there.
-use Rattle.std.proofs.Common.{◌≡◌, ◌≢◌, ℕ, ◌+◌, ◌<◌, ◌≤◌, true, false, Some, None, IfOk, List, [], ◌∷◌, ◌++◌, length, map, slice_get, sym, ap, ◌∙◌, subst as transport, arith}
+use Rattle.std.proofs.Common.{◌≡◌, ◌≢◌, ℕ, ◌+◌, ◌<◌, ◌≤◌, ◌&&◌, ◌||◌, Bool, true, false, cond, Some, None, IfOk, List, [], ◌∷◌, ◌++◌, length, map, slice_get, refl, sym, ap, ap₂, ◌∙◌, subst as transport, arith}
+use Rattle.std.proofs.lemmas.Bool.{true≢false, or_parts}
 use Rattle.std.proofs.lemmas.List.Elements.{All-head, All-tail}
 use Rattle.std.specs.List.{All}
 use Rattle.theory.specs.Terms.{Term, Var, Con}
@@ -16,6 +17,7 @@ use Rattle.kernel_reduce.specs.Laws.{IsHeadForm}
 use Rattle.kernel_reduce.proofs.ReductionLaws.{whnf-is_head_form}
 use Rattle.kernel_reduce.proofs.ScopedReduction.{whnf-scoped}
 use Rattle.tele_eq.specs.ReflexivityLaws.{EachConverts}
+use Rattle.pattern_vectors.specs.Matching.{is_as_long, is_there, is_apart_from, is_apart, has_apart, are_apart}
 use Rattle.unification.specs.Built.{built_of}
 use Rattle.unification.specs.Solutions.{variable_in}
 use Rattle.unification.specs.Outcomes as outcome
@@ -23,7 +25,7 @@ use Rattle.unification.specs.Outcomes.{Outcome}
 use Rattle.unification.specs.ScopedStates.{IsReady, IsScopedOutcome}
 use Rattle.unification.proofs.OutcomeScopes.{outcome-scoped}
 use Rattle.unification.proofs.UnderInstances.{closed-bodies, each-same, each-inst}
-use Rattle.case_trees.specs.Pairs.{Pair, Pairs, Waits, Binds, Passes, Keeps, Builds, Clashes, nil, cons, term_in, terms_in, open_in, all_open}
+use Rattle.case_trees.specs.Pairs.{Pair, Pairs, Waits, Binds, Passes, Keeps, Builds, Clashes, nil, cons, term_in, terms_in, clashes, some_clashes, open_in, all_open}
 use Rattle.case_trees.specs.Points.{Point, under_solution, moved_point, solution_for}
 use Rattle.case_trees.specs.Problems.{member_of, type_of_variable, problem_of}
 use Rattle.case_trees.specs.Looking.{Looked}
@@ -46,15 +48,15 @@ use Rattle.case_trees.proofs.ScopedProblems.{IsMemberIn, member-in, type_of-scop
 
 -- ---- open pairs
 
-pairs-append : (O : (Pat × Term) → Type 0) (first rest : List (Pat × Term)) → AllPairs O first → AllPairs O rest → AllPairs O (first ++ rest)
+pub pairs-append : (O : (Pat × Term) → Type 0) (first rest : List (Pat × Term)) → AllPairs O first → AllPairs O rest → AllPairs O (first ++ rest)
 pairs-append O [] rest h k = k
 pairs-append O (pair ∷ first) rest h k = (h.0, pairs-append O first rest h.1 k)
 
-pairs-weaker : (O P : (Pat × Term) → Type 0) (pairs : List (Pat × Term)) → ((pair : Pat × Term) → O pair → P pair) → AllPairs O pairs → AllPairs P pairs
+pub pairs-weaker : (O P : (Pat × Term) → Type 0) (pairs : List (Pat × Term)) → ((pair : Pat × Term) → O pair → P pair) → AllPairs O pairs → AllPairs P pairs
 pairs-weaker O P [] h all = tt
 pairs-weaker O P (pair ∷ pairs) h all = (h pair all.0, pairs-weaker O P pairs h all.1)
 
-pairs-both : (O P : (Pat × Term) → Type 0) (pairs : List (Pat × Term)) → AllPairs O pairs → AllPairs P pairs → AllPairs (λ pair. O pair × P pair) pairs
+pub pairs-both : (O P : (Pat × Term) → Type 0) (pairs : List (Pat × Term)) → AllPairs O pairs → AllPairs P pairs → AllPairs (λ pair. O pair × P pair) pairs
 pairs-both O P [] h k = tt
 pairs-both O P (pair ∷ pairs) h k = ((h.0, k.0), pairs-both O P pairs h.1 k.1)
 
@@ -70,7 +72,7 @@ mutual
   open-scoped S n (Keeps written t) h = tt
   open-scoped S n (Clashes pat t) h = tt
 
-  all-open-scoped : (S : Signature) (n : ℕ) (pairs : Pairs) → All (IsScoped S n) (terms_in pairs) → AllPairs (λ o. IsScoped S n o.1) (all_open pairs)
+  pub all-open-scoped : (S : Signature) (n : ℕ) (pairs : Pairs) → All (IsScoped S n) (terms_in pairs) → AllPairs (λ o. IsScoped S n o.1) (all_open pairs)
   all-open-scoped S n nil h = tt
   all-open-scoped S n (cons pair pairs) h =
       pairs-append (λ o. IsScoped S n o.1) (open_in pair) (all_open pairs)
@@ -119,7 +121,7 @@ mutual
   pair-asks S (Clashes pat t) worked = tt
 
   -- an open pair asks for a constructor, and the head form of its term is none
-  open-asks : (S : Signature) (pairs : Pairs) → AreWorked S pairs → AllPairs (λ o. IsAsking o.0 × HasNone S o.1) (all_open pairs)
+  pub open-asks : (S : Signature) (pairs : Pairs) → AreWorked S pairs → AllPairs (λ o. IsAsking o.0 × HasNone S o.1) (all_open pairs)
   open-asks S nil worked = tt
   open-asks S (cons pair pairs) worked =
       pairs-append (λ o. IsAsking o.0 × HasNone S o.1) (open_in pair) (all_open pairs) (pair-asks S pair worked.0) (open-asks S pairs worked.1)
@@ -140,6 +142,44 @@ all-open-in S n pats pairs shapes worked scoped =
     (all-open-scoped S n pairs scoped)
     (pairs-both (λ o. SomeOpenAt S pats (terms_in pairs) o.0 o.1) (λ o. IsAsking o.0 × HasNone S o.1) (all_open pairs)
     (some-open S pats pairs shapes worked) (open-asks S pairs worked)))
+
+-- ---- what clashes nowhere is not apart
+
+asking-apart : (S : Signature) (pat : Pat) (t : Term) → IsAsking pat → built_of S t ≡ None → is_apart S pat t ≡ false
+asking-apart S (pattern.Con n number pats) t asks e = ap (is_apart_from n number pats (has_apart S pats)) e
+asking-apart S pattern.Absurd t asks e = ap is_there e
+asking-apart S pattern.Bind t asks e = absurd asks
+asking-apart S pattern.Wild t asks e = absurd asks
+asking-apart S (pattern.Dot written) t asks e = absurd asks
+
+and-false : (a b : Bool) → b ≡ false → (a && b) ≡ false
+and-false true b e = e
+and-false false b e = refl
+
+mutual
+  pair-apart : (S : Signature) (pat : Pat) (pair : Pair) → HasShape S pat pair → IsWorked S pair → clashes pair ≡ false → is_apart S pat (term_in pair) ≡ false
+  pair-apart S _ _ (shape.waits pat t) worked clean = asking-apart S pat t worked.0 (is-none S t worked.1)
+  pair-apart S _ _ (shape.binds t) worked clean = refl
+  pair-apart S _ _ (shape.passes t) worked clean = refl
+  pair-apart S _ _ (shape.keeps written t) worked clean = refl
+  pair-apart S _ _ (shape.builds n number pats b pairs e same args shapes) worked clean =
+      ap (is_apart_from n number pats (has_apart S pats)) e
+      ∙ (ap (λ test. cond test (is_as_long pats b.arguments && has_apart S pats b.arguments) true) same
+      ∙ and-false (is_as_long pats b.arguments) (has_apart S pats b.arguments) (ap (has_apart S pats) args ∙ some-apart S pats pairs shapes worked clean))
+  pair-apart S _ _ (shape.apart pat t far) worked clean = absurd (true≢false clean)
+
+  some-apart : (S : Signature) (pats : Pats) (pairs : Pairs) → HaveShapes S pats pairs → AreWorked S pairs → some_clashes pairs ≡ false
+      → has_apart S pats (terms_in pairs) ≡ false
+  some-apart S _ _ shape.none worked clean = refl
+  some-apart S _ _ (shape.more pat pats pair pairs one others) worked clean =
+      let (first, rest) = or_parts (clashes pair) (some_clashes pairs) clean in
+      ap₂ (λ a b. a || b) (pair-apart S pat pair one worked.0 first) (some-apart S pats pairs others worked.1 rest)
+
+-- pairs that are worked and clash nowhere
+pub not-apart : (S : Signature) (pats : Pats) (pairs : Pairs) → HaveShapes S pats pairs → AreWorked S pairs → some_clashes pairs ≡ false
+    → are_apart S pats (terms_in pairs) ≡ false
+not-apart S pats pairs shapes worked clean =
+    and-false (is_as_long pats (terms_in pairs)) (has_apart S pats (terms_in pairs)) (some-apart S pats pairs shapes worked clean)
 
 -- ---- points
 

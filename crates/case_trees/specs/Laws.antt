@@ -1,5 +1,5 @@
 -- What holds of walks and trees, whatever way they are found.
-use Rattle.std.specs.Prelude.{◌≡◌, ℕ, ◌+◌, ◌-◌, ◌<◌, ◌≤◌, true, false, Some, Err, IfOk, List, length, map, slice_get}
+use Rattle.std.specs.Prelude.{◌≡◌, ◌≢◌, ℕ, ◌+◌, ◌-◌, ◌<◌, ◌≤◌, true, false, Some, Ok, Err, IfOk, List, length, map, take, slice_get, All}
 use Rattle.theory.specs.Terms.{Term, Var}
 use Rattle.theory.specs.Substitutions.{inst}
 use Rattle.theory.specs.Telescopes.{Telescope}
@@ -11,20 +11,28 @@ use Rattle.core_terms.specs.Clauses.{Clause, Clauses, Right, Is}
 use Rattle.core_terms.specs.CaseTrees.{Step, Walk, Tree}
 use Rattle.core_terms.specs.declared.case_tree.Origin.{Origin}
 use Rattle.core_terms.specs.declared.case_tree.Origin.TheVariants.{Old, Arg}
+use Rattle.core_terms.specs.declared.stop.Stop.TheVariants.{Fuel}
 use Rattle.kernel_reduce.specs.Laws.{IsHeadForm}
 use Rattle.tele_eq.specs.ReflexivityLaws.{EachConverts}
 use Rattle.pattern_vectors.specs.Matching.{matches_all, are_apart}
-use Rattle.unification.specs.Outcomes.{Solved}
+use Rattle.unification.specs.Outcomes.{Outcome, Solved}
 use Rattle.unification.specs.ScopedStates.{IsReady, IsScopedProblem}
+use Rattle.unification.specs.States.{Problem}
+use Rattle.case_trees.specs.Pairs.{Pairs}
 use Rattle.case_trees.specs.Points.{Point, start_at, under_solution}
 use Rattle.case_trees.specs.Problems.{Member, problem_of}
 use Rattle.case_trees.specs.Origins.{first_origins, origins_behind}
-use Rattle.case_trees.specs.Stops.{TreeStop}
-use Rattle.case_trees.specs.OwnWalks.{walked_dots, own_walk_of}
-use Rattle.case_trees.specs.Trees.{split_of}
+use Rattle.case_trees.specs.Stops as stop
+use Rattle.case_trees.specs.Stops.{TreeStop, answers}
+use Rattle.case_trees.specs.OwnWalks as walk
+use Rattle.case_trees.specs.OwnWalks.{walked_dots, walk_from, own_walk_of}
+use Rattle.case_trees.specs.Trees as tree
+use Rattle.case_trees.specs.Trees.{Live, tree_from, split_of}
 use Rattle.case_trees.specs.Places.{all_variable_places, all_variables_found, all_dot_places, clause_at}
+use Rattle.case_trees.specs.Splits.{EachSplit, IsAskedFor}
 use Rattle.case_trees.specs.Standing.{Runs, IsAbsurdProblem, HasFamily, StandsAt, IsNode, EachLeaf}
-use Rattle.case_trees.specs.Scoped.{IsScopedPoint, IsClauseFor, AreClausesFor, IsScopedWalk, IsScopedTree, IsScopedStop}
+use Rattle.case_trees.specs.Scoped.{IsScopedPoint, AreScopedPairs, IsClauseFor, AreClausesFor, IsScopedWalk, IsScopedTree, IsScopedStop}
+use Rattle.case_trees.specs.HeadSteps.{HasConstructor}
 use Rattle.case_trees.specs.Kept.{KeptAll}
 use Rattle.case_trees.specs.Asking.{SomeOpenAt}
 use Rattle.case_trees.specs.Causes.{WalkCause, TreeCause}
@@ -62,6 +70,51 @@ abbrev pub TreeSpends : Type 0
 TreeSpends =
     (S : Signature) (context : Telescope) (goal : Term) (terms : List Term) (clauses : Clauses) (left : ℕ) →
     (split_of S context goal terms clauses left).1 ≤ left
+
+-- A walk goes on as it began, however many of its patterns are done: its measure is never used up.
+abbrev pub WalkGoesOn : Type 0
+WalkGoesOn =
+    (S : Signature) (number : ℕ) (p : Point) (binds : ℕ) (pairs : Pairs) (left : ℕ) → IsReady S → IsScopedPoint S p →
+    AreScopedPairs S (length p.context) binds pairs →
+    walk_from S number p pairs left ≡ walk.one_turn S number (walk_from S number) p pairs left
+
+-- The same of a tree in each of its branches.
+abbrev pub TreeGoesOn : Type 0
+TreeGoesOn =
+    (S : Signature) (p : Point) (live : List Live) (left : ℕ) → IsReady S → IsScopedPoint S p →
+    All (λ c. (binds : ℕ) × AreScopedPairs S (length p.context) binds c.pairs) live →
+    tree_from S p live left ≡ tree.one_node S (tree_from S) p live left
+
+-- ---- units
+
+-- What a walk comes to, unless it wants units, it comes to with more of them too, and so many more are left.
+abbrev pub WalkWithMoreUnits : Type 0
+WalkWithMoreUnits =
+    (S : Signature) (context : Telescope) (goal : Term) (terms : List Term) (c : Clause) (number left more : ℕ) →
+    (own_walk_of S context goal terms c number left).0 ≢ Err (stop.Halts Fuel) →
+    own_walk_of S context goal terms c number (left + more)
+    ≡ answers (own_walk_of S context goal terms c number left).0 ((own_walk_of S context goal terms c number left).1 + more)
+
+abbrev pub TreeWithMoreUnits : Type 0
+TreeWithMoreUnits =
+    (S : Signature) (context : Telescope) (goal : Term) (terms : List Term) (clauses : Clauses) (left more : ℕ) →
+    (split_of S context goal terms clauses left).0 ≢ Err (stop.Halts Fuel) →
+    split_of S context goal terms clauses (left + more)
+    ≡ answers (split_of S context goal terms clauses left).0 ((split_of S context goal terms clauses left).1 + more)
+
+-- So a problem has one outcome, a clause one walk, and a list of clauses one tree, whatever units there are.
+abbrev pub OutcomeIsUnique : Type 0
+OutcomeIsUnique = (S : Signature) (p : Problem) (outcome other : Outcome) → Runs S p outcome → Runs S p other → outcome ≡ other
+
+abbrev pub WalkIsUnique : Type 0
+WalkIsUnique =
+    (S : Signature) (context : Telescope) (goal : Term) (terms : List Term) (c : Clause) (number left other : ℕ) (w v : Walk) →
+    (own_walk_of S context goal terms c number left).0 ≡ Ok w → (own_walk_of S context goal terms c number other).0 ≡ Ok v → w ≡ v
+
+abbrev pub TreeIsUnique : Type 0
+TreeIsUnique =
+    (S : Signature) (context : Telescope) (goal : Term) (terms : List Term) (clauses : Clauses) (left other : ℕ) (t u : Tree) →
+    (split_of S context goal terms clauses left).0 ≡ Ok t → (split_of S context goal terms clauses other).0 ≡ Ok u → t ≡ u
 
 -- ---- scopes
 
@@ -102,6 +155,10 @@ WalkStands = OfWalk (λ S start number pats w. IsWalkAt S start w)
 abbrev pub TreeStands : Type 0
 TreeStands = OfTree (λ S start clauses t. StandsAt S start t)
 
+-- Each split of a tree is asked for by the first clause that is left: at its variable, for a constructor of its family.
+abbrev pub SplitsAsked : Type 0
+SplitsAsked = OfTree (λ S start clauses t. EachSplit (IsAskedFor S start clauses) t)
+
 -- a substitution has a term for each variable of the starting context: it leads from the first goal and the first terms to those
 -- that are there
 pub record LeadsTo (S : Signature) (start : Point) (goal : Term) (s us : List Term) : Type 0 where
@@ -132,6 +189,15 @@ OriginsTell =
     (length origins ≡ length new)
     × ((k : ℕ) (o : Origin) → slice_get origins k ≡ Some o →
     slice_get solution (origin_level (length context) o) ≡ Some (Var (length new - (k + 1))))
+
+-- A solved problem of a constructor puts that constructor for the variable.
+abbrev pub SolvedIsBuilt : Type 0
+SolvedIsBuilt =
+    (S : Signature) (context : Telescope) (x : ℕ) (type : Term) (m : Member) (number : ℕ) (c : Constructor) (steps : List Step)
+    (new : Telescope) (solution : List Term) → IsReady S → IsScopedProblem S (problem_of context x m number c) →
+    HasFamily S context x type m → slice_get m.family.constructors number ≡ Some c →
+    Runs S (problem_of context x m number c) (Solved steps new solution) →
+    HasConstructor S m.n number (under_solution (take (length context) solution) (Var x))
 
 -- ---- matching
 

@@ -12,6 +12,7 @@ pub mod Places
 pub mod Points
 pub mod Problems
 pub mod Scoped
+pub mod Splits
 pub mod Standing
 pub mod Stops
 pub mod Trees

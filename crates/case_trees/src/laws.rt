@@ -1,5 +1,5 @@
 //! The laws of walks and trees.
-ghost use Rattle.case_trees.specs.Laws.{WalkSpends, TreeSpends, WalkBinds, WalkKeepsDots, WalkKeepsAllDots, WalkStands, WalkEnds, WalkScoped, WalkStopScoped, WalkCaused, TreeScoped, TreeStopScoped, TreeCaused, OriginsTell, TreeStands, WalkLeads, LeavesLead, LeavesMatch, FirstMatch};
+ghost use Rattle.case_trees.specs.Laws.{WalkSpends, TreeSpends, WalkGoesOn, TreeGoesOn, WalkWithMoreUnits, TreeWithMoreUnits, OutcomeIsUnique, WalkIsUnique, TreeIsUnique, WalkBinds, WalkKeepsDots, WalkKeepsAllDots, WalkStands, WalkEnds, WalkScoped, WalkStopScoped, WalkCaused, TreeScoped, TreeStopScoped, TreeCaused, OriginsTell, SolvedIsBuilt, TreeStands, SplitsAsked, WalkLeads, LeavesLead, LeavesMatch, FirstMatch};
 
 /// No walk gives units back.
 pub fn walk_spends()
@@ -9,6 +9,41 @@ pub fn walk_spends()
 /// No tree gives units back.
 pub fn tree_spends()
     ensures { TreeSpends }
+{}
+
+/// A walk goes on as it began: its measure is never used up.
+pub fn walk_goes_on()
+    ensures { WalkGoesOn }
+{}
+
+/// A tree goes on as it began in each of its branches.
+pub fn tree_goes_on()
+    ensures { TreeGoesOn }
+{}
+
+/// With more units a walk comes to what it came to, unless it wanted units.
+pub fn walk_with_more_units()
+    ensures { WalkWithMoreUnits }
+{}
+
+/// With more units a tree comes to what it came to, unless it wanted units.
+pub fn tree_with_more_units()
+    ensures { TreeWithMoreUnits }
+{}
+
+/// A problem has one outcome, whatever units there are.
+pub fn outcome_is_unique()
+    ensures { OutcomeIsUnique }
+{}
+
+/// There is one walk of a clause, whatever units there are.
+pub fn walk_is_unique()
+    ensures { WalkIsUnique }
+{}
+
+/// There is one tree of a list of clauses, whatever units there are.
+pub fn tree_is_unique()
+    ensures { TreeIsUnique }
 {}
 
 /// The bindings of a walk are the terms at the clause's variables.
@@ -61,6 +96,11 @@ pub fn tree_stands()
     ensures { TreeStands }
 {}
 
+/// Each split is asked for by the first clause that is left.
+pub fn splits_asked()
+    ensures { SplitsAsked }
+{}
+
 /// What a walk answers of scoped terms is scoped.
 pub fn walk_scoped()
     ensures { WalkScoped }
@@ -94,4 +134,9 @@ pub fn tree_caused()
 /// Each variable of the context behind a solved problem stands for itself at its origin.
 pub fn origins_tell()
     ensures { OriginsTell }
+{}
+
+/// A solved problem of a constructor puts that constructor for the variable.
+pub fn solved_is_built()
+    ensures { SolvedIsBuilt }
 {}
