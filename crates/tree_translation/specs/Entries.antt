@@ -10,7 +10,7 @@ use Rattle.core_terms.specs.Telescopes.{lift_telescope}
 use Rattle.core_terms.specs.declared.stop.Stop.{Stop}
 use Rattle.core_sig.specs.Drafts.{Draft}
 use Rattle.tele_eq.specs.Items.{each_position}
-use Rattle.unification.specs.Occurrences.{place_in}
+use Rattle.tele_eq.specs.Levels.{place_in}
 use Rattle.tree_translation.specs.Naming.{Naming, drafted_in_order, below_name, rec_name, motive_name, step_name, helper_name}
 use Rattle.tree_translation.specs.Splits.{Node}
 use Rattle.tree_translation.specs.Plans.{Plan, Part, own_part}

@@ -6,7 +6,7 @@ use Rattle.theory.specs.Terms.{Term, Var, Sort, App, Con}
 use Rattle.theory.specs.Spines.{head_of, spine_of}
 use Rattle.core_terms.specs.CaseTrees.{Walk}
 use Rattle.tele_eq.specs.Items.{each_position, term_at}
-use Rattle.unification.specs.Occurrences.{place_in}
+use Rattle.tele_eq.specs.Levels.{place_in}
 
 abbrev pub are_one_constructor : Term → Term → Bool
 are_one_constructor (Con n c) (Con m d) = (n == m) && (c == d)

@@ -8,7 +8,7 @@ use Rattle.theory.specs.PreludeFamilies.{level_text}
 use Rattle.core_terms.specs.declared.stop.Stop.{Stop}
 use Rattle.core_sig.specs.Settling.{renumbered}
 use Rattle.core_sig.specs.Drafts.{Draft, drafted, generated_name}
-use Rattle.unification.specs.Occurrences.{is_among, place_in}
+use Rattle.tele_eq.specs.Levels.{is_among, place_in}
 use Rattle.noconf_gen.specs.NoConfusionTypes.{constructor_mark, constructor_name}
 
 -- a number for each name

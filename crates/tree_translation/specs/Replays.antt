@@ -8,7 +8,8 @@ use Rattle.core_terms.specs.declared.case_tree.Rule.TheVariants.{SolveRight, Sol
 use Rattle.tele_eq.specs.Environments.{put}
 use Rattle.unification.specs.Rules.{level_of}
 use Rattle.unification.specs.States.{State, Equation}
-use Rattle.unification.specs.Occurrences.{dependants, order_without, place_in, without}
+use Rattle.tele_eq.specs.Levels.{place_in}
+use Rattle.unification.specs.Occurrences.{dependants, order_without, without}
 use Rattle.unification.specs.Solving.{solved, solved_state, deleted_state}
 use Rattle.unification.specs.Injecting.{injected_state}
 use Rattle.tree_translation.specs.Standings.{Standing, inside, levels_from}

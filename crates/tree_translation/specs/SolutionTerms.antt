@@ -7,7 +7,8 @@ use Rattle.core_terms.specs.Levels.{variable}
 use Rattle.tele_eq.specs.Items.{each_position}
 use Rattle.unification.specs.Rules.{level_of}
 use Rattle.unification.specs.States.{types_as_they_stand}
-use Rattle.unification.specs.Occurrences.{dependants, is_among, place_in}
+use Rattle.tele_eq.specs.Levels.{is_among, place_in}
+use Rattle.unification.specs.Occurrences.{dependants}
 use Rattle.unification.specs.Solving.{new_context}
 use Rattle.tree_translation.specs.Naming.{Naming, left_name}
 use Rattle.tree_translation.specs.Standings.{Standing, inside, first_equations, further_equations, here, at_levels, placed, placed_telescope}
