@@ -1,7 +1,10 @@
 mod AbsurdRows
 mod BelowRows
 mod BinderRows
+pub mod Drafting
+pub mod EntryNames
 mod EquationRows
+pub mod FirstMentions
 mod FlatRows
 mod FunctionalRows
 mod GroupRows
@@ -12,7 +15,9 @@ mod HiddenGroupRows
 mod IndexedRows
 mod InnerCallRows
 mod MappingRows
+pub mod Needs
 mod NestedHelperRows
+pub mod NewNames
 mod ParameterRows
 mod PlaceRows
 mod RecursionRows
@@ -20,4 +25,5 @@ mod ReorderedRows
 mod Samples
 mod SplitRows
 mod VectorRows
+pub mod WrittenType
 mod ZipRows
