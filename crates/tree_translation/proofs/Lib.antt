@@ -7,6 +7,7 @@ mod EquationRows
 pub mod FirstMentions
 mod FlatRows
 mod FunctionalRows
+pub mod GeneratedNames
 mod GroupRows
 mod GrowingRows
 mod HelperLevelRows

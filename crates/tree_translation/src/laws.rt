@@ -1,5 +1,5 @@
 //! The laws of translation.
-ghost use Rattle.tree_translation.specs.Laws.{OnlyDeep, EntriesAreThese, TypeIsWritten, NamesInOrder, NeededIsExact, NeededOnce};
+ghost use Rattle.tree_translation.specs.Laws.{OnlyDeep, EntriesAreThese, TypeIsWritten, NamesInOrder, NeededIsExact, NeededOnce, SplitNames};
 
 /// No other refusal than `Deep` is meant.
 pub fn only_deep()
@@ -29,4 +29,9 @@ pub fn needed_is_exact()
 /// Each name is needed once.
 pub fn needed_once()
     ensures { NeededOnce }
+{}
+
+/// The names that a split node adds are new, generated, and different from each other.
+pub fn split_names()
+    ensures { SplitNames }
 {}
