@@ -1,5 +1,5 @@
 -- The names that the terms of runs and split nodes may mention are all generated for families of the signature.
-use Rattle.std.proofs.Common.{◌≡◌, ℕ, zero, suc, ◌+◌, ◌-◌, ◌==◌, cond, Option, Some, None, option_map, option_and_then, List, [], ◌∷◌, ◌++◌, length, take, drop, All, IfSome, refl, sym, ap, subst}
+use Rattle.std.proofs.Common.{◌≡◌, ℕ, zero, suc, ◌+◌, ◌-◌, ◌==◌, Option, Some, None, List, [], ◌∷◌, ◌++◌, length, All, IfSome, refl}
 use Rattle.std.proofs.lemmas.List.Elements.{All-cons, All-append, All-nil}
 use Rattle.theory.proofs.Lists.{only, both}
 use Rattle.theory.specs.Terms.{Term, Fam, Const, Var}
@@ -12,17 +12,15 @@ use Rattle.core_terms.specs.declared.case_tree.Rule.TheVariants.{SolveRight, Sol
 use Rattle.kernel_reduce.specs.Entries.{family_at}
 use Rattle.kernel_reduce.proofs.LookUps.{family-found}
 use Rattle.kernel_reduce.proofs.StepLaws.{some-next, some-cond}
-use Rattle.unification.specs.States.{State, right_sides}
+use Rattle.unification.specs.States.{State}
 use Rattle.unification.specs.Built.{Built, built_of}
-use Rattle.unification.specs.Groups.{Membership, membership_of}
 use Rattle.unification.proofs.Constructors.{built-is}
-use Rattle.unification.proofs.Memberships.{membership-is}
 use Rattle.case_trees.specs.Problems.{Member, member_with, member_at, member_of}
 use Rattle.acyclic_gen.specs.AcyclicEntries.{acyclic_name}
 use Rattle.acyclic_gen.specs.DirectEntries.{direct_name}
 use Rattle.tree_translation.specs.Naming.{noconf_name, left_name, case_name, with_names}
 use Rattle.tree_translation.specs.Standings.{Standing}
-use Rattle.tree_translation.specs.Comparisons.{Comparison, compared, compared_in, compared_by, compared_as_group}
+use Rattle.tree_translation.specs.Comparisons.{Comparison, compared, compared_in, compared_by}
 use Rattle.tree_translation.specs.Replays.{level_of_first, behind_step, step_in}
 use Rattle.tree_translation.specs.RunTerms.{compared_names, cycle_names, rule_names, run_names}
 use Rattle.tree_translation.specs.Splits.{Node, branch_standing, methods_names, member_names, split_names}
@@ -45,31 +43,14 @@ member-entry S t = member_at-entry S (head_of t) (spine_of t)
 built-entry : (S : Signature) (t : Term) (b : Built) → built_of S t ≡ Some b → IsEntryAt S b.n (FamilyOf b.family)
 built-entry S t b e = (built-is S t b e).built.family
 
-group-entry : (S : Signature) (s : State) (k : ℕ) (type : Term) (left right : Built)
-    → IfSome (compared_as_group S s k type left right) (λ c. IsEntryAt S c.n (FamilyOf c.family))
-group-entry S s k type left right = by (membership_of S k type) (λ m e. (membership-is S k type m e).family)
-  where
-    by : (o : Option Membership) → ((m : Membership) → o ≡ Some m → IsEntryAt S m.n (FamilyOf m.family))
-        → IfSome (option_map (λ m.
-        (let made : Comparison = record {
-          n = m.n;
-          family = m.family;
-          parameters = m.parameters;
-          left = left;
-          right = right;
-          indices = take k (right_sides s.equations);
-        } in made)) o) (λ c. IsEntryAt S c.n (FamilyOf c.family))
-    by None h = tt
-    by (Some m) h = h m refl
-
 compared_by-entry : (S : Signature) (s : State) (k : ℕ) (type : Term) (left right : Built) → IsEntryAt S left.n (FamilyOf left.family)
-    → IfSome (compared_by S s k type left right) (λ c. IsEntryAt S c.n (FamilyOf c.family))
+    → (let c = compared_by s k type left right in IsEntryAt S c.n (FamilyOf c.family))
 compared_by-entry S s zero type left right h = h
-compared_by-entry S s (suc k) type left right h = group-entry S s (suc k) type left right
+compared_by-entry S s (suc k) type left right h = h
 
 compared_in-entry : (S : Signature) (s : State) (step : Step) (left right : Option Built)
     → ((b : Built) → left ≡ Some b → IsEntryAt S b.n (FamilyOf b.family))
-    → IfSome (compared_in S s step left right) (λ c. IsEntryAt S c.n (FamilyOf c.family))
+    → IfSome (compared_in s step left right) (λ c. IsEntryAt S c.n (FamilyOf c.family))
 compared_in-entry S s step (Some left) (Some right) h = compared_by-entry S s (step.group - 1) step.ty left right (h left refl)
 compared_in-entry S s step (Some left) None h = tt
 compared_in-entry S s step None right h = tt

@@ -1,16 +1,17 @@
 -- What injectivity and conflict compare: two members of a family, which are constructors, with the equations between them.
-use Rattle.std.specs.Prelude.{ℕ, zero, suc, ◌+◌, ◌-◌, Option, Some, None, option_map, List, [], ◌∷◌, ◌++◌, length, map, take}
+use Rattle.std.specs.Prelude.{ℕ, zero, suc, ◌+◌, ◌-◌, Option, Some, None, List, [], ◌∷◌, ◌++◌, length, map, take}
 use Rattle.theory.specs.Terms.{Term, Con}
 use Rattle.theory.specs.Substitutions.{inst, fill}
 use Rattle.theory.specs.Telescopes.{applied}
 use Rattle.theory.specs.Eliminators.{no_variable}
+use Rattle.theory.specs.Spines.{spine_of}
 use Rattle.theory.specs.Families.{Family}
 use Rattle.theory.specs.Signatures.{Signature}
 use Rattle.core_terms.specs.CaseTrees.{Step}
 use Rattle.tele_eq.specs.TelescopicEquality.{reflexivities}
 use Rattle.unification.specs.States.{State, right_sides}
 use Rattle.unification.specs.Built.{Built, built_of}
-use Rattle.unification.specs.Groups.{membership_of}
+use Rattle.unification.specs.Groups.{lowered}
 use Rattle.unification.specs.Records.{family_items}
 use Rattle.tree_translation.specs.Standings.{Standing, all_here, first_equations}
 
@@ -51,31 +52,32 @@ compared_alone left right = record {
   indices = targets left.parameters right;
 }
 
--- the comparison by a group of k + 1 equations, whose last place has this type: the parameters are those of the type, and the
--- indices the right sides of the first k equations
-abbrev pub compared_as_group : Signature → State → (k : ℕ) (type : Term) → (left right : Built) → Option Comparison
-compared_as_group S s k type left right =
-    option_map (λ m. record {
-      n = m.n;
-      family = m.family;
-      parameters = m.parameters;
+-- the comparison by a group of k + 1 equations, whose last place has this type: the parameters are those of the type, which come
+-- before the k places, and the indices the right sides of the first k equations
+abbrev pub compared_as_group : State → (k : ℕ) (type : Term) → (left right : Built) → Comparison
+compared_as_group s k type left right =
+    let spine = spine_of type in
+    record {
+      n = left.n;
+      family = left.family;
+      parameters = map (lowered k) (take (length spine - k) spine);
       left = left;
       right = right;
       indices = take k (right_sides s.equations);
-    }) (membership_of S k type)
+    }
 
 -- by the number of equations in the group before its last one
-abbrev pub compared_by : Signature → State → (k : ℕ) (type : Term) → (left right : Built) → Option Comparison
-compared_by S s zero type left right = Some (compared_alone left right)
-compared_by S s (suc k) type left right = compared_as_group S s (suc k) type left right
+abbrev pub compared_by : State → (k : ℕ) (type : Term) → (left right : Built) → Comparison
+compared_by s zero type left right = compared_alone left right
+compared_by s (suc k) type left right = compared_as_group s (suc k) type left right
 
-abbrev pub compared_in : Signature → State → Step → (left right : Option Built) → Option Comparison
-compared_in S s step (Some left) (Some right) = compared_by S s (step.group - 1) step.ty left right
-compared_in S s step _ _ = None
+abbrev pub compared_in : State → Step → (left right : Option Built) → Option Comparison
+compared_in s step (Some left) (Some right) = Some (compared_by s (step.group - 1) step.ty left right)
+compared_in s step _ _ = None
 
 -- what a step by injectivity or conflict compares
 abbrev pub compared : Signature → State → Step → Option Comparison
-compared S s step = compared_in S s step (built_of S step.left) (built_of S step.right)
+compared S s step = compared_in s step (built_of S step.left) (built_of S step.right)
 
 -- E: the equations of the group. One equation alone has refls(I; vs) before it.
 abbrev pub group_equations : Standing → Comparison → (k : ℕ) → List Term

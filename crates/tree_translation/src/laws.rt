@@ -1,5 +1,5 @@
 //! The laws of translation.
-ghost use Rattle.tree_translation.specs.Laws.{OnlyDeep, EntriesAreThese, TypeIsWritten, NamesInOrder, NeededIsExact, NeededOnce, SplitNames};
+ghost use Rattle.tree_translation.specs.Laws.{OnlyDeep, EntriesAreThese, TypeIsWritten, NamesInOrder, NeededIsExact, NeededOnce, SplitNames, ReplayIsRun, ReplayStandsApart};
 
 /// No other refusal than `Deep` is meant.
 pub fn only_deep()
@@ -34,4 +34,14 @@ pub fn needed_once()
 /// The names that a split node adds are new, generated, and different from each other.
 pub fn split_names()
     ensures { SplitNames }
+{}
+
+/// Replaying the steps of a run from its first state gives the states of the run.
+pub fn replay_is_run()
+    ensures { ReplayIsRun }
+{}
+
+/// The variables of a standing have binders of their own, before the equations, however far it is replayed.
+pub fn replay_stands_apart()
+    ensures { ReplayStandsApart }
 {}
