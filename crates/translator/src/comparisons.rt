@@ -3,12 +3,13 @@ ghost use Rattle.core_terms.specs.Answers.{Gives};
 ghost use Rattle.core_terms.specs.Meanings.{tree_of, tele_of};
 
 use crate::filling::filled_after;
-use crate::memberships::membership_of;
+use crate::numbers::sum;
+use crate::shifting::lowered_after;
 use crate::small::check_height;
 use crate::standing::{Standing, all_here, first_equations, right_sides_after};
 use crate::telescopes::{members_at, reflexivities};
 use core_sig::{Family, Signature};
-use core_terms::{Items, Step, Stop, Tele, Term, applied, copy_tele};
+use core_terms::{Items, Step, Stop, Tele, Term, applied, copy_tele, copy_whole, into_spine};
 use std::alloc::Global;
 use tele_eq::Item;
 use unifier::{Built, built_of, split_spine};
@@ -63,7 +64,7 @@ pub(crate) fn with_copies(alloc: Global, mut made: Tele, terms: &[Term]) -> Resu
     ensures { Gives tele_of result (Ok (tele_of made ++ tele_of terms.now)) }
 {
     for t in terms {
-        made.push(core_terms::copy_whole(alloc, t)?)?;
+        made.push(copy_whole(alloc, t)?)?;
     }
     Ok(made)
 }
@@ -115,30 +116,28 @@ fn compared_alone<'a>(
 }
 
 /// The comparison by a group of equations, `count` before the last one, whose place has the type `ty`: the parameters are those of the
-/// type, and the indices the right sides of the first `count` equations.
+/// type, which come before the `count` places, and the indices the right sides of the first `count` equations.
 fn compared_as_group<'a>(
     alloc: Global,
-    sig: &'a Signature,
     s: &Standing,
     count: u32,
     ty: &Term,
     left: Member<'a>,
     right: Member<'a>,
-) -> Result<Option<Comparison<'a>>, Stop> {
-    let Some(m) = membership_of(alloc, sig, count, ty)? else {
-        return Ok(None);
-    };
+) -> Result<Comparison<'a>, Stop> {
+    let spine = into_spine(alloc, copy_whole(alloc, ty)?)?;
+    let before = spine.len().saturating_sub(count as usize);
+    let params = lowered_after(alloc, count, &spine.as_slice()[..before], Items::new(alloc))?;
     let equations = s.equations.as_slice();
     let first = (count as usize).min(equations.len());
-    let indices = right_sides_after(alloc, &equations[..first], Items::new(alloc))?;
-    Ok(Some(Comparison {
-        n: m.number,
-        family: m.record,
-        params: m.params,
+    Ok(Comparison {
+        n: left.built.family,
+        family: left.built.record,
+        params,
         left,
         right,
-        indices,
-    }))
+        indices: right_sides_after(alloc, &equations[..first], Items::new(alloc))?,
+    })
 }
 
 /// What a step by injectivity or conflict compares.
@@ -158,7 +157,7 @@ pub(crate) fn compared<'a>(
     if count == 0 {
         return Ok(Some(compared_alone(alloc, left, right)?));
     }
-    compared_as_group(alloc, sig, s, count, &step.ty, left, right)
+    Ok(Some(compared_as_group(alloc, s, count, &step.ty, left, right)?))
 }
 
 /// The telescope of the family's indices and its members at the parameters of the comparison.
@@ -176,7 +175,7 @@ pub(crate) fn group_equations(
     made: Tele,
 ) -> Result<Tele, Stop> {
     if count > 0 {
-        return first_equations(s, crate::numbers::sum(count, 1)?, made);
+        return first_equations(s, sum(count, 1)?, made);
     }
     let mut items = compared_items(alloc, c)?.into_vec();
     items.truncate(c.family.indices.as_slice().len());

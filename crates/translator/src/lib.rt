@@ -18,7 +18,6 @@ mod injecting;
 mod levels;
 mod making;
 mod mappings;
-mod memberships;
 mod moving;
 mod naming;
 mod needs;

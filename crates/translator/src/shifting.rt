@@ -1,8 +1,10 @@
-ghost use Rattle.std.specs.Prelude.{◌++◌, Ok};
+ghost use Rattle.std.specs.Prelude.{◌++◌, Ok, map};
 ghost use Rattle.core_terms.specs.Answers.{Gives};
 ghost use Rattle.core_terms.specs.Meanings.{tree_of, tele_of};
 ghost use Rattle.theory.specs.Terms as tree;
+ghost use Rattle.unification.specs.Groups as groups;
 ghost use Rattle.unification.specs.Injecting as injecting;
+ghost use Rattle.unifier.specs.CodeGroups.{lowered_under};
 
 use crate::numbers::sum;
 use core_terms::{Items, Stop, Tele, Term, copy_whole};
@@ -64,4 +66,60 @@ pub(crate) fn all_shifted(alloc: Global, by: u32, terms: &[Term]) -> Result<Tele
     ensures { Gives tele_of result (Ok (injecting.lifted by (tele_of terms.now))) }
 {
     shifted_after(alloc, by, terms, Items::new(alloc))
+}
+
+/// A term without the nearest `k` variables, outside of their binders, under so many binders of its own.
+fn lowered(alloc: Global, k: u32, under: u32, t: &Term) -> Result<Term, Stop>
+    ensures { Gives tree_of result (Ok (lowered_under k under (tree_of t.now))) }
+{
+    match t {
+        Term::Var(n) if *n < under => Ok(Term::Var(*n)),
+        Term::Var(n) => Ok(Term::Var(*n - k.min(*n - under))),
+        Term::Pi(domain, codomain) => Term::new_pi(
+            alloc,
+            lowered(alloc, k, under, domain)?,
+            lowered(alloc, k, sum(under, 1)?, codomain)?,
+        ),
+        Term::Lam(domain, body) => Term::new_lam(
+            alloc,
+            lowered(alloc, k, under, domain)?,
+            lowered(alloc, k, sum(under, 1)?, body)?,
+        ),
+        Term::App(function, argument) => Term::new_app(
+            alloc,
+            lowered(alloc, k, under, function)?,
+            lowered(alloc, k, under, argument)?,
+        ),
+        Term::Let(ty, value, rest) => Term::new_let(
+            alloc,
+            lowered(alloc, k, under, ty)?,
+            lowered(alloc, k, under, value)?,
+            lowered(alloc, k, sum(under, 1)?, rest)?,
+        ),
+        Term::Sort(_)
+        | Term::Const(_)
+        | Term::Fam(_)
+        | Term::Con(_, _)
+        | Term::Elim(_, _)
+        | Term::AxiomK(_, _) => copy_whole(alloc, t),
+    }
+}
+
+/// Each of the terms without the nearest `k` variables, after those that are made.
+#[tactic(auto, using(tele_eq::proofs::Growing::growing))]
+pub(crate) fn lowered_after(
+    alloc: Global,
+    k: u32,
+    terms: &[Term],
+    mut made: Tele,
+) -> Result<Tele, Stop>
+    ensures { Gives tele_of result (Ok (tele_of made ++ map (groups.lowered k) (tele_of terms.now))) }
+{
+    match terms {
+        [] => Ok(made),
+        [t, rest @ ..] => {
+            made.push(lowered(alloc, k, 0, t)?)?;
+            lowered_after(alloc, k, rest, made)
+        }
+    }
 }
