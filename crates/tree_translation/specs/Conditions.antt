@@ -2,7 +2,7 @@
 -- answer, so that a caller hands on what it was given.
 use Rattle.std.specs.Prelude.{Option, ◌≡◌, ◌≢◌, ◌<◌, ℕ, ◌+◌, Some, None, Ok, List, [], ◌∷◌, length, take, slice_get, All, true, false}
 use Rattle.std.specs.List.{Any}
-use Rattle.theory.specs.Terms.{Term, Const, top}
+use Rattle.theory.specs.Terms.{Term, Sort, Const, top}
 use Rattle.theory.specs.Telescopes.{Telescope, applied, variables, products}
 use Rattle.theory.specs.Families.{Constructor}
 use Rattle.theory.specs.Signatures.{Signature}
@@ -24,6 +24,7 @@ use Rattle.case_trees.specs.OwnWalks.{own_walk_of}
 use Rattle.case_trees.specs.Trees.{split_of}
 use Rattle.case_trees.specs.Problems.{Member, member_of, problem_of}
 use Rattle.case_trees.specs.Standing.{Runs}
+use Rattle.case_trees.specs.Scoped.{AreClausesFor, IsScopedTree}
 use Rattle.tree_translation.specs.Standings.{placed}
 use Rattle.tree_translation.specs.Hidden.{visible, widened, widened_number}
 use Rattle.tree_translation.specs.Replays.{behind_run}
@@ -39,7 +40,7 @@ with_function S plan = provisional S plan.name plan.type
 -- ---- parts
 
 -- The side of a clause of part `at`: a term stands over the clause's variables. The call of a helper, which stands behind the part, is
--- over the context of the clause's own walk.
+-- over the context of the clause's own walk. A clause without a right side has Type 0.
 pub data IsSide (S : Signature) (plan : Plan) (at : ℕ) (w : Walk) : Clause → (side : Term) → Type 0 where
   term : (pats : Pats) (binds : ℕ) (side : Term) → IsDraftTerm S plan.base 1 binds side
       → IsSide S plan at w (Is pats binds (clause.Side side)) side
@@ -47,7 +48,7 @@ pub data IsSide (S : Signature) (plan : Plan) (at : ℕ) (w : Walk) : Clause →
       → slice_get plan.parts k ≡ Some helper → at < k → length arguments ≡ length helper.tele
       → All (IsDraftTerm S plan.base 1 (length w.ctx)) arguments
       → IsSide S plan at w (Is pats binds (clause.With t inner)) (applied (Const (plan.base + k)) arguments)
-  absurd : (pats : Pats) (binds : ℕ) (side : Term) → IsSide S plan at w (Is pats binds clause.Absurd) side
+  absurd : (pats : Pats) (binds : ℕ) → IsSide S plan at w (Is pats binds clause.Absurd) (Sort 0)
 
 abbrev pub use_of : (at number : ℕ) → Walk → Term → Use
 use_of at number w t = record { function = at; clause = number; terms = w.terms; body = under_solution w.binds t }
@@ -75,11 +76,13 @@ pub record IsClauseOf (S : Signature) (plan : Plan) (uses : List Use) (at : ℕ)
   pub used : IsUsed uses at number walk c
 
 -- A part with its clauses. Its tree is the one that splitting gives for them at some units, from a context, a goal and the terms of the
--- columns; without a right side nothing reads a side.
+-- columns. It names no entry behind the signature: nothing that is split mentions the function.
 pub record IsPartOf (S : Signature) (plan : Plan) (uses : List Use) (at : ℕ) (part : Part) (context : Telescope) (goal : Term) (terms : List Term) : Type 0 where
   pub clauses : List Clause
   pub units : ℕ
+  pub fitting : AreClausesFor (with_function S plan) terms (clause.clauses clauses)
   pub splits : (split_of (with_function S plan) context goal terms (clause.clauses clauses) units).0 ≡ Ok part.tree
+  pub tree_scoped : IsScopedTree S part.tree
   pub count : (length part.sides ≡ length clauses) × (length part.walks ≡ length clauses) × (length part.pats ≡ length clauses)
   pub each : (number : ℕ) (c : Clause) → slice_get clauses number ≡ Some c → IsClauseOf S plan uses at part number c
   pub context_scoped : IsScopedTelescope S 0 part.tele
@@ -114,7 +117,7 @@ pub record IsPlanned (S : Signature) (plan : Plan) : Type 0 where
   pub level : (own_part plan).level ≡ plan.level
   pub there : plan.parts ≢ []
   pub uses : List Use
-  pub position : choose S (own_part plan).tele plan.base uses ≡ choice_of plan.position
+  pub position : choose (with_function S plan) (own_part plan).tele plan.base uses ≡ choice_of plan.position
   pub own : IsOwnPart S plan uses
   pub helpers : (k : ℕ) (part : Part) → slice_get plan.parts (k + 1) ≡ Some part → IsHelper S plan uses (k + 1) part
 
@@ -151,6 +154,7 @@ pub record IsSplit (S : Signature) (node : Node) (x : ℕ) (type : Term) (runs :
   pub is_member : member_of S reduced ≡ Some member
   pub are_runs : AreRuns S seen y member 0 member.family.constructors runs
   pub context_scoped : IsScopedTelescope S 0 seen
+  pub reduced_scoped : IsScoped S (length seen) reduced
 
 -- One end for each solved run, over the last context of the whole run: it names entries of the signature and `names` of a draft.
 pub data AreEnds (S : Signature) (base names : ℕ) (node : Node) (m : Member) (x : ℕ) : (number : ℕ) → List Constructor → List (List Step) → (ends : List Term) → Type 0 where

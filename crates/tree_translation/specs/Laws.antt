@@ -1,9 +1,11 @@
 -- What holds of the entries of a function, whatever way they are made.
-use Rattle.std.specs.Prelude.{◌≡◌, ◌≢◌, ◌↔◌, ◌⊎◌, ◌<◌, ◌-◌, ℕ, zero, suc, ◌+◌, Option, Some, None, Ok, IfOk, List, [], ◌∷◌, ◌++◌, length, map, slice_get, flat_map, All, AllPairs, Err}
+use Rattle.std.specs.Prelude.{◌≡◌, ◌≢◌, ◌↔◌, ◌⊎◌, ◌<◌, ◌-◌, ℕ, zero, suc, ◌+◌, Option, Some, None, Ok, IfOk, List, [], ◌∷◌, ◌++◌, length, map, slice_get, flat_map, All, AllPairs, Contains, Err}
 use Rattle.std.specs.List.{Any}
-use Rattle.theory.specs.Terms.{Term}
+use Rattle.theory.specs.Terms.{Term, Pi, Lam, App, Let, Const, Elim, AxiomK}
+use Rattle.theory.specs.Telescopes.{Telescope}
 use Rattle.theory.specs.Families.{Family}
-use Rattle.theory.specs.Signatures.{Signature, Entry, FamilyOf, Definition, IsEntryAt}
+use Rattle.theory.specs.Signatures.{Signature, Entry, FamilyOf, EliminatorAt, AxiomKAt, Definition, IsEntryAt}
+use Rattle.theory.specs.SignatureScopes.{IsScoped}
 use Rattle.core_terms.specs.CaseTrees.{Step}
 use Rattle.core_terms.specs.declared.stop.Stop.{Stop}
 use Rattle.core_terms.specs.declared.stop.Stop.TheVariants.{Deep}
@@ -12,17 +14,22 @@ use Rattle.core_sig.specs.DraftScopes.{IsDraftTerm}
 use Rattle.core_sig.specs.ScopedDrafts.{IsScopedDraft}
 use Rattle.acyclic_gen.specs.AcyclicEntries.{acyclic_name}
 use Rattle.acyclic_gen.specs.DirectEntries.{direct_name}
-use Rattle.unification.specs.States.{State, Equation}
+use Rattle.core_sig.specs.Names.{find}
+use Rattle.unification.specs.States.{State, Equation, Problem}
+use Rattle.unification.specs.Outcomes.{Solved}
+use Rattle.unification.specs.ScopedStates.{IsReady, IsScopedProblem}
+use Rattle.case_trees.specs.Points.{under_solution}
+use Rattle.case_trees.specs.Standing.{Runs}
 use Rattle.unification.specs.Laws.{Chain}
 use Rattle.tree_translation.specs.Naming.{mentions, once, case_name, below_name, rec_name, noconf_name, left_name, motive_name, step_name, helper_name}
-use Rattle.tree_translation.specs.Standings.{Standing, levels_from}
+use Rattle.tree_translation.specs.Standings.{Standing, levels_from, problem_state}
 use Rattle.tree_translation.specs.Hidden.{widened, widened_behind}
 use Rattle.tree_translation.specs.Replays.{behind_run}
 use Rattle.tree_translation.specs.Splits.{Node, split_term}
 use Rattle.tree_translation.specs.Plans.{Plan}
 use Rattle.tree_translation.specs.Recursion.{Recursion, recursion_of}
 use Rattle.tree_translation.specs.Entries.{translate, helper_count}
-use Rattle.tree_translation.specs.Needed.{needed, needed_in, entry_terms}
+use Rattle.tree_translation.specs.Needed.{needed, entry_terms, eliminator_name, axiom_k_name}
 use Rattle.tree_translation.specs.Conditions.{IsPlanned, IsSeen, IsSplitGiven}
 
 -- ---- the entries
@@ -87,9 +94,13 @@ EarlierAlone =
 abbrev pub mentioned_by : Draft → List ℕ
 mentioned_by d = flat_map (mentions d.base) (entry_terms d.entry)
 
--- The names of a draft are all mentioned, and stand in the order of first mention.
+-- The names of a draft are all mentioned, and stand in the order of first mention,
 abbrev pub NamesInOrder : Type 0
 NamesInOrder = OfDrafts (λ S plan drafts. All (λ d. once [] (mentioned_by d) ≡ levels_from 0 (length d.names)) drafts)
+
+-- each of them once.
+abbrev pub NamesDiffer : Type 0
+NamesDiffer = OfDrafts (λ S plan drafts. All (λ d. AllPairs (λ one other. one ≢ other) d.names) drafts)
 
 -- ---- replaying
 
@@ -98,6 +109,28 @@ abbrev pub ReplayIsRun : Type 0
 ReplayIsRun =
     (S : Signature) (s t : State) (steps : List Step) (standing : Standing) → Chain S s steps t → standing.state ≡ s →
     standing.hidden ≡ [] → (behind_run S steps standing).state ≡ t
+
+-- A problem that a run solves, and a standing in the problem's state, without hidden variables.
+pub record IsSolved (S : Signature) (p : Problem) (standing : Standing) (steps : List Step) (context : Telescope) (solution : List Term) : Type 0 where
+  pub ready : IsReady S
+  pub scoped : IsScopedProblem S p
+  pub runs : Runs S p (Solved steps context solution)
+  pub state : standing.state ≡ problem_state p
+  pub seen : standing.hidden ≡ []
+
+-- Replaying the run ends where the run ends: in its context, with its solution, and with no equation left.
+abbrev pub ReplayEnds : Type 0
+ReplayEnds =
+    (S : Signature) (p : Problem) (standing : Standing) (steps : List Step) (context : Telescope) (solution : List Term) →
+    IsSolved S p standing steps context solution →
+    (behind_run S steps standing).state ≡ record { context = context; equations = []; solution = solution }
+
+-- The goal there is the goal under the solution.
+abbrev pub ReplayGoal : Type 0
+ReplayGoal =
+    (S : Signature) (p : Problem) (standing : Standing) (steps : List Step) (context : Telescope) (solution : List Term) →
+    IsSolved S p standing steps context solution → IsScoped S (length p.context) standing.goal →
+    (behind_run S steps standing).goal ≡ under_solution solution standing.goal
 
 -- an equation behind k others, over a whole context of n variables
 abbrev pub widened_equation : (n : ℕ) (hidden : List ℕ) (k : ℕ) → Equation → Equation
@@ -136,10 +169,11 @@ ReplayStandsApart =
 
 -- ---- split nodes
 
--- the names that were there stay, and each new one is generated
+-- The names that were there stay. Each new one is generated, and was not there.
 pub record AddsNames (S : Signature) (names all : List (List ℕ)) : Type 0 where
   pub new : List (List ℕ)
   pub added : all ≡ names ++ new
+  pub fresh : All (λ one. All (λ other. one ≢ other) names) new
   pub generated : All (IsGenerated S) new
   pub different : AllPairs (λ one other. one ≢ other) new
 
@@ -172,11 +206,34 @@ SplitScoped =
 abbrev pub IsAmong : List ℕ → List (List ℕ) → Type 0
 IsAmong name names = Any (λ other. other ≡ name) names
 
--- what a draft needs is what its terms mention and the signature lacks,
+-- a symbol stands in a term
+pub data StandsIn (u : Term) : Term → Type 0 where
+  itself : StandsIn u u
+  domain : (a b : Term) → StandsIn u a → StandsIn u (Pi a b)
+  codomain : (a b : Term) → StandsIn u b → StandsIn u (Pi a b)
+  annotation : (a b : Term) → StandsIn u a → StandsIn u (Lam a b)
+  body : (a b : Term) → StandsIn u b → StandsIn u (Lam a b)
+  function : (f a : Term) → StandsIn u f → StandsIn u (App f a)
+  argument : (f a : Term) → StandsIn u a → StandsIn u (App f a)
+  type : (a t b : Term) → StandsIn u a → StandsIn u (Let a t b)
+  value : (a t b : Term) → StandsIn u t → StandsIn u (Let a t b)
+  scope : (a t b : Term) → StandsIn u b → StandsIn u (Let a t b)
+
+-- it stands in a term of an entry
+abbrev pub StandsInEntry : Term → Entry → Type 0
+StandsInEntry u entry = Any (StandsIn u) (entry_terms entry)
+
+-- The name is that of a generated entry, or of an instance, which the draft mentions and the signature lacks.
+pub data IsNeeded (S : Signature) (d : Draft) (name : List ℕ) : Type 0 where
+  definition : (i : ℕ) → slice_get d.names i ≡ Some name → StandsInEntry (Const (d.base + i)) d.entry → find S name ≡ None → IsNeeded S d name
+  eliminator : (n m : ℕ) → name ≡ eliminator_name S n m → StandsInEntry (Elim n m) d.entry → ¬ Contains S.entries (EliminatorAt n m)
+      → IsNeeded S d name
+  axiom_k : (i m : ℕ) → name ≡ axiom_k_name i m → StandsInEntry (AxiomK i m) d.entry → ¬ Contains S.entries (AxiomKAt i m)
+      → IsNeeded S d name
+
+-- what a draft needs is what it mentions and the signature lacks,
 abbrev pub NeededIsExact : Type 0
-NeededIsExact =
-    (S : Signature) (d : Draft) (name : List ℕ) →
-    IsAmong name (needed S d) ↔ IsAmong name (flat_map (needed_in S d.base d.names) (entry_terms d.entry))
+NeededIsExact = (S : Signature) (d : Draft) (name : List ℕ) → IsScopedDraft S d → IsAmong name (needed S d) ↔ IsNeeded S d name
 
 -- each name once
 abbrev pub NeededOnce : Type 0
