@@ -92,13 +92,13 @@ abbrev pub longest_chain : ℕ
 longest_chain = 3
 
 abbrev pub enter_chain : (chain : ℕ) → Entering
-enter_chain zero = enter_with (λ S d left. answers (Err (Halts Deep)) left)
-enter_chain (suc chain) = enter_with (enter_chain chain)
+enter_chain zero S d left = enter_with (λ T other rest. answers (Err (Halts Deep)) rest) S d left
+enter_chain (suc chain) S d left = enter_with (enter_chain chain) S d left
 
 -- a generated entry, after all that it needs
 abbrev pub enter_needed : Entering
-enter_needed = enter_chain longest_chain
+enter_needed S d left = enter_chain longest_chain S d left
 
 -- The draft enters, after all that it needs.
 abbrev pub enter_draft_of : Entering
-enter_draft_of = enter_with enter_needed
+enter_draft_of S d left = enter_with enter_needed S d left

@@ -1,6 +1,6 @@
 -- The walk of a clause's terms through the tree of its function: it goes into the branch of each constructor, and splits each variable
 -- at which the tree does. At each leaf the equation is to hold by reflexivity.
-use Rattle.std.specs.Prelude.{ℕ, zero, suc, ◌+◌, ◌-◌, ◌==◌, ◌&&◌, true, cond, Option, Some, None, List, [], ◌∷◌, ◌++◌, length, map, Result, Ok, Err}
+use Rattle.std.specs.Prelude.{ℕ, zero, suc, ◌+◌, ◌-◌, ◌==◌, ◌&&◌, true, cond, Option, Some, None, List, [], ◌∷◌, ◌++◌, length, map, take, Result, Ok, Err}
 use Rattle.theory.specs.Terms.{Term}
 use Rattle.theory.specs.Telescopes.{Telescope}
 use Rattle.theory.specs.Signatures.{Signature}
@@ -58,16 +58,18 @@ abbrev pub at_origin : (values arguments : List Term) → Origin → Term
 at_origin values arguments (Old x) = value_at values x
 at_origin values arguments (Arg j) = term_at arguments j
 
--- the place after a solution
+-- The place after the solution of a problem, which also has terms for the arguments of a constructor.
 abbrev pub moved_place : Place → Telescope → (solution : List Term) → Place
-moved_place p context solution = record {
-  context = context;
-  type = under_solution solution p.type;
-  left = under_solution solution p.left;
-  right = under_solution solution p.right;
-  terms = map (under_solution solution) p.terms;
-  values = map (under_solution solution) p.values;
-}
+moved_place p context solution =
+    let own = take (length p.context) solution in
+    record {
+      context = context;
+      type = under_solution own p.type;
+      left = under_solution own p.left;
+      right = under_solution own p.right;
+      terms = map (under_solution own) p.terms;
+      values = map (under_solution own) p.values;
+    }
 
 abbrev pub bounded_place : Place → Result Place Stop
 bounded_place p =
