@@ -1,8 +1,8 @@
 -- What a report asks for: a plan that is translated, and a signature that has its entries.
 use Rattle.std.specs.Prelude.{◌≡◌, ◌<◌, ◌-◌, ℕ, Option, Some, None, List, [], ◌∷◌, length, slice_get, Result, Ok}
 use Rattle.theory.specs.Terms.{Term, top}
-use Rattle.theory.specs.Signatures.{Signature, Entry, Definition}
-use Rattle.theory.specs.SignatureScopes.{IsPrefix}
+use Rattle.theory.specs.Signatures.{Signature, Entry, Definition, IsPrefix}
+
 use Rattle.core_terms.specs.CaseTrees.{Walk}
 use Rattle.core_sig.specs.Drafts.{Draft}
 use Rattle.core_sig.specs.Names.{find}
