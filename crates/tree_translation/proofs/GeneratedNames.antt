@@ -25,7 +25,7 @@ use Rattle.tree_translation.specs.Replays.{level_of_first, behind_step, step_in}
 use Rattle.tree_translation.specs.RunTerms.{compared_names, cycle_names, rule_names, run_names}
 use Rattle.tree_translation.specs.Splits.{Node, branch_standing, methods_names, member_names, split_names}
 use Rattle.tree_translation.specs.Laws.{IsGenerated, SplitNames}
-use Rattle.tree_translation.proofs.NewNames.{longer, new-differ}
+use Rattle.tree_translation.proofs.NewNames.{longer, new-fresh, new-differ}
 
 -- ---- families that are found
 
@@ -118,4 +118,4 @@ split-generated S L node x type runs = member-generated S L node x runs (member_
 pub split_names-are : SplitNames
 split_names-are S L node x type runs ends names given =
     let r = longer (IsGenerated S) names (split_names S L node x type runs) (split-generated S L node x type runs) in
-    record { new = r.new; added = r.added; generated = r.each; different = new-differ names r.new r.is_new }
+    record { new = r.new; added = r.added; fresh = new-fresh names r.new r.is_new; generated = r.each; different = new-differ names r.new r.is_new }

@@ -1,9 +1,14 @@
 mod AbsurdRows
+pub mod Anywhere
 mod BelowRows
 mod BinderRows
 pub mod Comparing
+pub mod CongruenceInstances
+pub mod ContextInstances
 pub mod Drafting
 pub mod EntryNames
+pub mod EntryTerms
+pub mod EquationInstances
 mod EquationRows
 pub mod FirstMentions
 mod FlatRows
@@ -24,12 +29,15 @@ pub mod NewNames
 pub mod NothingHidden
 mod ParameterRows
 mod PlaceRows
+pub mod RecordInstances
 mod RecursionRows
 mod ReorderedRows
 pub mod ReplayedBinders
 pub mod ReplayedRuns
 mod Samples
+pub mod SeenTerms
 mod SplitRows
+pub mod TelescopeInstances
 mod VectorRows
 pub mod WrittenType
 mod ZipRows

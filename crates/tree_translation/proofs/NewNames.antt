@@ -1,7 +1,7 @@
 -- Names that are added to others, each once.
 use Rattle.std.proofs.Common.{◌≡◌, ◌≢◌, ◌↔◌, ℕ, zero, suc, ◌+◌, ◌<◌, ◌||◌, Bool, true, false, cond, List, [], ◌∷◌, ◌++◌, length, get_or, All, Any, AllPairs, bytes_eq, refl, sym, ap, ◌∙◌, subst, arith, append_assoc}
 use Rattle.std.proofs.lemmas.Bool.{true≢false}
-use Rattle.std.proofs.lemmas.List.{append-nil}
+use Rattle.std.proofs.lemmas.List.{append-nil, get_or_append_left, length-append}
 use Rattle.std.proofs.lemmas.List.Elements.{All-cons, All-nil}
 use Rattle.std.proofs.lemmas.List.Kept.{AllPairs-cons}
 use Rattle.std.proofs.lemmas.Slice.Eq.{bytes_eq-Decides}
@@ -93,6 +93,22 @@ new-differ names [] IsNew.none = λ i j d below within. absurd (omega arith)
 new-differ names (name ∷ new) (IsNew.more e rest) =
     AllPairs-cons (λ one other. one ≢ other) name new (new-others (names ++ name ∷ []) new name rest (named-last names name))
     (new-differ (names ++ name ∷ []) new rest)
+
+at-same : (xs : List (List ℕ)) (k : ℕ) (d e : List ℕ) → k < length xs → get_or xs k d ≡ get_or xs k e
+at-same [] k d e lt = absurd (omega arith)
+at-same (x ∷ xs) zero d e lt = refl
+at-same (x ∷ xs) (suc k) d e lt = at-same xs k d e (omega arith)
+
+-- none of the new ones is among the names
+pub new-fresh : (names new : List (List ℕ)) → IsNew names new → All (λ one. All (λ other. one ≢ other) names) new
+new-fresh names [] IsNew.none = All-nil (λ one. All (λ other. one ≢ other) names)
+new-fresh names (name ∷ new) (IsNew.more e rest) =
+    All-cons (λ one. All (λ other. one ≢ other) names) name new
+    (λ k d within same.
+    true≢false (sym (among-named names name (k, get_or names k d, within, at-same names k (get_or names k d) d within, sym same)) ∙ e))
+    (λ k d within i d' inside.
+    subst (λ other. get_or new k d ≢ other) (get_or_append_left names (name ∷ []) d' i inside)
+    (new-fresh (names ++ name ∷ []) new rest k d within i d' (omega (arith, length-append names (name ∷ [])))))
 
 -- ---- what is among them
 
