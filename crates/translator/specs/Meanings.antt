@@ -1,10 +1,10 @@
 -- What plans, standings and equations of the code stand for.
 use Rattle.std.specs.Prelude.{List, [], map}
+use Rattle.theory.specs.Terms.{Sort}
 use Rattle.core_terms.specs.Meanings.{tree_of, tele_of}
 use Rattle.core_terms.specs.PatternMeanings.{pat_of}
 use Rattle.core_terms.specs.Patterns.{pats}
 use Rattle.core_terms.specs.TreeMeanings.{case_tree_of, walk_of}
-use Rattle.tele_eq.specs.Items.{item_of}
 use Rattle.unification.specs.States as states
 use Rattle.tree_translation.specs.Plans as plans
 use Rattle.tree_translation.specs.Standings as standings
@@ -36,8 +36,9 @@ plan_of p = record {
   parts = map part_of p.parts;
 }
 
+-- the type of its place, which no term reads, is `Type 0`
 abbrev pub equation_of : Equation → states.Equation
-equation_of e = record { place = item_of e.place; type = tree_of e.ty; left = tree_of e.left; right = tree_of e.right }
+equation_of e = record { place = record { type = Sort 0; level = e.level }; type = tree_of e.ty; left = tree_of e.left; right = tree_of e.right }
 
 abbrev pub equations_of : List Equation → List states.Equation
 equations_of equations = map equation_of equations

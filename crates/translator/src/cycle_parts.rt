@@ -6,7 +6,7 @@ ghost use Rattle.tree_translation.specs.CycleTerms as spec;
 use crate::comparisons::with_copies;
 use crate::filling::filled;
 use crate::numbers::sum;
-use acyclic_gen::{Carrier, Pairing, at_level, component, directs, projection};
+use acyclic_gen::{Carrier, Pairing, at_level, component, direct_arguments, projection};
 use case_below_gen::Side;
 use core_sig::{Arg, ArgKind, Signature};
 use core_terms::{Items, Stop, Tele, Term, copy_tele, copy_whole, into_spine, variable};
@@ -104,7 +104,7 @@ fn said_by_levels(
     let last = sum(first, core_terms::few(args.len())?)?;
     let depth = sum(last, 1)?;
     let argument = sum(first, at)?;
-    let all = directs(alloc, first, 0, args)?;
+    let all = direct_arguments(alloc, first, 0, args)?;
     let tuple = variable(depth, last);
     let both = component(alloc, q, depth, x, argument, all.as_slice(), tuple)?;
     let pairing = Pairing::Within(x, at_level(argument));

@@ -26,7 +26,9 @@ fn group_proofs(alloc: Global, c: &Comparison) -> Result<Tele, Stop> {
     let ps = ps.as_slice();
     let from = arguments_at(alloc, ps, c.left.built.con)?;
     let to = members_at(alloc, c.n, c.family, ps)?;
-    let terms = terms_at(alloc, c, ps)?;
+    let mut built = c.left.built;
+    built.family = c.n;
+    let terms = constructor_at(alloc, built, ps)?;
     let left = all_shifted(alloc, count, c.left.args.as_slice())?;
     let right = all_shifted(alloc, count, c.right.args.as_slice())?;
     let proofs = variables(alloc, count)?;
@@ -39,13 +41,6 @@ fn group_proofs(alloc: Global, c: &Comparison) -> Result<Tele, Stop> {
         equations: &proofs,
     };
     congruences(alloc, whole)
-}
-
-/// The targets of the left constructor, and the constructor itself, at parameters and after its arguments.
-fn terms_at(alloc: Global, c: &Comparison, ps: &[Term]) -> Result<Tele, Stop> {
-    let mut built = c.left.built;
-    built.family = c.n;
-    constructor_at(alloc, built, ps)
 }
 
 /// The equations at the places of a telescope, with their types and sides, after those that are made.
@@ -75,10 +70,7 @@ pub(crate) fn equations_after(
 
 fn equation_at(alloc: Global, x: &Item, ty: &Term, u: &Term, v: &Term) -> Result<Equation, Stop> {
     Ok(Equation {
-        place: Item {
-            ty: copy_whole(alloc, &x.ty)?,
-            level: x.level,
-        },
+        level: x.level,
         ty: copy_whole(alloc, ty)?,
         left: copy_whole(alloc, u)?,
         right: copy_whole(alloc, v)?,
@@ -120,11 +112,9 @@ pub(crate) fn injected_equations(
 ) -> Result<Items<Equation>, Stop> {
     let size = size(s)?;
     let depth = sum(size, argument_count(c)?)?;
-    let terms = terms_at(alloc, c, c.params.as_slice())?;
     let proofs = group_proofs(alloc, c)?;
     let made = argument_equations(alloc, c)?;
     let by = Move {
-        items: for_the_group(size, group, depth, terms.as_slice()),
         types: for_the_group(size, group, depth, proofs.as_slice()),
         sides: Sides::Same,
     };

@@ -1,5 +1,6 @@
 ghost use Rattle.std.specs.Prelude.{◌++◌, ◌+◌, Ok, map};
 ghost use Rattle.core_terms.specs.Answers.{Gives};
+ghost use Rattle.core_terms.specs.Levels as level;
 ghost use Rattle.core_terms.specs.Meanings.{tree_of, tele_of};
 ghost use Rattle.tele_eq.specs.Environments as environments;
 ghost use Rattle.tele_eq.specs.Items as items;
@@ -15,7 +16,6 @@ use crate::shifting::shifted;
 use crate::standing::Equation;
 use core_terms::{Items, Stop, Tele, Term, copy_whole, variable};
 use std::alloc::Global;
-use tele_eq::Item;
 
 /// A term that solves the variable with a level in a context of `size` variables, and the levels of the others in their new order.
 #[derive(Clone, Copy)]
@@ -219,10 +219,9 @@ fn side(alloc: Global, sides: Sides, t: &Term) -> Result<Term, Stop>
     }
 }
 
-/// How equations move: what stands for the variables in their places and in their types, and how their sides change.
+/// How equations move: what stands for the variables in their types, and how their sides change.
 #[derive(Clone, Copy)]
 pub(crate) struct Move<'a> {
-    pub(crate) items: Places<'a>,
     pub(crate) types: Places<'a>,
     pub(crate) sides: Sides<'a>,
 }
@@ -237,7 +236,7 @@ pub(crate) fn moved(
     equations: &[Equation],
     mut made: Items<Equation>,
 ) -> Result<Items<Equation>, Stop>
-    ensures { Gives equations_of result (Ok (equations_of made ++ spec.moved (environment_of by.entry.items) (environment_of by.entry.types) (side_of by.entry.sides) size depth (equations_of equations.now))) }
+    ensures { Gives equations_of result (Ok (equations_of made ++ spec.moved level.variable (environment_of by.entry.types) (side_of by.entry.sides) size depth (equations_of equations.now))) }
 {
     match equations {
         [] => Ok(made),
@@ -256,10 +255,7 @@ fn moved_equation(
     e: &Equation,
 ) -> Result<Equation, Stop> {
     Ok(Equation {
-        place: Item {
-            ty: put(alloc, by.items, size, depth, &e.place.ty)?,
-            level: e.place.level,
-        },
+        level: e.level,
         ty: put(alloc, by.types, size, depth, &e.ty)?,
         left: side(alloc, by.sides, &e.left)?,
         right: side(alloc, by.sides, &e.right)?,

@@ -22,7 +22,7 @@ use std::alloc::Global;
 pub(crate) fn level_of_first(s: &Standing) -> u8 {
     match s.equations.as_slice() {
         [] => 0,
-        [e, ..] => e.place.level,
+        [e, ..] => e.level,
     }
 }
 
@@ -93,11 +93,8 @@ fn solved_equations(
     let size = solution.size;
     let ty = put(alloc, reordered, size, depth, ty)?;
     let by = put(alloc, reordered, size, depth, solution.by)?;
-    let refl = reflexivity(alloc, level_of_first(s), ty, copy_whole(alloc, &by)?)?;
-    let here = [by];
-    let proof = [refl];
+    let proof = [reflexivity(alloc, level_of_first(s), ty, by)?];
     let by = Move {
-        items: for_the_first(Some(solution), size, depth, &here),
         types: for_the_first(Some(solution), size, depth, &proof),
         sides: Sides::Solved(solution, depth),
     };
@@ -185,16 +182,10 @@ fn deleted_standing(
     left: &Term,
 ) -> Result<Box<Standing>, Stop> {
     let size = size(s)?;
-    let refl = reflexivity(
-        alloc,
-        level_of_first(s),
-        copy_whole(alloc, ty)?,
-        copy_whole(alloc, left)?,
-    )?;
-    let here = [copy_whole(alloc, left)?];
-    let proof = [refl];
+    let ty = copy_whole(alloc, ty)?;
+    let left = copy_whole(alloc, left)?;
+    let proof = [reflexivity(alloc, level_of_first(s), ty, left)?];
     let by = Move {
-        items: for_the_first(None, size, size, &here),
         types: for_the_first(None, size, size, &proof),
         sides: Sides::Same,
     };

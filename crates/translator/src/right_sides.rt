@@ -67,7 +67,7 @@ pub(crate) fn leaf_term(
         terms: terms.as_slice(),
         below: below_in(v.size, hidden),
     };
-    with_calls(alloc, w, place, 0, Vec::new(alloc), &whole)
+    with_calls(alloc, w, place, 0, &whole)
 }
 
 /// The number of the below value in a context of `n` variables, where one is hidden.

@@ -10,13 +10,12 @@ use crate::numbers::sum;
 use crate::places::{all_placed, placed, placed_telescope};
 use core_terms::{Items, Stop, Tele, Term, copy_whole, functions, number_of};
 use std::alloc::Global;
-use tele_eq::Item;
 
-/// An equation between two terms of the context: its place in a telescope, its type as it stands, after the equations before it, and
-/// its plain sides.
+/// An equation between two terms of the context: the level of its place in a telescope, whose type nothing reads, its type as it stands,
+/// after the equations before it, and its plain sides.
 #[derive(Debug, Drop)]
 pub(crate) struct Equation {
-    pub(crate) place: Item,
+    pub(crate) level: u8,
     pub(crate) ty: Term,
     pub(crate) left: Term,
     pub(crate) right: Term,
