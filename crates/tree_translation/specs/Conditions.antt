@@ -33,14 +33,14 @@ use Rattle.tree_translation.specs.Plans.{Plan, Part, own_part}
 use Rattle.tree_translation.specs.Recursion.{recursion_of, order_of, ordered_telescope, ordered_term}
 use Rattle.tree_translation.specs.Entries.{ordered_variables}
 
--- the signature with the function as a provisional constant behind it
+-- the signature, followed by the function as a provisional constant
 abbrev pub with_function : Signature → Plan → Signature
 with_function S plan = provisional S plan.name plan.type
 
 -- ---- parts
 
--- The side of a clause of part `at`: a term stands over the clause's variables. The call of a helper, which stands behind the part, is
--- over the context of the clause's own walk. A clause without a right side has Type 0.
+-- The side of a clause of part `at`: a term is over the clause's variables. The call of a helper, which comes after the part, is over
+-- the context of the clause's own walk. A clause without a right side has Type 0.
 pub data IsSide (S : Signature) (plan : Plan) (at : ℕ) (w : Walk) : Clause → (side : Term) → Type 0 where
   term : (pats : Pats) (binds : ℕ) (side : Term) → IsDraftTerm S plan.base 1 binds side
       → IsSide S plan at w (Is pats binds (clause.Side side)) side
@@ -76,7 +76,7 @@ pub record IsClauseOf (S : Signature) (plan : Plan) (uses : List Use) (at : ℕ)
   pub used : IsUsed uses at number walk c
 
 -- A part with its clauses. Its tree is the one that splitting gives for them at some units, from a context, a goal and the terms of the
--- columns. It names no entry behind the signature: nothing that is split mentions the function.
+-- columns. It names no entry but those of the signature: nothing that is split mentions the function.
 pub record IsPartOf (S : Signature) (plan : Plan) (uses : List Use) (at : ℕ) (part : Part) (context : Telescope) (goal : Term) (terms : List Term) : Type 0 where
   pub clauses : List Clause
   pub units : ℕ

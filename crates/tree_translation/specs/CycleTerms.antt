@@ -26,7 +26,7 @@ use Rattle.unification.specs.Cycles.{is_variable}
 use Rattle.tree_translation.specs.Naming.{Naming, left_name}
 use Rattle.tree_translation.specs.Standings.{Standing, inside, all_here, here, placed}
 
--- What is looked for below constructors of family n at the parameters ps: variable x. All stand at one depth.
+-- What is looked for below constructors of family n at the parameters ps: variable x. All are at one depth.
 pub record Search : Type 0 where
   pub family : ℕ
   pub shape : Shape
@@ -42,7 +42,7 @@ is_sought c t = is_variable c.x (variable_in t)
 abbrev pub if_direct : Option ArgumentShape → Bool → Bool
 if_direct argument there = if_recursive argument false (λ count type. (count == 0) && there)
 
--- x stands at or below a direct argument among the first `at` arguments of a constructor, of which those that stand in t are the
+-- x is at or below a direct argument among the first `at` arguments of a constructor, of which those that are in t are the
 -- last
 abbrev pub is_below_along : Search → List ArgumentShape → (at : ℕ) → Term → Bool
 is_below_along c arguments (suc at) (App g r) =
@@ -87,7 +87,7 @@ cycle_motive q from_left =
     (Lam (cond from_left (equal q (depth + 1) x (variable (depth + 1) depth)) (equal q (depth + 1) z (variable (depth + 1) q.params)))
     (no_part q (depth + 2) x z))
 
--- the number of a variable of the context behind the equations
+-- the number of a variable of the context, after the equations
 abbrev pub number_here : Standing → (x : ℕ) → ℕ
 number_here s x = inside s - (get_or s.variables (level_of (length s.state.context) x) 0 + 1)
 

@@ -34,7 +34,7 @@ abbrev pub part_term : Signature → Plan → Option Recursion → Part → (ord
 part_term S plan r part order node number =
     tree_term (record { signature = S; number = number; plan = plan; recursion = r; part = part; order = order }) part.tree node
 
--- ---- a telescope with the below value behind some of its variables
+-- ---- a telescope with the below value after some of its variables
 
 -- the variables at the old positions, in the new order at this depth
 abbrev pub ordered_variables : (order : List ℕ) (depth : ℕ) → List Term
@@ -43,7 +43,7 @@ ordered_variables order depth = each_position (λ i. variable depth (place_in or
 abbrev pub with_below : (at : ℕ) → (below : Term) → Telescope → Telescope
 with_below at below tele = take at tele ++ below ∷ lift_telescope (drop at tele) 1 0
 
--- a goal over a telescope of `count` types, with the below value behind `at` of them
+-- a goal over a telescope of `count` types, with the below value after `at` of them
 abbrev pub goal_with_below : (at count : ℕ) → Term → Term
 goal_with_below at count goal = lift goal 1 (count - at)
 

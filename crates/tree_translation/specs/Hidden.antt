@@ -15,7 +15,7 @@ visible n hidden = without hidden (levels_from 0 n)
 abbrev pub widened : (n : ℕ) (hidden : List ℕ) → Term → Term
 widened n hidden t = placed (visible n hidden) n t
 
--- the same of a term that stands behind k places
+-- the same of a term after k places
 abbrev pub widened_behind : (n : ℕ) (hidden : List ℕ) (k : ℕ) → Term → Term
 widened_behind n hidden k t = placed (visible n hidden ++ levels_from n k) (n + k) t
 
@@ -31,7 +31,7 @@ widened_rule n hidden (SolveLeft x) = SolveLeft (widened_number n hidden x)
 widened_rule n hidden (Cycle x) = Cycle (widened_number n hidden x)
 widened_rule n hidden rule = rule
 
--- a step in a context of n variables; its type stands behind the places of its group before the last one
+-- a step in a context of n variables; its type follows the places of its group before the last one
 abbrev pub widened_step : (n : ℕ) (hidden : List ℕ) → Step → Step
 widened_step n hidden step = record {
   group = step.group;

@@ -82,7 +82,7 @@ pub data IsGenerated (S : Signature) (name : List ℕ) : Type 0 where
 abbrev pub OnlyDeep : Type 0
 OnlyDeep = (S : Signature) (plan : Plan) (e : Stop) → translate S plan ≡ Err e → e ≡ Deep
 
--- Each draft mentions generated entries and the drafts before it, and nothing else behind the signature: neither itself nor the
+-- Each draft mentions generated entries and the drafts before it, and nothing else beyond the signature: neither itself nor the
 -- function, before the function is there. So no entry is recursive.
 abbrev pub EarlierAlone : Type 0
 EarlierAlone =
@@ -90,11 +90,11 @@ EarlierAlone =
     (before behind : List Draft) (d : Draft) → drafts ≡ before ++ d ∷ behind →
     All (λ name. IsGenerated S name ⊎ Any (λ e. name_of e ≡ name) before) d.names)
 
--- the constants of a draft behind the signature, from the left in its type and then in its term
+-- the constants of a draft beyond the signature, from the left in its type and then in its term
 abbrev pub mentioned_by : Draft → List ℕ
 mentioned_by d = flat_map (mentions d.base) (entry_terms d.entry)
 
--- The names of a draft are all mentioned, and stand in the order of first mention,
+-- The names of a draft are all mentioned, and are in the order of first mention,
 abbrev pub NamesInOrder : Type 0
 NamesInOrder = OfDrafts (λ S plan drafts. All (λ d. once [] (mentioned_by d) ≡ levels_from 0 (length d.names)) drafts)
 
@@ -132,7 +132,7 @@ ReplayGoal =
     IsSolved S p standing steps context solution → IsScoped S (length p.context) standing.goal →
     (behind_run S steps standing).goal ≡ under_solution solution standing.goal
 
--- an equation behind k others, over a whole context of n variables
+-- an equation after k others, over a whole context of n variables
 abbrev pub widened_equation : (n : ℕ) (hidden : List ℕ) (k : ℕ) → Equation → Equation
 widened_equation n hidden k e = record {
   place = record { type = widened_behind n hidden k e.place.type; level = e.place.level };
@@ -193,7 +193,7 @@ SplitNamesInOrder =
     ≡ levels_from (length names)
     (length (split_term S (length S.entries) L node x type runs ends names).names - length names))
 
--- the term of a split node stands over the node's context, and names entries and the names that are there then
+-- the term of a split node is over the node's context, and names entries and the names that are there then
 abbrev pub SplitScoped : Type 0
 SplitScoped =
     (S : Signature) (L : ℕ) (node : Node) (x : ℕ) (type : Term) (runs : List (List Step)) (ends : List Term) (names : List (List ℕ)) →
@@ -206,7 +206,7 @@ SplitScoped =
 abbrev pub IsAmong : List ℕ → List (List ℕ) → Type 0
 IsAmong name names = Any (λ other. other ≡ name) names
 
--- a symbol stands in a term
+-- a symbol occurs in a term
 pub data StandsIn (u : Term) : Term → Type 0 where
   itself : StandsIn u u
   domain : (a b : Term) → StandsIn u a → StandsIn u (Pi a b)
@@ -219,7 +219,7 @@ pub data StandsIn (u : Term) : Term → Type 0 where
   value : (a t b : Term) → StandsIn u t → StandsIn u (Let a t b)
   scope : (a t b : Term) → StandsIn u b → StandsIn u (Let a t b)
 
--- it stands in a term of an entry
+-- it occurs in a term of an entry
 abbrev pub StandsInEntry : Term → Entry → Type 0
 StandsInEntry u entry = Any (StandsIn u) (entry_terms entry)
 

@@ -17,7 +17,7 @@ abbrev pub have_one_constructor : Term → Term → Bool
 have_one_constructor w t = are_one_constructor (head_of w) (head_of t) && (length (spine_of w) == length (spine_of t))
 
 abbrev mutual
-  -- what stands in t at the first place at which w has variable x, looked for only under constructors that both have
+  -- what t has at the first place at which w has variable x, looked for only under constructors that both have
   pub found_in : (x : ℕ) → (w t : Term) → Option Term
   found_in x (Var v) t = cond (v == x) (Some t) None
   found_in x (App g r) (App h s) =
@@ -33,7 +33,7 @@ abbrev pub found_among : (x : ℕ) → (ws ts : List Term) → Option Term
 found_among x (w ∷ ws) (t ∷ ts) = option_or (found_in x w t) (found_among x ws ts)
 found_among x _ _ = None
 
--- a variable that stands nowhere is Type 0
+-- a variable that is found nowhere is Type 0
 abbrev pub or_sort : Option Term → Term
 or_sort (Some t) = t
 or_sort None = Sort 0

@@ -1,4 +1,4 @@
--- The names of generated entries in a term that is made. Each has a number from `base` on, and the names of a draft stand in the
+-- The names of generated entries in a term that is made. Each has a number from `base` on, and the names of a draft are in the
 -- order in which its type and then its term mention them first.
 use Rattle.std.specs.Prelude.{ℕ, zero, suc, ◌+◌, ◌-◌, ◌/◌, ◌%◌, nat_lt, Bool, cond, List, [], ◌∷◌, ◌++◌, map, get_or, bytes_eq, Result, codes}
 use Rattle.std.specs.List.{list_any}
@@ -24,7 +24,7 @@ place_of (other ∷ names) name = cond (bytes_eq other name) 0 (place_of names n
 abbrev pub number_in : (base : ℕ) → List (List ℕ) → Naming
 number_in base names name = base + place_of names name
 
--- the constants from `base` on in a term, from the left, each by its place behind `base`
+-- the constants from `base` on in a term, from the left, each by its place from `base` on
 abbrev pub mentions : (base : ℕ) → Term → List ℕ
 mentions base (Pi a b) = mentions base a ++ mentions base b
 mentions base (Lam a b) = mentions base a ++ mentions base b
@@ -33,7 +33,7 @@ mentions base (Let a t b) = mentions base a ++ (mentions base t ++ mentions base
 mentions base (Const c) = cond (nat_lt c base) [] ((c - base) ∷ [])
 mentions base _ = []
 
--- each place once, where it stands first
+-- each place once, where it comes first
 abbrev pub once : (seen : List ℕ) → List ℕ → List ℕ
 once seen [] = []
 once seen (i ∷ places) = cond (is_among i seen) (once seen places) (i ∷ once (i ∷ seen) places)
@@ -41,7 +41,7 @@ once seen (i ∷ places) = cond (is_among i seen) (once seen places) (i ∷ once
 abbrev pub is_named : List (List ℕ) → (name : List ℕ) → Bool
 is_named names name = list_any (bytes_eq name) names
 
--- names, with those of others that are not there yet behind them, each once
+-- names, followed by those of others that are not there yet, each once
 abbrev pub with_names : (names others : List (List ℕ)) → List (List ℕ)
 with_names names [] = names
 with_names names (name ∷ others) = with_names (cond (is_named names name) names (names ++ name ∷ [])) others
@@ -89,7 +89,7 @@ abbrev pub digits : (more n : ℕ) → List ℕ
 digits zero n = (48 + n) ∷ []
 digits (suc more) n = cond (nat_lt n 10) ((48 + n) ∷ []) (digits more (n / 10) ++ (48 + n % 10) ∷ [])
 
--- a number below 2 ^ 32 in decimal
+-- a number below 2 ^ 32 in decimal, as `{}` writes it
 abbrev pub decimal : ℕ → List ℕ
 decimal n = digits 9 n
 

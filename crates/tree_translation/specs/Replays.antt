@@ -1,4 +1,4 @@
--- Replaying a run: each step tells the next state, and where it stands in the term that is made. No term is reduced for it.
+-- Replaying a run: each step tells the next state, and where it is in the term that is made. No term is reduced for it.
 use Rattle.std.specs.Prelude.{ℕ, ◌+◌, Option, Some, None, List, [], ◌∷◌, ◌++◌, length, map, get_or}
 use Rattle.theory.specs.Terms.{Term}
 use Rattle.theory.specs.Signatures.{Signature}
@@ -25,7 +25,7 @@ level_of_first (e ∷ equations) = e.place.level
 abbrev pub kept : State → (p : ℕ) → List ℕ
 kept s p = without (p ∷ dependants s.context p) (levels_from 0 (length s.context))
 
--- Variable x is solved by u. Its dependants are bound anew behind the equations.
+-- Variable x is solved by u. Its dependants are bound anew after the equations.
 abbrev pub solved_standing : Standing → (x : ℕ) (A u : Term) → Standing
 solved_standing s x A u =
     let n = length s.state.context in
@@ -40,7 +40,7 @@ solved_standing s x A u =
       depth = inside s + moved;
     }
 
--- the context stays, and the equations that are left are bound behind the others
+-- the context stays, and the equations that are left are bound after the others
 abbrev pub with_state : Standing → State → Standing
 with_state s t = record s { state = t; depth = inside s }
 
@@ -56,7 +56,7 @@ abbrev pub unless_compared : Standing → (g : ℕ) → Option Comparison → St
 unless_compared s g None = s
 unless_compared s g (Some c) = injected_standing s g c
 
--- the standing behind a step over the whole context; a last step leads to no other state
+-- the standing after a step over the whole context; a last step leads to no other state
 abbrev pub behind_rule : Signature → Standing → Step → Rule → Standing
 behind_rule S s step (SolveRight x) = solved_standing s x step.ty step.left
 behind_rule S s step (SolveLeft x) = solved_standing s x step.ty step.right
@@ -68,11 +68,11 @@ behind_rule S s step rule = s
 abbrev pub step_in : Standing → Step → Step
 step_in s step = widened_step (length s.state.context) s.hidden step
 
--- the standing behind a step of a run
+-- the standing after a step of a run
 abbrev pub behind_step : Signature → Standing → Step → Standing
 behind_step S s step = behind_rule S s (step_in s step) (step_in s step).rule
 
--- the standing behind a run
+-- the standing after a run
 abbrev pub behind_run : Signature → List Step → Standing → Standing
 behind_run S [] s = s
 behind_run S (step ∷ steps) s = behind_run S steps (behind_step S s step)

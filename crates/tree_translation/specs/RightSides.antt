@@ -54,7 +54,7 @@ call_in number plan l under arguments None = no_term
 call_in number plan l under arguments (Some r) =
     call_by_path number plan r.0 (lifted under l.terms) (lift r.1 under 0) arguments
 
--- the below value behind the arguments of a helper
+-- the below value, after the arguments of a helper
 abbrev pub below_behind : (under : ℕ) → Option (Recursion × Term) → List Term
 below_behind under None = []
 below_behind under (Some r) = lift r.1 under 0 ∷ []
@@ -103,7 +103,7 @@ values_at plan part order clause side substitution terms binds =
     (mapping (get_or part.walks clause no_walk) (in_old_order order substitution) terms)
     binds
 
--- Where a leaf stands: its whole context has n variables, of which the below value, if there is one, is hidden.
+-- Where a leaf is: its whole context has n variables, of which the below value, if there is one, is hidden.
 abbrev pub below_in : (n : ℕ) (hidden : List ℕ) → Recursion → Option (Recursion × Term)
 below_in n (p ∷ hidden) r = Some (r, Var (n - (p + 1)))
 below_in n [] r = None

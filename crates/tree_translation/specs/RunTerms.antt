@@ -42,7 +42,7 @@ rule_term S number L s step (Cycle x) N =
     on_side step.left step.right (built_of S step.left) (built_of S step.right) (cycle_term number L s x)
 rule_term S number L s step Delete N = delete_term L s step.ty step.left N
 
--- the term of a state behind its equations, from the steps that are left and an end over the last context
+-- the term of a state after its equations, from the steps that are left and an end over the last context
 abbrev pub run_term : Signature → Naming → (L : ℕ) → (end : Term) → List Step → Standing → Term
 run_term S number L end [] s = placed s.variables (inside s) end
 run_term S number L end (step ∷ steps) s =

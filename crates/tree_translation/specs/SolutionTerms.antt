@@ -20,7 +20,7 @@ remaining_goal s g variables equations depth =
     let types = types_as_they_stand (drop g s.state.equations) in
     products (placed_telescope (variables ++ equations) depth types) (placed variables (depth + length types) s.goal)
 
--- the levels of the variables behind the binders of x, at this depth, of e, and of the dependants
+-- the levels of the variables after the binders of x, at this depth, of e, and of the dependants
 abbrev pub motive_levels : Standing → (p depth : ℕ) → List ℕ
 motive_levels s p depth =
     let moved = dependants s.state.context p in
@@ -49,7 +49,7 @@ solution_motive s p on_right A u =
     (products (new_context s.state.context (at_levels levels) (depth + 2) moved)
     (remaining_goal s 1 levels ((depth + 1) ∷ []) behind)))
 
--- \dependants. N, with the dependants as they stand behind the solution
+-- \dependants. N, with the dependants as they are after the solution
 abbrev pub solution_method : Standing → (p : ℕ) → (next : Standing) (N : Term) → Term
 solution_method s p next N =
     let fixed = map (λ j. get_or s.variables j 0) (kept s.state p) in

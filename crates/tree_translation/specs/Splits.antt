@@ -42,7 +42,7 @@ split_motive node m x =
     let types = equations items (variables count) (lifted count (scrutinee m x)) in
     functions (member_types (family_items m.n m.family m.parameters)) (products types (lift node.goal (count + length types) 0))
 
--- the state of the problem of a constructor, behind the context and the constructor's arguments
+-- the state of the problem of a constructor, after the context and the constructor's arguments
 abbrev pub branch_standing : Node → Member → (x number : ℕ) → Constructor → Standing
 branch_standing node m x number c =
     let count = length c.arguments in

@@ -1,5 +1,5 @@
--- Where a state of unification stands in a term that is made. The variables of its context are bound by binders of the term, which
--- are told by their levels, and its equations by the nearest ones.
+-- Where a state of unification is in a term that is made. The variables of its context are bound by binders of the term, which are
+-- given by their levels, and its equations by the nearest ones.
 use Rattle.std.specs.Prelude.{ℕ, ◌+◌, ◌-◌, List, [], ◌∷◌, ◌++◌, length, map, get_or}
 use Rattle.theory.specs.Terms.{Term}
 use Rattle.theory.specs.Telescopes.{Telescope, functions}
@@ -30,7 +30,7 @@ placed_telescope levels depth (a ∷ tele) =
 abbrev pub levels_from : (start count : ℕ) → List ℕ
 levels_from start count = each_position (λ j. j) start count
 
--- A state behind `depth` binders, among which those of its variables have the levels `variables`; a goal over its context; and the
+-- A state after `depth` binders, among which those of its variables have the levels `variables`; a goal over its context; and the
 -- levels that its hidden variables have in the context: those of below values, of which steps know nothing.
 pub record Standing : Type 0 where
   pub state : State
@@ -42,18 +42,18 @@ pub record Standing : Type 0 where
 abbrev pub equation_count : Standing → ℕ
 equation_count s = length s.state.equations
 
--- the depth behind its equations, which are bound one after the other
+-- the depth after its equations, which are bound one after the other
 abbrev pub inside : Standing → ℕ
 inside s = s.depth + equation_count s
 
--- the first g of its equations, and those behind them, at their depth
+-- the first g of its equations, and those after them, at their depth
 abbrev pub first_equations : Standing → (g : ℕ) → List Term
 first_equations s g = run (inside s) s.depth g
 
 abbrev pub further_equations : Standing → (g : ℕ) → List Term
 further_equations s g = run (inside s) (s.depth + g) (equation_count s - g)
 
--- a term of its context, and terms, behind its equations
+-- a term of its context, and terms, after its equations
 abbrev pub here : Standing → Term → Term
 here s t = placed s.variables (inside s) t
 

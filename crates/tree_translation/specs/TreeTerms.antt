@@ -38,7 +38,7 @@ abbrev pub node_behind : Signature → Node → Member → (x number : ℕ) → 
 node_behind S node m x number steps None = node
 node_behind S node m x number steps (Some c) = node_of (behind_run S steps (branch_standing node m x number c))
 
--- the node behind a run of constructor `number`
+-- the node after a run of constructor `number`
 abbrev pub next_node : Signature → Node → (x number : ℕ) → List Step → Option Member → Node
 next_node S node x number steps None = node
 next_node S node x number steps (Some m) =
