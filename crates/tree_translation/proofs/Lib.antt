@@ -23,6 +23,7 @@ mod IndexedRows
 mod InnerCallRows
 pub mod LevelLists
 mod MappingRows
+pub mod MovedInstances
 pub mod Needs
 mod NestedHelperRows
 pub mod NewNames
@@ -35,6 +36,7 @@ mod ReorderedRows
 pub mod ReplayedBinders
 pub mod ReplayedRuns
 mod Samples
+pub mod SeenEquations
 pub mod SeenTerms
 mod SplitRows
 pub mod TelescopeInstances

@@ -69,7 +69,7 @@ items-instance s (a ∷ tele) (l ∷ levels) =
 filled : (s : ℕ → Term) (ps : List Term) (v : ℕ) → inst s (fill no_variable ps v) ≡ fill no_variable (map (inst s) ps) v
 filled s ps v = inst-fill s no_variable ps v
 
-near-variables : (s : ℕ → Term) (k count : ℕ) → count ≤ k → map (inst (ups_by k s)) (variables count) ≡ variables count
+pub near-variables : (s : ℕ → Term) (k count : ℕ) → count ≤ k → map (inst (ups_by k s)) (variables count) ≡ variables count
 near-variables s k zero le = refl
 near-variables s k (suc count) le =
     ap₂ ◌∷◌ (first-of_two count k (Var count) (weaken_by k (s (count - k))) (omega arith)) (near-variables s k count (omega arith))

@@ -15,6 +15,7 @@ use Rattle.unification.proofs.Puts.{Lifts, stands, put-is_inst}
 use Rattle.tree_translation.specs.Standings.{at_levels, placed, levels_from}
 use Rattle.tree_translation.specs.Hidden.{visible, widened, widened_behind, widened_number}
 use Rattle.tree_translation.specs.Laws.{widened_equation, widened_equations}
+use Rattle.tree_translation.proofs.MovedInstances.{equations_under, one-equation}
 use Rattle.tree_translation.proofs.LevelLists.{there-get, there-below, at-among, each-below, without-among, length-levels, get-levels}
 
 -- ---- levels below a depth
@@ -124,3 +125,15 @@ module _ (n : ℕ) (hidden : List ℕ) (k : ℕ) where
   pub behind-is : (t : Term) → widened_behind n hidden k t ≡ inst (ups_by k (widening n hidden)) t
   unfolding further
   behind-is t = put-is_inst (at_levels further) (length further) (n + k) (levels-lift further (n + k) further-below) t ∙ inst-same t stands-further
+
+-- equations, read over the whole context
+pub widened-equations : (n : ℕ) (hidden : List ℕ) (k : ℕ) (es : List Equation) → widened_equations n hidden k es ≡ equations_under (widening n hidden) k es
+widened-equations n hidden k [] = refl
+widened-equations n hidden k (e ∷ es) =
+    ap₂ ◌∷◌
+    (one-equation e.place.level (behind-is n hidden k e.place.type) (behind-is n hidden k e.type) (widened-is n hidden e.left) (widened-is n hidden e.right))
+    (widened-equations n hidden (k + 1) es)
+
+-- the number of a variable
+pub widened-variable : (n : ℕ) (hidden : List ℕ) (x : ℕ) → x < length (visible n hidden) → widening n hidden x ≡ Var (widened_number n hidden x)
+widened-variable n hidden x lt = first-of_two x (length (visible n hidden)) _ _ lt
