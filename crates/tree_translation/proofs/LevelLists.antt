@@ -6,6 +6,7 @@ use Rattle.tele_eq.specs.Items.{each_position}
 use Rattle.tele_eq.specs.Levels.{is_among, place_in}
 use Rattle.tele_eq.proofs.Carrying.{IsFrom}
 use Rattle.unification.specs.Occurrences.{without}
+use Rattle.unification.proofs.Cases.{less-or_same}
 use Rattle.unification.proofs.Levels.{among-cases, among-own, among-later, among-from, from-lower}
 use Rattle.tree_translation.specs.Standings.{levels_from}
 
@@ -70,6 +71,23 @@ from-apart n (t ∷ levels) (suc i) zero l from e f =
     let low : t + 1 ≤ l = among-from (t + 1) levels from.1 l (at-among levels i l e) in
     absurd (omega arith)
 from-apart n (t ∷ levels) (suc i) (suc j) l from e f = ap (λ k. suc k) (from-apart (t + 1) levels i j l from.1 e f)
+
+pub get-among : (levels : List ℕ) (k d : ℕ) → k < length levels → is_among (get_or levels k d) levels ≡ true
+get-among levels k d lt = at-among levels k (get_or levels k d) (there-get levels k d lt)
+
+-- later ones are greater
+pub climbs : (n : ℕ) (levels : List ℕ) (i j : ℕ) → IsFrom n levels → i < j → j < length levels → get_or levels i 0 < get_or levels j 0
+climbs n [] i j from lt within = absurd (omega arith)
+climbs n (t ∷ levels) i zero from lt within = absurd (omega arith)
+climbs n (t ∷ levels) zero (suc j) from lt within =
+    let low : t + 1 ≤ get_or levels j 0 = among-from (t + 1) levels from.1 (get_or levels j 0) (get-among levels j 0 (omega arith)) in omega arith
+climbs n (t ∷ levels) (suc i) (suc j) from lt within = climbs (t + 1) levels i j from.1 (omega arith) (omega arith)
+
+pub rises : (n : ℕ) (levels : List ℕ) (i j : ℕ) → IsFrom n levels → i ≤ j → j < length levels → get_or levels i 0 ≤ get_or levels j 0
+rises n levels i j from le within = elim (less-or_same i j le) [
+  | inl lt ↦ let low : get_or levels i 0 < get_or levels j 0 = climbs n levels i j from lt within in omega arith
+  | inr e ↦ let same : get_or levels i 0 ≡ get_or levels j 0 = ap (λ k. get_or levels k 0) e in omega arith
+]
 
 -- ---- levels from one on
 

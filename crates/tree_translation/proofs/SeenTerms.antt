@@ -20,11 +20,10 @@ use Rattle.tree_translation.proofs.LevelLists.{there-get, there-below, at-among,
 
 -- ---- levels below a depth
 
-AreBelow : List ℕ → ℕ → Type 0
+abbrev pub AreBelow : List ℕ → ℕ → Type 0
 AreBelow levels n = (j : ℕ) → j < length levels → get_or levels j 0 < n
 
-levels-lift : (levels : List ℕ) (n : ℕ) → AreBelow levels n → Lifts (at_levels levels) (length levels) n
-unfolding AreBelow
+pub levels-lift : (levels : List ℕ) (n : ℕ) → AreBelow levels n → Lifts (at_levels levels) (length levels) n
 levels-lift levels n below by j lt =
     let low : get_or levels j 0 < n = below j lt in
     let e : n + by - (get_or levels j 0 + 1) ≡ n - (get_or levels j 0 + 1) + by = omega arith in
@@ -37,8 +36,7 @@ visible-below n hidden j lt =
     let low : get_or levels j 0 < 0 + n = each-below 0 n (get_or levels j 0) r.0 in
     omega arith
 
-visible-are : (n : ℕ) (hidden : List ℕ) → AreBelow (visible n hidden) n
-unfolding AreBelow
+pub visible-are : (n : ℕ) (hidden : List ℕ) → AreBelow (visible n hidden) n
 visible-are n hidden = visible-below n hidden
 
 -- ---- widening
@@ -80,7 +78,7 @@ module _ (n : ℕ) (hidden : List ℕ) (k : ℕ) where
       get-later (visible n hidden) (levels_from n k) j le ∙ get-levels n k (j - length (visible n hidden)) (omega arith)
 
   further-below : AreBelow further (n + k)
-  unfolding AreBelow further
+  unfolding further
   further-below j lt =
       let total : length further ≡ length (visible n hidden) + k = long in
       elim (below-or_from j (length (visible n hidden))) [
