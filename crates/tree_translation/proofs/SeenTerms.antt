@@ -53,12 +53,12 @@ pub all-widened : (n : ℕ) (hidden : List ℕ) (ts : List Term) → map (widene
 all-widened n hidden [] = refl
 all-widened n hidden (t ∷ ts) = ap₂ ◌∷◌ (widened-is n hidden t) (all-widened n hidden ts)
 
-get-first : (xs ys : List ℕ) (j : ℕ) → j < length xs → get_or (xs ++ ys) j 0 ≡ get_or xs j 0
+pub get-first : (xs ys : List ℕ) (j : ℕ) → j < length xs → get_or (xs ++ ys) j 0 ≡ get_or xs j 0
 get-first [] ys j lt = absurd (omega arith)
 get-first (x ∷ xs) ys zero lt = refl
 get-first (x ∷ xs) ys (suc j) lt = get-first xs ys j (omega arith)
 
-get-later : (xs ys : List ℕ) (j : ℕ) → length xs ≤ j → get_or (xs ++ ys) j 0 ≡ get_or ys (j - length xs) 0
+pub get-later : (xs ys : List ℕ) (j : ℕ) → length xs ≤ j → get_or (xs ++ ys) j 0 ≡ get_or ys (j - length xs) 0
 get-later [] ys j le = ap (λ k. get_or ys k 0) (omega arith)
 get-later (x ∷ xs) ys zero le = absurd (omega arith)
 get-later (x ∷ xs) ys (suc j) le =
