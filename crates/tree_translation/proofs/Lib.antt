@@ -28,6 +28,7 @@ pub mod Needs
 mod NestedHelperRows
 pub mod NewNames
 pub mod NothingHidden
+pub mod OrderTypes
 mod ParameterRows
 mod PlaceRows
 pub mod RecordInstances
@@ -36,8 +37,15 @@ mod ReorderedRows
 pub mod ReplayedBinders
 pub mod ReplayedRuns
 mod Samples
+pub mod SeenDependants
 pub mod SeenEquations
+pub mod SeenOccurrences
+pub mod SeenOrders
+pub mod SeenSolutions
+pub mod SeenSquares
+pub mod SeenSteps
 pub mod SeenTerms
+pub mod SolutionLifts
 mod SplitRows
 pub mod TelescopeInstances
 mod VectorRows

@@ -1,5 +1,5 @@
 -- A solution in the whole context has, of what is seen, the solution of what is seen.
-use Rattle.std.proofs.Common.{◌≡◌, ℕ, zero, suc, ◌+◌, ◌-◌, ◌<◌, ◌≤◌, ◌==◌, ◌⊎◌, inl, inr, cond, IsTrue, true, false, Some, List, [], ◌∷◌, ◌++◌, length, map, take, drop, get_or, slice_get, refl, sym, ap, ap₂, ◌∙◌, subst, arith}
+use Rattle.std.proofs.Common.{◌≡◌, ℕ, zero, suc, ◌+◌, ◌-◌, ◌<◌, ◌≤◌, ◌==◌, ◌⊎◌, inl, inr, cond, IsTrue, Bool, true, false, Some, List, [], ◌∷◌, ◌++◌, length, map, take, drop, get_or, slice_get, refl, sym, ap, ap₂, ◌∙◌, subst, arith}
 use Rattle.std.proofs.lemmas.Bool.{true≢false, not-true, or_parts}
 use Rattle.std.proofs.lemmas.List.{length-append, length-take-le, take-append-drop}
 use Rattle.theory.specs.Terms.{Term, Var}
@@ -24,6 +24,7 @@ use Rattle.tree_translation.specs.Conditions.{IsSeen}
 use Rattle.tree_translation.proofs.LevelLists.{at-among, there-get, there-below, get-there, from-each, from-without, climbs, length-levels}
 use Rattle.tree_translation.proofs.OrderTypes.{stands-at}
 use Rattle.tree_translation.proofs.SeenTerms.{AreBelow, widening, widened-is, visible-below, visible-are, get-first}
+use Rattle.tree_translation.proofs.SeenOccurrences.{position-of}
 use Rattle.tree_translation.proofs.SeenSquares.{IsSquare, square, binders}
 use Rattle.tree_translation.proofs.SeenOrders.{IsSameVariable, rising, same-level, whole-below, order-seen, new-count, new-source, new-place}
 use Rattle.tree_translation.proofs.SolutionLifts.{solved-lifts}
@@ -106,18 +107,39 @@ module _ (context : Telescope) (hid : List ℕ) (others : Telescope) (p' p : ℕ
           place-square W' q under (place_in order i) (place_in order' (get_or V i 0)) (omega arith)
           (same (place_in order i) near ∙ (there i in_order).1)
 
+  -- the variable that is solved is not in the term, and neither is that of the whole context
+  pub lacks-it : has_variable (length others - (p + 1)) u ≡ false
+  lacks-it = (or_parts (has_variable (length others - (p + 1)) u) (has_level (length others) (dependants others p) u) (not-true _ free)).0
+
+  pub lacks-there : has_variable (length context - (p' + 1)) (widened (length context) hid u) ≡ false
+  lacks-there = by (has_variable (length context - (p' + 1)) u') refl
+    where
+      by : (t : Bool) → has_variable (length context - (p' + 1)) u' ≡ t → t ≡ false
+      by true h =
+          let r = position-of V (length context) p' u (visible-are (length context) hid) (whole-below context hid others p' p v) h in
+          let own : r.j ≡ p = same-level context hid others p' p v r.j p (omega (arith, r.within, many)) v.inside (r.level ∙ sym v.level) in
+          absurd (true≢false
+          (sym (ap₂ (λ n j. has_variable (n - (j + 1)) u) (sym many) (sym own) ∙ r.occurs) ∙ lacks-it))
+      by false h = refl
+
   -- a term of the context that lacks what is solved is over all others
   over-all : IsOver (length others) (take (length order) order) u
   over-all i lt occurs =
       subst (λ levels. is_among i levels ≡ true) (sym (take-all order))
-      (other-among others p i lt (λ same. true≢false (sym (subst (λ j. has_variable (length others - (j + 1)) u ≡ true) same occurs) ∙ lacking)))
+      (other-among others p i lt (λ same. true≢false (sym (subst (λ j. has_variable (length others - (j + 1)) u ≡ true) same occurs) ∙ lacks-it)))
     where
       take-all : (xs : List ℕ) → take (length xs) xs ≡ xs
       take-all [] = refl
       take-all (x ∷ xs) = ap (λ rest. x ∷ rest) (take-all xs)
 
-      lacking : has_variable (length others - (p + 1)) u ≡ false
-      lacking = (or_parts (has_variable (length others - (p + 1)) u) (has_level (length others) (dependants others p) u) (not-true _ free)).0
+  pub moved-all : put (reordered (order_without context p')) (length context) (length (order_without context p')) (widened (length context) hid u)
+      ≡ inst (widening (length (order_without context p')) (map (place_in (order_without context p')) hid))
+      (put (reordered (order_without others p)) (length others) (length (order_without others p)) u)
+  moved-all =
+      let counted : length V' ≡ length order = new-count context hid others p' p v in
+      moved-solution (length order) (length order') V' (omega arith) (omega arith) (λ i low. refl) over-all
+      ∙ (ap (λ n. placed V' (length order') (put (reordered order) (length others) n u)) counted
+      ∙ widened-is (length order') hid' (put (reordered order) (length others) (length order) u))
 
   -- ---- the context
 
@@ -260,11 +282,9 @@ module _ (context : Telescope) (hid : List ℕ) (others : Telescope) (p' p : ℕ
           let counted : length V' ≡ length order = new-count context hid others p' p v in
           where-same (get_or V j 0) p' (put (reordered order') (length context) (length order') u') (reordered order' (length order') (get_or V j 0))
           (ap (λ i. get_or V i 0) own ∙ v.level)
-          ∙ (moved-solution (length order) (length order') V' (omega arith) (omega arith) (λ i low. refl) over-all
-          ∙ (ap (λ n. placed V' (length order') (put (reordered order) (length others) n u)) counted
-          ∙ (widened-is (length order') hid' (put (reordered order) (length others) (length order) u)
+          ∙ (moved-all
           ∙ ap (inst (widening (length order') hid'))
-          (sym (where-same j p (put (reordered order) (length others) (length order) u) (reordered order (length order) j) own)))))
+          (sym (where-same j p (put (reordered order) (length others) (length order) u) (reordered order (length order) j) own)))
       by j lt (inr other) =
           let counted : length V' ≡ length order = new-count context hid others p' p v in
           let r = there j (other-among others p j lt other) in

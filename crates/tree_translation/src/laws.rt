@@ -1,5 +1,5 @@
 //! The laws of translation.
-ghost use Rattle.tree_translation.specs.Laws.{OnlyDeep, EntriesAreThese, TypeIsWritten, NamesInOrder, NeededIsExact, NeededOnce, SplitNames, ReplayIsRun, ReplayStandsApart};
+ghost use Rattle.tree_translation.specs.Laws.{OnlyDeep, EntriesAreThese, TypeIsWritten, NamesInOrder, NeededIsExact, NeededOnce, SplitNames, ReplayIsRun, ReplayStandsApart, ReplayIsSeen};
 
 /// No other refusal than `Deep` is meant.
 pub fn only_deep()
@@ -44,4 +44,9 @@ pub fn replay_is_run()
 /// The variables of a standing have binders of their own, before the equations, however far it is replayed.
 pub fn replay_stands_apart()
     ensures { ReplayStandsApart }
+{}
+
+/// The same steps lead through a whole context, with its hidden variables, as through what is seen of it.
+pub fn replay_is_seen()
+    ensures { ReplayIsSeen }
 {}
