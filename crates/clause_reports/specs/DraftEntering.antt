@@ -49,14 +49,15 @@ Entering = Signature → Draft → ℕ → Reporting Entered
 abbrev pub with_entry : Reporting Entered → Reporting Signature
 with_entry outcome = and_next outcome (λ e rest. answers (Ok e.signature) rest)
 
--- an instance that is there already gives its number
+-- An instance that is there already gives its number. K enters only where it is on.
 abbrev pub enter_eliminator : Signature → (n m : ℕ) → Option Family → ℕ → Reporting Signature
 enter_eliminator S n m None left = answers (Ok S) left
 enter_eliminator S n m (Some f) left = with_entry (entering S (EliminatorAt n m) (instance_of S n f m left))
 
 abbrev pub enter_instance : Signature → Instance → ℕ → Reporting Signature
 enter_instance S (Eliminator n m) left = enter_eliminator S n m (family_at S n) left
-enter_instance S (AxiomKInto i m) left = with_entry (entering S (AxiomKAt i m) (axiom_k_of S i m left))
+enter_instance S (AxiomKInto i m) left =
+    cond S.has_k (with_entry (entering S (AxiomKAt i m) (axiom_k_of S i m left))) (answers (Err (Halts Deep)) left)
 
 -- a generated entry; a name that none has is one of the signature
 abbrev pub enter_generated : Entering → Signature → Option Generated → ℕ → Reporting Signature

@@ -8,7 +8,7 @@ use Rattle.theory.specs.Signatures.{Signature, Definition, IsEntryAt, IsPrefix, 
 use Rattle.theory.specs.WellFormed.{IsWellFormed}
 use Rattle.core_sig.specs.Drafts.{Draft}
 use Rattle.family_check.specs.Entering.{Entered}
-use Rattle.family_check.specs.Scopes.{IsSettled}
+use Rattle.family_check.specs.Scopes.{HasPrelude}
 use Rattle.pattern_vectors.specs.Matching.{matches_all}
 use Rattle.case_trees.specs.Points.{under_solution}
 use Rattle.tree_translation.specs.Plans.{Plan}
@@ -41,7 +41,7 @@ EnteringSpends = (S : Signature) (d : Draft) (left : ℕ) → (enter_draft_of S 
 -- A well-formed signature stays well formed.
 abbrev pub EnteringKeepsWellFormed : Type 0
 EnteringKeepsWellFormed =
-    (S : Signature) (d : Draft) (left : ℕ) → IsWellFormed S → IfOk (enter_draft_of S d left).0 (λ e. IsWellFormed e.signature)
+    (S : Signature) (d : Draft) (left : ℕ) → IsWellFormed S → HasPrelude S → IfOk (enter_draft_of S d left).0 (λ e. IsWellFormed e.signature)
 
 -- The entry comes last, after others that were not there.
 pub record Enters (S : Signature) (e : Entered) : Type 0 where
@@ -75,7 +75,7 @@ ProvedHasType =
     × IsEntryAt r.signature n
     (Definition (proof_name plan c.part c.clause)
     (products e.context (equation (part_at plan c.part).level e.type e.left e.right)) body)
-    × IsPrefix S r.signature × (IsWellFormed S → IsWellFormed r.signature))
+    × IsPrefix S r.signature × (IsWellFormed S → HasPrelude S → IsWellFormed r.signature))
 
 -- shadowed: an earlier clause and the clause itself match the vector; the leaves are all of the clause in its tree, in order, and the
 -- equation converts at each of them
