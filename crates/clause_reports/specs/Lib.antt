@@ -1,0 +1,13 @@
+-- What is said of each clause of a function.
+pub mod Conditions
+pub mod DraftEntering
+pub mod Equations
+pub mod Generated
+pub mod Laws
+pub mod ProofTerms
+pub mod ProofWalks
+pub mod Reports
+pub mod Shadows
+pub mod Showing
+pub mod Stops
+pub mod Texts

@@ -1,0 +1,2 @@
+//! What is said of each clause of a function: its equation, a proof of it, or the earlier clause that shadows it.
+#![tactic(auto)]

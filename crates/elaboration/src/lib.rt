@@ -1,0 +1,2 @@
+//! A function by clauses, from its resolved clauses to its entries and what holds of each clause.
+#![tactic(auto)]

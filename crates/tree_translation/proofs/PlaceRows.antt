@@ -1,0 +1,67 @@
+-- What stands for the variables of a walk at a leaf, for a call whose argument is no strict part, and names of helpers.
+use native.Mathlib.Decide.{ℕ_discrete}
+use Rattle.std.proofs.Common.{◌≡◌, false, Some, [], ◌∷◌, refl, codes}
+use Rattle.theory.specs.Terms.Term.{Var, Sort, Lam, App, Con, Fam, Const}
+use Rattle.core_terms.specs.CaseTrees.{Walk}
+use Rattle.tree_translation.specs.Mappings.{mapping, in_old_order}
+use Rattle.tree_translation.specs.Naming.{helper_name}
+use Rattle.tree_translation.specs.Plans.{Plan}
+use Rattle.tree_translation.specs.Recursion.{Recursion}
+use Rattle.tree_translation.specs.RightSides.{Place, with_calls}
+use Rattle.tree_translation.proofs.Samples.{sample, nat_family, Nat, suc_term, own, plan_of}
+
+-- a walk in a context of three numbers, of which the last one stands nowhere
+abbrev walk : Walk
+walk = record {
+  ctx = Nat ∷ Nat ∷ Nat ∷ [];
+  goal = Nat;
+  subst = suc_term (Var 2) ∷ App (Con 51 0) (Var 1) ∷ [];
+  terms = suc_term (Var 2) ∷ Var 1 ∷ [];
+  binds = [];
+  dots = [];
+}
+
+-- The first variable stands under a constructor that both have; the second one under its parameter; the third one nowhere.
+places : mapping walk (suc_term (suc_term (Var 0)) ∷ App (Con 51 0) (Fam 48) ∷ []) (suc_term (Var 5) ∷ Var 7 ∷ [])
+    ≡ suc_term (Var 0) ∷ Fam 48 ∷ Sort 0 ∷ []
+unfolding native.Mathlib.Decide.ℕ_discrete
+places = refl
+
+-- where the leaf has no constructor, or another one, a later place tells
+later_places : mapping walk (Var 3 ∷ Con 46 0 ∷ []) (suc_term (Var 5) ∷ Var 7 ∷ []) ≡ Var 5 ∷ Var 7 ∷ Sort 0 ∷ []
+unfolding native.Mathlib.Decide.ℕ_discrete
+later_places = refl
+
+-- a substitution for the positions 2, 0 and 1, as they stand in the new order
+old_order : in_old_order (2 ∷ 0 ∷ 1 ∷ []) (Var 10 ∷ Var 11 ∷ Var 12 ∷ []) ≡ Var 11 ∷ Var 12 ∷ Var 10 ∷ []
+old_order = refl
+
+tenth_helper : helper_name (codes "f") 10 ≡ codes "f!w10"
+tenth_helper = refl
+
+last_number : helper_name (codes "f") 4294967295 ≡ codes "f!w4294967295"
+last_number = refl
+
+-- ---- calls
+
+abbrev plan : Plan
+plan = plan_of (sample false) 52 (codes "f") 0 (Nat ∷ Nat ∷ []) Nat (Some 0) [] []
+
+abbrev recursion : Recursion
+recursion = record { position = 0; admission = record { number = 46; fixed = []; indices = [] }; family = nat_family }
+
+-- at a leaf with the terms suc n and m, in the context n m b
+abbrev leaf : Place
+leaf = record { terms = suc_term (Var 2) ∷ Var 1 ∷ []; recursion = Some (recursion, Var 0) }
+
+-- m is no strict part of suc n: the below value itself is applied to the other argument, also below a binder, where it has another number
+below_itself : with_calls (λ name. 60) plan leaf 0 [] (Lam Nat (suc_term (App (App own (Var 2)) (Var 0))))
+    ≡ Lam Nat (suc_term (App (Var 1) (Var 0)))
+unfolding native.Mathlib.Decide.ℕ_discrete
+below_itself = refl
+
+-- a helper's call has the below value behind its arguments
+helper_with_below : with_calls (λ name. 60) plan leaf 0 [] (App (App (Const 53) (Var 2)) (Var 1))
+    ≡ App (App (App (Const 60) (Var 2)) (Var 1)) (Var 0)
+unfolding native.Mathlib.Decide.ℕ_discrete
+helper_with_below = refl
