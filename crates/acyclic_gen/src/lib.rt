@@ -19,10 +19,5 @@ mod statements;
 mod stop;
 
 pub use acyclic_entries::acyclic_entry;
-pub use carrier::{Carrier, carrier_at, carrier_of};
 pub use direct_entries::direct_entry;
-pub use directs::{Direct, directs as direct_arguments};
-pub use pairings::{Pairing, component, projection};
-pub use point::{Head, Point, at_level};
-pub use statements::{EMPTY, equal, no_part};
 pub use stop::AcyclicStop;

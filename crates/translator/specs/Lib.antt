@@ -1,2 +1,0 @@
-pub mod CodePlaces
-pub mod Meanings
