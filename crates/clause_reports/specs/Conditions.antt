@@ -2,7 +2,6 @@
 use Rattle.std.specs.Prelude.{◌≡◌, ◌<◌, ◌-◌, ℕ, Option, Some, None, List, [], ◌∷◌, length, slice_get, Result, Ok}
 use Rattle.theory.specs.Terms.{Term, top}
 use Rattle.theory.specs.Signatures.{Signature, Entry, Definition, IsPrefix}
-
 use Rattle.core_terms.specs.CaseTrees.{Walk}
 use Rattle.core_sig.specs.Drafts.{Draft}
 use Rattle.core_sig.specs.Names.{find}

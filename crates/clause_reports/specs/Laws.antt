@@ -4,7 +4,6 @@ use Rattle.theory.specs.Terms.{Term, Const}
 use Rattle.theory.specs.Telescopes.{products, applied}
 use Rattle.theory.specs.Conversion.{Converts}
 use Rattle.theory.specs.Signatures.{Signature, Definition, IsEntryAt, IsPrefix, equation}
-
 use Rattle.theory.specs.WellFormed.{IsWellFormed}
 use Rattle.core_sig.specs.Drafts.{Draft}
 use Rattle.family_check.specs.Entering.{Entered}
