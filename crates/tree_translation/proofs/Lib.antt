@@ -35,6 +35,7 @@ pub mod RecordInstances
 mod RecursionRows
 mod ReorderedRows
 pub mod ReplayedBinders
+pub mod ReplayedEnds
 pub mod ReplayedRuns
 mod Samples
 pub mod SeenDependants

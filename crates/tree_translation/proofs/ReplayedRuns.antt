@@ -21,12 +21,12 @@ use Rattle.tree_translation.proofs.NothingHidden.{step-own, number-own}
 use Rattle.tree_translation.proofs.Comparing.{compared-built, compared-group}
 
 -- a standing over a state, where nothing is hidden
-record IsAt (s : State) (standing : Standing) : Type 0 where
-  state : standing.state ≡ s
-  hidden : standing.hidden ≡ []
+pub record IsAt (s : State) (standing : Standing) : Type 0 where
+  pub state : standing.state ≡ s
+  pub hidden : standing.hidden ≡ []
 
 -- the step is read as it is written
-read : (S : Signature) (s : State) (standing : Standing) (step : Step) → IsAt s standing → widened_rule (length s.context) [] step.rule ≡ step.rule
+pub read : (S : Signature) (s : State) (standing : Standing) (step : Step) → IsAt s standing → widened_rule (length s.context) [] step.rule ≡ step.rule
     → behind_step S standing step ≡ behind_rule S standing step step.rule
 read S s standing step at rule =
     ap (λ (other : Step). behind_rule S standing other other.rule)
@@ -57,7 +57,7 @@ at-injected s standing g o c at e =
       hidden = at.hidden;
     })
 
-step-replayed : (S : Signature) (s t : State) (step : Step) (standing : Standing) → Steps S s step t → IsAt s standing → IsAt t (behind_step S standing step)
+pub step-replayed : (S : Signature) (s t : State) (step : Step) (standing : Standing) → Steps S s step t → IsAt s standing → IsAt t (behind_step S standing step)
 step-replayed S s t _ standing (solve_right _ e x A u first solvable) at =
     let step : Step = record { group = 1; rule = SolveRight x; ty = A; left = u; right = Var x } in
     at-same t (behind_step S standing step) (solved_standing standing x A u)
