@@ -19,8 +19,8 @@ use crate::translation::Translation;
 use crate::trees::{add_tree, tree_term};
 use core_sig::Draft;
 use core_terms::{
-    Items, Name, Stop, Tele, Term, applied, copy_name, copy_tele, copy_whole, functions,
-    number_of, products,
+    Items, Name, Stop, Tele, Term, applied, copy_name, copy_tele, copy_whole, functions, number_of,
+    products,
 };
 use std::alloc::Global;
 use unifier::variables;
@@ -40,26 +40,28 @@ fn add_helpers(
     add_helpers(alloc, function, sum(k, 1)?, count - 1, names)
 }
 
-/// The names that right sides may mention: the below value's type and paths in it, and helpers.
-fn side_names(alloc: Global, f: &Function) -> Result<Items<Name>, Stop> {
+/// The names that right sides of part `at` may mention: the below value's type and paths in it, and helpers of greater number.
+fn side_names(alloc: Global, f: &Function, at: u32) -> Result<Items<Name>, Stop> {
     let mut names = Items::new(alloc);
     if let Some(r) = f.recursion {
         add_name(&mut names, below_name(alloc, r.family, f.plan.level)?)?;
         add_name(&mut names, motive_name(alloc, &f.plan.name)?)?;
     }
-    let count = f.plan.parts.as_slice().len().saturating_sub(1);
-    add_helpers(alloc, &f.plan.name, 1, count, &mut names)?;
+    let helpers = f.plan.parts.as_slice().len().saturating_sub(1);
+    let count = helpers.saturating_sub(at as usize);
+    add_helpers(alloc, &f.plan.name, sum(at, 1)?, count, &mut names)?;
     Ok(names)
 }
 
-/// The names that an entry with the tree of a part may mention.
+/// The names that the entry of part `at`, with its tree, may mention.
 fn part_names(
     alloc: Global,
     f: &Function,
+    at: u32,
     part: &Part,
     node: &Node,
 ) -> Result<Items<Name>, Stop> {
-    let mut names = side_names(alloc, f)?;
+    let mut names = side_names(alloc, f, at)?;
     add_tree(alloc, f.sig, part.level, &part.tree, node, &mut names)?;
     Ok(names)
 }
@@ -85,7 +87,11 @@ fn part_function(
         order,
     };
     let term = tree_term(alloc, w, &part.tree, node)?;
-    functions(alloc, copy_tele(alloc, node.ctx.as_slice())?.into_vec(), term)
+    functions(
+        alloc,
+        copy_tele(alloc, node.ctx.as_slice())?.into_vec(),
+        term,
+    )
 }
 
 /// The product of a node's goal over its context.
@@ -115,7 +121,10 @@ pub(crate) fn motive_entry(alloc: Global, f: &Function, r: Recursive) -> Result<
 /// The first `count` types, and the others.
 fn cut(alloc: Global, tele: &[Term], count: usize) -> Result<(Tele, Tele), Stop> {
     let count = count.min(tele.len());
-    Ok((copy_tele(alloc, &tele[..count])?, copy_tele(alloc, &tele[count..])?))
+    Ok((
+        copy_tele(alloc, &tele[..count])?,
+        copy_tele(alloc, &tele[count..])?,
+    ))
 }
 
 /// `F!step : (F) -> (is) -> (x) -> (b) -> (R) -> goal`, with the tree for its body.
@@ -123,17 +132,11 @@ pub(crate) fn step_entry(alloc: Global, f: &Function, r: Recursive) -> Result<Dr
     let base = f.plan.base;
     let order = order_of(alloc, number_of(r.tele.len())?, Some(r.recursion))?;
     let order = order.as_slice();
-    let unnamed = Naming {
-        base,
-        names: &[],
-    };
+    let unnamed = Naming { base, names: &[] };
     let node = step_node(alloc, r, &f.own.goal, order, unnamed)?;
-    let names = part_names(alloc, f, f.own, &node)?;
+    let names = part_names(alloc, f, 0, f.own, &node)?;
     let names = names.as_slice();
-    let naming = Naming {
-        base,
-        names,
-    };
+    let naming = Naming { base, names };
     let node = step_node(alloc, r, &f.own.goal, order, naming)?;
     let ty = node_type(alloc, &node)?;
     let body = part_function(alloc, f, f.own, order, &node, naming)?;
@@ -151,17 +154,11 @@ pub(crate) fn helper_entry(
 ) -> Result<Draft, Stop> {
     let base = f.plan.base;
     let order = order_of(alloc, number_of(part.tele.as_slice().len())?, None)?;
-    let unnamed = Naming {
-        base,
-        names: &[],
-    };
+    let unnamed = Naming { base, names: &[] };
     let node = helper_node(alloc, r, part, unnamed)?;
-    let names = part_names(alloc, f, part, &node)?;
+    let names = part_names(alloc, f, k, part, &node)?;
     let names = names.as_slice();
-    let naming = Naming {
-        base,
-        names,
-    };
+    let naming = Naming { base, names };
     let node = helper_node(alloc, r, part, naming)?;
     let ty = node_type(alloc, &node)?;
     let body = part_function(alloc, f, part, order.as_slice(), &node, naming)?;
@@ -174,12 +171,9 @@ fn function_by_cases(alloc: Global, f: &Function) -> Result<Draft, Stop> {
     let base = f.plan.base;
     let order = order_of(alloc, number_of(f.own.tele.as_slice().len())?, None)?;
     let node = plain_node(alloc, f.own)?;
-    let names = part_names(alloc, f, f.own, &node)?;
+    let names = part_names(alloc, f, 0, f.own, &node)?;
     let names = names.as_slice();
-    let naming = Naming {
-        base,
-        names,
-    };
+    let naming = Naming { base, names };
     let body = part_function(alloc, f, f.own, order.as_slice(), &node, naming)?;
     let name = copy_name(alloc, &f.plan.name)?;
     drafted_in_order(alloc, name, base, names, &f.plan.ty, &body)

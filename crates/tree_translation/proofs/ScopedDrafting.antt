@@ -148,20 +148,24 @@ number-kept S base count places c all (inr (from, to)) =
 
 pub entries-kept : (S : Signature) (base count : ℕ) (places : List ℕ) (t : Term) → All (λ i. is_among i places ≡ true) (mentions base t)
     → HasDraftEntries S base count t → HasDraftEntries S base (length places) (renumbered (number_among base places) t)
-entries-kept S base count places (Pi a b) all h =
-    (entries-kept S base count places a (all_left (λ i. is_among i places ≡ true) (mentions base a) (mentions base b) all) h.0,
-    entries-kept S base count places b (all_right (λ i. is_among i places ≡ true) (mentions base a) (mentions base b) all) h.1)
-entries-kept S base count places (Lam a b) all h =
-    (entries-kept S base count places a (all_left (λ i. is_among i places ≡ true) (mentions base a) (mentions base b) all) h.0,
-    entries-kept S base count places b (all_right (λ i. is_among i places ≡ true) (mentions base a) (mentions base b) all) h.1)
-entries-kept S base count places (App f a) all h =
-    (entries-kept S base count places f (all_left (λ i. is_among i places ≡ true) (mentions base f) (mentions base a) all) h.0,
-    entries-kept S base count places a (all_right (λ i. is_among i places ≡ true) (mentions base f) (mentions base a) all) h.1)
+entries-kept S base count places (Pi a b) all h = (
+  entries-kept S base count places a (all_left (λ i. is_among i places ≡ true) (mentions base a) (mentions base b) all) h.0,
+  entries-kept S base count places b (all_right (λ i. is_among i places ≡ true) (mentions base a) (mentions base b) all) h.1,
+)
+entries-kept S base count places (Lam a b) all h = (
+  entries-kept S base count places a (all_left (λ i. is_among i places ≡ true) (mentions base a) (mentions base b) all) h.0,
+  entries-kept S base count places b (all_right (λ i. is_among i places ≡ true) (mentions base a) (mentions base b) all) h.1,
+)
+entries-kept S base count places (App f a) all h = (
+  entries-kept S base count places f (all_left (λ i. is_among i places ≡ true) (mentions base f) (mentions base a) all) h.0,
+  entries-kept S base count places a (all_right (λ i. is_among i places ≡ true) (mentions base f) (mentions base a) all) h.1,
+)
 entries-kept S base count places (Let a t b) all h =
-    let rest = all_right (λ i. is_among i places ≡ true) (mentions base a) (mentions base t ++ mentions base b) all in
-    (entries-kept S base count places a (all_left (λ i. is_among i places ≡ true) (mentions base a) (mentions base t ++ mentions base b) all) h.0,
-    entries-kept S base count places t (all_left (λ i. is_among i places ≡ true) (mentions base t) (mentions base b) rest) h.1,
-    entries-kept S base count places b (all_right (λ i. is_among i places ≡ true) (mentions base t) (mentions base b) rest) h.2)
+    let rest = all_right (λ i. is_among i places ≡ true) (mentions base a) (mentions base t ++ mentions base b) all in (
+      entries-kept S base count places a (all_left (λ i. is_among i places ≡ true) (mentions base a) (mentions base t ++ mentions base b) all) h.0,
+      entries-kept S base count places t (all_left (λ i. is_among i places ≡ true) (mentions base t) (mentions base b) rest) h.1,
+      entries-kept S base count places b (all_right (λ i. is_among i places ≡ true) (mentions base t) (mentions base b) rest) h.2,
+    )
 entries-kept S base count places (Const c) all h = number-kept S base count places c all h
 entries-kept S base count places (Fam n) all h = h
 entries-kept S base count places (Con n c) all h = h

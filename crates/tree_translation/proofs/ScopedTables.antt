@@ -115,10 +115,13 @@ tabled-scoped S base candidates d h closed_type closed_term =
     let P : ℕ → Type 0 = λ i. is_among i places ≡ true in
     let count : length d.names ≡ length places = ap length h.is.same_names ∙ length-map places _ in
     let type : IsDraftTerm S base (length places) 0 (renumbered r h.t) = record {
-        variables = omega (arith, free_of-numbered r h.t);
-        entries = entries-kept S base (length (with_names [] candidates)) places h.t (all_left P (mentions base h.t) (mentions base h.u) there) h.type_entries } in
+      variables = omega (arith, free_of-numbered r h.t);
+      entries = entries-kept S base (length (with_names [] candidates)) places h.t (all_left P (mentions base h.t) (mentions base h.u) there) h.type_entries;
+    } in
     let term : IsDraftTerm S base (length places) 0 (renumbered r h.u) = record {
-        variables = omega (arith, free_of-numbered r h.u);
-        entries = entries-kept S base (length (with_names [] candidates)) places h.u (all_right P (mentions base h.t) (mentions base h.u) there) h.term_entries } in
-    (h.is.same_base,
-    rw h.is.same_base (rw count (subst (EachTerm (IsDraftTerm S base (length places))) (sym h.is.entry) (type, term))))
+      variables = omega (arith, free_of-numbered r h.u);
+      entries = entries-kept S base (length (with_names [] candidates)) places h.u (all_right P (mentions base h.t) (mentions base h.u) there) h.term_entries;
+    } in (
+      h.is.same_base,
+      rw h.is.same_base (rw count (subst (EachTerm (IsDraftTerm S base (length places))) (sym h.is.entry) (type, term))),
+    )
