@@ -42,9 +42,7 @@ fn path_or_below(
     let number = number_of_name(w.making.naming, &name)?;
     let family = f.recursion.admission.number;
     let sig = w.making.sig;
-    let found = below_path(
-        alloc, sig, family, f.level, number, &motive, &whole, part, &below,
-    )?;
+    let found = below_path(alloc, sig, family, f.level, number, &motive, &whole, part, &below)?;
     match found {
         Some(path) => Ok(path),
         None => Ok(below),

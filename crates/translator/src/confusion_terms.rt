@@ -3,7 +3,9 @@ ghost use Rattle.core_terms.specs.Answers.{Gives};
 ghost use Rattle.core_terms.specs.Meanings.{tree_of, tele_of};
 ghost use Rattle.tree_translation.specs.ConfusionTerms as spec;
 
-use crate::comparisons::{Comparison, compared_items, group_equations, left_member, right_member};
+use crate::comparisons::{
+    Comparison, compared_items, group_equations, left_member, right_member,
+};
 use crate::levels::{copy_levels, levels_from};
 use crate::making::Making;
 use crate::naming::{noconf_name, number_of_name};
@@ -41,13 +43,7 @@ fn compared_equations(alloc: Global, s: &Standing, c: &Comparison) -> Result<Tel
     let right = right_member(alloc, c)?;
     let types = equations(alloc, &items, &left, &right)?;
     let levels = copy_levels(alloc, s.variables.as_slice())?;
-    placed_telescope(
-        alloc,
-        levels,
-        inside(s)?,
-        types.as_slice(),
-        Items::new(alloc),
-    )
+    placed_telescope(alloc, levels, inside(s)?, types.as_slice(), Items::new(alloc))
 }
 
 /// Inject: `D!noconf.c.L ps as vs (c ps bs) E (\E. E2 -> G) (\es. N) E2`, where `inner` binds the equations es of the arguments first.

@@ -19,8 +19,8 @@ use crate::translation::Translation;
 use crate::trees::{add_tree, tree_term};
 use core_sig::Draft;
 use core_terms::{
-    Items, Name, Stop, Tele, Term, applied, copy_name, copy_tele, copy_whole, functions, number_of,
-    products,
+    Items, Name, Stop, Tele, Term, applied, copy_name, copy_tele, copy_whole, functions,
+    number_of, products,
 };
 use std::alloc::Global;
 use unifier::variables;
@@ -87,11 +87,7 @@ fn part_function(
         order,
     };
     let term = tree_term(alloc, w, &part.tree, node)?;
-    functions(
-        alloc,
-        copy_tele(alloc, node.ctx.as_slice())?.into_vec(),
-        term,
-    )
+    functions(alloc, copy_tele(alloc, node.ctx.as_slice())?.into_vec(), term)
 }
 
 /// The product of a node's goal over its context.
@@ -121,10 +117,7 @@ pub(crate) fn motive_entry(alloc: Global, f: &Function, r: Recursive) -> Result<
 /// The first `count` types, and the others.
 fn cut(alloc: Global, tele: &[Term], count: usize) -> Result<(Tele, Tele), Stop> {
     let count = count.min(tele.len());
-    Ok((
-        copy_tele(alloc, &tele[..count])?,
-        copy_tele(alloc, &tele[count..])?,
-    ))
+    Ok((copy_tele(alloc, &tele[..count])?, copy_tele(alloc, &tele[count..])?))
 }
 
 /// `F!step : (F) -> (is) -> (x) -> (b) -> (R) -> goal`, with the tree for its body.
@@ -132,11 +125,17 @@ pub(crate) fn step_entry(alloc: Global, f: &Function, r: Recursive) -> Result<Dr
     let base = f.plan.base;
     let order = order_of(alloc, number_of(r.tele.len())?, Some(r.recursion))?;
     let order = order.as_slice();
-    let unnamed = Naming { base, names: &[] };
+    let unnamed = Naming {
+        base,
+        names: &[],
+    };
     let node = step_node(alloc, r, &f.own.goal, order, unnamed)?;
     let names = part_names(alloc, f, 0, f.own, &node)?;
     let names = names.as_slice();
-    let naming = Naming { base, names };
+    let naming = Naming {
+        base,
+        names,
+    };
     let node = step_node(alloc, r, &f.own.goal, order, naming)?;
     let ty = node_type(alloc, &node)?;
     let body = part_function(alloc, f, f.own, order, &node, naming)?;
@@ -154,11 +153,17 @@ pub(crate) fn helper_entry(
 ) -> Result<Draft, Stop> {
     let base = f.plan.base;
     let order = order_of(alloc, number_of(part.tele.as_slice().len())?, None)?;
-    let unnamed = Naming { base, names: &[] };
+    let unnamed = Naming {
+        base,
+        names: &[],
+    };
     let node = helper_node(alloc, r, part, unnamed)?;
     let names = part_names(alloc, f, k, part, &node)?;
     let names = names.as_slice();
-    let naming = Naming { base, names };
+    let naming = Naming {
+        base,
+        names,
+    };
     let node = helper_node(alloc, r, part, naming)?;
     let ty = node_type(alloc, &node)?;
     let body = part_function(alloc, f, part, order.as_slice(), &node, naming)?;
@@ -173,7 +178,10 @@ fn function_by_cases(alloc: Global, f: &Function) -> Result<Draft, Stop> {
     let node = plain_node(alloc, f.own)?;
     let names = part_names(alloc, f, 0, f.own, &node)?;
     let names = names.as_slice();
-    let naming = Naming { base, names };
+    let naming = Naming {
+        base,
+        names,
+    };
     let body = part_function(alloc, f, f.own, order.as_slice(), &node, naming)?;
     let name = copy_name(alloc, &f.plan.name)?;
     drafted_in_order(alloc, name, base, names, &f.plan.ty, &body)

@@ -41,11 +41,7 @@ fn widened_after(alloc: Global, v: &Visible, count: u32, t: &Term) -> Result<Ter
 pub(crate) fn widened_number(v: &Visible, x: u32) -> u32 {
     let levels = v.levels.as_slice();
     let place = (levels.len() as u128).saturating_sub(x as u128 + 1);
-    let level = if place < 4294967296 {
-        level_at(levels, place as u32)
-    } else {
-        0
-    };
+    let level = if place < 4294967296 { level_at(levels, place as u32) } else { 0 };
     (v.size as u64).saturating_sub(level as u64 + 1) as u32
 }
 

@@ -140,7 +140,11 @@ pub(crate) fn run_after(depth: u32, start: u32, count: u32, mut made: Tele) -> R
 
 /// The variables with these levels, at a depth, after those that are made.
 #[tactic(auto, using(tele_eq::proofs::Growing::growing))]
-pub(crate) fn variables_after(depth: u32, levels: &[u32], mut made: Tele) -> Result<Tele, Stop>
+pub(crate) fn variables_after(
+    depth: u32,
+    levels: &[u32],
+    mut made: Tele,
+) -> Result<Tele, Stop>
     ensures { Gives tele_of result (Ok (tele_of made ++ map (level.variable depth) levels.now)) }
 {
     match levels {
@@ -151,3 +155,4 @@ pub(crate) fn variables_after(depth: u32, levels: &[u32], mut made: Tele) -> Res
         }
     }
 }
+

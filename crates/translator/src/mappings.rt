@@ -122,13 +122,7 @@ pub(crate) fn mapping(
     let ws = joined(alloc, w.subst.as_slice(), w.terms.as_slice())?;
     let ts = joined(alloc, substitution, terms)?;
     let count = number_of(w.ctx.as_slice().len())?;
-    mapped_after(
-        alloc,
-        ws.as_slice(),
-        ts.as_slice(),
-        count,
-        Items::new(alloc),
-    )
+    mapped_after(alloc, ws.as_slice(), ts.as_slice(), count, Items::new(alloc))
 }
 
 /// A copy of the term with a number, or `Type 0` where there is none.

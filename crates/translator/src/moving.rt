@@ -47,7 +47,12 @@ pub(crate) enum Places<'a> {
 }
 
 /// The term that stands for a variable of the context, at a depth.
-fn variable_at(alloc: Global, solution: Option<Solution>, depth: u32, j: u32) -> Result<Term, Stop>
+fn variable_at(
+    alloc: Global,
+    solution: Option<Solution>,
+    depth: u32,
+    j: u32,
+) -> Result<Term, Stop>
     ensures { Gives tree_of result (Ok (variables_of solution.entry depth j)) }
 {
     match solution {

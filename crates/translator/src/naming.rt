@@ -164,6 +164,7 @@ fn name_at(alloc: Global, names: &[Name], place: u32) -> Result<Name, Stop> {
     }
 }
 
+
 /// `D!elim.m`, or the same of no family.
 pub(crate) fn eliminator_name(alloc: Global, f: Option<&Family>, m: u8) -> Result<Name, Stop> {
     match f {

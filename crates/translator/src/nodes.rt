@@ -8,7 +8,9 @@ use crate::levels::{copy_levels, levels_from};
 use crate::numbers::sum;
 use crate::shifting::{all_shifted, shifted};
 use crate::standing::{Equation, Standing};
-use crate::telescopes::{arguments_at, constructor_at, equations, members_at, types_of_items};
+use crate::telescopes::{
+    arguments_at, constructor_at, equations, members_at, types_of_items,
+};
 use core_sig::{Constructor, Family, Signature};
 use core_terms::{Items, Stop, Tele, Term, head, number_of};
 use kernel_reduce::family;

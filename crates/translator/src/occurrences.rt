@@ -19,9 +19,9 @@ fn has_variable(n: u32, t: &Term) -> Result<bool, Stop>
             Ok(has_variable(n, first)? || has_variable(sum(n, 1)?, second)?)
         }
         Term::App(first, second) => Ok(has_variable(n, first)? || has_variable(n, second)?),
-        Term::Let(ty, value, rest) => Ok(
-            has_variable(n, ty)? || has_variable(n, value)? || has_variable(sum(n, 1)?, rest)?,
-        ),
+        Term::Let(ty, value, rest) => Ok(has_variable(n, ty)?
+            || has_variable(n, value)?
+            || has_variable(sum(n, 1)?, rest)?),
         _ => Ok(false),
     }
 }

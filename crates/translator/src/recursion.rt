@@ -86,7 +86,11 @@ pub(crate) fn remaining_positions(
 }
 
 /// A telescope in a new order.
-pub(crate) fn ordered_telescope(alloc: Global, tele: &[Term], order: &[u32]) -> Result<Tele, Stop> {
+pub(crate) fn ordered_telescope(
+    alloc: Global,
+    tele: &[Term],
+    order: &[u32],
+) -> Result<Tele, Stop> {
     let places = Places::Renamed(Renaming::Order(order));
     new_context(alloc, tele, places, 0, order, Items::new(alloc))
 }
@@ -98,13 +102,7 @@ pub(crate) fn ordered_term(
     order: &[u32],
     t: &Term,
 ) -> Result<Term, Stop> {
-    put(
-        alloc,
-        Places::Renamed(Renaming::Order(order)),
-        count,
-        count,
-        t,
-    )
+    put(alloc, Places::Renamed(Renaming::Order(order)), count, count, t)
 }
 
 /// The terms at some positions, after those that are made.

@@ -141,11 +141,7 @@ fn standing_with(
     let left = number_of(order.len())?;
     let moved = number_of(solved.moved.len())?;
     let inside = inside(s)?;
-    let kept = picked_after(
-        s.variables.as_slice(),
-        solved.kept.as_slice(),
-        Vec::new(alloc),
-    )?;
+    let kept = picked_after(s.variables.as_slice(), solved.kept.as_slice(), Vec::new(alloc))?;
     Ok(Box::new(
         alloc,
         Standing {

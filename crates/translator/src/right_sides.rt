@@ -28,7 +28,12 @@ fn is_helper(base: u32, side: &Term) -> bool {
 
 /// The terms for the variables of a clause's right side: the leaf's bindings, or, for the call of a helper over the context of the
 /// clause's own walk, what the comparison with the leaf tells.
-fn values_at(alloc: Global, w: Translation, leaf: Leaf, side: &Term) -> Result<Tele, Stop> {
+fn values_at(
+    alloc: Global,
+    w: Translation,
+    leaf: Leaf,
+    side: &Term,
+) -> Result<Tele, Stop> {
     if !is_helper(w.plan.base, side) {
         return copy_tele(alloc, leaf.binds);
     }

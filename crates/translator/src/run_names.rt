@@ -19,10 +19,7 @@ fn add_compared(
     names: &mut Items<Name>,
 ) -> Result<(), Stop> {
     match compared(alloc, sig, s, step)? {
-        Some(c) => add_name(
-            names,
-            noconf_name(alloc, c.family, c.left.built.con, level)?,
-        ),
+        Some(c) => add_name(names, noconf_name(alloc, c.family, c.left.built.con, level)?),
         None => Ok(()),
     }
 }

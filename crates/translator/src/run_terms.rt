@@ -15,6 +15,7 @@ use core_sig::equality;
 use core_terms::{Rule, Step, Stop, Term};
 use std::alloc::Global;
 
+
 /// The head of a solution on the left: `Eq.i!left.L`.
 fn left_head(alloc: Global, making: Making, s: &Standing) -> Result<Term, Stop> {
     let name = left_name(alloc, level_of_first(s), making.level)?;

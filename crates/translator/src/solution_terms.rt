@@ -120,14 +120,7 @@ fn solution_motive(
     let moved = solved.moved.as_slice();
     let under = sum(depth, 2)?;
     let behind = sum(under, number_of(moved.len())?)?;
-    let types = new_context(
-        alloc,
-        s.ctx.as_slice(),
-        places,
-        under,
-        moved,
-        Items::new(alloc),
-    )?;
+    let types = new_context(alloc, s.ctx.as_slice(), places, under, moved, Items::new(alloc))?;
     let first = [sum(depth, 1)?];
     let goal = remaining_goal(alloc, s, 1, levels.as_slice(), &first, behind)?;
     let body = products(alloc, types.into_vec(), goal)?;

@@ -22,7 +22,10 @@ fn hidden_levels(alloc: Global, n: usize, hidden: &[u32]) -> Result<Vec<u32>, St
 }
 
 /// The runs as slices of steps.
-fn slices<'a>(runs: &'a [Items<Step>], mut made: Vec<&'a [Step]>) -> Result<Vec<&'a [Step]>, Stop> {
+fn slices<'a>(
+    runs: &'a [Items<Step>],
+    mut made: Vec<&'a [Step]>,
+) -> Result<Vec<&'a [Step]>, Stop> {
     match runs {
         [] => Ok(made),
         [steps, rest @ ..] => {

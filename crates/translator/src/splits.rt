@@ -52,11 +52,7 @@ fn split_method(
     let s = branch_standing(alloc, at, number, con)?;
     let inner = run_term(alloc, making, end, steps, &s)?;
     let whole = state_term(alloc, &s, inner)?;
-    functions(
-        alloc,
-        argument_types(alloc, at.member, con)?.into_vec(),
-        whole,
-    )
+    functions(alloc, argument_types(alloc, at.member, con)?.into_vec(), whole)
 }
 
 /// Whether a run ends in an absurd state.
@@ -102,11 +98,7 @@ fn split_methods(
     };
     let end = first_of(alloc, ends)?;
     made.push(split_method(alloc, making, at, number, con, steps, &end)?)?;
-    let ends = if is_absurd(steps) {
-        ends
-    } else {
-        behind_first(ends)
-    };
+    let ends = if is_absurd(steps) { ends } else { behind_first(ends) };
     split_methods(alloc, making, at, sum(number, 1)?, cons, runs, ends, made)
 }
 

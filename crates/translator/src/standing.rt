@@ -138,6 +138,12 @@ pub(crate) fn state_term(alloc: Global, s: &Standing, inner: Term) -> Result<Ter
 {
     let types = types_after(alloc, s.equations.as_slice(), Items::new(alloc))?;
     let levels = copy_levels(alloc, s.variables.as_slice())?;
-    let types = placed_telescope(alloc, levels, s.depth, types.as_slice(), Items::new(alloc))?;
+    let types = placed_telescope(
+        alloc,
+        levels,
+        s.depth,
+        types.as_slice(),
+        Items::new(alloc),
+    )?;
     functions(alloc, types.into_vec(), inner)
 }

@@ -32,7 +32,11 @@ pub(crate) fn equations(
 }
 
 /// The reflexivities of terms of a telescope.
-pub(crate) fn reflexivities(alloc: Global, tele: &Items<Item>, terms: &Tele) -> Result<Tele, Stop>
+pub(crate) fn reflexivities(
+    alloc: Global,
+    tele: &Items<Item>,
+    terms: &Tele,
+) -> Result<Tele, Stop>
     ensures { IfOk result (λ made. tele_of made ≡ spec.reflexivities (items_of tele.now) (tele_of terms.now)) }
 {
     check_items(tele.as_slice())?;
@@ -95,7 +99,11 @@ pub(crate) fn constructor_at(alloc: Global, b: Built, ps: &[Term]) -> Result<Tel
 }
 
 /// The types of a telescope, after those that are made.
-pub(crate) fn types_of_items(alloc: Global, items: &[Item], mut made: Tele) -> Result<Tele, Stop> {
+pub(crate) fn types_of_items(
+    alloc: Global,
+    items: &[Item],
+    mut made: Tele,
+) -> Result<Tele, Stop> {
     match items {
         [] => Ok(made),
         [item, rest @ ..] => {

@@ -3,7 +3,9 @@ ghost use Rattle.core_terms.specs.Meanings.{tree_of, tele_of};
 ghost use Rattle.tree_translation.specs.TreeTerms as spec;
 
 use crate::hidden::{Visible, visible, widened, widened_number};
-use crate::nodes::{FamilyMember, Node, Splitting, branch_standing, family_member, node_of};
+use crate::nodes::{
+    FamilyMember, Node, Splitting, branch_standing, family_member, node_of,
+};
 use crate::numbers::sum;
 use crate::replaying::behind_run;
 use crate::right_sides::{Leaf, leaf_term};
@@ -184,8 +186,7 @@ pub(crate) fn add_tree(
         ty,
         branches,
         ..
-    } = tree
-    else {
+    } = tree else {
         return Ok(());
     };
     let visible = visible_in(alloc, node)?;

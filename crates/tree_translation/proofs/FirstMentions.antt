@@ -17,14 +17,14 @@ use Rattle.tree_translation.specs.Standings.{levels_from}
 mention-number : (base : ℕ) (places : List ℕ) (c : ℕ) → mentions base (Const (number_among base places c)) ≡ map (place_in places) (mentions base (Const c))
 mention-number base places c = elim (below-or_from c base) [
   | inl lt ↦
-      ap (λ n. mentions base (Const n)) (first-of_two c base c (base + place_in places (c - base)) lt)
-      ∙ (first-of_two c base [] ((c - base) ∷ []) lt ∙ ap (map (place_in places)) (sym (first-of_two c base [] ((c - base) ∷ []) lt)))
+    ap (λ n. mentions base (Const n)) (first-of_two c base c (base + place_in places (c - base)) lt)
+    ∙ (first-of_two c base [] ((c - base) ∷ []) lt ∙ ap (map (place_in places)) (sym (first-of_two c base [] ((c - base) ∷ []) lt)))
   | inr le ↦
-      let n = base + place_in places (c - base) in
-      ap (λ n. mentions base (Const n)) (second-of_two c base c n le)
-      ∙ (second-of_two n base [] ((n - base) ∷ []) (omega arith)
-      ∙ (ap (λ place. place ∷ []) (omega arith)
-      ∙ ap (map (place_in places)) (sym (second-of_two c base [] ((c - base) ∷ []) le))))
+    let n = base + place_in places (c - base) in
+    ap (λ n. mentions base (Const n)) (second-of_two c base c n le)
+    ∙ (second-of_two n base [] ((n - base) ∷ []) (omega arith)
+    ∙ (ap (λ place. place ∷ []) (omega arith)
+    ∙ ap (map (place_in places)) (sym (second-of_two c base [] ((c - base) ∷ []) le))))
 ]
 
 -- a term that is numbered by places mentions the places of what it mentioned

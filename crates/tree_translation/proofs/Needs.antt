@@ -125,9 +125,9 @@ stands-there S base names name (Let a t b) has h =
     elim (any-cases (λ other. other ≡ name) (needed_in S base names a) (needed_in S base names t ++ needed_in S base names b) h) [
       | inl k ↦ within S base names name a (Let a t b) (λ u. StandsIn.type a t b) (stands-there S base names name a has.0 k)
       | inr l ↦ elim (any-cases (λ other. other ≡ name) (needed_in S base names t) (needed_in S base names b) l) [
-        | inl k ↦ within S base names name t (Let a t b) (λ u. StandsIn.value a t b) (stands-there S base names name t has.1 k)
-        | inr k ↦ within S base names name b (Let a t b) (λ u. StandsIn.scope a t b) (stands-there S base names name b has.2 k)
-      ]
+          | inl k ↦ within S base names name t (Let a t b) (λ u. StandsIn.value a t b) (stands-there S base names name t has.1 k)
+          | inr k ↦ within S base names name b (Let a t b) (λ u. StandsIn.scope a t b) (stands-there S base names name b has.2 k)
+        ]
     ]
 stands-there S base names name (Const c) has h = constant-stands S base names name c has h
 stands-there S base names name (Elim n m) has h =
@@ -217,10 +217,10 @@ pub needed_is_exact : NeededIsExact
 needed_is_exact S d name scoped = (
   λ h.
       let r = in-terms S d name (entry_terms d.entry) (entry-terms S d.base (length d.names) d.entry scoped)
-      (any-flat (λ other. other ≡ name) (needed_in S d.base d.names) (entry_terms d.entry)
-      ((with-among (flat_map (needed_in S d.base d.names) (entry_terms d.entry)) name).0 h)) in
+          (any-flat (λ other. other ≡ name) (needed_in S d.base d.names) (entry_terms d.entry)
+          ((with-among (flat_map (needed_in S d.base d.names) (entry_terms d.entry)) name).0 h)) in
       needed-is S d name r.0 r.1 r.2,
-  back S d name,
+  back S d name
 )
 
 pub needed_once : NeededOnce

@@ -145,5 +145,5 @@ with-named names (other ∷ others) name = by (is_named names other) refl (λ so
 pub with-among : (others : List (List ℕ)) (name : List ℕ) → IsAmong name (with_names [] others) ↔ IsAmong name others
 with-among others name = (
   λ h. named-among others name (sym (with-named [] others name) ∙ among-named (with_names [] others) name h),
-  λ h. named-among (with_names [] others) name (with-named [] others name ∙ among-named others name h),
+  λ h. named-among (with_names [] others) name (with-named [] others name ∙ among-named others name h)
 )

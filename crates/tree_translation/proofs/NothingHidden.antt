@@ -19,14 +19,14 @@ unfolding AreOwn
 variable-own levels n under v own = elim (below-or_from v under) [
   | inl lt ↦ first-of_three v under (length levels + under) _ _ _ lt
   | inr le ↦
-      let size : length levels ≡ n = own.0 in
-      elim (below-or_from v (length levels + under)) [
-        | inl lt ↦
-            let j = length levels + under - (v + 1) in
-            let at : get_or levels j 0 ≡ j = own.1 j (omega arith) in
-            second-of_three v under (length levels + under) _ _ _ le lt ∙ ap Var (omega arith)
-        | inr beyond ↦ third-of_three v under (length levels + under) _ _ _ le beyond ∙ ap Var (omega arith)
-      ]
+    let size : length levels ≡ n = own.0 in
+    elim (below-or_from v (length levels + under)) [
+      | inl lt ↦
+        let j = length levels + under - (v + 1) in
+        let at : get_or levels j 0 ≡ j = own.1 j (omega arith) in
+        second-of_three v under (length levels + under) _ _ _ le lt ∙ ap Var (omega arith)
+      | inr beyond ↦ third-of_three v under (length levels + under) _ _ _ le beyond ∙ ap Var (omega arith)
+    ]
 ]
 
 own-put : (levels : List ℕ) (n under : ℕ) (t : Term) → AreOwn levels n → put_under (at_levels levels) (length levels) n under t ≡ t

@@ -26,7 +26,7 @@ use Rattle.tree_translation.proofs.TelescopeInstances.{IsInstance}
 ups_by-inner : (k : ℕ) (s : ℕ → Term) (n : ℕ) → ups_by k (ups s) n ≡ ups_by (suc k) s n
 ups_by-inner k s n = elim (below-or_from n k) [
   | inl lt ↦
-      first-of_two n k (Var n) (weaken_by k (ups s (n - k))) lt ∙ sym (first-of_two n (suc k) (Var n) (weaken_by (suc k) (s (n - suc k))) (omega arith))
+    first-of_two n k (Var n) (weaken_by k (ups s (n - k))) lt ∙ sym (first-of_two n (suc k) (Var n) (weaken_by (suc k) (s (n - suc k))) (omega arith))
   | inr le ↦ second-of_two n k (Var n) (weaken_by k (ups s (n - k))) le ∙ by le (n - k) refl
 ]
   where

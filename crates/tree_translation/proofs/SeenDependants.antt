@@ -97,33 +97,33 @@ seen-behind V hid at' at (a' ∷ whole) seen p' p (SeenFrom.unseen b rest) risin
     elim (here-or_below at' p' (omega arith)) [
       | inl same ↦ absurd (true≢false (sym b ∙ (ap (λ i. is_among i hid) same ∙ not)))
       | inr less ↦
-          let k : suc (p' + 1 - (at' + 1)) ≡ p' + 1 - at' = omega arith in
-          subst (λ i. SeenFrom V hid (p' + 1) (p + 1) (drop i (a' ∷ whole)) (drop (p + 1 - at) seen)) k
-          (seen-behind V hid (at' + 1) at whole seen p' p rest rising inside own not (omega arith) le' (omega arith) lt')
+        let k : suc (p' + 1 - (at' + 1)) ≡ p' + 1 - at' = omega arith in
+        subst (λ i. SeenFrom V hid (p' + 1) (p + 1) (drop i (a' ∷ whole)) (drop (p + 1 - at) seen)) k
+        (seen-behind V hid (at' + 1) at whole seen p' p rest rising inside own not (omega arith) le' (omega arith) lt')
     ]
 seen-behind V hid at' at (a' ∷ whole) (a ∷ seen) p' p (SeenFrom.beside b here within type rest) rising inside own not le le' lt lt' =
     elim (here-or_below at p (omega arith)) [
       | inl same ↦
-          let level : at' ≡ p' = sym here ∙ (ap (λ i. get_or V i 0) same ∙ own) in
-          let k : 1 ≡ p' + 1 - at' = omega arith in
-          let l : 1 ≡ p + 1 - at = omega arith in
-          subst (λ i. SeenFrom V hid (p' + 1) (p + 1) (drop i (a' ∷ whole)) (drop (p + 1 - at) (a ∷ seen))) k
-          (subst (λ i. SeenFrom V hid (p' + 1) (p + 1) whole (drop i (a ∷ seen))) l
-          (subst (λ i. SeenFrom V hid (i + 1) (p + 1) whole seen) level (subst (λ i. SeenFrom V hid (at' + 1) (i + 1) whole seen) same rest)))
+        let level : at' ≡ p' = sym here ∙ (ap (λ i. get_or V i 0) same ∙ own) in
+        let k : 1 ≡ p' + 1 - at' = omega arith in
+        let l : 1 ≡ p + 1 - at = omega arith in
+        subst (λ i. SeenFrom V hid (p' + 1) (p + 1) (drop i (a' ∷ whole)) (drop (p + 1 - at) (a ∷ seen))) k
+        (subst (λ i. SeenFrom V hid (p' + 1) (p + 1) whole (drop i (a ∷ seen))) l
+        (subst (λ i. SeenFrom V hid (i + 1) (p + 1) whole seen) level (subst (λ i. SeenFrom V hid (at' + 1) (i + 1) whole seen) same rest)))
       | inr less ↦
-          elim (here-or_below at' p' (omega arith)) [
-            | inl level ↦
-                let one : slice_get V at ≡ Some at' = there-get V at 0 within ∙ ap Some here in
-                let other : slice_get V p ≡ Some at' = there-get V p 0 inside ∙ ap Some (own ∙ sym level) in
-                let same : at ≡ p = from-apart 0 V at p at' rising one other in
-                absurd (omega arith)
-            | inr low ↦
-                let k : suc (p' + 1 - (at' + 1)) ≡ p' + 1 - at' = omega arith in
-                let l : suc (p + 1 - (at + 1)) ≡ p + 1 - at = omega arith in
-                subst (λ i. SeenFrom V hid (p' + 1) (p + 1) (drop i (a' ∷ whole)) (drop (p + 1 - at) (a ∷ seen))) k
-                (subst (λ i. SeenFrom V hid (p' + 1) (p + 1) (drop (p' + 1 - (at' + 1)) whole) (drop i (a ∷ seen))) l
-                (seen-behind V hid (at' + 1) (at + 1) whole seen p' p rest rising inside own not (omega arith) (omega arith) (omega arith) (omega arith)))
-          ]
+        elim (here-or_below at' p' (omega arith)) [
+          | inl level ↦
+            let one : slice_get V at ≡ Some at' = there-get V at 0 within ∙ ap Some here in
+            let other : slice_get V p ≡ Some at' = there-get V p 0 inside ∙ ap Some (own ∙ sym level) in
+            let same : at ≡ p = from-apart 0 V at p at' rising one other in
+            absurd (omega arith)
+          | inr low ↦
+            let k : suc (p' + 1 - (at' + 1)) ≡ p' + 1 - at' = omega arith in
+            let l : suc (p + 1 - (at + 1)) ≡ p + 1 - at = omega arith in
+            subst (λ i. SeenFrom V hid (p' + 1) (p + 1) (drop i (a' ∷ whole)) (drop (p + 1 - at) (a ∷ seen))) k
+            (subst (λ i. SeenFrom V hid (p' + 1) (p + 1) (drop (p' + 1 - (at' + 1)) whole) (drop i (a ∷ seen))) l
+            (seen-behind V hid (at' + 1) (at + 1) whole seen p' p rest rising inside own not (omega arith) (omega arith) (omega arith) (omega arith)))
+        ]
     ]
 
 -- ---- dependants
@@ -175,11 +175,11 @@ finds-both V at' at found' found own f = record {
   ];
   same = λ j lt. elim (here-or_below j at lt) [
     | inl e ↦
-        subst (λ i. is_among i (at' ∷ found') ≡ true) (sym (ap (λ i. get_or V i 0) e ∙ own)) (among-own at' found')
-        ∙ sym (subst (λ i. is_among j (i ∷ found) ≡ true) e (among-own j found))
+      subst (λ i. is_among i (at' ∷ found') ≡ true) (sym (ap (λ i. get_or V i 0) e ∙ own)) (among-own at' found')
+      ∙ sym (subst (λ i. is_among j (i ∷ found) ≡ true) e (among-own j found))
     | inr less ↦
-        let low : get_or V j 0 < at' = f.levels j less in
-        among-other (get_or V j 0) at' found' (λ e. omega arith) ∙ (f.same j less ∙ sym (among-other j at found (λ e. omega arith)))
+      let low : get_or V j 0 < at' = f.levels j less in
+      among-other (get_or V j 0) at' found' (λ e. omega arith) ∙ (f.same j less ∙ sym (among-other j at found (λ e. omega arith)))
   ];
 }
 
@@ -194,7 +194,7 @@ finds-neither V at' at found' found own f = record {
   low = λ j h. let low : j < at = f.low j h in omega arith;
   same = λ j lt. elim (here-or_below j at lt) [
     | inl e ↦ not-there (get_or V j 0) found' (λ h. let low : get_or V j 0 < at' = f.low' (get_or V j 0) h in let v : get_or V j 0 ≡ at' = ap (λ i. get_or V i 0) e ∙ own in omega arith)
-        ∙ sym (not-there j found (λ h. let low : j < at = f.low j h in omega arith))
+      ∙ sym (not-there j found (λ h. let low : j < at = f.low j h in omega arith))
     | inr less ↦ f.same j less
   ];
 }
@@ -317,9 +317,9 @@ dependants-seen context hid others p' p is lt own not low =
     same : (j : ℕ) → j < p + 1 → is_among (get_or V j 0) (p' ∷ []) ≡ is_among j (p ∷ [])
     same j less = elim (here-or_below j p less) [
       | inl e ↦
-          subst (λ q. is_among q (p' ∷ []) ≡ true) (sym (ap (λ i. get_or V i 0) e ∙ own)) (among-own p' [])
-          ∙ sym (subst (λ q. is_among j (q ∷ []) ≡ true) e (among-own j []))
+        subst (λ q. is_among q (p' ∷ []) ≡ true) (sym (ap (λ i. get_or V i 0) e ∙ own)) (among-own p' [])
+        ∙ sym (subst (λ q. is_among j (q ∷ []) ≡ true) e (among-own j []))
       | inr low ↦
-          let apart : get_or V j 0 < get_or V p 0 = climbs 0 V j p rising low inside in
-          among-other (get_or V j 0) p' [] (λ e. omega (arith, own)) ∙ sym (among-other j p [] (λ e. omega arith))
+        let apart : get_or V j 0 < get_or V p 0 = climbs 0 V j p rising low inside in
+        among-other (get_or V j 0) p' [] (λ e. omega (arith, own)) ∙ sym (among-other j p [] (λ e. omega arith))
     ]

@@ -59,9 +59,9 @@ source r w (App f a) h = elim (or-cases (has_variable w (ren r f)) _ h) [
 ]
 source r w (Let a t b) h = elim (or-cases (has_variable w (ren r a) || has_variable w (ren r t)) _ h) [
   | inl l ↦ elim (or-cases (has_variable w (ren r a)) _ l) [
-    | inl k ↦ source-in r w a (Let a t b) (λ v e. or_left (has_variable v a || has_variable v t) _ (or_left (has_variable v a) _ e)) (source r w a k)
-    | inr k ↦ source-in r w t (Let a t b) (λ v e. or_left (has_variable v a || has_variable v t) _ (or_right (has_variable v a) _ e)) (source r w t k)
-  ]
+      | inl k ↦ source-in r w a (Let a t b) (λ v e. or_left (has_variable v a || has_variable v t) _ (or_left (has_variable v a) _ e)) (source r w a k)
+      | inr k ↦ source-in r w t (Let a t b) (λ v e. or_left (has_variable v a || has_variable v t) _ (or_right (has_variable v a) _ e)) (source r w t k)
+    ]
   | inr k ↦ source-below r w b (Let a t b) (λ v. or_right (has_variable v a || has_variable v t) _) (source (up r) (w + 1) b k)
 ]
 source r w (Sort i) h = absurd (true≢false (sym h))
@@ -93,11 +93,11 @@ becomes-there r v (App f a) h = elim (or-cases (has_variable v f) _ h) [
 ]
 becomes-there r v (Let a t b) h = elim (or-cases (has_variable v a || has_variable v t) _ h) [
   | inl l ↦ or_left (has_variable (r v) (ren r a) || has_variable (r v) (ren r t)) _ (elim (or-cases (has_variable v a) _ l) [
-    | inl k ↦ or_left (has_variable (r v) (ren r a)) _ (becomes-there r v a k)
-    | inr k ↦ or_right (has_variable (r v) (ren r a)) _ (becomes-there r v t k)
-  ])
+      | inl k ↦ or_left (has_variable (r v) (ren r a)) _ (becomes-there r v a k)
+      | inr k ↦ or_right (has_variable (r v) (ren r a)) _ (becomes-there r v t k)
+    ])
   | inr k ↦
-      or_right (has_variable (r v) (ren r a) || has_variable (r v) (ren r t)) _ (below-binder r v b (becomes-there (up r) (suc v) b (next v b k)))
+    or_right (has_variable (r v) (ren r a) || has_variable (r v) (ren r t)) _ (below-binder r v b (becomes-there (up r) (suc v) b (next v b k)))
 ]
 becomes-there r v (Sort i) h = absurd (true≢false (sym h))
 becomes-there r v (Const c) h = absurd (true≢false (sym h))
@@ -137,14 +137,14 @@ position-of levels depth q t below lt h =
     let s = source (number_at levels depth) (depth - (q + 1)) t (subst (λ x. has_variable (depth - (q + 1)) x ≡ true) (placed-is levels depth t below) h) in
     elim (below-or_from s.v (length levels)) [
       | inl less ↦
-          let j = length levels - (s.v + 1) in
-          let low : get_or levels j 0 < depth = below j (omega arith) in
-          let e : depth - (get_or levels j 0 + 1) ≡ depth - (q + 1) = sym (first-of_two s.v (length levels) _ _ less) ∙ s.becomes in
-          let back : s.v ≡ length levels - (j + 1) = omega arith in
-          record { j = j; within = omega arith; level = omega arith; occurs = subst (λ v. has_variable v t ≡ true) back s.occurs }
+        let j = length levels - (s.v + 1) in
+        let low : get_or levels j 0 < depth = below j (omega arith) in
+        let e : depth - (get_or levels j 0 + 1) ≡ depth - (q + 1) = sym (first-of_two s.v (length levels) _ _ less) ∙ s.becomes in
+        let back : s.v ≡ length levels - (j + 1) = omega arith in
+        record { j = j; within = omega arith; level = omega arith; occurs = subst (λ v. has_variable v t ≡ true) back s.occurs }
       | inr le ↦
-          let e : s.v - length levels + depth ≡ depth - (q + 1) = sym (second-of_two s.v (length levels) _ _ le) ∙ s.becomes in
-          absurd (omega arith)
+        let e : s.v - length levels + depth ≡ depth - (q + 1) = sym (second-of_two s.v (length levels) _ _ le) ∙ s.becomes in
+        absurd (omega arith)
     ]
 
 pub position-there : (levels : List ℕ) (depth j : ℕ) (t : Term) → AreBelow levels depth → j < length levels

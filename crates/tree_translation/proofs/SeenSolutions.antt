@@ -252,27 +252,27 @@ module _ (context : Telescope) (hid : List ℕ) (others : Telescope) (p' p : ℕ
       (stands (solved (length others) (order_without others p) p u) (length others) (length (order_without others p)) x)
   solutions-agree x = elim (below-or_from x (length others)) [
     | inl lt ↦
-        let j = length others - (x + 1) in
-        let low : get_or V j 0 < length context = visible-below (length context) hid j (omega (arith, many)) in
-        let y = length context - (get_or V j 0 + 1) in
-        let back : length context - (y + 1) ≡ get_or V j 0 = omega arith in
-        ap (inst (stands (solved (length context) order' p' u') (length context) (length order')))
-        (first-of_two x (length V) _ _ (omega (arith, many)) ∙ ap (λ n. Var (length context - (get_or V (n - (x + 1)) 0 + 1))) many)
-        ∙ (first-of_two y (length context) _ _ (omega arith)
-        ∙ (ap (solved (length context) order' p' u' (length order')) back
-        ∙ (by j (omega arith) (same-or_not j p)
-        ∙ ap (inst (widening (length order') hid')) (sym (first-of_two x (length others) _ _ lt)))))
+      let j = length others - (x + 1) in
+      let low : get_or V j 0 < length context = visible-below (length context) hid j (omega (arith, many)) in
+      let y = length context - (get_or V j 0 + 1) in
+      let back : length context - (y + 1) ≡ get_or V j 0 = omega arith in
+      ap (inst (stands (solved (length context) order' p' u') (length context) (length order')))
+      (first-of_two x (length V) _ _ (omega (arith, many)) ∙ ap (λ n. Var (length context - (get_or V (n - (x + 1)) 0 + 1))) many)
+      ∙ (first-of_two y (length context) _ _ (omega arith)
+      ∙ (ap (solved (length context) order' p' u' (length order')) back
+      ∙ (by j (omega arith) (same-or_not j p)
+      ∙ ap (inst (widening (length order') hid')) (sym (first-of_two x (length others) _ _ lt)))))
     | inr le ↦
-        let y = x - length others + length context in
-        let w = x - length others + length order in
-        let e : y - length context + length order' ≡ w - length order + length order' = omega arith in
-        let counted : length V' ≡ length order = new-count context hid others p' p v in
-        ap (inst (stands (solved (length context) order' p' u') (length context) (length order')))
-        (second-of_two x (length V) _ _ (omega (arith, many)) ∙ ap (λ n. Var (x - n + length context)) many)
-        ∙ (second-of_two y (length context) _ _ (omega arith)
-        ∙ (ap Var (e ∙ ap (λ n. w - n + length order') (sym counted))
-        ∙ (sym (second-of_two w (length V') _ _ (omega arith))
-        ∙ ap (inst (widening (length order') hid')) (sym (second-of_two x (length others) _ _ le)))))
+      let y = x - length others + length context in
+      let w = x - length others + length order in
+      let e : y - length context + length order' ≡ w - length order + length order' = omega arith in
+      let counted : length V' ≡ length order = new-count context hid others p' p v in
+      ap (inst (stands (solved (length context) order' p' u') (length context) (length order')))
+      (second-of_two x (length V) _ _ (omega (arith, many)) ∙ ap (λ n. Var (x - n + length context)) many)
+      ∙ (second-of_two y (length context) _ _ (omega arith)
+      ∙ (ap Var (e ∙ ap (λ n. w - n + length order') (sym counted))
+      ∙ (sym (second-of_two w (length V') _ _ (omega arith))
+      ∙ ap (inst (widening (length order') hid')) (sym (second-of_two x (length others) _ _ le)))))
   ]
     where
       by : (j : ℕ) → j < length others → (j ≡ p) ⊎ (j ≡ p → ⊥)

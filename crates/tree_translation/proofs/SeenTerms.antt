@@ -83,24 +83,24 @@ module _ (n : ℕ) (hidden : List ℕ) (k : ℕ) where
       let total : length further ≡ length (visible n hidden) + k = long in
       elim (below-or_from j (length (visible n hidden))) [
         | inl less ↦
-            let low : get_or (visible n hidden) j 0 < n = visible-below n hidden j less in
-            let e : get_or further j 0 ≡ get_or (visible n hidden) j 0 = get-first (visible n hidden) (levels_from n k) j less in
-            omega arith
+          let low : get_or (visible n hidden) j 0 < n = visible-below n hidden j less in
+          let e : get_or further j 0 ≡ get_or (visible n hidden) j 0 = get-first (visible n hidden) (levels_from n k) j less in
+          omega arith
         | inr le ↦
-            let e : get_or further j 0 ≡ n + (j - length (visible n hidden)) = further-at j le (omega arith) in
-            omega arith
+          let e : get_or further j 0 ≡ n + (j - length (visible n hidden)) = further-at j le (omega arith) in
+          omega arith
       ]
 
   stands-further : (v : ℕ) → stands (at_levels further) (length further) (n + k) v ≡ ups_by k (widening n hidden) v
   unfolding further
   stands-further v = let total : length further ≡ length (visible n hidden) + k = long in elim (below-or_from v k) [
     | inl lt ↦
-        let j = length further - (v + 1) in
-        let e : get_or further j 0 ≡ n + (j - length (visible n hidden)) = further-at j (omega arith) (omega arith) in
-        let f : n + k - (get_or further j 0 + 1) ≡ v = omega arith in
-        first-of_two v (length further) _ _ (omega arith) ∙ (ap Var f ∙ sym (first-of_two v k _ _ lt))
+      let j = length further - (v + 1) in
+      let e : get_or further j 0 ≡ n + (j - length (visible n hidden)) = further-at j (omega arith) (omega arith) in
+      let f : n + k - (get_or further j 0 + 1) ≡ v = omega arith in
+      first-of_two v (length further) _ _ (omega arith) ∙ (ap Var f ∙ sym (first-of_two v k _ _ lt))
     | inr le ↦ elim (below-or_from v (length further)) [
-      | inl lt ↦
+        | inl lt ↦
           let j = length further - (v + 1) in
           let i = length (visible n hidden) - (v - k + 1) in
           let same : j ≡ i = omega arith in
@@ -111,12 +111,12 @@ module _ (n : ℕ) (hidden : List ℕ) (k : ℕ) where
           first-of_two v (length further) _ _ lt
           ∙ (ap Var f
           ∙ (ap (weaken_by k) (sym (first-of_two (v - k) (length (visible n hidden)) _ _ (omega arith))) ∙ sym (second-of_two v k _ _ le)))
-      | inr beyond ↦
+        | inr beyond ↦
           let f : v - length further + (n + k) ≡ v - k - length (visible n hidden) + n + k = omega arith in
           second-of_two v (length further) _ _ beyond
           ∙ (ap Var f
           ∙ (ap (weaken_by k) (sym (second-of_two (v - k) (length (visible n hidden)) _ _ (omega arith))) ∙ sym (second-of_two v k _ _ le)))
-    ]
+      ]
   ]
 
   -- a term that stands behind k places

@@ -87,8 +87,8 @@ pub place-mentioned : (s : ℕ → Term) (k v : ℕ) → v < k → (t : Term) �
 place-mentioned s k v lt (Var n) = elim (below-or_from n k) [
   | inl less ↦ ap (has_variable v) (first-of_two n k (Var n) (weaken_by k (s (n - k))) less)
   | inr le ↦
-      ap (has_variable v) (second-of_two n k (Var n) (weaken_by k (s (n - k))) le)
-      ∙ (never-there (λ i. i + k) v (λ i e. omega arith) (s (n - k)) ∙ grind (arith, nat_tests))
+    ap (has_variable v) (second-of_two n k (Var n) (weaken_by k (s (n - k))) le)
+    ∙ (never-there (λ i. i + k) v (λ i e. omega arith) (s (n - k)) ∙ grind (arith, nat_tests))
 ]
 place-mentioned s k v lt (Sort i) = refl
 place-mentioned s k v lt (Pi a b) =

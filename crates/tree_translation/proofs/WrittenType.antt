@@ -61,8 +61,8 @@ written S plan r d planned h =
     let t = function-typed S plan r d h in
     let own = own_part plan in
     let kept : renumbered (number_among plan.base t.places) plan.type ≡ plan.type =
-    ap₂ (λ base type. renumbered (number_among base t.places) type) planned.base planned.type
-    ∙ (products-kept S t.places 0 (length own.tele) own.tele own.goal planned.own.context_scoped planned.own.goal_scoped ∙ sym planned.type) in
+        ap₂ (λ base type. renumbered (number_among base t.places) type) planned.base planned.type
+        ∙ (products-kept S t.places 0 (length own.tele) own.tele own.goal planned.own.context_scoped planned.own.goal_scoped ∙ sym planned.type) in
     (t.body, t.entry ∙ ap (λ type. Definition plan.name type t.body) kept)
 
 -- the last entry is the function's
