@@ -13,8 +13,6 @@ use Rattle.core_terms.proofs.Answers.{and_next-spends}
 use Rattle.core_sig.specs.Drafts.{Draft}
 use Rattle.core_sig.specs.Names.{find}
 use Rattle.core_sig.specs.Settling.{renumbered_entry, settled_number}
-use Rattle.core_sig.specs.declared.instance_place.Instance.{Instance}
-use Rattle.core_sig.specs.declared.instance_place.Instance.TheVariants.{Eliminator, AxiomK as AxiomKInto}
 use Rattle.kernel_reduce.specs.Comparison.{convertible_of}
 use Rattle.kernel_reduce.specs.Entries.{family_at}
 use Rattle.kernel_reduce.specs.Reduction.{nesting, whnf_of}
@@ -30,7 +28,7 @@ use Rattle.case_trees.specs.Problems.{Member, member_of, type_of_variable}
 use Rattle.case_trees.specs.Looking.{Look, Found, Passed, Ran, run_all}
 use Rattle.tree_translation.specs.Needed.{is_found}
 use Rattle.tree_translation.specs.Plans.{Plan}
-use Rattle.clause_reports.specs.DraftEntering.{Mention, Instances, Names, Entering, mentioned, with_entry, enter_eliminator, enter_instance, enter_generated, enter_mention, enter_all, enter_entry, enter_with, enter_chain, longest_chain, enter_needed, enter_draft_of}
+use Rattle.clause_reports.specs.DraftEntering.{Mention, Eliminates, AssumesK, Names, Entering, mentioned, with_entry, enter_eliminator, enter_axiom_k, enter_generated, enter_mention, enter_all, enter_entry, enter_with, enter_chain, longest_chain, enter_needed, enter_draft_of}
 use Rattle.clause_reports.specs.Generated.{Generated, generated_by, generated_draft}
 use Rattle.clause_reports.specs.Laws.{EnteringSpends}
 use Rattle.core_terms.specs.declared.stop.Stop.TheVariants.{Deep}
@@ -47,13 +45,9 @@ enter_eliminator-spends : (S : Signature) (n m : ℕ) (f : Option Family) (left 
 enter_eliminator-spends S n m None left = omega arith
 enter_eliminator-spends S n m (Some f) left = with_entry-spends _ left (instance-spends S n f m left)
 
-enter_instance-spends : (S : Signature) (i : Instance) (left : ℕ) → (enter_instance S i left).1 ≤ left
-enter_instance-spends S (Eliminator n m) left = enter_eliminator-spends S n m (family_at S n) left
-enter_instance-spends S (AxiomKInto i m) left = by S.has_k
-  where
-    by : (on : Bool) → (cond on (with_entry (entering S (AxiomKAt i m) (axiom_k_of S i m left))) (answers (Err (Halts Deep)) left)).1 ≤ left
-    by true = with_entry-spends _ left (axiom_k-spends S i m left)
-    by false = omega arith
+enter_axiom_k-spends : (S : Signature) (i m : ℕ) (on : Bool) (left : ℕ) → (enter_axiom_k S i m on left).1 ≤ left
+enter_axiom_k-spends S i m true left = with_entry-spends _ left (axiom_k-spends S i m left)
+enter_axiom_k-spends S i m false left = omega arith
 
 enter_generated-spends : (enter : Entering) → Spends enter → (S : Signature) (g : Option Generated) (left : ℕ) → (enter_generated enter S g left).1 ≤ left
 enter_generated-spends enter spends S None left = omega arith
@@ -62,7 +56,8 @@ enter_generated-spends enter spends S (Some g) left =
     with_entry-spends (enter S d rest) rest (spends S d rest))
 
 enter_mention-spends : (enter : Entering) → Spends enter → (S : Signature) (m : Mention) (left : ℕ) → (enter_mention enter S m left).1 ≤ left
-enter_mention-spends enter spends S (Instances i) left = enter_instance-spends S i left
+enter_mention-spends enter spends S (Eliminates n m) left = enter_eliminator-spends S n m (family_at S n) left
+enter_mention-spends enter spends S (AssumesK i m) left = enter_axiom_k-spends S i m S.has_k left
 enter_mention-spends enter spends S (Names name) left = by (is_found (find S name))
   where
     by : (there : Bool) → (cond there (Ok S, left) (enter_generated enter S (generated_by S name) left)).1 ≤ left

@@ -1,6 +1,6 @@
 -- How a draft enters a signature: first what it mentions and the signature lacks, from the left in its type and then in its term, each
 -- in the same way, and then the draft itself.
-use Rattle.std.specs.Prelude.{ℕ, zero, suc, ◌-◌, nat_lt, cond, Option, Some, None, List, [], ◌∷◌, ◌++◌, length, flat_map, get_or, Result, Ok, Err}
+use Rattle.std.specs.Prelude.{ℕ, zero, suc, ◌-◌, Bool, true, false, nat_lt, cond, Option, Some, None, List, [], ◌∷◌, ◌++◌, length, flat_map, get_or, Result, Ok, Err}
 use Rattle.theory.specs.Terms.{Term, Pi, Lam, App, Let, Const, Elim, AxiomK}
 use Rattle.theory.specs.Families.{Family}
 use Rattle.theory.specs.Signatures.{Signature, Entry, FamilyOf, EliminatorAt, AxiomKAt, Definition}
@@ -9,8 +9,6 @@ use Rattle.core_terms.specs.declared.stop.Stop.TheVariants.{Deep}
 use Rattle.core_sig.specs.Drafts.{Draft}
 use Rattle.core_sig.specs.Names.{find}
 use Rattle.core_sig.specs.Settling.{renumbered_entry, settled_number}
-use Rattle.core_sig.specs.declared.instance_place.Instance.{Instance}
-use Rattle.core_sig.specs.declared.instance_place.Instance.TheVariants.{Eliminator, AxiomK as AxiomKInto}
 use Rattle.kernel_reduce.specs.Entries.{family_at}
 use Rattle.family_check.specs.Entering.{Entered, instance_of, axiom_k_of, define_of}
 use Rattle.tree_translation.specs.Needed.{entry_terms, is_found}
@@ -19,9 +17,10 @@ use Rattle.clause_reports.specs.Stops.{ReportStop, Reporting, Halts, answers, or
 
 -- ---- what is mentioned
 
--- an instance, or the name of a generated entry
+-- the eliminator of family n into Type m, the axiom K of Eq.i into Type m, or the name of a generated entry
 pub data Mention : Type 0 where
-  Instances : Instance → Mention
+  Eliminates : (n m : ℕ) → Mention
+  AssumesK : (i m : ℕ) → Mention
   Names : (name : List ℕ) → Mention
 
 -- what a term over `base` entries and names mentions, from the left
@@ -31,8 +30,8 @@ mentions_in base names (Lam a b) = mentions_in base names a ++ mentions_in base 
 mentions_in base names (App f a) = mentions_in base names f ++ mentions_in base names a
 mentions_in base names (Let a t b) = mentions_in base names a ++ (mentions_in base names t ++ mentions_in base names b)
 mentions_in base names (Const c) = cond (nat_lt c base) [] (Names (get_or names (c - base) []) ∷ [])
-mentions_in base names (Elim n m) = Instances (Eliminator n m) ∷ []
-mentions_in base names (AxiomK i m) = Instances (AxiomKInto i m) ∷ []
+mentions_in base names (Elim n m) = Eliminates n m ∷ []
+mentions_in base names (AxiomK i m) = AssumesK i m ∷ []
 mentions_in base names _ = []
 
 -- what a draft mentions, in its type and then in its term
@@ -54,10 +53,9 @@ abbrev pub enter_eliminator : Signature → (n m : ℕ) → Option Family → �
 enter_eliminator S n m None left = answers (Ok S) left
 enter_eliminator S n m (Some f) left = with_entry (entering S (EliminatorAt n m) (instance_of S n f m left))
 
-abbrev pub enter_instance : Signature → Instance → ℕ → Reporting Signature
-enter_instance S (Eliminator n m) left = enter_eliminator S n m (family_at S n) left
-enter_instance S (AxiomKInto i m) left =
-    cond S.has_k (with_entry (entering S (AxiomKAt i m) (axiom_k_of S i m left))) (answers (Err (Halts Deep)) left)
+abbrev pub enter_axiom_k : Signature → (i m : ℕ) → (on : Bool) → ℕ → Reporting Signature
+enter_axiom_k S i m true left = with_entry (entering S (AxiomKAt i m) (axiom_k_of S i m left))
+enter_axiom_k S i m false left = answers (Err (Halts Deep)) left
 
 -- a generated entry; a name that none has is one of the signature
 abbrev pub enter_generated : Entering → Signature → Option Generated → ℕ → Reporting Signature
@@ -66,7 +64,8 @@ enter_generated enter S (Some g) left =
     and_next (answers (or_halts (generated_draft (length S.entries) g)) left) (λ d rest. with_entry (enter S d rest))
 
 abbrev pub enter_mention : Entering → Signature → Mention → ℕ → Reporting Signature
-enter_mention enter S (Instances i) left = enter_instance S i left
+enter_mention enter S (Eliminates n m) left = enter_eliminator S n m (family_at S n) left
+enter_mention enter S (AssumesK i m) left = enter_axiom_k S i m S.has_k left
 enter_mention enter S (Names name) left =
     cond (is_found (find S name)) (answers (Ok S) left) (enter_generated enter S (generated_by S name) left)
 
