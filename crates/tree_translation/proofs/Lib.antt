@@ -24,6 +24,7 @@ mod InnerCallRows
 pub mod LevelLists
 mod MappingRows
 pub mod MovedInstances
+pub mod MovedPlaces
 pub mod Needs
 mod NestedHelperRows
 pub mod NewNames
@@ -38,6 +39,7 @@ pub mod ReplayedBinders
 pub mod ReplayedEnds
 pub mod ReplayedRuns
 mod Samples
+pub mod SeenContexts
 pub mod SeenDependants
 pub mod SeenEquations
 pub mod SeenOccurrences

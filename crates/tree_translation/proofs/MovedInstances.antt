@@ -1,21 +1,21 @@
--- Equations that move behind other variables, with terms put for the variables of the context before and behind.
-use Rattle.std.proofs.Common.{◌≡◌, ℕ, zero, suc, ◌+◌, ◌-◌, ◌<◌, ◌≤◌, inl, inr, nat_lt, cond, List, [], ◌∷◌, ◌++◌, length, map, drop, refl, sym, ap, ap₂, ◌∙◌, arith}
-use Rattle.theory.specs.Terms.{Term, Var, lift}
+-- Equations that move to another context, with terms put for the variables of the context before and after.
+use Rattle.std.proofs.Common.{◌≡◌, ℕ, zero, suc, ◌+◌, ◌-◌, ◌≤◌, inl, inr, List, [], ◌∷◌, map, drop, refl, sym, ap, ap₂, ◌∙◌, arith}
+use Rattle.theory.specs.Terms.{Term, Var}
 use Rattle.theory.specs.Substitutions.{inst}
 use Rattle.theory.specs.Telescopes.{weaken_by}
 use Rattle.theory.proofs.Instances.{inst-inst, inst-same, inst-ren, inst-var, ren-inst, ren-ren, ren-same}
-use Rattle.theory.proofs.Shifts.{weaken_by-is_lift}
 use Rattle.core_terms.specs.Levels.{variable}
-use Rattle.tele_eq.specs.Items.{Item, term_at}
+use Rattle.tele_eq.specs.Items.{term_at}
 use Rattle.tele_eq.specs.Environments.{Environment, put}
 use Rattle.tele_eq.proofs.Carrying.{ups_by, inst-none}
 use Rattle.unification.specs.States.{Equation}
 use Rattle.unification.specs.Moving.{over_first, behind, moved}
-use Rattle.unification.proofs.Cases.{below-or_from, first-of_two, second-of_two, first-of_three, second-of_three, third-of_three}
+use Rattle.unification.proofs.Cases.{below-or_from, first-of_two, second-of_two}
 use Rattle.unification.proofs.Puts.{Lifts, stands, put-is_inst}
 use Rattle.tree_translation.proofs.ContextInstances.{moved-weakened, term-instance}
+use Rattle.tree_translation.proofs.MovedPlaces.{Place, environment, context_map, lifts-at, context-at, near-at, place-at}
 
--- an equation that stands behind k others, with s put for the variables of the context
+-- an equation that follows k others, with s put for the variables of the context
 abbrev pub equation_under : (s : ℕ → Term) (k : ℕ) → Equation → Equation
 equation_under s k e = record {
   place = record { type = inst (ups_by k s) e.place.type; level = e.place.level };
@@ -34,90 +34,9 @@ drop-under s k (suc g) [] = refl
 drop-under s k (suc g) (e ∷ es) =
     let f : k + 1 + g ≡ k + suc g = omega arith in drop-under s (k + 1) g es ∙ ap (λ i. equations_under s i (drop g es)) f
 
--- ---- what stands behind a context
-
--- Where moved equations stood and stand: behind m variables and g equations, and now behind n variables and h equations; `variables`
--- stands for the variables, and `terms` for the g equations.
-pub record Place : Type 0 where
-  pub m : ℕ
-  pub g : ℕ
-  pub n : ℕ
-  pub h : ℕ
-  pub variables : Environment
-  pub terms : List Term
-
-abbrev pub environment : Place → Environment
-environment p = behind p.m p.g (p.n + p.h) p.variables (over_first (p.n + p.h) p.terms)
-
-abbrev pub context_map : Place → ℕ → Term
-context_map p = stands p.variables p.m p.n
-
-lifts-at : (p : Place) (i : ℕ) → Lifts p.variables p.m p.n → Lifts (environment p) (p.m + p.g + i) (p.n + p.h + i)
-lifts-at p i lifts by j lt = elim (below-or_from j p.m) [
-  | inl less ↦
-    let d : p.n + p.h + i + by ≡ p.n + (p.h + i + by) = omega arith in
-    let d' : p.n + p.h + i ≡ p.n + (p.h + i) = omega arith in
-    first-of_two j p.m _ _ less
-    ∙ (ap (λ depth. p.variables depth j) d
-    ∙ (lifts (p.h + i + by) j less
-    ∙ (sym (ren-ren (λ v. v + by) (λ v. v + (p.h + i)) (p.variables p.n j) ∙ ren-same {r = λ v. v + (p.h + i) + by} {q = λ v. v + (p.h + i + by)} (p.variables p.n j) (λ v. omega arith))
-    ∙ ap (weaken_by by) (sym (lifts (p.h + i) j less) ∙ (ap (λ depth. p.variables depth j) (sym d') ∙ sym (first-of_two j p.m _ _ less))))))
-  | inr le ↦ elim (below-or_from j (p.m + p.g)) [
-      | inl less ↦
-        let t = term_at p.terms (j - p.m) in
-        let d : p.n + p.h + i + by - (p.n + p.h) ≡ i + by = omega arith in
-        let d' : p.n + p.h + i - (p.n + p.h) ≡ i = omega arith in
-        second-of_three j p.m (p.m + p.g) _ _ _ le less
-        ∙ (ap (λ depth. lift t depth 0) d
-        ∙ (sym (weaken_by-is_lift (i + by) t)
-        ∙ (sym (ren-ren (λ v. v + by) (λ v. v + i) t ∙ ren-same {r = λ v. v + i + by} {q = λ v. v + (i + by)} t (λ v. omega arith))
-        ∙ ap (weaken_by by)
-        (weaken_by-is_lift i t ∙ (ap (λ depth. lift t depth 0) (sym d') ∙ sym (second-of_three j p.m (p.m + p.g) _ _ _ le less))))))
-      | inr beyond ↦
-        let l = p.n + p.h + (j - (p.m + p.g)) in
-        let e : p.n + p.h + i + by - (l + 1) ≡ p.n + p.h + i - (l + 1) + by = omega arith in
-        third-of_three j p.m (p.m + p.g) _ _ _ le beyond ∙ (ap Var e ∙ ap (weaken_by by) (sym (third-of_three j p.m (p.m + p.g) _ _ _ le beyond)))
-    ]
-]
-
--- what is put for a variable of the context, behind i equations more
-context-at : (p : Place) (i x : ℕ) → Lifts p.variables p.m p.n
-    → stands (environment p) (p.m + p.g + i) (p.n + p.h + i) (x + (p.g + i)) ≡ weaken_by (p.h + i) (context_map p x)
-context-at p i x lifts = elim (below-or_from x p.m) [
-  | inl lt ↦
-    let position : p.m + p.g + i - (x + (p.g + i) + 1) ≡ p.m - (x + 1) = omega arith in
-    let d : p.n + p.h + i ≡ p.n + (p.h + i) = omega arith in
-    first-of_two (x + (p.g + i)) (p.m + p.g + i) _ _ (omega arith)
-    ∙ (ap (environment p (p.n + p.h + i)) position
-    ∙ (first-of_two (p.m - (x + 1)) p.m _ _ (omega arith)
-    ∙ (ap (λ depth. p.variables depth (p.m - (x + 1))) d
-    ∙ (lifts (p.h + i) (p.m - (x + 1)) (omega arith) ∙ ap (weaken_by (p.h + i)) (sym (first-of_two x p.m _ _ lt))))))
-  | inr le ↦
-    let e : x + (p.g + i) - (p.m + p.g + i) + (p.n + p.h + i) ≡ x - p.m + p.n + (p.h + i) = omega arith in
-    second-of_two (x + (p.g + i)) (p.m + p.g + i) _ _ (omega arith)
-    ∙ (ap Var e ∙ ap (weaken_by (p.h + i)) (sym (second-of_two x p.m _ _ le)))
-]
-
-near-at : (p : Place) (i v : ℕ) → v < i → stands (environment p) (p.m + p.g + i) (p.n + p.h + i) v ≡ Var v
-near-at p i v lt =
-    let j = p.m + p.g + i - (v + 1) in
-    let e : p.n + p.h + i - (p.n + p.h + (j - (p.m + p.g)) + 1) ≡ v = omega arith in
-    first-of_two v (p.m + p.g + i) _ _ (omega arith)
-    ∙ (third-of_three j p.m (p.m + p.g) _ _ _ (omega arith) (omega arith) ∙ ap Var e)
-
-place-at : (p : Place) (i v : ℕ) → i ≤ v → v < p.g + i
-    → stands (environment p) (p.m + p.g + i) (p.n + p.h + i) v ≡ weaken_by i (term_at p.terms (p.g + i - (v + 1)))
-place-at p i v le lt =
-    let j = p.m + p.g + i - (v + 1) in
-    let e : j - p.m ≡ p.g + i - (v + 1) = omega arith in
-    let d : p.n + p.h + i - (p.n + p.h) ≡ i = omega arith in
-    first-of_two v (p.m + p.g + i) _ _ (omega arith)
-    ∙ (second-of_three j p.m (p.m + p.g) _ _ _ (omega arith) (omega arith)
-    ∙ (ap₂ (λ k depth. lift (term_at p.terms k) depth 0) e d ∙ sym (weaken_by-is_lift i (term_at p.terms (p.g + i - (v + 1))))))
-
 -- ---- instances of both
 
--- The same behind other contexts: s is put for the variables before, and s' for those behind.
+-- The same in other contexts: s is put for the variables before, and s' for those after.
 pub record IsPlaceOf (s s' : ℕ → Term) (p q : Place) : Type 0 where
   pub lifts : Lifts p.variables p.m p.n
   pub lifts' : Lifts q.variables q.m q.n
@@ -134,11 +53,11 @@ ups_by-sum k i s t =
     each v = elim (below-or_from v k) [
       | inl lt ↦ first-of_two (v + i) (k + i) _ _ (omega arith) ∙ ap (weaken_by i) (sym (first-of_two v k _ _ lt))
       | inr le ↦
-        let e : v + i - (k + i) ≡ v - k = omega arith in
-        second-of_two (v + i) (k + i) _ _ (omega arith)
-        ∙ (ap (λ j. weaken_by (k + i) (s j)) e
-        ∙ (sym (ren-ren (λ w. w + i) (λ w. w + k) (s (v - k)) ∙ ren-same {r = λ w. w + k + i} {q = λ w. w + (k + i)} (s (v - k)) (λ w. omega arith))
-        ∙ ap (weaken_by i) (sym (second-of_two v k _ _ le))))
+          let e : v + i - (k + i) ≡ v - k = omega arith in
+          second-of_two (v + i) (k + i) _ _ (omega arith)
+          ∙ (ap (λ j. weaken_by (k + i) (s j)) e
+          ∙ (sym (ren-ren (λ w. w + i) (λ w. w + k) (s (v - k)) ∙ ren-same {r = λ w. w + k + i} {q = λ w. w + (k + i)} (s (v - k)) (λ w. omega arith))
+          ∙ ap (weaken_by i) (sym (second-of_two v k _ _ le))))
     ]
 
 variable-moves : (s s' : ℕ → Term) (p q : Place) → IsPlaceOf s s' p q → q.g ≡ p.g → q.h ≡ p.h → (i v : ℕ)
@@ -146,10 +65,10 @@ variable-moves : (s s' : ℕ → Term) (p q : Place) → IsPlaceOf s s' p q → 
     ≡ inst (ups_by (p.h + i) s') (stands (environment p) (p.m + p.g + i) (p.n + p.h + i) v)
 variable-moves s s' p q is eg eh i v = elim (below-or_from v (p.g + i)) [
   | inl lt ↦ ap (inst to) (first-of_two v (p.g + i) _ _ lt) ∙ elim (below-or_from v i) [
-      | inl near ↦
+    | inl near ↦
         near-at q i v near
         ∙ (sym (first-of_two v (p.h + i) (Var v) (weaken_by (p.h + i) (s' (v - (p.h + i)))) (omega arith)) ∙ ap (inst (ups_by (p.h + i) s')) (sym (near-at p i v near)))
-      | inr le ↦
+    | inr le ↦
         let j = p.g + i - (v + 1) in
         let e : q.g + i - (v + 1) ≡ j = omega arith in
         place-at q i v le (omega arith)
@@ -157,17 +76,17 @@ variable-moves s s' p q is eg eh i v = elim (below-or_from v (p.g + i)) [
         ∙ (ap (λ ts. weaken_by i (term_at ts j)) is.terms
         ∙ (ap (weaken_by i) (sym (term-instance (ups_by p.h s') p.terms j))
         ∙ (sym (ups_by-sum p.h i s' (term_at p.terms j)) ∙ ap (inst (ups_by (p.h + i) s')) (sym (place-at p i v le lt))))))
-    ]
+  ]
   | inr le ↦
-    let x = v - (p.g + i) in
-    let back : x + (p.g + i) ≡ v = omega arith in
-    ap (inst to) (second-of_two v (p.g + i) _ _ le)
-    ∙ (inst-ren to (λ w. w + (p.g + i)) (s x)
-    ∙ (inst-same (s x) each
-    ∙ (sym (ren-inst (λ w. w + (p.h + i)) (context_map q) (s x))
-    ∙ (ap (weaken_by (p.h + i)) (is.agree x)
-    ∙ (sym (moved-weakened s' (p.h + i) (context_map p x))
-    ∙ ap (inst (ups_by (p.h + i) s')) (sym (context-at p i x is.lifts) ∙ ap (stands (environment p) (p.m + p.g + i) (p.n + p.h + i)) back))))))
+      let x = v - (p.g + i) in
+      let back : x + (p.g + i) ≡ v = omega arith in
+      ap (inst to) (second-of_two v (p.g + i) _ _ le)
+      ∙ (inst-ren to (λ w. w + (p.g + i)) (s x)
+      ∙ (inst-same (s x) each
+      ∙ (sym (ren-inst (λ w. w + (p.h + i)) (context_map q) (s x))
+      ∙ (ap (weaken_by (p.h + i)) (is.agree x)
+      ∙ (sym (moved-weakened s' (p.h + i) (context_map p x))
+      ∙ ap (inst (ups_by (p.h + i) s')) (sym (context-at p i x is.lifts) ∙ ap (stands (environment p) (p.m + p.g + i) (p.n + p.h + i)) back))))))
 ]
   where
     to : ℕ → Term

@@ -18,7 +18,7 @@ use Rattle.unification.specs.Heights.{start_made}
 use Rattle.unification.specs.Laws.{Chain, IsReached}
 use Rattle.unification.specs.Occurrences.{lacks, order_without}
 use Rattle.unification.specs.Outcomes.{Outcome, Solved}
-use Rattle.unification.specs.Rules.{Steps, solve_right, solve_left, inject_group, inject, delete, ChainWith, none, more, level_of}
+use Rattle.unification.specs.Rules.{Steps, solve_right, solve_left, inject_group, inject, delete, none, more, level_of}
 use Rattle.core_terms.specs.Answers.{on_answer}
 use Rattle.unification.specs.Runs.{unify_of, run_of}
 use Rattle.unification.specs.Solving.{solved, solved_state}
@@ -30,7 +30,7 @@ use Rattle.unification.proofs.UnderInstances.{fill-variables}
 use Rattle.case_trees.specs.Points.{under_solution}
 use Rattle.tree_translation.specs.Standings.{Standing, problem_state}
 use Rattle.tree_translation.specs.Comparisons.{Comparison, compared}
-use Rattle.tree_translation.specs.Replays.{solved_standing, unless_compared, behind_rule, behind_step, behind_run}
+use Rattle.tree_translation.specs.Replays.{solved_standing, unless_compared, behind_step, behind_run}
 use Rattle.tree_translation.specs.Laws.{IsSolved, ReplayEnds, ReplayGoal}
 use Rattle.tree_translation.proofs.NothingHidden.{number-own}
 use Rattle.tree_translation.proofs.ReplayedRuns.{IsAt, read, step-replayed, replay_is_run}
@@ -73,7 +73,7 @@ replay_ends S p standing steps context solution is =
 
 -- ---- the goal
 
--- under a solution with terms put for the variables behind it
+-- under a solution with terms put for the variables after it
 under-instance : (q : ℕ → Term) (solution : List Term) (G : Term) → inst q (under_solution solution G) ≡ under_solution (map (inst q) solution) G
 under-instance q solution G =
     inst-inst q (fill no_variable solution) G ∙ ap (λ s. inst s G) (fun_ext (inst-fill q no_variable solution))
