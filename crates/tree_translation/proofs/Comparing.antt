@@ -1,19 +1,17 @@
 -- What a step by injectivity or conflict compares is what the rule speaks of.
-use Rattle.std.proofs.Common.{◌≡◌, ◌≢◌, ℕ, zero, suc, ◌+◌, ◌-◌, ◌==◌, true, cond, Option, Some, None, option_and_then, List, [], ◌∷◌, ◌++◌, length, map, take, drop, slice_get, refl, sym, ap, ap₂, ◌∙◌, arith}
+use Rattle.std.proofs.Common.{◌≡◌, ◌≢◌, ℕ, zero, suc, ◌+◌, ◌-◌, ◌==◌, true, cond, Some, None, option_and_then, List, [], ◌∷◌, ◌++◌, length, map, take, drop, slice_get, refl, sym, ap, ap₂, ◌∙◌, arith}
 use Rattle.std.proofs.lemmas.Bool.Decides.{nat_tests}
-use Rattle.std.proofs.lemmas.List.{length-append, length-map}
+use Rattle.std.proofs.lemmas.List.{length-append}
 use Rattle.std.proofs.Math.Seq.{take-append_seam, drop-append_seam}
 use Rattle.theory.specs.Terms.{Term, Fam, Con, lift}
 use Rattle.theory.specs.Telescopes.{applied, variables}
-use Rattle.theory.specs.Spines.{head_of, spine_of}
+use Rattle.theory.specs.Spines.{spine_of}
 use Rattle.theory.specs.Families.{Family}
 use Rattle.theory.specs.Signatures.{Signature, FamilyOf, IsEntryAt}
-use Rattle.theory.specs.Substitutions.{ren}
 use Rattle.theory.proofs.Instances.{ren-ren, ren-same, ren-is_inst, inst-var}
 use Rattle.theory.proofs.Shifts.{weaken_by-is_lift}
 use Rattle.core_terms.specs.CaseTrees.{Step}
-use Rattle.core_sig.proofs.Lists.{all-unmapped}
-use Rattle.kernel_reduce.specs.Entries.{family_at, family_in}
+use Rattle.kernel_reduce.specs.Entries.{family_in}
 use Rattle.unification.specs.Built.{Built, term_of, with_all, with_spine, built_of}
 use Rattle.unification.specs.Groups.{lowered}
 use Rattle.unification.specs.Injecting.{lifted}
@@ -21,7 +19,7 @@ use Rattle.unification.specs.Paths.{IsBuilt}
 use Rattle.unification.specs.States.{State, right_sides}
 use Rattle.unification.proofs.Constructors.{one-family}
 use Rattle.case_trees.proofs.Arguments.{head-applied, spine-applied}
-use Rattle.tree_translation.specs.Comparisons.{Comparison, compared_alone, compared_as_group, compared_by, compared_in, compared}
+use Rattle.tree_translation.specs.Comparisons.{Comparison, compared_by, compared_in, compared}
 
 -- ---- constructors
 

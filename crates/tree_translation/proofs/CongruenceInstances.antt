@@ -1,7 +1,6 @@
 -- Congruences with terms put for the variables of their context.
-use Rattle.std.proofs.Common.{◌≡◌, ℕ, zero, suc, ◌+◌, ◌≤◌, List, [], ◌∷◌, length, map, refl, sym, ap, ap₂, ◌∙◌, arith}
+use Rattle.std.proofs.Common.{◌≡◌, ℕ, zero, suc, ◌+◌, List, ◌∷◌, length, map, refl, sym, ap, ap₂, ◌∙◌, arith}
 use Rattle.theory.specs.Terms.{Term}
-use Rattle.theory.specs.Terms.Term.{App}
 use Rattle.theory.specs.Substitutions.{inst}
 use Rattle.tele_eq.specs.Items.{Item, each_position, positions_of, term_at, greatest_level}
 use Rattle.tele_eq.specs.Environments.{Environment, outside, put}
@@ -10,7 +9,7 @@ use Rattle.tele_eq.specs.Congruences.{images, image_equation, congruence_below, 
 use Rattle.tele_eq.proofs.Carrying.{ups_by, inst-none}
 use Rattle.tele_eq.proofs.CarriedTerms.{every}
 use Rattle.tele_eq.proofs.Positions.{positions-from}
-use Rattle.tree_translation.proofs.ContextInstances.{Agrees, AgreesFrom, AreMoved, moved-put, moved-outside, term-instance}
+use Rattle.tree_translation.proofs.ContextInstances.{Agrees, AgreesFrom, AreMoved, moved-put, moved-outside}
 use Rattle.tree_translation.proofs.TelescopeInstances.{IsInstance, moved-reflexive, greatest-same}
 use Rattle.tree_translation.proofs.EquationInstances.{IsGoalMoved, IsSetting, moved-equation, moved-left, moved-telescopic_j}
 

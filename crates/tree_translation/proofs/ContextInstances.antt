@@ -1,5 +1,5 @@
--- Terms of a telescope that stands in a context, with terms put for the variables of the context: what stands for the telescope's
--- variables is instantiated, and so is the telescope.
+-- Terms of a telescope over a context, with terms put for the variables of the context: the terms for the telescope's variables are
+-- instantiated, and so is the telescope.
 use Rattle.std.proofs.Common.{◌≡◌, ℕ, zero, suc, ◌+◌, ◌-◌, ◌<◌, ◌≤◌, ◌⊎◌, inl, inr, List, [], ◌∷◌, map, refl, sym, ap, ap₂, ◌∙◌, arith}
 use Rattle.theory.specs.Terms.{Term, Var, Sort, Pi, Lam, App, Let, Const, Fam, Con, Elim, AxiomK, lift}
 use Rattle.theory.specs.Substitutions.{ren, inst, up}

@@ -1,25 +1,20 @@
 -- The entries of a function: their names, the written type, their refusals, and the order of the names that they mention.
-use Rattle.std.proofs.Common.{◌≡◌, ℕ, zero, suc, ◌+◌, ◌-◌, ◌<◌, nat_lt, cond, Option, Some, None, List, [], ◌∷◌, ◌++◌, map, length, drop, slice_get, get_or, flat_map, All, Ok, Err, refl, sym, ap, ap₂, ◌∙◌, subst, arith, append_assoc}
+use Rattle.std.proofs.Common.{◌≡◌, ℕ, zero, suc, ◌+◌, Option, Some, None, List, [], ◌∷◌, ◌++◌, map, length, drop, get_or, flat_map, All, Ok, refl, sym, ap, ap₂, ◌∙◌, arith}
 use Rattle.std.proofs.lemmas.List.{map-append, append-nil, length-map}
 use Rattle.std.proofs.lemmas.List.Elements.{All-cons, All-append}
-use Rattle.std.proofs.lemmas.Option.{slice_get_within}
 use Rattle.theory.proofs.Lists.{only, both}
-use Rattle.theory.specs.Terms.{Term, Var, Sort, Pi, Lam, App, Let, Const, Fam, Con, Elim, AxiomK}
-use Rattle.theory.specs.Telescopes.{Telescope, products}
-use Rattle.theory.specs.Signatures.{Signature, Definition}
-use Rattle.theory.specs.SignatureScopes.{HasEntries, IsScoped, IsScopedTelescope}
+use Rattle.theory.specs.Terms.{Term}
+use Rattle.theory.specs.Signatures.{Signature}
 use Rattle.core_sig.specs.Drafts.{Draft}
 use Rattle.core_sig.specs.Settling.{renumbered}
 use Rattle.tele_eq.specs.Levels.{place_in}
-use Rattle.unification.proofs.Cases.{first-of_two}
 use Rattle.tree_translation.specs.Naming.{Naming, mentions, once, with_names, number_in, number_among, drafted_in_order, motive_name, step_name, helper_name}
 use Rattle.tree_translation.specs.Standings.{levels_from}
-use Rattle.tree_translation.specs.Plans.{Plan, Part, own_part}
+use Rattle.tree_translation.specs.Plans.{Plan, Part}
 use Rattle.tree_translation.specs.Recursion.{Recursion, recursion_of}
 use Rattle.tree_translation.specs.Entries.{motive_entry, step_entry, helper_entry, function_entry, helper_count}
 use Rattle.tree_translation.specs.Needed.{entry_terms}
-use Rattle.tree_translation.specs.Conditions.{IsPlanned}
-use Rattle.tree_translation.specs.Laws.{name_in, name_of, helpers_down, names_in_order, mentioned_by, EntriesAreThese, TypeIsWritten, OnlyDeep, NamesInOrder}
+use Rattle.tree_translation.specs.Laws.{name_in, name_of, helpers_down, names_in_order, mentioned_by, EntriesAreThese, OnlyDeep, NamesInOrder}
 use Rattle.tree_translation.proofs.FirstMentions.{mentions-numbered, once-in_order}
 use Rattle.tree_translation.proofs.Drafting.{IsDrafted, places_of, in_order-is, AreHelpers, AreEntries, entries-are, entries-deep}
 

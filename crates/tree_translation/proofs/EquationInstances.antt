@@ -9,17 +9,17 @@ use Rattle.theory.specs.Signatures.{equality, equation as equation_of}
 use Rattle.core_terms.specs.Levels.{variable, bind}
 use Rattle.core_terms.specs.declared.levels.Binder.{Binder}
 use Rattle.core_terms.specs.declared.levels.Binder.TheVariants.{Product, Function}
-use Rattle.tele_eq.specs.Items.{Item, level_at, greatest_level, each_position}
+use Rattle.tele_eq.specs.Items.{Item, level_at, greatest_level}
 use Rattle.tele_eq.specs.Environments.{Environment, inside, outside}
 use Rattle.tele_eq.specs.Dependences.{dependences}
-use Rattle.tele_eq.specs.TelescopicEquality.{Lefts, Goal, type_with, reflexive, equation, equations_over, applied_to_pairs, motive, telescopic_j, transport_type, identity, transported, unless_fixed, left_below, as_bound, equation_behind, equations}
+use Rattle.tele_eq.specs.TelescopicEquality.{Lefts, Goal, type_with, reflexive, equation, equations_over, applied_to_pairs, motive, telescopic_j, transport_type, identity, transported, unless_fixed, left_below, as_bound, equation_behind}
 use Rattle.tele_eq.proofs.Carrying.{IsFrom, ups_by, inst-under, bound, bound-own, bound-rest, bound-most, bound-before}
 use Rattle.tele_eq.proofs.CarriedTerms.{every, below-every}
 use Rattle.tele_eq.proofs.DependenceOrder.{dependences-from, dependences-below}
 use Rattle.tree_translation.proofs.ContextInstances.{Agrees, AgreesFrom, AgreesBelow, AreMoved, moved-below, moved-variable, moved-outside}
 use Rattle.tree_translation.proofs.TelescopeInstances.{IsInstance, moved-type, moved-reflexive, moved-inside, greatest-same, dependences-same}
 
--- left sides that are instantiated wherever what stands for the earlier positions is
+-- left sides that are instantiated wherever the terms for the earlier positions are
 abbrev pub AreLeftsMoved : (s : ℕ → Term) (w w' : Lefts) → Type 0
 AreLeftsMoved s w w' =
     (z z' e e' : Environment) (k j : ℕ) → AgreesBelow s z z' k j → ((p : ℕ) → p < j → Agrees s e e' k p)
@@ -33,7 +33,7 @@ IsGoalMoved s C C' =
 abbrev pub IsBaseMoved : (s : ℕ → Term) (base base' : ℕ → Term) → Type 0
 IsBaseMoved s base base' = (k : ℕ) → inst (ups_by k s) (base k) ≡ base' k
 
--- what stands for the variables at positions that are bound from level l on, k binders further in
+-- the terms for the variables at positions that are bound from level l on, k binders further in
 abbrev AreBound : (s : ℕ → Term) (z z' : Environment) (k l : ℕ) (positions : List ℕ) → Type 0
 AreBound s z z' k l positions = (p k' : ℕ) → k ≤ k' → bound positions l p ≤ k' → Agrees s z z' k' p
 
@@ -101,7 +101,7 @@ moved-pairs s (t ∷ positions) z z' e e' k az ae head head' h =
 
 -- ---- telescopic J
 
--- a telescope and what stands for its left terms, with the telescope and the terms that they become, and left sides of both
+-- a telescope and its left terms, with the telescope and the terms that they become, and left sides of both
 pub record IsSetting (s : ℕ → Term) (X Y : List Item) (u u' : Environment) (w w' : Lefts) : Type 0 where
   pub is : IsInstance s X Y
   pub terms : AreMoved s u u'
@@ -243,7 +243,7 @@ moved-left s (suc n) X Y is u u' terms z z' e e' k j az ae =
 
 -- ---- the telescope of equations
 
--- an equation of the telescope, which stands over those before it
+-- an equation of the telescope, which is over those before it
 pub moved-behind : (s : ℕ → Term) (n : ℕ) (X Y : List Item) → IsInstance s X Y → (us vs : List Term) (j : ℕ)
     → inst (ups_by j s) (equation_behind n X us vs j) ≡ equation_behind n Y (map (inst s) us) (map (inst s) vs) j
 moved-behind s n X Y is us vs j =

@@ -1,8 +1,8 @@
 -- Places that are numbered by their first mention: read again, they are mentioned in order.
-use Rattle.std.proofs.Common.{◌≡◌, ◌⊎◌, inl, inr, ℕ, zero, suc, ◌+◌, ◌-◌, ◌<◌, ◌≤◌, ◌==◌, ◌||◌, nat_lt, Bool, true, false, cond, Some, List, [], ◌∷◌, ◌++◌, map, length, slice_get, refl, sym, ap, ap₂, ◌∙◌, subst, arith, append_assoc}
+use Rattle.std.proofs.Common.{◌≡◌, inl, inr, ℕ, suc, ◌+◌, ◌-◌, ◌<◌, ◌==◌, ◌||◌, nat_lt, Bool, true, false, cond, List, [], ◌∷◌, ◌++◌, map, length, refl, sym, ap, ap₂, ◌∙◌, arith, append_assoc}
 use Rattle.std.proofs.lemmas.Bool.{true≢false}
 use Rattle.std.proofs.lemmas.Bool.Decides.{nat_tests}
-use Rattle.std.proofs.lemmas.List.{map-append, append-nil, length-append}
+use Rattle.std.proofs.lemmas.List.{map-append, length-append}
 use Rattle.theory.specs.Terms.{Term, Var, Sort, Pi, Lam, App, Let, Const, Fam, Con, Elim, AxiomK}
 use Rattle.core_sig.specs.Settling.{renumbered}
 use Rattle.tele_eq.specs.Levels.{is_among, place_in}
@@ -58,7 +58,7 @@ among-append j (x ∷ xs) ys = by (x == j) (among-append j xs ys)
     by true e = refl
     by false e = e
 
--- behind places that are not j, j stands at their number
+-- after places that are not i, the place of i is their number
 place-behind : (done rest : List ℕ) (i : ℕ) → is_among i done ≡ false → place_in (done ++ i ∷ rest) i ≡ length done
 place-behind [] rest i h = by (i == i) (grind (arith, nat_tests))
   where

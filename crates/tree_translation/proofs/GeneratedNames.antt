@@ -1,8 +1,8 @@
 -- The names that the terms of runs and split nodes may mention are all generated for families of the signature.
-use Rattle.std.proofs.Common.{◌≡◌, ℕ, zero, suc, ◌+◌, ◌-◌, ◌==◌, Option, Some, None, List, [], ◌∷◌, ◌++◌, length, All, IfSome, refl}
+use Rattle.std.proofs.Common.{◌≡◌, ℕ, zero, suc, ◌+◌, ◌-◌, ◌==◌, Option, Some, None, List, [], ◌∷◌, length, All, IfSome, refl}
 use Rattle.std.proofs.lemmas.List.Elements.{All-cons, All-append, All-nil}
 use Rattle.theory.proofs.Lists.{only, both}
-use Rattle.theory.specs.Terms.{Term, Fam, Const, Var}
+use Rattle.theory.specs.Terms.{Term, Fam, Var}
 use Rattle.theory.specs.Spines.{head_of, spine_of}
 use Rattle.theory.specs.Families.{Constructor}
 use Rattle.theory.specs.Signatures.{Signature, FamilyOf, IsEntryAt}
@@ -18,7 +18,7 @@ use Rattle.unification.proofs.Constructors.{built-is}
 use Rattle.case_trees.specs.Problems.{Member, member_with, member_at, member_of}
 use Rattle.acyclic_gen.specs.AcyclicEntries.{acyclic_name}
 use Rattle.acyclic_gen.specs.DirectEntries.{direct_name}
-use Rattle.tree_translation.specs.Naming.{noconf_name, left_name, case_name, with_names}
+use Rattle.tree_translation.specs.Naming.{left_name, case_name}
 use Rattle.tree_translation.specs.Standings.{Standing}
 use Rattle.tree_translation.specs.Comparisons.{Comparison, compared, compared_in, compared_by}
 use Rattle.tree_translation.specs.Replays.{level_of_first, behind_step, step_in}

@@ -1,9 +1,7 @@
 -- Lists of levels: those that rise, those that are left, and their places.
-use Rattle.std.proofs.Common.{◌≡◌, ◌⊎◌, inl, inr, ℕ, zero, suc, ◌+◌, ◌-◌, ◌<◌, ◌≤◌, ◌==◌, ◌||◌, Bool, true, false, cond, Some, None, List, [], ◌∷◌, ◌++◌, length, map, get_or, slice_get, refl, sym, ap, ap₂, ◌∙◌, subst, arith, eq-eqb}
-use Rattle.std.proofs.lemmas.Bool.{true≢false}
+use Rattle.std.proofs.Common.{◌≡◌, ◌⊎◌, inl, inr, ℕ, zero, suc, ◌+◌, ◌<◌, ◌≤◌, Bool, true, false, cond, Some, List, [], ◌∷◌, ◌++◌, length, map, get_or, slice_get, refl, sym, ap, ap₂, ◌∙◌, subst, arith}
 use Rattle.theory.proofs.Lists.{some_is}
-use Rattle.tele_eq.specs.Items.{each_position}
-use Rattle.tele_eq.specs.Levels.{is_among, place_in}
+use Rattle.tele_eq.specs.Levels.{is_among}
 use Rattle.tele_eq.proofs.Carrying.{IsFrom}
 use Rattle.unification.specs.Occurrences.{without}
 use Rattle.unification.proofs.Cases.{less-or_same}
@@ -28,7 +26,7 @@ there-below [] k x e = absurd (grind arith)
 there-below (y ∷ xs) zero x e = omega arith
 there-below (y ∷ xs) (suc k) x e = let lt : k < length xs = there-below xs k x e in omega arith
 
--- what stands at a number of a list that is mapped
+-- the element at a number of a list that is mapped
 pub record IsImage {A B : Type 0} (f : A → B) (xs : List A) (k : ℕ) (y : B) : Type 0 where
   pub source : A
   pub there : slice_get xs k ≡ Some source
@@ -58,7 +56,7 @@ from-without n out (t ∷ levels) from = by (is_among t out) (from-without (t + 
     by true rest = let low : n ≤ t = from.0 in from-lower n (t + 1) (without out levels) (omega arith) rest
     by false rest = (from.0, rest)
 
--- each level stands at one place
+-- each level has one place
 pub from-apart : (n : ℕ) (levels : List ℕ) (i j l : ℕ) → IsFrom n levels → slice_get levels i ≡ Some l → slice_get levels j ≡ Some l → i ≡ j
 from-apart n [] i j l from e f = absurd (grind arith)
 from-apart n (t ∷ levels) zero zero l from e f = refl

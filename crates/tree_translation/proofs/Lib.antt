@@ -24,6 +24,7 @@ mod InnerCallRows
 pub mod LevelLists
 mod MappingRows
 pub mod MovedInstances
+pub mod MovedPlaces
 pub mod Needs
 mod NestedHelperRows
 pub mod NewNames
@@ -35,8 +36,12 @@ pub mod RecordInstances
 mod RecursionRows
 mod ReorderedRows
 pub mod ReplayedBinders
+pub mod ReplayedEnds
 pub mod ReplayedRuns
 mod Samples
+pub mod ScopedDrafting
+pub mod ScopedTables
+pub mod SeenContexts
 pub mod SeenDependants
 pub mod SeenEquations
 pub mod SeenOccurrences

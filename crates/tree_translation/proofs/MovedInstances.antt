@@ -1,21 +1,21 @@
--- Equations that move behind other variables, with terms put for the variables of the context before and behind.
-use Rattle.std.proofs.Common.{◌≡◌, ℕ, zero, suc, ◌+◌, ◌-◌, ◌<◌, ◌≤◌, inl, inr, nat_lt, cond, List, [], ◌∷◌, ◌++◌, length, map, drop, refl, sym, ap, ap₂, ◌∙◌, arith}
-use Rattle.theory.specs.Terms.{Term, Var, lift}
+-- Equations that move to another context, with terms put for the variables of the context before and after.
+use Rattle.std.proofs.Common.{◌≡◌, ℕ, zero, suc, ◌+◌, ◌-◌, ◌≤◌, inl, inr, List, [], ◌∷◌, map, drop, refl, sym, ap, ap₂, ◌∙◌, arith}
+use Rattle.theory.specs.Terms.{Term, Var}
 use Rattle.theory.specs.Substitutions.{inst}
 use Rattle.theory.specs.Telescopes.{weaken_by}
 use Rattle.theory.proofs.Instances.{inst-inst, inst-same, inst-ren, inst-var, ren-inst, ren-ren, ren-same}
-use Rattle.theory.proofs.Shifts.{weaken_by-is_lift}
 use Rattle.core_terms.specs.Levels.{variable}
-use Rattle.tele_eq.specs.Items.{Item, term_at}
+use Rattle.tele_eq.specs.Items.{term_at}
 use Rattle.tele_eq.specs.Environments.{Environment, put}
 use Rattle.tele_eq.proofs.Carrying.{ups_by, inst-none}
 use Rattle.unification.specs.States.{Equation}
 use Rattle.unification.specs.Moving.{over_first, behind, moved}
-use Rattle.unification.proofs.Cases.{below-or_from, first-of_two, second-of_two, first-of_three, second-of_three, third-of_three}
+use Rattle.unification.proofs.Cases.{below-or_from, first-of_two, second-of_two}
 use Rattle.unification.proofs.Puts.{Lifts, stands, put-is_inst}
 use Rattle.tree_translation.proofs.ContextInstances.{moved-weakened, term-instance}
+use Rattle.tree_translation.proofs.MovedPlaces.{Place, environment, context_map, lifts-at, context-at, near-at, place-at}
 
--- an equation that stands behind k others, with s put for the variables of the context
+-- an equation that follows k others, with s put for the variables of the context
 abbrev pub equation_under : (s : ℕ → Term) (k : ℕ) → Equation → Equation
 equation_under s k e = record {
   place = record { type = inst (ups_by k s) e.place.type; level = e.place.level };
@@ -34,6 +34,7 @@ drop-under s k (suc g) [] = refl
 drop-under s k (suc g) (e ∷ es) =
     let f : k + 1 + g ≡ k + suc g = omega arith in drop-under s (k + 1) g es ∙ ap (λ i. equations_under s i (drop g es)) f
 
+<<<<<<< HEAD
 -- ---- what stands behind a context
 
 -- Where moved equations stood and stand: behind m variables and g equations, and now behind n variables and h equations; `variables`
@@ -115,9 +116,11 @@ place-at p i v le lt =
     ∙ (second-of_three j p.m (p.m + p.g) _ _ _ (omega arith) (omega arith)
     ∙ (ap₂ (λ k depth. lift (term_at p.terms k) depth 0) e d ∙ sym (weaken_by-is_lift i (term_at p.terms (p.g + i - (v + 1))))))
 
+=======
+>>>>>>> a36d1ad9cadbc32cbaf29d299a1d294485151b74
 -- ---- instances of both
 
--- The same behind other contexts: s is put for the variables before, and s' for those behind.
+-- The same in other contexts: s is put for the variables before, and s' for those after.
 pub record IsPlaceOf (s s' : ℕ → Term) (p q : Place) : Type 0 where
   pub lifts : Lifts p.variables p.m p.n
   pub lifts' : Lifts q.variables q.m q.n

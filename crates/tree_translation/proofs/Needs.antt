@@ -1,11 +1,9 @@
 -- What a draft needs is what its terms mention and the signature lacks, each name once.
-use Rattle.std.proofs.Common.{◌≡◌, ◌≢◌, ◌↔◌, ◌⊎◌, inl, inr, ℕ, zero, suc, ◌+◌, ◌-◌, ◌<◌, ◌≤◌, nat_lt, ◌||◌, ◌&&◌, ◌==◌, Bool, true, false, cond, Option, Some, None, List, [], ◌∷◌, ◌++◌, length, get_or, slice_get, flat_map, All, Any, AllPairs, Contains, refl, sym, ap, ap₂, ◌∙◌, subst, arith}
+use Rattle.std.proofs.Common.{◌≡◌, ◌≢◌, inl, inr, ℕ, zero, suc, ◌+◌, ◌-◌, ◌<◌, ◌≤◌, ◌||◌, ◌&&◌, ◌==◌, Bool, true, false, Option, Some, None, List, [], ◌∷◌, ◌++◌, length, get_or, slice_get, flat_map, All, Any, AllPairs, Contains, refl, sym, ap, ap₂, ◌∙◌, subst, arith}
 use Rattle.std.specs.List.{list_any}
 use Rattle.std.proofs.lemmas.Bool.{true≢false, eqb-true, eq-eqb}
-use Rattle.std.proofs.lemmas.List.Elements.{All-head}
 use Rattle.theory.specs.Terms.{Term, Var, Sort, Pi, Lam, App, Let, Const, Fam, Con, Elim, AxiomK}
 use Rattle.theory.specs.Signatures.{Signature, Entry, FamilyOf, EliminatorAt, AxiomKAt, Definition}
-use Rattle.theory.proofs.Lists.{All-tail}
 use Rattle.core_sig.specs.DraftScopes.{IsDraftNumber, HasDraftEntries}
 use Rattle.core_sig.specs.Drafts.{Draft}
 use Rattle.core_sig.specs.Instances.{is_eliminator, is_axiom_k}
@@ -17,7 +15,7 @@ use Rattle.tree_translation.specs.Needed.{needed, needed_in, entry_terms, unless
 use Rattle.tree_translation.specs.Laws.{IsAmong, StandsIn, IsNeeded, NeededIsExact, NeededOnce}
 use Rattle.tree_translation.proofs.NewNames.{longer, new-differ, with-among}
 use Rattle.tree_translation.proofs.LevelLists.{there-get, get-there}
-use Rattle.tree_translation.proofs.Anywhere.{any-first, any-more, any-left, any-right, any-cases, any-flat, flat-any, any-only, only-any}
+use Rattle.tree_translation.proofs.Anywhere.{any-left, any-right, any-cases, any-flat, flat-any, any-only, only-any}
 use Rattle.tree_translation.proofs.EntryTerms.{entry-terms}
 
 -- ---- instances

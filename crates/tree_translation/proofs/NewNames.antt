@@ -1,11 +1,10 @@
 -- Names that are added to others, each once.
-use Rattle.std.proofs.Common.{◌≡◌, ◌≢◌, ◌↔◌, ℕ, zero, suc, ◌+◌, ◌<◌, ◌||◌, Bool, true, false, cond, List, [], ◌∷◌, ◌++◌, length, get_or, All, Any, AllPairs, bytes_eq, refl, sym, ap, ◌∙◌, subst, arith, append_assoc}
+use Rattle.std.proofs.Common.{◌≡◌, ◌≢◌, ◌↔◌, ℕ, zero, suc, ◌<◌, ◌||◌, Bool, true, false, cond, List, [], ◌∷◌, ◌++◌, length, get_or, All, AllPairs, bytes_eq, refl, sym, ap, ◌∙◌, subst, arith, append_assoc}
 use Rattle.std.proofs.lemmas.Bool.{true≢false}
 use Rattle.std.proofs.lemmas.List.{append-nil, get_or_append_left, length-append}
 use Rattle.std.proofs.lemmas.List.Elements.{All-cons, All-nil}
 use Rattle.std.proofs.lemmas.List.Kept.{AllPairs-cons}
 use Rattle.std.proofs.lemmas.Slice.Eq.{bytes_eq-Decides}
-use Rattle.core_sig.proofs.NameLists.{differs}
 use Rattle.theory.proofs.Lists.{All-tail}
 use Rattle.tree_translation.specs.Naming.{is_named, with_names}
 use Rattle.tree_translation.specs.Laws.{IsAmong}
@@ -34,7 +33,7 @@ named-left xs ys name h = named-append xs ys name ∙ ap (λ b. b || is_named ys
 pub named-last : (xs : List (List ℕ)) (name : List ℕ) → is_named (xs ++ name ∷ []) name ≡ true
 named-last xs name = named-append xs (name ∷ []) name ∙ or-true (is_named xs name) _ (named-own name [])
 
--- the test, in words
+-- what the test means
 pub named-among : (names : List (List ℕ)) (name : List ℕ) → is_named names name ≡ true → IsAmong name names
 named-among [] name h = absurd (true≢false (sym h))
 named-among (x ∷ names) name h = by (bytes_eq name x) refl (λ k. named-among names name k) h
@@ -57,7 +56,7 @@ pub data IsNew : (names new : List (List ℕ)) → Type 0 where
   more : {names new : List (List ℕ)} {name : List ℕ} → is_named names name ≡ false → IsNew (names ++ name ∷ []) new
       → IsNew names (name ∷ new)
 
--- a list with names of which P holds behind it
+-- a list that goes on with names of which P holds
 pub record IsLonger (P : List ℕ → Type 0) (names all : List (List ℕ)) : Type 0 where
   pub new : List (List ℕ)
   pub added : all ≡ names ++ new

@@ -1,5 +1,5 @@
 -- Where no variable is hidden, what is read over the whole context is what is written.
-use Rattle.std.proofs.Common.{◌≡◌, ℕ, zero, suc, ◌+◌, ◌-◌, ◌<◌, ◌≤◌, ◌⊎◌, inl, inr, nat_lt, cond, List, [], ◌∷◌, ◌++◌, length, get_or, refl, sym, ap, ap₂, ◌∙◌, arith}
+use Rattle.std.proofs.Common.{◌≡◌, ℕ, ◌+◌, ◌-◌, ◌<◌, inl, inr, List, [], ◌∷◌, ◌++◌, length, get_or, refl, ap, ap₂, ◌∙◌, arith}
 use Rattle.theory.specs.Terms.{Term, Var, Sort, Pi, Lam, App, Let, Const, Fam, Con, Elim, AxiomK}
 use Rattle.core_terms.specs.CaseTrees.{Step}
 use Rattle.core_terms.specs.declared.case_tree.Rule.{Rule}
@@ -7,7 +7,7 @@ use Rattle.tele_eq.specs.Environments.{put_under, put_variable}
 use Rattle.unification.specs.Occurrences.{without}
 use Rattle.unification.proofs.Cases.{below-or_from, first-of_three, second-of_three, third-of_three}
 use Rattle.tree_translation.specs.Standings.{at_levels, placed, levels_from}
-use Rattle.tree_translation.specs.Hidden.{visible, widened, widened_behind, widened_number, widened_rule, widened_step}
+use Rattle.tree_translation.specs.Hidden.{widened, widened_behind, widened_number, widened_rule, widened_step}
 use Rattle.tree_translation.proofs.LevelLists.{length-levels, get-levels, levels-more}
 
 -- each level is its own position

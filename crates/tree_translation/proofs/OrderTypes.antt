@@ -1,5 +1,5 @@
--- In the order behind a solution each type mentions what stands before it, or the variable that is solved.
-use Rattle.std.proofs.Common.{◌≡◌, ℕ, zero, suc, ◌+◌, ◌-◌, ◌<◌, ◌≤◌, ◌⊎◌, inl, inr, Bool, true, false, cond, Some, List, [], ◌∷◌, ◌++◌, length, drop, take, slice_get, refl, ap, sym, get_or-drop, length-drop, length-append, subst, ◌∙◌, append_assoc, arith}
+-- In the order after a solution each type mentions what comes before it, or the variable that is solved.
+use Rattle.std.proofs.Common.{◌≡◌, ℕ, zero, suc, ◌+◌, ◌-◌, ◌<◌, ◌≤◌, ◌⊎◌, inl, inr, Bool, true, false, cond, Some, List, [], ◌∷◌, ◌++◌, length, drop, take, slice_get, refl, sym, get_or-drop, length-drop, subst, append_assoc, arith}
 use Rattle.std.proofs.lemmas.List.{append-nil}
 use Rattle.theory.specs.Terms.{Term}
 use Rattle.theory.specs.Terms.Term.{Sort}
@@ -18,7 +18,7 @@ out-from : (context : Telescope) (p i : ℕ) → is_among i (left_out context p)
 out-from context p i h =
     among-from p (left_out context p) (omega arith, dependants-order (p + 1) (p ∷ []) (drop (p + 1) context)) i h
 
--- each type is over what stands before it
+-- each type is over what comes before it
 abbrev pub AreOver : (n p : ℕ) (u : Term) (context : Telescope) (done rest : List ℕ) → Type 0
 AreOver n p u context done [] = Unit {0}
 AreOver n p u context done (j ∷ rest) =

@@ -1,17 +1,17 @@
 -- What a family's record brings at parameters, with terms put for the variables of the context.
-use Rattle.std.proofs.Common.{◌≡◌, ℕ, zero, suc, ◌+◌, ◌-◌, ◌<◌, ◌≤◌, inl, inr, List, [], ◌∷◌, ◌++◌, length, map, refl, sym, ap, ap₂, ◌∙◌, subst, arith}
+use Rattle.std.proofs.Common.{◌≡◌, ℕ, zero, suc, ◌+◌, ◌-◌, ◌≤◌, inl, inr, List, [], ◌∷◌, ◌++◌, length, map, refl, sym, ap, ap₂, ◌∙◌, subst, arith}
 use mathlib.Core.Path.{fun_ext}
 use Rattle.std.proofs.lemmas.List.{map-append, length-map}
 use Rattle.theory.specs.Terms.{Term, Var, Fam, Con}
-use Rattle.theory.specs.Substitutions.{inst, ups, fill, weaken}
+use Rattle.theory.specs.Substitutions.{inst, ups, fill}
 use Rattle.theory.specs.Telescopes.{Telescope, applied, variables, weaken_by, inst_telescope}
 use Rattle.theory.specs.Families.{Family, Constructor, level_of, index_types, argument_types}
 use Rattle.theory.specs.Eliminators.{no_variable}
-use Rattle.theory.proofs.Instances.{inst-inst, ren-ren, ren-same}
+use Rattle.theory.proofs.Instances.{ren-ren, ren-same}
 use Rattle.theory.proofs.ScopedTypes.{length-inst_telescope}
 use Rattle.theory.proofs.Instantiation.{inst-applied, inst-fill, map-inst-inst}
 use Rattle.core_sig.proofs.EntryInstances.{inst_telescope-inst, inst-argument_types}
-use Rattle.tele_eq.specs.Items.{Item, term_at, type_at, level_at}
+use Rattle.tele_eq.specs.Items.{term_at, type_at, level_at}
 use Rattle.tele_eq.proofs.Carrying.{ups_by, inst-none}
 use Rattle.unification.specs.Records.{items_at, argument_items, family_items, constructor_terms}
 use Rattle.unification.specs.Injecting.{lifted}

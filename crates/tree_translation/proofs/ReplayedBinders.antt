@@ -1,5 +1,5 @@
 -- Replaying keeps apart the binders of a standing's variables.
-use Rattle.std.proofs.Common.{◌≡◌, ◌⊎◌, inl, inr, ℕ, zero, suc, ◌+◌, ◌-◌, ◌<◌, ◌≤◌, Bool, true, false, cond, Option, Some, None, List, [], ◌∷◌, ◌++◌, length, map, get_or, slice_get, All, refl, sym, ap, ap₂, ◌∙◌, subst, arith}
+use Rattle.std.proofs.Common.{◌≡◌, ◌⊎◌, inl, inr, ℕ, ◌+◌, ◌<◌, ◌≤◌, Option, Some, None, List, [], ◌∷◌, ◌++◌, length, map, get_or, slice_get, All, refl, sym, ap, ap₂, ◌∙◌, subst, arith}
 use Rattle.std.proofs.lemmas.List.{length-append, length-map}
 use Rattle.theory.specs.Terms.{Term}
 use Rattle.theory.specs.Signatures.{Signature}
@@ -8,7 +8,7 @@ use Rattle.core_terms.specs.declared.case_tree.Rule.{Rule}
 use Rattle.core_terms.specs.declared.case_tree.Rule.TheVariants.{SolveRight, SolveLeft, Inject, Conflict, Cycle, Delete}
 use Rattle.unification.specs.States.{State}
 use Rattle.unification.specs.Rules.{level_of}
-use Rattle.unification.specs.Occurrences.{dependants, order_without, without}
+use Rattle.unification.specs.Occurrences.{dependants, order_without}
 use Rattle.unification.specs.Solving.{solved}
 use Rattle.unification.proofs.SolvedContexts.{length-new_context}
 use Rattle.case_trees.proofs.SolvedOrders.{split-place}
@@ -16,7 +16,7 @@ use Rattle.tree_translation.specs.Standings.{Standing, inside, levels_from}
 use Rattle.tree_translation.specs.Comparisons.{Comparison, compared}
 use Rattle.tree_translation.specs.Replays.{kept, solved_standing, injected_standing, deleted_standing, unless_compared, behind_rule, behind_step, behind_run, step_in}
 use Rattle.tree_translation.specs.Laws.{StandsApart, ReplayStandsApart}
-use Rattle.tree_translation.proofs.LevelLists.{there-get, there-below, get-there, IsImage, map-there, at-among, from-each, from-without, from-apart, length-levels, levels-at, each-below, without-among}
+use Rattle.tree_translation.proofs.LevelLists.{there-get, there-below, get-there, map-there, at-among, from-each, from-without, from-apart, length-levels, levels-at, each-below, without-among}
 
 -- the levels of kept variables are below the context's length
 kept-below : (s : State) (p k j : ℕ) → slice_get (kept s p) k ≡ Some j → j < length s.context

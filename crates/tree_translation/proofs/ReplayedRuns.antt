@@ -1,32 +1,32 @@
 -- Replaying the steps of a run from its first state gives the run's states.
-use Rattle.std.proofs.Common.{◌≡◌, ◌≢◌, ℕ, ◌+◌, ◌-◌, Option, Some, None, List, [], ◌∷◌, length, map, take, refl, sym, ap, ap₂, ◌∙◌, arith}
+use Rattle.std.proofs.Common.{◌≡◌, ℕ, ◌+◌, ◌-◌, Option, Some, List, [], length, map, take, refl, ap, ap₂, ◌∙◌, arith}
 use Rattle.theory.specs.Terms.{Term, Var}
 use Rattle.theory.specs.Signatures.{Signature}
 use Rattle.core_terms.specs.CaseTrees.{Step}
 use Rattle.core_terms.specs.declared.case_tree.Rule.TheVariants.{SolveRight, SolveLeft, Inject, Delete}
 use Rattle.tele_eq.specs.Levels.{place_in}
-use Rattle.unification.specs.Built.{Built, term_of}
+use Rattle.unification.specs.Built.{term_of}
 use Rattle.unification.specs.States.{State, right_sides}
 use Rattle.unification.specs.Occurrences.{order_without}
 use Rattle.unification.specs.Solving.{solved_state, deleted_state}
 use Rattle.unification.specs.Injecting.{injected_state}
-use Rattle.unification.specs.Rules.{Steps, solve_right, solve_left, inject_group, inject, delete, ChainWith, none, more, level_of}
+use Rattle.unification.specs.Rules.{Steps, solve_right, solve_left, inject_group, inject, delete, none, more, level_of}
 use Rattle.unification.specs.Laws.{Chain}
 use Rattle.tree_translation.specs.Standings.{Standing}
 use Rattle.tree_translation.specs.Comparisons.{Comparison, compared, compared_by, compared_alone}
 use Rattle.tree_translation.specs.Hidden.{widened_rule, widened_step}
-use Rattle.tree_translation.specs.Replays.{level_of_first, solved_standing, injected_standing, unless_compared, behind_rule, behind_step, behind_run, step_in}
+use Rattle.tree_translation.specs.Replays.{level_of_first, solved_standing, injected_standing, unless_compared, behind_rule, behind_step, behind_run}
 use Rattle.tree_translation.specs.Laws.{ReplayIsRun}
 use Rattle.tree_translation.proofs.NothingHidden.{step-own, number-own}
 use Rattle.tree_translation.proofs.Comparing.{compared-built, compared-group}
 
 -- a standing over a state, where nothing is hidden
-record IsAt (s : State) (standing : Standing) : Type 0 where
-  state : standing.state ≡ s
-  hidden : standing.hidden ≡ []
+pub record IsAt (s : State) (standing : Standing) : Type 0 where
+  pub state : standing.state ≡ s
+  pub hidden : standing.hidden ≡ []
 
 -- the step is read as it is written
-read : (S : Signature) (s : State) (standing : Standing) (step : Step) → IsAt s standing → widened_rule (length s.context) [] step.rule ≡ step.rule
+pub read : (S : Signature) (s : State) (standing : Standing) (step : Step) → IsAt s standing → widened_rule (length s.context) [] step.rule ≡ step.rule
     → behind_step S standing step ≡ behind_rule S standing step step.rule
 read S s standing step at rule =
     ap (λ (other : Step). behind_rule S standing other other.rule)
@@ -57,7 +57,7 @@ at-injected s standing g o c at e =
       hidden = at.hidden;
     })
 
-step-replayed : (S : Signature) (s t : State) (step : Step) (standing : Standing) → Steps S s step t → IsAt s standing → IsAt t (behind_step S standing step)
+pub step-replayed : (S : Signature) (s t : State) (step : Step) (standing : Standing) → Steps S s step t → IsAt s standing → IsAt t (behind_step S standing step)
 step-replayed S s t _ standing (solve_right _ e x A u first solvable) at =
     let step : Step = record { group = 1; rule = SolveRight x; ty = A; left = u; right = Var x } in
     at-same t (behind_step S standing step) (solved_standing standing x A u)

@@ -1,24 +1,23 @@
 -- The dependants of a variable that is seen are those of the whole context that are seen.
-use Rattle.std.proofs.Common.{◌≡◌, ℕ, zero, suc, ◌+◌, ◌-◌, ◌<◌, ◌≤◌, ◌==◌, ◌||◌, ◌⊎◌, inl, inr, Bool, true, false, cond, Some, List, [], ◌∷◌, ◌++◌, length, map, take, drop, get_or, slice_get, refl, sym, ap, ap₂, ◌∙◌, subst, append_assoc, arith, eq-eqb}
-use Rattle.std.proofs.lemmas.Bool.{true≢false, eqb-true}
-use Rattle.std.proofs.lemmas.List.{length-append, length-take-le, get_or-take}
+use Rattle.std.proofs.Common.{◌≡◌, ℕ, zero, suc, ◌+◌, ◌-◌, ◌<◌, ◌||◌, inl, inr, Bool, true, false, cond, List, [], ◌∷◌, length, map, take, drop, get_or, refl, sym, ap, ap₂, ◌∙◌, subst, arith}
+use Rattle.std.proofs.lemmas.Bool.{true≢false}
+use Rattle.std.proofs.lemmas.List.{length-take-le}
 use Rattle.theory.specs.Terms.{Term}
 use Rattle.theory.specs.Telescopes.{Telescope}
-use Rattle.theory.proofs.Lists.{some_is}
-use Rattle.tele_eq.specs.Items.{term_at}
 use Rattle.tele_eq.specs.Dependences.{has_variable}
 use Rattle.tele_eq.specs.Levels.{is_among, has_level}
 use Rattle.tele_eq.proofs.Carrying.{IsFrom}
 use Rattle.unification.specs.Occurrences.{without, dependants_from, dependants}
 use Rattle.unification.proofs.Cases.{here-or_below}
-use Rattle.unification.proofs.Levels.{among-cases, among-own, among-later, among-from}
+use Rattle.unification.proofs.Levels.{among-cases, among-own}
 use Rattle.case_trees.proofs.SolvedOrders.{not-equal}
 use Rattle.tree_translation.specs.Standings.{placed, levels_from}
 use Rattle.tree_translation.specs.Hidden.{visible}
 use Rattle.tree_translation.specs.Conditions.{IsSeen}
-use Rattle.tree_translation.proofs.LevelLists.{at-among, there-get, from-each, from-without, from-apart, climbs, rises}
+use Rattle.tree_translation.proofs.LevelLists.{from-each, from-without, climbs, rises}
 use Rattle.tree_translation.proofs.SeenTerms.{AreBelow}
 use Rattle.tree_translation.proofs.SeenOccurrences.{position-of, position-there, level-in, in-level}
+<<<<<<< HEAD
 
 -- ---- a context beside what is seen of it
 
@@ -127,6 +126,9 @@ seen-behind V hid at' at (a' ∷ whole) (a ∷ seen) p' p (SeenFrom.beside b her
     ]
 
 -- ---- dependants
+=======
+use Rattle.tree_translation.proofs.SeenContexts.{SeenFrom, seen-all, seen-behind}
+>>>>>>> a36d1ad9cadbc32cbaf29d299a1d294485151b74
 
 -- what is found in the whole context, beside what is found of what is seen
 record Finds (V : List ℕ) (at' at : ℕ) (found' found : List ℕ) : Type 0 where

@@ -1,9 +1,8 @@
 -- The equations that a deletion or an injectivity leaves, with terms put for the variables of the context.
-use Rattle.std.proofs.Common.{◌≡◌, ℕ, zero, suc, ◌+◌, ◌-◌, ◌<◌, ◌≤◌, List, [], ◌∷◌, ◌++◌, length, map, drop, refl, sym, ap, ap₂, ◌∙◌, arith}
-use Rattle.std.proofs.lemmas.List.{length-map}
+use Rattle.std.proofs.Common.{◌≡◌, ℕ, suc, ◌+◌, ◌<◌, List, [], ◌∷◌, ◌++◌, length, map, drop, refl, sym, ap, ap₂, ◌∙◌, arith}
 use Rattle.theory.specs.Terms.{Term}
 use Rattle.theory.specs.Substitutions.{inst}
-use Rattle.theory.specs.Telescopes.{Telescope, variables}
+use Rattle.theory.specs.Telescopes.{variables}
 use Rattle.theory.specs.Families.{Family, Constructor}
 use Rattle.theory.specs.Signatures.{reflexivity}
 use Rattle.core_terms.specs.Levels.{variable}
@@ -16,14 +15,15 @@ use Rattle.tele_eq.specs.Congruences.{congruences}
 use Rattle.unification.specs.Moving.{moved}
 use Rattle.unification.specs.Records.{argument_items, family_items, constructor_terms}
 use Rattle.unification.specs.Solving.{deleted_state}
-use Rattle.unification.specs.Injecting.{lifted, group_proofs, injected_equations, injected_state}
+use Rattle.unification.specs.Injecting.{lifted, group_proofs, injected_equations}
 use Rattle.unification.proofs.Counts.{length-equations, length-equations_at}
 use Rattle.unification.proofs.ScopedRecords.{length-argument_items}
 use Rattle.tree_translation.proofs.TelescopeInstances.{IsInstance}
 use Rattle.tree_translation.proofs.EquationInstances.{moved-behind}
 use Rattle.tree_translation.proofs.CongruenceInstances.{moved-congruences}
 use Rattle.tree_translation.proofs.RecordInstances.{argument-instance, family-instance, constructor-instance, constructor-at, lifted-instance, near-variables}
-use Rattle.tree_translation.proofs.MovedInstances.{equation_under, equations_under, drop-under, one-equation, Place, environment, with_terms, IsPlaceOf, all-move, one-out, variable-lifts, stays-agree}
+use Rattle.tree_translation.proofs.MovedPlaces.{Place, environment}
+use Rattle.tree_translation.proofs.MovedInstances.{equation_under, equations_under, drop-under, with_terms, IsPlaceOf, all-move, one-out, variable-lifts, stays-agree}
 
 -- ---- lists of equations
 
@@ -34,7 +34,7 @@ under-append s k (x ∷ xs) ys =
     ap (λ rest. equation_under s k x ∷ rest)
     (under-append s (k + 1) xs ys ∙ ap (λ i. equations_under s (k + 1) xs ++ equations_under s i ys) e)
 
--- equations between instances, of which the first one stands behind k others
+-- equations between instances, of which the first one follows k others
 at-instance : (s : ℕ → Term) (k : ℕ) (X Y : List Item) (types types' us vs : List Term) → length Y ≡ length X → length types' ≡ length types
     → ((j : ℕ) → inst (ups_by (k + j) s) (type_at X j) ≡ type_at Y j) → ((j : ℕ) → level_at Y j ≡ level_at X j)
     → ((j : ℕ) → j < length types → inst (ups_by (k + j) s) (term_at types j) ≡ term_at types' j)

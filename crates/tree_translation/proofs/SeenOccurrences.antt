@@ -1,8 +1,8 @@
 -- Which variables occur in a term that is renamed, and in one that is read over a whole context.
-use Rattle.std.proofs.Common.{◌≡◌, ℕ, zero, suc, ◌+◌, ◌-◌, ◌<◌, ◌≤◌, ◌==◌, ◌||◌, ◌⊎◌, inl, inr, nat_lt, Bool, true, false, cond, List, [], ◌∷◌, length, get_or, refl, sym, ap, ap₂, ◌∙◌, subst, arith, eq-eqb}
+use Rattle.std.proofs.Common.{◌≡◌, ℕ, zero, suc, ◌+◌, ◌-◌, ◌<◌, ◌||◌, ◌⊎◌, inl, inr, nat_lt, Bool, true, false, cond, List, [], ◌∷◌, length, get_or, refl, sym, ap, ◌∙◌, subst, arith, eq-eqb}
 use Rattle.std.proofs.lemmas.Bool.{true≢false, eqb-true, or_left, or_right}
 use Rattle.theory.specs.Terms.{Term, Var, Sort, Pi, Lam, App, Let, Const, Fam, Con, Elim, AxiomK}
-use Rattle.theory.specs.Substitutions.{ren, inst, up}
+use Rattle.theory.specs.Substitutions.{ren, up}
 use Rattle.theory.proofs.Instances.{inst-same, ren-is_inst}
 use Rattle.tele_eq.specs.Dependences.{has_variable}
 use Rattle.tele_eq.specs.Levels.{has_level, is_among}

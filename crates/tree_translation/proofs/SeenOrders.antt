@@ -1,20 +1,18 @@
--- The order behind a solution in the whole context has what is seen in the order behind the same solution of what is seen.
-use Rattle.std.proofs.Common.{◌≡◌, ℕ, zero, suc, ◌+◌, ◌-◌, ◌<◌, ◌≤◌, ◌==◌, ◌||◌, ◌⊎◌, inl, inr, Bool, true, false, cond, Some, List, [], ◌∷◌, ◌++◌, length, map, get_or, slice_get, refl, sym, ap, ap₂, ◌∙◌, subst, arith, eq-eqb}
+-- The order after a solution in the whole context has what is seen in the order after the same solution of what is seen.
+use Rattle.std.proofs.Common.{◌≡◌, ℕ, zero, suc, ◌+◌, ◌<◌, ◌==◌, ◌||◌, inl, inr, Bool, true, false, cond, Some, List, [], ◌∷◌, ◌++◌, length, map, get_or, refl, sym, ap, ap₂, ◌∙◌, subst, arith, eq-eqb}
 use Rattle.std.proofs.lemmas.Bool.{true≢false, eqb-true}
 use Rattle.std.proofs.lemmas.List.{map-append, length-map, length-append, append_assoc}
-use Rattle.theory.specs.Terms.{Term}
 use Rattle.theory.specs.Telescopes.{Telescope}
 use Rattle.tele_eq.specs.Levels.{is_among, place_in}
 use Rattle.tele_eq.proofs.Carrying.{IsFrom}
 use Rattle.unification.specs.Occurrences.{without, dependants, order_without}
-use Rattle.unification.proofs.Cases.{either, same-or_not}
 use Rattle.unification.proofs.Levels.{among-cases, among-own, among-later, among-without}
 use Rattle.unification.proofs.SolvedContexts.{dependants-within}
-use Rattle.case_trees.proofs.SolvedOrders.{not-equal, order-own}
+use Rattle.case_trees.proofs.SolvedOrders.{order-own}
 use Rattle.tree_translation.specs.Standings.{levels_from}
 use Rattle.tree_translation.specs.Hidden.{visible}
 use Rattle.tree_translation.specs.Conditions.{IsSeen}
-use Rattle.tree_translation.proofs.LevelLists.{at-among, there-get, there-below, get-there, from-each, from-without, from-apart, each-below, without-among, length-levels}
+use Rattle.tree_translation.proofs.LevelLists.{at-among, there-get, from-each, from-without, from-apart, each-below, without-among}
 use Rattle.tree_translation.proofs.SeenTerms.{visible-below}
 use Rattle.tree_translation.proofs.SeenDependants.{dependants-seen}
 
@@ -136,7 +134,7 @@ places-left xs hid own =
         let back : r.j ≡ get_or xs k 0 = sym (place-get xs r.j low) ∙ ap (λ i. get_or xs i 0) r.same in
         subst (λ i. is_among i hid ≡ true) back r.among)
 
--- ---- the order behind a solution
+-- ---- the order after a solution
 
 -- variable p of what is seen is variable p' of the whole context
 pub record IsSameVariable (context : Telescope) (hid : List ℕ) (others : Telescope) (p' p : ℕ) : Type 0 where
@@ -194,7 +192,7 @@ module _ (context : Telescope) (hid : List ℕ) (others : Telescope) (p' p : ℕ
       each-below' : (j : ℕ) → is_among j (levels_from 0 (length others)) ≡ true → j < length others
       each-below' j h = let low : j < 0 + length others = each-below 0 (length others) j h in omega arith
 
-  -- the levels that are seen behind the solution
+  -- the levels that are seen after the solution
   abbrev V' : List ℕ
   V' = visible (length (order_without context p')) (map (place_in (order_without context p')) hid)
 

@@ -1,11 +1,10 @@
 -- A solution in the whole context has, of what is seen, the solution of what is seen.
-use Rattle.std.proofs.Common.{◌≡◌, ℕ, zero, suc, ◌+◌, ◌-◌, ◌<◌, ◌≤◌, ◌==◌, ◌⊎◌, inl, inr, cond, IsTrue, Bool, true, false, Some, List, [], ◌∷◌, ◌++◌, length, map, take, drop, get_or, slice_get, refl, sym, ap, ap₂, ◌∙◌, subst, arith}
+use Rattle.std.proofs.Common.{◌≡◌, ℕ, zero, suc, ◌+◌, ◌-◌, ◌<◌, ◌≤◌, ◌⊎◌, inl, inr, IsTrue, Bool, true, false, Some, List, [], ◌∷◌, ◌++◌, length, map, take, drop, get_or, slice_get, refl, sym, ap, ap₂, ◌∙◌, subst, arith}
 use Rattle.std.proofs.lemmas.Bool.{true≢false, not-true, or_parts}
 use Rattle.std.proofs.lemmas.List.{length-append, length-take-le, take-append-drop}
 use Rattle.theory.specs.Terms.{Term, Var}
 use Rattle.theory.specs.Substitutions.{inst}
 use Rattle.theory.specs.Telescopes.{Telescope}
-use Rattle.core_terms.specs.Levels.{variable}
 use Rattle.tele_eq.specs.Dependences.{has_variable}
 use Rattle.tele_eq.specs.Environments.{Environment, put, put_under}
 use Rattle.tele_eq.specs.Items.{term_at}
@@ -15,19 +14,18 @@ use Rattle.unification.specs.Occurrences.{dependants, lacks, order_without}
 use Rattle.unification.specs.Solving.{reordered, solved, new_context}
 use Rattle.unification.proofs.Cases.{below-or_from, same-or_not, first-of_two, second-of_two, second-of_three}
 use Rattle.unification.proofs.Levels.{place-before, place-there, among-left}
-use Rattle.unification.proofs.Puts.{Lifts, stands}
-use Rattle.unification.proofs.SolvedContexts.{left_out, Stands, IsOver, over-others, other-among, length-new_context}
+use Rattle.unification.proofs.Puts.{stands}
+use Rattle.unification.proofs.SolvedContexts.{Stands, IsOver, other-among, length-new_context}
 use Rattle.case_trees.proofs.SolvedOrders.{order-own}
 use Rattle.tree_translation.specs.Standings.{at_levels, placed, levels_from}
 use Rattle.tree_translation.specs.Hidden.{visible, widened}
 use Rattle.tree_translation.specs.Conditions.{IsSeen}
-use Rattle.tree_translation.proofs.LevelLists.{at-among, there-get, there-below, get-there, from-each, from-without, climbs, length-levels}
+use Rattle.tree_translation.proofs.LevelLists.{there-get, there-below, get-there, from-each, from-without, climbs, length-levels}
 use Rattle.tree_translation.proofs.OrderTypes.{stands-at}
 use Rattle.tree_translation.proofs.SeenTerms.{AreBelow, widening, widened-is, visible-below, visible-are, get-first}
 use Rattle.tree_translation.proofs.SeenOccurrences.{position-of}
 use Rattle.tree_translation.proofs.SeenSquares.{IsSquare, square, binders}
-use Rattle.tree_translation.proofs.SeenOrders.{IsSameVariable, rising, same-level, whole-below, order-seen, new-count, new-source, new-place}
-use Rattle.tree_translation.proofs.SolutionLifts.{solved-lifts}
+use Rattle.tree_translation.proofs.SeenOrders.{IsSameVariable, rising, same-level, whole-below, new-count, new-source, new-place}
 
 get-take : (xs : List ℕ) (n j : ℕ) → j < n → get_or (take n xs) j 0 ≡ get_or xs j 0
 get-take xs zero j lt = absurd (omega arith)
@@ -78,7 +76,7 @@ module _ (context : Telescope) (hid : List ℕ) (others : Telescope) (p' p : ℕ
   climbing : IsFrom 0 V'
   climbing = from-without 0 hid' (levels_from 0 (length order')) (from-each 0 (length order'))
 
-  -- the place of a variable of what is seen, and what stands there
+  -- the place of a variable of what is seen, and the level there
   there : (j : ℕ) → is_among j order ≡ true → (place_in order j < length order) × (get_or V' (place_in order j) 0 ≡ place_in order' (get_or V j 0))
   there j h =
       let r = place-there order j h in
@@ -143,7 +141,7 @@ module _ (context : Telescope) (hid : List ℕ) (others : Telescope) (p' p : ℕ
 
   -- ---- the context
 
-  -- what stands for a variable that the type at a place mentions
+  -- a variable that the type at a place mentions
   type-square : (k j q : ℕ) → k < length order → slice_get order k ≡ Some j → q ≡ get_or V' k 0 → j < length others → (a : Term) → a ≡ term_at others j
       → IsSquare (take j V) (take k V') (get_or V j 0) q (solved (length context) order' p' u') (solved (length others) order p u) a
   type-square k j q lt at level within a type = record {
@@ -245,7 +243,7 @@ module _ (context : Telescope) (hid : List ℕ) (others : Telescope) (p' p : ℕ
 
   -- ---- terms
 
-  -- terms behind the solution, over the whole context and of what is seen
+  -- terms after the solution, over the whole context and of what is seen
   pub solutions-agree : (x : ℕ) → inst (stands (solved (length context) (order_without context p') p' (widened (length context) hid u)) (length context) (length (order_without context p')))
       (widening (length context) hid x)
       ≡ inst (widening (length (order_without context p')) (map (place_in (order_without context p')) hid))

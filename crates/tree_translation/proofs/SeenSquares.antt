@@ -1,5 +1,5 @@
--- Terms that are read over a whole context and then put behind a solution there, against terms that are put behind the solution first.
-use Rattle.std.proofs.Common.{◌≡◌, ℕ, zero, suc, ◌+◌, ◌-◌, ◌<◌, ◌≤◌, ◌==◌, ◌||◌, ◌⊎◌, inl, inr, true, List, [], ◌∷◌, ◌++◌, length, get_or, refl, sym, ap, ap₂, ◌∙◌, subst, arith, eq-eqb}
+-- Terms that are read over a whole context and then moved after a solution there, against terms that are moved after the solution first.
+use Rattle.std.proofs.Common.{◌≡◌, ℕ, ◌+◌, ◌-◌, ◌<◌, ◌≤◌, ◌||◌, ◌⊎◌, inl, inr, true, List, ◌++◌, length, get_or, refl, sym, ap, ap₂, ◌∙◌, subst, arith, eq-eqb}
 use Rattle.std.proofs.lemmas.Bool.{or_left, or_right}
 use Rattle.std.proofs.lemmas.List.{length-append}
 use Rattle.theory.specs.Terms.{Term, Var, Sort, Pi, Lam, App, Let, Const, Fam, Con, Elim, AxiomK}
@@ -11,7 +11,7 @@ use Rattle.tree_translation.specs.Standings.{at_levels, placed, levels_from}
 use Rattle.tree_translation.proofs.LevelLists.{length-levels, get-levels}
 use Rattle.tree_translation.proofs.SeenTerms.{AreBelow, get-first, get-later}
 
--- The levels W of j variables at a depth l, and those W' of k variables at a depth q; what stands for the l variables at q, and for the j
+-- The levels W of j variables at a depth l, and those W' of k variables at a depth q; what is put for the l variables at q, and for the j
 -- variables at k. Where a variable occurs, both ways are one.
 pub record IsSquare (W W' : List ℕ) (l q : ℕ) (e e' : Environment) (t : Term) : Type 0 where
   pub below : AreBelow W l

@@ -1,7 +1,7 @@
 -- The same steps lead through a whole context and through what is seen of it.
-use Rattle.std.proofs.Common.{◌≡◌, ◌≢◌, ℕ, ◌+◌, ◌-◌, ◌<◌, IsTrue, Option, Some, None, List, [], ◌∷◌, ◌++◌, length, map, take, get_or, refl, sym, ap, ap₂, ◌∙◌, subst, arith}
+use Rattle.std.proofs.Common.{◌≡◌, ℕ, ◌+◌, ◌-◌, ◌<◌, IsTrue, Option, Some, List, [], ◌∷◌, ◌++◌, length, map, take, get_or, refl, sym, ap, ap₂, ◌∙◌, subst, arith}
 use Rattle.std.proofs.lemmas.List.{length-map, map-append}
-use Rattle.theory.specs.Terms.{Term, Var, Fam}
+use Rattle.theory.specs.Terms.{Term, Fam}
 use Rattle.theory.specs.Substitutions.{inst}
 use Rattle.theory.specs.Telescopes.{applied, variables}
 use Rattle.theory.specs.Families.{Family}
@@ -9,23 +9,23 @@ use Rattle.theory.specs.Signatures.{Signature, reflexivity}
 use Rattle.theory.proofs.Instances.{inst-inst, inst-same}
 use Rattle.theory.proofs.Instantiation.{inst-applied}
 use Rattle.core_terms.specs.CaseTrees.{Step}
-use Rattle.core_terms.specs.declared.case_tree.Rule.TheVariants.{SolveRight, SolveLeft, Inject, Delete}
+use Rattle.core_terms.specs.declared.case_tree.Rule.TheVariants.{Inject}
 use Rattle.tele_eq.specs.Environments.{Environment, put}
 use Rattle.tele_eq.specs.Levels.{place_in}
 use Rattle.tele_eq.proofs.Carrying.{ups_by, inst-none}
 use Rattle.unification.specs.Built.{Built, term_of}
 use Rattle.unification.specs.States.{State, Equation, right_sides}
 use Rattle.unification.specs.Occurrences.{lacks, order_without}
-use Rattle.unification.specs.Solving.{reordered, solved, new_context, solved_state, deleted_state}
+use Rattle.unification.specs.Solving.{reordered, solved, solved_state, deleted_state}
 use Rattle.unification.specs.Injecting.{lifted, injected_state}
 use Rattle.unification.specs.Paths.{IsBuilt}
-use Rattle.unification.specs.Rules.{Steps, solve_right, solve_left, inject_group, inject, delete, ChainWith, none, more, level_of}
+use Rattle.unification.specs.Rules.{Steps, solve_right, solve_left, inject_group, inject, delete, none, more, level_of}
 use Rattle.unification.specs.Laws.{Chain}
 use Rattle.unification.proofs.Constructors.{instance_of, term-instance, same-constructor}
 use Rattle.unification.proofs.Puts.{Lifts, stands, put-is_inst}
 use Rattle.unification.proofs.SolvedContexts.{length-new_context}
 use Rattle.tree_translation.specs.Standings.{Standing}
-use Rattle.tree_translation.specs.Comparisons.{Comparison, compared, compared_by, compared_alone}
+use Rattle.tree_translation.specs.Comparisons.{Comparison, compared, compared_by}
 use Rattle.tree_translation.specs.Conditions.{IsSeen}
 use Rattle.tree_translation.specs.Hidden.{visible, widened, widened_behind, widened_number}
 use Rattle.tree_translation.specs.Replays.{level_of_first, solved_standing, injected_standing, deleted_standing, unless_compared, behind_step, behind_run, step_in}
@@ -48,7 +48,7 @@ first-level n hid (e ∷ es) = refl
 level-seen : (w : Standing) (s : State) → Widens w s → level_of_first w.state.equations ≡ level_of_first s.equations
 level-seen w s h = ap level_of_first h.equations ∙ first-level (length w.state.context) w.hidden s.equations
 
--- a type behind no place
+-- a type that follows no place
 type-read : (n : ℕ) (hid : List ℕ) (A : Term) → widened_behind n hid 0 A ≡ inst (widening n hid) A
 type-read n hid A = behind-is n hid 0 A ∙ inst-none (widening n hid) A
 
@@ -93,7 +93,7 @@ variable-seen w s x h lt = record {
         let low : get_or V (length V - (x + 1)) 0 < n = visible-below n w.hidden (length V - (x + 1)) (omega arith) in
         omega arith
 
--- the equations behind a solution
+-- the equations after a solution
 solved-equations : (w s : State) (hid : List ℕ) (p' p i : ℕ) (A u : Term) → IsSameVariable w.context hid s.context p' p
     → IsTrue (lacks s.context p A) → IsTrue (lacks s.context p u) → w.equations ≡ equations_under (widening (length w.context) hid) 0 s.equations
     → (solved_state w i p' (widened (length w.context) hid A) (widened (length w.context) hid u)).equations

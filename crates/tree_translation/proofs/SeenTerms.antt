@@ -1,22 +1,19 @@
 -- Terms that are seen without the hidden variables, read over the whole context: they are instantiated.
-use Rattle.std.proofs.Common.{◌≡◌, ℕ, zero, suc, ◌+◌, ◌-◌, ◌<◌, ◌≤◌, inl, inr, List, [], ◌∷◌, ◌++◌, length, map, get_or, drop, refl, sym, ap, ap₂, ◌∙◌, arith}
+use Rattle.std.proofs.Common.{◌≡◌, ℕ, zero, suc, ◌+◌, ◌-◌, ◌<◌, ◌≤◌, inl, inr, List, [], ◌∷◌, ◌++◌, length, map, get_or, refl, sym, ap, ap₂, ◌∙◌, arith}
 use Rattle.std.proofs.lemmas.List.{length-append}
 use Rattle.theory.specs.Terms.{Term, Var}
 use Rattle.theory.specs.Substitutions.{inst}
 use Rattle.theory.specs.Telescopes.{weaken_by}
 use Rattle.theory.proofs.Instances.{inst-same}
-use Rattle.core_terms.specs.Levels.{variable}
-use Rattle.tele_eq.specs.Environments.{put}
-use Rattle.tele_eq.proofs.Carrying.{ups_by, inst-none}
+use Rattle.tele_eq.proofs.Carrying.{ups_by}
 use Rattle.unification.specs.States.{Equation}
-use Rattle.unification.specs.Occurrences.{without}
 use Rattle.unification.proofs.Cases.{below-or_from, first-of_two, second-of_two}
 use Rattle.unification.proofs.Puts.{Lifts, stands, put-is_inst}
-use Rattle.tree_translation.specs.Standings.{at_levels, placed, levels_from}
+use Rattle.tree_translation.specs.Standings.{at_levels, levels_from}
 use Rattle.tree_translation.specs.Hidden.{visible, widened, widened_behind, widened_number}
-use Rattle.tree_translation.specs.Laws.{widened_equation, widened_equations}
+use Rattle.tree_translation.specs.Laws.{widened_equations}
 use Rattle.tree_translation.proofs.MovedInstances.{equations_under, one-equation}
-use Rattle.tree_translation.proofs.LevelLists.{there-get, there-below, at-among, each-below, without-among, length-levels, get-levels}
+use Rattle.tree_translation.proofs.LevelLists.{there-get, at-among, each-below, without-among, length-levels, get-levels}
 
 -- ---- levels below a depth
 
@@ -41,7 +38,7 @@ visible-are n hidden = visible-below n hidden
 
 -- ---- widening
 
--- what stands for the variables that are seen
+-- what is put for the variables that are seen
 abbrev pub widening : (n : ℕ) (hidden : List ℕ) → ℕ → Term
 widening n hidden = stands (at_levels (visible n hidden)) (length (visible n hidden)) n
 
@@ -119,7 +116,7 @@ module _ (n : ℕ) (hidden : List ℕ) (k : ℕ) where
     ]
   ]
 
-  -- a term that stands behind k places
+  -- a term that follows k places
   pub behind-is : (t : Term) → widened_behind n hidden k t ≡ inst (ups_by k (widening n hidden)) t
   unfolding further
   behind-is t = put-is_inst (at_levels further) (length further) (n + k) (levels-lift further (n + k) further-below) t ∙ inst-same t stands-further

@@ -1,4 +1,4 @@
--- What stands for the variables behind a solution is lifted with the depth.
+-- What is put for the variables after a solution is lifted with the depth.
 use Rattle.std.proofs.Common.{◌≡◌, ℕ, ◌+◌, ◌-◌, ◌<◌, ◌≤◌, inl, inr, ◌==◌, false, cond, List, length, ap, sym, ◌∙◌, arith}
 use Rattle.theory.specs.Terms.{Term}
 use Rattle.theory.specs.Terms.Term.{Var, Sort}
@@ -17,7 +17,7 @@ use Rattle.unification.proofs.Levels.{place-there}
 use Rattle.unification.proofs.Puts.{Lifts, stands, put-is_inst, put-without}
 use Rattle.unification.proofs.SolvedContexts.{other-among}
 
--- each other variable has a place in the order behind a solution
+-- each other variable has a place in the order after a solution
 pub other-place : (context : Telescope) (p j : ℕ) → j < length context → (j ≡ p → ⊥)
     → place_in (order_without context p) j < length (order_without context p)
 other-place context p j lt other = (place-there (order_without context p) j (other-among context p j lt other)).0
@@ -51,7 +51,7 @@ stands-lift s size d lifts by v = elim (below-or_from v size) [
       second-of_two v size _ _ le ∙ (ap Var e ∙ ap (weaken_by by) (sym (second-of_two v size _ _ le)))
 ]
 
--- the term that solves variable p, moved behind the new context
+-- the term that solves variable p, moved into the new context
 moved-term : (context : Telescope) (p : ℕ) (u : Term) (d : ℕ) → p < length context
     → has_variable (length context - (p + 1)) u ≡ false → length (order_without context p) ≤ d
     → put (reordered (order_without context p)) (length context) d u

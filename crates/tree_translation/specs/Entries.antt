@@ -21,13 +21,15 @@ use Rattle.tree_translation.specs.TreeTerms.{tree_term, tree_names}
 abbrev pub helper_count : Plan → ℕ
 helper_count plan = length (drop 1 plan.parts)
 
-abbrev pub helper_names : Plan → List (List ℕ)
-helper_names plan = each_position (helper_name plan.name) 1 (helper_count plan)
+-- the helpers after part `at`
+abbrev pub helper_names : Plan → (at : ℕ) → List (List ℕ)
+helper_names plan at = each_position (helper_name plan.name) (at + 1) (helper_count plan - at)
 
--- what right sides may mention: the below value's type and paths in it, and helpers
-abbrev pub side_names : Plan → Option Recursion → List (List ℕ)
-side_names plan None = helper_names plan
-side_names plan (Some r) = below_name r.family plan.level ∷ motive_name plan.name ∷ helper_names plan
+-- what right sides of part `at` may mention: the below value's type and paths in it, and helpers of greater number, whose entries come
+-- earlier
+abbrev pub side_names : Plan → Option Recursion → (at : ℕ) → List (List ℕ)
+side_names plan None at = helper_names plan at
+side_names plan (Some r) at = below_name r.family plan.level ∷ motive_name plan.name ∷ helper_names plan at
 
 -- the tree of a part in an order, at a node
 abbrev pub part_term : Signature → Plan → Option Recursion → Part → (order : List ℕ) → Node → Naming → Term
@@ -85,7 +87,7 @@ step_entry S plan r =
     let part = own_part plan in
     let order = order_of (length part.tele) (Some r) in
     drafted_in_order (step_name plan.name) plan.base
-    (side_names plan (Some r) ++ tree_names S part.level part.tree (step_node plan r (λ name. plan.base)))
+    (side_names plan (Some r) 0 ++ tree_names S part.level part.tree (step_node plan r (λ name. plan.base)))
     (λ number. products (step_telescope plan r number) (step_goal plan r))
     (λ number. functions (step_telescope plan r number) (part_term S plan (Some r) part order (step_node plan r number) number))
 
@@ -103,7 +105,7 @@ helper_node plan (Some r) part number =
 abbrev pub helper_entry : Signature → Plan → Option Recursion → (k : ℕ) → Part → Result Draft Stop
 helper_entry S plan r k part =
     drafted_in_order (helper_name plan.name k) plan.base
-    (side_names plan r ++ tree_names S part.level part.tree (helper_node plan r part (λ name. plan.base)))
+    (side_names plan r k ++ tree_names S part.level part.tree (helper_node plan r part (λ name. plan.base)))
     (λ number. products (helper_node plan r part number).context (helper_node plan r part number).goal)
     (λ number.
     functions (helper_node plan r part number).context
@@ -127,7 +129,7 @@ abbrev pub function_entry : Signature → Plan → Option Recursion → Result D
 function_entry S plan None =
     let part = own_part plan in
     let node : Node = record { context = part.tele; goal = part.goal; hidden = [] } in
-    drafted_in_order plan.name plan.base (side_names plan None ++ tree_names S part.level part.tree node)
+    drafted_in_order plan.name plan.base (side_names plan None 0 ++ tree_names S part.level part.tree node)
     (λ number. plan.type)
     (λ number. functions part.tele (part_term S plan None part (order_of (length part.tele) None) node number))
 function_entry S plan (Some r) =

@@ -1,5 +1,5 @@
 //! The laws of translation.
-ghost use Rattle.tree_translation.specs.Laws.{OnlyDeep, EntriesAreThese, TypeIsWritten, NamesInOrder, NeededIsExact, NeededOnce, SplitNames, ReplayIsRun, ReplayStandsApart, ReplayIsSeen};
+ghost use Rattle.tree_translation.specs.Laws.{OnlyDeep, EntriesAreThese, TypeIsWritten, NamesInOrder, NeededIsExact, NeededOnce, SplitNames, ReplayIsRun, ReplayStandsApart, ReplayIsSeen, ReplayEnds, ReplayGoal};
 
 /// No other refusal than `Deep` is meant.
 pub fn only_deep()
@@ -49,4 +49,14 @@ pub fn replay_stands_apart()
 /// The same steps lead through a whole context, with its hidden variables, as through what is seen of it.
 pub fn replay_is_seen()
     ensures { ReplayIsSeen }
+{}
+
+/// Replaying a run that solves a problem ends in the context and with the solution of the run, with no equation left.
+pub fn replay_ends()
+    ensures { ReplayEnds }
+{}
+
+/// The goal there is the goal under the solution.
+pub fn replay_goal()
+    ensures { ReplayGoal }
 {}
