@@ -39,8 +39,6 @@ pub mod ReplayedBinders
 pub mod ReplayedEnds
 pub mod ReplayedRuns
 mod Samples
-pub mod ScopedDrafting
-pub mod ScopedTables
 pub mod SeenContexts
 pub mod SeenDependants
 pub mod SeenEquations

@@ -4,9 +4,8 @@ use Rattle.theory.specs.Terms.{Term, Var, lift}
 use Rattle.theory.specs.Telescopes.{weaken_by}
 use Rattle.theory.proofs.Instances.{ren-ren, ren-same}
 use Rattle.theory.proofs.Shifts.{weaken_by-is_lift}
-use Rattle.core_terms.specs.Levels.{variable}
 use Rattle.tele_eq.specs.Items.{term_at}
-use Rattle.tele_eq.specs.Environments.{Environment, put}
+use Rattle.tele_eq.specs.Environments.{Environment}
 use Rattle.unification.specs.Moving.{over_first, behind}
 use Rattle.unification.proofs.Cases.{below-or_from, first-of_two, second-of_two, second-of_three, third-of_three}
 use Rattle.unification.proofs.Puts.{Lifts, stands}
