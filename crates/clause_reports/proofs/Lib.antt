@@ -1,1 +1,4 @@
-mod Spending
+pub mod Keeping
+pub mod LineLaws
+pub mod Lines
+pub mod Spending

@@ -1,38 +1,20 @@
 -- Entering and reports give no units back.
-use Rattle.std.proofs.Common.{ℕ, zero, suc, ◌≤◌, Bool, true, false, cond, nat_lt, Option, Some, None, List, [], ◌∷◌, Result, Ok, Err, map, length, arith}
-use Rattle.theory.specs.Terms.{Term}
-use Rattle.theory.specs.Telescopes.{Telescope}
+use Rattle.std.proofs.Common.{ℕ, zero, suc, ◌≤◌, Bool, true, false, cond, Option, Some, None, List, [], ◌∷◌, Ok, Err, length, arith}
 use Rattle.theory.specs.Families.{Family}
 use Rattle.theory.specs.Signatures.{Signature, Entry, FamilyOf, EliminatorAt, AxiomKAt, Definition}
-use Rattle.core_terms.specs.Answers.{Spent, and_next}
-use Rattle.core_terms.specs.CaseTrees as tree
-use Rattle.core_terms.specs.CaseTrees.{Tree, Branch, Branches, Walk}
-use Rattle.core_terms.specs.Patterns as pattern
-use Rattle.core_terms.specs.Patterns.{Pat, Pats}
 use Rattle.core_terms.proofs.Answers.{and_next-spends}
 use Rattle.core_sig.specs.Drafts.{Draft}
 use Rattle.core_sig.specs.Names.{find}
 use Rattle.core_sig.specs.Settling.{renumbered_entry, settled_number}
-use Rattle.kernel_reduce.specs.Comparison.{convertible_of}
 use Rattle.kernel_reduce.specs.Entries.{family_at}
-use Rattle.kernel_reduce.specs.Reduction.{nesting, whnf_of}
-use Rattle.kernel_reduce.specs.Tidying.{tidy_of}
-use Rattle.kernel_reduce.proofs.ReductionLaws.{whnf-spends}
-use Rattle.family_check.specs.Entering.{Entered, instance_of, axiom_k_of, define_of}
+use Rattle.family_check.specs.Entering.{Entered}
 use Rattle.family_check.proofs.Spending.{instance-spends, axiom_k-spends, define-spends}
-use Rattle.unification.specs.Built.{Built, built_of}
-use Rattle.unification.specs.Outcomes.{Outcome, Solved, Absurd, Stuck}
-use Rattle.unification.specs.Solutions.{variable_in}
-use Rattle.pattern_vectors.specs.Matching.{is_constructor, matches_all}
-use Rattle.case_trees.specs.Problems.{Member, member_of, type_of_variable}
-use Rattle.case_trees.specs.Looking.{Look, Found, Passed, Ran, run_all}
 use Rattle.tree_translation.specs.Needed.{is_found}
-use Rattle.tree_translation.specs.Plans.{Plan}
-use Rattle.clause_reports.specs.DraftEntering.{Mention, Eliminates, AssumesK, Names, Entering, mentioned, with_entry, enter_eliminator, enter_axiom_k, enter_generated, enter_mention, enter_all, enter_entry, enter_with, enter_chain, longest_chain, enter_needed, enter_draft_of}
+use Rattle.clause_reports.specs.DraftEntering.{Mention, Eliminates, AssumesK, Names, Entering, mentioned, with_entry, enter_eliminator, enter_axiom_k, enter_generated, enter_mention, enter_all, enter_entry, enter_with, enter_chain, longest_chain, enter_needed}
 use Rattle.clause_reports.specs.Generated.{Generated, generated_by, generated_draft}
 use Rattle.clause_reports.specs.Laws.{EnteringSpends}
 use Rattle.core_terms.specs.declared.stop.Stop.TheVariants.{Deep}
-use Rattle.clause_reports.specs.Stops.{Reporting, Halts, answers, or_halts, entering}
+use Rattle.clause_reports.specs.Stops.{Reporting, Halts, answers, or_halts}
 
 -- an entering that gives no units back
 abbrev pub Spends : Entering → Type 0

@@ -1,18 +1,14 @@
 -- What a report asks for: a plan that is translated, and a signature that has its entries.
-use Rattle.std.specs.Prelude.{◌≡◌, ◌<◌, ◌-◌, ℕ, Option, Some, None, List, [], ◌∷◌, length, slice_get, Result, Ok}
+use Rattle.std.specs.Prelude.{◌≡◌, ◌<◌, ◌-◌, ℕ, Option, Some, None, List, length, slice_get}
 use Rattle.theory.specs.Terms.{Term, top}
-use Rattle.theory.specs.Signatures.{Signature, Entry, Definition, IsPrefix}
-use Rattle.core_terms.specs.CaseTrees.{Walk}
-use Rattle.core_sig.specs.Drafts.{Draft}
+use Rattle.theory.specs.Signatures.{Signature, Definition, IsPrefix}
 use Rattle.core_sig.specs.Names.{find}
-use Rattle.core_sig.specs.declared.entry.Found.{Found}
 use Rattle.core_sig.specs.declared.entry.Found.TheVariants.{Entry as FoundEntry}
 use Rattle.tree_translation.specs.Conditions.{IsPlanned}
 use Rattle.tree_translation.specs.Plans.{Plan}
 use Rattle.tree_translation.specs.Recursion.{Recursion, recursion_of}
 use Rattle.clause_reports.specs.Equations.{part_at, part_name}
 use Rattle.clause_reports.specs.Generated.{all_name}
-use Rattle.clause_reports.specs.ProofTerms.{proof_name}
 use Rattle.clause_reports.specs.Reports.{Reference}
 use Rattle.tree_translation.specs.Naming.{motive_name, step_name}
 

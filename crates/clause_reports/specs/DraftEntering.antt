@@ -1,9 +1,9 @@
 -- How a draft enters a signature: first what it mentions and the signature lacks, from the left in its type and then in its term, each
 -- in the same way, and then the draft itself.
-use Rattle.std.specs.Prelude.{ℕ, zero, suc, ◌-◌, Bool, true, false, nat_lt, cond, Option, Some, None, List, [], ◌∷◌, ◌++◌, length, flat_map, get_or, Result, Ok, Err}
+use Rattle.std.specs.Prelude.{ℕ, zero, suc, ◌-◌, Bool, true, false, nat_lt, cond, Option, Some, None, List, [], ◌∷◌, ◌++◌, length, flat_map, get_or, Ok, Err}
 use Rattle.theory.specs.Terms.{Term, Pi, Lam, App, Let, Const, Elim, AxiomK}
 use Rattle.theory.specs.Families.{Family}
-use Rattle.theory.specs.Signatures.{Signature, Entry, FamilyOf, EliminatorAt, AxiomKAt, Definition}
+use Rattle.theory.specs.Signatures.{Signature, Entry, EliminatorAt, AxiomKAt, Definition}
 use Rattle.core_terms.specs.Answers.{and_next}
 use Rattle.core_terms.specs.declared.stop.Stop.TheVariants.{Deep}
 use Rattle.core_sig.specs.Drafts.{Draft}
@@ -13,7 +13,7 @@ use Rattle.kernel_reduce.specs.Entries.{family_at}
 use Rattle.family_check.specs.Entering.{Entered, instance_of, axiom_k_of, define_of}
 use Rattle.tree_translation.specs.Needed.{entry_terms, is_found}
 use Rattle.clause_reports.specs.Generated.{Generated, generated_by, generated_draft}
-use Rattle.clause_reports.specs.Stops.{ReportStop, Reporting, Halts, answers, or_halts, halting, entering}
+use Rattle.clause_reports.specs.Stops.{Reporting, Halts, answers, or_halts, entering}
 
 -- ---- what is mentioned
 

@@ -19,7 +19,7 @@ use Rattle.tree_translation.specs.Mappings.{mapping, in_old_order}
 use Rattle.tree_translation.specs.Naming.{motive_name, step_name, helper_name}
 use Rattle.clause_reports.specs.Generated.{all_name}
 use Rattle.tree_translation.specs.Plans.{Plan, Part, no_part, own_part}
-use Rattle.tree_translation.specs.Recursion.{Recursion, recursion_of, order_of, parameters_at, scrutinee_at, terms_at}
+use Rattle.tree_translation.specs.Recursion.{Recursion, recursion_of, parameters_at, scrutinee_at, terms_at}
 use Rattle.tree_translation.specs.RightSides.{is_helper}
 
 -- ---- constants of a plan

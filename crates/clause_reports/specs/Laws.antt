@@ -1,5 +1,5 @@
 -- What holds of what is said of clauses, whatever way it is found.
-use Rattle.std.specs.Prelude.{◌≡◌, ◌↔◌, ℕ, suc, ◌<◌, ◌≤◌, true, false, Some, Ok, Err, IfOk, List, [], ◌∷◌, ◌++◌, All, length, map, flat_map, slice_get}
+use Rattle.std.specs.Prelude.{◌≡◌, ◌↔◌, ℕ, suc, ◌<◌, ◌≤◌, true, false, Ok, IfOk, List, All, length, map}
 use Rattle.theory.specs.Terms.{Term, Const}
 use Rattle.theory.specs.Telescopes.{products, applied}
 use Rattle.theory.specs.Conversion.{Converts}
@@ -11,7 +11,6 @@ use Rattle.family_check.specs.Scopes.{HasPrelude}
 use Rattle.pattern_vectors.specs.Matching.{matches_all}
 use Rattle.case_trees.specs.Points.{under_solution}
 use Rattle.tree_translation.specs.Plans.{Plan}
-use Rattle.tree_translation.specs.Needed.{needed}
 use Rattle.clause_reports.specs.Conditions.{IsEntered, IsReference}
 use Rattle.clause_reports.specs.DraftEntering.{enter_draft_of}
 use Rattle.clause_reports.specs.Equations.{Equation, equation_of, in_signature, number_of, part_at, pats_of}
@@ -19,7 +18,6 @@ use Rattle.clause_reports.specs.ProofTerms.{proof_name}
 use Rattle.clause_reports.specs.Reports.{Reference, Reported, Definitional, Proved, Shadowed, Absurd, report_of, some_absurd, order_in, shown_leaf}
 use Rattle.clause_reports.specs.Shadows.{leaves_of, equation_at_leaf}
 use Rattle.clause_reports.specs.Showing.{AllShow}
-use Rattle.clause_reports.specs.Stops.{entry_name}
 
 -- ---- equations
 

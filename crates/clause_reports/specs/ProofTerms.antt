@@ -1,5 +1,5 @@
 -- The term of a walk: a split is the term of a split node, and a leaf is reflexivity.
-use Rattle.std.specs.Prelude.{ℕ, ◌+◌, List, [], ◌∷◌, ◌++◌, length, Result, Ok, codes, decimal}
+use Rattle.std.specs.Prelude.{ℕ, ◌+◌, List, [], ◌∷◌, ◌++◌, length, Result, codes, decimal}
 use Rattle.theory.specs.Terms.{Term}
 use Rattle.theory.specs.Telescopes.{products, functions}
 use Rattle.theory.specs.Signatures.{Signature, equation, reflexivity}

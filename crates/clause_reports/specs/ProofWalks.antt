@@ -4,7 +4,7 @@ use Rattle.std.specs.Prelude.{ℕ, zero, suc, ◌+◌, ◌-◌, ◌==◌, ◌&&�
 use Rattle.theory.specs.Terms.{Term}
 use Rattle.theory.specs.Telescopes.{Telescope}
 use Rattle.theory.specs.Signatures.{Signature}
-use Rattle.core_terms.specs.Answers.{and_next, and_then, is_low, are_low}
+use Rattle.core_terms.specs.Answers.{and_next, is_low, are_low}
 use Rattle.core_terms.specs.CaseTrees as tree
 use Rattle.core_terms.specs.CaseTrees.{Step, Tree, Branch, Branches, Walk}
 use Rattle.core_terms.specs.declared.case_tree.Origin.{Origin}
@@ -15,9 +15,8 @@ use Rattle.kernel_reduce.specs.Reduction.{whnf_of}
 use Rattle.kernel_reduce.specs.Tidying.{tidy_of}
 use Rattle.tele_eq.specs.Items.{term_at}
 use Rattle.unification.specs.Built.{Built, built_of}
-use Rattle.unification.specs.Outcomes.{Outcome, Solved, Absurd, Stuck as StuckOutcome, steps_in}
+use Rattle.unification.specs.Outcomes.{Outcome, Solved, steps_in}
 use Rattle.unification.specs.Solutions.{variable_in}
-use Rattle.unification.specs.declared.why.Why.{Why}
 use Rattle.unification.specs.declared.why.Why.TheVariants.{NotRigid}
 use Rattle.case_trees.specs.Points.{under_solution}
 use Rattle.case_trees.specs.Problems.{Member, member_of, type_of_variable}

@@ -1,8 +1,8 @@
 -- What holds of a clause: its equation by conversion; else by a proof; else it is shadowed by an earlier clause.
-use Rattle.std.specs.Prelude.{ℕ, zero, suc, Bool, true, false, ◌||◌, ◌&&◌, cond, Option, Some, None, List, [], ◌∷◌, map, length, Result, Ok, Err}
+use Rattle.std.specs.Prelude.{ℕ, zero, suc, Bool, true, false, ◌||◌, ◌&&◌, cond, Option, Some, None, List, map, length, Result, Ok, Err}
 use Rattle.theory.specs.Terms.{Term}
 use Rattle.theory.specs.Telescopes.{Telescope}
-use Rattle.theory.specs.Signatures.{Signature, Entry}
+use Rattle.theory.specs.Signatures.{Signature}
 use Rattle.core_terms.specs.Answers.{and_next}
 use Rattle.core_terms.specs.CaseTrees.{Walk}
 use Rattle.core_terms.specs.Patterns as pattern
@@ -20,7 +20,7 @@ use Rattle.clause_reports.specs.Equations.{Equation, equation_of, part_at, pats_
 use Rattle.clause_reports.specs.ProofWalks.{Place, Proof, walk_of, leaves_in}
 use Rattle.clause_reports.specs.ProofTerms.{candidate}
 use Rattle.clause_reports.specs.Shadows.{TreeLeaf, earlier_leaf, vector_of, leaves_of, convert_at_all}
-use Rattle.clause_reports.specs.Stops.{Rejection, ReportStop, Reporting, Halts, Rejected, answers, or_halts, halting}
+use Rattle.clause_reports.specs.Stops.{Rejection, ReportStop, Reporting, Rejected, answers, or_halts, halting}
 
 -- `Definitional`: the sides convert. `Proved n`: entry n proves the equation. `Shadowed earlier context vector leaves`: the earlier
 -- clause takes the vector; the equation converts at the leaves, which are all of the clause in the tree. `Absurd`: the clause has no

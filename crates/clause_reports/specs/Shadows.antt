@@ -1,5 +1,5 @@
 -- A clause whose equation has no proof: an earlier clause that takes a vector from it.
-use Rattle.std.specs.Prelude.{ℕ, Bool, true, false, nat_lt, ◌==◌, ◌&&◌, cond, Option, Some, None, List, [], ◌∷◌, ◌++◌, map, get_or, Result, Ok}
+use Rattle.std.specs.Prelude.{ℕ, Bool, true, false, nat_lt, ◌==◌, cond, Option, Some, None, List, [], ◌∷◌, ◌++◌, Result, Ok}
 use Rattle.theory.specs.Terms.{Term}
 use Rattle.theory.specs.Telescopes.{Telescope}
 use Rattle.theory.specs.Signatures.{Signature}
@@ -12,9 +12,9 @@ use Rattle.core_terms.specs.declared.stop.Stop.{Stop}
 use Rattle.kernel_reduce.specs.Comparison.{convertible_of}
 use Rattle.kernel_reduce.specs.Reduction.{answered, nesting, whnf_of}
 use Rattle.unification.specs.Built.{Built, built_of}
-use Rattle.pattern_vectors.specs.Matching.{is_constructor, matches_all}
-use Rattle.tree_translation.specs.Plans.{Plan, Part}
-use Rattle.clause_reports.specs.Equations.{Equation, Site, equation_at, leaf_site, part_at, pats_of, side_of, with_arguments}
+use Rattle.pattern_vectors.specs.Matching.{is_constructor}
+use Rattle.tree_translation.specs.Plans.{Plan}
+use Rattle.clause_reports.specs.Equations.{Equation, equation_at, leaf_site, part_at, pats_of, side_of, with_arguments}
 use Rattle.clause_reports.specs.ProofWalks.{Place}
 use Rattle.clause_reports.specs.Stops.{Reporting, answers, or_halts, halting}
 

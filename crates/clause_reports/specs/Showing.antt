@@ -1,5 +1,5 @@
 -- When a list of terms shows patterns: what a reader looks for, to compare an equation with its clause.
-use Rattle.std.specs.Prelude.{◌≡◌, ℕ, Some, List, [], ◌∷◌, ◌++◌, length}
+use Rattle.std.specs.Prelude.{◌≡◌, ℕ, List, [], ◌∷◌, ◌++◌, length}
 use Rattle.theory.specs.Terms.{Term, Con}
 use Rattle.theory.specs.Telescopes.{applied}
 use Rattle.theory.specs.Families.{Family}

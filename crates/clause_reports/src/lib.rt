@@ -1,2 +1,4 @@
 //! What is said of each clause of a function: its equation, a proof of it, or the earlier clause that shadows it.
 #![tactic(auto)]
+
+pub mod laws;

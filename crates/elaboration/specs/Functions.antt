@@ -1,7 +1,7 @@
 -- A function by clauses, phase by phase, with one count of units: its type and level; the own walks of its clauses; the position at
 -- which it is recursive; its trees and those of its helpers; its entries; and what holds of each clause.
-use Rattle.std.specs.Prelude.{ℕ, zero, suc, ◌+◌, Bool, nat_lt, cond, max, Option, Some, None, List, [], ◌∷◌, ◌++◌, length, map, Result, Ok, Err}
-use Rattle.theory.specs.Terms.{Term, Sort, Pi, Const}
+use Rattle.std.specs.Prelude.{ℕ, zero, suc, ◌+◌, nat_lt, cond, max, Option, Some, None, List, [], ◌∷◌, length, map, Result, Ok, Err}
+use Rattle.theory.specs.Terms.{Term, Sort, Pi}
 use Rattle.theory.specs.Telescopes.{Telescope, variables}
 use Rattle.theory.specs.Signatures.{Signature}
 use Rattle.theory.specs.WellFormed.{provisional}
@@ -15,7 +15,6 @@ use Rattle.kernel_check.specs.Checking.{infer_sort_of}
 use Rattle.kernel_reduce.specs.Reduction.{nesting}
 use Rattle.resolve.specs.Functions.{Function}
 use Rattle.structural_rec.specs.Choices.{Choice, Failing, NotRecursive, At, NotSmaller, choose}
-use Rattle.structural_rec.specs.Uses.{Use}
 use Rattle.case_trees.specs.Trees.{split_of}
 use Rattle.tree_translation.specs.Entries.{translate, ordered_variables}
 use Rattle.tree_translation.specs.Plans.{Plan, Part}
@@ -23,10 +22,10 @@ use Rattle.tree_translation.specs.Recursion.{Recursion, recursion_at, order_of, 
 use Rattle.core_sig.specs.Drafts.{Draft}
 use Rattle.clause_reports.specs.DraftEntering.{enter_draft_of, enter_needed, enter_mention, Names}
 use Rattle.clause_reports.specs.Generated.{all_name}
-use Rattle.clause_reports.specs.Reports.{Reference, Line, report_of}
+use Rattle.clause_reports.specs.Reports.{Line, report_of}
 use Rattle.elaboration.specs.Refusals as refusal
 use Rattle.elaboration.specs.Refusals.{Refusal, FailingCall, OfType, Elaborating, owner_of, answers, or_halts, granted, level_too_high, reporting, walking}
-use Rattle.elaboration.specs.Walking.{Session, Opened, Walked, Given, greatest_level, part_name, walk_clauses}
+use Rattle.elaboration.specs.Walking.{Session, Opened, Walked, greatest_level, part_name, walk_clauses}
 
 -- ---- the type
 

@@ -1,14 +1,12 @@
 -- Why a function by clauses is refused, with what is shown of it.
-use Rattle.std.specs.Prelude.{ℕ, ◌+◌, List, [], ◌∷◌, ◌++◌, Result, Ok, Err, codes, length, map}
+use Rattle.std.specs.Prelude.{ℕ, ◌+◌, List, [], Result, Ok, Err, codes}
 use Rattle.theory.specs.Terms.{Term, Sort}
-use Rattle.theory.specs.Telescopes.{Telescope}
 use Rattle.theory.specs.Signatures.{Signature}
 use Rattle.core_terms.specs.Answers.{Spent, SpentOr}
 use Rattle.core_terms.specs.Patterns as pattern
 use Rattle.core_terms.specs.Patterns.{Pat}
 use Rattle.core_terms.specs.Verdicts.{Denial, Verdict, Yes, No, Mismatch}
 use Rattle.core_terms.specs.declared.stop.Stop.{Stop}
-use Rattle.core_terms.specs.declared.stop.Stop.TheVariants.{Deep}
 use Rattle.core_text.specs.SymbolNames.{constructor_name_at}
 use Rattle.core_text.specs.TermText.{term_text, spaced}
 use Rattle.unification.specs.declared.why.Why.{Why}

@@ -1,6 +1,6 @@
 -- The own walks of the clauses of a function, one after the other: each is followed by its dots and by its right side, or by its
 -- scrutinee, what the abstraction over it gives, and the clauses inside.
-use Rattle.std.specs.Prelude.{ℕ, zero, suc, ◌+◌, ◌-◌, Bool, true, false, nat_lt, ◌==◌, ◌||◌, cond, Option, Some, None, List, [], ◌∷◌, ◌++◌, length, map, take, drop, reverse, Result, Ok, Err}
+use Rattle.std.specs.Prelude.{ℕ, zero, suc, ◌+◌, ◌-◌, Bool, true, false, nat_lt, ◌==◌, ◌||◌, cond, List, [], ◌∷◌, ◌++◌, length, map, take, drop, reverse, Result, Ok, Err}
 use Rattle.theory.specs.Terms.{Term, Var, Sort, Pi, Lam, App, Let, Const}
 use Rattle.theory.specs.Substitutions.{inst}
 use Rattle.theory.specs.Telescopes.{Telescope, products, applied}
@@ -9,7 +9,6 @@ use Rattle.core_terms.specs.Answers.{and_next, bounded}
 use Rattle.core_terms.specs.CaseTrees.{Walk}
 use Rattle.core_terms.specs.Clauses as clause
 use Rattle.core_terms.specs.Clauses.{Clause, Clauses, Right, Is}
-use Rattle.core_terms.specs.Patterns.{Pats}
 use Rattle.kernel_check.specs.Checking.{infer_of, infer_sort_of, check_of}
 use Rattle.kernel_reduce.specs.Comparison.{convertible_of}
 use Rattle.kernel_reduce.specs.Reduction.{nesting}

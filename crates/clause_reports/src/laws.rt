@@ -1,0 +1,32 @@
+//! The laws of entering and of reports.
+ghost use Rattle.clause_reports.specs.Laws.{EnteringSpends, EnteringAdds, EnteringKeepsWellFormed, DefinitionalConverts, ShadowedMatches, AbsurdIsAbsurd};
+
+/// No units are given back where a draft enters.
+pub fn entering_spends()
+    ensures { EnteringSpends }
+{}
+
+/// What enters comes last, after others that were not there.
+pub fn entering_adds()
+    ensures { EnteringAdds }
+{}
+
+/// A well-formed signature stays well formed where a draft enters.
+pub fn entering_keeps_well_formed()
+    ensures { EnteringKeepsWellFormed }
+{}
+
+/// The sides of a definitional equation convert.
+pub fn definitional_converts()
+    ensures { DefinitionalConverts }
+{}
+
+/// A shadowed clause and an earlier one match the vector, and its equation converts at all its leaves.
+pub fn shadowed_matches()
+    ensures { ShadowedMatches }
+{}
+
+/// The line of a clause is `absurd` exactly where the clause has `( )`.
+pub fn absurd_is_absurd()
+    ensures { AbsurdIsAbsurd }
+{}
