@@ -1,4 +1,6 @@
 pub mod Keeping
 pub mod LineLaws
 pub mod Lines
+pub mod ReportSpending
 pub mod Spending
+pub mod WalkSpending

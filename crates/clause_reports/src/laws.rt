@@ -1,5 +1,5 @@
 //! The laws of entering and of reports.
-ghost use Rattle.clause_reports.specs.Laws.{EnteringSpends, EnteringAdds, EnteringKeepsWellFormed, DefinitionalConverts, ShadowedMatches, AbsurdIsAbsurd};
+ghost use Rattle.clause_reports.specs.Laws.{EnteringSpends, EnteringAdds, EnteringKeepsWellFormed, ReportSpends, DefinitionalConverts, ShadowedMatches, AbsurdIsAbsurd};
 
 /// No units are given back where a draft enters.
 pub fn entering_spends()
@@ -14,6 +14,11 @@ pub fn entering_adds()
 /// A well-formed signature stays well formed where a draft enters.
 pub fn entering_keeps_well_formed()
     ensures { EnteringKeepsWellFormed }
+{}
+
+/// Reports give no units back.
+pub fn report_spends()
+    ensures { ReportSpends }
 {}
 
 /// The sides of a definitional equation convert.
