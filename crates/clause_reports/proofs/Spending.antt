@@ -37,7 +37,7 @@ enter_generated-spends enter spends S (Some g) left =
     and_next-spends (or_halts (generated_draft (length S.entries) g), left) _ left (omega arith) (λ d rest.
     with_entry-spends (enter S d rest) rest (spends S d rest))
 
-enter_mention-spends : (enter : Entering) → Spends enter → (S : Signature) (m : Mention) (left : ℕ) → (enter_mention enter S m left).1 ≤ left
+pub enter_mention-spends : (enter : Entering) → Spends enter → (S : Signature) (m : Mention) (left : ℕ) → (enter_mention enter S m left).1 ≤ left
 enter_mention-spends enter spends S (Eliminates n m) left = enter_eliminator-spends S n m (family_at S n) left
 enter_mention-spends enter spends S (AssumesK i m) left = enter_axiom_k-spends S i m S.has_k left
 enter_mention-spends enter spends S (Names name) left = by (is_found (find S name))

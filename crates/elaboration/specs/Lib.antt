@@ -1,3 +1,4 @@
 pub mod Functions
+pub mod Laws
 pub mod Refusals
 pub mod Walking
