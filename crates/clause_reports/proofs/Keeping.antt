@@ -101,7 +101,7 @@ enter_generated-grows enter grow S (Some g) left =
     and_next-has Any (Grows S) (or_halts (generated_draft (length S.entries) g), left) _ (any (or_halts (generated_draft (length S.entries) g)))
     (λ d rest u. with_entry-grows S (enter S d rest) (grow S d rest))
 
-enter_mention-grows : (enter : Entering) → AllGrow enter → (S : Signature) (m : Mention) (left : ℕ) → Answers (Grows S) (enter_mention enter S m left)
+pub enter_mention-grows : (enter : Entering) → AllGrow enter → (S : Signature) (m : Mention) (left : ℕ) → Answers (Grows S) (enter_mention enter S m left)
 enter_mention-grows enter grow S (Eliminates n m) left = enter_eliminator-grows S n m (family_at S n) left refl
 enter_mention-grows enter grow S (AssumesK i m) left = enter_axiom_k-grows S i m S.has_k left refl
 enter_mention-grows enter grow S (Names name) left = by (is_found (find S name))

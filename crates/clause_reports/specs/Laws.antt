@@ -58,6 +58,12 @@ OfReports Holds =
 abbrev pub ReportSpends : Type 0
 ReportSpends = (S : Signature) (plan : Plan) (c : Reference) (left : ℕ) → (report_of S plan c left).1 ≤ left
 
+-- A well-formed signature stays well formed, and keeps its entries.
+abbrev pub ReportKeepsWellFormed : Type 0
+ReportKeepsWellFormed =
+    (S : Signature) (plan : Plan) (c : Reference) (left : ℕ) → IsWellFormed S → HasPrelude S →
+    IfOk (report_of S plan c left).0 (λ r. IsPrefix S r.signature × IsWellFormed r.signature)
+
 -- definitional: the sides of the clause's equation convert
 abbrev pub DefinitionalConverts : Type 0
 DefinitionalConverts =

@@ -1,5 +1,5 @@
 //! The laws of entering and of reports.
-ghost use Rattle.clause_reports.specs.Laws.{EnteringSpends, EnteringAdds, EnteringKeepsWellFormed, ReportSpends, DefinitionalConverts, ShadowedMatches, AbsurdIsAbsurd};
+ghost use Rattle.clause_reports.specs.Laws.{EnteringSpends, EnteringAdds, EnteringKeepsWellFormed, ReportSpends, ReportKeepsWellFormed, DefinitionalConverts, ShadowedMatches, AbsurdIsAbsurd};
 
 /// No units are given back where a draft enters.
 pub fn entering_spends()
@@ -19,6 +19,11 @@ pub fn entering_keeps_well_formed()
 /// Reports give no units back.
 pub fn report_spends()
     ensures { ReportSpends }
+{}
+
+/// A well-formed signature stays well formed where a clause is reported.
+pub fn report_keeps_well_formed()
+    ensures { ReportKeepsWellFormed }
 {}
 
 /// The sides of a definitional equation convert.

@@ -1,7 +1,12 @@
 //! The laws of a function's phases.
-ghost use Rattle.elaboration.specs.Laws.{FunctionSpends};
+ghost use Rattle.elaboration.specs.Laws.{FunctionKeepsWellFormed, FunctionSpends};
 
 /// The phases give no units back.
 pub fn function_spends()
     ensures { FunctionSpends }
+{}
+
+/// A well-formed signature stays well formed where a function is accepted.
+pub fn function_keeps_well_formed()
+    ensures { FunctionKeepsWellFormed }
 {}
