@@ -1,4 +1,5 @@
 pub mod Keeping
 pub mod LineLaws
 pub mod Lines
+pub mod ProvedTypes
 pub mod Spending
