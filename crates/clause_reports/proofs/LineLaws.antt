@@ -4,7 +4,7 @@ use Rattle.theory.specs.Signatures.{Signature}
 use Rattle.core_terms.proofs.Answers.{Answers}
 use Rattle.tree_translation.specs.Plans.{Plan}
 use Rattle.clause_reports.specs.Equations.{part_at, pats_of}
-use Rattle.clause_reports.specs.Laws.{AbsurdIsAbsurd, DefinitionalConverts, ShadowedMatches}
+use Rattle.clause_reports.specs.Laws.{AbsurdIsAbsurd, DefinitionalConverts, ProvedHasType, ShadowedMatches}
 use Rattle.clause_reports.specs.Reports.{Absurd, Reported, reported, Reference, some_absurd, equation_report, report_of}
 use Rattle.clause_reports.specs.Stops.{answers}
 use Rattle.clause_reports.proofs.Keeping.{weaker}
@@ -15,6 +15,12 @@ definitional-converts before S plan c left entered reference =
     weaker (Said S plan c) _ (report_of S plan c left).0 (λ r said is.
     let h = transport (Says S plan c r.signature) is said in
     (h.0.equation, h.0.is, h.0.converts, h.1)) (report-says S plan c left)
+
+pub proved-has_type : ProvedHasType
+proved-has_type before S plan c left entered reference =
+    weaker (Said S plan c) _ (report_of S plan c left).0 (λ r said n is over.
+    let h = transport (Says S plan c r.signature) is said in
+    (h.equation, h.body, h.is, h.entry (over h.equation h.is), h.grows.prefix, h.grows.keeps)) (report-says S plan c left)
 
 pub shadowed-matches : ShadowedMatches
 shadowed-matches before S plan c left entered reference =

@@ -9,7 +9,7 @@ use Rattle.theory.specs.Signatures.{Signature}
 use Rattle.core_terms.specs.Answers.{SpentOr, and_next, on_answer}
 use Rattle.core_terms.specs.CaseTrees.{Walk}
 use Rattle.core_terms.specs.declared.stop.Stop.{Stop}
-use Rattle.core_terms.proofs.Answers.{Answers}
+use Rattle.core_terms.proofs.Answers.{Answers, and_next-has}
 use Rattle.family_check.specs.Entering.{Entered}
 use Rattle.kernel_reduce.specs.Comparison.{convertible_of}
 use Rattle.kernel_reduce.specs.Reduction.{nesting}
@@ -23,6 +23,8 @@ use Rattle.clause_reports.specs.ProofTerms.{candidate}
 use Rattle.clause_reports.specs.ProofWalks.{Place, Proof, walk_of, leaves_in}
 use Rattle.clause_reports.specs.Reports.{Line, Definitional, Proved, Shadowed, Absurd, Reported, reported, Reference, some_absurd, order_in, shown_leaf, if_shadowed, at_vector, at_leaf, shadowed, on_candidate, unless_converts, equation_report, report_of}
 use Rattle.clause_reports.specs.Shadows.{TreeLeaf, earlier_leaf, vector_of, leaves_of, equation_at_leaf, convert_at_all}
+use Rattle.clause_reports.proofs.Keeping.{Grows, enter_all-grows, enter_needed-grows}
+use Rattle.clause_reports.proofs.ProvedTypes.{IsProved, candidate-enters}
 use Rattle.clause_reports.specs.Stops.{Rejection, ReportStop, Reporting, Halts, Stuck, Rejected, answers, or_halts, halting}
 
 -- ---- parts of a report
@@ -70,7 +72,7 @@ pub record IsShadow (S : Signature) (plan : Plan) (c : Reference) (earlier : ℕ
 -- what a line says of a clause, with the signature that it comes with
 abbrev pub Says : Signature → Plan → Reference → (T : Signature) → Line → Type 0
 Says S plan c T Definitional = SidesConvert S (equation_of S plan c.part c.clause c.walk) × (T ≡ S)
-Says S plan c T (Proved n) = Unit {0}
+Says S plan c T (Proved n) = IsProved S plan c.part c.clause (λ e. equation_of S plan c.part c.clause c.walk ≡ Ok e) T n
 Says S plan c T (Shadowed earlier context vector leaves) = IsShadow S plan c earlier context vector leaves T
 Says S plan c T Absurd = some_absurd (pats_of (part_at plan c.part) c.clause) ≡ true
 
@@ -171,20 +173,21 @@ shadowed-says S plan c proof r left = by (earlier_leaf S c.clause (leaves_in pro
 -- ---- reports
 
 on_candidate-says : (S : Signature) (plan : Plan) (c : Reference) (proof : Proof) (entered : Result Entered ReportStop) (left : ℕ)
-    → Answers (Said S plan c) (on_candidate S plan c proof entered left)
-on_candidate-says S plan c proof (Ok e) left = tt
-on_candidate-says S plan c proof (Err (Rejected r)) left = shadowed-says S plan c proof r left
-on_candidate-says S plan c proof (Err (Halts e)) left = tt
-on_candidate-says S plan c proof (Err (Stuck context u v why)) left = tt
+    → IfOk entered (λ x. Says S plan c x.signature (Proved x.number)) → Answers (Said S plan c) (on_candidate S plan c proof entered left)
+on_candidate-says S plan c proof (Ok e) left h = h
+on_candidate-says S plan c proof (Err (Rejected r)) left h = shadowed-says S plan c proof r left
+on_candidate-says S plan c proof (Err (Halts e)) left h = tt
+on_candidate-says S plan c proof (Err (Stuck context u v why)) left h = tt
 
 unless_converts-says : (S : Signature) (plan : Plan) (c : Reference) (e : Equation) → equation_of S plan c.part c.clause c.walk ≡ Ok e
     → (holds : Bool) → (IsTrue holds → Converts S e.left e.right) → (left : ℕ) → Answers (Said S plan c) (unless_converts S plan c e holds left)
 unless_converts-says S plan c e is true converts left = (record { equation = e; is = is; converts = converts refl }, refl)
 unless_converts-says S plan c e is false converts left =
     after (Said S plan c) (walk_of S plan c.part c.walk e (part_at plan c.part).tree left) _ (λ proof.
-    after (Said S plan c) (answers (or_halts (candidate S plan c.part c.clause e proof)) _) _ (λ d.
-    after (Said S plan c) (enter_all enter_needed S (mentioned d) _) _ (λ T.
-    on_candidate-says S plan c proof _ _)))
+    after_halts (Said S plan c) (candidate S plan c.part c.clause e proof) _ _ (λ d made.
+    and_next-has (Grows S) (Said S plan c) (enter_all enter_needed S (mentioned d) _) _ (enter_all-grows enter_needed enter_needed-grows S (mentioned d) _) (λ T rest g.
+    on_candidate-says S plan c proof _ _
+    (candidate-enters S plan c.part c.clause (λ e. equation_of S plan c.part c.clause c.walk ≡ Ok e) e is proof d made T g rest))))
 
 pub report-says : (S : Signature) (plan : Plan) (c : Reference) (left : ℕ) → Answers (Said S plan c) (report_of S plan c left)
 report-says S plan c left = by (some_absurd (pats_of (part_at plan c.part) c.clause)) refl

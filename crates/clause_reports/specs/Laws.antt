@@ -4,6 +4,7 @@ use Rattle.theory.specs.Terms.{Term, Const}
 use Rattle.theory.specs.Telescopes.{products, applied}
 use Rattle.theory.specs.Conversion.{Converts}
 use Rattle.theory.specs.Signatures.{Signature, Definition, IsEntryAt, IsPrefix, equation}
+use Rattle.theory.specs.SignatureScopes.{IsScoped, IsScopedTelescope}
 use Rattle.theory.specs.WellFormed.{IsWellFormed}
 use Rattle.core_sig.specs.Drafts.{Draft}
 use Rattle.family_check.specs.Entering.{Entered}
@@ -70,10 +71,18 @@ DefinitionalConverts =
     OfReports (λ S plan c r. r.line ≡ Definitional →
     (e : Equation) × (equation_of S plan c.part c.clause c.walk ≡ Ok e) × Converts S e.left e.right × (r.signature ≡ S))
 
--- proved: the entry is a definition of the closed equation type
+-- the terms of an equation are over the entries of S
+pub record IsOver (S : Signature) (e : Equation) : Type 0 where
+  pub context : IsScopedTelescope S 0 e.context
+  pub type : IsScoped S (length e.context) e.type
+  pub left : IsScoped S (length e.context) e.left
+  pub right : IsScoped S (length e.context) e.right
+
+-- proved: the entry is a definition of the closed equation type, where the terms of the equation are over the entries
 abbrev pub ProvedHasType : Type 0
 ProvedHasType =
     OfReports (λ S plan c r. (n : ℕ) → r.line ≡ Proved n →
+    ((e : Equation) → equation_of S plan c.part c.clause c.walk ≡ Ok e → IsOver S e) →
     (e : Equation) × (body : Term) × (equation_of S plan c.part c.clause c.walk ≡ Ok e)
     × IsEntryAt r.signature n
     (Definition (proof_name plan c.part c.clause)

@@ -1,5 +1,5 @@
 //! The laws of entering and of reports.
-ghost use Rattle.clause_reports.specs.Laws.{EnteringSpends, EnteringAdds, EnteringKeepsWellFormed, ReportSpends, ReportKeepsWellFormed, DefinitionalConverts, ShadowedMatches, AbsurdIsAbsurd};
+ghost use Rattle.clause_reports.specs.Laws.{EnteringSpends, EnteringAdds, EnteringKeepsWellFormed, ReportSpends, ReportKeepsWellFormed, DefinitionalConverts, ProvedHasType, ShadowedMatches, AbsurdIsAbsurd};
 
 /// No units are given back where a draft enters.
 pub fn entering_spends()
@@ -29,6 +29,11 @@ pub fn report_keeps_well_formed()
 /// The sides of a definitional equation convert.
 pub fn definitional_converts()
     ensures { DefinitionalConverts }
+{}
+
+/// The entry that proves an equation is a definition of the closed equation type.
+pub fn proved_has_type()
+    ensures { ProvedHasType }
 {}
 
 /// A shadowed clause and an earlier one match the vector, and its equation converts at all its leaves.
