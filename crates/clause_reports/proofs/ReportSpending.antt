@@ -19,7 +19,8 @@ use Rattle.unification.specs.Built.{Built, built_of}
 use Rattle.pattern_vectors.specs.Matching.{is_constructor, matches_all}
 use Rattle.tree_translation.specs.Plans.{Plan}
 use Rattle.clause_reports.specs.DraftEntering.{enter_all, enter_entry, enter_needed, mentioned}
-use Rattle.clause_reports.specs.Equations.{Equation, equation_of, part_at, pats_of, with_arguments}
+use Rattle.case_trees.specs.Kept.{at_arguments}
+use Rattle.clause_reports.specs.Equations.{Equation, equation_of, part_at, pats_of}
 use Rattle.clause_reports.specs.Laws.{ReportSpends}
 use Rattle.clause_reports.specs.ProofTerms.{candidate}
 use Rattle.clause_reports.specs.ProofWalks.{Place, Proof, walk_of, first_place, leaves_in}
@@ -50,7 +51,7 @@ reduced_arguments-spends n number reduce w None left h = omega arith
 reduced_arguments-spends n number reduce w (Some b) left h = by (is_constructor n number b)
   where
     by : (same : Bool) → (cond same
-        (and_next (reduce b.arguments left) (λ us rest. answered (bounded (with_arguments b us)) rest)) (answered (Ok w) left)).1 ≤ left
+        (and_next (reduce b.arguments left) (λ us rest. answered (bounded (at_arguments b us)) rest)) (answered (Ok w) left)).1 ≤ left
     by true = and_next-spends (reduce b.arguments left) _ left (h b.arguments left) (λ us rest. omega arith)
     by false = omega arith
 

@@ -14,6 +14,7 @@ use Rattle.core_terms.specs.declared.stop.Stop.{Stop}
 use Rattle.core_sig.specs.Names.{find}
 use Rattle.core_sig.specs.Settling.{renumbered, entry_found}
 use Rattle.unification.specs.Built.{Built, built_of}
+use Rattle.case_trees.specs.Kept.{at_arguments}
 use Rattle.case_trees.specs.Points.{under_solution}
 use Rattle.tree_translation.specs.Mappings.{mapping, in_old_order}
 use Rattle.tree_translation.specs.Naming.{motive_name, step_name, helper_name}
@@ -42,13 +43,9 @@ in_signature S plan t = renumbered (own_number S plan) t
 
 -- ---- what the patterns show
 
--- constructor b with other arguments
-abbrev pub with_arguments : Built → List Term → Term
-with_arguments b us = applied (Con b.n b.number) (b.parameters ++ us)
-
 abbrev pub shown_built : (show : List Term → List Term) → (t : Term) → Option Built → Term
 shown_built show t None = t
-shown_built show t (Some b) = with_arguments b (show b.arguments)
+shown_built show t (Some b) = at_arguments b (show b.arguments)
 
 abbrev mutual
   -- the term at a pattern, in which each dot is as it is written, with the clause's bindings

@@ -14,7 +14,8 @@ use Rattle.kernel_reduce.specs.Reduction.{answered, nesting, whnf_of}
 use Rattle.unification.specs.Built.{Built, built_of}
 use Rattle.pattern_vectors.specs.Matching.{is_constructor}
 use Rattle.tree_translation.specs.Plans.{Plan}
-use Rattle.clause_reports.specs.Equations.{Equation, equation_at, leaf_site, part_at, pats_of, side_of, with_arguments}
+use Rattle.case_trees.specs.Kept.{at_arguments}
+use Rattle.clause_reports.specs.Equations.{Equation, equation_at, leaf_site, part_at, pats_of, side_of}
 use Rattle.clause_reports.specs.ProofWalks.{Place}
 use Rattle.clause_reports.specs.Stops.{Reporting, answers, or_halts, halting}
 
@@ -32,7 +33,7 @@ abbrev pub reduced_arguments : (n number : ℕ) → (reduce : List Term → ℕ 
 reduced_arguments n number reduce w None left = answered (Ok w) left
 reduced_arguments n number reduce w (Some b) left =
     cond (is_constructor n number b)
-    (and_next (reduce b.arguments left) (λ us rest. answered (bounded (with_arguments b us)) rest))
+    (and_next (reduce b.arguments left) (λ us rest. answered (bounded (at_arguments b us)) rest))
     (answered (Ok w) left)
 
 abbrev mutual

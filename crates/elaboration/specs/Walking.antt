@@ -15,6 +15,7 @@ use Rattle.kernel_reduce.specs.Reduction.{nesting}
 use Rattle.structural_rec.specs.Uses.{Use}
 use Rattle.case_trees.specs.Points.{under_solution}
 use Rattle.case_trees.specs.OwnWalks.{own_walk_of}
+use Rattle.tele_eq.specs.Levels.{place_in}
 use Rattle.tree_translation.specs.Naming.{helper_name}
 use Rattle.with_abstraction.specs.Abstractions.{Abstracted, abstract_over_of}
 use Rattle.clause_reports.specs.Texts.{context_text}
@@ -137,15 +138,10 @@ open_over s owner w t left =
 abbrev pub helper_arguments : Abstracted → (t : Term) → List Term
 helper_arguments a t = map Var (take a.place a.order) ++ t ∷ map Var (drop a.place a.order)
 
--- the place in a list of numbers
-abbrev pub place_of : List ℕ → ℕ → ℕ
-place_of [] x = 0
-place_of (y ∷ numbers) x = cond (y == x) 0 (place_of numbers x + 1)
-
 -- variable x of the walk's context over the helper's telescope, which has one variable more
 abbrev pub variable_in : Abstracted → (x : ℕ) → Term
 variable_in a x =
-    let place = place_of a.order x in
+    let place = place_in a.order x in
     let count = length a.order in
     Var (count - cond (nat_lt place a.place) place (place + 1))
 
