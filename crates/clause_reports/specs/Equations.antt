@@ -30,9 +30,12 @@ abbrev pub number_of : Signature → (name : List ℕ) → ℕ
 number_of S name = option_map_or (λ n. n) (option_and_then entry_found (find S name)) 0
 
 -- the name of part k: the function, or helper k
+abbrev pub part_named : (function : List ℕ) (k : ℕ) → List ℕ
+part_named function zero = function
+part_named function (suc k) = helper_name function (suc k)
+
 abbrev pub part_name : Plan → (k : ℕ) → List ℕ
-part_name plan zero = plan.name
-part_name plan (suc k) = helper_name plan.name (suc k)
+part_name plan k = part_named plan.name k
 
 -- the function and its helpers have numbers of the signature in the place of those of the plan
 abbrev pub own_number : Signature → Plan → (c : ℕ) → ℕ

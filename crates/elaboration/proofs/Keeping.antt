@@ -18,7 +18,7 @@ use Rattle.clause_reports.specs.Stops.{ReportStop}
 use Rattle.clause_reports.proofs.Keeping.{Grows, GrowsTo, grows_same, grows_on, weaker, Any, any, entering-grows, enter_mention-grows, enter_needed-grows}
 use Rattle.clause_reports.proofs.ReportKeeping.{GrowsBy, report-grows}
 use Rattle.elaboration.specs.Refusals.{Owner, OfType, or_halts, granted, owner_of, or_no_report, reporting}
-use Rattle.elaboration.specs.Walking.{part_name}
+use Rattle.clause_reports.specs.Equations.{part_named}
 use Rattle.elaboration.specs.Functions.{Following, Lines, plan_of, enter_drafts, enter_values, enter_plan, recursion_in, first_domains, function_level, report_walks, report_parts, function_of}
 use Rattle.elaboration.specs.Laws.{FunctionKeepsWellFormed}
 
@@ -58,7 +58,7 @@ report_walks-grow : (plan : Plan) (k number : ℕ) (walks : List Walk) (next : F
     → (S : Signature) (left : ℕ) → Answers (GrowsWith S) (report_walks plan k number walks next S left)
 report_walks-grow plan k number [] next h S left = h S left
 report_walks-grow plan k number (w ∷ walks) next h S left =
-    let owner = owner_of (part_name plan.name k) number in
+    let owner = owner_of (part_named plan.name k) number in
     let c : Reference = record { part = k; clause = number; walk = w } in
     and_next-has (GrowsBy S) (GrowsWith S) (reporting S owner (report_of S plan c left)) _
     (no_report-has (GrowsBy S) S owner (report_of S plan c left).0 (report-grows S plan c left)) (λ r rest g.

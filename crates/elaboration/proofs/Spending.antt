@@ -21,7 +21,8 @@ use Rattle.clause_reports.specs.Reports.{Reference, report_of}
 use Rattle.clause_reports.proofs.Spending.{entering-spends, enter_mention-spends, enter_needed-spends}
 use Rattle.clause_reports.proofs.ReportSpending.{report-spends}
 use Rattle.elaboration.specs.Refusals.{OfType, or_halts, granted, owner_of, reporting, walking}
-use Rattle.elaboration.specs.Walking.{Session, Walked, part_name, walk_clauses}
+use Rattle.clause_reports.specs.Equations.{part_named}
+use Rattle.elaboration.specs.Walking.{Session, Walked, walk_clauses}
 use Rattle.elaboration.specs.Functions.{Following, own_part, position_chosen, own_finished, helpers_finished, recursion_in, plan_of, enter_drafts, enter_values, enter_plan, first_domains, function_level, report_walks, report_parts}
 use Rattle.elaboration.specs.Laws.{FunctionSpends}
 use Rattle.elaboration.proofs.WalkSpending.{walk_clauses-spends}
@@ -41,7 +42,7 @@ helpers_finished-spends : (s : Session) (r : Option Recursion) (level number : �
     → (helpers_finished s r level number helpers left).1 ≤ left
 helpers_finished-spends s r level number [] left = omega arith
 helpers_finished-spends s r level number (w ∷ helpers) left =
-    and_next-spends (walking s.signature (part_name s.name number) (split_of s.signature w.part.tele w.part.goal w.part.terms w.clauses left)) _ left
+    and_next-spends (walking s.signature (part_named s.name number) (split_of s.signature w.part.tele w.part.goal w.part.terms w.clauses left)) _ left
     (tree_spends s.signature w.part.tele w.part.goal w.part.terms w.clauses left) (λ t rest.
     and_next-spends (helpers_finished s r level (number + 1) helpers rest) _ rest (helpers_finished-spends s r level (number + 1) helpers rest)
     (λ parts end. omega arith))
@@ -83,7 +84,7 @@ report_walks-spends : (plan : Plan) (k number : ℕ) (walks : List Walk) (next :
 report_walks-spends plan k number [] next h S left = h S left
 report_walks-spends plan k number (w ∷ walks) next h S left =
     let c : Reference = record { part = k; clause = number; walk = w } in
-    and_next-spends (reporting S (owner_of (part_name plan.name k) number) (report_of S plan c left)) _ left (report-spends S plan c left) (λ r rest.
+    and_next-spends (reporting S (owner_of (part_named plan.name k) number) (report_of S plan c left)) _ left (report-spends S plan c left) (λ r rest.
     and_next-spends (report_walks plan k (number + 1) walks next r.signature rest) _ rest
     (report_walks-spends plan k (number + 1) walks next h r.signature rest) (λ lines end. omega arith))
 

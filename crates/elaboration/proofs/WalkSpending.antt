@@ -19,7 +19,8 @@ use Rattle.case_trees.proofs.SpentUnits.{walk_spends}
 use Rattle.with_abstraction.specs.Abstractions.{abstract_over_of}
 use Rattle.with_abstraction.proofs.ScopedAbstractions.{abstraction-spends}
 use Rattle.elaboration.specs.Refusals.{Owner, owner_of, OfDot, OfSide, OfWith, OfGoal, Elaborating, or_halts, halting, granted, walking}
-use Rattle.elaboration.specs.Walking.{Session, Opened, part_name, check_dot, after_dots, without_self, open_over, opened, walk_clause, walk_right, walk_clauses}
+use Rattle.clause_reports.specs.Equations.{part_named}
+use Rattle.elaboration.specs.Walking.{Session, Opened, check_dot, after_dots, without_self, open_over, opened, walk_clause, walk_right, walk_clauses}
 
 check_dot-spends : (S : Signature) (owner : Owner) (context : Telescope) (d : Term × Term) (left : ℕ) → (check_dot S owner context d left).1 ≤ left
 check_dot-spends S owner context d left =
@@ -49,7 +50,7 @@ mutual
   walk_clause-spends : (s : Session) (k : ℕ) (part : Opened) (number next : ℕ) (c : Clause) (left : ℕ) → (walk_clause s k part number next c left).1 ≤ left
   walk_clause-spends s k part number next (Is pats binds right) left =
       let S = s.signature in
-      let name = part_name s.name k in
+      let name = part_named s.name k in
       let owner = owner_of name number in
       and_next-spends (walking S name (own_walk_of S part.tele part.goal part.terms (Is pats binds right) number left)) _ left
       (walk_spends S part.tele part.goal part.terms (Is pats binds right) number left) (λ w rest.

@@ -21,11 +21,12 @@ use Rattle.tree_translation.specs.Plans.{Plan, Part}
 use Rattle.tree_translation.specs.Recursion.{Recursion, recursion_at, order_of, ordered_telescope, ordered_term}
 use Rattle.core_sig.specs.Drafts.{Draft}
 use Rattle.clause_reports.specs.DraftEntering.{enter_draft_of, enter_needed, enter_mention, Names}
+use Rattle.clause_reports.specs.Equations.{part_named}
 use Rattle.clause_reports.specs.Generated.{all_name}
 use Rattle.clause_reports.specs.Reports.{Line, report_of}
 use Rattle.elaboration.specs.Refusals as refusal
 use Rattle.elaboration.specs.Refusals.{Refusal, FailingCall, OfType, Elaborating, owner_of, answers, or_halts, granted, level_too_high, reporting, walking}
-use Rattle.elaboration.specs.Walking.{Session, Opened, Walked, greatest_level, part_name, walk_clauses}
+use Rattle.elaboration.specs.Walking.{Session, Opened, Walked, greatest_level, walk_clauses}
 
 -- ---- the type
 
@@ -57,7 +58,7 @@ own_part f level = record {
 abbrev pub failing_call : Session → Failing → FailingCall
 failing_call s row = record {
   position = row.position + 1;
-  owner = owner_of (part_name s.name row.function) row.clause;
+  owner = owner_of (part_named s.name row.function) row.clause;
   call = term_text s.signature row.call;
 }
 
@@ -105,7 +106,7 @@ abbrev pub helpers_finished : Session → Option Recursion → (level number : �
 helpers_finished s r level number [] left = answers (Ok []) left
 helpers_finished s r level number (w ∷ helpers) left =
     and_next
-    (walking s.signature (part_name s.name number) (split_of s.signature w.part.tele w.part.goal w.part.terms w.clauses left)) (λ t rest.
+    (walking s.signature (part_named s.name number) (split_of s.signature w.part.tele w.part.goal w.part.terms w.clauses left)) (λ t rest.
     and_next (helpers_finished s r level (number + 1) helpers rest) (λ parts end.
     answers (Ok (finished (helper_level r level w.part.level) w t ∷ parts)) end))
 
@@ -182,7 +183,7 @@ Following = Signature → ℕ → Elaborating Lines
 abbrev pub report_walks : Plan → (k number : ℕ) → List Walk → Following → Following
 report_walks plan k number [] next S left = next S left
 report_walks plan k number (w ∷ walks) next S left =
-    let owner = owner_of (part_name plan.name k) number in
+    let owner = owner_of (part_named plan.name k) number in
     and_next (reporting S owner (report_of S plan (record { part = k; clause = number; walk = w }) left)) (λ r rest.
     and_next (report_walks plan k (number + 1) walks next r.signature rest) (λ lines end.
     answers (Ok (with_line (record { function = owner.function; clause = owner.clause; line = r.line }) lines)) end))

@@ -1,7 +1,7 @@
 -- The own walks of the clauses of a function, one after the other: each is followed by its dots and by its right side, or by its
 -- scrutinee, what the abstraction over it gives, and the clauses inside.
-use Rattle.std.specs.Prelude.{ℕ, zero, suc, ◌+◌, ◌-◌, Bool, true, false, nat_lt, ◌==◌, ◌||◌, cond, List, [], ◌∷◌, ◌++◌, length, map, take, drop, reverse, Result, Ok, Err}
-use Rattle.theory.specs.Terms.{Term, Var, Sort, Pi, Lam, App, Let, Const}
+use Rattle.std.specs.Prelude.{ℕ, ◌+◌, ◌-◌, Bool, true, false, nat_lt, cond, List, [], ◌∷◌, ◌++◌, length, map, take, drop, reverse, Result, Ok, Err}
+use Rattle.theory.specs.Terms.{Term, Var, Sort, Const}
 use Rattle.theory.specs.Substitutions.{inst}
 use Rattle.theory.specs.Telescopes.{Telescope, products, applied}
 use Rattle.theory.specs.Signatures.{Signature}
@@ -12,12 +12,13 @@ use Rattle.core_terms.specs.Clauses.{Clause, Clauses, Right, Is}
 use Rattle.kernel_check.specs.Checking.{infer_of, infer_sort_of, check_of}
 use Rattle.kernel_reduce.specs.Comparison.{convertible_of}
 use Rattle.kernel_reduce.specs.Reduction.{nesting}
+use Rattle.structural_rec.specs.Calls.{has_constant}
 use Rattle.structural_rec.specs.Uses.{Use}
 use Rattle.case_trees.specs.Points.{under_solution}
 use Rattle.case_trees.specs.OwnWalks.{own_walk_of}
 use Rattle.tele_eq.specs.Levels.{place_in}
-use Rattle.tree_translation.specs.Naming.{helper_name}
 use Rattle.with_abstraction.specs.Abstractions.{Abstracted, abstract_over_of}
+use Rattle.clause_reports.specs.Equations.{part_named}
 use Rattle.clause_reports.specs.Texts.{context_text}
 use Rattle.core_text.specs.TermText.{term_text}
 use Rattle.elaboration.specs.Refusals.{Owner, owner_of, OfDot, OfSide, OfWith, OfGoal, Refusal, DotMismatch, SelfInType, Elaborating, answers, or_halts, halting, granted, level_too_high, walking}
@@ -33,11 +34,6 @@ pub record Session : Type 0 where
   pub signature : Signature
   pub name : List ℕ
   pub own : ℕ
-
--- the function, or helper k
-abbrev pub part_name : (function : List ℕ) → (k : ℕ) → List ℕ
-part_name function zero = function
-part_name function (suc k) = helper_name function (suc k)
 
 -- The function or a helper before its clauses are walked: its level, its telescope, the terms of its columns and its goal.
 pub record Opened : Type 0 where
@@ -96,18 +92,9 @@ after_dots S owner context (d ∷ dots) next left =
 
 -- ---- scrutinees
 
--- whether the function is mentioned
-abbrev pub mentions : (own : ℕ) → Term → Bool
-mentions own (Const c) = c == own
-mentions own (Pi a b) = mentions own a || mentions own b
-mentions own (Lam a b) = mentions own a || mentions own b
-mentions own (App f a) = mentions own f || mentions own a
-mentions own (Let a t b) = mentions own a || (mentions own t || mentions own b)
-mentions own _ = false
-
 -- a term that does not mention the function, or SelfInType
 abbrev pub without_self : (own : ℕ) → Owner → Term → Result Term Refusal
-without_self own owner t = cond (mentions own t) (Err (SelfInType owner)) (Ok t)
+without_self own owner t = cond (has_constant own t) (Err (SelfInType owner)) (Ok t)
 
 -- the level of a part, where it is not too high
 abbrev pub if_low_level : Signature → Owner → (sort : Term) → Result ℕ Refusal
@@ -188,7 +175,7 @@ abbrev mutual
   pub walk_clause : Session → (k : ℕ) → Opened → (number next : ℕ) → Clause → ℕ → Elaborating Given
   walk_clause s k part number next (Is pats binds right) left =
       let S = s.signature in
-      let name = part_name s.name k in
+      let name = part_named s.name k in
       let owner = owner_of name number in
       and_next (walking S name (own_walk_of S part.tele part.goal part.terms (Is pats binds right) number left)) (λ w rest.
       after_dots S owner w.ctx w.dots (walk_right s k number next owner w right) rest)
