@@ -1,13 +1,10 @@
 -- With more units a search below constructors finds what it found, unless there were too few.
-use Rattle.std.proofs.Common.{◌≡◌, ◌⊎◌, inl, inr, ℕ, zero, suc, ◌+◌, ◌<◌, ◌≤◌, ◌==◌, Bool, true, false, cond, Option, Some, None, option_map, Result, Ok, Err, List, [], ◌∷◌, length, refl, sym, ap, ◌∙◌, subst as transport, arith}
-use Rattle.std.proofs.lemmas.List.Elements.{All-nil, All-append, All-weaker, All-drop, All-head, All-tail}
+use Rattle.std.proofs.Common.{◌≡◌, ◌⊎◌, inl, inr, ℕ, zero, suc, ◌+◌, ◌<◌, ◌≤◌, ◌==◌, Bool, true, false, cond, Option, Some, None, option_map, Result, Ok, Err, List, [], ◌∷◌, refl, sym, ap, ◌∙◌, subst as transport, arith}
+use Rattle.std.proofs.lemmas.List.Elements.{All-weaker, All-head, All-tail}
 use Rattle.std.specs.List.{All}
 use Rattle.theory.specs.Terms.{Term, height}
-use Rattle.theory.specs.Terms.Term.{App}
-use Rattle.theory.specs.Spines.{spine_of}
 use Rattle.theory.specs.Families.{Argument}
 use Rattle.theory.specs.Signatures.{Signature}
-use Rattle.theory.proofs.Lists.{only}
 use Rattle.core_terms.specs.Answers.{Spent, and_then, and_next, on_answer}
 use Rattle.core_terms.specs.declared.stop.Stop.{Stop}
 use Rattle.core_terms.specs.declared.stop.Stop.TheVariants.{Fuel}
@@ -18,26 +15,10 @@ use Rattle.unification.specs.Solutions.{variable_in}
 use Rattle.unification.proofs.Cases.{here-or_below}
 use Rattle.unification.proofs.Constructors.{found}
 use Rattle.unification.proofs.Reducts.{IsHead, whnf-within}
-use Rattle.unification.proofs.SearchLaws.{search-goes_on}
+use Rattle.unification.proofs.SearchLaws.{AreLower, built-lower, search-goes_on}
 use Rattle.unification.proofs.SearchedVariables.{search-finds}
 use Rattle.unification.proofs.SpentUnits.{Leaves, Within, Any, any-within}
 use Rattle.case_trees.proofs.MoreUnits.{Lasts, answers-last, and_next-lasts, cond-lasts, AlwaysLasts, whnf-lasts}
-
--- ---- heights of arguments
-
-abbrev AreLower : ℕ → List Term → Type 0
-AreLower high us = All (λ u. height u < high) us
-
-spine-lower : (t : Term) → AreLower (height t) (spine_of t)
-spine-lower (App f a) =
-    All-append (λ u. height u < height (App f a)) (spine_of f) (a ∷ [])
-    (All-weaker (λ u. height u < height f) (λ u. height u < height (App f a)) (λ u lt. omega arith) (spine_of f) (spine-lower f))
-    (only (λ u. height u < height (App f a)) a (omega arith))
-spine-lower _ = All-nil _
-
-built-lower : (S : Signature) (t : Term) (b : Built) → built_of S t ≡ Some b → AreLower (height t) b.arguments
-built-lower S t b e =
-    transport (AreLower (height t)) (sym (found S t b e).arguments) (All-drop (λ u. height u < height t) (length b.family.parameters) (spine_of t) (spine-lower t))
 
 -- ---- one call after another one, of which something is known
 

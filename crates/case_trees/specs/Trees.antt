@@ -17,7 +17,7 @@ use Rattle.case_trees.specs.Working.{of_columns, work_pairs}
 use Rattle.case_trees.specs.Points.{Point, bounded_point, start_at, moved_point, moved_pairs, bounded_pairs, solution_for, point_keeping}
 use Rattle.case_trees.specs.Origins.{first_origins, origins_behind}
 use Rattle.case_trees.specs.Stops as stop
-use Rattle.case_trees.specs.Stops.{TreeStop, Stopping, or_halts, halting, answers}
+use Rattle.case_trees.specs.Stops.{Stopping, or_halts, halting, answers}
 use Rattle.case_trees.specs.Looking.{Look, Found, Passed, Looked, look_at_type, first_found, Ran, run_all}
 use Rattle.case_trees.specs.OwnWalks.{or_none}
 

@@ -24,10 +24,10 @@ use Rattle.theory.proofs.Lists.{only}
 -- ---- heights of arguments
 
 -- each of the terms is lower than so much
-abbrev AreLower : ℕ → List Term → Type 0
+abbrev pub AreLower : ℕ → List Term → Type 0
 AreLower high us = All (λ u. height u < high) us
 
-spine-lower : (t : Term) → AreLower (height t) (spine_of t)
+pub spine-lower : (t : Term) → AreLower (height t) (spine_of t)
 spine-lower (App f a) =
     All-append (λ u. height u < height (App f a)) (spine_of f) (a ∷ [])
     (All-weaker (λ u. height u < height f) (λ u. height u < height (App f a)) (λ u lt. omega arith) (spine_of f) (spine-lower f))
@@ -38,7 +38,7 @@ height-positive : (t : Term) → 0 < height t
 height-positive (App f a) = omega arith
 height-positive _ = omega arith
 
-built-lower : (S : Signature) (t : Term) (b : Built) → built_of S t ≡ Some b → AreLower (height t) b.arguments
+pub built-lower : (S : Signature) (t : Term) (b : Built) → built_of S t ≡ Some b → AreLower (height t) b.arguments
 built-lower S t b e =
     subst (AreLower (height t)) (sym (found S t b e).arguments) (All-drop (λ u. height u < height t) (length b.family.parameters) (spine_of t) (spine-lower t))
 

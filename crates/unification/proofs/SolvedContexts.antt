@@ -104,7 +104,7 @@ solved-scoped S n p u order done rest i d e h (inr own) le =
 -- ---- the types
 
 -- each type is over what stands before it
-abbrev AreOver : (n p : ℕ) (u : Term) (context : Telescope) (done rest : List ℕ) → Type 0
+abbrev pub AreOver : (n p : ℕ) (u : Term) (context : Telescope) (done rest : List ℕ) → Type 0
 AreOver n p u context done [] = Unit {0}
 AreOver n p u context done (j ∷ rest) =
     ((i : ℕ) → i < j → has_variable (j - (i + 1)) (term_at context j) ≡ true → Stands n p u done i)
@@ -270,7 +270,7 @@ others-over context p u lt free at (suc count) done e others =
               inl (λ same. not-among-head i p (dependants context p) others_too (sym same), others i low others_too)
         ]
 
-order-over : (context : Telescope) (p : ℕ) (u : Term) → p < length context → lacks context p u ≡ true
+pub order-over : (context : Telescope) (p : ℕ) (u : Term) → p < length context → lacks context p u ≡ true
     → AreOver (length context) p u context [] (order_without context p)
 order-over context p u lt free = others-over context p u lt free 0 (length context) [] (omega arith) (λ i low stays. absurd (omega arith))
 

@@ -62,7 +62,7 @@ stands-lift s size d lifts by v = elim (below-or_from v size) [
 ]
 
 -- the term that solves variable p, moved behind the new context
-moved-term : (context : Telescope) (p : ℕ) (u : Term) (d : ℕ) → p < length context
+pub moved-term : (context : Telescope) (p : ℕ) (u : Term) (d : ℕ) → p < length context
     → has_variable (length context - (p + 1)) u ≡ false → length (order_without context p) ≤ d
     → put (reordered (order_without context p)) (length context) d u
     ≡ inst (stands (others (order_without context p) p) (length context) d) u
@@ -71,7 +71,7 @@ moved-term context p u d there free le =
     (λ depth j other. sym (where-other j p _ _ other)) u free
     ∙ put-is_inst (others (order_without context p) p) (length context) d (others-lift context p d le) u
 
-solved-lifts : (context : Telescope) (p : ℕ) (u : Term) → p < length context
+pub solved-lifts : (context : Telescope) (p : ℕ) (u : Term) → p < length context
     → has_variable (length context - (p + 1)) u ≡ false
     → Lifts (solved (length context) (order_without context p) p u) (length context) (length (order_without context p))
 solved-lifts context p u there free by j lt = elim (same-or_not j p) [

@@ -31,15 +31,15 @@ lowered-low : (k : ℕ) (us : List Term) → AreLow us → AreLow (map (lowered 
 lowered-low k [] h = tt
 lowered-low k (u ∷ us) h = (let e = height-ren (λ n. n - k) u in omega (arith, h.0), lowered-low k us h.1)
 
-number-same : (n m : ℕ) → (n == m) ≡ true → n ≡ m
+pub number-same : (n m : ℕ) → (n == m) ≡ true → n ≡ m
 number-same n m e = grind (arith, nat_tests)
 
 -- an answer that is found behind another one, or where a test holds
-next-some : {A B : Type 0} (f : A → Option B) (o : Option A) (y : B) → option_and_then f o ≡ Some y → (x : A) × (o ≡ Some x) × (f x ≡ Some y)
+pub next-some : {A B : Type 0} (f : A → Option B) (o : Option A) (y : B) → option_and_then f o ≡ Some y → (x : A) × (o ≡ Some x) × (f x ≡ Some y)
 next-some f (Some x) y e = (x, refl, e)
 next-some f None y e = absurd (grind arith)
 
-test-some : {A : Type 0} (t : Bool) (x y : A) → cond t (Some x) None ≡ Some y → (t ≡ true) × (x ≡ y)
+pub test-some : {A : Type 0} (t : Bool) (x y : A) → cond t (Some x) None ≡ Some y → (t ≡ true) × (x ≡ y)
 test-some true x y e = (refl, grind arith)
 test-some false x y e = absurd (grind arith)
 

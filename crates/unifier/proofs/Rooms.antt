@@ -128,7 +128,7 @@ bounded-low s e = go (are_low s.context && (are_low_equations s.equations && are
     go true e = refl
     go false e = absurd (cc)
 
-context-room : (S : Signature) (n : ℕ) (tele : Telescope) → IsScopedTelescope S n tele → are_low tele ≡ true → n + length tele ≤ most_levels → AreTypesOver n tele
+pub context-room : (S : Signature) (n : ℕ) (tele : Telescope) → IsScopedTelescope S n tele → are_low tele ≡ true → n + length tele ≤ most_levels → AreTypesOver n tele
 context-room S n [] scoped low few = omega arith
 context-room S n (a ∷ tele) scoped low few =
     let parts = and-parts (is_low a) (are_low tele) low in
