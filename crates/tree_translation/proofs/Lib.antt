@@ -48,7 +48,6 @@ pub mod SeenSolutions
 pub mod SeenSquares
 pub mod SeenSteps
 pub mod SeenTerms
-pub mod SolutionLifts
 mod SplitRows
 pub mod TelescopeInstances
 mod VectorRows

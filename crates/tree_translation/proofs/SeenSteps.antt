@@ -37,7 +37,7 @@ use Rattle.tree_translation.proofs.SeenTerms.{widening, widened-is, behind-is, w
 use Rattle.tree_translation.proofs.SeenEquations.{deleted-instance, injected-instance}
 use Rattle.tree_translation.proofs.SeenOrders.{IsSameVariable, whole-below}
 use Rattle.tree_translation.proofs.SeenSolutions.{moved-all, lacks-it, lacks-there, solved-context_seen, solutions-agree}
-use Rattle.tree_translation.proofs.SolutionLifts.{solved-lifts}
+use Rattle.unification.proofs.SolvedVariables.{solved-lifts}
 
 -- ---- first equations
 
