@@ -1,0 +1,17 @@
+use Rattle.std.proofs.Common.{Ok, map, flat_map, subst}
+use Rattle.core_sig.specs.Meanings.{constructor_of}
+use Rattle.core_terms.specs.Answers.{Gives}
+use Rattle.core_terms.proofs.Builders.{ok_is}
+use Rattle.tree_translation.specs.Needed.{needed_in, constructor_terms}
+use Rattle.draft_needs.proofs.Gathering.{after-first, flat_map_append}
+use Rattle.draft_needs.proofs.arguments.+with_constructors.Goals as goal
+
+pub returns-in_ok-made-in-len1-up : goal.returns-in_ok-made-in-len1-up
+returns-in_ok-made-in-len1-up t c =
+    let f = needed_in c.args.sig.now c.args.draft.now.base c.args.draft.now.names in
+    subst (λ names. Gives (λ names. names) c.with_constructors.result (Ok names))
+    (after-first (λ con. flat_map f (constructor_terms (constructor_of c.args.params con))) (λ cons. flat_map f (flat_map constructor_terms (map (constructor_of c.args.params) cons)))
+    (λ x xs. flat_map_append f (constructor_terms (constructor_of c.args.params x)) (flat_map constructor_terms (map (constructor_of c.args.params) xs)))
+    c.args.made c.in_ok-made-in-len1-up.made c.args.cons.now c.con-item.result c.in-len1-up.len_at_least c.con-item.is
+    (ok_is c.in_ok-made-in-len1-up.ensures))
+    c.with_constructors.ensures
