@@ -1,0 +1,13 @@
+pub mod AlikeTrees
+pub mod BranchCodes
+pub mod BranchForms
+pub mod Chains
+pub mod FollowedRuns
+pub mod GrowingCodes
+pub mod GrowingForms
+pub mod LowTurns
+pub mod NodeCodes
+pub mod NodeForms
+pub mod NodeStates
+pub mod SplitCodes
+pub mod TreeCodes

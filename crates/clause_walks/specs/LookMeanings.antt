@@ -1,0 +1,67 @@
+-- What the code finds of open pairs and of the runs at their variables.
+use Rattle.std.specs.Prelude.{List, map, Result, Ok, Err}
+use Rattle.core_terms.specs.Meanings.{tree_of, tele_of}
+use Rattle.core_sig.specs.Meanings.{family_of}
+use Rattle.unifier.specs.Meanings.{outcome_of}
+use Rattle.case_trees.specs.Problems as problems
+use Rattle.case_trees.specs.Looking as looking
+use Rattle.clause_walks.specs.Reaching as pure
+use Rattle.clause_walks.specs.Stops.{stop_of}
+use Rattle.clause_walks.specs.declared.problems.Member.{Member}
+use Rattle.clause_walks.specs.declared.running.Ran.{Ran}
+use Rattle.clause_walks.specs.declared.running.StuckRun.{StuckRun}
+use Rattle.clause_walks.specs.declared.running.Runs.{Runs}
+use Rattle.clause_walks.specs.declared.running.Runs.TheVariants as runs
+use Rattle.clause_walks.specs.declared.reaching.Looked.{Looked}
+use Rattle.clause_walks.specs.declared.reaching.Reached.{Reached}
+use Rattle.clause_walks.specs.declared.reaching.Reach.{Reach}
+use Rattle.clause_walks.specs.declared.reaching.Reach.TheVariants as reach
+use Rattle.clause_walks.specs.declared.looking.Arrival.{Arrival}
+use Rattle.clause_walks.specs.declared.looking.Arrival.TheVariants as arrival
+
+abbrev pub member_meant : Member → problems.Member
+member_meant m = record {
+  n = m.number;
+  family = family_of m.family.now;
+  parameters = tele_of m.params;
+  indices = tele_of m.indices;
+}
+
+abbrev pub looked_of : Looked → looking.Looked
+looked_of l = record { type = tree_of l.ty; member = member_meant l.member }
+
+abbrev pub stuck_of : StuckRun → looking.StuckRun
+stuck_of r = record { context = tele_of r.ctx; left = tree_of r.left; right = tree_of r.right; why = r.why }
+
+abbrev pub ran_of : Ran → pure.RunEnd
+ran_of r = record { arguments = r.arguments; context = tele_of r.ctx; outcome = outcome_of r.outcome }
+
+abbrev pub ends_of : List Ran → List pure.RunEnd
+ends_of runs = map ran_of runs
+
+abbrev pub runs_of : Runs → looking.Look (List pure.RunEnd)
+runs_of (runs.Found ends) = looking.Found (ends_of ends)
+runs_of (runs.Passed r) = looking.Passed (stuck_of r)
+
+-- a run, or the end of one that is stuck
+abbrev pub sorted_as : Result Ran StuckRun → Result pure.RunEnd looking.StuckRun
+sorted_as (Ok ran) = Ok (ran_of ran)
+sorted_as (Err stuck) = Err (stuck_of stuck)
+
+abbrev pub reached_of : Reached → pure.Reached
+reached_of r = record {
+  variable = r.variable;
+  type = tree_of r.ty;
+  n = r.family;
+  own = r.own;
+  runs = ends_of r.runs;
+}
+
+abbrev pub reach_of : Reach → looking.Look pure.Reached
+reach_of (reach.Found r) = looking.Found (reached_of r)
+reach_of (reach.Passed r) = looking.Passed (stuck_of r)
+
+abbrev pub arrival_of : Arrival → pure.Arrival
+arrival_of (arrival.Found r) = pure.Arrives (reached_of r)
+arrival_of (arrival.Stuck e) = pure.IsStuck (stop_of e)
+arrival_of (arrival.Forced e) = pure.IsForced (stop_of e)
