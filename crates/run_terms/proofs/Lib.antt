@@ -1,0 +1,10 @@
+pub mod EquationTypes
+pub mod FamilyItems
+pub mod Fillings
+pub mod InjectedProofs
+pub mod JoinedEquations
+pub mod MadeTerms
+pub mod MemberKinds
+pub mod RecordNames
+pub mod SolvedStandings
+pub mod Spines

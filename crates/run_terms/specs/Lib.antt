@@ -1,0 +1,11 @@
+pub mod CodeConfusions
+pub mod CodeInjections
+pub mod CodeNaming
+pub mod CodePlaces
+pub mod CodeReplays
+pub mod CodeRuns
+pub mod CodeSolutions
+pub mod ComparisonMeanings
+pub mod Laws
+pub mod Made
+pub mod StandingMeanings
