@@ -1,0 +1,11 @@
+pub mod AfterMentions
+pub mod Answering
+pub mod Entered
+pub mod FoundAmong
+pub mod ListedIn
+pub mod Longer
+pub mod NameParts
+pub mod NamedDrafts
+pub mod TableLookups
+pub mod Unindexed
+pub mod UnmarkedNames

@@ -1,0 +1,19 @@
+//! How drafts enter a signature: first what they mention and the signature lacks, in the same way, and then the draft itself.
+#![tactic(auto)]
+
+mod defining;
+mod entering;
+mod finding;
+mod generated;
+mod generating;
+mod instances;
+pub mod laws;
+mod rejecting;
+mod spelling;
+mod stop;
+mod texts;
+
+pub use entering::enter_draft;
+pub use finding::generated_by;
+pub use generated::Generated;
+pub use stop::ReportStop;
