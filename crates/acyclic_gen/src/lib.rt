@@ -19,5 +19,10 @@ mod statements;
 mod stop;
 
 pub use acyclic_entries::acyclic_entry;
+pub use carrier::{Carrier, carrier_at, carrier_of};
 pub use direct_entries::direct_entry;
+pub use directs::{Direct, directs};
+pub use pairings::{Pairing, component, projection};
+pub use point::{Head, Point, at_level};
+pub use statements::{equal, no_part};
 pub use stop::AcyclicStop;

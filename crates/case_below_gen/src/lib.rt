@@ -27,4 +27,4 @@ pub use courses::only_name;
 pub use left_entries::left_entry;
 pub use paths::below_path;
 pub use sides::{Side, all_entry, rec_entry};
-pub use strict_parts::is_strict_part;
+pub use strict_parts::{constructor_of, is_strict_part};

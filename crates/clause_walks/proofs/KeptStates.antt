@@ -1,11 +1,11 @@
 -- What a walk or a tree goes on with is scoped and low.
-use Rattle.std.proofs.Common.{◌≡◌, ℕ, ◌≤◌, Bool, true, false, ◌&&◌, cond, Option, Some, None, Ok, Err, Result, List, [], ◌∷◌, ◌++◌, length, map, take, refl, sym, ap, ap₂, ◌∙◌, subst as transport}
-use Rattle.std.proofs.lemmas.List.Elements.{All-append, All-cons, All-nil, All-head, All-tail, All-take}
+use Rattle.std.proofs.Common.{◌≡◌, ℕ, ◌≤◌, Bool, true, false, ◌&&◌, cond, Option, Some, None, Ok, Err, Result, List, [], ◌∷◌, ◌++◌, length, take, refl, sym, ap, subst as transport}
+use Rattle.std.proofs.lemmas.List.Elements.{All-append, All-cons, All-head, All-tail, All-take}
 use Rattle.std.specs.List.{All}
 use Rattle.theory.specs.Terms.{Term, Con}
-use Rattle.theory.specs.Telescopes.{Telescope, applied}
+use Rattle.theory.specs.Telescopes.{Telescope}
 use Rattle.theory.specs.Signatures.{Signature}
-use Rattle.theory.specs.SignatureScopes.{IsScoped, IsScopedTelescope, IsScopedSignature}
+use Rattle.theory.specs.SignatureScopes.{IsScoped}
 use Rattle.theory.specs.Substitutions.{fill}
 use Rattle.theory.specs.Eliminators.{no_variable}
 use Rattle.theory.proofs.ScopedTerms.{applied-scoped, head-scoped, sort-scoped}
@@ -18,8 +18,8 @@ use Rattle.unification.specs.Built.{Built, built_of}
 use Rattle.unification.proofs.Constructors.{built-is}
 use Rattle.case_trees.specs.Keeping.{kept_over, unless_built, keep, keep_all}
 use Rattle.case_trees.specs.Kept.{at_arguments}
-use Rattle.case_trees.specs.Pairs.{Pair, Pairs, Waits, Binds, Passes, Keeps, Builds, Clashes, nil, cons, term_in, terms_in, waiting, is_low_pair, are_low_pairs, all_with_terms}
-use Rattle.case_trees.specs.Points.{Point, bounded_point, bounded_pairs, under_solution, moved_point, moved_pairs, solution_for, point_keeping}
+use Rattle.case_trees.specs.Pairs.{Pair, Pairs, Waits, Binds, Passes, Keeps, Builds, Clashes, nil, cons, term_in, terms_in, waiting, are_low_pairs}
+use Rattle.case_trees.specs.Points.{Point, bounded_point, bounded_pairs, moved_point, moved_pairs, solution_for, point_keeping}
 use Rattle.case_trees.specs.Scoped.{IsScopedPoint}
 use Rattle.case_trees.proofs.Arguments.{head-applied}
 use Rattle.case_trees.proofs.ScopedPoints.{built-parts, moved-scoped, all-under-scoped}
@@ -96,7 +96,7 @@ keeping-kept S p q pairs h k e few =
       terms = keep-all-scoped S (length p.context) pairs p.terms k.scoped h.scoped.terms;
     }) e few
 
--- behind a solution
+-- after a solution
 pub moved-kept : (S : Signature) (p q : Point) (context : Telescope) (solution : List Term) → IsKeptPoint S p → IsSolvedIn S context solution
     → Ok q ≡ bounded_point (moved_point p context (solution_for p solution)) → length q.context ≤ most_levels → IsKeptPoint S q
 moved-kept S p q context solution h k e few =
@@ -131,7 +131,7 @@ bounded-pairs-same pairs moved e = by (are_low_pairs pairs) refl e
     by true low e = let same : pairs ≡ moved = cc in (same, transport (λ r. are_low_pairs r ≡ true) same low)
     by false low e = absurd (cc)
 
--- behind a solution, without the terms of wildcards
+-- after a solution, without the terms of wildcards
 pub pairs-moved-kept : (S : Signature) (n : ℕ) (context : Telescope) (solution : List Term) (pairs moved : Pairs) → AreKeptPairs S n pairs → IsSolvedIn S context solution
     → Ok moved ≡ bounded_pairs (forget_all (moved_pairs (take n solution) pairs)) → length context ≤ most_levels → AreKeptPairs S (length context) moved
 pairs-moved-kept S n context solution pairs moved h k e few =

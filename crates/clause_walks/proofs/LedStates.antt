@@ -1,5 +1,5 @@
 -- The states that turns of a walk lead to.
-use Rattle.std.proofs.Common.{◌≡◌, ℕ, ◌≤◌, Ok, List, length, map, sym, ap, subst as transport}
+use Rattle.std.proofs.Common.{◌≡◌, ◌≤◌, Ok, List, length, sym, ap, subst as transport}
 use Rattle.theory.specs.Terms.{Term}
 use Rattle.theory.specs.Telescopes.{Telescope}
 use Rattle.theory.specs.Signatures.{Signature}
@@ -37,7 +37,7 @@ keeping-state S p q pairs h k covers e few =
       covers = transport (λ (r : Point). CoverAll S pairs r.terms) same covers;
     }
 
--- behind a solution
+-- after a solution
 pub solved-state : (S : Signature) (p q : Point) (context : Telescope) (solution : List Term) (pairs moved : Pairs) → IsWalkState S p pairs
     → IsSolvedIn S context solution → Ok q ≡ bounded_point (moved_point p context (solution_for p solution))
     → Ok moved ≡ bounded_pairs (forget_all (moved_pairs (solution_for p solution) pairs)) → length context ≤ most_levels → IsWalkState S q moved

@@ -1,7 +1,7 @@
--- Pairs that the code makes behind a solution are those that are meant.
+-- Pairs that the code makes after a solution are those that are meant.
 use Rattle.std.proofs.Common.{◌≡◌, ◌≤◌, ◌<◌, Bool, true, false, ◌&&◌, cond, Result, Ok, Err, List, [], ◌∷◌, ◌++◌, length, map, drop, get_or, refl, ap, ap₂, ◌∙◌, arith}
 use Rattle.theory.specs.Terms.{Term}
-use Rattle.core_terms.specs.Answers.{and_then, is_low, are_low, bounded, bounded_terms}
+use Rattle.core_terms.specs.Answers.{and_then, is_low, are_low, bounded_terms}
 use Rattle.core_terms.specs.declared.stop.Stop.{Stop}
 use Rattle.core_terms.specs.declared.stop.Stop.TheVariants.{Deep}
 use Rattle.case_trees.specs.Pairs.{Pair, Pairs, Waits, Binds, Passes, Keeps, Builds, Clashes, nil, cons, with_terms, is_low_pair, are_low_pairs}
@@ -43,7 +43,7 @@ mutual
       ∙ both cons (is_low_pair (forget (with_terms (under_solution solution) pair))) (are_low_pairs (forget_all (moved_pairs solution pairs)))
       (forget (with_terms (under_solution solution) pair)) (forget_all (moved_pairs solution pairs))
 
--- behind none
+-- after none
 pub behind-none : (solution : List Term) (pairs : Pairs) → made_behind [] solution pairs ≡ bounded_pairs (forget_all (moved_pairs solution pairs))
 behind-none solution pairs = same (pairs_made solution pairs) ∙ pairs-made solution pairs
   where

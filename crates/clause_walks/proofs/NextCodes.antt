@@ -1,5 +1,5 @@
 -- What the code answers at the parts of a turn.
-use Rattle.std.proofs.Common.{◌≡◌, ℕ, ◌==◌, true, false, Option, Some, None, Result, Ok, Err, IfOk, List, [], ◌∷◌, length, refl, sym, ap, ap₂, ◌∙◌, subst as transport, arith}
+use Rattle.std.proofs.Common.{◌≡◌, ℕ, ◌==◌, true, false, None, Result, Ok, Err, IfOk, List, [], ◌∷◌, length, refl, sym, ap, ap₂, ◌∙◌, subst as transport}
 use Rattle.theory.specs.Terms.{Term}
 use Rattle.theory.specs.Telescopes.{Telescope}
 use Rattle.theory.specs.Signatures.{Signature}
@@ -7,20 +7,17 @@ use Rattle.core_terms.specs.Answers.{Spent, and_next}
 use Rattle.core_terms.specs.CaseTrees.{Step}
 use Rattle.core_terms.specs.Patterns.{Pat}
 use Rattle.core_terms.specs.declared.stop.Stop.{Stop}
-use Rattle.core_terms.proofs.Builders.{ok_is}
 use Rattle.unification.specs.Outcomes.{Outcome, Solved}
 use Rattle.case_trees.specs.Keeping.{keep_all}
 use Rattle.case_trees.specs.Looking.{first_found}
-use Rattle.case_trees.specs.Pairs.{Pairs, all_open}
+use Rattle.case_trees.specs.Pairs.{Pairs}
 use Rattle.case_trees.specs.Points.{Point}
 use Rattle.case_trees.specs.Stops.{TreeStop, Halts, Stopping, or_halts, answers}
 use Rattle.case_trees.specs.Working.{of_columns, work_pairs}
 use Rattle.clause_walks.specs.CodeWalks.{Next, solved_next, own_next, next_reached, next_at}
 use Rattle.clause_walks.specs.Forgetting.{CoverAll}
-use Rattle.clause_walks.specs.OpenPairs.{all_open_of}
 use Rattle.clause_walks.specs.Reaching.{Reached, reach}
 use Rattle.clause_walks.specs.Stops.{Tells, Yields}
-use Rattle.clause_walks.specs.declared.open_pair.OpenPair.{OpenPair}
 use Rattle.clause_walks.specs.declared.stops.TreeStop as code
 use Rattle.clause_walks.proofs.Covering.{worked-covered}
 use Rattle.clause_walks.proofs.TurnParts.{solved-on}

@@ -11,12 +11,12 @@ use Rattle.case_trees.specs.Stops.{TreeStop, Stopping, or_halts, halting, answer
 use Rattle.case_trees.specs.Looking.{first_found}
 use Rattle.case_trees.specs.Working.{of_columns, work_pairs}
 use Rattle.case_trees.specs.OwnWalks.{Turn, Goes, Ends, Walking, walk_at, bounded_walk, behind_turn, at_pairs, unless_dropped, one_turn}
-use Rattle.clause_walks.specs.CodeWalks.{Next, turn_at, ended_at, next_of, next_reached, next_at, next_unless_dropped, turn_of, onward, Ended}
+use Rattle.clause_walks.specs.CodeWalks.{turn_at, next_of, next_reached, next_at, next_unless_dropped, turn_of, onward, Ended}
 use Rattle.clause_walks.specs.Forgetting.{forgetting}
 use Rattle.clause_walks.specs.Reaching.{reach}
 use Rattle.clause_walks.proofs.Reaches.{walk-reaches}
 
--- ---- calls behind calls
+-- ---- calls after calls
 
 next-behind : {A B C : Type 0} (r : Result A TreeStop) (left : ℕ) (go : A → ℕ → Stopping B) (more : B → ℕ → Stopping C)
     → and_next (on_answer r left go) more ≡ on_answer r left (λ a rest. and_next (go a rest) more)

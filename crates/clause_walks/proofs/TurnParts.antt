@@ -1,7 +1,6 @@
 -- The parts of a turn, as the code makes them.
-use Rattle.std.proofs.Common.{◌≡◌, ℕ, ◌≤◌, Bool, true, false, ◌&&◌, cond, Option, Result, Ok, Err, List, [], ◌∷◌, map, refl, sym, ap, ap₂, ◌∙◌, subst as transport, arith}
+use Rattle.std.proofs.Common.{◌≡◌, ℕ, ◌≤◌, Bool, true, false, ◌&&◌, cond, Result, Ok, Err, List, map, refl, ap, ap₂, arith}
 use Rattle.std.proofs.lemmas.List.Elements.{All-weaker}
-use Rattle.std.specs.List.{All}
 use Rattle.theory.specs.Terms.{Term, free_of}
 use Rattle.theory.specs.Telescopes.{Telescope}
 use Rattle.theory.specs.Signatures.{Signature}
@@ -12,11 +11,11 @@ use Rattle.core_terms.specs.declared.stop.Stop.TheVariants.{Deep}
 use Rattle.case_trees.specs.OwnWalks as walk
 use Rattle.case_trees.specs.OwnWalks.{Turn, or_none, solved_pairs}
 use Rattle.case_trees.specs.Pairs.{Pair, Pairs, Waits, Binds, Passes, Keeps, Builds, Clashes, nil, cons, all_bound, is_low_pair, are_low_pairs}
-use Rattle.case_trees.specs.Points.{Point, bounded_point, bounded_pairs, moved_point, moved_pairs, solution_for}
-use Rattle.case_trees.specs.Stops.{TreeStop, or_halts}
+use Rattle.case_trees.specs.Points.{Point, bounded_point, moved_point, moved_pairs, solution_for}
+use Rattle.case_trees.specs.Stops.{or_halts}
 use Rattle.case_trees.proofs.ScopedWalks.{all-bound-scoped}
 use Rattle.unifier.specs.Conditions.{most_levels}
-use Rattle.clause_walks.specs.CodeWalks.{Next, GoesOn, next_of, solved_next}
+use Rattle.clause_walks.specs.CodeWalks.{GoesOn, next_of, solved_next}
 use Rattle.clause_walks.specs.Forgetting.{forget, forget_all}
 use Rattle.clause_walks.specs.PairConditions.{AreKeptPairs}
 use Rattle.clause_walks.specs.PointConditions.{AreOverSo}
@@ -35,7 +34,7 @@ mutual
   forget-all-low nil = refl
   forget-all-low (cons pair pairs) = ap₂ ◌&&◌ (forget-low pair) (forget-all-low pairs)
 
--- the state behind a solution
+-- the state after a solution
 pub solved-on : (p : Point) (pairs : Pairs) (context : Telescope) (solution : List Term)
     → or_halts (solved_next p pairs context solution) ≡ and_then (or_halts (solved_pairs p pairs context (solution_for p solution))) (next_of p pairs)
 solved-on p pairs context solution =

@@ -1,6 +1,5 @@
 -- What the parts of a turn are asked about.
-use Rattle.std.proofs.Common.{◌≡◌, ℕ, ◌+◌, ◌≤◌, Bool, true, false, ◌&&◌, Option, Some, None, List, [], ◌∷◌, refl, ap, sym, ◌∙◌, subst as transport}
-use Rattle.std.specs.List.{All}
+use Rattle.std.proofs.Common.{◌≡◌, ℕ, ◌+◌, ◌≤◌, true, Option, Some, None, List, [], ◌∷◌, ap, sym, subst as transport}
 use Rattle.theory.specs.Terms.{Term, height}
 use Rattle.theory.specs.Signatures.{Signature}
 use Rattle.theory.specs.SignatureScopes.{IsScoped}
@@ -8,7 +7,7 @@ use Rattle.core_terms.specs.Answers.{is_low, are_low}
 use Rattle.core_terms.specs.Patterns.{Pat}
 use Rattle.unification.specs.Outcomes.{Outcome, Solved, Absurd, Stuck}
 use Rattle.unification.specs.ScopedStates.{IsScopedOutcome}
-use Rattle.case_trees.specs.Pairs.{Pair, Pairs, Waits, Binds, Passes, Keeps, Builds, Clashes, nil, cons, or_later, clash_in, first_clash, all_open, terms_in, is_low_pair, are_low_pairs}
+use Rattle.case_trees.specs.Pairs.{Pair, Pairs, Waits, Binds, Passes, Keeps, Builds, Clashes, nil, cons, or_later, clash_in, first_clash, all_open, is_low_pair, are_low_pairs}
 use Rattle.case_trees.proofs.Looks.{AllPairs}
 use Rattle.case_trees.proofs.WalkStanding.{all-open-scoped}
 use Rattle.unifier.proofs.LowTerms.{and-parts, low-height}

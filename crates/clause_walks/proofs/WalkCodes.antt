@@ -1,5 +1,5 @@
 -- A walk from a state on, by what its turns of the code come to.
-use Rattle.std.proofs.Common.{◌≡◌, ℕ, zero, suc, Ok, Err, List, refl, sym, ap, ◌∙◌, subst as transport}
+use Rattle.std.proofs.Common.{◌≡◌, ℕ, zero, suc, Ok, Err, sym, ap, ◌∙◌}
 use Rattle.theory.specs.Signatures.{Signature}
 use Rattle.core_terms.specs.Answers.{and_next}
 use Rattle.core_terms.specs.CaseTrees.{Walk}

@@ -31,7 +31,7 @@ dots_of dots = map dot_of dots
 abbrev pub dot_made : (binds : List Term) → (Term × Term) → Result (Term × Term) Stop
 dot_made binds d = and_then (bounded (under_solution binds d.0)) (λ put. Ok (put, d.1))
 
--- dots behind those that are made, or Deep where what is put in one of them is too high
+-- dots after those that are made, or Deep where what is put in one of them is too high
 abbrev pub dots_behind : List (Term × Term) → List (Term × Term) → Result (List (Term × Term)) Stop
 dots_behind made dots = cond (are_low (map (λ d. d.0) dots)) (Ok (made ++ dots)) (Err Deep)
 

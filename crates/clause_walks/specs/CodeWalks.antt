@@ -1,5 +1,5 @@
 -- What a turn of a walk comes to, as the code makes it.
-use Rattle.std.specs.Prelude.{ℕ, zero, suc, ◌+◌, true, Option, Some, None, List, [], ◌∷◌, Result, Ok, Err}
+use Rattle.std.specs.Prelude.{ℕ, ◌+◌, true, Option, Some, None, List, [], ◌∷◌, Result, Ok, Err}
 use Rattle.theory.specs.Terms.{Term}
 use Rattle.theory.specs.Telescopes.{Telescope}
 use Rattle.theory.specs.Signatures.{Signature}

@@ -1,5 +1,5 @@
--- Pairs behind the solution of a problem, as the code makes them: without the terms of wildcards, or Deep where a term is too high.
-use Rattle.std.specs.Prelude.{List, map, Result, Ok, Err}
+-- Pairs after the solution of a problem, as the code makes them: without the terms of wildcards, or Deep where a term is too high.
+use Rattle.std.specs.Prelude.{List, map, Result, Ok}
 use Rattle.theory.specs.Terms.{Term, Sort}
 use Rattle.core_terms.specs.Answers.{and_then, bounded, bounded_terms}
 use Rattle.core_terms.specs.declared.stop.Stop.{Stop}
@@ -23,6 +23,6 @@ abbrev mutual
   pairs_made solution (cons pair pairs) =
       and_then (pair_made solution pair) (λ first. and_then (pairs_made solution pairs) (λ rest. Ok (cons first rest)))
 
--- the same behind pairs that are made
+-- the same after pairs that are made
 abbrev pub made_behind : List Pair → (solution : List Term) → Pairs → Result Pairs Stop
 made_behind made solution pairs = and_then (pairs_made solution pairs) (λ rest. Ok (put_before made rest))

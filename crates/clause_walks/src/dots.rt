@@ -55,7 +55,7 @@ fn walked_dot(alloc: Global, binds: &[Term], dot: Forced) -> Result<(Term, Term)
     Ok((put, copy_whole(alloc, dot.term)?))
 }
 
-/// The dots behind those that are made, or Deep; those that mention a variable without a term are not kept.
+/// The dots after those that are made, or Deep; those that mention a variable without a term are not kept.
 fn walked_onto(
     alloc: Global,
     bound: &[Option<&Term>],

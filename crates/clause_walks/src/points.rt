@@ -11,7 +11,7 @@ use std::alloc::Global;
 use unifier::{are_low, variables};
 
 /// How many variables a context may have; with more, memory is short.
-const MOST_LEVELS: usize = 2147400000;
+pub(crate) const MOST_LEVELS: usize = 2147400000;
 
 /// Where a walk or a tree stands: the context and the goal there, a term of the context for each variable of the context that was
 /// given, and the terms of the columns, with what clauses were compared with.

@@ -27,7 +27,7 @@ use crate::keeping::point_keeping;
 use crate::looking::first_found;
 use crate::moving::moved_pairs;
 use crate::parts::{all_open, first_clash};
-use crate::points::{moved_point, solution_for};
+use crate::points::{MOST_LEVELS, moved_point, solution_for};
 use crate::reaching::Reached;
 use crate::running::Ran;
 use crate::working::work_pairs;
@@ -36,9 +36,6 @@ use core_sig::Signature;
 use core_terms::{Items, Pat, Stop, Tele, Term, Units, Walk, copy_tele, copy_whole};
 use std::alloc::Global;
 use unifier::{Outcome, built_of};
-
-/// How many variables a context may have; with more, memory is short.
-const MOST_LEVELS: usize = 2147400000;
 
 /// What a turn comes to: the walk goes on in a new state, or has ended.
 #[derive(Debug, Drop)]

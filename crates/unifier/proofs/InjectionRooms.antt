@@ -74,7 +74,7 @@ proofs-made n number f c ps us vs made e =
     last-of (bounded_terms (constructor_terms n number ps' c)) last made
     (last-of (bounded_items (family_items n f ps')) terms made (last-of (bounded_items (argument_items n ps' c)) family made e))
 
-joined-same : (s : State) (g n number : ℕ) (f : Family) (c : Constructor) (ps us vs : List Term) (X : List Item) (types terms proofs : List Term)
+pub joined-same : (s : State) (g n number : ℕ) (f : Family) (c : Constructor) (ps us vs : List Term) (X : List Item) (types terms proofs : List Term)
     → X ≡ argument_items n ps c → types ≡ equations X us vs → length types ≡ length c.arguments
     → terms ≡ constructor_terms n number ps c → proofs ≡ group_proofs n number f c ps us vs
     → equations_joined s g X types us vs terms proofs ≡ injected_equations s g n number f c ps us vs
