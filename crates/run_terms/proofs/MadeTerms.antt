@@ -19,30 +19,30 @@ use Rattle.run_terms.specs.Laws.{ConflictIsTerm, InjectIsTerm}
 use Rattle.run_terms.specs.Made.{equations_made, reflexivities_made}
 
 -- an answer that is tested first
-if-low : {A : Type 0} (b : Bool) (a x : A) → ◌≡◌ {A = Result A Stop} (cond b (Ok a) (Err Deep)) (Ok x) → x ≡ a
+pub if-low : {A : Type 0} (b : Bool) (a x : A) → ◌≡◌ {A = Result A Stop} (cond b (Ok a) (Err Deep)) (Ok x) → x ≡ a
 if-low true a x e = sym (ok_is e)
 if-low false a x e = absurd (cc)
 
 -- an answer after another one
-if-both : {A B : Type 0} (r : Result A Stop) (go : A → Result B Stop) (x : B) → and_then r go ≡ Ok x → (a : A) × (r ≡ Ok a) × (go a ≡ Ok x)
+pub if-both : {A B : Type 0} (r : Result A Stop) (go : A → Result B Stop) (x : B) → and_then r go ≡ Ok x → (a : A) × (r ≡ Ok a) × (go a ≡ Ok x)
 if-both (Ok a) go x e = (a, refl, e)
 if-both (Err z) go x e = absurd (cc)
 
-made-equations : (X : List Item) (us vs types : List Term) → equations_made X us vs ≡ Ok types → types ≡ equations X us vs
+pub made-equations : (X : List Item) (us vs types : List Term) → equations_made X us vs ≡ Ok types → types ≡ equations X us vs
 made-equations X us vs types e =
     if-low (nat_le (length X) 1000 && (are_low_items X && (are_low us && are_low vs))) (equations X us vs) types e
 
-made-reflexivities : (X : List Item) (us refls : List Term) → reflexivities_made X us ≡ Ok refls → refls ≡ reflexivities X us
+pub made-reflexivities : (X : List Item) (us refls : List Term) → reflexivities_made X us ≡ Ok refls → refls ≡ reflexivities X us
 made-reflexivities X us refls e = if-low (nat_le (length X) 1000 && (are_low_items X && are_low us)) (reflexivities X us) refls e
 
-made-compared : (s : Standing) (c : Comparison) (types : List Term) → compared_made s c ≡ Ok types → types ≡ compared_equations s c
+pub made-compared : (s : Standing) (c : Comparison) (types : List Term) → compared_made s c ≡ Ok types → types ≡ compared_equations s c
 made-compared s c types e =
     let both = if-both (member_equations c) (λ types. Ok (placed_telescope s.variables (inside s) types)) types e in
     sym (ok_is both.2)
     ∙ ap (placed_telescope s.variables (inside s))
     (made-equations (family_items c.n c.family c.parameters) (left_member c) (right_member c) both.0 both.1)
 
-made-group : (s : Standing) (c : Comparison) (k : ℕ) (before : List Term) → before_group c k ≡ Ok before → group_with s before k ≡ group_equations s c k
+pub made-group : (s : Standing) (c : Comparison) (k : ℕ) (before : List Term) → before_group c k ≡ Ok before → group_with s before k ≡ group_equations s c k
 made-group s c zero before e =
     ap (λ ts. group_with s ts 0)
     (made-reflexivities (take (length c.family.indices) (family_items c.n c.family c.parameters)) c.indices before e)

@@ -39,7 +39,7 @@ pub struct Comparison<'a> {
 }
 
 /// The constructor with all its arguments that a term is.
-fn member_at<'a>(alloc: Global, sig: &'a Signature, t: &Term) -> Result<Option<Member<'a>>, Stop>
+pub fn member_at<'a>(alloc: Global, sig: &'a Signature, t: &Term) -> Result<Option<Member<'a>>, Stop>
     requires { tree.height (tree_of t.now) ≤ 2000 }
     ensures answer { Gives (option_map member_of) result (Ok (built.built_of sig.now (tree_of t.now))) }
     ensures kinds { IfOk result (λ found. IfSome found HasMemberKinds) }
@@ -60,7 +60,7 @@ fn member_at<'a>(alloc: Global, sig: &'a Signature, t: &Term) -> Result<Option<M
 
 /// Terms, followed by others.
 #[tactic(auto, using(tele_eq::proofs::Growing::growing))]
-fn with_terms(alloc: Global, mut made: Tele, terms: &[Term]) -> Result<Tele, Stop>
+pub fn with_terms(alloc: Global, mut made: Tele, terms: &[Term]) -> Result<Tele, Stop>
     ensures { Gives tele_of result (Ok (tele_of made ++ tele_of terms.now)) }
 {
     match terms {
@@ -73,7 +73,7 @@ fn with_terms(alloc: Global, mut made: Tele, terms: &[Term]) -> Result<Tele, Sto
 }
 
 /// Two lists of terms, one after the other.
-fn terms_joined(alloc: Global, first: &[Term], second: &[Term]) -> Result<Tele, Stop>
+pub fn terms_joined(alloc: Global, first: &[Term], second: &[Term]) -> Result<Tele, Stop>
     ensures { Gives tele_of result (Ok (tele_of first.now ++ tele_of second.now)) }
 {
     with_terms(alloc, copy_tele(alloc, first)?, second)

@@ -24,7 +24,7 @@ pub and_then-ok : {A B : Type 0} (first : Result A Stop) (go : A → Result B St
 and_then-ok (Ok a) go b h = record { answer = a; is = refl; goes = h }
 and_then-ok (Err e) go b h = absurd (cc)
 
-bounded-ok : (t u : Term) → bounded t ≡ Ok u → u ≡ t
+pub bounded-ok : (t u : Term) → bounded t ≡ Ok u → u ≡ t
 bounded-ok t u h = by (is_low t) h
   where
     by : (b : Bool) → (let answer : Result Term Stop = cond b (Ok t) (Err Deep) in answer ≡ Ok u) → u ≡ t
@@ -42,17 +42,17 @@ pub and_then-deep : {A B : Type 0} (first : Result A Stop) (go : A → Result B 
 and_then-deep (Ok a) go f g = g a
 and_then-deep (Err e) go f g = λ e' h. f e' (cc)
 
-ok-deep : {A : Type 0} (a : A) → IsDeepAlone (Ok a)
+pub ok-deep : {A : Type 0} (a : A) → IsDeepAlone (Ok a)
 ok-deep a e h = absurd (cc)
 
-bounded-deep : (t : Term) → IsDeepAlone (bounded t)
+pub bounded-deep : (t : Term) → IsDeepAlone (bounded t)
 bounded-deep t e h = by (is_low t) h
   where
     by : (b : Bool) → (let answer : Result Term Stop = cond b (Ok t) (Err Deep) in answer ≡ Err e) → e ≡ Deep
     by true k = absurd (cc)
     by false k = cc
 
-drafted-deep : (name : List ℕ) (base : ℕ) (names : List (List ℕ)) (type term : Term) → IsDeepAlone (drafted name base names type term)
+pub drafted-deep : (name : List ℕ) (base : ℕ) (names : List (List ℕ)) (type term : Term) → IsDeepAlone (drafted name base names type term)
 drafted-deep name base names type term =
     and_then-deep (bounded type) _ (bounded-deep type) (λ t. and_then-deep (bounded term) _ (bounded-deep term) (λ u. ok-deep _))
 
@@ -64,7 +64,7 @@ pub record IsDrafted (name : List ℕ) (base : ℕ) (names : List (List ℕ)) (t
   pub same_base : d.base ≡ base
   pub same_names : d.names ≡ names
 
-drafted-is : (name : List ℕ) (base : ℕ) (names : List (List ℕ)) (type term : Term) (d : Draft) → drafted name base names type term ≡ Ok d
+pub drafted-is : (name : List ℕ) (base : ℕ) (names : List (List ℕ)) (type term : Term) (d : Draft) → drafted name base names type term ≡ Ok d
     → IsDrafted name base names type term d
 drafted-is name base names type term d h =
     let first = and_then-ok (bounded type) _ d h in
@@ -123,7 +123,7 @@ pub record IsFirst (first : Result Draft Stop) (others : Result (List Draft) Sto
   pub goes : others ≡ Ok rest
   pub whole : all ≡ d ∷ rest
 
-more-is : (first : Result Draft Stop) (others : Result (List Draft) Stop) (all : List Draft) → and_more first others ≡ Ok all → IsFirst first others all
+pub more-is : (first : Result Draft Stop) (others : Result (List Draft) Stop) (all : List Draft) → and_more first others ≡ Ok all → IsFirst first others all
 more-is first others all h =
     let one = and_then-ok first _ all h in
     let two = and_then-ok others _ all one.goes in
@@ -138,7 +138,7 @@ pub record HasHelpers (S : Signature) (plan : Plan) (r : Option Recursion) (k : 
   pub goes : others ≡ Ok rest
   pub whole : all ≡ helpers ++ rest
 
-helpers-are : (S : Signature) (plan : Plan) (r : Option Recursion) (k : ℕ) (parts : List Part) (others : Result (List Draft) Stop) (all : List Draft)
+pub helpers-are : (S : Signature) (plan : Plan) (r : Option Recursion) (k : ℕ) (parts : List Part) (others : Result (List Draft) Stop) (all : List Draft)
     → helpers_before S plan r k parts others ≡ Ok all → HasHelpers S plan r k parts others all
 helpers-are S plan r k [] others all h = record { helpers = []; rest = all; are = AreHelpers.none; goes = h; whole = refl }
 helpers-are S plan r k (part ∷ parts) others all h =
@@ -152,7 +152,7 @@ helpers-are S plan r k (part ∷ parts) others all h =
       whole = inner.whole ∙ (ap (λ rest. inner.helpers ++ rest) first.whole ∙ sym (append_assoc inner.helpers (first.d ∷ []) first.rest));
     }
 
-last-is : (first : Result Draft Stop) (all : List Draft) → and_more first (Ok []) ≡ Ok all → (d : Draft) × (first ≡ Ok d) × (all ≡ d ∷ [])
+pub last-is : (first : Result Draft Stop) (all : List Draft) → and_more first (Ok []) ≡ Ok all → (d : Draft) × (first ≡ Ok d) × (all ≡ d ∷ [])
 last-is first all h =
     let one = more-is first (Ok []) all h in
     let empty : [] ≡ one.rest = cc (one.goes) in
@@ -175,23 +175,23 @@ entries-are S plan (Some r) all h =
 
 -- ---- refusals of lists
 
-more-deep : (first : Result Draft Stop) (others : Result (List Draft) Stop) → IsDeepAlone first → IsDeepAlone others → IsDeepAlone (and_more first others)
+pub more-deep : (first : Result Draft Stop) (others : Result (List Draft) Stop) → IsDeepAlone first → IsDeepAlone others → IsDeepAlone (and_more first others)
 more-deep first others f g = and_then-deep first _ f (λ d. and_then-deep others _ g (λ ds. ok-deep _))
 
-helper-deep : (S : Signature) (plan : Plan) (r : Option Recursion) (k : ℕ) (part : Part) → IsDeepAlone (helper_entry S plan r k part)
+pub helper-deep : (S : Signature) (plan : Plan) (r : Option Recursion) (k : ℕ) (part : Part) → IsDeepAlone (helper_entry S plan r k part)
 helper-deep S plan r k part = search drafted-deep
 
-function-deep : (S : Signature) (plan : Plan) (r : Option Recursion) → IsDeepAlone (function_entry S plan r)
+pub function-deep : (S : Signature) (plan : Plan) (r : Option Recursion) → IsDeepAlone (function_entry S plan r)
 function-deep S plan None = search drafted-deep
 function-deep S plan (Some r) = search drafted-deep
 
-motive-deep : (plan : Plan) (r : Recursion) → IsDeepAlone (motive_entry plan r)
+pub motive-deep : (plan : Plan) (r : Recursion) → IsDeepAlone (motive_entry plan r)
 motive-deep plan r = search drafted-deep
 
-step-deep : (S : Signature) (plan : Plan) (r : Recursion) → IsDeepAlone (step_entry S plan r)
+pub step-deep : (S : Signature) (plan : Plan) (r : Recursion) → IsDeepAlone (step_entry S plan r)
 step-deep S plan r = search drafted-deep
 
-helpers-deep : (S : Signature) (plan : Plan) (r : Option Recursion) (k : ℕ) (parts : List Part) (others : Result (List Draft) Stop) → IsDeepAlone others
+pub helpers-deep : (S : Signature) (plan : Plan) (r : Option Recursion) (k : ℕ) (parts : List Part) (others : Result (List Draft) Stop) → IsDeepAlone others
     → IsDeepAlone (helpers_before S plan r k parts others)
 helpers-deep S plan r k [] others h = h
 helpers-deep S plan r k (part ∷ parts) others h =

@@ -25,7 +25,7 @@ only_deep S plan e h = entries-deep S plan (recursion_of S plan) e h
 
 -- ---- each entry
 
-each-helper : (P : Draft → Type 0) (S : Signature) (plan : Plan) (r : Option Recursion) (k : ℕ) (parts : List Part) (helpers : List Draft)
+pub each-helper : (P : Draft → Type 0) (S : Signature) (plan : Plan) (r : Option Recursion) (k : ℕ) (parts : List Part) (helpers : List Draft)
     → ((k : ℕ) (part : Part) (d : Draft) → helper_entry S plan r k part ≡ Ok d → P d)
     → AreHelpers S plan r k parts helpers → All P helpers
 each-helper P S plan r k [] [] holds AreHelpers.none = λ i d within. absurd (omega arith)
@@ -56,32 +56,32 @@ pub record IsMade (name : List ℕ) (base : ℕ) (d : Draft) : Type 0 where
   pub is : IsDrafted name base (map (λ i. get_or table i []) (places_of base t u))
       (renumbered (number_among base (places_of base t u)) t) (renumbered (number_among base (places_of base t u)) u) d
 
-made : (name : List ℕ) (base : ℕ) (candidates : List (List ℕ)) (type term : Naming → Term) (d : Draft)
+pub made : (name : List ℕ) (base : ℕ) (candidates : List (List ℕ)) (type term : Naming → Term) (d : Draft)
     → drafted_in_order name base candidates type term ≡ Ok d → IsMade name base d
 made name base candidates type term d h =
     let table = with_names [] candidates in
     record { table = table; t = type (number_in base table); u = term (number_in base table); is = in_order-is name base candidates type term d h }
 
-motive-made : (plan : Plan) (r : Recursion) (d : Draft) → motive_entry plan r ≡ Ok d → IsMade (motive_name plan.name) plan.base d
+pub motive-made : (plan : Plan) (r : Recursion) (d : Draft) → motive_entry plan r ≡ Ok d → IsMade (motive_name plan.name) plan.base d
 motive-made plan r d h = search made
 
-step-made : (S : Signature) (plan : Plan) (r : Recursion) (d : Draft) → step_entry S plan r ≡ Ok d → IsMade (step_name plan.name) plan.base d
+pub step-made : (S : Signature) (plan : Plan) (r : Recursion) (d : Draft) → step_entry S plan r ≡ Ok d → IsMade (step_name plan.name) plan.base d
 step-made S plan r d h = search made
 
-helper-made : (S : Signature) (plan : Plan) (r : Option Recursion) (k : ℕ) (part : Part) (d : Draft) → helper_entry S plan r k part ≡ Ok d
+pub helper-made : (S : Signature) (plan : Plan) (r : Option Recursion) (k : ℕ) (part : Part) (d : Draft) → helper_entry S plan r k part ≡ Ok d
     → IsMade (helper_name plan.name k) plan.base d
 helper-made S plan r k part d h = search made
 
-function-made : (S : Signature) (plan : Plan) (r : Option Recursion) (d : Draft) → function_entry S plan r ≡ Ok d → IsMade plan.name plan.base d
+pub function-made : (S : Signature) (plan : Plan) (r : Option Recursion) (d : Draft) → function_entry S plan r ≡ Ok d → IsMade plan.name plan.base d
 function-made S plan None d h = search made
 function-made S plan (Some r) d h = search made
 
-made-name : (name : List ℕ) (base : ℕ) (d : Draft) → IsMade name base d → name_of d ≡ name
+pub made-name : (name : List ℕ) (base : ℕ) (d : Draft) → IsMade name base d → name_of d ≡ name
 made-name name base d m = ap name_in m.is.entry
 
 -- ---- the order of names
 
-ordered : (name : List ℕ) (base : ℕ) (d : Draft) → IsMade name base d → once [] (mentioned_by d) ≡ levels_from 0 (length d.names)
+pub ordered : (name : List ℕ) (base : ℕ) (d : Draft) → IsMade name base d → once [] (mentioned_by d) ≡ levels_from 0 (length d.names)
 ordered name base d m =
     let places = places_of base m.t m.u in
     let a = mentions base m.t in
@@ -105,23 +105,23 @@ names_in_order-are S plan drafts planned h =
 -- ---- the names of entries
 
 -- the names of so many helpers from number k on, the highest number first
-down_from : (function : List ℕ) (k count : ℕ) → List (List ℕ)
+pub down_from : (function : List ℕ) (k count : ℕ) → List (List ℕ)
 down_from function k zero = []
 down_from function k (suc count) = helper_name function (k + count) ∷ down_from function k count
 
-down-more : (function : List ℕ) (k count : ℕ) → down_from function (k + 1) count ++ helper_name function k ∷ [] ≡ down_from function k (suc count)
+pub down-more : (function : List ℕ) (k count : ℕ) → down_from function (k + 1) count ++ helper_name function k ∷ [] ≡ down_from function k (suc count)
 unfolding down_from
 down-more function k zero = let e : k ≡ k + zero = omega arith in ap (λ n. helper_name function n ∷ []) e
 down-more function k (suc count) =
     let e : k + 1 + count ≡ k + suc count = omega arith in ap₂ ◌∷◌ (ap (helper_name function) e) (down-more function k count)
 
-down-is : (function : List ℕ) (count : ℕ) → down_from function 1 count ≡ helpers_down function count
+pub down-is : (function : List ℕ) (count : ℕ) → down_from function 1 count ≡ helpers_down function count
 unfolding down_from
 down-is function zero = refl
 down-is function (suc count) =
     let e : 1 + count ≡ suc count = omega arith in ap₂ ◌∷◌ (ap (helper_name function) e) (down-is function count)
 
-helpers-named : (S : Signature) (plan : Plan) (r : Option Recursion) (k : ℕ) (parts : List Part) (helpers : List Draft)
+pub helpers-named : (S : Signature) (plan : Plan) (r : Option Recursion) (k : ℕ) (parts : List Part) (helpers : List Draft)
     → AreHelpers S plan r k parts helpers → map name_of helpers ≡ down_from plan.name k (length parts)
 unfolding down_from
 helpers-named S plan r k [] [] AreHelpers.none = refl
@@ -132,7 +132,7 @@ helpers-named S plan r k (part ∷ parts) all (AreHelpers.more {helpers = helper
     (made-name (helper_name plan.name k) plan.base d (helper-made S plan r k part d is))
     ∙ down-more plan.name k (length parts))
 
-all-named : (S : Signature) (plan : Plan) (r : Option Recursion) (all : List Draft) → AreEntries S plan r all → map name_of all ≡ names_in_order plan r
+pub all-named : (S : Signature) (plan : Plan) (r : Option Recursion) (all : List Draft) → AreEntries S plan r all → map name_of all ≡ names_in_order plan r
 all-named S plan None all (AreEntries.alone {helpers = helpers} {f = d} are is) =
     map-append name_of helpers (d ∷ [])
     ∙ ap₂ (λ names name. names ++ name ∷ [])

@@ -10,30 +10,30 @@ use Rattle.core_sig.specs.DraftScopes.{IsDraftTerm, HasDraftEntries}
 use Rattle.core_sig.specs.EntryTerms.{EachInTelescope, EachInArgument, EachInArguments, EachInConstructor, EachTerm}
 use Rattle.tree_translation.specs.Needed.{entry_terms, argument_terms, constructor_terms}
 
-telescope-terms : (S : Signature) (base count n : ℕ) (tele : Telescope) → EachInTelescope (IsDraftTerm S base count) n tele → All (HasDraftEntries S base count) tele
+pub telescope-terms : (S : Signature) (base count n : ℕ) (tele : Telescope) → EachInTelescope (IsDraftTerm S base count) n tele → All (HasDraftEntries S base count) tele
 telescope-terms S base count n [] h = All-nil (HasDraftEntries S base count)
 telescope-terms S base count n (a ∷ tele) h =
     All-cons (HasDraftEntries S base count) a tele h.0.entries (telescope-terms S base count (n + 1) tele h.1)
 
-each-terms : (S : Signature) (base count n : ℕ) (terms : List Term) → All (IsDraftTerm S base count n) terms → All (HasDraftEntries S base count) terms
+pub each-terms : (S : Signature) (base count n : ℕ) (terms : List Term) → All (IsDraftTerm S base count n) terms → All (HasDraftEntries S base count) terms
 each-terms S base count n [] h = All-nil (HasDraftEntries S base count)
 each-terms S base count n (t ∷ terms) h =
     All-cons (HasDraftEntries S base count) t terms (All-head (IsDraftTerm S base count n) t terms h).entries
     (each-terms S base count n terms (All-tail (IsDraftTerm S base count n) t terms h))
 
-argument-terms : (S : Signature) (base count n : ℕ) (a : Argument) → EachInArgument (IsDraftTerm S base count) n a → All (HasDraftEntries S base count) (argument_terms a)
+pub argument-terms : (S : Signature) (base count n : ℕ) (a : Argument) → EachInArgument (IsDraftTerm S base count) n a → All (HasDraftEntries S base count) (argument_terms a)
 argument-terms S base count n (Plain type level) h = only (HasDraftEntries S base count) type h.entries
 argument-terms S base count n (Recursive inner targets level) h =
     All-append (HasDraftEntries S base count) inner targets (telescope-terms S base count n inner h.0) (each-terms S base count (n + length inner) targets h.1)
 
-arguments-terms : (S : Signature) (base count n : ℕ) (arguments : List Argument) → EachInArguments (IsDraftTerm S base count) n arguments
+pub arguments-terms : (S : Signature) (base count n : ℕ) (arguments : List Argument) → EachInArguments (IsDraftTerm S base count) n arguments
     → All (HasDraftEntries S base count) (flat_map argument_terms arguments)
 arguments-terms S base count n [] h = All-nil (HasDraftEntries S base count)
 arguments-terms S base count n (a ∷ arguments) h =
     All-append (HasDraftEntries S base count) (argument_terms a) (flat_map argument_terms arguments) (argument-terms S base count n a h.0)
     (arguments-terms S base count (n + 1) arguments h.1)
 
-constructors-terms : (S : Signature) (base count n : ℕ) (constructors : List Constructor) → All (EachInConstructor (IsDraftTerm S base count) n) constructors
+pub constructors-terms : (S : Signature) (base count n : ℕ) (constructors : List Constructor) → All (EachInConstructor (IsDraftTerm S base count) n) constructors
     → All (HasDraftEntries S base count) (flat_map constructor_terms constructors)
 constructors-terms S base count n [] h = All-nil (HasDraftEntries S base count)
 constructors-terms S base count n (c ∷ constructors) h =

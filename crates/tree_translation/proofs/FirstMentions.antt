@@ -14,7 +14,7 @@ use Rattle.tree_translation.specs.Standings.{levels_from}
 -- ---- terms that are numbered anew
 
 -- the mention of a constant that is numbered anew
-mention-number : (base : ℕ) (places : List ℕ) (c : ℕ) → mentions base (Const (number_among base places c)) ≡ map (place_in places) (mentions base (Const c))
+pub mention-number : (base : ℕ) (places : List ℕ) (c : ℕ) → mentions base (Const (number_among base places c)) ≡ map (place_in places) (mentions base (Const c))
 mention-number base places c = elim (below-or_from c base) [
   | inl lt ↦
       ap (λ n. mentions base (Const n)) (first-of_two c base c (base + place_in places (c - base)) lt)
@@ -49,7 +49,7 @@ mentions-numbered base places (AxiomK i m) = refl
 
 -- ---- each place once
 
-among-append : (j : ℕ) (xs ys : List ℕ) → is_among j (xs ++ ys) ≡ (is_among j xs || is_among j ys)
+pub among-append : (j : ℕ) (xs ys : List ℕ) → is_among j (xs ++ ys) ≡ (is_among j xs || is_among j ys)
 among-append j [] ys = refl
 among-append j (x ∷ xs) ys = by (x == j) (among-append j xs ys)
   where
@@ -59,7 +59,7 @@ among-append j (x ∷ xs) ys = by (x == j) (among-append j xs ys)
     by false e = e
 
 -- after places that are not i, the place of i is their number
-place-behind : (done rest : List ℕ) (i : ℕ) → is_among i done ≡ false → place_in (done ++ i ∷ rest) i ≡ length done
+pub place-behind : (done rest : List ℕ) (i : ℕ) → is_among i done ≡ false → place_in (done ++ i ∷ rest) i ≡ length done
 place-behind [] rest i h = by (i == i) (grind (arith, nat_tests))
   where
     by : (b : Bool) → b ≡ true → cond b 0 (place_in rest i + 1) ≡ 0
@@ -77,7 +77,7 @@ pub record AreSeen (done seen numbers : List ℕ) : Type 0 where
   pub found : (j : ℕ) → is_among j seen ≡ is_among j done
   pub numbered : (j : ℕ) → is_among j numbers ≡ nat_lt j (length done)
 
-seen-more : (done seen numbers : List ℕ) (i : ℕ) → AreSeen done seen numbers → AreSeen (done ++ i ∷ []) (i ∷ seen) (length done ∷ numbers)
+pub seen-more : (done seen numbers : List ℕ) (i : ℕ) → AreSeen done seen numbers → AreSeen (done ++ i ∷ []) (i ∷ seen) (length done ∷ numbers)
 seen-more done seen numbers i s = record {
   found = λ j. swap (i == j) (is_among j seen) (is_among j done) (s.found j) ∙ sym (among-append j done (i ∷ []));
   numbered = λ j. ap (λ b. (length done == j) || b) (s.numbered j) ∙ last (length done) j (length (done ++ i ∷ [])) (length-append done (i ∷ []));

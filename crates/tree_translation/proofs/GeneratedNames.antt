@@ -29,7 +29,7 @@ use Rattle.tree_translation.proofs.NewNames.{longer, new-fresh, new-differ}
 
 -- ---- families that are found
 
-member_at-entry : (S : Signature) (h : Term) (spine : List Term) → IfSome (member_at S h spine) (λ m. IsEntryAt S m.n (FamilyOf m.family))
+pub member_at-entry : (S : Signature) (h : Term) (spine : List Term) → IfSome (member_at S h spine) (λ m. IsEntryAt S m.n (FamilyOf m.family))
 member_at-entry S (Fam n) spine =
     some-next (λ m. IsEntryAt S m.n (FamilyOf m.family)) (member_with n spine) (family_at S n) (λ f found.
     some-cond (λ m. IsEntryAt S m.n (FamilyOf m.family)) (length spine == length f.parameters + length f.indices) _ (λ test. family-found S n f found))
@@ -40,15 +40,15 @@ member_at-entry S _ spine = tt
 pub member-entry : (S : Signature) (t : Term) → IfSome (member_of S t) (λ m. IsEntryAt S m.n (FamilyOf m.family))
 member-entry S t = member_at-entry S (head_of t) (spine_of t)
 
-built-entry : (S : Signature) (t : Term) (b : Built) → built_of S t ≡ Some b → IsEntryAt S b.n (FamilyOf b.family)
+pub built-entry : (S : Signature) (t : Term) (b : Built) → built_of S t ≡ Some b → IsEntryAt S b.n (FamilyOf b.family)
 built-entry S t b e = (built-is S t b e).built.family
 
-compared_by-entry : (S : Signature) (s : State) (k : ℕ) (type : Term) (left right : Built) → IsEntryAt S left.n (FamilyOf left.family)
+pub compared_by-entry : (S : Signature) (s : State) (k : ℕ) (type : Term) (left right : Built) → IsEntryAt S left.n (FamilyOf left.family)
     → (let c = compared_by s k type left right in IsEntryAt S c.n (FamilyOf c.family))
 compared_by-entry S s zero type left right h = h
 compared_by-entry S s (suc k) type left right h = h
 
-compared_in-entry : (S : Signature) (s : State) (step : Step) (left right : Option Built)
+pub compared_in-entry : (S : Signature) (s : State) (step : Step) (left right : Option Built)
     → ((b : Built) → left ≡ Some b → IsEntryAt S b.n (FamilyOf b.family))
     → IfSome (compared_in s step left right) (λ c. IsEntryAt S c.n (FamilyOf c.family))
 compared_in-entry S s step (Some left) (Some right) h = compared_by-entry S s (step.group - 1) step.ty left right (h left refl)
@@ -61,12 +61,12 @@ compared-entry S s step = compared_in-entry S s step (built_of S step.left) (bui
 
 -- ---- names of runs
 
-compared-generated : (S : Signature) (L : ℕ) (o : Option Comparison) → IfSome o (λ c. IsEntryAt S c.n (FamilyOf c.family))
+pub compared-generated : (S : Signature) (L : ℕ) (o : Option Comparison) → IfSome o (λ c. IsEntryAt S c.n (FamilyOf c.family))
     → All (IsGenerated S) (compared_names L o)
 compared-generated S L None h = All-nil (IsGenerated S)
 compared-generated S L (Some c) h = only (IsGenerated S) _ (IsGenerated.noconf c.n c.left.number L c.family h refl)
 
-cycle-generated : (S : Signature) (left right : Option Built)
+pub cycle-generated : (S : Signature) (left right : Option Built)
     → ((b : Built) → left ≡ Some b → IsEntryAt S b.n (FamilyOf b.family)) → ((b : Built) → right ≡ Some b → IsEntryAt S b.n (FamilyOf b.family))
     → All (IsGenerated S) (cycle_names left right)
 cycle-generated S left (Some b) h k =
@@ -78,7 +78,7 @@ cycle-generated S (Some b) None h k =
     (IsGenerated.left b.family.level b.family.level refl) (IsGenerated.acyclic b.n b.family (h b refl) refl))
 cycle-generated S None None h k = All-nil (IsGenerated S)
 
-rule-generated : (S : Signature) (L : ℕ) (s : Standing) (step : Step) (rule : Rule) → All (IsGenerated S) (rule_names S L s step rule)
+pub rule-generated : (S : Signature) (L : ℕ) (s : Standing) (step : Step) (rule : Rule) → All (IsGenerated S) (rule_names S L s step rule)
 rule-generated S L s step (SolveRight x) = All-nil (IsGenerated S)
 rule-generated S L s step (SolveLeft x) =
     only (IsGenerated S) (left_name (level_of_first s.state.equations) L) (IsGenerated.left (level_of_first s.state.equations) L refl)
@@ -97,7 +97,7 @@ run-generated S L (step ∷ steps) s =
 
 -- ---- names of split nodes
 
-methods-generated : (S : Signature) (L : ℕ) (node : Node) (m : Member) (x at : ℕ) (constructors : List Constructor) (runs : List (List Step))
+pub methods-generated : (S : Signature) (L : ℕ) (node : Node) (m : Member) (x at : ℕ) (constructors : List Constructor) (runs : List (List Step))
     → All (IsGenerated S) (methods_names S L node m x at constructors runs)
 methods-generated S L node m x at (c ∷ constructors) (steps ∷ runs) =
     All-append (IsGenerated S) (run_names S L steps (branch_standing node m x at c)) (methods_names S L node m x (at + 1) constructors runs)
@@ -105,7 +105,7 @@ methods-generated S L node m x at (c ∷ constructors) (steps ∷ runs) =
 methods-generated S L node m x at (c ∷ constructors) [] = All-nil (IsGenerated S)
 methods-generated S L node m x at [] runs = All-nil (IsGenerated S)
 
-member-generated : (S : Signature) (L : ℕ) (node : Node) (x : ℕ) (runs : List (List Step)) (o : Option Member)
+pub member-generated : (S : Signature) (L : ℕ) (node : Node) (x : ℕ) (runs : List (List Step)) (o : Option Member)
     → IfSome o (λ m. IsEntryAt S m.n (FamilyOf m.family)) → All (IsGenerated S) (member_names S L node x runs o)
 member-generated S L node x runs None h = All-nil (IsGenerated S)
 member-generated S L node x runs (Some m) h =

@@ -9,7 +9,7 @@ use Rattle.theory.proofs.Lists.{All-tail}
 use Rattle.tree_translation.specs.Naming.{is_named, with_names}
 use Rattle.tree_translation.specs.Laws.{IsAmong}
 
-or-true : (a b : Bool) → b ≡ true → (a || b) ≡ true
+pub or-true : (a b : Bool) → b ≡ true → (a || b) ≡ true
 or-true true b h = refl
 or-true false b h = h
 
@@ -80,7 +80,7 @@ longer P names (name ∷ others) h = by (is_named names name) refl (λ some. lon
         }
 
 -- what is among the names is none of the new ones
-new-others : (names new : List (List ℕ)) (name : List ℕ) → IsNew names new → is_named names name ≡ true → All (λ other. name ≢ other) new
+pub new-others : (names new : List (List ℕ)) (name : List ℕ) → IsNew names new → is_named names name ≡ true → All (λ other. name ≢ other) new
 new-others names [] name IsNew.none h = All-nil (λ other. name ≢ other)
 new-others names (first ∷ new) name (IsNew.more e rest) h =
     All-cons (λ other. name ≢ other) first new
@@ -93,7 +93,7 @@ new-differ names (name ∷ new) (IsNew.more e rest) =
     AllPairs-cons (λ one other. one ≢ other) name new (new-others (names ++ name ∷ []) new name rest (named-last names name))
     (new-differ (names ++ name ∷ []) new rest)
 
-at-same : (xs : List (List ℕ)) (k : ℕ) (d e : List ℕ) → k < length xs → get_or xs k d ≡ get_or xs k e
+pub at-same : (xs : List (List ℕ)) (k : ℕ) (d e : List ℕ) → k < length xs → get_or xs k d ≡ get_or xs k e
 at-same [] k d e lt = absurd (omega arith)
 at-same (x ∷ xs) zero d e lt = refl
 at-same (x ∷ xs) (suc k) d e lt = at-same xs k d e (omega arith)

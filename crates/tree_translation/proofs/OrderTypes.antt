@@ -10,7 +10,7 @@ use Rattle.unification.specs.Occurrences.{lacks, order_without}
 use Rattle.unification.proofs.SolvedContexts.{Stands, AreOver, order-over}
 
 -- at each place of the order
-over-at : (n p : ℕ) (u : Term) (context : Telescope) (done rest : List ℕ) → AreOver n p u context done rest → (k j : ℕ) → slice_get rest k ≡ Some j
+pub over-at : (n p : ℕ) (u : Term) (context : Telescope) (done rest : List ℕ) → AreOver n p u context done rest → (k j : ℕ) → slice_get rest k ≡ Some j
     → (i : ℕ) → i < j → has_variable (j - (i + 1)) (term_at context j) ≡ true → Stands n p u (done ++ take k rest) i
 over-at n p u context done [] over k j at i low occurs = absurd (grind arith)
 over-at n p u context done (l ∷ rest) over zero j at i low occurs =

@@ -32,13 +32,13 @@ read S s standing step at rule =
     ap (λ (other : Step). behind_rule S standing other other.rule)
     (ap₂ (λ (state : State) (hidden : List ℕ). widened_step (length state.context) hidden step) at.state at.hidden ∙ step-own (length s.context) step rule)
 
-at-same : (s : State) (one other : Standing) → one ≡ other → IsAt s other → IsAt s one
+pub at-same : (s : State) (one other : Standing) → one ≡ other → IsAt s other → IsAt s one
 at-same s one other e at = record {
   state = ap (λ standing. standing.state) e ∙ at.state;
   hidden = ap (λ standing. standing.hidden) e ∙ at.hidden;
 }
 
-at-solved : (s : State) (standing : Standing) (i x : ℕ) (A u : Term) → IsAt s standing → level_of_first s.equations ≡ i
+pub at-solved : (s : State) (standing : Standing) (i x : ℕ) (A u : Term) → IsAt s standing → level_of_first s.equations ≡ i
     → IsAt (solved_state s i (level_of (length s.context) x) A u) (solved_standing standing x A u)
 at-solved s standing i x A u at first = record {
   state =
@@ -47,7 +47,7 @@ at-solved s standing i x A u at first = record {
   hidden = ap (map (place_in (order_without standing.state.context (level_of (length standing.state.context) x)))) at.hidden;
 }
 
-at-injected : (s : State) (standing : Standing) (g : ℕ) (o : Option Comparison) (c : Comparison) → IsAt s standing → o ≡ Some c
+pub at-injected : (s : State) (standing : Standing) (g : ℕ) (o : Option Comparison) (c : Comparison) → IsAt s standing → o ≡ Some c
     → IsAt (injected_state s g c.n c.left.number c.family c.left.constructor c.parameters c.left.arguments c.right.arguments) (unless_compared standing g o)
 at-injected s standing g o c at e =
     at-same _ (unless_compared standing g o) (injected_standing standing g c) (ap (unless_compared standing g) e)
@@ -94,7 +94,7 @@ step-replayed S s t _ standing (delete _ e A u v k first converts) at =
       hidden = at.hidden;
     })
 
-run-replayed : (S : Signature) (s t : State) (steps : List Step) (standing : Standing) → Chain S s steps t → IsAt s standing → (behind_run S steps standing).state ≡ t
+pub run-replayed : (S : Signature) (s t : State) (steps : List Step) (standing : Standing) → Chain S s steps t → IsAt s standing → (behind_run S steps standing).state ≡ t
 run-replayed S s t _ standing (none _) at = at.state
 run-replayed S s t _ standing (more _ r _ step steps scoped goes rest) at =
     run-replayed S r t steps (behind_step S standing step) rest (step-replayed S s r step standing goes at)

@@ -16,7 +16,7 @@ use Rattle.tree_translation.proofs.LevelLists.{at-among, there-get, from-each, f
 use Rattle.tree_translation.proofs.SeenTerms.{visible-below}
 use Rattle.tree_translation.proofs.SeenDependants.{dependants-seen}
 
-same-test : (a b : Bool) → (a ≡ true → b ≡ true) → (b ≡ true → a ≡ true) → a ≡ b
+pub same-test : (a b : Bool) → (a ≡ true → b ≡ true) → (b ≡ true → a ≡ true) → a ≡ b
 same-test true true f g = refl
 same-test true false f g = sym (f refl)
 same-test false true f g = g refl
@@ -24,7 +24,7 @@ same-test false false f g = refl
 
 -- ---- what is left of lists
 
-without-append : (out xs ys : List ℕ) → without out (xs ++ ys) ≡ without out xs ++ without out ys
+pub without-append : (out xs ys : List ℕ) → without out (xs ++ ys) ≡ without out xs ++ without out ys
 without-append out [] ys = refl
 without-append out (x ∷ xs) ys = by (is_among x out) (without-append out xs ys)
   where
@@ -33,7 +33,7 @@ without-append out (x ∷ xs) ys = by (is_among x out) (without-append out xs ys
     by true e = e
     by false e = ap (λ rest. x ∷ rest) e
 
-without-both : (out other xs : List ℕ) → without out (without other xs) ≡ without other (without out xs)
+pub without-both : (out other xs : List ℕ) → without out (without other xs) ≡ without other (without out xs)
 without-both out other [] = refl
 without-both out other (x ∷ xs) = by (is_among x out) refl (is_among x other) refl (without-both out other xs)
   where
@@ -47,7 +47,7 @@ without-both out other (x ∷ xs) = by (is_among x out) refl (is_among x other) 
         ∙ (ap (λ rest. x ∷ rest) e ∙ sym (ap (λ s. cond s (without other (without out xs)) (x ∷ without other (without out xs))) b))
 
 -- of a list that is mapped
-without-map : (f : ℕ → ℕ) (out' out js : List ℕ) → ((j : ℕ) → is_among j js ≡ true → is_among (f j) out' ≡ is_among j out)
+pub without-map : (f : ℕ → ℕ) (out' out js : List ℕ) → ((j : ℕ) → is_among j js ≡ true → is_among (f j) out' ≡ is_among j out)
     → without out' (map f js) ≡ map f (without out js)
 without-map f out' out [] same = refl
 without-map f out' out (j ∷ js) same =
@@ -59,12 +59,12 @@ without-map f out' out (j ∷ js) same =
     by true e = e
     by false e = ap (λ rest. f j ∷ rest) e
 
-among-left_over : (j : ℕ) (out levels : List ℕ) → is_among j out ≡ false → is_among j (without out levels) ≡ is_among j levels
+pub among-left_over : (j : ℕ) (out levels : List ℕ) → is_among j out ≡ false → is_among j (without out levels) ≡ is_among j levels
 among-left_over j out levels not =
     same-test _ _ (λ h. (without-among out levels j h).0) (λ h. among-without j out levels h not)
 
 -- in a list that is mapped, where no other element becomes the same
-among-map : (f : ℕ → ℕ) (js : List ℕ) (j : ℕ) → ((i : ℕ) → is_among i js ≡ true → f i ≡ f j → i ≡ j) → is_among (f j) (map f js) ≡ is_among j js
+pub among-map : (f : ℕ → ℕ) (js : List ℕ) (j : ℕ) → ((i : ℕ) → is_among i js ≡ true → f i ≡ f j → i ≡ j) → is_among (f j) (map f js) ≡ is_among j js
 among-map f [] j apart = refl
 among-map f (i ∷ js) j apart =
     ap₂ ◌||◌
@@ -72,7 +72,7 @@ among-map f (i ∷ js) j apart =
     (among-map f js j (λ l h. apart l (among-later l i js h)))
 
 -- a list by the numbers of its elements
-own-numbers : (xs done all : List ℕ) → all ≡ done ++ xs → map (λ j. get_or all j 0) (levels_from (length done) (length xs)) ≡ xs
+pub own-numbers : (xs done all : List ℕ) → all ≡ done ++ xs → map (λ j. get_or all j 0) (levels_from (length done) (length xs)) ≡ xs
 own-numbers [] done all e = refl
 own-numbers (x ∷ xs) done all e =
     let l : length (done ++ x ∷ []) ≡ length done + 1 = length-append done (x ∷ []) in
@@ -87,7 +87,7 @@ own-numbers (x ∷ xs) done all e =
 pub by-numbers : (xs : List ℕ) → map (λ j. get_or xs j 0) (levels_from 0 (length xs)) ≡ xs
 by-numbers xs = own-numbers xs [] xs refl
 
-place-get : (xs : List ℕ) (h : ℕ) → place_in xs h < length xs → get_or xs (place_in xs h) 0 ≡ h
+pub place-get : (xs : List ℕ) (h : ℕ) → place_in xs h < length xs → get_or xs (place_in xs h) 0 ≡ h
 place-get [] h lt = absurd (omega arith)
 place-get (x ∷ xs) h lt = by (x == h) refl lt (place-get xs h)
   where
@@ -98,7 +98,7 @@ place-get (x ∷ xs) h lt = by (x == h) refl lt (place-get xs h)
         let f : place_in xs h + 1 ≡ suc (place_in xs h) = omega arith in
         ap (λ i. get_or (x ∷ xs) i 0) f ∙ rest (omega arith)
 
-among-image : (f : ℕ → ℕ) (js : List ℕ) (j : ℕ) → is_among j js ≡ true → is_among (f j) (map f js) ≡ true
+pub among-image : (f : ℕ → ℕ) (js : List ℕ) (j : ℕ) → is_among j js ≡ true → is_among (f j) (map f js) ≡ true
 among-image f [] j h = absurd (true≢false (sym h))
 among-image f (i ∷ js) j h = elim (among-cases j i js h) [
   | inl e ↦ subst (λ l. is_among (f l) (f i ∷ map f js) ≡ true) e (among-own (f i) (map f js))
@@ -118,7 +118,7 @@ image-of f (i ∷ js) k h = elim (among-cases k (f i) (map f js) h) [
 ]
 
 -- the places of what is left, in a list in which each element has its own place
-places-left : (xs hid : List ℕ) → ((k : ℕ) → k < length xs → place_in xs (get_or xs k 0) ≡ k)
+pub places-left : (xs hid : List ℕ) → ((k : ℕ) → k < length xs → place_in xs (get_or xs k 0) ≡ k)
     → map (λ k. get_or xs k 0) (without (map (place_in xs) hid) (levels_from 0 (length xs))) ≡ without hid xs
 places-left xs hid own =
     sym (without-map (λ k. get_or xs k 0) hid (map (place_in xs) hid) (levels_from 0 (length xs)) same) ∙ ap (without hid) (by-numbers xs)

@@ -27,14 +27,14 @@ use Rattle.tree_translation.proofs.SeenOccurrences.{position-of}
 use Rattle.tree_translation.proofs.SeenSquares.{IsSquare, square, binders}
 use Rattle.tree_translation.proofs.SeenOrders.{IsSameVariable, rising, same-level, whole-below, new-count, new-source, new-place}
 
-get-take : (xs : List ℕ) (n j : ℕ) → j < n → get_or (take n xs) j 0 ≡ get_or xs j 0
+pub get-take : (xs : List ℕ) (n j : ℕ) → j < n → get_or (take n xs) j 0 ≡ get_or xs j 0
 get-take xs zero j lt = absurd (omega arith)
 get-take [] (suc n) j lt = refl
 get-take (x ∷ xs) (suc n) zero lt = refl
 get-take (x ∷ xs) (suc n) (suc j) lt = get-take xs n j (omega arith)
 
 -- the type at a place of a new context
-new-at : (context : Telescope) (s : Environment) (depth : ℕ) (levels : List ℕ) (k : ℕ) → k < length levels
+pub new-at : (context : Telescope) (s : Environment) (depth : ℕ) (levels : List ℕ) (k : ℕ) → k < length levels
     → term_at (new_context context s depth levels) k ≡ put s (get_or levels k 0) (depth + k) (term_at context (get_or levels k 0))
 new-at context s depth [] k lt = absurd (omega arith)
 new-at context s depth (j ∷ levels) zero lt = ap (λ d. put s j d (term_at context j)) (omega arith)
@@ -43,7 +43,7 @@ new-at context s depth (j ∷ levels) (suc k) lt =
     new-at context s (depth + 1) levels k (omega arith) ∙ ap (λ d. put s (get_or levels k 0) d (term_at context (get_or levels k 0))) e
 
 -- a variable at place K, which has level L there
-place-square : (W' : List ℕ) (q under K L : ℕ) → K < length W' → get_or W' K 0 ≡ L
+pub place-square : (W' : List ℕ) (q under K L : ℕ) → K < length W' → get_or W' K 0 ≡ L
     → Var (q + under - (L + 1)) ≡ put_under (at_levels W') (length W') q under (Var (length W' + under - (K + 1)))
 place-square W' q under K L lt e =
     let w = length W' + under - (K + 1) in

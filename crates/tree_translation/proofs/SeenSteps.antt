@@ -41,22 +41,22 @@ use Rattle.unification.proofs.SolvedVariables.{solved-lifts}
 
 -- ---- first equations
 
-first-level : (n : ℕ) (hid : List ℕ) (es : List Equation) → level_of_first (widened_equations n hid 0 es) ≡ level_of_first es
+pub first-level : (n : ℕ) (hid : List ℕ) (es : List Equation) → level_of_first (widened_equations n hid 0 es) ≡ level_of_first es
 first-level n hid [] = refl
 first-level n hid (e ∷ es) = refl
 
-level-seen : (w : Standing) (s : State) → Widens w s → level_of_first w.state.equations ≡ level_of_first s.equations
+pub level-seen : (w : Standing) (s : State) → Widens w s → level_of_first w.state.equations ≡ level_of_first s.equations
 level-seen w s h = ap level_of_first h.equations ∙ first-level (length w.state.context) w.hidden s.equations
 
 -- a type that follows no place
-type-read : (n : ℕ) (hid : List ℕ) (A : Term) → widened_behind n hid 0 A ≡ inst (widening n hid) A
+pub type-read : (n : ℕ) (hid : List ℕ) (A : Term) → widened_behind n hid 0 A ≡ inst (widening n hid) A
 type-read n hid A = behind-is n hid 0 A ∙ inst-none (widening n hid) A
 
-under-seen : (w : Standing) (s : State) → Widens w s → w.state.equations ≡ equations_under (widening (length w.state.context) w.hidden) 0 s.equations
+pub under-seen : (w : Standing) (s : State) → Widens w s → w.state.equations ≡ equations_under (widening (length w.state.context) w.hidden) 0 s.equations
 under-seen w s h = h.equations ∙ widened-equations (length w.state.context) w.hidden 0 s.equations
 
 -- where the context stays
-same-context : (w t : Standing) (s r : State) → Widens w s → t.state.context ≡ w.state.context → t.hidden ≡ w.hidden → r.context ≡ s.context
+pub same-context : (w t : Standing) (s r : State) → Widens w s → t.state.context ≡ w.state.context → t.hidden ≡ w.hidden → r.context ≡ s.context
     → t.state.equations ≡ equations_under (widening (length w.state.context) w.hidden) 0 r.equations → Widens t r
 same-context w t s r h ec eh er ee = record {
   context = three ec eh er h.context;
@@ -72,7 +72,7 @@ same-context w t s r h ec eh er ee = record {
 
 -- ---- solutions
 
-variable-seen : (w : Standing) (s : State) (x : ℕ) → Widens w s → x < length s.context
+pub variable-seen : (w : Standing) (s : State) (x : ℕ) → Widens w s → x < length s.context
     → IsSameVariable w.state.context w.hidden s.context (level_of (length w.state.context) (widened_number (length w.state.context) w.hidden x)) (level_of (length s.context) x)
 variable-seen w s x h lt = record {
   is_seen = h.context;
@@ -94,7 +94,7 @@ variable-seen w s x h lt = record {
         omega arith
 
 -- the equations after a solution
-solved-equations : (w s : State) (hid : List ℕ) (p' p i : ℕ) (A u : Term) → IsSameVariable w.context hid s.context p' p
+pub solved-equations : (w s : State) (hid : List ℕ) (p' p i : ℕ) (A u : Term) → IsSameVariable w.context hid s.context p' p
     → IsTrue (lacks s.context p A) → IsTrue (lacks s.context p u) → w.equations ≡ equations_under (widening (length w.context) hid) 0 s.equations
     → (solved_state w i p' (widened (length w.context) hid A) (widened (length w.context) hid u)).equations
     ≡ equations_under (widening (length (order_without w.context p')) (map (place_in (order_without w.context p')) hid)) 0 (solved_state s i p A u).equations
@@ -153,7 +153,7 @@ solved-equations w s hid p' p i A u v freeA freeu e =
         ∙ (inst-same t agree
         ∙ (sym (inst-inst to (stands S m m') t) ∙ ap (inst to) (sym (put-is_inst S m m' lifts t)))))
 
-solved-seen : (w : Standing) (s : State) (i x : ℕ) (A u : Term) → Widens w s → x < length s.context → level_of_first s.equations ≡ i
+pub solved-seen : (w : Standing) (s : State) (i x : ℕ) (A u : Term) → Widens w s → x < length s.context → level_of_first s.equations ≡ i
     → IsTrue (lacks s.context (level_of (length s.context) x) A) → IsTrue (lacks s.context (level_of (length s.context) x) u)
     → Widens (solved_standing w (widened_number (length w.state.context) w.hidden x) (widened_behind (length w.state.context) w.hidden 0 A) (widened (length w.state.context) w.hidden u))
     (solved_state s i (level_of (length s.context) x) A u)
@@ -185,7 +185,7 @@ solved-seen w s i x A u h lt first freeA freeu = record {
 
 -- ---- injectivities
 
-built-seen : (S : Signature) (q : ℕ → Term) (b : Built) → IsBuilt S b → IsBuilt S (instance_of q b)
+pub built-seen : (S : Signature) (q : ℕ → Term) (b : Built) → IsBuilt S b → IsBuilt S (instance_of q b)
 built-seen S q b is = record {
   family = is.family;
   constructor = is.constructor;
@@ -193,7 +193,7 @@ built-seen S q b is = record {
   arguments = length-map b.arguments (inst q) ∙ is.arguments;
 }
 
-injected-seen : (S : Signature) (w : Standing) (s : State) (g : ℕ) (f : Family) (ps : List Term) (b d : Built) (o : Option Comparison) (indices : List Term) → Widens w s
+pub injected-seen : (S : Signature) (w : Standing) (s : State) (g : ℕ) (f : Family) (ps : List Term) (b d : Built) (o : Option Comparison) (indices : List Term) → Widens w s
     → length b.arguments ≡ length b.constructor.arguments → length d.arguments ≡ length b.constructor.arguments
     → (let q = widening (length w.state.context) w.hidden in
     let c : Comparison = record { n = b.n; family = f; parameters = map (inst q) ps; left = instance_of q b; right = instance_of q d; indices = indices } in
@@ -219,7 +219,7 @@ injected-seen S w s g f ps b d o indices h eb ed e =
 
 -- ---- steps
 
-step-seen : (S : Signature) (s t : State) (step : Step) (w : Standing) → Steps S s step t → Widens w s → Widens (behind_step S w step) t
+pub step-seen : (S : Signature) (s t : State) (step : Step) (w : Standing) → Steps S s step t → Widens w s → Widens (behind_step S w step) t
 step-seen S s t _ w (solve_right _ e x A u first solvable) h =
     solved-seen w s e.place.level x A u h solvable.variable (ap level_of_first first.first) solvable.type solvable.term
 step-seen S s t _ w (solve_left _ e x A u first solvable) h =
@@ -259,7 +259,7 @@ step-seen S s t _ w (delete _ e A u v k first converts) h =
     ap₃' : {A : Type 0} (f : ℕ → Term → Term → A) {a a' : ℕ} {b b' c c' : Term} → a ≡ a' → b ≡ b' → c ≡ c' → f a b c ≡ f a' b' c'
     ap₃' f x y z = cc
 
-run-seen : (S : Signature) (s t : State) (steps : List Step) (w : Standing) → Chain S s steps t → Widens w s → Widens (behind_run S steps w) t
+pub run-seen : (S : Signature) (s t : State) (steps : List Step) (w : Standing) → Chain S s steps t → Widens w s → Widens (behind_run S steps w) t
 run-seen S s t _ w (none _) h = h
 run-seen S s t _ w (more _ r _ step steps scoped goes rest) h =
     run-seen S r t steps (behind_step S w step) rest (step-seen S s r step w goes h)

@@ -32,7 +32,7 @@ entries-kept S places (Con n c) h = refl
 entries-kept S places (Elim n m) h = refl
 entries-kept S places (AxiomK i m) h = refl
 
-products-kept : (S : Signature) (places : List ℕ) (n m : ℕ) (tele : Telescope) (goal : Term) → IsScopedTelescope S n tele → IsScoped S m goal
+pub products-kept : (S : Signature) (places : List ℕ) (n m : ℕ) (tele : Telescope) (goal : Term) → IsScopedTelescope S n tele → IsScoped S m goal
     → renumbered (number_among (length S.entries) places) (products tele goal) ≡ products tele goal
 products-kept S places n m [] goal h g = entries-kept S places goal g.entries
 products-kept S places n m (a ∷ tele) goal h g = ap₂ Pi (entries-kept S places a h.0.entries) (products-kept S places (n + 1) m tele goal h.1 g)
@@ -45,17 +45,17 @@ pub record HasType (name : List ℕ) (base : ℕ) (type : Term) (d : Draft) : Ty
   pub body : Term
   pub entry : d.entry ≡ Definition name (renumbered (number_among base places) type) body
 
-typed : (name : List ℕ) (base : ℕ) (candidates : List (List ℕ)) (type : Term) (term : Naming → Term) (d : Draft)
+pub typed : (name : List ℕ) (base : ℕ) (candidates : List (List ℕ)) (type : Term) (term : Naming → Term) (d : Draft)
     → drafted_in_order name base candidates (λ number. type) term ≡ Ok d → HasType name base type d
 typed name base candidates type term d h =
     let places = places_of base type (term (number_in base (with_names [] candidates))) in
     record { places = places; body = _; entry = (in_order-is name base candidates (λ number. type) term d h).entry }
 
-function-typed : (S : Signature) (plan : Plan) (r : Option Recursion) (d : Draft) → function_entry S plan r ≡ Ok d → HasType plan.name plan.base plan.type d
+pub function-typed : (S : Signature) (plan : Plan) (r : Option Recursion) (d : Draft) → function_entry S plan r ≡ Ok d → HasType plan.name plan.base plan.type d
 function-typed S plan None d h = search typed
 function-typed S plan (Some r) d h = search typed
 
-written : (S : Signature) (plan : Plan) (r : Option Recursion) (d : Draft) → IsPlanned S plan → function_entry S plan r ≡ Ok d
+pub written : (S : Signature) (plan : Plan) (r : Option Recursion) (d : Draft) → IsPlanned S plan → function_entry S plan r ≡ Ok d
     → (body : Term) × (d.entry ≡ Definition plan.name plan.type body)
 written S plan r d planned h =
     let t = function-typed S plan r d h in
@@ -72,7 +72,7 @@ pub record HasLast (S : Signature) (plan : Plan) (r : Option Recursion) (all : L
   pub whole : all ≡ before ++ last ∷ []
   pub is : function_entry S plan r ≡ Ok last
 
-last-is : (S : Signature) (plan : Plan) (r : Option Recursion) (all : List Draft) → AreEntries S plan r all → HasLast S plan r all
+pub last-is : (S : Signature) (plan : Plan) (r : Option Recursion) (all : List Draft) → AreEntries S plan r all → HasLast S plan r all
 last-is S plan None all (AreEntries.alone {helpers = helpers} {f = d} are is) = record { before = helpers; last = d; whole = refl; is = is }
 last-is S plan (Some r) all (AreEntries.recursive {motive = motive} {step = step} {f = d} {helpers = helpers} first are second third) =
     record {
