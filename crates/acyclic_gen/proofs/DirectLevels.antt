@@ -4,7 +4,7 @@ use Rattle.std.proofs.lemmas.Bool.{false≢true}
 use Rattle.core_sig.specs.Shapes.{ArgumentShape, by_kind}
 use Rattle.acyclic_gen.specs.Statements.{is_direct, has_direct, directs}
 use Rattle.acyclic_gen.specs.Bounds.{AreNear}
-use Rattle.acyclic_gen.specs.declared.directs.Direct.{Direct}
+use Rattle.acyclic_gen.specs.declared.direct_arguments.Direct.{Direct}
 
 abbrev found : (b : Bool) (argument hypothesis : ℕ) → List Direct → List Direct
 found b argument hypothesis others = cond b (record { argument = argument; hypothesis = hypothesis } ∷ others) others

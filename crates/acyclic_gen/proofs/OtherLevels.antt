@@ -24,7 +24,7 @@ use Rattle.acyclic_gen.specs.DirectEntries.{parts_type, direct_method}
 use Rattle.acyclic_gen.specs.Statements.{is_direct, directs}
 use Rattle.acyclic_gen.specs.declared.carrier.Carrier.{Carrier}
 use Rattle.acyclic_gen.specs.declared.claims.Claim.TheVariants.{Direct as Parts}
-use Rattle.acyclic_gen.specs.declared.directs.Direct.{Direct}
+use Rattle.acyclic_gen.specs.declared.direct_arguments.Direct.{Direct}
 
 -- ---- instantiations that agree at all levels but L
 

@@ -35,7 +35,7 @@ use Rattle.acyclic_gen.specs.Statements.{carrier_at, at_level, no_part, not_with
 use Rattle.acyclic_gen.specs.declared.carrier.Carrier.{Carrier}
 use Rattle.acyclic_gen.specs.declared.claims.Claim.TheVariants.{Direct as Parts, Acyclic}
 use Rattle.acyclic_gen.specs.declared.claims.Push.{Push}
-use Rattle.acyclic_gen.specs.declared.directs.Direct.{Direct}
+use Rattle.acyclic_gen.specs.declared.direct_arguments.Direct.{Direct}
 use Rattle.acyclic_gen.specs.declared.stop.AcyclicStop.{AcyclicStop}
 use Rattle.acyclic_gen.proofs.ScopedStatements.{Drafted, Named, IsCarrier, IsPushIn, IsBelow, AreDirectsBelow, carrier-there, carrier-draft, at_level-in, no_part-draft, not_within-draft, none_within-draft, directs-below, whole-in, eliminator-draft, method_over-draft}
 use Rattle.acyclic_gen.proofs.ScopedPushing.{IsPushing, pushing-draft}

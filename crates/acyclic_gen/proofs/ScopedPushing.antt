@@ -27,7 +27,7 @@ use Rattle.acyclic_gen.specs.Pushing.{placed_items, argument_equations, refuted,
 use Rattle.acyclic_gen.specs.declared.carrier.Carrier.{Carrier}
 use Rattle.acyclic_gen.specs.declared.claims.Claim.TheVariants.{Pushed}
 use Rattle.acyclic_gen.specs.declared.claims.Push.{Push}
-use Rattle.acyclic_gen.specs.declared.directs.Direct.{Direct}
+use Rattle.acyclic_gen.specs.declared.direct_arguments.Direct.{Direct}
 use Rattle.acyclic_gen.specs.declared.refuting.Branch.{Branch}
 use Rattle.acyclic_gen.specs.declared.point.Point.{Point}
 use Rattle.acyclic_gen.proofs.ScopedStatements.{Drafted, Named, IsCarrier, IsPointIn, IsPushIn, IsBelow, AreDirectsBelow, at_level-in, built-in, point-more, point-draft, equal-draft, unequal-draft, no_part-draft, not_within-draft, none_within-draft, directs-below, projection-draft, component-draft, push-more, whole-in, part-in, eliminator-draft, method_over-draft}

@@ -28,7 +28,7 @@ use Rattle.acyclic_gen.specs.declared.carrier.Carrier.{Carrier}
 use Rattle.acyclic_gen.specs.declared.claims.Claim.{Claim}
 use Rattle.acyclic_gen.specs.declared.claims.Claim.TheVariants.{Direct as Parts, Acyclic, Pushed}
 use Rattle.acyclic_gen.specs.declared.claims.Push.{Push}
-use Rattle.acyclic_gen.specs.declared.directs.Direct.{Direct}
+use Rattle.acyclic_gen.specs.declared.direct_arguments.Direct.{Direct}
 use Rattle.acyclic_gen.specs.declared.point.Head.{Head}
 use Rattle.acyclic_gen.specs.declared.point.Head.TheVariants.{Variable, Constructor}
 use Rattle.acyclic_gen.specs.declared.point.Point.{Point}

@@ -26,7 +26,7 @@ use Rattle.acyclic_gen.specs.declared.carrier.Carrier.{Carrier}
 use Rattle.acyclic_gen.specs.declared.claims.Claim.{Claim}
 use Rattle.acyclic_gen.specs.declared.claims.Claim.TheVariants.{Direct, Acyclic, Pushed}
 use Rattle.acyclic_gen.specs.declared.claims.Push.{Push}
-use Rattle.acyclic_gen.specs.declared.directs.Direct.{Direct as DirectArgument}
+use Rattle.acyclic_gen.specs.declared.direct_arguments.Direct.{Direct as DirectArgument}
 
 -- ---- methods
 

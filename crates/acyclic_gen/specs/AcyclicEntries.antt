@@ -20,7 +20,7 @@ use Rattle.acyclic_gen.specs.Answers.{unless_indexed}
 use Rattle.acyclic_gen.specs.declared.carrier.Carrier.{Carrier}
 use Rattle.acyclic_gen.specs.declared.claims.Claim.TheVariants.{Acyclic}
 use Rattle.acyclic_gen.specs.declared.claims.Push.{Push}
-use Rattle.acyclic_gen.specs.declared.directs.Direct.{Direct}
+use Rattle.acyclic_gen.specs.declared.direct_arguments.Direct.{Direct}
 use Rattle.acyclic_gen.specs.declared.stop.AcyclicStop.{AcyclicStop}
 
 -- the same push from another direct argument

@@ -6,7 +6,7 @@ use Rattle.acyclic_gen.specs.Statements.{has_direct}
 use Rattle.acyclic_gen.specs.declared.claims.Claim.{Claim}
 use Rattle.acyclic_gen.specs.declared.claims.Claim.TheVariants.{Direct, Acyclic, Pushed}
 use Rattle.acyclic_gen.specs.declared.claims.Push.{Push}
-use Rattle.acyclic_gen.specs.declared.directs.Direct.{Direct as DirectArgument}
+use Rattle.acyclic_gen.specs.declared.direct_arguments.Direct.{Direct as DirectArgument}
 use Rattle.acyclic_gen.specs.declared.pairings.Pairing as code
 use Rattle.acyclic_gen.specs.declared.pairings.Pairing.TheVariants.{Within, Several}
 use Rattle.acyclic_gen.specs.declared.point.Point.{Point}

@@ -19,7 +19,7 @@ use Rattle.acyclic_gen.specs.Claims.{eliminator, method_over}
 use Rattle.acyclic_gen.specs.Answers.{unless_indexed}
 use Rattle.acyclic_gen.specs.declared.carrier.Carrier.{Carrier}
 use Rattle.acyclic_gen.specs.declared.claims.Claim.TheVariants.{Direct as Parts}
-use Rattle.acyclic_gen.specs.declared.directs.Direct.{Direct}
+use Rattle.acyclic_gen.specs.declared.direct_arguments.Direct.{Direct}
 use Rattle.acyclic_gen.specs.declared.stop.AcyclicStop.{AcyclicStop}
 
 -- D p for family number n, where `D!direct` is a constant

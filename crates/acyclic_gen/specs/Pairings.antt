@@ -9,7 +9,7 @@ use Rattle.case_below_gen.specs.declared.sides.Side.TheVariants.{First, Second}
 use Rattle.acyclic_gen.specs.Statements.{at_level, unequal, no_part, not_within, none_within}
 use Rattle.acyclic_gen.specs.declared.carrier.Carrier.{Carrier}
 use Rattle.acyclic_gen.specs.declared.point.Point.{Point}
-use Rattle.acyclic_gen.specs.declared.directs.Direct.{Direct}
+use Rattle.acyclic_gen.specs.declared.direct_arguments.Direct.{Direct}
 
 -- `Within x y`: x is not y, and no part of y. `Several x d directs`: x is not within the direct argument d, nor within one of
 -- those behind it.

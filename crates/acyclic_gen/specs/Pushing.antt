@@ -16,7 +16,7 @@ use Rattle.acyclic_gen.specs.Claims.{pushed_whole, pushed_part, position_of, eli
 use Rattle.acyclic_gen.specs.declared.carrier.Carrier.{Carrier}
 use Rattle.acyclic_gen.specs.declared.claims.Claim.TheVariants.{Pushed}
 use Rattle.acyclic_gen.specs.declared.claims.Push.{Push}
-use Rattle.acyclic_gen.specs.declared.directs.Direct.{Direct}
+use Rattle.acyclic_gen.specs.declared.direct_arguments.Direct.{Direct}
 use Rattle.acyclic_gen.specs.declared.refuting.Branch.{Branch}
 use Rattle.acyclic_gen.specs.declared.point.Point.{Point}
 

@@ -14,7 +14,7 @@ use Rattle.acyclic_gen.specs.declared.carrier.Carrier.{Carrier}
 use Rattle.acyclic_gen.specs.declared.point.Head.{Head}
 use Rattle.acyclic_gen.specs.declared.point.Head.TheVariants.{Variable, Constructor}
 use Rattle.acyclic_gen.specs.declared.point.Point.{Point}
-use Rattle.acyclic_gen.specs.declared.directs.Direct.{Direct}
+use Rattle.acyclic_gen.specs.declared.direct_arguments.Direct.{Direct}
 
 -- D p
 abbrev pub carrier_at : (q : Carrier) (depth : ℕ) → Term

@@ -17,7 +17,7 @@ ghost use Rattle.acyclic_gen.specs.Statements.{has_direct};
 use crate::AcyclicStop;
 use crate::carrier::{Carrier, carrier_at, carrier_of};
 use crate::claims::{Claim, Push, eliminator, pushed_whole};
-use crate::directs::{Direct, directs, has_direct};
+use crate::direct_arguments::{Direct, directs, has_direct};
 use crate::lengths::is_small;
 use crate::methods::method_over;
 use crate::naming::{acyclic_name, names_for};

@@ -16,7 +16,7 @@ ghost use Rattle.acyclic_gen.specs.DirectEntries as spec;
 use crate::AcyclicStop;
 use crate::carrier::{Carrier, carrier_at, carrier_of};
 use crate::claims::{Claim, eliminator};
-use crate::directs::{Direct, directs};
+use crate::direct_arguments::{Direct, directs};
 use crate::methods::method_over;
 use crate::naming::direct_name;
 use case_below_gen::{closed_over, pair_of};

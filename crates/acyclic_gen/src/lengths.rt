@@ -2,7 +2,7 @@ ghost use Rattle.std.specs.Prelude.{◌≡◌, ◌↔◌, IsTrue, map};
 ghost use Rattle.core_sig.specs.Shapes.{argument_shape, constructor_shape, shape_of};
 ghost use Rattle.acyclic_gen.specs.Bounds.{AreLow, AreSmallArguments, HaveSmallArguments, IsSmallShape};
 
-use crate::directs::has_direct;
+use crate::direct_arguments::has_direct;
 use core_sig::{Arg, Constructor, Family, is_few};
 use core_terms::MAX_HEIGHT;
 

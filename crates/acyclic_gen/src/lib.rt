@@ -5,8 +5,8 @@
 mod acyclic_entries;
 mod carrier;
 mod claims;
+mod direct_arguments;
 mod direct_entries;
-mod directs;
 pub mod laws;
 mod lengths;
 mod methods;
@@ -20,8 +20,8 @@ mod stop;
 
 pub use acyclic_entries::acyclic_entry;
 pub use carrier::{Carrier, carrier_at, carrier_of};
+pub use direct_arguments::{Direct, directs};
 pub use direct_entries::direct_entry;
-pub use directs::{Direct, directs};
 pub use pairings::{Pairing, component, projection};
 pub use point::{Head, Point, at_level};
 pub use statements::{equal, no_part};

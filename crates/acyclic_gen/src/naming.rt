@@ -4,7 +4,7 @@ ghost use Rattle.core_sig.specs.Shapes.{constructor_shape};
 ghost use Rattle.acyclic_gen.specs.AcyclicEntries as spec;
 ghost use Rattle.acyclic_gen.specs.DirectEntries.{direct_name};
 
-use crate::directs::has_direct;
+use crate::direct_arguments::has_direct;
 use core_sig::Constructor;
 use core_terms::{Items, Name, Stop};
 use std::alloc::Global;

@@ -9,7 +9,7 @@ ghost use Rattle.acyclic_gen.specs.CodePairings.{pairing_of};
 ghost use Rattle.acyclic_gen.specs.Pairings as spec;
 
 use crate::carrier::Carrier;
-use crate::directs::Direct;
+use crate::direct_arguments::Direct;
 use crate::point::{Point, at_level};
 use crate::statements::{no_part, none_within, not_within, unequal};
 use case_below_gen::{Side, pair_of};

@@ -9,7 +9,7 @@ ghost use Rattle.acyclic_gen.specs.Pushing as spec;
 
 use crate::carrier::Carrier;
 use crate::claims::{Claim, Push, eliminator, pushed_part, pushed_whole};
-use crate::directs::{Direct, directs};
+use crate::direct_arguments::{Direct, directs};
 use crate::methods::method_over;
 use crate::pairings::{Pairing, projection};
 use crate::point::at_level;

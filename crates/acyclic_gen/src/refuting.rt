@@ -9,7 +9,7 @@ ghost use Rattle.acyclic_gen.specs.Pushing as spec;
 
 use crate::carrier::Carrier;
 use crate::claims::{Push, position_of, pushed_part, pushed_whole};
-use crate::directs::directs;
+use crate::direct_arguments::directs;
 use crate::pairings::{Pairing, component, projection};
 use crate::point::{Point, at_level, built, point_at};
 use crate::statements::{EMPTY, equal};

@@ -5,7 +5,7 @@ ghost use Rattle.acyclic_gen.specs.Bounds.{IsNear};
 ghost use Rattle.acyclic_gen.specs.Statements as spec;
 
 use crate::carrier::{Carrier, carrier_at};
-use crate::directs::Direct;
+use crate::direct_arguments::Direct;
 use crate::point::{Point, at_level, point_at};
 use case_below_gen::pair_of;
 use core_sig::{equality, unit};

@@ -6,7 +6,7 @@ use Rattle.core_sig.specs.Shapes.{argument_shape}
 use Rattle.acyclic_gen.specs.Bounds.{AreNear}
 use Rattle.acyclic_gen.specs.Statements as spec
 use Rattle.acyclic_gen.proofs.DirectLevels.{near-directs, has-directs}
-use Rattle.acyclic_gen.proofs.directs.directs.Goals as goal
+use Rattle.acyclic_gen.proofs.direct_arguments.directs.Goals as goal
 
 pub returns-clause-near : goal.returns-clause-near
 returns-clause-near c =
