@@ -39,7 +39,11 @@ pub struct Comparison<'a> {
 }
 
 /// The constructor with all its arguments that a term is.
-pub fn member_at<'a>(alloc: Global, sig: &'a Signature, t: &Term) -> Result<Option<Member<'a>>, Stop>
+pub fn member_at<'a>(
+    alloc: Global,
+    sig: &'a Signature,
+    t: &Term,
+) -> Result<Option<Member<'a>>, Stop>
     requires { tree.height (tree_of t.now) ≤ 2000 }
     ensures answer { Gives (option_map member_of) result (Ok (built.built_of sig.now (tree_of t.now))) }
     ensures kinds { IfOk result (λ found. IfSome found HasMemberKinds) }
