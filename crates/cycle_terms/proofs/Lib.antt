@@ -1,0 +1,4 @@
+mod Along
+mod CycleMembers
+mod RefutedGoals
+mod SaidTerms

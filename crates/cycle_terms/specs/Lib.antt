@@ -1,0 +1,2 @@
+pub mod CodeCycles
+pub mod SearchMeanings
