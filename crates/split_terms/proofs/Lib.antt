@@ -1,0 +1,5 @@
+pub mod BranchParts
+pub mod MethodSteps
+pub mod RunSteps
+pub mod RunsMade
+pub mod SplitsMade

@@ -1,0 +1,35 @@
+use Rattle.std.proofs.Common.{length, map, ap, subst as transport}
+use Rattle.std.proofs.lemmas.Result.{err_from_is_err_and}
+use Rattle.core_terms.specs.Answers.{Gives}
+use Rattle.core_terms.specs.TreeMeanings.{steps_of}
+use Rattle.core_sig.specs.Meanings.{constructor_of}
+use Rattle.clause_walks.specs.LookMeanings.{member_meant}
+use Rattle.clause_walks.proofs.RunCodes.{first-item}
+use Rattle.split_terms.specs.NodeMeanings.{node_of}
+use Rattle.split_terms.proofs.MethodSteps.{names-deep, names-next}
+use Rattle.split_terms.proofs.split_naming.+methods_names.Goals as goal
+
+pub returns-in_err-names : goal.returns-in_err-names
+returns-in_err-names t c =
+    let p = length c.args.m.now.family.now.params in
+    let q = err_from_is_err_and c.from_residual.result c.from_residual.ensures.1 in
+    rw (q.1, q.2)
+    (λ other.
+    names-deep c.args.sig.now c.args.level (node_of c.args.node.now) (member_meant c.args.m.now) c.args.x c.args.number
+    (map (constructor_of p) c.args.cons.now) _ (constructor_of p c.con-item.result) (map (λ steps. steps_of steps.now) c.args.runs.now) _
+    (steps_of c.steps-item.result.now)
+    (ap (map (constructor_of p)) (first-item c.args.cons.now c.con-item.result c.in-len1-up.len_at_least c.con-item.is))
+    (ap (map (λ steps. steps_of steps.now)) (first-item c.args.runs.now c.steps-item.result c.in-len1-up-runs.len_at_least c.steps-item.is))
+    c.args.names _ (c.in_err-names.ensures other))
+
+pub returns : goal.returns
+returns t c =
+    let p = length c.args.m.now.family.now.params in
+    transport (Gives (λ ns. ns) c.methods_names.result)
+    (names-next c.args.sig.now c.args.level (node_of c.args.node.now) (member_meant c.args.m.now) c.args.x c.args.number
+    (map (constructor_of p) c.args.cons.now) _ (constructor_of p c.con-item.result) (map (λ steps. steps_of steps.now) c.args.runs.now) _
+    (steps_of c.steps-item.result.now)
+    (ap (map (constructor_of p)) (first-item c.args.cons.now c.con-item.result c.in-len1-up.len_at_least c.con-item.is))
+    (ap (map (λ steps. steps_of steps.now)) (first-item c.args.runs.now c.steps-item.result c.in-len1-up-runs.len_at_least c.steps-item.is))
+    c.args.names _ _ c.in_ok-names.ensures c.in_ok-number.ensures.ok)
+    c.methods_names.ensures

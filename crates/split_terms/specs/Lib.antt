@@ -1,0 +1,5 @@
+pub mod CodeRunTerms
+pub mod CodeSplits
+pub mod Laws
+pub mod NodeMeanings
+pub mod SplitLaws

@@ -1,0 +1,31 @@
+-- What nodes of the code stand for, and what is known of the family of a variable that is split.
+use Rattle.std.specs.Prelude.{◌≡◌, ℕ, List, [], ◌∷◌, length}
+use Rattle.theory.specs.Terms as tree
+use Rattle.core_terms.specs.Meanings.{tree_of, tele_of}
+use Rattle.core_terms.specs.declared.term.Term.{Term}
+use Rattle.core_sig.specs.Kinds.{HasKinds, HaveKinds}
+use Rattle.core_sig.specs.Meanings.{family_of}
+use Rattle.core_sig.specs.declared.family.Constructor.{Constructor}
+use Rattle.tree_translation.specs.Splits as pure
+use Rattle.clause_walks.specs.declared.problems.Member.{Member}
+use Rattle.split_terms.specs.declared.node.Node.{Node}
+
+abbrev pub node_of : Node → pure.Node
+node_of n = record { context = tele_of n.ctx; goal = tree_of n.goal; hidden = n.hidden }
+
+-- the arguments of the family's constructors have the kinds of their types, and all its parameters are there
+pub record IsWhole (m : Member) : Type 0 where
+  pub kinds : HasKinds m.number m.family.now
+  pub parameters : length m.params ≡ length m.family.now.params
+
+-- the arguments of a constructor have the kinds of their types
+abbrev pub FitsIn : Member → Constructor → Type 0
+FitsIn m c = HaveKinds m.number (family_of m.family.now) 0 c.args
+
+abbrev pub AllFitIn : Member → List Constructor → Type 0
+AllFitIn m [] = Unit {0}
+AllFitIn m (c ∷ constructors) = FitsIn m c × AllFitIn m constructors
+
+-- names, and a term
+abbrev pub named_of : List (List ℕ) × Term → List (List ℕ) × tree.Term
+named_of r = (r.0, tree_of r.1)

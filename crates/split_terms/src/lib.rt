@@ -1,0 +1,22 @@
+//! The terms of runs of unification and of split nodes.
+#![tactic(auto)]
+
+pub mod laws;
+mod members;
+mod methods;
+mod names;
+mod node;
+mod problems;
+mod rule_terms;
+mod runs;
+pub mod split_laws;
+mod split_naming;
+mod splitting;
+
+pub use members::type_member;
+pub use names::{names_joined, run_names};
+pub use node::Node;
+pub use problems::branch_standing;
+pub use runs::run_term;
+pub use split_naming::split_names;
+pub use splitting::{split_node, split_term};

@@ -1,0 +1,202 @@
+ghost use Rattle.std.specs.Prelude.{◌≡◌, true, cond, Ok, length, map};
+ghost use Rattle.core_terms.specs.Answers.{Gives};
+ghost use Rattle.core_terms.specs.Meanings.{tree_of, tele_of};
+ghost use Rattle.core_terms.specs.TreeMeanings.{steps_of};
+ghost use Rattle.core_sig.specs.Meanings.{constructor_of, family_of};
+ghost use Rattle.theory.specs.Telescopes as telescopes;
+ghost use Rattle.unification.specs.Records as records;
+ghost use Rattle.tree_translation.specs.Splits as splits;
+ghost use Rattle.clause_walks.specs.LookMeanings.{member_meant};
+ghost use Rattle.run_terms.specs.CodeNaming.{naming_of};
+ghost use Rattle.split_terms.specs.CodeSplits as spec;
+ghost use Rattle.split_terms.specs.NodeMeanings.{AllFitIn, FitsIn, node_of};
+
+use crate::members::{scrutinee, with_types};
+use crate::node::Node;
+use crate::problems::{arguments_at, branch_standing};
+use crate::runs::run_term;
+use clause_walks::Member;
+use core_sig::{Constructor, Signature};
+use core_terms::{Items, Rule, Step, Stop, Tele, Term, functions, number_of, products};
+use run_terms::{
+    Naming, all_raised, argument_items, equations_made, family_items, next, raised, state_term, sum,
+};
+use std::alloc::Global;
+use unifier::variables;
+
+/// The types of the equations in the motive of a split, or Deep where something in them is too high.
+fn motive_equations(alloc: Global, m: &Member, x: u32) -> Result<Tele, Stop>
+    ensures { Gives tele_of result (spec.motive_equations (member_meant m.now) x) }
+{
+    let count = next(number_of(m.indices.as_slice().len())?)?;
+    let params = all_raised(alloc, count, m.params.as_slice())?;
+    let items = family_items(alloc, m.number, m.family, params.as_slice())?;
+    let left = variables(alloc, count)?;
+    let right = all_raised(alloc, count, scrutinee(alloc, m, x)?.as_slice())?;
+    equations_made(alloc, &items, &left, &right)
+}
+
+/// `\I y. inner`: a term after the indices and the family at them, which are bound.
+fn over_family(alloc: Global, m: &Member, inner: Term) -> Result<Term, Stop>
+    ensures { Gives tree_of result (Ok (telescopes.functions (splits.member_types (records.family_items m.now.number (family_of m.now.family.now) (tele_of m.now.params))) (tree_of inner))) }
+{
+    let items = family_items(alloc, m.number, m.family, m.params.as_slice())?;
+    let types = with_types(alloc, items.as_slice(), Items::new(alloc))?;
+    functions(alloc, types.into_vec(), inner)
+}
+
+/// The motive of a split, where its equations have these types.
+fn motive_with(alloc: Global, node: &Node, m: &Member, types: Tele) -> Result<Term, Stop>
+    ensures { Gives tree_of result (Ok (spec.motive_with (node_of node.now) (member_meant m.now) (tele_of types))) }
+{
+    let count = next(number_of(m.indices.as_slice().len())?)?;
+    let count = sum(count, number_of(types.as_slice().len())?)?;
+    let goal = raised(alloc, count, 0, &node.goal)?;
+    over_family(alloc, m, products(alloc, types.into_vec(), goal)?)
+}
+
+/// The motive of a split, or Deep.
+pub fn split_motive(alloc: Global, node: &Node, m: &Member, x: u32) -> Result<Term, Stop>
+    ensures { Gives tree_of result (spec.motive_made (node_of node.now) (member_meant m.now) x) }
+{
+    let types = motive_equations(alloc, m, x)?;
+    motive_with(alloc, node, m, types)
+}
+
+/// `\Ac. inner`: a term after the arguments of a constructor, which are bound.
+fn over_arguments(alloc: Global, m: &Member, con: &Constructor, inner: Term) -> Result<Term, Stop>
+    requires kinds { FitsIn m.now con.now }
+    requires parameters { length m.now.params ≡ length m.now.family.now.params }
+    ensures { Gives tree_of result (Ok (telescopes.functions (splits.member_types (records.argument_items m.now.number (tele_of m.now.params) (constructor_of (length m.now.family.now.params) con.now))) (tree_of inner))) }
+{
+    let items = arguments_at(alloc, m, con)?;
+    let types = with_types(alloc, items.as_slice(), Items::new(alloc))?;
+    functions(alloc, types.into_vec(), inner)
+}
+
+/// The method for a constructor, whose run has these steps and this end, or Deep.
+pub fn split_method(
+    alloc: Global,
+    sig: &Signature,
+    naming: Naming,
+    level: u8,
+    node: &Node,
+    m: &Member,
+    x: u32,
+    number: u32,
+    con: &Constructor,
+    steps: &[Step],
+    end: &Term,
+) -> Result<Term, Stop>
+    requires kinds { FitsIn m.now con.now }
+    requires parameters { length m.now.params ≡ length m.now.family.now.params }
+    ensures { Gives tree_of result (spec.method_made sig.now (naming_of naming.entry) level (node_of node.now) (member_meant m.now) x number (constructor_of (length m.now.family.now.params) con.now) (steps_of steps.now) (tree_of end.now)) }
+{
+    let s = branch_standing(alloc, node, m, x, number, con)?;
+    let inner = run_term(alloc, sig, naming, level, end, steps, &s)?;
+    over_arguments(alloc, m, con, state_term(alloc, &s, inner)?)
+}
+
+fn is_last(rule: Rule) -> bool
+    ensures { result ≡ splits.is_last rule }
+{
+    matches!(rule, Rule::Conflict(_, _, _) | Rule::Cycle(_))
+}
+
+/// Whether a run ends in an absurd state.
+pub fn is_absurd(steps: &[Step]) -> bool
+    ensures { result ≡ splits.is_absurd (steps_of steps.now) }
+{
+    match steps {
+        [] => false,
+        [step] => is_last(step.rule),
+        [_, rest @ ..] => is_absurd(rest),
+    }
+}
+
+/// The ends that are left after a run.
+fn ends_after<'a>(steps: &[Step], ends: &'a [Term]) -> &'a [Term]
+    ensures { tele_of result.now ≡ cond (splits.is_absurd (steps_of steps.now)) (tele_of ends.now) (splits.behind_first (tele_of ends.now)) }
+{
+    match ends {
+        [_, rest @ ..] if !is_absurd(steps) => rest,
+        _ => ends,
+    }
+}
+
+/// The method for a constructor, whose run has the first of these ends, or Deep.
+fn method_at(
+    alloc: Global,
+    sig: &Signature,
+    naming: Naming,
+    level: u8,
+    node: &Node,
+    m: &Member,
+    x: u32,
+    number: u32,
+    con: &Constructor,
+    steps: &[Step],
+    ends: &[Term],
+) -> Result<Term, Stop>
+    requires kinds { FitsIn m.now con.now }
+    requires parameters { length m.now.params ≡ length m.now.family.now.params }
+    ensures { Gives tree_of result (spec.method_made sig.now (naming_of naming.entry) level (node_of node.now) (member_meant m.now) x number (constructor_of (length m.now.family.now.params) con.now) (steps_of steps.now) (splits.first_of (tele_of ends.now))) }
+{
+    match ends {
+        [] => {
+            let none = Term::Sort(0);
+            split_method(
+                alloc, sig, naming, level, node, m, x, number, con, steps, &none,
+            )
+        }
+        [end, ..] => split_method(
+            alloc, sig, naming, level, node, m, x, number, con, steps, end,
+        ),
+    }
+}
+
+/// `head` applied to the methods for constructors, the first of which has this number, or Deep: each solved run takes one end.
+pub fn with_methods(
+    alloc: Global,
+    head: Term,
+    sig: &Signature,
+    naming: Naming,
+    level: u8,
+    node: &Node,
+    m: &Member,
+    x: u32,
+    number: u32,
+    cons: &[Constructor],
+    runs: &[&[Step]],
+    ends: &[Term],
+) -> Result<Term, Stop>
+    requires kinds { AllFitIn m.now cons.now }
+    requires parameters { length m.now.params ≡ length m.now.family.now.params }
+    ensures { Gives tree_of result (spec.with_methods (tree_of head) sig.now (naming_of naming.entry) level (node_of node.now) (member_meant m.now) x number (map (constructor_of (length m.now.family.now.params)) cons.now) (map (λ steps. steps_of steps.now) runs.now) (tele_of ends.now)) }
+{
+    let [con, cons @ ..] = cons else {
+        return Ok(head);
+    };
+    let [steps, runs @ ..] = runs else {
+        return Ok(head);
+    };
+    let method = method_at(
+        alloc, sig, naming, level, node, m, x, number, con, steps, ends,
+    )?;
+    let head = Term::new_app(alloc, head, method)?;
+    let ends = ends_after(steps, ends);
+    with_methods(
+        alloc,
+        head,
+        sig,
+        naming,
+        level,
+        node,
+        m,
+        x,
+        next(number)?,
+        cons,
+        runs,
+        ends,
+    )
+}

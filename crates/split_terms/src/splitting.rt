@@ -1,0 +1,134 @@
+ghost use Rattle.std.specs.Prelude.{◌≡◌, Ok, length, map};
+ghost use Rattle.core_terms.specs.Answers.{Gives};
+ghost use Rattle.core_terms.specs.Meanings.{tree_of, tele_of};
+ghost use Rattle.core_terms.specs.TreeMeanings.{steps_of};
+ghost use Rattle.clause_walks.specs.LookMeanings.{member_meant};
+ghost use Rattle.run_terms.specs.CodeNaming.{naming_of};
+ghost use Rattle.split_terms.specs.CodeSplits as spec;
+ghost use Rattle.split_terms.specs.NodeMeanings.{IsWhole, named_of, node_of};
+
+use crate::members::{scrutinee, type_member};
+use crate::methods::{split_motive, with_methods};
+use crate::node::Node;
+use crate::split_naming::split_names;
+use clause_walks::Member;
+use core_sig::Signature;
+use core_terms::{Items, Name, Step, Stop, Term, applied, checked, copy_tele};
+use run_terms::{Naming, case_name, constant, family_items, reflexivities_made, with_names};
+use std::alloc::Global;
+
+/// `D!case.L ps motive`.
+fn split_head(
+    alloc: Global,
+    naming: Naming,
+    level: u8,
+    m: &Member,
+    motive: Term,
+) -> Result<Term, Stop>
+    ensures { Gives tree_of result (Ok (spec.split_head (naming_of naming.entry) level (member_meant m.now) (tree_of motive))) }
+{
+    let name = case_name(alloc, m.family, level)?;
+    let head = constant(naming, &name)?;
+    let params = copy_tele(alloc, m.params.as_slice())?;
+    let head = applied(alloc, head, params.into_vec())?;
+    Term::new_app(alloc, head, motive)
+}
+
+/// `head` applied to the indices, the variable and their reflexivities, or Deep where something in these is too high.
+fn split_end(alloc: Global, m: &Member, x: u32, head: Term) -> Result<Term, Stop>
+    ensures { Gives tree_of result (spec.split_end (member_meant m.now) x (tree_of head)) }
+{
+    let terms = scrutinee(alloc, m, x)?;
+    let items = family_items(alloc, m.number, m.family, m.params.as_slice())?;
+    let refls = reflexivities_made(alloc, &items, &terms)?;
+    let head = applied(alloc, head, terms.into_vec())?;
+    applied(alloc, head, refls.into_vec())
+}
+
+/// The term of a split on a variable whose type is this family with all its parameters and indices, or Deep.
+fn split_member(
+    alloc: Global,
+    sig: &Signature,
+    naming: Naming,
+    level: u8,
+    node: &Node,
+    m: &Member,
+    x: u32,
+    runs: &[&[Step]],
+    ends: &[Term],
+) -> Result<Term, Stop>
+    requires { IsWhole m.now }
+    ensures { Gives tree_of result (spec.split_member_made sig.now (naming_of naming.entry) level (node_of node.now) (member_meant m.now) x (map (λ steps. steps_of steps.now) runs.now) (tele_of ends.now)) }
+{
+    let motive = split_motive(alloc, node, m, x)?;
+    let head = split_head(alloc, naming, level, m, motive)?;
+    let cons = m.family.cons.as_slice();
+    let head = with_methods(
+        alloc, head, sig, naming, level, node, m, x, 0, cons, runs, ends,
+    )?;
+    split_end(alloc, m, x, head)
+}
+
+/// The term of a split node on a variable with this reduced type, or Deep. The steps of the runs come by constructor, and `ends` has one
+/// end for each solved run, over its last context.
+pub fn split_node(
+    alloc: Global,
+    sig: &Signature,
+    naming: Naming,
+    level: u8,
+    node: &Node,
+    x: u32,
+    ty: &Term,
+    runs: &[&[Step]],
+    ends: &[Term],
+) -> Result<Term, Stop>
+    ensures { Gives tree_of result (spec.split_node_made sig.now (naming_of naming.entry) level (node_of node.now) x (tree_of ty.now) (map (λ steps. steps_of steps.now) runs.now) (tele_of ends.now)) }
+{
+    match type_member(alloc, sig, ty)? {
+        None => Ok(Term::Sort(0)),
+        Some(m) => split_member(alloc, sig, naming, level, node, &m, x, runs, ends),
+    }
+}
+
+/// The same where these are the names of generated entries, which have the numbers after those of the signature, or Deep where the term is
+/// too high.
+fn split_named(
+    alloc: Global,
+    sig: &Signature,
+    level: u8,
+    node: &Node,
+    x: u32,
+    ty: &Term,
+    runs: &[&[Step]],
+    ends: &[Term],
+    names: &[Name],
+) -> Result<Term, Stop>
+    ensures { Gives tree_of result (spec.split_named sig.now (length sig.now.entries) level (node_of node.now) x (tree_of ty.now) (map (λ steps. steps_of steps.now) runs.now) (tele_of ends.now) names.now) }
+{
+    let naming = Naming {
+        base: sig.len(),
+        names,
+    };
+    checked(split_node(alloc, sig, naming, level, node, x, ty, runs, ends)?)
+}
+
+/// The term of a split node by itself, with the names of generated entries that it may mention: those that were there, and after them the
+/// others, each once. A generated entry is the constant whose number is that of its name, after those of the signature.
+pub fn split_term(
+    alloc: Global,
+    sig: &Signature,
+    level: u8,
+    node: &Node,
+    x: u32,
+    ty: &Term,
+    runs: &[&[Step]],
+    ends: &[Term],
+    names: Items<Name>,
+) -> Result<(Items<Name>, Term), Stop>
+    ensures { Gives named_of result (spec.split_term_made sig.now (length sig.now.entries) level (node_of node.now) x (tree_of ty.now) (map (λ steps. steps_of steps.now) runs.now) (tele_of ends.now) names) }
+{
+    let others = split_names(alloc, sig, level, node, x, ty, runs, Items::new(alloc))?;
+    let names = with_names(alloc, names, others.as_slice())?;
+    let term = split_named(alloc, sig, level, node, x, ty, runs, ends, names.as_slice())?;
+    Ok((names, term))
+}
