@@ -1,0 +1,6 @@
+pub mod CodeRightSides
+pub mod Laws
+pub mod PlaceMeanings
+pub mod PlanMeanings
+pub mod RecursionMade
+pub mod RecursionMeanings

@@ -1,0 +1,8 @@
+-- What recursion at a position stands for.
+use Rattle.core_sig.specs.Meanings.{family_of}
+use Rattle.structural_rec.specs.Meanings.{admission_of}
+use Rattle.tree_translation.specs.Recursion as pure
+use Rattle.leaf_terms.specs.declared.recursion.Recursion.{Recursion}
+
+abbrev pub recursion_of : Recursion → pure.Recursion
+recursion_of r = record { position = r.position; admission = admission_of r.admission; family = family_of r.family.now }

@@ -1,0 +1,222 @@
+ghost use Rattle.std.specs.Prelude.{◌≡◌, IfOk, Ok, get_or, map, option_and_then, option_map};
+ghost use Rattle.std.specs.Option.{option_copied};
+ghost use Rattle.core_terms.specs.Answers.{Gives};
+ghost use Rattle.core_terms.specs.Meanings.{tree_of, tele_of};
+ghost use Rattle.core_terms.specs.TreeMeanings.{walk_of};
+ghost use Rattle.tree_translation.specs.Mappings as mappings;
+ghost use Rattle.tree_translation.specs.RightSides as sides;
+ghost use Rattle.tree_translation.specs.Standings as standings;
+ghost use Rattle.run_terms.specs.CodeNaming.{naming_of};
+ghost use Rattle.leaf_terms.specs.CodeRightSides as spec;
+ghost use Rattle.leaf_terms.specs.PlaceMeanings.{HasFamily, HasPlaceFamily, below_of, leaf_of, translation_of};
+ghost use Rattle.leaf_terms.specs.PlanMeanings.{part_of, plan_of};
+ghost use Rattle.leaf_terms.specs.RecursionMeanings.{recursion_of};
+
+use crate::mappings::{in_old_order, mapping};
+use crate::plan::{Part, Plan};
+use crate::recursion::Recursion;
+use crate::right_sides::{BelowValue, Place, term_or, with_calls};
+use core_sig::Signature;
+use core_terms::{Items, Stop, Tele, Term, Walk, head, variable};
+use run_terms::{Naming, all_placed, instance, visible};
+use std::alloc::Global;
+
+/// What the leaves of a tree are made of.
+#[derive(Clone, Copy)]
+pub struct Translation<'a> {
+    pub sig: &'a Signature,
+    pub naming: Naming<'a>,
+    pub plan: &'a Plan,
+    pub recursion: Option<&'a Recursion<'a>>,
+    pub part: &'a Part,
+    pub order: &'a [u32],
+}
+
+/// Whether a term is the constant of a helper.
+fn is_helper(base: u32, t: &Term) -> bool
+    ensures { result ≡ sides.is_helper base (tree_of t.now) }
+{
+    match t {
+        Term::Const(c) => base < *c,
+        _ => false,
+    }
+}
+
+/// The terms for the variables of the context of a clause's walk, by what the comparison with a leaf tells. There are none without a
+/// walk.
+fn values_in_walk(
+    alloc: Global,
+    walks: &[Walk],
+    clause: u32,
+    substitution: &[Term],
+    terms: &[Term],
+) -> Result<Tele, Stop>
+    ensures { Gives tele_of result (Ok (mappings.mapping (get_or (map walk_of walks.now) clause sides.no_walk) (tele_of substitution.now) (tele_of terms.now))) }
+{
+    match walks {
+        [] => Ok(Items::new(alloc)),
+        [walk, rest @ ..] => {
+            if clause == 0 {
+                mapping(alloc, walk, substitution, terms)
+            } else {
+                values_in_walk(alloc, rest, clause - 1, substitution, terms)
+            }
+        }
+    }
+}
+
+/// The same with a leaf's own substitution.
+fn values_of_helper(
+    alloc: Global,
+    w: &Translation,
+    clause: u32,
+    substitution: &[Term],
+    terms: &[Term],
+) -> Result<Tele, Stop>
+    ensures { Gives tele_of result (Ok (mappings.mapping (get_or (part_of w.now.part.now).walks clause sides.no_walk) (mappings.in_old_order w.now.order.now (tele_of substitution.now)) (tele_of terms.now))) }
+{
+    let substitution = in_old_order(alloc, w.order, substitution)?;
+    values_in_walk(
+        alloc,
+        w.part.walks.as_slice(),
+        clause,
+        substitution.as_slice(),
+        terms,
+    )
+}
+
+/// The terms for the variables of a clause's right side, over variables that have these levels, of `n`.
+fn placed_values(
+    alloc: Global,
+    w: &Translation,
+    levels: &[u32],
+    n: u32,
+    clause: u32,
+    side: &Term,
+    substitution: &[Term],
+    terms: &[Term],
+    binds: &[Term],
+) -> Result<Tele, Stop>
+    ensures { Gives tele_of result (Ok (standings.all_placed levels.now n (sides.values_at (plan_of w.now.plan.now) (part_of w.now.part.now) w.now.order.now clause (tree_of side.now) (tele_of substitution.now) (tele_of terms.now) (tele_of binds.now)))) }
+{
+    if is_helper(w.plan.base, head(side)) {
+        let values = values_of_helper(alloc, w, clause, substitution, terms)?;
+        return all_placed(alloc, levels, n, values.as_slice(), Items::new(alloc));
+    }
+    all_placed(alloc, levels, n, binds, Items::new(alloc))
+}
+
+/// The right side of a clause at a leaf, before its calls are made.
+#[tactic(auto, using(core_terms::proofs::Instances::instance_laws))]
+fn side_at(
+    alloc: Global,
+    w: &Translation,
+    levels: &[u32],
+    n: u32,
+    clause: u32,
+    substitution: &[Term],
+    terms: &[Term],
+    binds: &[Term],
+) -> Result<Term, Stop>
+    ensures { Gives tree_of result (Ok (spec.side_with (plan_of w.now.plan.now) (part_of w.now.part.now) w.now.order.now levels.now n clause (tele_of substitution.now) (tele_of terms.now) (tele_of binds.now))) }
+{
+    let none = Term::Sort(0);
+    let side = term_or(w.part.sides.as_slice(), clause, &none);
+    let values = placed_values(
+        alloc,
+        w,
+        levels,
+        n,
+        clause,
+        side,
+        substitution,
+        terms,
+        binds,
+    )?;
+    instance(alloc, values.as_slice(), side, 0)
+}
+
+/// The below value of a leaf, whose whole context has `n` variables.
+fn below_in<'a>(n: u32, hidden: &[u32], r: Option<&'a Recursion<'a>>) -> Option<BelowValue<'a>>
+    ensures below { option_map below_of result ≡ option_and_then (sides.below_in n hidden.now) (option_map recursion_of (option_copied r.entry)) }
+{
+    match r {
+        Some(recursion) => match hidden {
+            [] => None,
+            [p, ..] => Some(BelowValue {
+                recursion,
+                term: variable(n, *p),
+            }),
+        },
+        None => None,
+    }
+}
+
+/// A leaf in its whole context.
+fn place_at<'a>(
+    alloc: Global,
+    w: &Translation<'a>,
+    levels: &[u32],
+    n: u32,
+    hidden: &[u32],
+    terms: &[Term],
+) -> Result<Place<'a>, Stop>
+    requires { HasFamily w.now.sig.now (translation_of w.now).recursion }
+    ensures place { Gives leaf_of result (Ok (sides.place_with n hidden.now (translation_of w.now).recursion (standings.all_placed levels.now n (tele_of terms.now)))) }
+    ensures family { IfOk result (HasPlaceFamily w.now.sig.now) }
+{
+    Ok(Place {
+        terms: all_placed(alloc, levels, n, terms, Items::new(alloc))?,
+        below: below_in(n, hidden, w.recursion),
+    })
+}
+
+/// The term of a leaf over its whole context of `n` variables, where it has such visible ones.
+fn leaf_with(
+    alloc: Global,
+    w: &Translation,
+    levels: &[u32],
+    n: u32,
+    hidden: &[u32],
+    clause: u32,
+    substitution: &[Term],
+    terms: &[Term],
+    binds: &[Term],
+) -> Result<Term, Stop>
+    requires { HasFamily w.now.sig.now (translation_of w.now).recursion }
+    ensures { Gives tree_of result (spec.leaf_with (naming_of w.now.naming) (plan_of w.now.plan.now) (translation_of w.now).recursion (part_of w.now.part.now) w.now.order.now levels.now n hidden.now clause (tele_of substitution.now) (tele_of terms.now) (tele_of binds.now)) }
+{
+    let side = side_at(alloc, w, levels, n, clause, substitution, terms, binds)?;
+    let place = place_at(alloc, w, levels, n, hidden, terms)?;
+    with_calls(alloc, w, &place, 0, Vec::new(alloc), &side)
+}
+
+/// The term of a leaf over its whole context of `n` variables, of which some are hidden: the right side of its clause, with the
+/// leaf's terms for the clause's variables, where each call of the function is a path in the below value. Deep where the term that a
+/// path starts from, the part that it leads to or the path is too high.
+pub fn leaf_term(
+    alloc: Global,
+    w: &Translation,
+    n: u32,
+    hidden: &[u32],
+    clause: u32,
+    substitution: &[Term],
+    terms: &[Term],
+    binds: &[Term],
+) -> Result<Term, Stop>
+    requires { HasFamily w.now.sig.now (translation_of w.now).recursion }
+    ensures { Gives tree_of result (spec.leaf_made (naming_of w.now.naming) (plan_of w.now.plan.now) (translation_of w.now).recursion (part_of w.now.part.now) w.now.order.now n hidden.now clause (tele_of substitution.now) (tele_of terms.now) (tele_of binds.now)) }
+{
+    let levels = visible(alloc, n, hidden)?;
+    leaf_with(
+        alloc,
+        w,
+        levels.as_slice(),
+        n,
+        hidden,
+        clause,
+        substitution,
+        terms,
+        binds,
+    )
+}

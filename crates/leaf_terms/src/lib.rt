@@ -1,0 +1,24 @@
+//! What the entries of a function are made of, and the terms of leaves: right sides with recursive calls as paths.
+#![tactic(auto)]
+
+mod below_types;
+mod entry_names;
+pub mod laws;
+mod leaves;
+mod mappings;
+mod orders;
+mod paths;
+mod plan;
+mod recursion;
+mod right_sides;
+mod smallness;
+
+pub use below_types::{below_type, copied_at, motive_at, parameters_at, scrutinee_at, terms_at};
+pub use entry_names::{helper_name, motive_name, step_name};
+pub use leaves::{Translation, leaf_term};
+pub use orders::{
+    first_positions, order_of, ordered_telescope, ordered_term, recursive_order,
+    remaining_positions,
+};
+pub use plan::{Part, Plan, no_part};
+pub use recursion::{Recursion, own_tele, recursion_at, recursion_of};

@@ -1,0 +1,94 @@
+ghost use Rattle.std.specs.Prelude.{◌≡◌, Ok, option_map};
+ghost use Rattle.core_terms.specs.Answers.{Gives};
+ghost use Rattle.core_terms.specs.Meanings.{tele_of};
+ghost use Rattle.kernel_reduce.specs.Entries.{family_at};
+ghost use Rattle.structural_rec.specs.Meanings.{admission_of};
+ghost use Rattle.tele_eq.specs.Items.{AreSmallTerms};
+ghost use Rattle.tree_translation.specs.Plans.{own_part};
+ghost use Rattle.tree_translation.specs.Recursion as spec;
+ghost use Rattle.leaf_terms.specs.PlanMeanings.{plan_of};
+ghost use Rattle.leaf_terms.specs.RecursionMade.{recursion_at_made, recursion_made};
+ghost use Rattle.leaf_terms.specs.RecursionMeanings.{recursion_of};
+
+use crate::plan::Plan;
+use crate::smallness::small_terms;
+use core_sig::{Family, Signature};
+use core_terms::{Stop, Term};
+use kernel_reduce::family;
+use std::alloc::Global;
+use structural_rec::{Admission, find_admission};
+
+/// A position at which a function is recursive, what recursion there rests on, and the family of its type.
+#[derive(Drop)]
+pub struct Recursion<'a> {
+    pub position: u32,
+    pub admission: Admission,
+    pub family: &'a Family,
+}
+
+/// The telescope of a function's own part.
+pub fn own_tele(plan: &Plan) -> &[Term]
+    ensures { tele_of result.now ≡ (own_part (plan_of plan.now)).tele }
+{
+    match plan.parts.as_slice() {
+        [] => &[],
+        [part, ..] => part.tele.as_slice(),
+    }
+}
+
+/// Recursion at position `j` with what it rests on, where its family is known.
+fn with_family<'a>(sig: &'a Signature, j: u32, admission: Admission) -> Option<Recursion<'a>>
+    ensures { option_map recursion_of result ≡ option_map (spec.recursion_with j (admission_of admission)) (family_at sig.now (admission_of admission).number) }
+{
+    match family(sig, admission.number) {
+        Some(family) => Some(Recursion {
+            position: j,
+            admission,
+            family,
+        }),
+        None => None,
+    }
+}
+
+/// Recursion at position `j` of a telescope whose types are small, where it is admitted.
+fn admitted_at<'a>(
+    alloc: Global,
+    sig: &'a Signature,
+    tele: &[Term],
+    j: u32,
+) -> Result<Option<Recursion<'a>>, Stop>
+    requires { AreSmallTerms (tele_of tele.now) }
+    ensures { Gives (option_map recursion_of) result (Ok (spec.recursion_at sig.now (tele_of tele.now) j)) }
+{
+    match find_admission(alloc, sig, tele, j)? {
+        Some(admission) => Ok(with_family(sig, j, admission)),
+        None => Ok(None),
+    }
+}
+
+/// Recursion at position `j` of a telescope, where it is admitted, or Deep where a type of the telescope is too high.
+pub fn recursion_at<'a>(
+    alloc: Global,
+    sig: &'a Signature,
+    tele: &[Term],
+    j: u32,
+) -> Result<Option<Recursion<'a>>, Stop>
+    ensures { Gives (option_map recursion_of) result (recursion_at_made sig.now (tele_of tele.now) j) }
+{
+    small_terms(tele)?;
+    admitted_at(alloc, sig, tele, j)
+}
+
+/// Recursion at the position of a plan, or none where it has no position.
+pub fn recursion_of<'a>(
+    alloc: Global,
+    sig: &'a Signature,
+    plan: &Plan,
+) -> Result<Option<Recursion<'a>>, Stop>
+    ensures { Gives (option_map recursion_of) result (recursion_made sig.now (plan_of plan.now)) }
+{
+    match plan.position {
+        Some(j) => recursion_at(alloc, sig, own_tele(plan), j),
+        None => Ok(None),
+    }
+}

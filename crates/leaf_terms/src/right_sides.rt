@@ -1,0 +1,345 @@
+ghost use Rattle.std.specs.Prelude.{◌≡◌, ◌∷◌, [], Ok, drop, get_or, reverse};
+ghost use Rattle.core_terms.specs.Answers.{Gives};
+ghost use Rattle.core_terms.specs.Meanings.{tree_of, tele_of};
+ghost use Rattle.theory.specs.Signatures.{FamilyOf, IsEntryAt};
+ghost use Rattle.theory.specs.Telescopes as telescopes;
+ghost use Rattle.theory.specs.Terms as tree;
+ghost use Rattle.unification.specs.Injecting.{lifted};
+ghost use Rattle.tree_translation.specs.Naming as names;
+ghost use Rattle.tree_translation.specs.Recursion as recursions;
+ghost use Rattle.tree_translation.specs.RightSides as sides;
+ghost use Rattle.run_terms.specs.CodeNaming.{naming_of};
+ghost use Rattle.leaf_terms.specs.CodeRightSides as spec;
+ghost use Rattle.leaf_terms.specs.PlaceMeanings.{HasPlaceFamily, below_of, leaf_of};
+ghost use Rattle.leaf_terms.specs.PlanMeanings.{plan_of};
+ghost use Rattle.leaf_terms.specs.RecursionMeanings.{recursion_of};
+
+use crate::below_types::{copied_at, motive_at};
+use crate::entry_names::helper_name;
+use crate::leaves::Translation;
+use crate::orders::remaining_positions;
+use crate::paths::{Descent, path_or_below};
+use crate::recursion::Recursion;
+use core_terms::{Stop, Tele, Term, applied, copy_whole, number_of};
+use run_terms::{all_raised, below_name, constant, next, place_of, raised};
+use std::alloc::Global;
+
+/// A below value for recursion.
+#[derive(Drop)]
+pub struct BelowValue<'a> {
+    pub recursion: &'a Recursion<'a>,
+    pub term: Term,
+}
+
+/// A leaf in its whole context: the terms of its columns there, and the below value, with recursion.
+#[derive(Drop)]
+pub struct Place<'a> {
+    pub terms: Tele,
+    pub below: Option<BelowValue<'a>>,
+}
+
+/// The term at a position, or another one.
+pub fn term_or<'a>(terms: &'a [Term], position: u32, other: &'a Term) -> &'a Term
+    ensures { tree_of result.now ≡ get_or (tele_of terms.now) position (tree_of other.now) }
+{
+    match terms {
+        [] => other,
+        [t, rest @ ..] => {
+            if position == 0 {
+                t
+            } else {
+                term_or(rest, position - 1, other)
+            }
+        }
+    }
+}
+
+/// `head` applied to the terms at some positions.
+fn applied_to_terms_at(
+    alloc: Global,
+    head: Term,
+    positions: &[u32],
+    terms: &[Term],
+) -> Result<Term, Stop>
+    ensures { Gives tree_of result (Ok (telescopes.applied (tree_of head) (recursions.terms_at positions.now (tele_of terms.now)))) }
+{
+    match positions {
+        [] => Ok(head),
+        [j, rest @ ..] => {
+            let t = copied_at(alloc, terms, *j)?;
+            let head = Term::new_app(alloc, head, t)?;
+            applied_to_terms_at(alloc, head, rest, terms)
+        }
+    }
+}
+
+/// `head` applied to the terms after the first `count` ones.
+fn applied_to_further(alloc: Global, head: Term, count: u32, terms: &[Term]) -> Result<Term, Stop>
+    ensures { Gives tree_of result (Ok (telescopes.applied (tree_of head) (drop count (tele_of terms.now)))) }
+{
+    match terms {
+        [] => Ok(head),
+        [t, rest @ ..] => {
+            if count > 0 {
+                return applied_to_further(alloc, head, count - 1, rest);
+            }
+            let head = Term::new_app(alloc, head, copy_whole(alloc, t)?)?;
+            applied_to_further(alloc, head, 0, rest)
+        }
+    }
+}
+
+/// A path applied to the arguments of a call at the other positions and any further ones.
+#[tactic(auto, using(run_terms::proofs::Spines::spines))]
+fn applied_path(
+    alloc: Global,
+    w: &Translation,
+    r: &Recursion,
+    arguments: &[Term],
+    path: Term,
+) -> Result<Term, Stop>
+    ensures { Gives tree_of result (Ok (spec.applied_path (plan_of w.now.plan.now) (recursion_of r.now) (tele_of arguments.now) (tree_of path))) }
+{
+    let positions = remaining_positions(alloc, w.plan.arity, r)?;
+    let head = applied_to_terms_at(alloc, path, positions.as_slice(), arguments)?;
+    applied_to_further(alloc, head, w.plan.arity, arguments)
+}
+
+/// The number of `D!below.L`.
+fn below_number(alloc: Global, w: &Translation, r: &Recursion) -> Result<u32, Stop>
+    ensures { Gives (λ n. n) result (Ok (naming_of w.now.naming (names.below_name (recursion_of r.now).family w.now.plan.now.level))) }
+{
+    let name = below_name(alloc, r.family, w.plan.level)?;
+    let place = number_of(place_of(w.naming.names, &name))?;
+    number_of(w.naming.base as usize + place as usize)
+}
+
+/// The path for the argument at the position, or the below value.
+fn path_at(
+    alloc: Global,
+    w: &Translation,
+    r: &Recursion,
+    terms: &[Term],
+    below: Term,
+    arguments: &[Term],
+) -> Result<Term, Stop>
+    requires { IsEntryAt w.now.sig.now r.now.admission.number (FamilyOf (recursion_of r.now).family) }
+    ensures { Gives tree_of result (spec.path_at (naming_of w.now.naming) (plan_of w.now.plan.now) (recursion_of r.now) (tele_of terms.now) (tree_of below) (tele_of arguments.now)) }
+{
+    let none = Term::Sort(0);
+    let number = below_number(alloc, w, r)?;
+    let motive = motive_at(alloc, w.naming, w.plan, r, terms)?;
+    let d = Descent {
+        fam: r.admission.number,
+        family: r.family,
+        level: w.plan.level,
+        below: number,
+        motive: &motive,
+        part: term_or(arguments, r.position, &none),
+    };
+    path_or_below(alloc, w.sig, &d, term_or(terms, r.position, &none), below)
+}
+
+/// The call of the function with these arguments, at the terms of the leaf and a below value.
+fn call_by_path(
+    alloc: Global,
+    w: &Translation,
+    r: &Recursion,
+    terms: &[Term],
+    below: Term,
+    arguments: &[Term],
+) -> Result<Term, Stop>
+    requires { IsEntryAt w.now.sig.now r.now.admission.number (FamilyOf (recursion_of r.now).family) }
+    ensures { Gives tree_of result (spec.call_by_path (naming_of w.now.naming) (plan_of w.now.plan.now) (recursion_of r.now) (tele_of terms.now) (tree_of below) (tele_of arguments.now)) }
+{
+    let path = path_at(alloc, w, r, terms, below, arguments)?;
+    applied_path(alloc, w, r, arguments, path)
+}
+
+/// The same under so many binders.
+fn call_with(
+    alloc: Global,
+    w: &Translation,
+    terms: &[Term],
+    b: &BelowValue,
+    under: u32,
+    arguments: &[Term],
+) -> Result<Term, Stop>
+    requires { IsEntryAt w.now.sig.now b.now.recursion.now.admission.number (FamilyOf (recursion_of b.now.recursion.now).family) }
+    ensures { Gives tree_of result (spec.call_by_path (naming_of w.now.naming) (plan_of w.now.plan.now) (below_of b.now).0 (lifted under (tele_of terms.now)) (tree.lift (below_of b.now).1 under 0) (tele_of arguments.now)) }
+{
+    let terms = all_raised(alloc, under, terms)?;
+    let below = raised(alloc, under, 0, &b.term)?;
+    call_by_path(alloc, w, b.recursion, terms.as_slice(), below, arguments)
+}
+
+/// The call of the function at a leaf. Without recursion there is none.
+fn call_in(
+    alloc: Global,
+    w: &Translation,
+    l: &Place,
+    under: u32,
+    arguments: &[Term],
+) -> Result<Term, Stop>
+    requires { HasPlaceFamily w.now.sig.now l.now }
+    ensures { Gives tree_of result (spec.call_made (naming_of w.now.naming) (plan_of w.now.plan.now) (leaf_of l.now) under (tele_of arguments.now) (leaf_of l.now).recursion) }
+{
+    match &l.below {
+        None => Ok(Term::Sort(0)),
+        Some(b) => call_with(alloc, w, l.terms.as_slice(), b, under, arguments),
+    }
+}
+
+/// `head` applied to the below value, where there is one.
+fn applied_to_below(alloc: Global, head: Term, l: &Place, under: u32) -> Result<Term, Stop>
+    ensures { Gives tree_of result (Ok (telescopes.applied (tree_of head) (sides.below_behind under (leaf_of l.now).recursion))) }
+{
+    match &l.below {
+        None => Ok(head),
+        Some(b) => {
+            let below = raised(alloc, under, 0, &b.term)?;
+            Term::new_app(alloc, head, below)
+        }
+    }
+}
+
+/// The call of helper k.
+#[tactic(auto, using(run_terms::proofs::Spines::spines))]
+fn helper_call(
+    alloc: Global,
+    w: &Translation,
+    l: &Place,
+    under: u32,
+    k: u32,
+    arguments: Vec<Term>,
+) -> Result<Term, Stop>
+    ensures { Gives tree_of result (Ok (sides.helper_call (naming_of w.now.naming) (plan_of w.now.plan.now) (leaf_of l.now) under k (tele_of arguments.items))) }
+{
+    let name = helper_name(alloc, &w.plan.name, k)?;
+    let head = constant(w.naming, &name)?;
+    let head = applied(alloc, head, arguments)?;
+    applied_to_below(alloc, head, l, under)
+}
+
+/// A constant with its arguments.
+fn constant_at(
+    alloc: Global,
+    w: &Translation,
+    l: &Place,
+    under: u32,
+    c: u32,
+    arguments: Vec<Term>,
+) -> Result<Term, Stop>
+    requires { HasPlaceFamily w.now.sig.now l.now }
+    ensures { Gives tree_of result (spec.constant_made (naming_of w.now.naming) (plan_of w.now.plan.now) (leaf_of l.now) under c (tele_of arguments.items)) }
+{
+    if c < w.plan.base {
+        return applied(alloc, Term::Const(c), arguments);
+    }
+    if c == w.plan.base {
+        return call_in(alloc, w, l, under, arguments.as_slice());
+    }
+    helper_call(alloc, w, l, under, c - w.plan.base, arguments)
+}
+
+/// Arguments, the first of which comes last, in their order.
+#[tactic(auto, using(crate::proofs::Turning::turning))]
+fn in_order(mut arguments: Vec<Term>) -> Vec<Term>
+    ensures { tele_of result.items ≡ reverse (tele_of arguments.items) }
+{
+    arguments.reverse();
+    arguments
+}
+
+/// Arguments, the first of which comes last, with one before them.
+#[tactic(auto, using(crate::proofs::Turning::turning))]
+fn with_first(mut arguments: Vec<Term>, a: Term) -> Result<Vec<Term>, Stop>
+    ensures { Gives (λ v. reverse (tele_of v.items)) result (Ok (tree_of a ∷ reverse (tele_of arguments.items))) }
+{
+    arguments.push(a)?;
+    Ok(arguments)
+}
+
+/// A term that is no application and no constant, under so many binders, with all calls in it.
+#[cycle(calls)]
+fn head_with_calls(
+    alloc: Global,
+    w: &Translation,
+    l: &Place,
+    under: u32,
+    t: &Term,
+) -> Result<Term, Stop>
+    requires { HasPlaceFamily w.now.sig.now l.now }
+    ensures { Gives tree_of result (spec.head_made (λ under t. spec.calls_made (naming_of w.now.naming) (plan_of w.now.plan.now) (leaf_of l.now) under [] t) under (tree_of t.now)) }
+{
+    match t {
+        Term::Pi(domain, codomain) => {
+            let inner = next(under)?;
+            Term::new_pi(
+                alloc,
+                with_calls(alloc, w, l, under, Vec::new(alloc), domain)?,
+                with_calls(alloc, w, l, inner, Vec::new(alloc), codomain)?,
+            )
+        }
+        Term::Lam(domain, body) => {
+            let inner = next(under)?;
+            Term::new_lam(
+                alloc,
+                with_calls(alloc, w, l, under, Vec::new(alloc), domain)?,
+                with_calls(alloc, w, l, inner, Vec::new(alloc), body)?,
+            )
+        }
+        Term::Let(ty, value, rest) => {
+            let inner = next(under)?;
+            Term::new_let(
+                alloc,
+                with_calls(alloc, w, l, under, Vec::new(alloc), ty)?,
+                with_calls(alloc, w, l, under, Vec::new(alloc), value)?,
+                with_calls(alloc, w, l, inner, Vec::new(alloc), rest)?,
+            )
+        }
+        Term::Var(_)
+        | Term::Sort(_)
+        | Term::App(_, _)
+        | Term::Const(_)
+        | Term::Fam(_)
+        | Term::Con(_, _)
+        | Term::Elim(_, _)
+        | Term::AxiomK(_, _) => copy_whole(alloc, t),
+    }
+}
+
+/// A term under so many binders, applied to arguments, the first of which comes last, with all calls in it.
+#[cycle(calls)]
+pub fn with_calls(
+    alloc: Global,
+    w: &Translation,
+    l: &Place,
+    under: u32,
+    arguments: Vec<Term>,
+    t: &Term,
+) -> Result<Term, Stop>
+    requires { HasPlaceFamily w.now.sig.now l.now }
+    ensures { Gives tree_of result (spec.calls_made (naming_of w.now.naming) (plan_of w.now.plan.now) (leaf_of l.now) under (reverse (tele_of arguments.items)) (tree_of t.now)) }
+{
+    match t {
+        Term::App(f, a) => {
+            let a = with_calls(alloc, w, l, under, Vec::new(alloc), a)?;
+            let arguments = with_first(arguments, a)?;
+            with_calls(alloc, w, l, under, arguments, f)
+        }
+        Term::Const(c) => constant_at(alloc, w, l, under, *c, in_order(arguments)),
+        Term::Var(_)
+        | Term::Sort(_)
+        | Term::Pi(_, _)
+        | Term::Lam(_, _)
+        | Term::Let(_, _, _)
+        | Term::Fam(_)
+        | Term::Con(_, _)
+        | Term::Elim(_, _)
+        | Term::AxiomK(_, _) => {
+            let head = head_with_calls(alloc, w, l, under, t)?;
+            applied(alloc, head, in_order(arguments))
+        }
+    }
+}
