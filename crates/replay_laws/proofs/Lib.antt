@@ -1,0 +1,13 @@
+pub mod AnsweredRuns
+pub mod LowComparisons
+pub mod LowConfusions
+pub mod LowInjections
+pub mod LowInstances
+pub mod LowParts
+pub mod MadeInjections
+pub mod ReplayedSteps
+pub mod RunsAlong
+pub mod SeenBranches
+pub mod SeenComparisons
+pub mod SeenMembers
+pub mod TreeNodes
