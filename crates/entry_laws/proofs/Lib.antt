@@ -1,0 +1,13 @@
+pub mod NameLaws
+pub mod OnlyConstants
+pub mod OnlyCycles
+pub mod OnlyEntries
+pub mod OnlyEquations
+pub mod OnlyFamilies
+pub mod OnlyLeaves
+pub mod OnlyPaths
+pub mod OnlyRuns
+pub mod OnlyStates
+pub mod OnlyTrees
+pub mod SameNames
+pub mod TableNames
