@@ -1,0 +1,5 @@
+pub mod Constructors
+pub mod EntriesMade
+pub mod Joining
+pub mod Mentions
+pub mod TreesMade

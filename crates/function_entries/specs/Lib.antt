@@ -1,0 +1,6 @@
+pub mod CodeEntries
+pub mod CodeNumbering
+pub mod CodeTrees
+pub mod Laws
+pub mod Sizes
+pub mod SplitMeanings
