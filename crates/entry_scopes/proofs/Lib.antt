@@ -1,6 +1,10 @@
 pub mod DraftSignatures
+pub mod TreeLaws
 pub mod WholeCycles
+pub mod WholeLeaves
+pub mod WholePaths
 pub mod WholeRuns
+pub mod WholeSplits
 pub mod WholeStandings
 pub mod WholeTerms
-pub mod WholeSplits
+pub mod WholeTrees

@@ -105,7 +105,7 @@ module _ (S : Signature) (count : ℕ) (ready : IsReady S) (first : HasPrelude (
 
   -- ---- branches
 
-  branch-whole : (at : ℕ) (c : Constructor) → slice_get m.family.constructors at ≡ Some c → IsWhole (with_count S count) (branch_standing node m x at c)
+  pub branch-whole : (at : ℕ) (c : Constructor) → slice_get m.family.constructors at ≡ Some c → IsWhole (with_count S count) (branch_standing node m x at c)
   branch-whole at c there =
       let T = with_count S count in
       let n = length node.context in
@@ -128,13 +128,13 @@ module _ (S : Signature) (count : ℕ) (ready : IsReady S) (first : HasPrelude (
         room = omega (arith, long);
       }
 
-  branch-problem : (at : ℕ) (c : Constructor) → slice_get m.family.constructors at ≡ Some c → IsScopedProblem S (problem_of split.seen split.y split.member at c)
+  pub branch-problem : (at : ℕ) (c : Constructor) → slice_get m.family.constructors at ≡ Some c → IsScopedProblem S (problem_of split.seen split.y split.member at c)
   branch-problem at c there =
       problem-scoped S split.seen split.y split.member at c ready split.context_scoped split.inside
       (member-in S (length split.seen) split.reduced split.member split.reduced_scoped split.is_member)
       (ap (λ m. slice_get m.family.constructors at) (sym same-member) ∙ there)
 
-  branch-seen : (at : ℕ) (c : Constructor) → Widens (branch_standing node m x at c) (problem_state (problem_of split.seen split.y split.member at c))
+  pub branch-seen : (at : ℕ) (c : Constructor) → Widens (branch_standing node m x at c) (problem_state (problem_of split.seen split.y split.member at c))
   branch-seen at c =
       branch-widens S node x split.y split.seen type split.reduced m split.member at c split.is_seen below split.inside split.variable split.type_seen split.is_member is_member
 
