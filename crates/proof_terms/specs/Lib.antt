@@ -1,0 +1,4 @@
+pub mod CodeProofs
+pub mod Laws
+pub mod ProofMeanings
+pub mod Sizes
