@@ -1,0 +1,3 @@
+pub mod FunctionSignatures
+pub mod LeafScopes
+pub mod RenumberedDrafts

@@ -1,0 +1,4 @@
+//! Scopes of the drafts of a function.
+#![tactic(auto)]
+
+pub mod laws;
