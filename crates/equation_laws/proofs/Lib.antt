@@ -1,0 +1,9 @@
+pub mod EquationScopes
+pub mod LeftShowing
+pub mod OrderLengths
+pub mod OwnMatches
+pub mod PartNumbers
+pub mod PlannedClauses
+pub mod ProvedClauses
+pub mod SameRecursion
+pub mod ShownTerms
