@@ -1,0 +1,2 @@
+pub mod MadeEquations
+pub mod Pairs

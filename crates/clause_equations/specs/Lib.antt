@@ -1,0 +1,3 @@
+pub mod CodeEquations
+pub mod EquationMeanings
+pub mod Laws

@@ -1,0 +1,16 @@
+//! The equation of a clause: the function applied to what the clause's patterns show, and its right side.
+#![tactic(auto)]
+
+mod clauses;
+mod constants;
+mod last_arguments;
+pub mod laws;
+mod parts;
+mod showing;
+mod sides;
+
+pub use clauses::{equation, equation_at};
+pub use constants::{entry_number, in_signature, part_name};
+pub use last_arguments::{applied_to_last, values_of_recursion};
+pub use showing::{with_shown, written};
+pub use sides::{Equation, Site, left_side, right_side};
