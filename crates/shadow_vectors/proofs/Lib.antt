@@ -1,0 +1,2 @@
+pub mod ReducedTerms
+pub mod ScopedVectors

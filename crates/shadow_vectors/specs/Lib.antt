@@ -1,0 +1,3 @@
+pub mod CodeVectors
+pub mod LeafMeanings
+pub mod Sizes

@@ -1,0 +1,10 @@
+//! What a clause without a proof is read by: its leaves in a tree, and the vector of terms that an earlier clause takes from it.
+#![tactic(auto)]
+
+mod absurd;
+mod leaves;
+mod vectors;
+
+pub use absurd::some_absurd;
+pub use leaves::{TreeLeaf, leaves_of};
+pub use vectors::{all_reduced, vector_of};
