@@ -19,7 +19,7 @@ same-more [] e (suc n) h = refl
 same-more (x ∷ es) e zero h = refl
 same-more (x ∷ es) e (suc n) h = same-more es e n h
 
-function-same : (S : Signature) (plan : Plan) → HaveSame S (with_function S plan)
+pub function-same : (S : Signature) (plan : Plan) → HaveSame S (with_function S plan)
 function-same S plan n = same-more S.entries _ n refl
 
 pub function_tree-answers : FunctionTreeAnswers
