@@ -1,0 +1,4 @@
+pub mod EnteredOpen
+pub mod OpenPrelude
+pub mod OpenSignatures
+pub mod OpenSteps
