@@ -1,0 +1,3 @@
+pub mod CheckMeanings
+pub mod CodeDots
+pub mod CodeOpening

@@ -1,0 +1,115 @@
+ghost use Rattle.std.specs.Prelude.{◌≡◌, ◌≤◌, ◌+◌, [], ◌∷◌, length, reverse, IfOk, Ok};
+ghost use Rattle.core_terms.specs.Answers.{Gives, Unless};
+ghost use Rattle.core_terms.specs.Meanings.{denial_of, tree_of, tele_of};
+ghost use Rattle.elaboration.specs.Refusals as spec;
+ghost use Rattle.function_refusals.specs.RefusalMeanings.{Elaborates, IsUnforeseen, part_of, refusal_of};
+ghost use Rattle.walk_checks.specs.CheckMeanings.{asked_of, site_of};
+ghost use Rattle.kernel_check.specs.Checking.{check_of, infer_of, infer_sort_of};
+ghost use Rattle.kernel_reduce.specs.Comparison.{convertible_of};
+ghost use Rattle.kernel_reduce.specs.Reduction.{nesting};
+ghost use Rattle.kernel_reduce.specs.WellScoped.{AreWellScoped};
+ghost use Rattle.theory.specs.SignatureScopes.{IsScoped};
+
+use crate::parts::{Asked, Site};
+use core_sig::Signature;
+use core_terms::{Denial, Items, Stop, Tele, Term, Units, Verdict};
+use function_refusals::{Refusal, WrittenPart, ill_typed, owner_of};
+use kernel_check::{check, infer, infer_sort};
+use std::alloc::Global;
+
+/// The part of a clause that the checker is asked about.
+pub(crate) fn part_at(alloc: Global, asked: Asked, site: Site) -> Result<WrittenPart, Stop>
+    ensures { Gives part_of result (Ok (asked_of asked (site_of site.entry))) }
+{
+    let owner = owner_of(alloc, site.function.as_slice(), site.number)?;
+    Ok(match asked {
+        Asked::Dot => WrittenPart::Dot(owner),
+        Asked::Side => WrittenPart::Side(owner),
+        Asked::With => WrittenPart::With(owner),
+        Asked::Goal => WrittenPart::Goal(owner),
+    })
+}
+
+/// The refusal of a part of a clause that the checker denies.
+pub(crate) fn denied(
+    alloc: Global,
+    sig: &Signature,
+    asked: Asked,
+    site: Site,
+    denial: Denial,
+) -> Refusal
+    ensures { Unless (IsUnforeseen result) (refusal_of result ≡ spec.ill_typed sig.now (asked_of asked (site_of site.entry)) (denial_of denial)) }
+{
+    match part_at(alloc, asked, site) {
+        Ok(part) => ill_typed(alloc, sig, part, denial),
+        Err(_) => Refusal::Stop(Stop::Memory),
+    }
+}
+
+/// A type of a term, where the checker grants the term.
+pub fn inferred(
+    alloc: Global,
+    sig: &Signature,
+    asked: Asked,
+    site: Site,
+    ctx: &Tele,
+    t: &Term,
+    units: &mut Units,
+) -> Result<Term, Refusal>
+    requires { AreWellScoped sig.now (tele_of ctx.now) (tree_of t.now ∷ []) }
+    ensures answer { Elaborates tree_of result units.new.left (spec.granted sig.now (asked_of asked (site_of site.entry)) (infer_of sig.now nesting (reverse (tele_of ctx.now)) (tree_of t.now) units.old.left)) }
+    ensures sum { units.new.left + units.new.spent ≡ units.old.left + units.old.spent }
+    ensures spends { units.new.left ≤ units.old.left }
+    ensures scoped { IfOk result (λ ty. IsScoped sig.now (length ctx.now) (tree_of ty)) }
+{
+    match infer(alloc, sig, ctx, t, units) {
+        Ok(Verdict::Yes(ty)) => Ok(ty),
+        Ok(Verdict::No(denial)) => Err(denied(alloc, sig, asked, site, denial)),
+        Err(e) => Err(Refusal::Stop(e)),
+    }
+}
+
+/// Whether the checker grants that a term has a type.
+pub fn checked_as(
+    alloc: Global,
+    sig: &Signature,
+    asked: Asked,
+    site: Site,
+    ctx: &Tele,
+    t: &Term,
+    wanted: &Term,
+    units: &mut Units,
+) -> Result<Term, Refusal>
+    requires { AreWellScoped sig.now (tele_of ctx.now) (tree_of t.now ∷ tree_of wanted.now ∷ []) }
+    ensures answer { Elaborates tree_of result units.new.left (spec.granted sig.now (asked_of asked (site_of site.entry)) (check_of sig.now nesting (reverse (tele_of ctx.now)) (tree_of t.now) (tree_of wanted.now) units.old.left)) }
+    ensures sum { units.new.left + units.new.spent ≡ units.old.left + units.old.spent }
+    ensures spends { units.new.left ≤ units.old.left }
+{
+    match check(alloc, sig, ctx, t, wanted, units) {
+        Ok(Verdict::Yes(ty)) => Ok(ty),
+        Ok(Verdict::No(denial)) => Err(denied(alloc, sig, asked, site, denial)),
+        Err(e) => Err(Refusal::Stop(e)),
+    }
+}
+
+/// The sort of a closed type, where the checker grants the type.
+pub(crate) fn sort_of(
+    alloc: Global,
+    sig: &Signature,
+    asked: Asked,
+    site: Site,
+    ty: &Term,
+    units: &mut Units,
+) -> Result<Term, Refusal>
+    requires { AreWellScoped sig.now [] (tree_of ty.now ∷ []) }
+    ensures answer { Elaborates tree_of result units.new.left (spec.granted sig.now (asked_of asked (site_of site.entry)) (infer_sort_of sig.now nesting [] (tree_of ty.now) units.old.left)) }
+    ensures sum { units.new.left + units.new.spent ≡ units.old.left + units.old.spent }
+    ensures spends { units.new.left ≤ units.old.left }
+{
+    let ctx = Items::new(alloc);
+    match infer_sort(alloc, sig, &ctx, ty, units) {
+        Ok(Verdict::Yes(sort)) => Ok(sort),
+        Ok(Verdict::No(denial)) => Err(denied(alloc, sig, asked, site, denial)),
+        Err(e) => Err(Refusal::Stop(e)),
+    }
+}

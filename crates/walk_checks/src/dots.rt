@@ -1,0 +1,140 @@
+ghost use Rattle.std.specs.Prelude.{◌≡◌, ◌≤◌, ◌+◌, [], ◌∷◌, length, map, All, Ok};
+ghost use Rattle.core_terms.specs.Answers.{Gives};
+ghost use Rattle.core_terms.specs.Meanings.{tree_of, tele_of};
+ghost use Rattle.elaboration.specs.Walking as spec;
+ghost use Rattle.function_refusals.specs.RefusalMeanings.{Elaborates, Tells, refusal_of};
+ghost use Rattle.walk_checks.specs.CodeDots.{dot_forced, dot_written, dots_checked};
+ghost use Rattle.walk_checks.specs.CheckMeanings.{site_of};
+ghost use Rattle.kernel_reduce.specs.WellScoped.{AreWellScoped};
+ghost use Rattle.elaboration.specs.Refusals as refusals;
+ghost use Rattle.core_text.specs.TermText.{term_text};
+ghost use Rattle.clause_reports.specs.Texts.{context_text};
+
+use crate::asking::{checked_as, inferred};
+use crate::parts::{Asked, Site};
+use core_sig::Signature;
+use core_terms::{Stop, Tele, Term, Units};
+use core_text::print_term;
+use function_refusals::{Refusal, context_text, or_memory, owner_of};
+use kernel_reduce::convertible;
+use std::alloc::Global;
+
+/// What is shown of a written term that is not the forced one.
+fn shown(
+    alloc: Global,
+    sig: &Signature,
+    site: Site,
+    ctx: &[Term],
+    written: &Term,
+    forced: &Term,
+) -> Result<Refusal, Stop>
+    ensures { Gives refusal_of result (Ok (refusals.DotMismatch (site_of site.entry) (context_text sig.now (tele_of ctx.now)) (term_text sig.now (tree_of written.now)) (term_text sig.now (tree_of forced.now)))) }
+{
+    Ok(Refusal::DotMismatch {
+        owner: owner_of(alloc, site.function.as_slice(), site.number)?,
+        ctx: context_text(alloc, sig, ctx)?,
+        written: print_term(alloc, sig, written)?,
+        forced: print_term(alloc, sig, forced)?,
+    })
+}
+
+/// Refuses a written term that does not convert with the forced one.
+fn refuse_unless(
+    alloc: Global,
+    sig: &Signature,
+    site: Site,
+    ctx: &[Term],
+    written: &Term,
+    forced: &Term,
+    holds: bool,
+) -> Result<(), Refusal>
+    ensures { Tells (λ _. tree_of written.now) result (spec.if_forced sig.now (site_of site.entry) (tele_of ctx.now) (tree_of written.now) (tree_of forced.now) holds) }
+{
+    if holds {
+        Ok(())
+    } else {
+        Err(or_memory(shown(alloc, sig, site, ctx, written, forced)))
+    }
+}
+
+/// Whether the written and the forced term convert.
+fn check_forced(
+    alloc: Global,
+    sig: &Signature,
+    site: Site,
+    ctx: &Tele,
+    written: &Term,
+    forced: &Term,
+    units: &mut Units,
+) -> Result<(), Refusal>
+    requires { AreWellScoped sig.now (tele_of ctx.now) (tree_of written.now ∷ tree_of forced.now ∷ []) }
+    ensures answer { Elaborates (λ _. tree_of written.now) result units.new.left (dot_forced sig.now (site_of site.entry) (tele_of ctx.now) (tree_of written.now, tree_of forced.now) units.old.left) }
+    ensures sum { units.new.left + units.new.spent ≡ units.old.left + units.old.spent }
+    ensures spends { units.new.left ≤ units.old.left }
+{
+    let holds = convertible(alloc, sig, written, forced, units)?;
+    refuse_unless(alloc, sig, site, ctx.as_slice(), written, forced, holds)
+}
+
+/// Whether the written term has the type of the forced one, and the two convert.
+fn check_written(
+    alloc: Global,
+    sig: &Signature,
+    site: Site,
+    ctx: &Tele,
+    written: &Term,
+    forced: &Term,
+    ty: &Term,
+    units: &mut Units,
+) -> Result<(), Refusal>
+    requires { AreWellScoped sig.now (tele_of ctx.now) (tree_of ty.now ∷ tree_of written.now ∷ tree_of forced.now ∷ []) }
+    ensures answer { Elaborates (λ _. tree_of written.now) result units.new.left (dot_written sig.now (site_of site.entry) (tele_of ctx.now) (tree_of written.now, tree_of forced.now) (tree_of ty.now) units.old.left) }
+    ensures sum { units.new.left + units.new.spent ≡ units.old.left + units.old.spent }
+    ensures spends { units.new.left ≤ units.old.left }
+{
+    checked_as(alloc, sig, Asked::Dot, site, ctx, written, ty, units)?;
+    check_forced(alloc, sig, site, ctx, written, forced, units)
+}
+
+/// The forced term has a type, which the written one has too, and the two convert.
+fn check_dot(
+    alloc: Global,
+    sig: &Signature,
+    site: Site,
+    ctx: &Tele,
+    written: &Term,
+    forced: &Term,
+    units: &mut Units,
+) -> Result<(), Refusal>
+    requires { AreWellScoped sig.now (tele_of ctx.now) (tree_of written.now ∷ tree_of forced.now ∷ []) }
+    ensures answer { Elaborates (λ _. tree_of written.now) result units.new.left (spec.check_dot sig.now (site_of site.entry) (tele_of ctx.now) (tree_of written.now, tree_of forced.now) units.old.left) }
+    ensures sum { units.new.left + units.new.spent ≡ units.old.left + units.old.spent }
+    ensures spends { units.new.left ≤ units.old.left }
+{
+    let ty = inferred(alloc, sig, Asked::Dot, site, ctx, forced, units)?;
+    check_written(alloc, sig, site, ctx, written, forced, &ty, units)
+}
+
+/// The same of each dot of a walk.
+pub fn check_dots(
+    alloc: Global,
+    sig: &Signature,
+    site: Site,
+    ctx: &Tele,
+    dots: &[(Term, Term)],
+    units: &mut Units,
+) -> Result<(), Refusal>
+    requires context { AreWellScoped sig.now (tele_of ctx.now) [] }
+    requires dots { All (λ d. AreWellScoped sig.now (tele_of ctx.now) (tree_of d.0 ∷ tree_of d.1 ∷ [])) dots.now }
+    ensures answer { Elaborates (λ u. u) result units.new.left (dots_checked sig.now (site_of site.entry) (tele_of ctx.now) (map (λ d. (tree_of d.0, tree_of d.1)) dots.now) units.old.left) }
+    ensures sum { units.new.left + units.new.spent ≡ units.old.left + units.old.spent }
+    ensures spends { units.new.left ≤ units.old.left }
+{
+    match dots {
+        [] => Ok(()),
+        [d, rest @ ..] => {
+            check_dot(alloc, sig, site, ctx, &d.0, &d.1, units)?;
+            check_dots(alloc, sig, site, ctx, rest, units)
+        }
+    }
+}
