@@ -18,3 +18,4 @@ mod trees;
 
 pub use entries::translate;
 pub use numbering::numbered;
+pub use telescopes::ordered_variables;
