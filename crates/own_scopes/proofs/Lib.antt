@@ -1,0 +1,4 @@
+pub mod FunctionNames
+pub mod OwnOrders
+pub mod PlainFunctions
+pub mod RecursiveFunctions

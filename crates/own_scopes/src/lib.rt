@@ -1,0 +1,4 @@
+//! Scopes of a function's own draft.
+#![tactic(auto)]
+
+pub mod laws;
