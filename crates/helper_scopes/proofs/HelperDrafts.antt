@@ -1,0 +1,157 @@
+-- The drafts of helpers of a function that does not call itself are scoped.
+use Rattle.std.proofs.Common.{◌≡◌, ◌⊎◌, inl, inr, ℕ, ◌+◌, ◌-◌, ◌<◌, ◌≤◌, Some, None, List, [], ◌∷◌, ◌++◌, length, drop, slice_get, sym, subst, ◌∙◌, arith}
+use Rattle.std.proofs.lemmas.List.{length-append}
+use Rattle.std.proofs.lemmas.Option.{none-some, slice_get_within}
+use Rattle.theory.specs.Terms.{Const, Fam, Con}
+use Rattle.theory.specs.Telescopes.{products, functions}
+use Rattle.theory.specs.Signatures.{Definition, FamilyOf, Signature, IsEntryAt}
+use Rattle.theory.specs.Families.{Family}
+use Rattle.theory.specs.SignatureScopes.{IsConstantNumber, IsFamilyNumber, IsConstructorNumber, IsScoped}
+use Rattle.theory.proofs.Lists.{slice_get-append, slice_get-append_right, slice_get-pushed}
+use Rattle.theory.proofs.ScopedTerms.{HasNumbers, scoped_over_more, scoped-wider, telescope-wider}
+use Rattle.core_sig.specs.DraftScopes.{IsDraftNumber}
+use Rattle.unification.proofs.Cases.{below-or_from}
+use Rattle.case_trees.specs.Points.{start_at}
+use Rattle.tree_translation.specs.Conditions.{with_function}
+use Rattle.tree_translation.specs.Entries.{helper_count, helper_names, part_term}
+use Rattle.tree_translation.specs.Naming.{Naming, number_in, with_names, helper_name}
+use Rattle.tree_translation.specs.Plans.{Plan, Part}
+use Rattle.tree_translation.specs.Recursion.{order_of}
+use Rattle.tree_translation.specs.Splits.{Node}
+use Rattle.tree_translation.specs.TreeTerms.{Translation, tree_names, tree_term}
+use Rattle.translation_laws.proofs.FunctionTrees.{function-same}
+use Rattle.translation_laws.proofs.SameFamilies.{tree-same, tree-names-same}
+use Rattle.node_roots.proofs.RootNodes.{helper_node-over}
+use Rattle.entry_laws.proofs.OnlyConstants.{Each, each-left, each-right, each-weaker}
+use Rattle.entry_laws.proofs.OnlyEntries.{IsPart, each_position-at}
+use Rattle.entry_laws.proofs.TableNames.{candidates-numbered}
+use Rattle.entry_scopes.proofs.DraftSignatures.{with_count, name-number, numbers-there, scoped-draft}
+use Rattle.entry_scopes.proofs.WholeCycles.{prelude-there}
+use Rattle.entry_scopes.proofs.WholeStandings.{scoped-functions, scoped-products}
+use Rattle.entry_scopes.proofs.WholeTrees.{IsTreeNode, tree-scoped}
+use Rattle.draft_scopes.specs.Laws.{IsNamedOver}
+use Rattle.draft_scopes.proofs.FunctionSignatures.{function-numbers, function-prefix, part-tree}
+use Rattle.draft_scopes.proofs.LeafScopes.{leaf-there}
+use Rattle.draft_scopes.proofs.RenumberedDrafts.{in_order-scoped}
+use Rattle.helper_scopes.specs.Laws.{PlainHelperScoped}
+
+-- ---- the signature with the function and with names
+
+module _ (S : Signature) (plan : Plan) (base : plan.base ≡ length S.entries) (count : ℕ) where
+  many : length (with_function S plan).entries ≡ length S.entries + 1
+  many = length-append S.entries (Definition plan.name plan.type (Const (length S.entries)) ∷ [])
+
+  own-number : IsConstantNumber (with_function S plan) (length S.entries)
+  own-number =
+      let e : length S.entries + 0 ≡ length S.entries = omega arith in (
+        plan.name,
+        plan.type,
+        Const (length S.entries),
+        subst (λ n. slice_get (with_function S plan).entries n ≡ Some (Definition plan.name plan.type (Const (length S.entries)))) e
+            (slice_get-append_right S.entries (Definition plan.name plan.type (Const (length S.entries)) ∷ []) 0),
+      )
+
+  constant-there : (c : ℕ) → plan.base ≤ c → c < plan.base + count → IsConstantNumber (with_count (with_function S plan) count) c
+  constant-there c from to = elim (below-or_from plan.base c) [
+    | inl lt ↦ name-number (with_function S plan) count c (omega (arith, base, many)) (omega (arith, base, many))
+    | inr le ↦
+        let same : length S.entries ≡ c = omega (arith, base) in
+        subst (IsConstantNumber (with_count (with_function S plan) count)) same
+        ((numbers-there (with_function S plan) count).constants (length S.entries) own-number)
+  ]
+
+  both-numbers : HasNumbers S (with_count (with_function S plan) count)
+  both-numbers =
+      let one = function-numbers S plan in
+      let two = numbers-there (with_function S plan) count in
+      record {
+        constants = λ n is. two.constants n (one.constants n is);
+        families = λ n is. two.families n (one.families n is);
+        constructors = λ n c is. two.constructors n c (one.constructors n c is);
+      }
+
+  family-before : (n : ℕ) (f : Family) → IsEntryAt (with_function S plan) n (FamilyOf f) → IsEntryAt S n (FamilyOf f)
+  family-before n f at = by (slice_get-pushed S.entries (Definition plan.name plan.type (Const (length S.entries))) n (FamilyOf f) at)
+    where
+      by : (slice_get S.entries n ≡ Some (FamilyOf f)) ⊎ ((n ≡ length S.entries) × (Definition plan.name plan.type (Const (length S.entries)) ≡ FamilyOf f))
+          → IsEntryAt S n (FamilyOf f)
+      by (inl before) = before
+      by (inr (place, same)) = absurd (cc)
+
+  named-over : IsNamedOver S (with_count (with_function S plan) count) plan.base
+  named-over = record {
+    families = λ n is. family n (scoped-draft F count 0 (Fam n) (record { variables = omega arith; entries = is })).entries;
+    constructors = λ n c is. constructor n c (scoped-draft F count 0 (Con n c) (record { variables = omega arith; entries = is })).entries;
+    constants = λ c low is. constant c low (scoped-draft F count 0 (Const c) (record { variables = omega arith; entries = is })).entries;
+  }
+    where
+      F : Signature
+      F = with_function S plan
+
+      family : (n : ℕ) → IsFamilyNumber (with_function S plan) n → IsFamilyNumber S n
+      family n (f, at) = (f, family-before n f at)
+
+      constructor : (n c : ℕ) → IsConstructorNumber (with_function S plan) n c → IsConstructorNumber S n c
+      constructor n c (f, at, low) = (f, family-before n f at, low)
+
+      constant : (c : ℕ) → c < plan.base → IsDraftNumber (with_function S plan) (length (with_function S plan).entries) count c → IsConstantNumber S c
+      constant c low (inl (lt, (name, type, body, at))) = (name, type, body, sym (slice_get-append S.entries _ c (omega (arith, base))) ∙ at)
+      constant c low (inr (from, to)) = absurd (omega (arith, base, many))
+
+-- ---- helpers that a side may call
+
+count-parts : (plan : Plan) (k : ℕ) (helper : Part) → slice_get plan.parts k ≡ Some helper → 0 < k → k ≤ helper_count plan
+count-parts plan k helper at high = by plan.parts at
+  where
+    by : (parts : List Part) → slice_get parts k ≡ Some helper → k ≤ length (drop 1 parts)
+    by [] there = absurd (none-some helper there)
+    by (part ∷ parts) there = let low = slice_get_within (part ∷ parts) k helper there in omega arith
+
+helper-named : (Q : ℕ → Type 0) (number : Naming) (plan : Plan) (at k : ℕ) (helper : Part) → Each (λ name. Q (number name)) (helper_names plan at) → slice_get plan.parts k ≡ Some helper
+    → at < k → Q (number (helper_name plan.name k))
+helper-named Q number plan at k helper named there lt =
+    let most = count-parts plan k helper there (omega arith) in
+    each_position-at (λ name. Q (number name)) (helper_name plan.name) (at + 1) (helper_count plan - at) k named (omega arith) (omega arith)
+
+-- ---- drafts
+
+pub plain_helper_scoped : PlainHelperScoped
+plain_helper_scoped S plan uses k part d ready first base is e =
+    let F = with_function S plan in
+    let n = length part.tele in
+    let order = order_of n None in
+    let node : Node = record { context = part.tele; goal = part.goal; hidden = [] } in
+    let candidates = helper_names plan k ++ tree_names S part.level part.tree node in
+    let table = with_names [] candidates in
+    let count = length table in
+    let number : Naming = number_in plan.base table in
+    let T = with_count F count in
+    let more : HasNumbers S T = both-numbers S plan base count in
+    let numbers : HasNumbers F T = numbers-there F count in
+    let named : Each (λ name. IsConstantNumber T (number_in plan.base table name)) candidates =
+    each-weaker candidates (λ name low. constant-there S plan base count (number_in plan.base table name) (omega arith) low) (candidates-numbered plan.base candidates) in
+    let helpers_named = each-left (helper_names plan k) (tree_names S part.level part.tree node) named in
+    let tree_named = each-right (helper_names plan k) (tree_names S part.level part.tree node) named in
+    let w : Translation = record { signature = F; number = number; plan = plan; recursion = None; part = part; order = order } in
+    let old : Translation = record { signature = S; number = number; plan = plan; recursion = None; part = part; order = order } in
+    let tele = telescope-wider more 0 part.tele is.context_scoped in
+    let goal = scoped-wider more is.goal_scoped in
+    let stands = part-tree S plan uses k part part.tele part.goal part.terms ready is is.context_scoped is.goal_scoped is.terms_scoped in
+    let root = helper_node-over plan None part number in
+    let there : IsTreeNode T node part.tele = record {
+      terms = record { context = tele; goal = goal };
+      over = record { is_seen = root.is_seen; hidden = root.hidden };
+    } in
+    let p : IsPart S plan k part = record { uses = uses; context = part.tele; goal = part.goal; terms = part.terms; is = is } in
+    let made : IsScoped T n (tree_term w part.tree node) =
+    tree-scoped w count ready (prelude-there F count (function-prefix S plan first)) part.tree
+    (λ next i context goal substitution terms binds over leaf.
+    leaf-there S T more number plan base numbers k part None order p (λ j helper at lt. helper-named (IsConstantNumber T) number plan k j helper helpers_named at lt) tt next i context goal
+    substitution terms binds over leaf)
+    (start_at part.tele part.goal part.terms) node stands.stands stands.scoped there
+    (subst (Each (λ name. IsConstantNumber T (number_in plan.base table name))) (tree-names-same S F (function-same S plan) part.level part.tree node) tree_named) in
+    let term : IsScoped T n (tree_term old part.tree node) = subst (IsScoped T n) (sym (tree-same S F (function-same S plan) old part.tree node)) made in
+    in_order-scoped S T (helper_name plan.name k) plan.base candidates (λ number. products part.tele part.goal)
+    (λ number. functions part.tele (part_term S plan None part order node number)) d (named-over S plan base count) e
+    (scoped-products T 0 part.tele part.goal tele (scoped_over_more T n (0 + n) part.goal (omega arith) goal))
+    (scoped-functions T 0 part.tele (tree_term old part.tree node) tele (scoped_over_more T n (0 + n) (tree_term old part.tree node) (omega arith) term))

@@ -1,0 +1,4 @@
+//! Scopes of the drafts of helpers.
+#![tactic(auto)]
+
+pub mod laws;
