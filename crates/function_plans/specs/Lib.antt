@@ -1,0 +1,2 @@
+pub mod CodePlans
+pub mod Laws

@@ -1,0 +1,78 @@
+ghost use Rattle.std.specs.Prelude.{◌≡◌, ◌++◌, Ok, map};
+ghost use Rattle.core_terms.specs.Answers.{Gives};
+ghost use Rattle.core_terms.specs.Meanings.{tele_of};
+ghost use Rattle.elaboration.specs.Functions as spec;
+ghost use Rattle.function_plans.specs.CodePlans.{chosen_made};
+ghost use Rattle.function_refusals.specs.RefusalMeanings.{Tells, failing_of};
+ghost use Rattle.function_walks.specs.WalkingMeanings.{session_of};
+ghost use Rattle.structural_rec.specs.Meanings as choices;
+
+use crate::names::part_name;
+use crate::smallness::{small_telescope, small_uses};
+use core_terms::{Items, Stop, Tele, number_of};
+use core_text::print_term;
+use function_refusals::{FailingCall, Refusal, owner_of};
+use function_walks::Session;
+use std::alloc::Global;
+use structural_rec::{Choice, Failing, Use, choose_position};
+
+/// A call that does not fit a position, as it is shown.
+fn failing_call(alloc: Global, s: Session, row: &Failing) -> Result<FailingCall, Stop>
+    ensures { Gives failing_of result (Ok (spec.failing_call (session_of s.entry) (choices.failing_of row.now))) }
+{
+    let function = part_name(alloc, s.name, row.function)?;
+    let owner = owner_of(alloc, function.as_slice(), row.clause)?;
+    Ok(FailingCall {
+        position: number_of(row.position as usize + 1)?,
+        owner,
+        call: print_term(alloc, s.sig, &row.call)?,
+    })
+}
+
+/// Calls that do not fit, as they are shown, after those that are made.
+#[tactic(auto, using(tele_eq::proofs::Growing::growing))]
+fn with_failing(
+    alloc: Global,
+    s: Session,
+    rows: &[Failing],
+    mut made: Items<FailingCall>,
+) -> Result<Items<FailingCall>, Stop>
+    ensures { Gives (map failing_of) result (Ok (map failing_of made ++ map (spec.failing_call (session_of s.entry)) (map choices.failing_of rows.now))) }
+{
+    match rows {
+        [] => Ok(made),
+        [row, rest @ ..] => {
+            made.push(failing_call(alloc, s, row)?)?;
+            with_failing(alloc, s, rest, made)
+        }
+    }
+}
+
+/// The position that is chosen, or the refusal where no position is usable.
+pub fn position_chosen(alloc: Global, s: Session, choice: &Choice) -> Result<Option<u32>, Refusal>
+    ensures { Tells (λ position. position) result (spec.position_chosen (session_of s.entry) (choices.choice_of choice.now)) }
+{
+    match choice {
+        Choice::NotRecursive => Ok(None),
+        Choice::At(j) => Ok(Some(*j)),
+        Choice::NotSmaller(rows) => {
+            let rows = with_failing(alloc, s, rows.as_slice(), Items::new(alloc))?;
+            Err(Refusal::NotSmaller(rows))
+        }
+    }
+}
+
+/// The position that is chosen, or Deep where something in the uses or in the telescope is too high.
+pub fn chosen(
+    alloc: Global,
+    s: Session,
+    tele: &Tele,
+    uses: &Items<Use>,
+) -> Result<Option<u32>, Refusal>
+    ensures { Tells (λ position. position) result (chosen_made (session_of s.entry) (tele_of tele.now) (choices.uses_of uses.now)) }
+{
+    small_telescope(tele.as_slice())?;
+    small_uses(uses.as_slice())?;
+    let choice = choose_position(alloc, s.sig, tele, s.own, uses)?;
+    position_chosen(alloc, s, &choice)
+}

@@ -1,0 +1,85 @@
+ghost use Rattle.std.specs.Prelude.{◌≡◌, ◌≤◌, ◌+◌, length, map, option_map};
+ghost use Rattle.std.specs.Option.{option_copied};
+ghost use Rattle.elaboration.specs.Functions as spec;
+ghost use Rattle.function_plans.specs.CodePlans.{AreWalked, IsWalked, helpers_after};
+ghost use Rattle.function_refusals.specs.RefusalMeanings.{Elaborates};
+ghost use Rattle.function_walks.specs.WalkingMeanings.{session_of, walked_of};
+ghost use Rattle.leaf_terms.specs.PlanMeanings.{parts_of};
+ghost use Rattle.leaf_terms.specs.RecursionMeanings.{recursion_of};
+ghost use Rattle.clause_reports.specs.Equations.{part_named};
+ghost use Rattle.case_trees.specs.Trees.{split_of};
+ghost use Rattle.core_terms.specs.TreeMeanings.{case_tree_of};
+ghost use Rattle.elaboration.specs.Refusals.{walking};
+
+use crate::finishing::finished;
+use crate::names::part_name;
+use crate::trees::tree_of_clauses;
+use core_terms::{Items, Tree, Units, number_of};
+use function_refusals::Refusal;
+use function_walks::{Session, Walked};
+use leaf_terms::{Part, Recursion};
+use std::alloc::Global;
+
+/// The level of a helper: with recursion at least that of the function.
+fn helper_level(r: Option<&Recursion>, own: u8, level: u8) -> u8
+    ensures { result ≡ spec.helper_level (option_map recursion_of (option_copied r.entry)) own level }
+{
+    match r {
+        None => level,
+        Some(_) => own.max(level),
+    }
+}
+
+/// The tree of helper `number`.
+fn helper_tree(
+    alloc: Global,
+    s: Session,
+    number: u32,
+    w: &Walked,
+    units: &mut Units,
+) -> Result<Tree, Refusal>
+    requires { IsWalked s.sig.now (walked_of w.now) }
+    ensures answer { Elaborates case_tree_of result units.new.left (walking s.entry.sig.now (part_named s.entry.name.now number) (split_of s.entry.sig.now (walked_of w.now).part.tele (walked_of w.now).part.goal (walked_of w.now).part.terms (walked_of w.now).clauses units.old.left)) }
+    ensures sum { units.new.left + units.new.spent ≡ units.old.left + units.old.spent }
+    ensures spends { units.new.left ≤ units.old.left }
+{
+    let name = part_name(alloc, s.name, number)?;
+    let (tele, goal, terms) = (&w.part.tele, &w.part.goal, &w.part.terms);
+    tree_of_clauses(
+        alloc,
+        s.sig,
+        name.as_slice(),
+        tele,
+        goal,
+        terms,
+        w.clauses,
+        units,
+    )
+}
+
+/// Helpers with their trees, the first of which has this number, after the parts that are made.
+pub fn helpers_finished(
+    alloc: Global,
+    s: Session,
+    r: Option<&Recursion>,
+    level: u8,
+    number: u32,
+    mut helpers: Vec<Walked>,
+    mut made: Items<Part>,
+    units: &mut Units,
+) -> Result<Items<Part>, Refusal>
+    requires { AreWalked s.sig.now (map walked_of helpers.items) }
+    ensures answer { Elaborates parts_of result units.new.left (helpers_after (parts_of made) (session_of s.entry) (option_map recursion_of (option_copied r.entry)) level number (map walked_of helpers.entry.items) units.old.left) }
+    ensures sum { units.new.left + units.new.spent ≡ units.old.left + units.old.spent }
+    ensures spends { units.new.left ≤ units.old.left }
+{
+    if helpers.is_empty() {
+        return Ok(made);
+    }
+    let w = helpers.remove(0);
+    let tree = helper_tree(alloc, s, number, &w, units)?;
+    let own = helper_level(r, level, w.part.level);
+    made.push(finished(alloc, own, w, tree)?)?;
+    let next = number_of(number as usize + 1)?;
+    helpers_finished(alloc, s, r, level, next, helpers, made, units)
+}

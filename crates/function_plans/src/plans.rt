@@ -1,0 +1,135 @@
+ghost use Rattle.std.specs.Prelude.{◌≡◌, ◌≤◌, ◌+◌, map, option_map};
+ghost use Rattle.std.specs.Option.{option_copied};
+ghost use Rattle.case_trees.specs.Scoped.{AreClausesFor};
+ghost use Rattle.core_terms.specs.Answers.{Gives};
+ghost use Rattle.core_terms.specs.Meanings.{tree_of, tele_of};
+ghost use Rattle.core_terms.specs.PatternMeanings.{clauses_of};
+ghost use Rattle.function_plans.specs.CodePlans.{AreWalked, own_alone, parts_made, parts_with, plan_made};
+ghost use Rattle.function_refusals.specs.RefusalMeanings.{Elaborates};
+ghost use Rattle.function_walks.specs.WalkingMeanings.{session_of, walked_of};
+ghost use Rattle.leaf_terms.specs.PlanMeanings.{parts_of, plan_of};
+ghost use Rattle.leaf_terms.specs.RecursionMade.{made_at};
+ghost use Rattle.leaf_terms.specs.RecursionMeanings.{recursion_of};
+ghost use Rattle.structural_rec.specs.Meanings.{uses_of};
+ghost use Rattle.unification.specs.ScopedStates.{IsReady};
+
+use crate::choosing::chosen;
+use crate::finishing::own_finished;
+use crate::helpers::helpers_finished;
+use core_sig::Signature;
+use core_terms::{Items, Stop, Term, Units, copy_name};
+use function_refusals::Refusal;
+use function_walks::{Session, Walked};
+use leaf_terms::{Part, Plan, Recursion, recursion_at};
+use std::alloc::Global;
+use structural_rec::Use;
+
+/// Recursion at a position of a telescope, or none where there is no position.
+fn recursion_in<'a>(
+    alloc: Global,
+    sig: &'a Signature,
+    tele: &[Term],
+    position: Option<u32>,
+) -> Result<Option<Recursion<'a>>, Stop>
+    ensures { Gives (option_map recursion_of) result (made_at sig.now (tele_of tele.now) position) }
+{
+    match position {
+        None => Ok(None),
+        Some(j) => recursion_at(alloc, sig, tele, j),
+    }
+}
+
+/// The function's own part.
+fn with_own(
+    alloc: Global,
+    s: Session,
+    r: Option<&Recursion>,
+    w: Walked,
+    units: &mut Units,
+) -> Result<Items<Part>, Refusal>
+    requires ready { IsReady s.sig.now }
+    requires clauses { AreClausesFor s.sig.now (tele_of w.part.terms) (clauses_of w.clauses.now) }
+    ensures answer { Elaborates parts_of result units.new.left (own_alone (session_of s.entry) (option_map recursion_of (option_copied r.entry)) (walked_of w.entry) units.old.left) }
+    ensures sum { units.new.left + units.new.spent ≡ units.old.left + units.old.spent }
+    ensures spends { units.new.left ≤ units.old.left }
+{
+    let mut made = Items::new(alloc);
+    made.push(own_finished(alloc, s, r, w, units)?)?;
+    Ok(made)
+}
+
+/// The function's own part and those of its helpers, where recursion is given.
+fn all_parts(
+    alloc: Global,
+    s: Session,
+    r: Option<&Recursion>,
+    level: u8,
+    w: Walked,
+    helpers: Vec<Walked>,
+    units: &mut Units,
+) -> Result<Items<Part>, Refusal>
+    requires ready { IsReady s.sig.now }
+    requires clauses { AreClausesFor s.sig.now (tele_of w.part.terms) (clauses_of w.clauses.now) }
+    requires helpers { AreWalked s.sig.now (map walked_of helpers.items) }
+    ensures answer { Elaborates parts_of result units.new.left (parts_with (session_of s.entry) (option_map recursion_of (option_copied r.entry)) level (walked_of w.entry) (map walked_of helpers.entry.items) units.old.left) }
+    ensures sum { units.new.left + units.new.spent ≡ units.old.left + units.old.spent }
+    ensures spends { units.new.left ≤ units.old.left }
+{
+    let made = with_own(alloc, s, r, w, units)?;
+    helpers_finished(alloc, s, r, level, 1, helpers, made, units)
+}
+
+/// The function's own part and those of its helpers, with recursion at the position.
+fn parts_at(
+    alloc: Global,
+    s: Session,
+    position: Option<u32>,
+    level: u8,
+    w: Walked,
+    helpers: Vec<Walked>,
+    units: &mut Units,
+) -> Result<Items<Part>, Refusal>
+    requires ready { IsReady s.sig.now }
+    requires clauses { AreClausesFor s.sig.now (tele_of w.part.terms) (clauses_of w.clauses.now) }
+    requires helpers { AreWalked s.sig.now (map walked_of helpers.items) }
+    ensures answer { Elaborates parts_of result units.new.left (parts_made (session_of s.entry) position level (walked_of w.entry) (map walked_of helpers.entry.items) units.old.left) }
+    ensures sum { units.new.left + units.new.spent ≡ units.old.left + units.old.spent }
+    ensures spends { units.new.left ≤ units.old.left }
+{
+    let r = recursion_in(alloc, s.sig, w.part.tele.as_slice(), position)?;
+    all_parts(alloc, s, r.as_ref(), level, w, helpers, units)
+}
+
+/// The plan of a function whose clauses are walked, with its helpers and what the walks say of it, or Deep where something in the uses
+/// or in the telescope is too high.
+pub fn plan(
+    alloc: Global,
+    s: Session,
+    ty: Term,
+    arity: u32,
+    level: u8,
+    w: Walked,
+    helpers: Vec<Walked>,
+    uses: &Items<Use>,
+    units: &mut Units,
+) -> Result<Plan, Refusal>
+    requires ready { IsReady s.sig.now }
+    requires clauses { AreClausesFor s.sig.now (tele_of w.part.terms) (clauses_of w.clauses.now) }
+    requires helpers { AreWalked s.sig.now (map walked_of helpers.items) }
+    ensures answer { Elaborates plan_of result units.new.left (plan_made (session_of s.entry) (tree_of ty) arity level (walked_of w.entry) (map walked_of helpers.entry.items) (uses_of uses.now) units.old.left) }
+    ensures sum { units.new.left + units.new.spent ≡ units.old.left + units.old.spent }
+    ensures spends { units.new.left ≤ units.old.left }
+{
+    let position = chosen(alloc, s, &w.part.tele, uses)?;
+    let name = copy_name(alloc, s.name)?;
+    let parts = parts_at(alloc, s, position, level, w, helpers, units)?;
+    Ok(Plan {
+        base: s.own,
+        name,
+        ty,
+        arity,
+        level,
+        position,
+        parts,
+    })
+}
