@@ -30,88 +30,12 @@ use Rattle.entry_scopes.proofs.WholeCycles.{prelude-there}
 use Rattle.entry_scopes.proofs.WholeStandings.{scoped-functions, scoped-products}
 use Rattle.entry_scopes.proofs.WholeTrees.{IsTreeNode, tree-scoped}
 use Rattle.draft_scopes.specs.Laws.{IsNamedOver}
+use Rattle.draft_scopes.proofs.FunctionNames.{constant-there, both-numbers, named-over}
+use Rattle.draft_scopes.proofs.HelperNames.{helper-named}
 use Rattle.draft_scopes.proofs.FunctionSignatures.{function-numbers, function-prefix, part-tree}
 use Rattle.draft_scopes.proofs.LeafScopes.{leaf-there}
 use Rattle.draft_scopes.proofs.RenumberedDrafts.{in_order-scoped}
 use Rattle.helper_scopes.specs.Laws.{PlainHelperScoped}
-
--- ---- the signature with the function and with names
-
-module _ (S : Signature) (plan : Plan) (base : plan.base ≡ length S.entries) (count : ℕ) where
-  many : length (with_function S plan).entries ≡ length S.entries + 1
-  many = length-append S.entries (Definition plan.name plan.type (Const (length S.entries)) ∷ [])
-
-  own-number : IsConstantNumber (with_function S plan) (length S.entries)
-  own-number =
-      let e : length S.entries + 0 ≡ length S.entries = omega arith in (
-        plan.name,
-        plan.type,
-        Const (length S.entries),
-        subst (λ n. slice_get (with_function S plan).entries n ≡ Some (Definition plan.name plan.type (Const (length S.entries)))) e
-            (slice_get-append_right S.entries (Definition plan.name plan.type (Const (length S.entries)) ∷ []) 0),
-      )
-
-  constant-there : (c : ℕ) → plan.base ≤ c → c < plan.base + count → IsConstantNumber (with_count (with_function S plan) count) c
-  constant-there c from to = elim (below-or_from plan.base c) [
-    | inl lt ↦ name-number (with_function S plan) count c (omega (arith, base, many)) (omega (arith, base, many))
-    | inr le ↦
-        let same : length S.entries ≡ c = omega (arith, base) in
-        subst (IsConstantNumber (with_count (with_function S plan) count)) same
-        ((numbers-there (with_function S plan) count).constants (length S.entries) own-number)
-  ]
-
-  both-numbers : HasNumbers S (with_count (with_function S plan) count)
-  both-numbers =
-      let one = function-numbers S plan in
-      let two = numbers-there (with_function S plan) count in
-      record {
-        constants = λ n is. two.constants n (one.constants n is);
-        families = λ n is. two.families n (one.families n is);
-        constructors = λ n c is. two.constructors n c (one.constructors n c is);
-      }
-
-  family-before : (n : ℕ) (f : Family) → IsEntryAt (with_function S plan) n (FamilyOf f) → IsEntryAt S n (FamilyOf f)
-  family-before n f at = by (slice_get-pushed S.entries (Definition plan.name plan.type (Const (length S.entries))) n (FamilyOf f) at)
-    where
-      by : (slice_get S.entries n ≡ Some (FamilyOf f)) ⊎ ((n ≡ length S.entries) × (Definition plan.name plan.type (Const (length S.entries)) ≡ FamilyOf f))
-          → IsEntryAt S n (FamilyOf f)
-      by (inl before) = before
-      by (inr (place, same)) = absurd (cc)
-
-  named-over : IsNamedOver S (with_count (with_function S plan) count) plan.base
-  named-over = record {
-    families = λ n is. family n (scoped-draft F count 0 (Fam n) (record { variables = omega arith; entries = is })).entries;
-    constructors = λ n c is. constructor n c (scoped-draft F count 0 (Con n c) (record { variables = omega arith; entries = is })).entries;
-    constants = λ c low is. constant c low (scoped-draft F count 0 (Const c) (record { variables = omega arith; entries = is })).entries;
-  }
-    where
-      F : Signature
-      F = with_function S plan
-
-      family : (n : ℕ) → IsFamilyNumber (with_function S plan) n → IsFamilyNumber S n
-      family n (f, at) = (f, family-before n f at)
-
-      constructor : (n c : ℕ) → IsConstructorNumber (with_function S plan) n c → IsConstructorNumber S n c
-      constructor n c (f, at, low) = (f, family-before n f at, low)
-
-      constant : (c : ℕ) → c < plan.base → IsDraftNumber (with_function S plan) (length (with_function S plan).entries) count c → IsConstantNumber S c
-      constant c low (inl (lt, (name, type, body, at))) = (name, type, body, sym (slice_get-append S.entries _ c (omega (arith, base))) ∙ at)
-      constant c low (inr (from, to)) = absurd (omega (arith, base, many))
-
--- ---- helpers that a side may call
-
-count-parts : (plan : Plan) (k : ℕ) (helper : Part) → slice_get plan.parts k ≡ Some helper → 0 < k → k ≤ helper_count plan
-count-parts plan k helper at high = by plan.parts at
-  where
-    by : (parts : List Part) → slice_get parts k ≡ Some helper → k ≤ length (drop 1 parts)
-    by [] there = absurd (none-some helper there)
-    by (part ∷ parts) there = let low = slice_get_within (part ∷ parts) k helper there in omega arith
-
-helper-named : (Q : ℕ → Type 0) (number : Naming) (plan : Plan) (at k : ℕ) (helper : Part) → Each (λ name. Q (number name)) (helper_names plan at) → slice_get plan.parts k ≡ Some helper
-    → at < k → Q (number (helper_name plan.name k))
-helper-named Q number plan at k helper named there lt =
-    let most = count-parts plan k helper there (omega arith) in
-    each_position-at (λ name. Q (number name)) (helper_name plan.name) (at + 1) (helper_count plan - at) k named (omega arith) (omega arith)
 
 -- ---- drafts
 

@@ -1,4 +1,3 @@
-pub mod FunctionNames
 pub mod OwnOrders
 pub mod PlainFunctions
 pub mod RecursiveFunctions

@@ -29,23 +29,9 @@ use Rattle.draft_scopes.proofs.FunctionSignatures.{function-prefix, part-tree}
 use Rattle.draft_scopes.proofs.LeafScopes.{leaf-there}
 use Rattle.draft_scopes.proofs.RenumberedDrafts.{in_order-scoped}
 use Rattle.own_scopes.specs.Laws.{PlainFunctionScoped}
-use Rattle.own_scopes.proofs.FunctionNames.{constant-there, both-numbers, named-over}
+use Rattle.draft_scopes.proofs.FunctionNames.{constant-there, both-numbers, named-over}
+use Rattle.draft_scopes.proofs.HelperNames.{helper-named}
 use Rattle.own_scopes.proofs.OwnOrders.{goal-stays, telescope-stays, ordered-scoped}
-
--- ---- helpers that a side may call
-
-count-parts : (plan : Plan) (k : ℕ) (helper : Part) → slice_get plan.parts k ≡ Some helper → 0 < k → k ≤ helper_count plan
-count-parts plan k helper at high = by plan.parts at
-  where
-    by : (parts : List Part) → slice_get parts k ≡ Some helper → k ≤ length (drop 1 parts)
-    by [] there = absurd (none-some helper there)
-    by (part ∷ parts) there = let low = slice_get_within (part ∷ parts) k helper there in omega arith
-
-helper-named : (Q : ℕ → Type 0) (number : Naming) (plan : Plan) (k : ℕ) (helper : Part) → Each (λ name. Q (number name)) (helper_names plan 0) → slice_get plan.parts k ≡ Some helper
-    → 0 < k → Q (number (helper_name plan.name k))
-helper-named Q number plan k helper named there lt =
-    let most = count-parts plan k helper there lt in
-    each_position-at (λ name. Q (number name)) (helper_name plan.name) (0 + 1) (helper_count plan - 0) k named (omega arith) (omega arith)
 
 -- ---- the own part
 
@@ -108,7 +94,7 @@ plain_function_scoped S plan d ready first planned none e =
     let made : IsScoped T n (tree_term w part.tree node) =
     tree-scoped w count ready (prelude-there F count (function-prefix S plan first)) part.tree
     (λ next i context goal substitution terms binds over leaf.
-    leaf-there S T more number plan base numbers 0 part None order p (λ j helper at lt. helper-named (IsConstantNumber T) number plan j helper helpers_named at lt) tt next i context goal
+    leaf-there S T more number plan base numbers 0 part None order p (λ j helper at lt. helper-named (IsConstantNumber T) number plan 0 j helper helpers_named at lt) tt next i context goal
     substitution terms binds over leaf)
     (start_at part.tele part.goal terms) node stands.stands stands.scoped there
     (subst (Each (λ name. IsConstantNumber T (number_in plan.base table name))) (tree-names-same S F (function-same S plan) part.level part.tree node) tree_named) in

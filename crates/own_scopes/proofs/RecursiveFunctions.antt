@@ -22,7 +22,7 @@ use Rattle.entry_scopes.proofs.WholeStandings.{filled-scoped, scoped-functions, 
 use Rattle.entry_scopes.proofs.WholeTerms.{applied-each, const-scoped, entry-scoped}
 use Rattle.draft_scopes.proofs.RenumberedDrafts.{in_order-scoped}
 use Rattle.own_scopes.specs.Laws.{RecursiveFunctionScoped}
-use Rattle.own_scopes.proofs.FunctionNames.{constant-there, both-numbers, named-over}
+use Rattle.draft_scopes.proofs.FunctionNames.{constant-there, both-numbers, named-over}
 
 -- ---- at terms of the function's telescope
 
