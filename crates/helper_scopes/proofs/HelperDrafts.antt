@@ -1,21 +1,12 @@
 -- The drafts of helpers of a function that does not call itself are scoped.
-use Rattle.std.proofs.Common.{◌≡◌, ◌⊎◌, inl, inr, ℕ, ◌+◌, ◌-◌, ◌<◌, ◌≤◌, Some, None, List, [], ◌∷◌, ◌++◌, length, drop, slice_get, sym, subst, ◌∙◌, arith}
-use Rattle.std.proofs.lemmas.List.{length-append}
-use Rattle.std.proofs.lemmas.Option.{none-some, slice_get_within}
-use Rattle.theory.specs.Terms.{Const, Fam, Con}
+use Rattle.std.proofs.Common.{◌+◌, ◌-◌, None, [], ◌++◌, length, sym, subst, arith}
 use Rattle.theory.specs.Telescopes.{products, functions}
-use Rattle.theory.specs.Signatures.{Definition, FamilyOf, Signature, IsEntryAt}
-use Rattle.theory.specs.Families.{Family}
-use Rattle.theory.specs.SignatureScopes.{IsConstantNumber, IsFamilyNumber, IsConstructorNumber, IsScoped}
-use Rattle.theory.proofs.Lists.{slice_get-append, slice_get-append_right, slice_get-pushed}
+use Rattle.theory.specs.SignatureScopes.{IsConstantNumber, IsScoped}
 use Rattle.theory.proofs.ScopedTerms.{HasNumbers, scoped_over_more, scoped-wider, telescope-wider}
-use Rattle.core_sig.specs.DraftScopes.{IsDraftNumber}
-use Rattle.unification.proofs.Cases.{below-or_from}
 use Rattle.case_trees.specs.Points.{start_at}
 use Rattle.tree_translation.specs.Conditions.{with_function}
-use Rattle.tree_translation.specs.Entries.{helper_count, helper_names, part_term}
+use Rattle.tree_translation.specs.Entries.{helper_names, part_term}
 use Rattle.tree_translation.specs.Naming.{Naming, number_in, with_names, helper_name}
-use Rattle.tree_translation.specs.Plans.{Plan, Part}
 use Rattle.tree_translation.specs.Recursion.{order_of}
 use Rattle.tree_translation.specs.Splits.{Node}
 use Rattle.tree_translation.specs.TreeTerms.{Translation, tree_names, tree_term}
@@ -23,16 +14,15 @@ use Rattle.translation_laws.proofs.FunctionTrees.{function-same}
 use Rattle.translation_laws.proofs.SameFamilies.{tree-same, tree-names-same}
 use Rattle.node_roots.proofs.RootNodes.{helper_node-over}
 use Rattle.entry_laws.proofs.OnlyConstants.{Each, each-left, each-right, each-weaker}
-use Rattle.entry_laws.proofs.OnlyEntries.{IsPart, each_position-at}
+use Rattle.entry_laws.proofs.OnlyEntries.{IsPart}
 use Rattle.entry_laws.proofs.TableNames.{candidates-numbered}
-use Rattle.entry_scopes.proofs.DraftSignatures.{with_count, name-number, numbers-there, scoped-draft}
+use Rattle.entry_scopes.proofs.DraftSignatures.{with_count, numbers-there}
 use Rattle.entry_scopes.proofs.WholeCycles.{prelude-there}
 use Rattle.entry_scopes.proofs.WholeStandings.{scoped-functions, scoped-products}
 use Rattle.entry_scopes.proofs.WholeTrees.{IsTreeNode, tree-scoped}
-use Rattle.draft_scopes.specs.Laws.{IsNamedOver}
 use Rattle.draft_scopes.proofs.FunctionNames.{constant-there, both-numbers, named-over}
 use Rattle.draft_scopes.proofs.HelperNames.{helper-named}
-use Rattle.draft_scopes.proofs.FunctionSignatures.{function-numbers, function-prefix, part-tree}
+use Rattle.draft_scopes.proofs.FunctionSignatures.{function-prefix, part-tree}
 use Rattle.draft_scopes.proofs.LeafScopes.{leaf-there}
 use Rattle.draft_scopes.proofs.RenumberedDrafts.{in_order-scoped}
 use Rattle.helper_scopes.specs.Laws.{PlainHelperScoped}

@@ -1,6 +1,6 @@
 -- The own draft of a function that does not call itself is scoped.
-use Rattle.std.proofs.Common.{◌≡◌, ℕ, ◌+◌, ◌-◌, ◌<◌, ◌≤◌, Option, Some, None, List, [], ◌∷◌, ◌++◌, length, drop, slice_get, sym, subst, arith}
-use Rattle.std.proofs.lemmas.Option.{none-some, slice_get_within}
+use Rattle.std.proofs.Common.{◌≡◌, ℕ, ◌+◌, ◌-◌, Option, Some, None, List, [], ◌++◌, length, sym, subst, arith}
+use Rattle.std.proofs.lemmas.Option.{none-some}
 use Rattle.theory.specs.Telescopes.{functions}
 use Rattle.theory.specs.Signatures.{Signature}
 use Rattle.theory.specs.SignatureScopes.{IsConstantNumber, IsScoped}
@@ -8,9 +8,9 @@ use Rattle.theory.proofs.ScopedTerms.{HasNumbers, scoped_over_more, scoped-wider
 use Rattle.case_trees.specs.Points.{start_at}
 use Rattle.structural_rec.specs.Uses.{Use}
 use Rattle.tree_translation.specs.Conditions.{with_function, IsPartOf, IsOwnPart}
-use Rattle.tree_translation.specs.Entries.{helper_count, helper_names, ordered_variables, part_term}
-use Rattle.tree_translation.specs.Naming.{Naming, number_in, with_names, helper_name}
-use Rattle.tree_translation.specs.Plans.{Plan, Part, own_part}
+use Rattle.tree_translation.specs.Entries.{helper_names, ordered_variables, part_term}
+use Rattle.tree_translation.specs.Naming.{Naming, number_in, with_names}
+use Rattle.tree_translation.specs.Plans.{Plan, own_part}
 use Rattle.tree_translation.specs.Recursion.{Recursion, recursion_of, order_of, ordered_telescope, ordered_term}
 use Rattle.tree_translation.specs.Splits.{Node}
 use Rattle.tree_translation.specs.TreeTerms.{Translation, tree_names, tree_term}
@@ -19,7 +19,7 @@ use Rattle.translation_laws.proofs.FunctionTrees.{function-same}
 use Rattle.translation_laws.proofs.SameFamilies.{tree-same, tree-names-same}
 use Rattle.node_roots.proofs.RootNodes.{helper_node-over}
 use Rattle.entry_laws.proofs.OnlyConstants.{Each, each-left, each-right, each-weaker}
-use Rattle.entry_laws.proofs.OnlyEntries.{IsPart, each_position-at}
+use Rattle.entry_laws.proofs.OnlyEntries.{IsPart}
 use Rattle.entry_laws.proofs.TableNames.{candidates-numbered}
 use Rattle.entry_scopes.proofs.DraftSignatures.{with_count, numbers-there}
 use Rattle.entry_scopes.proofs.WholeCycles.{prelude-there}
