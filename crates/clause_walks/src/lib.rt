@@ -28,7 +28,7 @@ pub use parts::{Forced, all_bound, all_dots, all_left, all_open, first_clash, su
 pub use points::{Point, bounded_point, moved_point, solution_for, start_at};
 pub use problems::{Member, member_of, problem_of, type_of_variable};
 pub use reaching::Reached;
-pub use running::Ran;
+pub use running::{Ran, Runs, StuckRun, run_from};
 pub use stops::TreeStop;
 pub use walking::own_walk;
 pub use working::work_pairs;

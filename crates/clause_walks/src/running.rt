@@ -112,7 +112,7 @@ fn unless_stuck(ran: Ran) -> Result<Ran, StuckRun>
 }
 
 /// The runs of constructors of a family, the first of which has this number, behind those that are made, up to the first that is stuck.
-pub(crate) fn run_from(
+pub fn run_from(
     alloc: Global,
     sig: &Signature,
     ctx: &[Term],
