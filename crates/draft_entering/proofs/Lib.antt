@@ -6,6 +6,7 @@ pub mod ListedIn
 pub mod Longer
 pub mod NameParts
 pub mod NamedDrafts
+pub mod NamedEntering
 pub mod TableLookups
 pub mod Unindexed
 pub mod UnmarkedNames

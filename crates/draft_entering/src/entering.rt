@@ -228,7 +228,7 @@ fn enter_name(
 
 /// Adds what is generated and has the name, which the signature does not know.
 #[cycle(enter_at)]
-fn enter_generated(
+pub(crate) fn enter_generated(
     alloc: Global,
     depth: u32,
     sig: &mut Signature,
