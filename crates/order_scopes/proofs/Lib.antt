@@ -1,0 +1,3 @@
+pub mod OrderLengths
+pub mod OrderedScopes
+pub mod RecursionOrders
