@@ -1,6 +1,5 @@
 pub mod EquationScopes
 pub mod LeftShowing
-pub mod OrderLengths
 pub mod OwnMatches
 pub mod PartNumbers
 pub mod PlannedClauses

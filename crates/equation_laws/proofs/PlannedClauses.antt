@@ -21,7 +21,7 @@ use Rattle.tree_translation.specs.Entries.{ordered_variables}
 use Rattle.tree_translation.specs.Plans.{Plan, Part, no_part, own_part}
 use Rattle.tree_translation.specs.Recursion.{recursion_of, order_of}
 use Rattle.clause_reports.specs.Equations.{part_at}
-use Rattle.equation_laws.proofs.OrderLengths.{order-long}
+use Rattle.order_scopes.proofs.OrderLengths.{order-long}
 
 pub record IsClauseThere (before : Signature) (plan : Plan) (at : ℕ) (part : Part) (number : ℕ) (w : Walk) : Type 0 where
   pub pats : Pats
