@@ -175,7 +175,7 @@ module _ (S : Signature) (plan : Plan) (planned : IsPlanned S plan) where
       made.differ Grows.none)
 
   -- the parts after the first one
-  later-parts : (parts : List Part) (j : ℕ) (part : Part) → slice_get (drop 1 parts) j ≡ Some part → slice_get parts (0 + 1 + j) ≡ Some part
+  pub later-parts : (parts : List Part) (j : ℕ) (part : Part) → slice_get (drop 1 parts) j ≡ Some part → slice_get parts (0 + 1 + j) ≡ Some part
   later-parts [] j part at = absurd (none-some part at)
   later-parts (first ∷ parts) j part at = let place : suc j ≡ 0 + 1 + j = omega arith in ap (slice_get (first ∷ parts)) (sym place) ∙ at
 

@@ -153,7 +153,7 @@ recursion-there : {Q : ℕ → Type 0} (S : Signature) (number : Naming) (plan :
 recursion-there S number plan None at families e named = tt
 recursion-there S number plan (Some r) at families e (Each.more below (Each.more motive all)) = recursion-only S number plan r families e below motive
 
-helpers-there : (Q : ℕ → Type 0) (number : Naming) (plan : Plan) (o : Option Recursion) (at : ℕ) → NumbersHave Q number (side_names plan o at)
+pub helpers-there : (Q : ℕ → Type 0) (number : Naming) (plan : Plan) (o : Option Recursion) (at : ℕ) → NumbersHave Q number (side_names plan o at)
     → NumbersHave Q number (helper_names plan at)
 helpers-there Q number plan None at named = named
 helpers-there Q number plan (Some r) at (Each.more below (Each.more motive all)) = all
@@ -216,7 +216,7 @@ blank-below_type number other plan r terms =
     ∙ sym (map-append blank parameters (two ∷ rest))))
     ∙ sym (blank-applied (Const (other (below_name r.family plan.level))) (parameters ++ two ∷ rest)))
 
-step-like : (plan : Plan) (r : Recursion) (number other : Naming) → IsLikeNode (step_node plan r number) (step_node plan r other)
+pub step-like : (plan : Plan) (r : Recursion) (number other : Naming) → IsLikeNode (step_node plan r number) (step_node plan r other)
 step-like plan r number other =
     let part = own_part plan in
     let order = order_of (length part.tele) (Some r) in
@@ -230,7 +230,7 @@ step-like plan r number other =
       hidden = refl;
     }
 
-helper-like : (plan : Plan) (o : Option Recursion) (part : Part) (number other : Naming) → IsLikeNode (helper_node plan o part number) (helper_node plan o part other)
+pub helper-like : (plan : Plan) (o : Option Recursion) (part : Part) (number other : Naming) → IsLikeNode (helper_node plan o part number) (helper_node plan o part other)
 helper-like plan None part number other = record { context = refl; hidden = refl }
 helper-like plan (Some r) part number other = record {
   context =
