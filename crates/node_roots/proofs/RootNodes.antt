@@ -188,7 +188,7 @@ length-lift (x ∷ tele) from = ap suc (length-lift tele (from + 1))
 
 -- ---- contexts
 
-length-below : (a : ℕ) (below : Term) (tele : Telescope) → a ≤ length tele → length (with_below a below tele) ≡ a + suc (length tele - a)
+pub length-below : (a : ℕ) (below : Term) (tele : Telescope) → a ≤ length tele → length (with_below a below tele) ≡ a + suc (length tele - a)
 length-below a below tele le =
     let others = lift_telescope (drop a tele) 1 0 in
     let x = length-append (take a tele) (below ∷ others) in
@@ -302,7 +302,7 @@ helper_node-over plan (Some r) part number =
     }
 
 -- the first positions are among all of them
-first-within : (count : ℕ) (r : Recursion) → length (first_positions r) ≤ length (order_of count (Some r))
+pub first-within : (count : ℕ) (r : Recursion) → length (first_positions r) ≤ length (order_of count (Some r))
 first-within count r =
     let first = first_positions r in
     let l = length-append first (flat_map (unless_among first) (range_with_len 0 count)) in
