@@ -122,12 +122,12 @@ in_order-scoped S T name base candidates type term d named e ht hu =
 
 -- ---- the motive
 
-take-telescope : (T : Signature) (n k : ℕ) (tele : Telescope) → IsScopedTelescope T n tele → IsScopedTelescope T n (take k tele)
+pub take-telescope : (T : Signature) (n k : ℕ) (tele : Telescope) → IsScopedTelescope T n tele → IsScopedTelescope T n (take k tele)
 take-telescope T n zero tele h = tt
 take-telescope T n (suc k) [] h = tt
 take-telescope T n (suc k) (a ∷ tele) h = (h.0, take-telescope T (n + 1) k tele h.1)
 
-telescope-after : (S : Signature) (n k : ℕ) (tele : Telescope) → IsScopedTelescope S n tele → IsScopedTelescope S (n + length (take k tele)) (drop k tele)
+pub telescope-after : (S : Signature) (n k : ℕ) (tele : Telescope) → IsScopedTelescope S n tele → IsScopedTelescope S (n + length (take k tele)) (drop k tele)
 telescope-after S n zero tele h = telescope-same S n (n + 0) tele (omega arith) h
 telescope-after S n (suc k) [] h = tt
 telescope-after S n (suc k) (a ∷ tele) h =
