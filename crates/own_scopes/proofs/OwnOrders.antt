@@ -1,19 +1,14 @@
 -- In the order of a function that does not call itself each variable stands where it stood.
-use Rattle.std.proofs.Common.{◌≡◌, ℕ, zero, suc, ◌+◌, ◌-◌, ◌<◌, ◌≤◌, ◌==◌, inl, inr, false, cond, List, [], ◌∷◌, length, All, refl, sym, ap, ap₂, ◌∙◌, arith, eq-eqb}
-use Rattle.std.proofs.lemmas.List.Elements.{All-nil, All-cons}
+use Rattle.std.proofs.Common.{◌≡◌, ℕ, zero, suc, ◌+◌, ◌-◌, ◌<◌, ◌≤◌, ◌==◌, inl, inr, false, cond, [], ◌∷◌, length, refl, sym, ap, ap₂, ◌∙◌, arith, eq-eqb}
 use Rattle.theory.specs.Terms.{Term, Var, Sort, Pi, Lam, App, Let, Const, Fam, Con, Elim, AxiomK}
 use Rattle.theory.specs.Telescopes.{Telescope}
-use Rattle.theory.specs.Signatures.{Signature}
-use Rattle.theory.specs.SignatureScopes.{IsScoped}
-use Rattle.theory.proofs.ScopedTerms.{var-scoped}
 use Rattle.core_terms.specs.Levels.{variable}
 use Rattle.tele_eq.specs.Environments.{Environment, put_under, put_variable}
-use Rattle.tele_eq.specs.Items.{term_at, each_position}
+use Rattle.tele_eq.specs.Items.{term_at}
 use Rattle.tele_eq.specs.Levels.{place_in}
 use Rattle.unification.specs.Solving.{reordered, new_context}
 use Rattle.unification.proofs.Cases.{below-or_from, first-of_three, second-of_three, third-of_three}
 use Rattle.case_trees.proofs.SolvedOrders.{not-equal}
-use Rattle.tree_translation.specs.Entries.{ordered_variables}
 use Rattle.tree_translation.specs.Recursion.{ordered_telescope, ordered_term}
 use Rattle.tree_translation.specs.Standings.{levels_from}
 
@@ -96,16 +91,3 @@ pub telescope-stays : (tele : Telescope) → ordered_telescope tele (levels_from
 telescope-stays tele =
     types-stay tele (reordered (levels_from 0 (length tele))) (length tele) 0 tele (omega arith) (levels-themselves (length tele) (length tele) (omega arith))
     (λ k. let e : 0 + k ≡ k = omega arith in ap (term_at tele) e)
-
--- ---- variables
-
-each-variable : (S : Signature) (depth : ℕ) (f : ℕ → ℕ) (j count : ℕ) → 0 < depth → All (IsScoped S depth) (each_position (λ i. variable depth (f i)) j count)
-each-variable S depth f j zero some = All-nil (IsScoped S depth)
-each-variable S depth f j (suc count) some =
-    All-cons (IsScoped S depth) (variable depth (f j)) (each_position (λ i. variable depth (f i)) (j + 1) count) (var-scoped (omega arith))
-    (each-variable S depth f (j + 1) count some)
-
--- the variables in an order that has no more of them than there are
-pub ordered-scoped : (S : Signature) (order : List ℕ) (depth : ℕ) → length order ≤ depth → All (IsScoped S depth) (ordered_variables order depth)
-ordered-scoped S [] depth le = All-nil (IsScoped S depth)
-ordered-scoped S (p ∷ order) depth le = each-variable S depth (place_in (p ∷ order)) 0 (length (p ∷ order)) (omega arith)

@@ -1,5 +1,5 @@
 -- The own draft of a function that does not call itself is scoped.
-use Rattle.std.proofs.Common.{◌≡◌, ℕ, ◌+◌, ◌-◌, Option, Some, None, List, [], ◌++◌, length, sym, subst, arith}
+use Rattle.std.proofs.Common.{◌≡◌, ℕ, ◌+◌, Option, Some, None, List, [], ◌++◌, length, sym, subst, arith}
 use Rattle.std.proofs.lemmas.Option.{none-some}
 use Rattle.theory.specs.Telescopes.{functions}
 use Rattle.theory.specs.Signatures.{Signature}
@@ -31,7 +31,8 @@ use Rattle.draft_scopes.proofs.RenumberedDrafts.{in_order-scoped}
 use Rattle.own_scopes.specs.Laws.{PlainFunctionScoped}
 use Rattle.draft_scopes.proofs.FunctionNames.{constant-there, both-numbers, named-over}
 use Rattle.draft_scopes.proofs.HelperNames.{helper-named}
-use Rattle.own_scopes.proofs.OwnOrders.{goal-stays, telescope-stays, ordered-scoped}
+use Rattle.own_scopes.proofs.OwnOrders.{goal-stays, telescope-stays}
+use Rattle.order_scopes.proofs.OrderedScopes.{variables-scoped}
 
 -- ---- the own part
 
@@ -84,7 +85,7 @@ plain_function_scoped S plan d ready first planned none e =
     let tele = telescope-wider more 0 part.tele is.context_scoped in
     let goal = scoped-wider more is.goal_scoped in
     let long : length order ≡ n = length-levels 0 n in
-    let stands = part-tree S plan planned.uses 0 part part.tele part.goal terms ready is is.context_scoped is.goal_scoped (ordered-scoped S order n (omega arith)) in
+    let stands = part-tree S plan planned.uses 0 part part.tele part.goal terms ready is is.context_scoped is.goal_scoped (variables-scoped S order n (omega arith)) in
     let root = helper_node-over plan None part number in
     let there : IsTreeNode T node part.tele = record {
       terms = record { context = tele; goal = goal };

@@ -27,11 +27,11 @@ use Rattle.draft_scopes.proofs.FunctionNames.{constant-there, both-numbers, name
 -- ---- at terms of the function's telescope
 
 module _ (T : Signature) (n : ℕ) where
-  terms-there : (positions : List ℕ) (terms : List Term) → Each (IsScoped T n) terms → Each (IsScoped T n) (terms_at positions terms)
+  pub terms-there : (positions : List ℕ) (terms : List Term) → Each (IsScoped T n) terms → Each (IsScoped T n) (terms_at positions terms)
   terms-there [] terms all = Each.none
   terms-there (p ∷ positions) terms all = Each.more (each-get terms p _ (sort-scoped 0) all) (terms-there positions terms all)
 
-  parameters-there : (tele : Telescope) (r : Recursion) (terms : List Term) → IsScopedTelescope T 0 tele → Each (IsScoped T n) terms
+  pub parameters-there : (tele : Telescope) (r : Recursion) (terms : List Term) → IsScopedTelescope T 0 tele → Each (IsScoped T n) terms
       → Each (IsScoped T n) (parameters_at tele r terms)
   parameters-there tele r terms scoped all =
       let some = take r.position terms in
@@ -42,7 +42,7 @@ module _ (T : Signature) (n : ℕ) where
       each-take (length r.family.parameters) (spine_of (inst (fill no_variable some) type))
       (each-all (IsScoped T n) (spine_of (inst (fill no_variable some) type)) (spine-scoped T n (inst (fill no_variable some) type) is))
 
-  motive-there : (number : Naming) (plan : Plan) (r : Recursion) (terms : List Term) → IsConstantNumber T (number (motive_name plan.name)) → Each (IsScoped T n) terms
+  pub motive-there : (number : Naming) (plan : Plan) (r : Recursion) (terms : List Term) → IsConstantNumber T (number (motive_name plan.name)) → Each (IsScoped T n) terms
       → IsScoped T n (motive_at number plan r terms)
   motive-there number plan r terms is all =
       applied-each T n (Const (number (motive_name plan.name))) (terms_at r.admission.fixed terms) (const-scoped T n (number (motive_name plan.name)) is)
