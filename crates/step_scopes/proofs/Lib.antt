@@ -1,0 +1,5 @@
+pub mod AllDrafts
+pub mod BelowTypes
+pub mod PartDrafts
+pub mod PlanOrders
+pub mod RecursionShapes
