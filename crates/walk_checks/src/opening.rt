@@ -94,7 +94,8 @@ fn opening(
     abstraction: Abstracted,
     sort: &Term,
 ) -> Result<Opening, Refusal>
-    ensures { Tells opening_of result (spec.and_level (abstracted_of abstraction) (spec.if_low_level sig.now (site_of site.entry) (tree_of sort.now))) }
+    ensures answer { Tells opening_of result (spec.and_level (abstracted_of abstraction) (spec.if_low_level sig.now (site_of site.entry) (tree_of sort.now))) }
+    ensures same { IfOk result (λ o. abstracted_of o.abstraction ≡ abstracted_of abstraction) }
 {
     let level = low_level(alloc, sig, site, sort)?;
     Ok(Opening { abstraction, level })
@@ -138,6 +139,7 @@ fn at_level(
     ensures answer { Elaborates opening_of result units.new.left (level_asked (session_of s.entry) (site_of site.entry) (abstracted_of a) (abstracted_of a).goal units.old.left) }
     ensures sum { units.new.left + units.new.spent ≡ units.old.left + units.old.spent }
     ensures spends { units.new.left ≤ units.old.left }
+    ensures same { IfOk result (λ o. abstracted_of o.abstraction ≡ abstracted_of a) }
 {
     let sort = product_sort(alloc, s.sig, site, &a, units)?;
     opening(alloc, s.sig, site, a, &sort)
@@ -155,6 +157,7 @@ fn at_goal(
     ensures answer { Elaborates opening_of result units.new.left (goal_asked (session_of s.entry) (site_of site.entry) (abstracted_of a) units.old.left) }
     ensures sum { units.new.left + units.new.spent ≡ units.old.left + units.old.spent }
     ensures spends { units.new.left ≤ units.old.left }
+    ensures same { IfOk result (λ o. abstracted_of o.abstraction ≡ abstracted_of a) }
 {
     refuse_self(alloc, s.own, site, &a.goal)?;
     at_level(alloc, s, site, a, units)
@@ -195,6 +198,7 @@ fn over_its_type(
     ensures answer { Elaborates opening_of result units.new.left (over_type (session_of s.entry) (site_of site.entry) (walk_of w.now) (tree_of t.now) (tree_of ty.now) units.old.left) }
     ensures sum { units.new.left + units.new.spent ≡ units.old.left + units.old.spent }
     ensures spends { units.new.left ≤ units.old.left }
+    ensures scoped { IfOk result (λ o. IsScopedAbstraction s.entry.sig.now (length w.now.ctx) (abstracted_of o.abstraction)) }
 {
     match abstracted(alloc, s.sig, w, t, ty, units) {
         Ok(a) => at_goal(alloc, s, site, a, units),
@@ -216,6 +220,7 @@ fn with_type(
     ensures answer { Elaborates opening_of result units.new.left (type_asked (session_of s.entry) (site_of site.entry) (walk_of w.now) (tree_of t.now) (tree_of ty.now) units.old.left) }
     ensures sum { units.new.left + units.new.spent ≡ units.old.left + units.old.spent }
     ensures spends { units.new.left ≤ units.old.left }
+    ensures scoped { IfOk result (λ o. IsScopedAbstraction s.entry.sig.now (length w.now.ctx) (abstracted_of o.abstraction)) }
 {
     refuse_self(alloc, s.own, site, ty)?;
     over_its_type(alloc, s, site, w, t, ty, units)
@@ -234,6 +239,7 @@ pub fn open_over(
     ensures answer { Elaborates opening_of result units.new.left (spec.open_over (session_of s.entry) (site_of site.entry) (walk_of w.now) (tree_of t.now) units.old.left) }
     ensures sum { units.new.left + units.new.spent ≡ units.old.left + units.old.spent }
     ensures spends { units.new.left ≤ units.old.left }
+    ensures scoped { IfOk result (λ o. IsScopedAbstraction s.entry.sig.now (length w.now.ctx) (abstracted_of o.abstraction)) }
 {
     let ty = inferred(alloc, s.sig, Asked::With, site, &w.ctx, t, units)?;
     with_type(alloc, s, site, w, t, &ty, units)

@@ -4,7 +4,7 @@ use Rattle.core_terms.specs.Meanings.{tree_of, tele_of}
 use Rattle.elaboration.specs.Refusals.{halting}
 use Rattle.function_refusals.specs.RefusalMeanings.{refusal_of}
 use Rattle.walk_checks.proofs.Chains.{ends-there, goes-on}
-use Rattle.walk_checks.proofs.Scopes.{closed-product}
+use Rattle.walk_checks.proofs.Scopes.{closed-product, opened-scoped}
 use Rattle.walk_checks.specs.CodeOpening.{goal_asked}
 use Rattle.walk_checks.specs.CheckMeanings.{opening_of, site_of}
 use Rattle.with_abstraction.specs.Abstractions.{abstract_over_of}
@@ -33,3 +33,8 @@ returns-in-Err-clause-answer c =
     (abstract_over_of c.args.s.sig.now (tele_of w.ctx) (tree_of w.goal) (tree_of c.args.t.now) (tree_of c.args.ty.now) c.args.units.now.left))
     (refusal_of c.in-Err.e) (λ a more. goal_asked (session_of c.args.s) (site_of c.args.site) a more) c.abstracted.new.units.left
     (c.in-Err.ensures.answer other)
+
+pub returns-in-Ok-clause-scoped : goal.returns-in-Ok-clause-scoped
+returns-in-Ok-clause-scoped c =
+    opened-scoped c.args.s.sig.now (length c.args.w.now.ctx) (abstracted_of c.in-Ok.a) c.at_goal.result c.at_goal.ensures.same
+    c.in-Ok.ensures.scoped
