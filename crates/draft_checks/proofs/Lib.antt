@@ -1,0 +1,2 @@
+pub mod EnterableDrafts
+pub mod UnmarkedEntries

@@ -1,0 +1,9 @@
+//! Tests of drafts, and of signatures that they are to enter.
+#![tactic(auto)]
+
+mod drafts;
+pub mod laws;
+mod marks;
+
+pub use drafts::is_enterable;
+pub use marks::is_unmarked;
