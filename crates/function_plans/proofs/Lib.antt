@@ -1,6 +1,9 @@
+pub mod ClosedPlans
 pub mod Columns
 pub mod EndedTrees
 pub mod HelperChains
+pub mod Orders
 pub mod PlansMade
+pub mod Refining
 pub mod Removed
 pub mod Starts

@@ -1,20 +1,23 @@
--- The plan that is made is the one that is meant.
-use Rattle.std.proofs.Common.{◌≡◌, ℕ, ◌&&◌, Bool, true, false, Option, Some, None, List, [], ◌∷◌, ◌++◌, Result, Ok, Err, refl}
+-- A plan that is made is the one that is meant.
+use Rattle.std.proofs.Common.{◌≡◌, ℕ, ◌&&◌, Bool, true, false, cond, Option, Some, None, List, [], ◌∷◌, ◌++◌, length, Result, Ok, Err, refl, sym, ap, ◌∙◌}
 use Rattle.theory.specs.Signatures.{Signature}
 use Rattle.theory.specs.Telescopes.{Telescope}
-use Rattle.theory.specs.Terms.{Term}
 use Rattle.core_terms.specs.Answers.{and_next, are_low, on_answer}
 use Rattle.core_terms.specs.declared.stop.Stop.{Stop}
-use Rattle.elaboration.specs.Functions.{helpers_finished, own_finished, position_chosen, recursion_in}
-use Rattle.elaboration.specs.Refusals.{Elaborating, Refusal, answers}
+use Rattle.core_terms.specs.declared.stop.Stop.TheVariants.{Deep}
+use Rattle.elaboration.specs.Functions.{finished, helpers_finished, own_finished, position_chosen, recursion_in}
+use Rattle.elaboration.specs.Refusals.{Elaborating, Refusal, answers, or_halts}
 use Rattle.elaboration.specs.Walking.{Session, Walked}
 use Rattle.leaf_terms.specs.RecursionMade.{made_at}
+use Rattle.order_scopes.specs.Laws.{begins_closed}
 use Rattle.structural_rec.specs.Choices.{choose}
 use Rattle.structural_rec.specs.Uses.{Use}
 use Rattle.tree_translation.specs.Plans.{Part, Plan}
-use Rattle.tree_translation.specs.Recursion.{Recursion}
-use Rattle.function_plans.specs.CodePlans.{are_low_uses, chosen_made, parts_made, planned}
-use Rattle.function_plans.specs.Laws.{PlanIsThis}
+use Rattle.tree_translation.specs.Recursion.{Recursion, order_of, ordered_telescope, recursion_at}
+use Rattle.function_plans.specs.CodePlans.{are_low_uses, chosen_made, own_finished_made, own_tree_made, own_tree_of, parts_made, parts_with, planned}
+use Rattle.function_plans.specs.Laws.{PlanAnswers, PlanIsThis}
+use Rattle.function_plans.proofs.Refining.{Refines, cond-answer, cond-refines, refines-itself, refines-next}
+use Rattle.function_plans.proofs.Starts.{made-closed}
 
 pub both-left : (a b : Bool) → (a && b) ≡ true → a ≡ true
 both-left true b h = refl
@@ -29,7 +32,12 @@ pub chosen-low : (s : Session) (tele : Telescope) (uses : List Use) → (are_low
     → chosen_made s tele uses ≡ position_chosen s (choose s.signature tele s.own uses)
 chosen-low s tele uses h = rw h refl
 
--- parts one after the other
+-- ---- parts one after the other
+
+-- the helpers after the function's own part
+abbrev pub after_own : Session → Option Recursion → (level : ℕ) → (helpers : List Walked) → (List Part → Plan) → Part → ℕ → Elaborating Plan
+after_own s r level helpers P own end = and_next (helpers_finished s r level 1 helpers end) (λ parts last. answers (Ok (P (own ∷ parts))) last)
+
 pub joined-parts : (o : Result Part Refusal) (n : ℕ) (helpers : ℕ → Elaborating (List Part)) (P : List Part → Plan)
     → and_next (and_next (on_answer o n (λ own end. answers (Ok (own ∷ [])) end)) (λ made end.
     and_next (helpers end) (λ parts last. answers (Ok (made ++ parts)) last))) (λ parts end. answers (Ok (P parts)) end)
@@ -43,27 +51,83 @@ joined-parts (Ok own) n helpers P = by (helpers n).0 (helpers n).1
     by (Ok parts) end = refl
     by (Err e) end = refl
 
-pub parts-low : (s : Session) (type : Term) (arity level : ℕ) (position : Option ℕ) (w : Walked) (helpers : List Walked) (more : ℕ)
+with-joined : (s : Session) (r : Option Recursion) (level : ℕ) (w : Walked) (helpers : List Walked) (P : List Part → Plan) (more : ℕ)
+    → and_next (parts_with s r level w helpers more) (λ parts end. answers (Ok (P parts)) end)
+    ≡ and_next (own_finished_made s r w more) (after_own s r level helpers P)
+with-joined s r level w helpers P more = joined-parts (own_finished_made s r w more).0 (own_finished_made s r w more).1 (helpers_finished s r level 1 helpers) P
+
+-- ---- what is made answers what is meant
+
+own-refines : (s : Session) (r : Option Recursion) (w : Walked) (left : ℕ) → Refines (own_finished_made s r w left) (own_finished s r w left)
+own-refines s r w left =
+    let count = length w.part.tele in
+    let order = order_of count r in
+    refines-next (own_tree_made s w count order left) (own_tree_of s w count order left) (λ t rest. answers (Ok (finished w.part.level w t)) rest)
+    (λ t rest. answers (Ok (finished w.part.level w t)) rest)
+    (cond-refines (begins_closed (ordered_telescope w.part.tele order)) (own_tree_of s w count order left) _ left)
+    (λ t rest. refines-itself (answers (Ok (finished w.part.level w t)) rest))
+
+with-refines : (s : Session) (r : Option Recursion) (level : ℕ) (w : Walked) (helpers : List Walked) (P : List Part → Plan) (more : ℕ)
+    → Refines (and_next (parts_with s r level w helpers more) (λ parts end. answers (Ok (P parts)) end))
+    (and_next (own_finished s r w more) (after_own s r level helpers P))
+with-refines s r level w helpers P more plan n e =
+    refines-next (own_finished_made s r w more) (own_finished s r w more) (after_own s r level helpers P) (after_own s r level helpers P)
+    (own-refines s r w more) (λ own end. refines-itself (after_own s r level helpers P own end)) plan n (sym (with-joined s r level w helpers P more) ∙ e)
+
+-- the plan by the recursion that is found, or Deep
+abbrev by_found : Session → (level : ℕ) → Walked → (helpers : List Walked) → (List Part → Plan) → (more : ℕ) → Result (Option Recursion) Stop → Elaborating Plan
+by_found s level w helpers P more found =
+    and_next (and_next (answers (or_halts found) more) (λ r rest. parts_with s r level w helpers rest)) (λ parts end. answers (Ok (P parts)) end)
+
+found-refines : (s : Session) (level : ℕ) (w : Walked) (helpers : List Walked) (P : List Part → Plan) (more : ℕ) (low : Bool) (r : Option Recursion)
+    → Refines (by_found s level w helpers P more (cond low (Ok r) (Err Deep))) (and_next (own_finished s r w more) (after_own s r level helpers P))
+found-refines s level w helpers P more true r = with-refines s r level w helpers P more
+found-refines s level w helpers P more false r = λ plan n e. absurd (let same = ap (λ p. p.0) e in cc)
+
+position-refines : (s : Session) (level : ℕ) (w : Walked) (helpers : List Walked) (P : List Part → Plan) (position : Option ℕ) (more : ℕ)
+    → Refines (and_next (parts_made s position level w helpers more) (λ parts end. answers (Ok (P parts)) end))
+    (and_next (own_finished s (recursion_in s.signature w.part.tele position) w more) (after_own s (recursion_in s.signature w.part.tele position) level helpers P))
+position-refines s level w helpers P None more = with-refines s None level w helpers P more
+position-refines s level w helpers P (Some j) more =
+    found-refines s level w helpers P more (are_low w.part.tele) (recursion_at s.signature w.part.tele j)
+
+pub plan-answers : PlanAnswers
+plan-answers s type arity level w helpers uses left rest plan e =
+    let chosen = position_chosen s (choose s.signature w.part.tele s.own uses) in
+    refines-next (answers (chosen_made s w.part.tele uses) left) (answers chosen left)
+    (λ position more. and_next (parts_made s position level w helpers more) (λ parts end. answers (Ok (planned s type arity level position parts)) end))
+    (λ position more.
+    let r = recursion_in s.signature w.part.tele position in and_next (own_finished s r w more) (after_own s r level helpers (planned s type arity level position)))
+    (cond-answer (are_low w.part.tele && are_low_uses uses) chosen _ left)
+    (λ position more. position-refines s level w helpers (planned s type arity level position) position more) plan rest e
+
+-- ---- and refusals too, in a telescope that is low and begins with a type over no variables
+
+own-closed : (s : Session) (r : Option Recursion) (w : Walked) (left : ℕ) → begins_closed (ordered_telescope w.part.tele (order_of (length w.part.tele) r)) ≡ true
+    → own_finished_made s r w left ≡ own_finished s r w left
+own-closed s r w left h =
+    ap (λ walk. and_next walk (λ t rest. answers (Ok (finished w.part.level w t)) rest)) (made-closed s w (length w.part.tele) (order_of (length w.part.tele) r) left h)
+
+parts-low : (s : Session) (P : List Part → Plan) (level : ℕ) (position : Option ℕ) (w : Walked) (helpers : List Walked) (more : ℕ)
     → are_low w.part.tele ≡ true
-    → and_next (parts_made s position level w helpers more) (λ parts end. answers (Ok (planned s type arity level position parts)) end)
-    ≡ and_next (own_finished s (recursion_in s.signature w.part.tele position) w more) (λ own end.
-    and_next (helpers_finished s (recursion_in s.signature w.part.tele position) level 1 helpers end) (λ parts last.
-    answers (Ok (planned s type arity level position (own ∷ parts))) last))
-parts-low s type arity level position w helpers more h =
+    → begins_closed (ordered_telescope w.part.tele (order_of (length w.part.tele) (recursion_in s.signature w.part.tele position))) ≡ true
+    → and_next (parts_made s position level w helpers more) (λ parts end. answers (Ok (P parts)) end)
+    ≡ and_next (own_finished s (recursion_in s.signature w.part.tele position) w more) (after_own s (recursion_in s.signature w.part.tele position) level helpers P)
+parts-low s P level position w helpers more low closed =
     let r = recursion_in s.signature w.part.tele position in
-    rw (made-low s.signature w.part.tele position h)
-    (joined-parts (own_finished s r w more).0 (own_finished s r w more).1 (helpers_finished s r level 1 helpers) (planned s type arity level position))
+    ap (by_found s level w helpers P more) (made-low s.signature w.part.tele position low)
+    ∙ (with-joined s r level w helpers P more ∙ ap (λ own. and_next own (after_own s r level helpers P)) (own-closed s r w more closed))
 
 pub plan-is : PlanIsThis
-plan-is s type arity level w helpers uses left h =
+plan-is s type arity level w helpers uses left h closed =
     rw (chosen-low s w.part.tele uses h) (by (position_chosen s (choose s.signature w.part.tele s.own uses)))
   where
     by : (position : Result (Option ℕ) Refusal)
         → on_answer position left (λ position more.
         and_next (parts_made s position level w helpers more) (λ parts end. answers (Ok (planned s type arity level position parts)) end))
         ≡ on_answer position left (λ position more.
-        and_next (own_finished s (recursion_in s.signature w.part.tele position) w more) (λ own end.
-        and_next (helpers_finished s (recursion_in s.signature w.part.tele position) level 1 helpers end) (λ parts last.
-        answers (Ok (planned s type arity level position (own ∷ parts))) last)))
-    by (Ok position) = parts-low s type arity level position w helpers left (both-left (are_low w.part.tele) (are_low_uses uses) h)
+        and_next (own_finished s (recursion_in s.signature w.part.tele position) w more)
+        (after_own s (recursion_in s.signature w.part.tele position) level helpers (planned s type arity level position)))
+    by (Ok position) =
+        parts-low s (planned s type arity level position) level position w helpers left (both-left (are_low w.part.tele) (are_low_uses uses) h) (closed position)
     by (Err e) = refl

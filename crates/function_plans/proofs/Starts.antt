@@ -1,5 +1,5 @@
--- Where walks and trees begin.
-use Rattle.std.proofs.Common.{◌≡◌, ℕ, subst, List, length, All, arith}
+-- Where trees begin.
+use Rattle.std.proofs.Common.{◌≡◌, ℕ, ◌≤◌, true, false, subst, List, length, All, Err, refl, sym, ◌∙◌, arith}
 use Rattle.theory.specs.Terms.{Term}
 use Rattle.theory.specs.Telescopes.{Telescope}
 use Rattle.theory.specs.Signatures.{Signature}
@@ -7,6 +7,20 @@ use Rattle.theory.specs.SignatureScopes.{IsScoped, IsScopedTelescope}
 use Rattle.unification.specs.ScopedStates.{IsReady}
 use Rattle.unification.proofs.ScopedRecords.{variables-scoped}
 use Rattle.case_trees.specs.Laws.{IsGiven}
+use Rattle.case_trees.specs.Scoped.{AreClausesFor}
+use Rattle.core_terms.specs.CaseTrees.{Tree}
+use Rattle.core_terms.specs.declared.stop.Stop.TheVariants.{Deep}
+use Rattle.elaboration.specs.Refusals.{Elaborating, Halts, answers}
+use Rattle.elaboration.specs.Walking.{Session, Walked}
+use Rattle.order_scopes.specs.Laws.{begins_closed}
+use Rattle.order_scopes.proofs.OrderedScopes as orders
+use Rattle.order_scopes.proofs.OrderLengths.{order-counted}
+use Rattle.structural_rec.specs.Laws.{IsOrder}
+use Rattle.tree_translation.specs.Entries.{ordered_variables}
+use Rattle.tree_translation.specs.Recursion.{ordered_telescope, ordered_term}
+use Rattle.unifier.specs.Conditions.{most_levels}
+use Rattle.function_plans.specs.CodePlans.{IsOwnWalked, IsStart, own_tree_made, own_tree_of}
+use Rattle.function_plans.proofs.Columns.{clauses-for}
 
 -- a context of n types whose variables stand for themselves
 pub given : (S : Signature) (context : Telescope) (goal : Term) (terms : List Term) (n : ℕ) → n ≡ length context → IsReady S
@@ -20,3 +34,58 @@ given S context goal terms n same isReady types there columns = record {
     terms = subst (λ k. All (IsScoped S k) terms) same columns;
   };
 }
+
+-- ---- the order of recursion
+
+pub starts : (S : Signature) (w : Walked) (context : Telescope) (count : ℕ) (order : List ℕ) → IsOwnWalked S w → count ≡ length w.part.tele → IsOrder count order
+    → context ≡ ordered_telescope w.part.tele order → begins_closed context ≡ true → IsStart S w context count order
+starts S w context count order own counted whole same closed =
+    record { own = own; count_is = counted; order_is = whole; context_is = same; closed = closed }
+
+module _ (S : Signature) (w : Walked) (context : Telescope) (count : ℕ) (order : List ℕ) (is : IsStart S w context count order) where
+  whole : IsOrder (length w.part.tele) order
+  whole = subst (λ n. IsOrder n order) is.count_is is.order_is
+
+  context-long : length context ≡ length w.part.tele
+  context-long = subst (λ types. length types ≡ length w.part.tele) (sym is.context_is) (orders.length-ordered w.part.tele order whole)
+
+  order-long : length order ≡ count
+  order-long = order-counted count order is.order_is
+
+  both-scoped : IsScopedTelescope S 0 (ordered_telescope w.part.tele order)
+      × IsScoped S (length (ordered_telescope w.part.tele order)) (ordered_term (length w.part.tele) order w.part.goal)
+  both-scoped =
+      orders.ordered-scoped S w.part.tele w.part.goal order is.own.walked.given.scoped.context is.own.walked.given.scoped.goal whole
+      (subst (λ types. begins_closed types ≡ true) is.context_is is.closed)
+
+  pub start-given : (goal : Term) (terms : List Term) → goal ≡ ordered_term count order w.part.goal → terms ≡ ordered_variables order count
+      → IsGiven S context goal terms
+  start-given goal terms goal-is terms-are =
+      let n = length context in
+      let counted : count ≡ n = is.count_is ∙ sym context-long in
+      given S context goal terms n refl is.own.walked.given.ready (subst (IsScopedTelescope S 0) (sym is.context_is) both-scoped.0)
+      (subst (IsScoped S n) (sym goal-is)
+      (subst (λ k. IsScoped S n (ordered_term k order w.part.goal)) (sym is.count_is)
+      (subst (λ types. IsScoped S (length types) (ordered_term (length w.part.tele) order w.part.goal)) (sym is.context_is) both-scoped.1)))
+      (subst (All (IsScoped S n)) (sym terms-are)
+      (subst (λ k. All (IsScoped S k) (ordered_variables order count)) counted (orders.variables-scoped S order count (omega (arith, order-long)))))
+
+  pub start-clauses : (terms : List Term) → terms ≡ ordered_variables order count → AreClausesFor S terms w.clauses
+  start-clauses terms terms-are =
+      let long : length (ordered_variables order count) ≡ length order = orders.length-variables order count in
+      let same : length w.part.terms ≡ length terms =
+      is.own.columns ∙ (sym is.count_is ∙ (sym order-long ∙ (sym long ∙ subst (λ us. length (ordered_variables order count) ≡ length us) (sym terms-are) refl))) in
+      clauses-for S w.part.terms terms w.clauses same is.own.walked.clauses
+
+  pub start-few : length context ≤ most_levels
+  start-few = subst (λ n. n ≤ most_levels) (sym context-long) is.own.walked.few
+
+-- ---- what the tree that is made is
+
+pub made-closed : (s : Session) (w : Walked) (count : ℕ) (order : List ℕ) (left : ℕ) → begins_closed (ordered_telescope w.part.tele order) ≡ true
+    → own_tree_made s w count order left ≡ own_tree_of s w count order left
+made-closed s w count order left h = rw h refl
+
+pub made-open : (s : Session) (w : Walked) (count : ℕ) (order : List ℕ) (left : ℕ) → begins_closed (ordered_telescope w.part.tele order) ≡ false
+    → ◌≡◌ {A = Elaborating Tree} (own_tree_made s w count order left) (answers (Err (Halts Deep)) left)
+made-open s w count order left h = rw h refl

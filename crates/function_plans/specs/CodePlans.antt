@@ -1,5 +1,5 @@
 -- The parts of a plan as the code makes them.
-use Rattle.std.specs.Prelude.{ℕ, ◌++◌, ◌≤◌, ◌&&◌, Bool, true, cond, Option, List, [], ◌∷◌, length, Result, Ok, Err}
+use Rattle.std.specs.Prelude.{◌≡◌, ℕ, ◌++◌, ◌&&◌, Bool, true, cond, Option, List, [], ◌∷◌, length, Result, Ok, Err}
 use Rattle.theory.specs.Terms.{Term}
 use Rattle.theory.specs.Signatures.{Signature}
 use Rattle.theory.specs.Telescopes.{Telescope}
@@ -7,18 +7,18 @@ use Rattle.core_terms.specs.Answers.{and_next, are_low, is_low}
 use Rattle.core_terms.specs.CaseTrees.{Tree}
 use Rattle.core_terms.specs.declared.stop.Stop.TheVariants.{Deep}
 use Rattle.case_trees.specs.Trees.{split_of}
-use Rattle.case_trees.specs.Laws.{IsGiven}
-use Rattle.case_trees.specs.Scoped.{AreClausesFor}
-use Rattle.elaboration.specs.Functions.{helpers_finished, own_finished, position_chosen, recursion_in}
+use Rattle.elaboration.specs.Functions.{finished, helpers_finished, own_finished, position_chosen, recursion_in}
 use Rattle.elaboration.specs.Refusals.{Elaborating, Halts, Refusal, answers, or_halts, walking}
 use Rattle.elaboration.specs.Walking.{Session, Walked}
+use Rattle.function_walks.specs.Conditions.{IsWalked}
 use Rattle.leaf_terms.specs.RecursionMade.{made_at}
+use Rattle.order_scopes.specs.Laws.{begins_closed}
 use Rattle.structural_rec.specs.Choices.{choose}
+use Rattle.structural_rec.specs.Laws.{IsOrder}
 use Rattle.structural_rec.specs.Uses.{Use}
 use Rattle.tree_translation.specs.Entries.{ordered_variables}
 use Rattle.tree_translation.specs.Plans.{Part, Plan}
-use Rattle.tree_translation.specs.Recursion.{Recursion, ordered_telescope, ordered_term}
-use Rattle.unifier.specs.Conditions.{most_levels}
+use Rattle.tree_translation.specs.Recursion.{Recursion, order_of, ordered_telescope, ordered_term}
 
 -- the tree of a part's clauses from an order of so many positions
 abbrev pub own_tree_of : Session → Walked → (count : ℕ) (order : List ℕ) → ℕ → Elaborating Tree
@@ -27,20 +27,35 @@ own_tree_of s w count order left =
     (split_of s.signature (ordered_telescope w.part.tele order) (ordered_term count order w.part.goal) (ordered_variables order count)
     w.clauses left)
 
+-- The same, or Deep where the types in that order begin with one over other variables, as those of no context do. The type of an index
+-- that comes first in the family's order mentions a later one there.
+abbrev pub own_tree_made : Session → Walked → (count : ℕ) (order : List ℕ) → ℕ → Elaborating Tree
+own_tree_made s w count order left =
+    cond (begins_closed (ordered_telescope w.part.tele order)) (own_tree_of s w count order left) (answers (Err (Halts Deep)) left)
+
+-- the function's own part with this tree
+abbrev pub own_finished_made : Session → Option Recursion → Walked → ℕ → Elaborating Part
+own_finished_made s r w left =
+    let count = length w.part.tele in
+    and_next (own_tree_made s w count (order_of count r) left) (λ t rest. answers (Ok (finished w.part.level w t)) rest)
+
 -- helpers after the parts that are made
 abbrev pub helpers_after : (made : List Part) → Session → Option Recursion → (level number : ℕ) → List Walked → ℕ → Elaborating (List Part)
 helpers_after made s r level number helpers left =
     and_next (helpers_finished s r level number helpers left) (λ parts end. answers (Ok (made ++ parts)) end)
 
--- what the tree of a part asks
-pub record IsWalked (S : Signature) (w : Walked) : Type 0 where
-  pub given : IsGiven S w.part.tele w.part.goal w.part.terms
-  pub few : length w.part.tele ≤ most_levels
-  pub clauses : AreClausesFor S w.part.terms w.clauses
+-- What the trees of a function ask of its own part, which has a column for each type of its telescope.
+pub record IsOwnWalked (S : Signature) (w : Walked) : Type 0 where
+  pub walked : IsWalked S w
+  pub columns : length w.part.terms ≡ length w.part.tele
 
-abbrev pub AreWalked : Signature → List Walked → Type 0
-AreWalked S [] = Unit {0}
-AreWalked S (w ∷ helpers) = IsWalked S w × AreWalked S helpers
+-- a context that the types of its telescope make in an order of so many positions, which begins with one over no variables
+pub record IsStart (S : Signature) (w : Walked) (context : Telescope) (count : ℕ) (order : List ℕ) : Type 0 where
+  pub own : IsOwnWalked S w
+  pub count_is : count ≡ length w.part.tele
+  pub order_is : IsOrder count order
+  pub context_is : context ≡ ordered_telescope w.part.tele order
+  pub closed : begins_closed context ≡ true
 
 -- ---- the position
 
@@ -56,7 +71,7 @@ chosen_made s tele uses =
 -- ---- the plan
 
 abbrev pub own_alone : Session → Option Recursion → Walked → ℕ → Elaborating (List Part)
-own_alone s r w left = and_next (own_finished s r w left) (λ own end. answers (Ok (own ∷ [])) end)
+own_alone s r w left = and_next (own_finished_made s r w left) (λ own end. answers (Ok (own ∷ [])) end)
 
 -- the function's own part and those of its helpers
 abbrev pub parts_with : Session → Option Recursion → (level : ℕ) → Walked → (helpers : List Walked) → ℕ → Elaborating (List Part)

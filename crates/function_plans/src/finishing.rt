@@ -1,16 +1,17 @@
 ghost use Rattle.std.specs.Prelude.{◌≡◌, ◌≤◌, ◌+◌, ◌++◌, Ok, length, map, option_map};
 ghost use Rattle.std.specs.Option.{option_copied};
-ghost use Rattle.case_trees.specs.Scoped.{AreClausesFor};
 ghost use Rattle.core_terms.specs.Answers.{Gives};
 ghost use Rattle.core_terms.specs.Meanings.{tele_of};
 ghost use Rattle.core_terms.specs.PatternMeanings.{clauses_of, pat_of, pats_of};
 ghost use Rattle.core_terms.specs.TreeMeanings.{case_tree_of};
 ghost use Rattle.elaboration.specs.Functions as spec;
+ghost use Rattle.function_plans.specs.CodePlans.{IsOwnWalked, own_finished_made};
 ghost use Rattle.function_refusals.specs.RefusalMeanings.{Elaborates};
 ghost use Rattle.function_walks.specs.WalkingMeanings.{session_of, walked_of};
 ghost use Rattle.leaf_terms.specs.PlanMeanings.{part_of};
 ghost use Rattle.leaf_terms.specs.RecursionMeanings.{recursion_of};
-ghost use Rattle.unification.specs.ScopedStates.{IsReady};
+ghost use Rattle.structural_rec.specs.Laws.{IsOrder};
+ghost use Rattle.tree_translation.specs.Recursion as recursion;
 
 use crate::trees::own_tree;
 use core_terms::{Clause, Items, Pat, Stop, Tree, Units, copy_pat};
@@ -83,9 +84,9 @@ pub fn own_finished(
     w: Walked,
     units: &mut Units,
 ) -> Result<Part, Refusal>
-    requires ready { IsReady s.sig.now }
-    requires clauses { AreClausesFor s.sig.now (tele_of w.part.terms) (clauses_of w.clauses.now) }
-    ensures answer { Elaborates part_of result units.new.left (spec.own_finished (session_of s.entry) (option_map recursion_of (option_copied r.entry)) (walked_of w.entry) units.old.left) }
+    requires own { IsOwnWalked s.sig.now (walked_of w) }
+    requires order { IsOrder (length w.part.tele) (recursion.order_of (length w.part.tele) (option_map recursion_of (option_copied r))) }
+    ensures answer { Elaborates part_of result units.new.left (own_finished_made (session_of s.entry) (option_map recursion_of (option_copied r.entry)) (walked_of w.entry) units.old.left) }
     ensures sum { units.new.left + units.new.spent ≡ units.old.left + units.old.spent }
     ensures spends { units.new.left ≤ units.old.left }
 {

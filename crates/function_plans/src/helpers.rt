@@ -1,8 +1,9 @@
 ghost use Rattle.std.specs.Prelude.{◌≡◌, ◌≤◌, ◌+◌, length, map, option_map};
 ghost use Rattle.std.specs.Option.{option_copied};
 ghost use Rattle.elaboration.specs.Functions as spec;
-ghost use Rattle.function_plans.specs.CodePlans.{AreWalked, IsWalked, helpers_after};
+ghost use Rattle.function_plans.specs.CodePlans.{helpers_after};
 ghost use Rattle.function_refusals.specs.RefusalMeanings.{Elaborates};
+ghost use Rattle.function_walks.specs.Conditions.{AreWalked, IsWalked};
 ghost use Rattle.function_walks.specs.WalkingMeanings.{session_of, walked_of};
 ghost use Rattle.leaf_terms.specs.PlanMeanings.{parts_of};
 ghost use Rattle.leaf_terms.specs.RecursionMeanings.{recursion_of};

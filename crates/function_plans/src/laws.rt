@@ -1,7 +1,18 @@
 //! What is made of a function whose clauses are walked is its plan.
-ghost use Rattle.function_plans.specs.Laws.{PlanIsThis};
+ghost use Rattle.function_plans.specs.Laws.{PlanAnswers, PlanBeginsClosed, PlanIsThis};
 
-/// The plan that is made is the one that is meant, where the telescope and what the walks say of the function are low.
+/// A plan that is made is the one that is meant.
+pub fn plan_answers()
+    ensures { PlanAnswers }
+{}
+
+/// What is made is what is meant, where the telescope and what the walks say of the function are low, and each order of recursion begins
+/// with a type over no variables.
 pub fn plan_is_this()
     ensures { PlanIsThis }
+{}
+
+/// The telescope of a plan that is made begins with a type over no variables in the order of recursion.
+pub fn plan_begins_closed()
+    ensures { PlanBeginsClosed }
 {}

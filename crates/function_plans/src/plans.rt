@@ -1,17 +1,17 @@
-ghost use Rattle.std.specs.Prelude.{◌≡◌, ◌≤◌, ◌+◌, map, option_map};
+ghost use Rattle.std.specs.Prelude.{◌≡◌, ◌≤◌, ◌+◌, length, map, option_map};
 ghost use Rattle.std.specs.Option.{option_copied};
-ghost use Rattle.case_trees.specs.Scoped.{AreClausesFor};
 ghost use Rattle.core_terms.specs.Answers.{Gives};
 ghost use Rattle.core_terms.specs.Meanings.{tree_of, tele_of};
-ghost use Rattle.core_terms.specs.PatternMeanings.{clauses_of};
-ghost use Rattle.function_plans.specs.CodePlans.{AreWalked, own_alone, parts_made, parts_with, plan_made};
+ghost use Rattle.function_plans.specs.CodePlans.{IsOwnWalked, own_alone, parts_made, parts_with, plan_made};
 ghost use Rattle.function_refusals.specs.RefusalMeanings.{Elaborates};
+ghost use Rattle.function_walks.specs.Conditions.{AreWalked};
 ghost use Rattle.function_walks.specs.WalkingMeanings.{session_of, walked_of};
 ghost use Rattle.leaf_terms.specs.PlanMeanings.{parts_of, plan_of};
 ghost use Rattle.leaf_terms.specs.RecursionMade.{made_at};
 ghost use Rattle.leaf_terms.specs.RecursionMeanings.{recursion_of};
+ghost use Rattle.structural_rec.specs.Laws.{IsOrder};
 ghost use Rattle.structural_rec.specs.Meanings.{uses_of};
-ghost use Rattle.unification.specs.ScopedStates.{IsReady};
+ghost use Rattle.tree_translation.specs.Recursion as recursion;
 
 use crate::choosing::chosen;
 use crate::finishing::own_finished;
@@ -47,8 +47,8 @@ fn with_own(
     w: Walked,
     units: &mut Units,
 ) -> Result<Items<Part>, Refusal>
-    requires ready { IsReady s.sig.now }
-    requires clauses { AreClausesFor s.sig.now (tele_of w.part.terms) (clauses_of w.clauses.now) }
+    requires own { IsOwnWalked s.sig.now (walked_of w) }
+    requires order { IsOrder (length w.part.tele) (recursion.order_of (length w.part.tele) (option_map recursion_of (option_copied r))) }
     ensures answer { Elaborates parts_of result units.new.left (own_alone (session_of s.entry) (option_map recursion_of (option_copied r.entry)) (walked_of w.entry) units.old.left) }
     ensures sum { units.new.left + units.new.spent ≡ units.old.left + units.old.spent }
     ensures spends { units.new.left ≤ units.old.left }
@@ -68,8 +68,8 @@ fn all_parts(
     helpers: Vec<Walked>,
     units: &mut Units,
 ) -> Result<Items<Part>, Refusal>
-    requires ready { IsReady s.sig.now }
-    requires clauses { AreClausesFor s.sig.now (tele_of w.part.terms) (clauses_of w.clauses.now) }
+    requires own { IsOwnWalked s.sig.now (walked_of w) }
+    requires order { IsOrder (length w.part.tele) (recursion.order_of (length w.part.tele) (option_map recursion_of (option_copied r))) }
     requires helpers { AreWalked s.sig.now (map walked_of helpers.items) }
     ensures answer { Elaborates parts_of result units.new.left (parts_with (session_of s.entry) (option_map recursion_of (option_copied r.entry)) level (walked_of w.entry) (map walked_of helpers.entry.items) units.old.left) }
     ensures sum { units.new.left + units.new.spent ≡ units.old.left + units.old.spent }
@@ -89,8 +89,7 @@ fn parts_at(
     helpers: Vec<Walked>,
     units: &mut Units,
 ) -> Result<Items<Part>, Refusal>
-    requires ready { IsReady s.sig.now }
-    requires clauses { AreClausesFor s.sig.now (tele_of w.part.terms) (clauses_of w.clauses.now) }
+    requires own { IsOwnWalked s.sig.now (walked_of w) }
     requires helpers { AreWalked s.sig.now (map walked_of helpers.items) }
     ensures answer { Elaborates parts_of result units.new.left (parts_made (session_of s.entry) position level (walked_of w.entry) (map walked_of helpers.entry.items) units.old.left) }
     ensures sum { units.new.left + units.new.spent ≡ units.old.left + units.old.spent }
@@ -101,7 +100,7 @@ fn parts_at(
 }
 
 /// The plan of a function whose clauses are walked, with its helpers and what the walks say of it, or Deep where something in the uses
-/// or in the telescope is too high.
+/// or in the telescope is too high, or where the order of recursion begins with a type over others.
 pub fn plan(
     alloc: Global,
     s: Session,
@@ -113,8 +112,7 @@ pub fn plan(
     uses: &Items<Use>,
     units: &mut Units,
 ) -> Result<Plan, Refusal>
-    requires ready { IsReady s.sig.now }
-    requires clauses { AreClausesFor s.sig.now (tele_of w.part.terms) (clauses_of w.clauses.now) }
+    requires own { IsOwnWalked s.sig.now (walked_of w) }
     requires helpers { AreWalked s.sig.now (map walked_of helpers.items) }
     ensures answer { Elaborates plan_of result units.new.left (plan_made (session_of s.entry) (tree_of ty) arity level (walked_of w.entry) (map walked_of helpers.entry.items) (uses_of uses.now) units.old.left) }
     ensures sum { units.new.left + units.new.spent ≡ units.old.left + units.old.spent }

@@ -14,8 +14,8 @@ use structural_rec::Use;
 /// How many variables may be free where recursion is looked for.
 const MOST_VARIABLES: u64 = 2147483648;
 
-/// How many variables are free in a term.
-fn free_of(t: &Term) -> u64
+/// One more than the greatest variable that is free in a term, or 0.
+pub(crate) fn free_of(t: &Term) -> u64
     ensures is { result ≡ tree.free_of (tree_of t.now) }
     ensures bound { result ≤ 2 ^ 32 }
 {

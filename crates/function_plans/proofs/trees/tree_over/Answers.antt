@@ -1,15 +1,23 @@
-use Rattle.std.proofs.Common.{rules}
+use Rattle.std.proofs.Common.{◌≤◌, subst as transport}
 use Rattle.std.proofs.lemmas.List.{length-map}
 use Rattle.core_terms.specs.Meanings.{tele_of, tree_of}
-use Rattle.core_terms.specs.PatternMeanings.{clauses_of}
-use Rattle.function_plans.proofs.Columns.{clauses-for}
+use Rattle.core_terms.proofs.Builders.{ok_is}
+use Rattle.function_plans.proofs.Starts.{start-clauses, start-few, start-given}
+use Rattle.function_walks.specs.WalkingMeanings.{walked_of}
+use Rattle.unifier.specs.Conditions.{most_levels}
 use Rattle.function_plans.proofs.trees.tree_over.Goals as goal
+
+pub tree_of_clauses-requires-clause-given : goal.tree_of_clauses-requires-clause-given
+tree_of_clauses-requires-clause-given c =
+    start-given c.args.s.sig.now (walked_of c.args.w.now) (tele_of c.args.ctx.now) c.args.count c.args.order.now c.requires.start (tree_of c.in_ok-goal.goal)
+    (tele_of c.in_ok-terms.terms) (ok_is c.in_ok-goal.ensures) (ok_is c.in_ok-terms.ensures)
 
 pub tree_of_clauses-requires-clause-clauses : goal.tree_of_clauses-requires-clause-clauses
 tree_of_clauses-requires-clause-clauses c =
-    let own = length-map c.args.w.now.part.terms tree_of in
-    let other = length-map c.args.terms.now tree_of in
-    let step =
-    clauses-for c.args.s.sig.now (tele_of c.args.w.now.part.terms) (tele_of c.args.terms.now) (clauses_of c.args.w.now.clauses.now)
-    in
-    search (rules, own, other, step)
+    start-clauses c.args.s.sig.now (walked_of c.args.w.now) (tele_of c.args.ctx.now) c.args.count c.args.order.now c.requires.start (tele_of c.in_ok-terms.terms)
+    (ok_is c.in_ok-terms.ensures)
+
+pub tree_of_clauses-requires-clause-few : goal.tree_of_clauses-requires-clause-few
+tree_of_clauses-requires-clause-few c =
+    transport (λ n. n ≤ most_levels) (length-map c.args.ctx.now tree_of)
+    (start-few c.args.s.sig.now (walked_of c.args.w.now) (tele_of c.args.ctx.now) c.args.count c.args.order.now c.requires.start)
