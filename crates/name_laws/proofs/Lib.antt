@@ -1,0 +1,9 @@
+mod CycleSides
+mod FirstPlaces
+mod RunsGo
+mod SplitOrders
+mod ToldCycles
+mod ToldNames
+mod ToldRuns
+mod ToldSplits
+mod ToldTerms
