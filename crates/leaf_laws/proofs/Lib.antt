@@ -1,0 +1,5 @@
+mod DroppedCalls
+mod ExactLeaves
+mod LowLeaves
+mod MadeCalls
+mod PartHeights

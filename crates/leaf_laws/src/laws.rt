@@ -1,0 +1,12 @@
+//! The terms of leaves, and of the trees of a plan, are refused only where they are too high.
+ghost use Rattle.leaf_laws.specs.Laws.{LeafAnswers, PartIsExact};
+
+/// The term of a leaf is made, unless it is too high, where the leaf's terms are low and no call is dropped.
+pub fn leaf_answers()
+    ensures { LeafAnswers }
+{}
+
+/// The term of the tree of a part is made, unless it is too high, where no right side drops a call.
+pub fn part_is_exact()
+    ensures { PartIsExact }
+{}
