@@ -1,0 +1,9 @@
+pub mod ClauseChains
+pub mod ClauseSizes
+pub mod Fitting
+pub mod GivenChains
+pub mod HelperParts
+pub mod OwnParts
+pub mod Renaming
+pub mod WalkColumns
+pub mod WalkScopes

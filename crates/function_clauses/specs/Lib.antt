@@ -1,0 +1,4 @@
+pub mod CodeClauses
+pub mod Conditions
+pub mod Laws
+pub mod ScrutineeMeanings

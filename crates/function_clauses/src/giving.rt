@@ -1,0 +1,140 @@
+ghost use Rattle.std.specs.Prelude.{◌≡◌, ◌+◌, ◌++◌, [], ◌∷◌, Ok, map};
+ghost use Rattle.core_terms.specs.Answers.{Gives};
+ghost use Rattle.core_terms.specs.Meanings.{tree_of, tele_of};
+ghost use Rattle.core_terms.specs.PatternMeanings.{clauses_of};
+ghost use Rattle.core_terms.specs.TreeMeanings.{walk_of};
+ghost use Rattle.elaboration.specs.Walking as spec;
+ghost use Rattle.function_clauses.specs.CodeClauses as code;
+ghost use Rattle.function_clauses.specs.ScrutineeMeanings.{scrutinee_of};
+ghost use Rattle.function_walks.specs.WalkingMeanings.{given_of, opened_of, walked_of};
+ghost use Rattle.structural_rec.specs.Meanings.{use_of};
+
+use crate::parts::Scrutinee;
+use core_terms::{Clause, Items, Stop, Term, Walk, copy_tele, copy_whole};
+use function_walks::{Given, Walked};
+use std::alloc::Global;
+use structural_rec::Use;
+
+/// One item alone.
+fn alone<T: Drop>(alloc: Global, x: T) -> Result<Items<T>, Stop>
+    ensures { Gives (λ v. v) result (Ok (x ∷ [])) }
+{
+    let mut items = Items::new(alloc);
+    items.push(x)?;
+    Ok(items)
+}
+
+/// One item before others.
+fn before<T: Drop>(x: T, others: Items<T>) -> Result<Items<T>, Stop>
+    ensures { Gives (λ v. v) result (Ok (x ∷ others)) }
+{
+    let mut items = others.into_vec();
+    items.insert(0, x)?;
+    Ok(Items::from_vec(items))
+}
+
+/// Some items and others after them.
+fn both<T: Drop>(first: Items<T>, others: Items<T>) -> Result<Items<T>, Stop>
+    ensures { Gives (λ v. v) result (Ok (first ++ others)) }
+{
+    let mut items = first.into_vec();
+    let mut more = others.into_vec();
+    items.append(&mut more)?;
+    Ok(Items::from_vec(items))
+}
+
+/// What a clause says of the function.
+fn used(alloc: Global, k: u32, number: u32, w: &Walk, body: &Term) -> Result<Use, Stop>
+    ensures { Gives use_of result (Ok (spec.use_of k number (walk_of w.now) (tree_of body.now))) }
+{
+    Ok(Use {
+        function: k,
+        clause: number,
+        terms: copy_tele(alloc, w.terms.as_slice())?,
+        body: copy_whole(alloc, body)?,
+    })
+}
+
+/// Nothing.
+pub(crate) fn nothing<'a>(alloc: Global) -> Given<'a>
+    ensures { given_of result ≡ spec.nothing }
+{
+    Given {
+        walks: Items::new(alloc),
+        sides: Items::new(alloc),
+        helpers: Items::new(alloc),
+        uses: Items::new(alloc),
+    }
+}
+
+/// What some clauses give, and others after them.
+pub(crate) fn joined<'a>(first: Given<'a>, others: Given<'a>) -> Result<Given<'a>, Stop>
+    ensures { Gives given_of result (Ok (spec.joined (given_of first.entry) (given_of others.entry))) }
+{
+    Ok(Given {
+        walks: both(first.walks, others.walks)?,
+        sides: both(first.sides, others.sides)?,
+        helpers: both(first.helpers, others.helpers)?,
+        uses: both(first.uses, others.uses)?,
+    })
+}
+
+/// What a clause gives that has a right side.
+pub(crate) fn side_given<'a>(
+    alloc: Global,
+    k: u32,
+    number: u32,
+    w: Walk,
+    side: &Term,
+    body: &Term,
+) -> Result<Given<'a>, Stop>
+    ensures { Gives given_of result (Ok (spec.side_given k number (walk_of w) (tree_of side.now) (tree_of body.now))) }
+{
+    let one = used(alloc, k, number, &w, body)?;
+    let side = copy_whole(alloc, side)?;
+    Ok(Given {
+        walks: alone(alloc, w)?,
+        sides: alone(alloc, side)?,
+        helpers: Items::new(alloc),
+        uses: alone(alloc, one)?,
+    })
+}
+
+/// What a clause gives that has neither a right side nor a scrutinee.
+pub(crate) fn absurd_given<'a>(alloc: Global, w: Walk) -> Result<Given<'a>, Stop>
+    ensures { Gives given_of result (Ok (spec.absurd_given (walk_of w))) }
+{
+    Ok(Given {
+        walks: alone(alloc, w)?,
+        sides: alone(alloc, Term::Sort(0))?,
+        helpers: Items::new(alloc),
+        uses: Items::new(alloc),
+    })
+}
+
+/// What a clause gives that has a scrutinee, with what the clauses inside give: its helper stands before the helpers inside.
+pub(crate) fn with_given<'a>(
+    alloc: Global,
+    k: u32,
+    number: u32,
+    w: Walk,
+    x: Scrutinee,
+    inner: &'a Items<Clause>,
+    given: Given<'a>,
+) -> Result<Given<'a>, Stop>
+    ensures { Gives given_of result (Ok (code.with_scrutinee k number (walk_of w) (scrutinee_of x) (clauses_of inner.now) (given_of given.entry))) }
+{
+    let one = used(alloc, k, number, &w, &x.term)?;
+    let helper = Walked {
+        part: x.part,
+        clauses: inner,
+        walks: given.walks,
+        sides: given.sides,
+    };
+    Ok(Given {
+        walks: alone(alloc, w)?,
+        sides: alone(alloc, x.side)?,
+        helpers: before(helper, given.helpers)?,
+        uses: before(one, given.uses)?,
+    })
+}

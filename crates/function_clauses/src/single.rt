@@ -1,0 +1,110 @@
+ghost use Rattle.std.specs.Prelude.{◌≡◌, ◌≤◌, ◌<◌, ◌+◌, IfOk, OnErr, Err, length};
+ghost use Rattle.case_trees.specs.OwnWalks.{own_walk_of};
+ghost use Rattle.case_trees.specs.Scoped.{IsScopedWalk};
+ghost use Rattle.core_terms.specs.Meanings.{tree_of, tele_of};
+ghost use Rattle.core_terms.specs.PatternMeanings.{clause_of};
+ghost use Rattle.core_terms.specs.TreeMeanings.{walk_of};
+ghost use Rattle.core_terms.specs.declared.stop.Stop.TheVariants.{Memory};
+ghost use Rattle.elaboration.specs.Refusals.{walking};
+ghost use Rattle.function_clauses.specs.CodeClauses as code;
+ghost use Rattle.function_clauses.specs.Conditions.{IsWalkOver};
+ghost use Rattle.function_refusals.specs.RefusalMeanings.{Elaborates};
+ghost use Rattle.function_walks.specs.Conditions.{IsPart};
+ghost use Rattle.function_walks.specs.WalkingMeanings.{opened_of};
+ghost use Rattle.resolve.specs.Scoping.{IsClause};
+ghost use Rattle.unifier.specs.Conditions.{most_levels};
+ghost use Rattle.walk_checks.specs.CheckMeanings.{site_of};
+
+use clause_walks::own_walk;
+use core_sig::Signature;
+use core_terms::{Clause, Stop, Units, Walk};
+use function_refusals::{Refusal, ended};
+use function_walks::Opened;
+use std::alloc::Global;
+use walk_checks::{Site, check_dots};
+
+/// So many variables leave no room for one more.
+const MOST_LEVELS: usize = 2147400000;
+
+/// The own walk of a clause.
+fn walked(
+    alloc: Global,
+    sig: &Signature,
+    site: Site,
+    part: &Opened,
+    c: &Clause,
+    units: &mut Units,
+) -> Result<Walk, Refusal>
+    requires part { IsPart sig.now (opened_of part.now) }
+    requires clause { IsClause sig.now (length (opened_of part.now).terms) (clause_of c.now) }
+    ensures answer { Elaborates walk_of result units.new.left (walking sig.now site.entry.function.now (own_walk_of sig.now (opened_of part.now).tele (opened_of part.now).goal (opened_of part.now).terms (clause_of c.now) site.entry.number units.old.left)) }
+    ensures sum { units.new.left + units.new.spent ≡ units.old.left + units.old.spent }
+    ensures spends { units.new.left ≤ units.old.left }
+    ensures scoped { IfOk result (λ w. IsScopedWalk sig.now (walk_of w)) }
+    ensures columns { IfOk result (λ w. length (walk_of w).terms ≡ length (opened_of part.now).terms) }
+{
+    match own_walk(
+        alloc,
+        sig,
+        &part.tele,
+        &part.goal,
+        &part.terms,
+        c,
+        site.number,
+        units,
+    ) {
+        Ok(w) => Ok(w),
+        Err(stop) => Err(ended(alloc, sig, site.function.as_slice(), &stop)),
+    }
+}
+
+/// The walk itself, or Memory where its context has too many variables.
+fn with_room(w: Walk) -> Result<Walk, Stop>
+    ensures ok { IfOk result (λ v. (v ≡ w) × (length (walk_of v).ctx < most_levels)) }
+    ensures memory { OnErr result (result ≡ Err Memory) }
+{
+    if w.ctx.as_slice().len() < MOST_LEVELS {
+        Ok(w)
+    } else {
+        Err(Stop::Memory)
+    }
+}
+
+/// Checks the dots of a walk.
+fn with_dots(
+    alloc: Global,
+    sig: &Signature,
+    site: Site,
+    w: Walk,
+    units: &mut Units,
+) -> Result<Walk, Refusal>
+    requires { IsWalkOver sig.now (walk_of w) }
+    ensures answer { Elaborates walk_of result units.new.left (code.with_dots sig.now (site_of site.entry) (walk_of w) units.old.left) }
+    ensures sum { units.new.left + units.new.spent ≡ units.old.left + units.old.spent }
+    ensures spends { units.new.left ≤ units.old.left }
+    ensures same { IfOk result (λ v. v ≡ w) }
+{
+    check_dots(alloc, sig, site, &w.ctx, w.dots.as_slice(), units)?;
+    Ok(w)
+}
+
+/// The own walk of a clause, whose dots are checked.
+pub(crate) fn clause_walked(
+    alloc: Global,
+    sig: &Signature,
+    site: Site,
+    part: &Opened,
+    c: &Clause,
+    units: &mut Units,
+) -> Result<Walk, Refusal>
+    requires part { IsPart sig.now (opened_of part.now) }
+    requires clause { IsClause sig.now (length (opened_of part.now).terms) (clause_of c.now) }
+    ensures answer { Elaborates walk_of result units.new.left (code.clause_walked sig.now site.entry.function.now (opened_of part.now) site.entry.number (clause_of c.now) units.old.left) }
+    ensures sum { units.new.left + units.new.spent ≡ units.old.left + units.old.spent }
+    ensures spends { units.new.left ≤ units.old.left }
+    ensures walk { IfOk result (λ w. IsWalkOver sig.now (walk_of w)) }
+    ensures columns { IfOk result (λ w. length (walk_of w).terms ≡ length (opened_of part.now).terms) }
+{
+    let w = with_room(walked(alloc, sig, site, part, c, units)?)?;
+    with_dots(alloc, sig, site, w, units)
+}
