@@ -1,0 +1,10 @@
+pub mod Borrowed
+pub mod BranchCodes
+pub mod FoundTerms
+pub mod Joining
+pub mod KeptPlaces
+pub mod NodeForms
+pub mod RunForms
+pub mod ScopeTests
+pub mod SolvingRuns
+pub mod WalkLaws

@@ -1,0 +1,21 @@
+ghost use Rattle.proof_walks.specs.Laws.{KeptReduces, OpenIsReady, WalkAnswers, WalkIsMade};
+
+/// What is answered as the walk of a clause is that walk, unless it is Deep.
+pub fn walk_answers()
+    ensures { WalkAnswers }
+{}
+
+/// Where recursion is found without Deep and the first place is scoped, the answer is the walk's own.
+pub fn walk_is_made()
+    ensures { WalkIsMade }
+{}
+
+/// A signature that drafts may enter is one over which walks go.
+pub fn open_is_ready()
+    ensures { OpenIsReady }
+{}
+
+/// The terms at a leaf can be reduced.
+pub fn kept_reduces()
+    ensures { KeptReduces }
+{}
