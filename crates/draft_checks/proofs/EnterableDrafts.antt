@@ -1,5 +1,5 @@
 -- A draft that is found to be one that may enter is such a draft.
-use Rattle.std.proofs.Common.{◌≡◌, ◌≢◌, ◌⊎◌, inl, inr, ℕ, ◌+◌, ◌-◌, ◌≤◌, ◌<◌, ◌==◌, Bool, true, false, ◌&&◌, ◌||◌, nat_lt, nat_le, cond, Option, Some, None, List, [], ◌∷◌, All, length, slice_get, IsTrue, Result, Ok, Err, IfOk, refl, sym, ap, ap₂, ◌∙◌, subst as transport, arith}
+use Rattle.std.proofs.Common.{◌≡◌, inl, inr, ℕ, ◌-◌, ◌≤◌, ◌==◌, Bool, true, false, ◌&&◌, ◌||◌, nat_lt, cond, Option, Some, None, List, [], ◌∷◌, All, length, slice_get, IsTrue, Result, Ok, Err, IfOk, refl, sym, ap₂, ◌∙◌, subst as transport, arith}
 use Rattle.std.specs.Option.{is_some}
 use Rattle.std.proofs.lemmas.Bool.Decides.{nat_tests}
 use Rattle.std.proofs.lemmas.List.Elements.{All-cons, All-nil}
@@ -10,7 +10,7 @@ use Rattle.theory.specs.Signatures.Entry.{FamilyOf, EliminatorAt, AxiomKAt, Defi
 use Rattle.core_terms.specs.Answers.{Gives, is_low}
 use Rattle.core_terms.specs.declared.stop.Stop.{Stop}
 use Rattle.core_terms.proofs.Builders.{ok_is}
-use Rattle.core_sig.specs.DraftScopes.{HasDraftEntries, IsDraftNumber, IsDraftTerm, NamesConstant}
+use Rattle.core_sig.specs.DraftScopes.{HasDraftEntries, IsDraftNumber, IsDraftTerm}
 use Rattle.core_sig.specs.Drafts.{Draft}
 use Rattle.core_sig.specs.EntryTerms.{EachTerm}
 use Rattle.core_sig.specs.Names.{find}
@@ -20,7 +20,7 @@ use Rattle.core_sig.specs.declared.entry.Found.TheVariants.{Entry as FoundEntry,
 use Rattle.core_sig.proofs.ScopeTests.{entries-tell}
 use Rattle.clause_reports.specs.Generated.{Generated, generated_by}
 use Rattle.draft_entering.specs.Conditions.{IsDefined, IsDefinition, IsEnterable, IsEnterableDraft, IsGeneratedName}
-use Rattle.draft_checks.specs.Checks.{enterable, has_draft_entries, is_definition_found, is_draft_entry, is_draft_number, is_draft_term, name_enters, names_enter}
+use Rattle.draft_checks.specs.Checks.{has_draft_entries, is_definition_found, is_draft_entry, is_draft_number, is_draft_term, name_enters, names_enter}
 use Rattle.draft_checks.specs.Laws.{EnterableMayEnter}
 
 both : (a b : Bool) → (a && b) ≡ true → (a ≡ true) × (b ≡ true)
