@@ -1,0 +1,189 @@
+//! What is known of a clause before anything enters.
+ghost use Rattle.std.specs.Prelude.{◌≡◌, ◌≤◌, ◌+◌, IfOk};
+ghost use Rattle.clause_equations.specs.EquationMeanings.{equation_of};
+ghost use Rattle.clause_lines.specs.CodeReports as spec;
+ghost use Rattle.clause_lines.specs.LineMeanings.{IsJudged, clause_of, judged_of};
+ghost use Rattle.clause_reports.specs.ProofWalks.{leaves_in};
+ghost use Rattle.core_sig.specs.Drafts.{draft_of};
+ghost use Rattle.core_terms.specs.Answers.{Gives, StandsFor};
+ghost use Rattle.draft_entering.specs.Conditions.{IsOpen};
+ghost use Rattle.draft_entering.specs.Stops.{IsUnforeseen, Reports, stop_of};
+ghost use Rattle.proof_terms.specs.ProofMeanings.{goal_of as goal_meant, proof_of};
+ghost use Rattle.proof_walks.specs.PlaceScopes.{AreKeptLeaves};
+ghost use Rattle.proof_walks.specs.Starts.{walk_made};
+
+use crate::Line;
+use crate::clause::{PlannedClause, pats_at};
+use crate::names::proof_name;
+use crate::sides::sides_compared;
+use clause_equations::{Equation, equation};
+use core_sig::{Draft, Signature};
+use core_terms::{Stop, Units};
+use draft_checks::is_enterable;
+use draft_entering::ReportStop;
+use proof_terms::{Goal, Proof, candidate};
+use proof_walks::equation_proof;
+use shadow_vectors::some_absurd;
+use std::alloc::Global;
+
+/// What is known of a clause before anything enters: its line, or a proof of its equation with the candidate.
+#[derive(Drop)]
+pub enum Judgement {
+    Known(Line),
+    Candidate { proof: Proof, draft: Draft },
+}
+
+/// The equation, as it is to be proved.
+fn goal_of(e: &Equation) -> Goal
+    ensures { goal_meant result ≡ equation_of e.now }
+{
+    Goal {
+        ctx: e.ctx.as_slice(),
+        ty: &e.ty,
+        left: &e.left,
+        right: &e.right,
+    }
+}
+
+/// The candidate of a clause, or Deep.
+fn candidate_of(
+    alloc: Global,
+    sig: &Signature,
+    c: PlannedClause,
+    e: &Equation,
+    proof: &Proof,
+) -> Result<Draft, Stop>
+    ensures { Gives draft_of result (spec.candidate_of sig.now (clause_of c.entry) (equation_of e.now) (proof_of proof.now)) }
+{
+    let name = proof_name(alloc, c.plan, c.number, c.clause)?;
+    candidate(alloc, sig, name, c.part.level, goal_of(e), proof)
+}
+
+/// A proof with its candidate, or Deep where the candidate may not enter.
+fn with_candidate(sig: &Signature, proof: Proof, draft: Draft) -> Result<Judgement, ReportStop>
+    requires { AreKeptLeaves sig.now (leaves_in (proof_of proof)) }
+    ensures answer { StandsFor IsUnforeseen stop_of judged_of result (spec.with_candidate sig.now (proof_of proof) (draft_of draft)) }
+    ensures judged { IfOk result (IsJudged sig.now) }
+{
+    if is_enterable(sig, &draft)? {
+        Ok(Judgement::Candidate { proof, draft })
+    } else {
+        Err(ReportStop::Stop(Stop::Deep))
+    }
+}
+
+/// What is known of a clause by the proof of its equation.
+fn proof_judged(
+    alloc: Global,
+    sig: &Signature,
+    c: PlannedClause,
+    e: &Equation,
+    proof: Proof,
+) -> Result<Judgement, ReportStop>
+    requires { AreKeptLeaves sig.now (leaves_in (proof_of proof)) }
+    ensures answer { StandsFor IsUnforeseen stop_of judged_of result (spec.proof_judged sig.now (clause_of c.entry) (equation_of e.now) (proof_of proof)) }
+    ensures judged { IfOk result (IsJudged sig.now) }
+{
+    let draft = candidate_of(alloc, sig, c, e, &proof)?;
+    with_candidate(sig, proof, draft)
+}
+
+/// The proof of a clause's equation by the walk of its terms through the tree of its part.
+fn proof_of_equation(
+    alloc: Global,
+    sig: &Signature,
+    c: PlannedClause,
+    e: &Equation,
+    units: &mut Units,
+) -> Result<Proof, ReportStop>
+    requires { IsOpen sig.now }
+    ensures answer { Reports proof_of result units.new.left (walk_made sig.now (clause_of c.entry).plan c.entry.number (clause_of c.entry).walk (equation_of e.now) (clause_of c.entry).part.tree units.old.left) }
+    ensures sum { units.new.left + units.new.spent ≡ units.old.left + units.old.spent }
+    ensures spends { units.new.left ≤ units.old.left }
+    ensures kept { IfOk result (λ proof. AreKeptLeaves sig.now (leaves_in (proof_of proof))) }
+{
+    equation_proof(
+        alloc,
+        sig,
+        c.plan,
+        c.number,
+        c.walk,
+        goal_of(e),
+        &c.part.tree,
+        units,
+    )
+}
+
+/// What is known of a clause whose equation does not convert.
+fn walk_judged(
+    alloc: Global,
+    sig: &Signature,
+    c: PlannedClause,
+    e: &Equation,
+    units: &mut Units,
+) -> Result<Judgement, ReportStop>
+    requires { IsOpen sig.now }
+    ensures answer { Reports judged_of result units.new.left (spec.walk_judged sig.now (clause_of c.entry) (equation_of e.now) units.old.left) }
+    ensures sum { units.new.left + units.new.spent ≡ units.old.left + units.old.spent }
+    ensures spends { units.new.left ≤ units.old.left }
+    ensures judged { IfOk result (IsJudged sig.now) }
+{
+    let proof = proof_of_equation(alloc, sig, c, e, units)?;
+    proof_judged(alloc, sig, c, e, proof)
+}
+
+/// What is known of a clause by its equation.
+fn sides_judged(
+    alloc: Global,
+    sig: &Signature,
+    c: PlannedClause,
+    e: &Equation,
+    units: &mut Units,
+) -> Result<Judgement, ReportStop>
+    requires { IsOpen sig.now }
+    ensures answer { Reports judged_of result units.new.left (spec.sides_judged sig.now (clause_of c.entry) (equation_of e.now) units.old.left) }
+    ensures sum { units.new.left + units.new.spent ≡ units.old.left + units.old.spent }
+    ensures spends { units.new.left ≤ units.old.left }
+    ensures judged { IfOk result (IsJudged sig.now) }
+{
+    if sides_compared(alloc, sig, &e.left, &e.right, units)? {
+        return Ok(Judgement::Known(Line::Definitional));
+    }
+    walk_judged(alloc, sig, c, e, units)
+}
+
+/// What is known of a clause that has a right side.
+fn equation_judged(
+    alloc: Global,
+    sig: &Signature,
+    c: PlannedClause,
+    units: &mut Units,
+) -> Result<Judgement, ReportStop>
+    requires { IsOpen sig.now }
+    ensures answer { Reports judged_of result units.new.left (spec.equation_judged sig.now (clause_of c.entry) units.old.left) }
+    ensures sum { units.new.left + units.new.spent ≡ units.old.left + units.old.spent }
+    ensures spends { units.new.left ≤ units.old.left }
+    ensures judged { IfOk result (IsJudged sig.now) }
+{
+    let e = equation(alloc, sig, c.plan, c.number, c.clause, c.walk)?;
+    sides_judged(alloc, sig, c, &e, units)
+}
+
+/// What is known of a clause before anything enters.
+pub(crate) fn judged(
+    alloc: Global,
+    sig: &Signature,
+    c: PlannedClause,
+    units: &mut Units,
+) -> Result<Judgement, ReportStop>
+    requires { IsOpen sig.now }
+    ensures answer { Reports judged_of result units.new.left (spec.judged sig.now (clause_of c.entry) units.old.left) }
+    ensures sum { units.new.left + units.new.spent ≡ units.old.left + units.old.spent }
+    ensures spends { units.new.left ≤ units.old.left }
+    ensures judged { IfOk result (IsJudged sig.now) }
+{
+    if some_absurd(pats_at(c.part.pats.as_slice(), c.clause)) {
+        return Ok(Judgement::Known(Line::Absurd));
+    }
+    equation_judged(alloc, sig, c, units)
+}

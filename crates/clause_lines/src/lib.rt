@@ -1,0 +1,19 @@
+//! The lines of clauses: what holds of each clause of a function.
+//!
+//! The equation of a clause holds by conversion, or a proof of it enters the signature. Where the proof is denied, an earlier clause may
+//! shadow the clause: both match a vector, and the equation converts at each leaf of the clause.
+#![tactic(auto)]
+
+mod clause;
+mod judging;
+pub mod laws;
+mod leaves;
+mod line;
+mod mappings;
+mod names;
+mod reporting;
+mod shadowing;
+mod sides;
+
+pub use line::Line;
+pub use reporting::report;

@@ -1,0 +1,310 @@
+//! Clauses that an earlier one shadows.
+ghost use Rattle.std.specs.Prelude.{◌≡◌, ◌≤◌, ◌+◌, ◌++◌, Ok, map};
+ghost use Rattle.clause_lines.specs.CodeReports as spec;
+ghost use Rattle.clause_lines.specs.LineMeanings.{clause_of, leaf_shown, line_of};
+ghost use Rattle.clause_reports.specs.Equations.{pats_of as pats_in};
+ghost use Rattle.clause_reports.specs.ProofWalks.{leaves_in as leaves_meant};
+ghost use Rattle.clause_reports.specs.Reports.{Shadowed, reported, shown_leaf};
+ghost use Rattle.clause_reports.specs.Shadows as shadows;
+ghost use Rattle.clause_reports.specs.Stops.{halting};
+ghost use Rattle.core_terms.specs.Answers.{Gives, StandsFor};
+ghost use Rattle.core_terms.specs.Meanings.{tree_of, tele_of};
+ghost use Rattle.draft_entering.specs.Stops.{IsUnforeseen, Reports, stop_of};
+ghost use Rattle.leaf_terms.specs.PlanMeanings.{part_of};
+ghost use Rattle.proof_terms.specs.ProofMeanings.{place_of, proof_of};
+ghost use Rattle.proof_walks.specs.PlaceScopes.{AreKeptLeaves, IsKeptPlace};
+ghost use Rattle.proof_walks.specs.WalkMeanings.{leaf_of, leaves_of as proof_leaves};
+ghost use Rattle.shadow_vectors.specs.LeafMeanings.{all_leaves_of, leaf_of as tree_leaf};
+ghost use Rattle.theory.specs.Signatures.{Signature as signature};
+ghost use Rattle.unification.specs.ScopedStates.{IsReady};
+
+use crate::Line;
+use crate::clause::{PlannedClause, match_at, pats_at};
+use crate::leaves::converts_at_leaves;
+use core_sig::Signature;
+use core_terms::{Items, Stop, Tele, Term, Units, copy_tele};
+use draft_entering::ReportStop;
+use kernel_reduce::convertible;
+use proof_terms::{Place, Proof};
+use proof_walks::{Leaf, leaves_in};
+use shadow_vectors::{TreeLeaf, leaves_of, vector_of};
+use std::alloc::Global;
+
+// ---- the vector
+
+/// Whether the sides at a leaf of a proof convert.
+#[tactic(auto, unfolding(crate::specs::CodeReports::place_converts))]
+fn leaf_converts(
+    alloc: Global,
+    sig: &Signature,
+    p: &Place,
+    units: &mut Units,
+) -> Result<bool, ReportStop>
+    requires ready { IsReady sig.now }
+    requires kept { IsKeptPlace sig.now (place_of p.now) }
+    ensures answer { Reports (λ holds. holds) result units.new.left (spec.place_converts sig.now (place_of p.now) units.old.left) }
+    ensures sum { units.new.left + units.new.spent ≡ units.old.left + units.old.spent }
+    ensures spends { units.new.left ≤ units.old.left }
+{
+    Ok(convertible(alloc, sig, &p.left, &p.right, units)?)
+}
+
+/// Whether the sides at a leaf of a proof do not convert and its clause is an earlier one.
+fn is_earlier(
+    alloc: Global,
+    sig: &Signature,
+    clause: u32,
+    leaf: Leaf,
+    units: &mut Units,
+) -> Result<bool, ReportStop>
+    requires ready { IsReady sig.now }
+    requires kept { IsKeptPlace sig.now (place_of leaf.place.now) }
+    ensures answer { Reports (λ found. found) result units.new.left (spec.is_earlier sig.now clause (leaf_of leaf.entry) units.old.left) }
+    ensures sum { units.new.left + units.new.spent ≡ units.old.left + units.old.spent }
+    ensures spends { units.new.left ≤ units.old.left }
+{
+    let holds = leaf_converts(alloc, sig, leaf.place, units)?;
+    Ok(!holds && leaf.clause < clause)
+}
+
+/// The vector that an earlier clause takes from the terms of the clause at a leaf of its proof.
+fn vector_at(
+    alloc: Global,
+    sig: &Signature,
+    c: PlannedClause,
+    earlier: u32,
+    p: &Place,
+    units: &mut Units,
+) -> Result<Tele, ReportStop>
+    requires ready { IsReady sig.now }
+    requires kept { IsKeptPlace sig.now (place_of p.now) }
+    ensures answer { Reports tele_of result units.new.left (halting (shadows.vector_of sig.now (pats_in (part_of c.entry.part.now) c.entry.clause) (pats_in (part_of c.entry.part.now) earlier) (place_of p.now).terms units.old.left)) }
+    ensures sum { units.new.left + units.new.spent ≡ units.old.left + units.old.spent }
+    ensures spends { units.new.left ≤ units.old.left }
+{
+    let own = pats_at(c.part.pats.as_slice(), c.clause);
+    let other = pats_at(c.part.pats.as_slice(), earlier);
+    Ok(vector_of(alloc, sig, own, other, p.terms.as_slice(), units)?)
+}
+
+/// Whether the clause and an earlier one match a vector.
+fn both_match(sig: &Signature, c: PlannedClause, earlier: u32, vector: &Tele) -> bool
+    ensures { result ≡ spec.both_match sig.now (clause_of c.entry) earlier (tele_of vector.now) }
+{
+    let pats = c.part.pats.as_slice();
+    match_at(sig, pats, c.clause, vector) && match_at(sig, pats, earlier, vector)
+}
+
+// ---- the line
+
+/// What is shown of a leaf: its context and its terms.
+fn shown(alloc: Global, leaf: TreeLeaf) -> Result<(Tele, Tele), Stop>
+    ensures { Gives leaf_shown result (Ok (shown_leaf (tree_leaf leaf.entry))) }
+{
+    let ctx = copy_tele(alloc, leaf.ctx)?;
+    Ok((ctx, copy_tele(alloc, leaf.terms)?))
+}
+
+/// What is shown of leaves, after what is there.
+fn with_shown(
+    alloc: Global,
+    leaves: &[TreeLeaf],
+    mut made: Items<(Tele, Tele)>,
+) -> Result<Items<(Tele, Tele)>, Stop>
+    ensures { Gives (map leaf_shown) result (Ok (map leaf_shown made ++ map shown_leaf (all_leaves_of leaves.now))) }
+{
+    match leaves {
+        [] => Ok(made),
+        [leaf, rest @ ..] => {
+            made.push(shown(alloc, *leaf)?)?;
+            with_shown(alloc, rest, made)
+        }
+    }
+}
+
+/// The line of a shadowed clause.
+fn shadowed_line(
+    alloc: Global,
+    earlier: u32,
+    ctx: &[Term],
+    vector: Tele,
+    leaves: &[TreeLeaf],
+) -> Result<Line, Stop>
+    ensures { Gives line_of result (Ok (Shadowed earlier (tele_of ctx.now) (tele_of vector) (map shown_leaf (all_leaves_of leaves.now)))) }
+{
+    let ctx = copy_tele(alloc, ctx)?;
+    let leaves = with_shown(alloc, leaves, Items::new(alloc))?;
+    Ok(Line::Shadowed {
+        earlier,
+        ctx,
+        vector,
+        leaves,
+    })
+}
+
+/// That line, or the denial of the candidate where the equation does not convert at each leaf.
+fn if_shadowed(
+    alloc: Global,
+    stop: ReportStop,
+    earlier: u32,
+    ctx: &[Term],
+    vector: Tele,
+    leaves: &[TreeLeaf],
+    holds: bool,
+) -> Result<Line, ReportStop>
+    ensures { (S : signature) → StandsFor IsUnforeseen stop_of (λ line. reported S (line_of line)) result (spec.if_shadowed S (stop_of stop) earlier (tele_of ctx.now) (tele_of vector) (all_leaves_of leaves.now) holds) }
+{
+    if holds {
+        Ok(shadowed_line(alloc, earlier, ctx, vector, leaves)?)
+    } else {
+        Err(stop)
+    }
+}
+
+/// The line of a clause that matches a vector with an earlier one, and has these leaves, or the denial of its candidate.
+fn at_matched(
+    alloc: Global,
+    sig: &Signature,
+    c: PlannedClause,
+    stop: ReportStop,
+    earlier: u32,
+    ctx: &[Term],
+    vector: Tele,
+    leaves: &[TreeLeaf],
+    units: &mut Units,
+) -> Result<Line, ReportStop>
+    requires { IsReady sig.now }
+    ensures answer { Reports (λ line. reported sig.now (line_of line)) result units.new.left (spec.at_matched sig.now (clause_of c.entry) (stop_of stop) earlier (tele_of ctx.now) (tele_of vector) (all_leaves_of leaves.now) units.old.left) }
+    ensures sum { units.new.left + units.new.spent ≡ units.old.left + units.old.spent }
+    ensures spends { units.new.left ≤ units.old.left }
+{
+    let holds = converts_at_leaves(alloc, sig, c, leaves, units)?;
+    if_shadowed(alloc, stop, earlier, ctx, vector, leaves, holds)
+}
+
+/// The same with the leaves of the clause in its part's tree.
+fn at_leaves(
+    alloc: Global,
+    sig: &Signature,
+    c: PlannedClause,
+    stop: ReportStop,
+    earlier: u32,
+    ctx: &[Term],
+    vector: Tele,
+    units: &mut Units,
+) -> Result<Line, ReportStop>
+    requires { IsReady sig.now }
+    ensures answer { Reports (λ line. reported sig.now (line_of line)) result units.new.left (spec.at_matched sig.now (clause_of c.entry) (stop_of stop) earlier (tele_of ctx.now) (tele_of vector) (shadows.leaves_of c.entry.clause (part_of c.entry.part.now).tree) units.old.left) }
+    ensures sum { units.new.left + units.new.spent ≡ units.old.left + units.old.spent }
+    ensures spends { units.new.left ≤ units.old.left }
+{
+    let leaves = leaves_of(alloc, c.clause, &c.part.tree)?;
+    at_matched(
+        alloc,
+        sig,
+        c,
+        stop,
+        earlier,
+        ctx,
+        vector,
+        leaves.as_slice(),
+        units,
+    )
+}
+
+/// The line of a clause whose vector is found, or the denial of its candidate.
+fn at_vector(
+    alloc: Global,
+    sig: &Signature,
+    c: PlannedClause,
+    stop: ReportStop,
+    earlier: u32,
+    ctx: &[Term],
+    vector: Tele,
+    units: &mut Units,
+) -> Result<Line, ReportStop>
+    requires { IsReady sig.now }
+    ensures answer { Reports (λ line. reported sig.now (line_of line)) result units.new.left (spec.at_vector_made sig.now (clause_of c.entry) (stop_of stop) earlier (tele_of ctx.now) (tele_of vector) units.old.left) }
+    ensures sum { units.new.left + units.new.spent ≡ units.old.left + units.old.spent }
+    ensures spends { units.new.left ≤ units.old.left }
+{
+    if both_match(sig, c, earlier, &vector) {
+        at_leaves(alloc, sig, c, stop, earlier, ctx, vector, units)
+    } else {
+        Err(stop)
+    }
+}
+
+/// The same at a leaf of the proof, which belongs to an earlier clause.
+fn at_place(
+    alloc: Global,
+    sig: &Signature,
+    c: PlannedClause,
+    stop: ReportStop,
+    earlier: u32,
+    p: &Place,
+    units: &mut Units,
+) -> Result<Line, ReportStop>
+    requires ready { IsReady sig.now }
+    requires kept { IsKeptPlace sig.now (place_of p.now) }
+    ensures answer { Reports (λ line. reported sig.now (line_of line)) result units.new.left (spec.at_place sig.now (clause_of c.entry) (stop_of stop) earlier (place_of p.now) units.old.left) }
+    ensures sum { units.new.left + units.new.spent ≡ units.old.left + units.old.spent }
+    ensures spends { units.new.left ≤ units.old.left }
+{
+    let vector = vector_at(alloc, sig, c, earlier, p, units)?;
+    at_vector(
+        alloc,
+        sig,
+        c,
+        stop,
+        earlier,
+        p.ctx.as_slice(),
+        vector,
+        units,
+    )
+}
+
+/// The same at the first of these leaves of the proof at which the sides do not convert and whose clause is an earlier one.
+fn shadowed_among(
+    alloc: Global,
+    sig: &Signature,
+    c: PlannedClause,
+    stop: ReportStop,
+    leaves: &[Leaf],
+    units: &mut Units,
+) -> Result<Line, ReportStop>
+    requires ready { IsReady sig.now }
+    requires kept { AreKeptLeaves sig.now (proof_leaves leaves.now) }
+    ensures answer { Reports (λ line. reported sig.now (line_of line)) result units.new.left (spec.shadowed_among sig.now (clause_of c.entry) (stop_of stop) (proof_leaves leaves.now) units.old.left) }
+    ensures sum { units.new.left + units.new.spent ≡ units.old.left + units.old.spent }
+    ensures spends { units.new.left ≤ units.old.left }
+{
+    match leaves {
+        [] => Err(stop),
+        [leaf, rest @ ..] => {
+            if is_earlier(alloc, sig, c.clause, *leaf, units)? {
+                return at_place(alloc, sig, c, stop, leaf.clause, leaf.place, units);
+            }
+            shadowed_among(alloc, sig, c, stop, rest, units)
+        }
+    }
+}
+
+/// The line of a clause whose candidate is denied where an earlier clause shadows it, or that denial.
+pub(crate) fn shadowed(
+    alloc: Global,
+    sig: &Signature,
+    c: PlannedClause,
+    proof: &Proof,
+    stop: ReportStop,
+    units: &mut Units,
+) -> Result<Line, ReportStop>
+    requires ready { IsReady sig.now }
+    requires kept { AreKeptLeaves sig.now (leaves_meant (proof_of proof.now)) }
+    ensures answer { Reports (λ line. reported sig.now (line_of line)) result units.new.left (spec.shadowed_made sig.now (clause_of c.entry) (proof_of proof.now) (stop_of stop) units.old.left) }
+    ensures sum { units.new.left + units.new.spent ≡ units.old.left + units.old.spent }
+    ensures spends { units.new.left ≤ units.old.left }
+{
+    let leaves = leaves_in(alloc, proof)?;
+    shadowed_among(alloc, sig, c, stop, leaves.as_slice(), units)
+}
