@@ -1,0 +1,36 @@
+-- What holds of the lines that are meant holds of those that are answered.
+use Rattle.std.proofs.Common.{◌≡◌, ℕ, [], ◌∷◌, length, Ok, Err, IfOk, sym, ap, ◌∙◌, subst as transport, arith}
+use Rattle.theory.specs.Prelude.{prelude}
+use Rattle.theory.specs.Signatures.{Signature, IsPrefix}
+use Rattle.theory.specs.Terms.{Term}
+use Rattle.theory.specs.WellFormed.{IsWellFormed}
+use Rattle.theory.proofs.Pushing.{prefix_transitive}
+use Rattle.kernel_reduce.specs.WellScoped.{AreWellScoped}
+use Rattle.theory.specs.SignatureScopes.{IsScoped, IsScopedSignature}
+use Rattle.draft_entering.specs.Conditions.{Extends}
+use Rattle.draft_entering.proofs.Longer.{extends-prefix}
+use Rattle.elaboration.specs.Functions.{Lines}
+use Rattle.clause_reports.specs.Stops.{ReportStop, Reporting}
+use Rattle.elaboration.specs.Refusals.{Elaborating, Owner, Refusal, of_report, reporting}
+use Rattle.family_check.specs.Scopes.{HasPrelude}
+use Rattle.function_lines.proofs.Agreeing.{spent}
+
+abbrev pub Kept : Signature → Lines → Type 0
+Kept S lines = IsPrefix S lines.signature × IsWellFormed lines.signature
+
+pub told : (S : Signature) (lines : Lines) (left : ℕ) (made : Elaborating Lines) → spent (Ok lines) left ≡ made → IfOk made.0 (Kept S) → IsWellFormed lines.signature
+told S lines left made is h = (transport (λ (m : Elaborating Lines). IfOk m.0 (Kept S)) (sym is) h).1
+
+pub prelude-stays : (S T : Signature) → Extends S T → HasPrelude S → HasPrelude T
+prelude-stays S T h p = transport (λ k. IsPrefix (prelude k) T) (sym h.has_k) (prefix_transitive (prelude S.has_k) S T p (extends-prefix S T h))
+
+-- a closed type is well scoped in no context
+pub closed-type : (S : Signature) (type : Term) → IsScopedSignature S → IsScoped S 0 type → AreWellScoped S [] (type ∷ [])
+closed-type S type signature scoped = record { signature = signature; context = tt; few = omega arith; terms = (scoped, tt) }
+
+-- a refusal that is shown over the signature as it stood before
+pub refused-after : (S T : Signature) (owner : Owner) (stop : ReportStop) (r : Refusal) (left : ℕ) (meant : Reporting Signature) → T ≡ S
+    → r ≡ of_report T owner stop → spent (Err stop) left ≡ meant → spent (Err r) left ≡ reporting S owner meant
+refused-after S T owner stop r left meant is shown ends =
+    transport (λ (m : Reporting Signature). spent (Err r) left ≡ reporting S owner m) ends
+    (ap (λ x. spent (Err x) left) (shown ∙ ap (λ U. of_report U owner stop) is))

@@ -1,0 +1,4 @@
+pub mod Conditions
+pub mod FunctionMade
+pub mod Laws
+pub mod LineMeanings

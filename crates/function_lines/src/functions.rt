@@ -1,0 +1,110 @@
+ghost use Rattle.std.specs.Prelude.{◌≡◌, ◌≤◌, ◌+◌, IfOk, None, OnErr};
+ghost use Rattle.core_sig.specs.Names.{find};
+ghost use Rattle.core_terms.specs.Meanings.{tree_of};
+ghost use Rattle.draft_entering.specs.Conditions.{Extends};
+ghost use Rattle.family_check.specs.Scopes.{HasPrelude, IsSettled};
+ghost use Rattle.function_lines.specs.FunctionMade as spec;
+ghost use Rattle.function_lines.specs.LineMeanings.{lines_of};
+ghost use Rattle.function_refusals.specs.RefusalMeanings.{Elaborates};
+ghost use Rattle.leaf_terms.specs.PlanMeanings.{plan_of};
+ghost use Rattle.resolve.specs.PatternMeanings.{fun_of};
+ghost use Rattle.resolve.specs.Scoping.{IsResolvedFunction};
+ghost use Rattle.theory.specs.Signatures.{IsPrefix};
+ghost use Rattle.theory.specs.WellFormed.{IsWellFormed, provisional};
+
+use crate::ClauseLine;
+use crate::drafts::enter_plan;
+use crate::levels::level_of;
+use crate::planning::plan_over;
+use crate::reporting::report_parts;
+use core_sig::Signature;
+use core_terms::{Items, Units};
+use function_refusals::Refusal;
+use leaf_terms::Plan;
+use resolve::FunCore;
+use std::alloc::Global;
+
+/// Adds the entries of a plan, and answers the lines of its clauses. After an error some entries are there.
+fn report_plan(
+    alloc: Global,
+    sig: &mut Signature,
+    plan: &Plan,
+    units: &mut Units,
+) -> Result<Items<ClauseLine>, Refusal>
+    requires well_formed { IsWellFormed sig.old }
+    requires prelude { HasPrelude sig.old }
+    ensures answer { Elaborates (lines_of sig.new) result units.new.left (spec.plan_reported (plan_of plan.now) sig.old units.old.left) }
+    ensures sum { units.new.left + units.new.spent ≡ units.old.left + units.old.spent }
+    ensures spends { units.new.left ≤ units.old.left }
+    ensures longer { Extends sig.old sig.new }
+    ensures settled { IfOk result (λ _. IsSettled sig.new) }
+{
+    enter_plan(alloc, sig, plan, units)?;
+    report_parts(
+        alloc,
+        sig,
+        plan,
+        0,
+        plan.parts.as_slice(),
+        Items::new(alloc),
+        units,
+    )
+}
+
+/// Adds the entries of a function, and answers the lines of its clauses. After an error some entries are there.
+fn elaborate(
+    alloc: Global,
+    sig: &mut Signature,
+    f: &FunCore,
+    units: &mut Units,
+) -> Result<Items<ClauseLine>, Refusal>
+    requires well_formed { IsWellFormed sig.old }
+    requires settled { IsSettled sig.old }
+    requires prelude { HasPrelude sig.old }
+    requires new { find sig.old f.now.name ≡ None }
+    requires resolved { IsResolvedFunction sig.old (provisional sig.old f.now.name (tree_of f.now.ty)) (fun_of f.now) }
+    ensures answer { Elaborates (lines_of sig.new) result units.new.left (spec.function_made sig.old (fun_of f.now) units.old.left) }
+    ensures sum { units.new.left + units.new.spent ≡ units.old.left + units.old.spent }
+    ensures spends { units.new.left ≤ units.old.left }
+    ensures longer { Extends sig.old sig.new }
+    ensures settled { IfOk result (λ _. IsSettled sig.new) }
+{
+    let level = level_of(alloc, sig, &f.ty, units)?;
+    let plan = plan_over(alloc, sig, f, level, units)?;
+    report_plan(alloc, sig, &plan, units)
+}
+
+/// Adds the entries of a function by clauses: those that its case trees translate to, and for each clause what its equation needs. The
+/// answer is the lines of the clauses, those of the function before those of its helpers.
+///
+/// The units are one count for all of it. After a refusal the signature stands as before, and the units that were spent stay spent.
+/// Deep is also answered where the name of a family or of a constructor holds a `!`.
+pub fn function(
+    alloc: Global,
+    sig: &mut Signature,
+    f: &FunCore,
+    units: &mut Units,
+) -> Result<Items<ClauseLine>, Refusal>
+    requires well_formed { IsWellFormed sig.old }
+    requires settled { IsSettled sig.old }
+    requires prelude { HasPrelude sig.old }
+    requires new { find sig.old f.now.name ≡ None }
+    requires resolved { IsResolvedFunction sig.old (provisional sig.old f.now.name (tree_of f.now.ty)) (fun_of f.now) }
+    ensures answer { Elaborates (lines_of sig.new) result units.new.left (spec.function_made sig.old (fun_of f.now) units.old.left) }
+    ensures err { OnErr result (sig.new ≡ sig.old) }
+    ensures sum { units.new.left + units.new.spent ≡ units.old.left + units.old.spent }
+    ensures spends { units.new.left ≤ units.old.left }
+    ensures longer { IsPrefix sig.old sig.new }
+    ensures well_formed { IsWellFormed sig.new }
+    ensures settled { IsSettled sig.new }
+    ensures prelude { HasPrelude sig.new }
+{
+    let before = sig.len();
+    match elaborate(alloc, sig, f, units) {
+        Ok(lines) => Ok(lines),
+        Err(refusal) => {
+            sig.truncate(before);
+            Err(refusal)
+        }
+    }
+}

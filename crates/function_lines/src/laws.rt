@@ -1,0 +1,12 @@
+//! What is answered of a function is what is meant, and a well-formed signature stays well formed.
+ghost use Rattle.function_lines.specs.Laws.{FunctionAnswers, FunctionMadeKeeps};
+
+/// Where lines are answered, they are those that are meant, with as many units left.
+pub fn function_answers()
+    ensures { FunctionAnswers }
+{}
+
+/// A well-formed signature stays well formed, and keeps its entries.
+pub fn function_made_keeps()
+    ensures { FunctionMadeKeeps }
+{}
