@@ -19,4 +19,5 @@ mod texts;
 
 pub use accepted::Accepted;
 pub use refusal::{PartName, Refusal, Text};
-pub use session::Session;
+pub use refusing::stopped;
+pub use session::{Session, declare};

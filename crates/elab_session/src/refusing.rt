@@ -13,7 +13,7 @@ use std::alloc::Global;
 use surface_syntax::Word;
 
 /// What stops a declaration that may spend `fuel` units.
-fn stopped(fuel: u64, stop: Stop) -> Refusal
+pub fn stopped(fuel: u64, stop: Stop) -> Refusal
     ensures { result ≡ spec.stopped fuel stop }
 {
     match stop {

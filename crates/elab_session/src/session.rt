@@ -19,12 +19,13 @@ use std::alloc::Global;
 use std::marker::Model;
 use surface_syntax::{Decl, SurfMember, Word};
 
-/// The signature that declarations add their entries to, and the units that each declaration may spend.
+/// The signature that declarations add their entries to, and the units that each declaration may spend. Whoever writes to the
+/// signature leaves it well formed, settled, and with the prelude at its front.
 #[derive(Drop)]
 pub struct Session {
-    sig: Signature,
-    fuel: u64,
-    alloc: Global,
+    pub sig: Signature,
+    pub fuel: u64,
+    pub alloc: Global,
 }
 
 impl Model for Session {
@@ -84,8 +85,8 @@ impl Session {
     }
 }
 
-/// Adds the entries of a declaration.
-fn declare(alloc: Global, sig: &mut Signature, fuel: u64, d: &Decl) -> Result<Accepted, Refusal>
+/// Adds the entries of a declaration, which may spend `fuel` units. After a refusal the signature stands as before.
+pub fn declare(alloc: Global, sig: &mut Signature, fuel: u64, d: &Decl) -> Result<Accepted, Refusal>
     requires ready { IsReady sig.old }
     ensures answer { spec.Answers sig.new result (spec.declare_of sig.old fuel (decl_of d.now)) }
     ensures err { OnErr result (sig.new ≡ sig.old) }
