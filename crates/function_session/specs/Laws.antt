@@ -1,0 +1,96 @@
+-- What one declaration keeps, and what is said of what it accepts.
+use Rattle.std.specs.Prelude.{◌≡◌, ℕ, ◌+◌, List, [], ◌∷◌, ◌++◌, map, Ok, IfOk}
+use Rattle.theory.specs.Terms.{Term}
+use Rattle.theory.specs.Signatures.{Definition, Signature, IsPrefix}
+use Rattle.theory.specs.Typing.{HasSort}
+use Rattle.theory.specs.WellFormed.{IsDefinition, IsWellFormed, pushed}
+use Rattle.core_terms.specs.Clauses as clause
+use Rattle.core_terms.specs.Clauses.{Clause, Clauses, Right, Is}
+use Rattle.surface_syntax.specs.Trees as surf
+use Rattle.surface_syntax.specs.declared.tree.Word.{Word}
+use Rattle.resolve.specs.Functions.{Function, function}
+use Rattle.resolve.specs.Resolving.{resolve_term}
+use Rattle.tree_translation.specs.Plans.{Plan}
+use Rattle.clause_reports.specs.Equations.{part_named}
+use Rattle.elaboration.specs.Functions.{plan_of}
+use Rattle.elaboration.specs.Refusals.{Owner, owner_of}
+use Rattle.elab_session.specs.Declaring.{accepted_as}
+use Rattle.elab_session.specs.Laws as session
+use Rattle.elab_session.specs.Sessions.{IsReady}
+use Rattle.function_session.specs.Elaborating.{Elaborated, declared_of, elaborate_of}
+use Rattle.function_session.specs.Evidence.{AreLinesOf, line_owner, references_from}
+
+-- a signature that a session may have is one also after a declaration, and the earlier entries stay
+pub record GoesOn (S : Signature) (a : Elaborated) : Type 0 where
+  pub longer : IsPrefix S a.signature
+  pub ready : IsReady a.signature
+
+abbrev pub ElaborateKeepsReady : Type 0
+ElaborateKeepsReady = (S : Signature) (fuel : ℕ) (d : surf.Decl) → IsReady S → IfOk (elaborate_of S fuel d) (GoesOn S)
+
+-- ---- the clauses of a function
+
+-- The clauses inside each `with` of some clauses, in the order of the text: those of an outer one come before those inside it.
+abbrev mutual
+  pub inner : Clauses → List Clauses
+  inner clause.nil = []
+  inner (clause.cons c clauses) = inner_of c ++ inner clauses
+
+  pub inner_of : Clause → List Clauses
+  inner_of (Is pats binds right) = inner_right right
+
+  pub inner_right : Right → List Clauses
+  inner_right (clause.Side side) = []
+  inner_right (clause.With scrutinee clauses) = clauses ∷ inner clauses
+  inner_right clause.Absurd = []
+
+-- the clauses of part k from clause `number` on, by the names of the function's parts
+abbrev pub owners : (name : List ℕ) → (k number : ℕ) → Clauses → List Owner
+owners name k number clause.nil = []
+owners name k number (clause.cons c clauses) = owner_of (part_named name k) number ∷ owners name k (number + 1) clauses
+
+-- the same of the parts from part k on
+abbrev pub owners_from : (name : List ℕ) → (k : ℕ) → List Clauses → List Owner
+owners_from name k [] = []
+owners_from name k (clauses ∷ parts) = owners name k 0 clauses ++ owners_from name (k + 1) parts
+
+-- each clause of a function, those inside `with` included
+abbrev pub clause_owners : Function → List Owner
+clause_owners f = owners_from f.name 0 (f.clauses ∷ inner f.clauses)
+
+-- ---- what is accepted
+
+-- A function was added that is written by clauses. Its type is the core term that the written one stands for, and by the typing rules
+-- over the entries before it has a sort. All new entries are formed by the rules over those before them. One of them is the function, a
+-- definition with the declared name and exactly this type. Each clause has one line, in the order of the clauses, and what the line says
+-- holds of the clause in the plan of the function.
+pub record IsWrittenFunction (S : Signature) (x : Word) (ty : surf.Surf) (clauses : surf.Clauses) (a : Elaborated) : Type 0 where
+  pub given : Function
+  pub resolved : function S x ty clauses ≡ Ok given
+  pub type_resolved : resolve_term S [] ty ≡ Ok given.type
+  pub type_sort : HasSort S [] given.type
+  pub before : Signature
+  pub body : Term
+  pub longer : IsPrefix S before
+  pub typed : IsDefinition before given.type body
+  pub entered : IsPrefix (pushed before (Definition x.text given.type body)) a.signature
+  pub formed : IsWellFormed a.signature
+  pub accepted : declared_of a ≡ accepted_as x.text S a.signature
+  pub lines : map line_owner a.lines ≡ clause_owners given
+  pub level : ℕ
+  pub left : ℕ
+  pub plan : Plan
+  pub planned : (plan_of S given level left).0 ≡ Ok plan
+  pub evidence : AreLinesOf (pushed before (Definition x.text given.type body)) a.signature plan (references_from 0 plan.parts) a.lines
+
+-- a definition or a family is as written, and has no clauses
+pub record IsWrittenPlainly (S : Signature) (d : surf.Decl) (a : Elaborated) : Type 0 where
+  pub written : session.IsAsWritten S d (declared_of a)
+  pub lines : a.lines ≡ []
+
+abbrev pub IsAsWritten : Signature → surf.Decl → Elaborated → Type 0
+IsAsWritten S (surf.Fun x ty clauses) a = IsWrittenFunction S x ty clauses a
+IsAsWritten S d a = IsWrittenPlainly S d a
+
+abbrev pub ElaboratesAsWritten : Type 0
+ElaboratesAsWritten = (S : Signature) (fuel : ℕ) (d : surf.Decl) → IsReady S → IfOk (elaborate_of S fuel d) (IsAsWritten S d)

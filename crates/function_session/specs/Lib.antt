@@ -1,0 +1,4 @@
+pub mod Elaborating
+pub mod Evidence
+pub mod Laws
+pub mod Meanings

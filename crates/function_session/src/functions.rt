@@ -1,0 +1,68 @@
+ghost use Rattle.std.specs.Prelude.{◌≡◌, None, OnErr};
+ghost use Rattle.theory.specs.WellFormed.{provisional};
+ghost use Rattle.core_terms.specs.Meanings.{tree_of};
+ghost use Rattle.core_sig.specs.Names.{find};
+ghost use Rattle.surface_syntax.specs.TreeMeanings.{decl_of};
+ghost use Rattle.resolve.specs.Functions.{resolve_fun};
+ghost use Rattle.resolve.specs.PatternMeanings.{fun_of};
+ghost use Rattle.resolve.specs.Scoping.{IsResolvedFunction};
+ghost use Rattle.elab_session.specs.Sessions.{IsReady};
+ghost use Rattle.function_session.specs.Elaborating as spec;
+ghost use Rattle.function_session.specs.Meanings.{Answers};
+
+use crate::refused::refused_function;
+use crate::{Elaborated, Refused};
+use core_sig::Signature;
+use core_terms::{Units, copy_name};
+use elab_session::Accepted;
+use function_lines::function;
+use resolve::{FunCore, resolve_fun};
+use std::alloc::Global;
+use surface_syntax::{Decl, Word};
+
+/// Adds the function that is written as `d`, which has the name `x`.
+pub(crate) fn elaborate_function(
+    alloc: Global,
+    sig: &mut Signature,
+    fuel: u64,
+    d: &Decl,
+    x: &Word,
+) -> Result<Elaborated, Refused>
+    requires ready { IsReady sig.old }
+    requires written { spec.IsFunctionNamed x.now (decl_of d.now) }
+    ensures answer { Answers sig.new result (spec.on_function (resolve_fun sig.old (decl_of d.now)) (spec.enter_function sig.old fuel x.now)) }
+    ensures err { OnErr result (sig.new ≡ sig.old) }
+{
+    let f = resolve_fun(alloc, sig, d)?;
+    enter_function(alloc, sig, fuel, x, &f)
+}
+
+/// Adds a function that is resolved.
+fn enter_function(
+    alloc: Global,
+    sig: &mut Signature,
+    fuel: u64,
+    x: &Word,
+    f: &FunCore,
+) -> Result<Elaborated, Refused>
+    requires ready { IsReady sig.old }
+    requires new { find sig.old f.now.name ≡ None }
+    requires resolved { IsResolvedFunction sig.old (provisional sig.old f.now.name (tree_of f.now.ty)) (fun_of f.now) }
+    ensures answer { Answers sig.new result (spec.enter_function sig.old fuel x.now (fun_of f.now)) }
+    ensures err { OnErr result (sig.new ≡ sig.old) }
+{
+    let name = copy_name(alloc, &x.text)?;
+    let from = sig.len();
+    let mut units = Units {
+        left: fuel,
+        spent: 0,
+    };
+    match function(alloc, sig, f, &mut units) {
+        Ok(lines) => {
+            let to = sig.len();
+            let accepted = Accepted { name, from, to };
+            Ok(Elaborated { accepted, lines })
+        }
+        Err(refusal) => Err(refused_function(fuel, refusal)),
+    }
+}

@@ -1,0 +1,12 @@
+//! What a declaration keeps, and what is accepted.
+ghost use Rattle.function_session.specs.Laws.{ElaborateKeepsReady, ElaboratesAsWritten};
+
+/// Earlier entries stay, and the signature of a session stays well formed, settled, and begins with the prelude.
+pub fn elaborate_keeps_ready()
+    ensures { ElaborateKeepsReady }
+{}
+
+/// What is accepted is what is written, and is formed by the rules over the entries before it.
+pub fn elaborates_as_written()
+    ensures { ElaboratesAsWritten }
+{}
