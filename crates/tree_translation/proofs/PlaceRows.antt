@@ -60,7 +60,7 @@ below_itself : with_calls (λ name. 60) plan leaf 0 [] (Lam Nat (suc_term (App (
 unfolding native.Mathlib.Decide.ℕ_discrete
 below_itself = refl
 
--- a helper's call has the below value behind its arguments
+-- a helper's call has the below value after its arguments
 helper_with_below : with_calls (λ name. 60) plan leaf 0 [] (App (App (Const 53) (Var 2)) (Var 1))
     ≡ App (App (App (Const 60) (Var 2)) (Var 1)) (Var 0)
 unfolding native.Mathlib.Decide.ℕ_discrete

@@ -100,7 +100,7 @@ list_family = record {
       ∷ [];
 }
 
--- behind the prelude Nat, Vec, Bool, Fin, W and List
+-- after the prelude Nat, Vec, Bool, Fin, W and List
 abbrev pub sample : Bool → Signature
 sample k = record {
   entries =
@@ -191,7 +191,7 @@ vg_family = record {
 abbrev pub constant : ℕ → Entry
 constant n = Definition [] (Sort 0) (Const n)
 
--- a signature with more entries behind it
+-- a signature with more entries after it
 abbrev pub behind : Signature → List Entry → Signature
 behind S entries = record S { entries = S.entries ++ entries }
 

@@ -1,5 +1,5 @@
 -- What holds of the entries of a function, whatever way they are made.
-use Rattle.std.specs.Prelude.{◌≡◌, ◌≢◌, ◌↔◌, ◌⊎◌, ◌<◌, ◌-◌, ℕ, zero, suc, ◌+◌, Option, Some, None, Ok, IfOk, List, [], ◌∷◌, ◌++◌, length, map, slice_get, flat_map, All, AllPairs, Contains, Err}
+use Rattle.std.specs.Prelude.{◌≡◌, ◌≢◌, ◌↔◌, ◌⊎◌, ◌<◌, ℕ, zero, suc, ◌+◌, Option, Some, None, Ok, IfOk, List, [], ◌∷◌, ◌++◌, length, map, slice_get, flat_map, All, AllPairs, Contains, Err}
 use Rattle.std.specs.List.{Any}
 use Rattle.theory.specs.Terms.{Term, Pi, Lam, App, Let, Const, Elim, AxiomK}
 use Rattle.theory.specs.Telescopes.{Telescope}
@@ -63,10 +63,6 @@ abbrev pub TypeIsWritten : Type 0
 TypeIsWritten =
     OfDrafts (λ S plan drafts.
     (before : List Draft) × (last : Draft) × (body : Term) × (drafts ≡ before ++ last ∷ []) × (last.entry ≡ Definition plan.name plan.type body))
-
--- All are definitions over the same entries. Each of their constants is one of those entries or one of the draft's names.
-abbrev pub DraftsScoped : Type 0
-DraftsScoped = OfDrafts (λ S plan drafts. All (λ d. (d.base ≡ plan.base) × IsScopedDraft S d) drafts)
 
 -- a name that is generated for a family of the signature, or for an identity family
 pub data IsGenerated (S : Signature) (name : List ℕ) : Type 0 where
@@ -182,16 +178,6 @@ SplitNames =
     (S : Signature) (L : ℕ) (node : Node) (x : ℕ) (type : Term) (runs : List (List Step)) (ends : List Term) (names : List (List ℕ)) →
     IsSplitGiven S node x type runs ends (length names) →
     AddsNames S names (split_term S (length S.entries) L node x type runs ends names).names
-
--- The new names are all mentioned, and for the first time in the order in which they are added.
-abbrev pub SplitNamesInOrder : Type 0
-SplitNamesInOrder =
-    (S : Signature) (L : ℕ) (node : Node) (x : ℕ) (type : Term) (runs : List (List Step)) (ends : List Term) (names : List (List ℕ)) →
-    IsSplitGiven S node x type runs ends (length names) →
-    IfOk (split_term S (length S.entries) L node x type runs ends names).term
-    (λ t. once (levels_from 0 (length names)) (mentions (length S.entries) t)
-    ≡ levels_from (length names)
-    (length (split_term S (length S.entries) L node x type runs ends names).names - length names))
 
 -- the term of a split node is over the node's context, and names entries and the names that are there then
 abbrev pub SplitScoped : Type 0
