@@ -47,7 +47,9 @@ pub use placing::{
 pub use raising::{raised, term_at};
 pub use replays::{deleted_standing, level_in, reflexivity, solved_standing};
 pub use runs::{after_run, after_step, copy_standing};
-pub use smallness::{congruences_made, equations_made, reflexivities_made};
+pub use smallness::{
+    congruences_made, equations_made, free_of, reflexivities_made, small_term, small_terms,
+};
 pub use solution_terms::{delete_term, remaining_goal, solve_left_term, solve_right_term};
 pub use standings::{
     applied_here, applied_to_first, applied_to_further, first_level, here, inside, placed_types,

@@ -11,11 +11,11 @@ use core_terms::{Items, MAX_HEIGHT, Stop, Tele, Term};
 use std::alloc::Global;
 use tele_eq::{Item, cong_whole, refl_list_whole, tele_equations_whole};
 
-/// How many variables may be free in a term that equations are made of.
+/// How many variables may be free in a small term.
 const MOST_VARIABLES: u64 = 2147483648;
 
-/// How many variables are free in a term.
-fn free_of(t: &Term) -> u64
+/// One more than the greatest variable that is free in a term, or 0.
+pub fn free_of(t: &Term) -> u64
     ensures is { result ≡ tree.free_of (tree_of t.now) }
     ensures bound { result ≤ 2 ^ 32 }
 {
@@ -33,7 +33,7 @@ fn free_of(t: &Term) -> u64
 }
 
 /// Deep where a term is too high, and Memory where its variables have too great numbers.
-fn small_term(t: &Term) -> Result<(), Stop>
+pub fn small_term(t: &Term) -> Result<(), Stop>
     ensures small { OnOk result (IsSmall (tree_of t.now)) }
     ensures low { OnOk result (is_low (tree_of t.now) ≡ true) }
     ensures deep { IfErr result (λ e. Unless (IsUnforeseen e) ((e ≡ Deep) × (is_low (tree_of t.now) ≡ false))) }
@@ -48,7 +48,7 @@ fn small_term(t: &Term) -> Result<(), Stop>
 }
 
 /// The same of a list of terms.
-fn small_terms(terms: &[Term]) -> Result<(), Stop>
+pub fn small_terms(terms: &[Term]) -> Result<(), Stop>
     ensures small { OnOk result (AreSmallTerms (tele_of terms.now)) }
     ensures low { OnOk result (are_low (tele_of terms.now) ≡ true) }
     ensures deep { IfErr result (λ e. Unless (IsUnforeseen e) ((e ≡ Deep) × (are_low (tele_of terms.now) ≡ false))) }
