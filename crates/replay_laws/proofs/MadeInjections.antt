@@ -30,7 +30,7 @@ use Rattle.run_terms.proofs.MadeTerms.{if-both}
 use Rattle.replay_laws.proofs.LowComparisons.{IsLowComparison, comparison_of}
 use Rattle.replay_laws.proofs.LowInstances.{low-spine}
 
--- ---- answers behind tests
+-- ---- answers after tests
 
 passed : {A : Type 0} (b : Bool) (r : Result A Stop) (x : A) → ◌≡◌ {A = Result A Stop} (cond b r (Err Deep)) (Ok x) → (b ≡ true) × (r ≡ Ok x)
 passed true r x e = (refl, e)

@@ -29,7 +29,7 @@ use Rattle.run_terms.specs.Made.{are_low_sides, congruences_made, equations_made
 use Rattle.run_terms.proofs.MadeTerms.{if-both, if-low, made-equations}
 use Rattle.replay_laws.specs.Laws.{AfterStepIsStep, AfterRunIsRun, AfterRunOnlyDeep}
 
--- an answer behind a test
+-- an answer after a test
 pub tested : {A : Type 0} (b : Bool) (r : Result A Stop) (x : A) → ◌≡◌ {A = Result A Stop} (cond b r (Err Deep)) (Ok x) → r ≡ Ok x
 tested true r x e = e
 tested false r x e = absurd (cc)
