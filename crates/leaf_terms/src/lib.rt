@@ -11,11 +11,11 @@ mod paths;
 mod plan;
 mod recursion;
 mod right_sides;
-mod smallness;
 
 pub use below_types::{below_type, copied_at, motive_at, parameters_at, scrutinee_at, terms_at};
 pub use entry_names::{helper_name, motive_name, step_name};
 pub use leaves::{Translation, leaf_term};
+pub use mappings::{in_old_order, mapping};
 pub use orders::{
     first_positions, order_of, ordered_telescope, ordered_term, recursive_order,
     remaining_positions,

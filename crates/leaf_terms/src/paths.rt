@@ -10,10 +10,10 @@ ghost use Rattle.case_below_gen.specs.Paths as paths;
 ghost use Rattle.leaf_terms.specs.CodeRightSides as spec;
 ghost use Rattle.leaf_terms.specs.PlaceMeanings.{descent_of};
 
-use crate::smallness::free_of;
 use case_below_gen::below_path;
 use core_sig::{Family, Signature};
 use core_terms::{Stop, Term};
+use run_terms::free_of;
 use std::alloc::Global;
 
 /// How many variables may be free in a term that a path is made of.

@@ -11,10 +11,10 @@ ghost use Rattle.leaf_terms.specs.RecursionMade.{recursion_at_made, recursion_ma
 ghost use Rattle.leaf_terms.specs.RecursionMeanings.{recursion_of};
 
 use crate::plan::Plan;
-use crate::smallness::small_terms;
 use core_sig::{Family, Signature};
 use core_terms::{Stop, Term};
 use kernel_reduce::family;
+use run_terms::small_terms;
 use std::alloc::Global;
 use structural_rec::{Admission, find_admission};
 
