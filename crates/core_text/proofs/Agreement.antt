@@ -1,4 +1,4 @@
--- Texts that agree are read alike: what is read depends on its own bytes and the one character behind it, and where reading
+-- Texts that agree are read alike: what is read depends on its own bytes and the one character after it, and where reading
 -- is wrong, it is so at the same place of every text that agrees before the place and has the same character or name there.
 use Rattle.std.proofs.Common.{◌≡◌, ◌⊎◌, inl, inr, ℕ, ◌<◌, ◌≤◌, Bool, true, false, List, [], ◌∷◌, ◌++◌, length, refl, sym, ap, ◌∙◌, subst, append_assoc, length-append, arith}
 use Rattle.std.specs.Prelude.{Ok, Err}
@@ -15,13 +15,13 @@ pub data Refused {A : Type 0} (f : List ℕ → Reading A) (z : List ℕ) : Type
   by_character : ((y : List ℕ) → Same z y → f y ≡ wrong y) → Refused f z
   by_name : 0 < run_len z → ((y : List ℕ) → SameName z y → f y ≡ wrong y) → Refused f z
 
--- What is read is read again behind the same bytes; where `ahead` says so, before the same character only.
+-- What is read is read again after the same bytes; where `ahead` says so, before the same character only.
 pub record Passed {A : Type 0} (ahead : Bool) (f : List ℕ → Reading A) (rest : List ℕ) (a : A) (r : List ℕ) : Type 0 where
   pub front : List ℕ
   pub is : rest ≡ front ++ r
   pub again : (y : List ℕ) → (ahead ≡ true → Same r y) → f (front ++ y) ≡ Ok (a, y)
 
--- behind the same bytes a refusal is one again
+-- after the same bytes a refusal is one again
 pub record Stopped {A : Type 0} (f : List ℕ → Reading A) (rest : List ℕ) (left : ℕ) : Type 0 where
   pub front : List ℕ
   pub back : List ℕ
@@ -96,9 +96,9 @@ told-within ahead f rest a r t = omega (arith, ap length t.is, length-append t.f
 pub stopped-within : {A : Type 0} (f : List ℕ → Reading A) (rest : List ℕ) (left : ℕ) → Stopped f rest left → left ≤ length rest
 stopped-within f rest left t = omega (arith, ap length t.is, length-append t.front t.back, t.size)
 
--- ---- one part behind another
+-- ---- one part after another
 
--- Where what stands behind passes over a character or nothing, the character before it is the same too.
+-- Where what stands after passes over a character or nothing, the character before it is the same too.
 pub same-ahead : (ahead : Bool) (r v s y : List ℕ) → r ≡ v ++ s → (first r < 128) ⊎ (length s ≡ length r) → (ahead ≡ false → length s < length r) → (ahead ≡ true → Same s y) → Same r (v ++ y)
 same-ahead true r [] s y is starts moves same = ap first_character is ∙ same refl
 same-ahead false r [] s y is starts moves same = let less = moves refl in absurd (omega (arith, ap length is))
@@ -165,7 +165,7 @@ told-then {A} {B} ahead g h rest first_part next =
     joins r (Err (Nested left)) starts moves = tt
     joins r (Err Memory) starts moves = tt
 
--- where the first part is told by its own bytes, whatever stands behind it
+-- where the first part is told by its own bytes, whatever stands after it
 pub told-next : {A B : Type 0} (ahead : Bool) (g : List ℕ → Reading A) (h : A → List ℕ → Reading B) (rest : List ℕ) → Told false g rest (g rest)
     → ((a : A) (r : List ℕ) → g rest ≡ Ok (a, r) → Told ahead (h a) r (h a r))
     → Told ahead (λ x. and_then (g x) h) rest (and_then (g rest) h)

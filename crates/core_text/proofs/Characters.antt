@@ -1,4 +1,4 @@
--- Characters and runs of texts that agree: a run depends on its own bytes and on the one character behind it.
+-- Characters and runs of texts that agree: a run depends on its own bytes and on the one character after it.
 use Rattle.std.proofs.Common.{◌≡◌, ℕ, zero, suc, ◌+◌, ◌<◌, ◌≤◌, Bool, true, false, List, [], ◌∷◌, ◌++◌, length, drop, take, refl, sym, ap, ap₂, ◌∙◌, subst, append_assoc, arith}
 use Rattle.std.specs.Prelude.{◌&&◌, nat_le, if◌then◌else◌}
 use Rattle.std.specs.Str.{continuation_len}
@@ -14,7 +14,7 @@ use Rattle.core_text.proofs.RunSteps.{run_more, run_end}
 abbrev pub Same : List ℕ → List ℕ → Type 0
 Same z y = first_character z ≡ first_character y
 
--- the same name, and the same character behind it
+-- the same name, and the same character after it
 abbrev pub SameName : List ℕ → List ℕ → Type 0
 SameName z y = first_name z ≡ first_name y
 
@@ -167,7 +167,7 @@ no-run-same z y same none = by (name_char_len z) refl
     by zero e = run_end y (sym (char-same z y same) ∙ e)
     by (suc n) e = let run = is-run z (omega arith) in absurd (omega (arith, run.more, none))
 
--- bytes behind a character leave it
+-- bytes after a character leave it
 pub char-front : (z y : List ℕ) → 0 < name_char_len z → first_character (first_character z ++ y) ≡ first_character z
 char-front [] y some = absurd (omega arith)
 char-front (b ∷ bytes) y some =
@@ -176,7 +176,7 @@ char-front (b ∷ bytes) y some =
     ap (λ r. first_character (r ++ y)) led
     ∙ (take_at (b ∷ take (continuation_len b) bytes) y (width b) (ap length (sym led) ∙ length-take-le (width b) (b ∷ bytes) char.within) ∙ sym led)
 
--- A run is over where it was over before, if the character behind it is the same.
+-- A run is over where it was over before, if the character after it is the same.
 run-again-by : (fuel : ℕ) (z y : List ℕ) → length z ≤ fuel → Same (drop (run_len z) z) y → run_len (take (run_len z) z ++ y) ≡ run_len z
 run-again-by zero [] y le same = run_end y (sym (char-same [] y same))
 run-again-by zero (b ∷ bytes) y le same = absurd (omega arith)

@@ -1,4 +1,4 @@
--- What holds of what is read and, where a byte is wrong, of the bytes before it: with more behind them they are a text that is meant.
+-- What holds of what is read and, where a byte is wrong, of the bytes before it: with more after them they are a text that is meant.
 use Rattle.std.proofs.Common.{◌≡◌, ℕ, suc, ◌+◌, ◌-◌, Bool, true, false, List, [], ◌∷◌, ◌++◌, length, drop, take, refl, sym, ap, ap₂, ◌∙◌, subst, append_assoc, append-nil, arith}
 use Rattle.std.specs.Prelude.{◌==◌, if◌then◌else◌, Ok, Err}
 use Rattle.std.proofs.lemmas.Bool.Decides.{nat_tests}
@@ -9,7 +9,7 @@ use Rattle.core_text.specs.declared.halt.Halt.TheVariants.{Memory, Nested, Wrong
 use Rattle.core_text.proofs.Outcomes.{Ensures}
 use Rattle.core_text.proofs.WordsRead.{word-is}
 
--- The bytes before the place, with more behind them, are a text with the property P: `left` bytes are left at the place.
+-- The bytes before the place, with more after them, are a text with the property P: `left` bytes are left at the place.
 pub record Begun (P : List ℕ → Type 0) (rest : List ℕ) (left : ℕ) : Type 0 where
   pub front : List ℕ
   pub back : List ℕ
@@ -27,7 +27,7 @@ Meets P Q rest (Err Memory) = Unit {0}
 
 -- ---- fronts of texts
 
--- with more behind it, the front is a text with the property P
+-- with more after it, the front is a text with the property P
 abbrev pub IsFront : (List ℕ → Type 0) → List ℕ → Type 0
 IsFront P front = (more : List ℕ) × P (front ++ more)
 
@@ -44,7 +44,7 @@ front-less P front more f = (more ++ f.0, subst P (append_assoc front more f.0) 
 
 -- ---- the bytes before a place
 
--- at the place, behind a front
+-- at the place, after a front
 pub begun-at : (Q : List ℕ → Type 0) (text rest whole : List ℕ) (left : ℕ) → whole ≡ text ++ rest → length rest ≡ left → IsFront Q text → Begun Q whole left
 begun-at Q text rest whole left at size f = record {
   front = text;
@@ -115,7 +115,7 @@ meets-ensures P Q V whole (Err (Wrong left)) so h = h
 meets-ensures P Q V whole (Err Memory) so h = tt
 meets-ensures P Q V whole (Err (Nested left)) so h = h
 
--- A part is read behind a text, and then more. Where the part is wrong, its text is one with the property U, and behind `text`
+-- A part is read after a text, and then more. Where the part is wrong, its text is one with the property U, and after `text`
 -- that is the front of one with the property V.
 pub meets-then : {A B : Type 0} (P : A → List ℕ → Type 0) (Q : B → List ℕ → Type 0) (U V : List ℕ → Type 0) (text rest whole : List ℕ) (m : Reading A) (next : A → List ℕ → Reading B) → whole ≡ text ++ rest → ((x : List ℕ) → U x → IsFront V (text ++ x)) → Meets P U rest m → ((a : A) (r : List ℕ) → P a r → Meets Q V whole (next a r)) → Meets Q V whole (and_then m next)
 meets-then P Q U V text rest whole (Ok p) next at over h k = k p.0 p.1 h
@@ -130,7 +130,7 @@ meets-on P Q V whole (Err (Wrong left)) next h k = h
 meets-on P Q V whole (Err Memory) next h k = tt
 meets-on P Q V whole (Err (Nested left)) next h k = h
 
--- A word stands behind a text, and then more is read.
+-- A word stands after a text, and then more is read.
 pub meets-word : {B : Type 0} (Q : B → List ℕ → Type 0) (V : List ℕ → Type 0) (text word rest whole : List ℕ) (next : List ℕ → Reading B) → whole ≡ text ++ rest → IsFront V (text ++ word) → ((r : List ℕ) → rest ≡ word ++ r → Meets Q V whole (next r)) → Meets Q V whole (after (behind word rest) next)
 meets-word Q V text word rest whole next at f k = by (shared rest word == length word) refl
   where
@@ -138,7 +138,7 @@ meets-word Q V text word rest whole next at f k = by (shared rest word == length
     by true e = k (drop (length word) rest) (word-is word rest e)
     by false e = begun-word V text word rest whole at f
 
--- A part is read behind a word that stands behind a text, and then more.
+-- A part is read after a word that stands after a text, and then more.
 pub meets-after : {A B : Type 0} (P : List ℕ → A → List ℕ → Type 0) (Q : B → List ℕ → Type 0) (U V : List ℕ → Type 0) (text word rest whole : List ℕ) (inner : List ℕ → Reading A) (next : A → List ℕ → Reading B) → whole ≡ text ++ rest → IsFront V (text ++ word) → ((x : List ℕ) → U x → IsFront V (text ++ (word ++ x))) → ((r : List ℕ) → Meets (P r) U r (inner r)) → ((a : A) (r s : List ℕ) → rest ≡ word ++ r → P r a s → Meets Q V whole (next a s)) → Meets Q V whole (and_then (after (behind word rest) inner) next)
 meets-after P Q U V text word rest whole inner next at f over reads k = by (shared rest word == length word) refl
   where

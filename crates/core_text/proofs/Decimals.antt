@@ -9,7 +9,7 @@ decimal_one out n small =
     let e : 48 + n % 10 ≡ 48 + n = omega arith in
     ap (λ k. out ++ k ∷ []) e ∙ ap (λ ds. out ++ ds) (sym (decimal_digit n small))
 
--- the last digit behind the others
+-- the last digit after the others
 pub decimal_more : (out mid : List ℕ) (n : ℕ) → 10 ≤ n → n < 2 ^ 64 → mid ≡ out ++ decimal (n / 10) → mid ++ (48 + n % 10) ∷ [] ≡ out ++ decimal n
 decimal_more out mid n large fits before =
     ap (λ m. m ++ (48 + n % 10) ∷ []) before

@@ -144,7 +144,7 @@ module _ (S : Signature) (distinct : AllPairs (λ x y. x ≢ y) (names S)) (plai
   }
   line-spelled (RawDefinition name type body) rest is short = definition-line name type body rest is short
 
--- ---- a line behind other bytes
+-- ---- a line after other bytes
 
 -- no note stands where a line does
 next-is : (S : Signature) (text : List ℕ) → Starts text → next_entry S text ≡ shown_by (length S.entries) text (line_at S [] text)

@@ -27,7 +27,7 @@ use Rattle.core_text.proofs.TermFronts.{IsText, over-sort}
 use Rattle.core_text.proofs.TermsGoOn.{term-meets}
 use Rattle.core_text.proofs.WordsRead.{first-is}
 
--- ---- what stands one behind the other
+-- ---- what stands one after the other
 
 -- one item more, or the end
 abbrev pub Item : {A : Type 0} → (List A → List ℕ) → List ℕ → (List A → Type 0) → List ℕ → List A → Option A → List ℕ → Type 0
@@ -57,7 +57,7 @@ raw_family name parameters type constructors = record { name = name; parameters 
 abbrev raw_constructor : List ℕ → Term → RawConstructor
 raw_constructor name type = record { name = name; type = type }
 
--- constructors behind those before them
+-- constructors after those before them
 types-more : (S : Signature) (n : ℕ) (found : List Term) (a : Term) → AreTypesOver S n found → IsTermOver S false (n + length found) a → AreTypesOver S n (found ++ a ∷ [])
 types-more S n [] a are is = (subst (λ k. IsTermOver S false k a) (none n) is, tt)
   where
@@ -156,7 +156,7 @@ module _ (S : Signature) (name : List ℕ) (new : IsNewName S [] [] name) where
     abbrev NextParameter : List Term → Option Term → List ℕ → Type 0
     NextParameter = Item head (codes " : ") Parameters whole
 
-    -- behind its parenthesis
+    -- after its parenthesis
     parameter-meets : (found : List Term) (rest : List ℕ) → Parameters found → length found < 2 ^ 33 → whole ≡ (head found ++ codes " (") ++ rest → Meets (NextParameter found) (Goes S) whole (parameter_at S [] (length found) rest)
     parameter-meets found rest are small at =
         meets-then (λ t r. (rest ≡ term_text T t ++ r) × IsTermOver S false (length found) t) (NextParameter found) (IsText T S false (length found)) (Goes S) (head found ++ codes " (") rest whole (whole_term S [] (length found) rest) _ at
@@ -197,7 +197,7 @@ module _ (S : Signature) (name : List ℕ) (new : IsNewName S [] [] name) where
     parameters-meet rest at =
         collected-meets head (codes " : ") Parameters (Goes S) whole (λ found r. next_parameter S [] (length found) r) head-front next-parameter-meets (length rest) [] rest tt at
 
-    -- ---- constructors, behind the parameters and the type
+    -- ---- constructors, after the parameters and the type
 
     module _ (parameters : List Term) (type : Term) (are : Parameters parameters) (over : IsTermOver S false (length parameters) type) (small : length parameters < 2 ^ 33) where
       abbrev p : ℕ
@@ -240,7 +240,7 @@ module _ (S : Signature) (name : List ℕ) (new : IsNewName S [] [] name) where
       own-meets rest =
           term-meets T S true (symbol S name) (symbol-written T S name has (λ some. own)) (own-symbol-over S name) nested p rest (omega (arith, nested-is))
 
-      -- behind what separates it from the others
+      -- after what separates it from the others
       constructor-meets : (found : List RawConstructor) (rest : List ℕ) → Constructors found → whole ≡ (body found ++ separator found) ++ rest → Meets (NextConstructor found) (Goes S) whole (constructor_at S name p found rest)
       constructor-meets found rest good at =
           let front = body found ++ separator found in
@@ -303,7 +303,7 @@ module _ (S : Signature) (name : List ℕ) (new : IsNewName S [] [] name) where
           (λ cs end is. ended-meets S whole (body cs ++ codes " }") (RawFamilyOf (raw_family name parameters type cs)) end is.1
           (append_assoc (body cs) (codes " }") (codes "\n") ∙ body-text cs (codes " }\n")) (family-over cs is.0))
 
-    -- ---- behind the name
+    -- ---- after the name
 
     name-behind : (rest : List ℕ) → whole ≡ head [] ++ rest → Meets (Read S whole) (Goes S) whole (and_then (parameters_at S [] rest) (λ parameters r2. and_then (whole_term S [] (length parameters) r2) (λ type r3. after (behind (codes " {") r3) (family_behind S name parameters type))))
     name-behind rest at =

@@ -13,7 +13,7 @@ use Rattle.core_text.specs.Lines.{is_in_line, AreInLine, HasNamesInLine, LinesAr
 use Rattle.core_text.specs.SymbolNames.{name_at}
 use Rattle.core_text.specs.TermText.{spelled, term_text}
 
--- texts without line feeds, one behind the other
+-- texts without line feeds, one after the other
 pub both : (xs ys : List ℕ) → is_in_line xs ≡ true → is_in_line ys ≡ true → is_in_line (xs ++ ys) ≡ true
 both [] ys p q = q
 both (x ∷ xs) ys p q =
@@ -47,7 +47,7 @@ enclosed-in : (b : Bool) (text : List ℕ) → is_in_line text ≡ true → is_i
 enclosed-in true text p = p
 enclosed-in false text p = both text (codes ")") p refl
 
--- a text in an opening and behind it a closing one
+-- a text in an opening and after it a closing one
 pub spelled-in : (S : Signature) → HasNamesInLine S → (b : Bool) (t : Term) → is_in_line (spelled S b t) ≡ true
 spelled-in S names b (Var n) = decimal-in n
 spelled-in S names b (Sort i) = decimal-in i

@@ -32,7 +32,7 @@ abbrev letters : ℕ → List ℕ
 letters zero = []
 letters (suc k) = 120 ∷ letters k
 
--- behind its `_`
+-- after its `_`
 abbrev pub fresh-tail : ℕ → List ℕ
 fresh-tail k = codes "x!x" ++ letters k
 

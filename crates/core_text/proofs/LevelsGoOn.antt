@@ -108,14 +108,14 @@ eliminator-or-none S = by (search-before S (length S.entries))
     by (inl some) = inl some
     by (inr none) = inr (λ g m family. none g m (found-within S.entries g (FamilyOf family.0) family.1) family)
 
--- ---- a level that is read behind a text
+-- ---- a level that is read after a text
 
 module _ (levels : List Bool) (V : List ℕ → Type 0) (text whole : List ℕ) (fronts : (v : ℕ) → is_left levels v ≡ true → IsFront V (text ++ decimal v)) where
-  -- the number and what stands behind it
+  -- the number and what stands after it
   abbrev pub Levelled : List ℕ → ℕ → List ℕ → Type 0
   Levelled rest v r = (rest ≡ decimal v ++ r) × (is_left levels v ≡ true)
 
-  -- behind the first digit
+  -- after the first digit
   digit-front : (b : ℕ) → is_digit b ≡ true → begins_level levels (b - 48) ≡ true → IsFront V (text ++ b ∷ [])
   digit-front b digit begun = by (is_left levels (b - 48)) refl begun
     where

@@ -23,7 +23,7 @@ use Rattle.core_text.proofs.TermsAgree.{alike-read, begins-front}
 use Rattle.core_text.proofs.WordsAgree.{told-shift, told-first, told-byte, alike-word, part-starts, word-starts, word-moves, alike-here}
 use Rattle.core_text.proofs.WordsRead.{word-is}
 
--- ---- what stands one behind the other
+-- ---- what stands one after the other
 
 module _ {A : Type 0} (next : List A → List ℕ → Reading (Option A)) (none : (found : List A) → next found [] ≡ wrong []) (moves : (found : List A) (rest : List ℕ) → MovesAt rest (next found rest)) where
   -- each number of bytes that is not less than there are leaves room for all
@@ -59,7 +59,7 @@ module _ {A : Type 0} (next : List A → List ℕ → Reading (Option A)) (none 
   moved-from : (found : List A) (rest : List ℕ) (o : Option A) (r : List ℕ) → next found rest ≡ Ok (o, r) → length r < length rest
   moved-from found rest o r e = subst (MovesAt rest) e (moves found rest)
 
-  -- where what stands behind an item is told
+  -- where what stands after an item is told
   whole-step : ((found : List A) → Alike false (next found)) → (found : List A) (rest : List ℕ) → ((others : List A) (r : List ℕ) → length r < length rest → Told false (all_of others) r (all_of others r)) → Told false (all_of found) rest (all_of found rest)
   whole-step alike found rest shorter =
       subst (Told false (all_of found) rest) (all-step found rest)
@@ -108,7 +108,7 @@ module _ (S : Signature) (own : List ℕ) where
   alike-whole : (n : ℕ) → Alike true (whole_term S own n)
   alike-whole n = alike-read (symbol S own) nested n
 
-  -- a whole term behind a word, and what stands behind it
+  -- a whole term after a word, and what stands after it
   alike-part : {B : Type 0} (word : List ℕ) (n : ℕ) (h : Term → List ℕ → Reading B) → ((t : Term) → Alike true (h t)) → ((t : Term) (r : List ℕ) → StartsAt r (h t r)) → Alike true (λ r. and_then (term_after (whole_term S own) word n r) h)
   alike-part word n h next starts =
       alike-then true (term_after (whole_term S own) word n) h (alike-word true word (whole_term S own n) (alike-whole n)) next starts (λ t r no. absurd (cc))
@@ -145,7 +145,7 @@ module _ (S : Signature) (own : List ℕ) where
   no-parameter-moves : (r : List ℕ) → MovesAt r (no_parameter r)
   no-parameter-moves r = word-moves false 58 (32 ∷ []) (λ end. Ok (None, end)) r (λ end. (alike-here {A = Option Term} false None).told end)
 
-  -- behind the space
+  -- after the space
   abbrev parameter_or_end : ℕ → List ℕ → Reading (Option Term)
   parameter_or_end n r = if first r == 40 then parameter_at S own n (drop 1 r) else no_parameter r
 
@@ -185,12 +185,12 @@ module _ (S : Signature) (own : List ℕ) where
         (λ name. alike-part (codes " : ") p (shown_as name) (λ type. alike-here true (Some (record { name = name; type = type }))) (λ type r. inr refl))
         (λ name r. after-starts 32 (58 ∷ 32 ∷ []) p (shown_as name) r (omega arith)) (λ name r no. absurd (cc))
 
-    -- behind those found
+    -- after those found
     alike-separated : (before found : List RawConstructor) → Alike true (λ r. after (separated before r) (constructor_at S own p found))
     alike-separated [] found = alike-constructor found
     alike-separated (c ∷ before) found = alike-word true (codes "; ") (constructor_at S own p found) (alike-constructor found)
 
-    -- behind the space
+    -- after the space
     abbrev constructor_or_end : List RawConstructor → List ℕ → Reading (Option RawConstructor)
     constructor_or_end found r = if first r == 125 then Ok (None, drop 1 r) else after (separated found r) (constructor_at S own p found)
 
@@ -224,7 +224,7 @@ alike-family-behind S name parameters type =
     entry constructors = RawFamilyOf (record { name = name; parameters = parameters; type = type; constructors = constructors })
 
 module _ (S : Signature) (own : List ℕ) where
-  -- behind the name and the parameters
+  -- after the name and the parameters
   abbrev type_and_more : List ℕ → List Term → List ℕ → Reading RawEntry
   type_and_more name parameters r2 =
       and_then (whole_term S own (length parameters) r2) (λ type r3. after (behind (codes " {") r3) (family_behind S name parameters type))
@@ -268,7 +268,7 @@ two s = by (s == 2) refl
     by true e = grind (arith, nat_tests)
     by false e = grind (arith, nat_tests)
 
--- behind the letters that tell a definition
+-- after the letters that tell a definition
 definition-word : (y : List ℕ) → behind (codes "def ") (100 ∷ 101 ∷ y) ≡ behind (codes "f ") y
 definition-word y =
     let s = shared y (codes "f ") in

@@ -92,7 +92,7 @@ Parameters T found r = next_parameter T [] (length found) r
 pub parameter-text : (S : Signature) (a : Term) (tele : Telescope) (rest : List ℕ) → parameters_text S (a ∷ tele) ++ rest ≡ 32 ∷ 40 ∷ (term_text S a ++ 41 ∷ (parameters_text S tele ++ rest))
 parameter-text S a tele rest = simp append_assoc
 
--- the next one, behind its space
+-- the next one, after its space
 pub next-space : (T : Signature) (n : ℕ) (r : List ℕ) → next_parameter T [] n (32 ∷ r) ≡ (if first r == 40 then parameter_at T [] n (drop 1 r) else no_parameter r)
 next-space T n r = ap (λ m. after m (λ r. if first r == 40 then parameter_at T [] n (drop 1 r) else no_parameter r)) (behind-word (codes " ") r)
 
@@ -122,7 +122,7 @@ parameters-long S (a ∷ tele) =
 
 -- ---- constructors
 
--- what stands before a constructor behind those found
+-- what stands before a constructor after those found
 abbrev pub separator : List RawConstructor → List ℕ
 separator [] = codes " "
 separator (c ∷ found) = codes " ; "
@@ -136,7 +136,7 @@ constructor-back T S own p found name type rest may is stops =
     (may.reads (codes " : " ++ (term_text S type ++ rest)) (stops-space _))
     ∙ ap (λ m. and_then m (λ type end. Ok (Some (raw_of_parts name type), end))) (behind-back T S own (codes " : ") p type rest is stops)
 
--- the next constructor behind what separates it
+-- the next constructor after what separates it
 next-constructor-back : (T S : Signature) (own : List ℕ) (p : ℕ) (found : List RawConstructor) (name : List ℕ) (type : Term) (rest : List ℕ) → MayDeclare T own found name → IsReadBack T S own p type → Stops rest → next_constructor T own p found (separator found ++ (name ++ (codes " : " ++ (term_text S type ++ rest)))) ≡ Ok (Some (raw_of_parts name type), rest)
 next-constructor-back T S own p [] name type rest may is stops =
     let text = name ++ (codes " : " ++ (term_text S type ++ rest)) in
@@ -188,7 +188,7 @@ constructors-long S n f before (c ∷ cs) =
 family-line-text : (S : Signature) (n : ℕ) (f : Family) (rest : List ℕ) → (family_text S n f ++ codes "\n") ++ rest ≡ codes "data " ++ (f.name ++ (parameters_text S f.parameters ++ (codes " : " ++ (term_text S (type_shown f) ++ (codes " {" ++ (constructors_text S n f (codes " ") f.constructors ++ (codes " }" ++ 10 ∷ rest)))))))
 family-line-text S n f rest = simp append_assoc
 
--- a parameter or the colon stands behind the name
+-- a parameter or the colon stands after the name
 pub stops-name : (S : Signature) (tele : Telescope) (rest : List ℕ) → Stops (parameters_text S tele ++ (codes " : " ++ rest))
 stops-name S [] rest = stops-space _
 stops-name S (a ∷ tele) rest = subst Stops (sym (parameter-text S a tele (codes " : " ++ rest))) (stops-space _)

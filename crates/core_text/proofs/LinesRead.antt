@@ -85,7 +85,7 @@ module _ (T S : Signature) (has : Has T S) where
   no-own : nat_lt 0 (length {A = ℕ} []) ≡ true → name_at T (length S.entries) ≡ []
   no-own e = absurd (false≢true e)
 
-  -- a term behind a word
+  -- a term after a word
   after-writes : {B : Type 0} (Q : B → List ℕ → Type 0) (own word : List ℕ) (n : ℕ) (rest : List ℕ) (next : Term → List ℕ → Reading B) → (nat_lt 0 (length own) ≡ true → name_at T (length S.entries) ≡ own) → n < 2 ^ 33 → ((t : Term) (r : List ℕ) → rest ≡ word ++ (term_text T t ++ r) → Ensures Q (next t r)) → Ensures Q (and_then (term_after (whole_term S own) word n rest) next)
   after-writes Q own word n rest next is few k =
       ensures-then (λ t r. rest ≡ word ++ (term_text T t ++ r)) Q (term_after (whole_term S own) word n rest) next
@@ -137,7 +137,7 @@ module _ (T S : Signature) (has : Has T S) where
       (λ m r3 fm. ended-writes (codes "axiomk " ++ rest) (codes "axiomk " ++ (decimal i ++ (codes " " ++ decimal m))) (RawAxiomK i m) r3
       (ap (λ s. codes "axiomk " ++ s) (fi ∙ ap (λ s. decimal i ++ s) (fs ∙ ap (λ s. codes " " ++ s) fm)) ∙ simp append_assoc) (simp append_assoc))))
 
--- ---- what stands one behind the other
+-- ---- what stands one after the other
 
 -- the bytes of one item more, or of the end
 abbrev Item : {A : Type 0} → (List A → A → List ℕ) → List ℕ → List A → List ℕ → Option A → List ℕ → Type 0
@@ -148,7 +148,7 @@ abbrev listed : {A : Type 0} → (List A → A → List ℕ) → List A → List
 listed text found [] = []
 listed text found (a ∷ new) = text found a ++ listed text (found ++ a ∷ []) new
 
--- the items behind those found
+-- the items after those found
 abbrev Listed : {A : Type 0} → (List A → A → List ℕ) → List ℕ → ℕ → List A → List ℕ → List A → List ℕ → Type 0
 Listed {A} text end most found rest xs r = (new : List A) × (xs ≡ found ++ new) × (rest ≡ listed text found new ++ (end ++ r)) × (length xs ≤ most)
 
@@ -202,7 +202,7 @@ module _ (T S : Signature) (has : Has T S) where
       ∙ simp append_assoc
 
   module _ (own : List ℕ) (p : ℕ) (is_own : nat_lt 0 (length own) ≡ true → name_at T (length S.entries) ≡ own) (few : p < 2 ^ 33) where
-    -- a constructor behind what separates it from the others
+    -- a constructor after what separates it from the others
     constructor-writes : (found : List RawConstructor) (rest front r : List ℕ) → front ≡ separator found → rest ≡ front ++ r → Ensures (Item constructor_text (codes " }") found rest) (constructor_at S own p found r)
     constructor-writes found rest front r here is =
         ensures-then (λ name s. r ≡ name ++ s) (Item constructor_text (codes " }") found rest) (new_name S own found r) _ (name-reads S own found r)
@@ -284,7 +284,7 @@ module _ (T S : Signature) (has : Has T S) where
 
 -- ---- notes
 
--- behind the first byte of a note
+-- after the first byte of a note
 pub record Inside (rest r : List ℕ) : Type 0 where
   pub text : List ℕ
   pub others : List ℕ
@@ -344,7 +344,7 @@ own-is S (EliminatorAt g m) = tt
 own-is S (AxiomKAt i m) = tt
 own-is S (Definition name type body) = tt
 
--- the bytes of the line and those behind it
+-- the bytes of the line and those after it
 abbrev IsLine : Signature → Entry → List ℕ → Option RawEntry → List ℕ → Type 0
 IsLine S e rest o r = o ≡ Some (entry_shown (length S.entries) e) → rest ≡ entry_line (pushed S e) (length S.entries) e ++ r
 
@@ -371,7 +371,7 @@ entry-read : (S : Signature) (e : Entry) (rest : List ℕ) → length rest < 2 ^
 entry-read S e [] short = λ is. absurd (cc)
 entry-read S e (b ∷ rest) short = shown-read S e (length S.entries) (b ∷ rest) (line_at S [] (b ∷ rest)) (line-read S e (b ∷ rest) short)
 
--- behind so many bytes from the end stands the end
+-- after so many bytes from the end stands the end
 drop-end : (text front r : List ℕ) → text ≡ front ++ r → drop (length text - length r) text ≡ r
 drop-end text front r is =
     let place : length text - length r ≡ length front = omega (arith, ap length is, length-append front r) in

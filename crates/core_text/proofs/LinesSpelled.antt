@@ -29,7 +29,7 @@ ReadsWhole S W own flag =
 -- ---- definitions and parameters
 
 module _ (S W : Signature) (reads : ReadsWhole S W [] false) where
-  -- a term behind a word
+  -- a term after a word
   behind-spelled : (word : List ℕ) (n : ℕ) (t : Term) (rest : List ℕ) → IsTermOver S false n t → n < 2 ^ 32 → length (term_text W t) < 2 ^ 32 → Stops rest → OrNested (term_after (whole_term S []) word n (word ++ (term_text W t ++ rest))) t rest
   behind-spelled word n t rest is few short stops =
       or-same (term_after (whole_term S []) word n (word ++ (term_text W t ++ rest))) (whole_term S [] n (term_text W t ++ rest)) (ap (λ m. after m (whole_term S [] n)) (behind-word word (term_text W t ++ rest)))
@@ -99,7 +99,7 @@ module _ (S W : Signature) (own : List ℕ) (p : ℕ) (few : p < 2 ^ 32) (reads 
       (reads p type rest is few short stops))
       (is_read refl))
 
-  -- the next constructor behind what separates it
+  -- the next constructor after what separates it
   next-constructor-spelled : (found : List RawConstructor) (name : List ℕ) (type : Term) (rest : List ℕ) → MayDeclare S own found name → IsTermOver S true p type → length (term_text W type) < 2 ^ 32 → Stops rest → OrNested (next_constructor S own p found (separator found ++ (name ++ (codes " : " ++ (term_text W type ++ rest))))) (Some (raw_of_parts name type)) rest
   next-constructor-spelled [] name type rest may is short stops =
       let text = name ++ (codes " : " ++ (term_text W type ++ rest)) in

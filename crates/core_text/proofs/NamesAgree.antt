@@ -9,7 +9,7 @@ use Rattle.core_text.proofs.Agreement.{Refused, by_character, by_name, Told, Ali
 use Rattle.core_text.proofs.RunChars.{run}
 use Rattle.core_text.proofs.Characters.{Same, run-within, run-again, no-run-same, same-named}
 
--- behind the bytes v, g reads as f does where the character is the same
+-- after the bytes v, g reads as f does where the character is the same
 pub told-behind : {A : Type 0} (f g : List ℕ → Reading A) (v r : List ℕ) (m : Reading A) → ((y : List ℕ) → Same r y → g (v ++ y) ≡ f y) → StartsAt r m → Told true f r m → Told true g (v ++ r) m
 told-behind f g v r (Ok p) same starts t = record {
   front = v ++ t.front;
@@ -31,7 +31,7 @@ told-behind f g v r (Err (Wrong left)) same starts t = record {
 told-behind f g v r (Err (Nested left)) same starts t = tt
 told-behind f g v r (Err Memory) same starts t = tt
 
--- what stands behind the run at the front
+-- what stands after the run at the front
 abbrev pub behind_run : List ℕ → List ℕ
 behind_run rest = drop (run_len rest) rest
 
@@ -61,7 +61,7 @@ refused-named f z k = by (run_len z) refl
         let some : 0 < run_len z = omega arith in
         by_name some (λ y same. k y (same-named z y some same).name)
 
--- Of a name, N tells how reading goes on behind it, or that it is wrong.
+-- Of a name, N tells how reading goes on after it, or that it is wrong.
 pub data NameTells {A : Type 0} (N : List ℕ → List ℕ → List ℕ → Reading A) (name : List ℕ) : Type 0 where
   goes_on : (f : List ℕ → Reading A) → Alike true f → ((r : List ℕ) → StartsAt r (f r)) → ((r x : List ℕ) → N name r x ≡ f r) → NameTells N name
   is_wrong : ((r x : List ℕ) → N name r x ≡ wrong x) → NameTells N name

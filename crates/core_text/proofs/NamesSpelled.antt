@@ -102,7 +102,7 @@ some-constructor (d ∷ cs) (suc c) lt = some-constructor cs c (omega arith)
 lt-true : (a b : ℕ) → a < b → nat_lt a b ≡ true
 lt-true a b lt = grind (arith, nat_tests)
 
--- the name of an eliminator ends in its level, behind a word
+-- the name of an eliminator ends in its level, after a word
 ended-elim : (family : List ℕ) (m : ℕ) → eliminator_name family m ≡ ((family ++ codes "!elim") ++ 46 ∷ []) ++ decimal m
 ended-elim family m = simp append_assoc
 

@@ -100,7 +100,7 @@ line-alone : (ds : List ℕ) → other_piece (95 ∷ ds) ≡ Found Mark 1
 line-alone [] = refl
 line-alone (d ∷ ds) = refl
 
--- `_` with nothing behind it that goes on with a name
+-- `_` with nothing after it that goes on with a name
 line-shape : (ds : List ℕ) → goes ds ≡ false → shape_by (piece (95 ∷ ds)) (95 ∷ ds) ≡ Underscore
 line-shape ds e = ap (λ p. shape_by p (95 ∷ ds)) (line-piece ds 0 (line-len ds false e) ∙ line-alone ds)
 
@@ -191,7 +191,7 @@ goes-same z y same = by (name_char_len z) refl
 -- ---- names that are declared
 
 module _ (S : Signature) (own : List ℕ) (found : List RawConstructor) where
-  -- by the shape, where the name and what stands behind it are told apart
+  -- by the shape, where the name and what stands after it are told apart
   abbrev on_shape : Shape → Bool → List ℕ → List ℕ → List ℕ → Reading (List ℕ)
   on_shape Declarable allowed name r x = if allowed then Ok (name, r) else wrong x
   on_shape Underscore allowed name r x = wrong (drop 1 x)
@@ -218,7 +218,7 @@ module _ (S : Signature) (own : List ℕ) (found : List RawConstructor) where
       by true f = goes_on (λ r. Ok (name, r)) (alike-here true name) (λ r. inr refl) (λ r x. ap₂ (λ s b. on_shape s b name r x) e f)
       by false f = is_wrong (λ r x. ap₂ (λ s b. on_shape s b name r x) e f)
 
-  -- the place is behind the `_`
+  -- the place is after the `_`
   line-told : (rest : List ℕ) → shape_of (run rest) ≡ Underscore → Told true (new_name S own found) rest (new_name S own found rest)
   line-told rest e =
       let name = run rest in

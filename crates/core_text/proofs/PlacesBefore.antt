@@ -44,7 +44,7 @@ data-front S =
     line-front S (codes "data ") _ (RawFamilyOf (record { name = fresh k; parameters = []; type = Sort 0; constructors = [] })) refl
     (record { name = fresh-name S [] []; parameters = tt; type = over-sort S false 0; constructors = tt })
 
--- behind a word, from what is read there
+-- after a word, from what is read there
 word-meets : (S : Signature) (word rest : List ℕ) (next : List ℕ → Reading RawEntry) → IsFront (Goes S) word → ((r : List ℕ) → length r ≤ length rest → Meets (Read S (word ++ r)) (Goes S) (word ++ r) (next r)) → Meets (Read S rest) (Goes S) rest (after (behind word rest) next)
 word-meets S word rest next f k =
     meets-word (Read S rest) (Goes S) [] word rest rest next refl f
@@ -66,7 +66,7 @@ line-meets S rest short =
 record Unfinished (rest : List ℕ) : Type 0 where
   are : AreNotes (rest ++ codes "\n")
 
--- the same behind the `#` of such a line
+-- the same after the `#` of such a line
 record UnfinishedInside (rest : List ℕ) : Type 0 where
   text : List ℕ
   others : List ℕ
@@ -126,7 +126,7 @@ goes-with S notes front more are (inr (spent.of_eliminators none is)) =
 goes-with S notes front more are (inr (spent.of_axiom_k has_k none is)) =
     inr (of_axiom_k has_k none (record { more = more; notes = notes; are_notes = are; line = append_assoc notes front more ∙ ap (λ s. notes ++ s) is }))
 
--- a line behind bytes that are notes, or are so with a line feed
+-- a line after bytes that are notes, or are so with a line feed
 goes-behind : (S : Signature) (bytes more : List ℕ) → AreNotes (bytes ++ more) → GoesOn S bytes
 goes-behind S bytes more are =
     let some = some-line S in
@@ -161,7 +161,7 @@ deep-place p q (inr e) = place-is e
     place-is e = cc
 
 module _ (S : Signature) (text : List ℕ) (from : ℕ) (le : from ≤ length text) where
-  -- where the text behind its first bytes is a front and what stands at the place
+  -- where the text after its first bytes is a front and what stands at the place
   at-place : (front back : List ℕ) (p : ℕ) → drop from text ≡ front ++ back → length text - length back ≡ p → GoesOn S front ⊎ NoneLeft S front → IsReached S text from p
   at-place front back p is place goes = record {
     behind = omega (arith, sizes, place, size);

@@ -32,7 +32,7 @@ module _ (S : Signature) (distinct : AllPairs (λ x y. x ≢ y) (names S)) (plai
   no-outcome raw start to p r (inr (inr none)) is (inl inside) = let at = place-is (sym none.1 ∙ is) in absurd (omega (arith, at, inside))
   no-outcome raw start to p r (inr (inr none)) is (inr shows) = absurd (false≢true (sym none.0 ∙ shows))
 
-  -- a text with lines of notes and a line over S behind its first bytes
+  -- a text with lines of notes and a line over S after its first bytes
   no-refusal : (before bytes : List ℕ) (p : ℕ) (g : GoesOn S bytes) → length (raw_line S g.entry) < 2 ^ 32 → (length before + length g.notes < p) ⊎ (shows_entry (length S.entries) g.entry ≡ true) → entry_from S (before ++ (bytes ++ g.more)) (length before) ≡ Err (NotCoreText p) → ⊥
   no-refusal before bytes p g short where_it_is is =
       let line = raw_line S g.entry in

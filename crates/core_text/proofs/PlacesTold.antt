@@ -64,7 +64,7 @@ one-keeps : (w z y : List ℕ) → Same z y → take 1 (w ++ z) ≡ take 1 (w ++
 one-keeps [] z y same = one-same z y same
 one-keeps (b ∷ w) z y same = refl
 
--- behind the notes a line is refused
+-- after the notes a line is refused
 entry-wrong : (S : Signature) (b : ℕ) (r x y : List ℕ) → take 1 (b ∷ r) ≡ take 1 x → line_at S [] x ≡ wrong y → entry_at S x ≡ wrong y
 entry-wrong S b r [] y same e = absurd (cc)
 entry-wrong S b r (c ∷ x) y same e = ap (shown_by (length S.entries) (c ∷ x)) e
@@ -117,7 +117,7 @@ entry-refused S rest left e = by (notes-at false rest)
 
 -- ---- offsets
 
--- the text before a place and behind it
+-- the text before a place and after it
 record Cut (S : Signature) (text : List ℕ) (from p : ℕ) (front back : List ℕ) : Type 0 where
   before : take p text ≡ take from text ++ front
   behind : drop p text ≡ back

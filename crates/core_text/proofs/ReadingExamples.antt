@@ -1,4 +1,4 @@
--- Reading terms, computed: what is read with the bytes behind it, or the number of bytes from the place on where it stops.
+-- Reading terms, computed: what is read with the bytes after it, or the number of bytes from the place on where it stops.
 use Rattle.std.proofs.Common.{◌≡◌, ℕ, true, false, Bool, List, [], ◌∷◌, refl}
 use Rattle.std.specs.Prelude.{codes, Option, None, Ok, Err}
 use Rattle.theory.specs.Terms.{Term, Var, Pi, Lam, App, Let}

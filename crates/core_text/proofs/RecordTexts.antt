@@ -72,7 +72,7 @@ at_parameters-is n at parameters t e =
     ∙ (ap₂ (λ inner targets. pure.recursive_type Var (weaken_by at (pure.family_head n f)) inner targets) (nothing kind.0 kind.2) (nothing kind.1 kind.3.target_count)
     ∙ head-is n f at)
 
--- ---- products and what is behind them
+-- ---- products and what is after them
 
 pub end_level-is : (t : Term) (level : ℕ) → end_level t ≡ Some level → end_of t ≡ Sort level
 end_level-is (Pi a b) level e = end_level-is b level e

@@ -18,7 +18,7 @@ pub none-chars : are_name_chars [] ≡ true
 unfolding is_utf8 chars
 none-chars = refl
 
--- a run that begins with a character is the character and the run behind it
+-- a run that begins with a character is the character and the run after it
 pub run-parts : (z : List ℕ) → 0 < name_char_len z → run z ≡ first_character z ++ run (drop (width (first z)) z)
 run-parts z some =
     let more = is-run z some in

@@ -25,7 +25,7 @@ pub term_named : (look : List ℕ → Option Term) (room n : ℕ) (rest : List �
 term_named look zero n rest some paren percent = absurd (omega arith)
 term_named look (suc k) n rest some paren percent = rw (paren, percent) refl
 
--- one argument, and what is behind it
+-- one argument, and what is after it
 pub arguments_step : (inner : ℕ → List ℕ → Reading Term) (k : ℕ) (f : Term) (n : ℕ) (rest : List ℕ) → 0 < k → and_then (argument_of inner f n rest) (behind_argument inner (λ t end. arguments_from inner (k - 1) t n end)) ≡ arguments_from inner k f n rest
 arguments_step inner zero f n rest some = absurd (omega arith)
 arguments_step inner (suc k) f n rest some =
@@ -47,7 +47,7 @@ pub arguments_none : (inner : ℕ → List ℕ → Reading Term) (k : ℕ) (f : 
 arguments_none inner zero f n rest none = refl
 arguments_none inner (suc k) f n rest none = absurd (omega (arith, none))
 
--- what stands behind the space that is behind the first term in parentheses
+-- what stands after the space that is after the first term in parentheses
 behind_space : (inner : ℕ → List ℕ → Reading Term) (a : Term) (n : ℕ) (rest r : List ℕ) → Ok r ≡ behind (codes " ") rest → (if first r == 45 then product_from inner a n r else spine_from inner a n r) ≡ behind_first inner a n rest
 behind_space inner a n rest r is =
     ap (λ m. after m (λ r. if first r == 45 then product_from inner a n r else spine_from inner a n r)) is

@@ -37,7 +37,7 @@ variable-told (suc n) rest e =
     ((alike-as Var (read_index (suc n)) (alike-index (suc n))).told (drop 1 rest)))
 
 module _ (look : List ℕ → Option Term) where
-  -- how reading goes on behind a name
+  -- how reading goes on after a name
   abbrev on_name : List ℕ → List ℕ → List ℕ → Reading Term
   on_name name r start = if bytes_eq name (codes "Type") then sort_at r else known (look name) start r
 
@@ -83,7 +83,7 @@ no-l : (y : List ℕ) → (first y == 108) ≡ false → begins (codes "let ") y
 no-l [] e = refl
 no-l (c ∷ y) e = ap (λ t. (if t then 1 + shared y (101 ∷ 116 ∷ 32 ∷ []) else 0) == 4) e
 
--- the same name with the same character behind it is the same word
+-- the same name with the same character after it is the same word
 let-same : (z y : List ℕ) → 0 < run_len z → SameName z y → begins (codes "let ") y ≡ true → begins (codes "let ") z ≡ true
 let-same z y some same e =
     let is : y ≡ codes "let " ++ drop 4 y = word-is (codes "let ") y e in
@@ -104,7 +104,7 @@ shared-nothing [] (c ∷ r) = refl
 shared-nothing (b ∷ y) [] = refl
 shared-nothing (b ∷ y) (c ∷ r) = refl
 
--- bytes behind as many as a word has do not count
+-- bytes after as many as a word has do not count
 shared-front : (word v y r : List ℕ) → length word ≤ length v → shared (v ++ y) word ≡ shared (v ++ r) word
 shared-front [] [] y r le = shared-nothing y r
 shared-front [] (c ∷ v) y r le = refl
@@ -116,7 +116,7 @@ begins-front word v y r le = ap (λ k. k == length word) (shared-front word v y 
 
 -- ---- compound terms
 
--- behind `let ` in the place of a term the name is read, or refused at its first byte
+-- after `let ` in the place of a term the name is read, or refused at its first byte
 abbrev LetAt : List ℕ → Reading Term → Type 0
 LetAt x (Ok p) = p.1 ≡ 32 ∷ x
 LetAt x (Err (Wrong left)) = left ≡ 4 + length x
@@ -131,7 +131,7 @@ LetThen x (Err (Nested left)) = Unit {0}
 LetThen x (Err Memory) = Unit {0}
 
 module _ (inner : ℕ → List ℕ → Reading Term) (alike : (n : ℕ) → Alike true (inner n)) (let_in : (n : ℕ) (x : List ℕ) → LetAt x (inner n (108 ∷ 101 ∷ 116 ∷ 32 ∷ x))) where
-  -- a term behind a word, and what stands behind it
+  -- a term after a word, and what stands after it
   alike-part : (word : List ℕ) (n : ℕ) (h : Term → List ℕ → Reading Term) → ((b : Term) → Alike true (h b)) → ((b : Term) (r : List ℕ) → StartsAt r (h b r)) → Alike true (λ r. and_then (term_after inner word n r) h)
   alike-part word n h next starts = alike-then true (term_after inner word n) h (alike-word true word (inner n) (alike n)) next starts (λ b r no. absurd (cc))
 
@@ -175,7 +175,7 @@ module _ (inner : ℕ → List ℕ → Reading Term) (alike : (n : ℕ) → Alik
   alike-spine : (f : Term) (n : ℕ) → Alike true (spine_from inner f n)
   alike-spine f n = alike-if true (is_application f) (λ r. wrong r) (λ r. arguments_from inner most f n r) (alike-wrong true) (alike-arguments most f n)
 
-  -- behind the space that is behind the first term
+  -- after the space that is after the first term
   abbrev arrow_or_spine : Term → ℕ → List ℕ → Reading Term
   arrow_or_spine a n r = if first r == 45 then product_from inner a n r else spine_from inner a n r
 
@@ -187,7 +187,7 @@ module _ (inner : ℕ → List ℕ → Reading Term) (alike : (n : ℕ) → Alik
   alike-behind : (a : Term) (n : ℕ) → Alike true (behind_first inner a n)
   alike-behind a n = alike-word true (codes " ") (arrow_or_spine a n) (alike-either a n)
 
-  -- a term and what stands behind it in parentheses
+  -- a term and what stands after it in parentheses
   abbrev first_and_more : ℕ → List ℕ → Reading Term
   first_and_more n rest = and_then (inner n rest) (λ a r. behind_first inner a n r)
 

@@ -143,7 +143,7 @@ ReadsBack S look room inner =
     (t : Term) (n : ℕ) (rest : List ℕ) → IsFit S look room n t → height t ≤ 2000 → Stops rest → inner n (term_text S t ++ rest) ≡ Ok (t, rest)
 
 module _ (S : Signature) (look : List ℕ → Option Term) (room : ℕ) (inner : ℕ → List ℕ → Reading Term) (back : ReadsBack S look room inner) where
-  -- a term behind a word
+  -- a term after a word
   after-back : (word : List ℕ) (t : Term) (n : ℕ) (rest : List ℕ) → IsFit S look room n t → height t ≤ 2000 → Stops rest → term_after inner word n (word ++ (term_text S t ++ rest)) ≡ Ok (t, rest)
   after-back word t n rest fit low stops = ap (λ m. after m (inner n)) (behind-word word (term_text S t ++ rest)) ∙ back t n rest fit low stops
 
@@ -163,7 +163,7 @@ module _ (S : Signature) (look : List ℕ → Option Term) (room : ℕ) (inner :
       ∙ (ap (λ m. and_then m (λ b end. closed_by (Let a t b) end)) (after-back (codes " . ") b (n + 1) (41 ∷ rest) fb (omega arith) (stops-close rest))
       ∙ closed-back (Let a t b) rest low))
 
-  -- behind the parenthesis of a product or an application
+  -- after the parenthesis of a product or an application
   open-back : (a : Term) (n : ℕ) (rest : List ℕ) → IsFit S look room n a → height a ≤ 2000 → enclosed_at inner n (term_text S a ++ 32 ∷ rest) ≡ behind_first inner a n (32 ∷ rest)
   open-back a n rest fa low =
       let starts = text-begins S look a fa.spelled in

@@ -24,7 +24,7 @@ no-text T S own n = text-front T S own n (Sort 0) [] (term_text T (Sort 0)) (ove
 
 -- ---- leaves
 
--- A number behind a text is a term, where that text and any such number are the text of one.
+-- A number after a text is a term, where that text and any such number are the text of one.
 as_term-meets : (T S : Signature) (own : Bool) (n : ℕ) (text rest whole : List ℕ) (form : ℕ → Term) (Is : ℕ → Type 0) (m : Reading ℕ) → whole ≡ text ++ rest → ((v : ℕ) → text ++ decimal v ≡ term_text T (form v)) → ((v : ℕ) → Is v → IsTermOver S own n (form v)) → Meets (λ v r. (rest ≡ decimal v ++ r) × Is v) (λ x. (v : ℕ) × (x ≡ decimal v) × Is v) rest m → Meets (ReadsTerm T S own n whole) (IsText T S own n) whole (as_term form m)
 as_term-meets T S own n text rest whole form Is (Ok p) at spells over h =
     (at ∙ (ap (λ s. text ++ s) h.0 ∙ (sym (append_assoc text (decimal p.0) p.1) ∙ ap (λ s. s ++ p.1) (spells p.0))), over p.0 h.1)

@@ -14,7 +14,7 @@ use Rattle.core_text.proofs.SpineTexts.{spelled-alone}
 use Rattle.core_text.proofs.SymbolsRead.{IsWritten, same-bytes}
 use Rattle.core_text.proofs.WordsRead.{word-is, ensures-word, first-is, index-read, level-read}
 
--- the bytes are the text of the term and those behind it
+-- the bytes are the text of the term and those after it
 abbrev pub Writes : Signature → List ℕ → Term → List ℕ → Type 0
 Writes T rest t r = rest ≡ term_text T t ++ r
 
@@ -63,7 +63,7 @@ named-writes T look names k rest =
 
 -- ---- the ends of forms
 
--- the term is t, and the bytes are the word and those behind it
+-- the term is t, and the bytes are the word and those after it
 abbrev Ends : List ℕ → List ℕ → Term → Term → List ℕ → Type 0
 Ends word rest t u r = (t ≡ u) × (rest ≡ word ++ r)
 

@@ -30,7 +30,7 @@ ReadsSpelled S look inner =
     (t : Term) (n : ℕ) (rest : List ℕ) → IsSpelledTerm S look n t → Stops rest → OrNested (inner n (term_text S t ++ rest)) t rest
 
 module _ (S : Signature) (look : List ℕ → Option Term) (inner : ℕ → List ℕ → Reading Term) (back : ReadsSpelled S look inner) where
-  -- a term behind a word
+  -- a term after a word
   after-spelled : (word : List ℕ) (t : Term) (n : ℕ) (rest : List ℕ) → IsSpelledTerm S look n t → Stops rest → OrNested (term_after inner word n (word ++ (term_text S t ++ rest))) t rest
   after-spelled word t n rest fit stops =
       or-same (term_after inner word n (word ++ (term_text S t ++ rest))) (inner n (term_text S t ++ rest)) (ap (λ m. after m (inner n)) (behind-word word (term_text S t ++ rest))) (back t n rest fit stops)
@@ -49,7 +49,7 @@ module _ (S : Signature) (look : List ℕ → Option Term) (inner : ℕ → List
       (after-spelled (codes " = ") t n (codes " . " ++ (term_text S b ++ 41 ∷ rest)) ft (stops-space _))
       (or-then (λ b end. closed_by (Let a t b) end) (after-spelled (codes " . ") b (n + 1) (41 ∷ rest) fb (stops-close rest)) (or-closed (Let a t b) rest)))
 
-  -- behind the parenthesis of a product or an application
+  -- after the parenthesis of a product or an application
   open-spelled : (a : Term) (n : ℕ) (rest : List ℕ) (t : Term) (end : List ℕ) → IsSpelledTerm S look n a → OrNested (behind_first inner a n (32 ∷ rest)) t end → OrNested (enclosed_at inner n (term_text S a ++ 32 ∷ rest)) t end
   open-spelled a n rest t end fa h =
       let starts = text-begins S look a fa.spelled in

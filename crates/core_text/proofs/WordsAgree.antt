@@ -11,9 +11,9 @@ use Rattle.core_text.proofs.Characters.{Same, one-same, first-same, none-one}
 use Rattle.core_text.proofs.NumbersBack.{behind-word}
 use Rattle.core_text.proofs.WordsRead.{first-is}
 
--- ---- behind known bytes
+-- ---- after known bytes
 
--- behind the bytes v, g reads as f does
+-- after the bytes v, g reads as f does
 pub told-shift : {A : Type 0} (ahead : Bool) (f g : List ℕ → Reading A) (v rest : List ℕ) (m : Reading A) → ((y : List ℕ) → g (v ++ y) ≡ f y) → Told ahead f rest m → Told ahead g (v ++ rest) m
 told-shift ahead f g v rest (Ok p) same t = record {
   front = v ++ t.front;
@@ -71,7 +71,7 @@ told-first ahead c f g rest one two moves more = by (first rest == c) refl
 equal-same : (n : ℕ) → (n == n) ≡ true
 equal-same n = grind (arith, nat_tests)
 
--- behind the byte, where it stands there
+-- after the byte, where it stands there
 pub told-byte : {A : Type 0} (ahead : Bool) (c : ℕ) (f g : List ℕ → Reading A) (rest : List ℕ) → 0 < c → ((r : List ℕ) → rest ≡ c ∷ r → Told ahead f r (f r)) → ((first rest == c) ≡ false → Told ahead g rest (g rest)) → (ahead ≡ false → MovesAt rest (g rest)) → Told ahead (λ x. if first x == c then f (drop 1 x) else g x) rest (if first rest == c then f (drop 1 rest) else g rest)
 told-byte {A = A} ahead c f g rest some one two moves = by (first rest == c) refl
   where

@@ -27,7 +27,7 @@ shared-all (b ∷ word) (x ∷ rest) e = by (shared-all word rest) (x == b) refl
 pub word-is : (word rest : List ℕ) → begins word rest ≡ true → rest ≡ word ++ drop (length word) rest
 word-is word rest e = shared-all word rest e
 
--- behind a word the text is the word and what follows
+-- after a word the text is the word and what follows
 pub ensures-word : {B : Type 0} (Q : B → List ℕ → Type 0) (word rest : List ℕ) (next : List ℕ → Reading B) → ((r : List ℕ) → rest ≡ word ++ r → Ensures Q (next r)) → Ensures Q (after (behind word rest) next)
 ensures-word Q word rest next k = by (shared rest word == length word) refl
   where

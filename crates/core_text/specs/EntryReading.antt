@@ -12,7 +12,7 @@ use Rattle.core_text.specs.declared.halt.Halt.TheVariants.{Memory as Exhausted, 
 use Rattle.core_text.specs.declared.stop.CoreTextStop.{CoreTextStop}
 use Rattle.core_text.specs.declared.stop.CoreTextStop.TheVariants.{Memory, Nested, NotCoreText}
 
--- What stands behind the lines that begin with `#`; `inside` where such a line has begun. The last one has a line feed too.
+-- What stands after the lines that begin with `#`; `inside` where such a line has begun. The last one has a line feed too.
 abbrev pub behind_notes : Bool → List ℕ → Result (List ℕ) Halt
 behind_notes false [] = Ok []
 behind_notes true [] = Err (Wrong 0)
@@ -43,12 +43,12 @@ stop_of size Exhausted = Memory
 stop_of size (TooDeep left) = Nested (size - left)
 stop_of size (Wrong left) = NotCoreText (size - left)
 
--- an entry with the offset behind it, in a text with `size` bytes
+-- an entry with the offset after it, in a text with `size` bytes
 abbrev pub with_offset : ℕ → Reading (Option RawEntry) → Result (Option (RawEntry × ℕ)) CoreTextStop
 with_offset size (Ok p) = Ok (option_map (λ e. (e, size - length p.1)) p.0)
 with_offset size (Err halt) = Err (stop_of size halt)
 
--- The next entry of the text behind its first bytes, as its line shows it, with the offset behind the line; or nothing,
+-- The next entry of the text after its first bytes, as its line shows it, with the offset after the line; or nothing,
 -- exactly at the end of the text; else the place where no core file over the entries goes on.
 abbrev pub entry_from : Signature → List ℕ → ℕ → Result (Option (RawEntry × ℕ)) CoreTextStop
 entry_from S text from = with_offset (length text) (next_entry S (drop from text))

@@ -7,7 +7,7 @@ use Rattle.theory.specs.Signatures.{Entry, FamilyOf, EliminatorAt, AxiomKAt, Def
 use Rattle.core_text.specs.SymbolNames.{name_at}
 use Rattle.core_text.specs.TermText.{term_text}
 
--- the types of parameters, each behind a space and in parentheses of its own
+-- the types of parameters, each after a space and in parentheses of its own
 abbrev pub parameters_text : Signature → Telescope → List ℕ
 parameters_text S [] = []
 parameters_text S (a ∷ tele) = codes " (" ++ term_text S a ++ codes ")" ++ parameters_text S tele
@@ -21,7 +21,7 @@ abbrev pub constructor_type_shown : ℕ → Family → Constructor → Term
 constructor_type_shown n f c =
     products (constructor_telescope n f c) (applied (weaken_by (length c.arguments) (family_head n f)) c.targets)
 
--- constructors with their types, the first one behind the text `before` and each other one behind a semicolon
+-- constructors with their types, the first one after the text `before` and each other one after a semicolon
 abbrev pub constructors_text : Signature → ℕ → Family → List ℕ → List Constructor → List ℕ
 constructors_text S n f before [] = []
 constructors_text S n f before (c ∷ constructors) =

@@ -21,7 +21,7 @@ head_stop k text = max (shared text (head false)) (cond k (shared text (head tru
 abbrev pub has_head : Bool → List ℕ → Bool
 has_head has_k text = shared text (head has_k) == length (head has_k)
 
--- Whether the head has K, and the offset behind it; else the first byte with which no head continues.
+-- Whether the head has K, and the offset after it; else the first byte with which no head continues.
 abbrev pub head_of : Bool → List ℕ → Result (Bool × ℕ) CoreTextStop
 head_of k text =
     if has_head false text then Ok (false, length (head false))

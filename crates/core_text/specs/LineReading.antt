@@ -29,7 +29,7 @@ whole_term S own n rest = read_term (symbol S own) nested n rest
 abbrev pub ended : RawEntry → List ℕ → Reading RawEntry
 ended e rest = after (behind (codes "\n") rest) (λ end. Ok (e, end))
 
--- behind `def `
+-- after `def `
 abbrev pub definition_at : Signature → List ℕ → List ℕ → Reading RawEntry
 definition_at S own rest =
     and_then (new_name S own [] rest) (λ name r1.
@@ -68,29 +68,29 @@ some_level_left S i = some_left (levels_left S (AxiomK i)) 0 top
 unfoldable pub identities_left : Signature → List Bool
 identities_left S = level_list (some_level_left S) 0 top
 
--- behind `elim `
+-- after `elim `
 abbrev pub eliminator_at : Signature → List ℕ → Reading RawEntry
 eliminator_at S rest =
     and_then (family_name S rest) (λ n r1. after (behind (codes " ") r1) (λ r2.
     and_then (read_level (levels_left S (Elim n)) r2) (λ m r3. ended (RawEliminator n m) r3)))
 
--- behind `axiomk `
+-- after `axiomk `
 abbrev pub axiom_k_line : Signature → List ℕ → Reading RawEntry
 axiom_k_line S rest =
     and_then (read_level (identities_left S) rest) (λ i r1. after (behind (codes " ") r1) (λ r2.
     and_then (read_level (levels_left S (AxiomK i)) r2) (λ m r3. ended (RawAxiomK i m) r3)))
 
--- goes on behind what stands there, or ends with what was found
+-- goes on after what stands there, or ends with what was found
 abbrev pub behind_item : {A : Type 0} → (List A → List ℕ → Reading (List A)) → List A → Option A → List ℕ → Reading (List A)
 behind_item more found (Some a) rest = more (found ++ a ∷ []) rest
 behind_item more found None rest = Ok (found, rest)
 
--- What stands one behind the other, up to the end that `next` tells. There is no more of it than k, the number of bytes.
+-- What stands one after the other, up to the end that `next` tells. There is no more of it than k, the number of bytes.
 abbrev pub collected : {A : Type 0} → (List A → List ℕ → Reading (Option A)) → ℕ → List A → List ℕ → Reading (List A)
 collected next zero found rest = wrong rest
 collected next (suc k) found rest = and_then (next found rest) (behind_item (collected next k) found)
 
--- a parameter's type, behind its parenthesis, and the parenthesis that closes it
+-- a parameter's type, after its parenthesis, and the parenthesis that closes it
 abbrev pub parameter_at : Signature → List ℕ → ℕ → List ℕ → Reading (Option Term)
 parameter_at S own n rest = and_then (whole_term S own n rest) (λ a r. after (behind (codes ")") r) (λ end. Ok (Some a, end)))
 
@@ -103,11 +103,11 @@ abbrev pub next_parameter : Signature → List ℕ → ℕ → List ℕ → Read
 next_parameter S own n rest =
     after (behind (codes " ") rest) (λ r. if first r == 40 then parameter_at S own n (drop 1 r) else no_parameter r)
 
--- the parameters, behind the name of the family
+-- the parameters, after the name of the family
 abbrev pub parameters_at : Signature → List ℕ → List ℕ → Reading (List Term)
 parameters_at S own rest = collected (λ found r. next_parameter S own (length found) r) (length rest) [] rest
 
--- a constructor of the family with the name `own` and p parameters, behind those found
+-- a constructor of the family with the name `own` and p parameters, after those found
 abbrev pub constructor_at : Signature → List ℕ → ℕ → List RawConstructor → List ℕ → Reading (Option RawConstructor)
 constructor_at S own p found rest =
     and_then (new_name S own found rest) (λ name r.
@@ -119,13 +119,13 @@ abbrev pub separated : List RawConstructor → List ℕ → Result (List ℕ) Ha
 separated [] rest = Ok rest
 separated (c ∷ found) rest = behind (codes "; ") rest
 
--- one constructor more, or the brace behind them
+-- one constructor more, or the brace after them
 abbrev pub next_constructor : Signature → List ℕ → ℕ → List RawConstructor → List ℕ → Reading (Option RawConstructor)
 next_constructor S own p found rest =
     after (behind (codes " ") rest) (λ r.
     if first r == 125 then Ok (None, drop 1 r) else after (separated found r) (constructor_at S own p found))
 
--- the constructors of the family with the name `own` and p parameters, behind the brace
+-- the constructors of the family with the name `own` and p parameters, after the brace
 abbrev pub constructors_at : Signature → List ℕ → ℕ → List ℕ → Reading (List RawConstructor)
 constructors_at S own p rest = collected (next_constructor S own p) (length rest) [] rest
 
@@ -135,7 +135,7 @@ family_behind S name parameters type rest =
     and_then (constructors_at S name (length parameters) rest) (λ constructors end.
     ended (RawFamilyOf (record { name = name; parameters = parameters; type = type; constructors = constructors })) end)
 
--- behind `data `
+-- after `data `
 abbrev pub family_at : Signature → List ℕ → List ℕ → Reading RawEntry
 family_at S own rest =
     and_then (new_name S own [] rest) (λ name r1.

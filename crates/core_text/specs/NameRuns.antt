@@ -22,7 +22,7 @@ name_char_len [] = 0
 name_char_len (b ∷ bytes) =
     if nat_le (width b) (length (b ∷ bytes)) && are_name_chars (take (width b) (b ∷ bytes)) then width b else 0
 
--- the bytes of the run behind the first k bytes, which are those of a character
+-- the bytes of the run after the first k bytes, which are those of a character
 abbrev pub run_behind : ℕ → List ℕ → ℕ
 run_behind k [] = 0
 run_behind (suc k) (b ∷ bytes) = run_behind k bytes

@@ -46,7 +46,7 @@ pub data NoneLeft (S : Signature) (bytes : List ℕ) : Type 0 where
 abbrev pub first_character : List ℕ → List ℕ
 first_character rest = take (width (first rest)) rest
 
--- the name at the front, with the character behind it that ends it
+-- the name at the front, with the character after it that ends it
 abbrev pub first_name : List ℕ → List ℕ × List ℕ
 first_name rest = (take (run_len rest) rest, first_character (drop (run_len rest) rest))
 

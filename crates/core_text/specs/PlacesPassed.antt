@@ -19,7 +19,7 @@ NoLineGoesOn S bytes from p =
     → (from + length g.notes < p) ⊎ (shows_entry (length S.entries) g.entry ≡ true) → ⊥
 
 -- Where names are plain and all different, no core file goes on with the bytes before the place and what is wrong there: the
--- character, or the name with the character behind it.
+-- character, or the name with the character after it.
 abbrev pub NothingGoesOn : Type 0
 NothingGoesOn =
     (S : Signature) (text : List ℕ) (from p : ℕ) → AllPairs (λ x y. x ≢ y) (names S) → HasPlainNames S → from ≤ p → p ≤ length text →

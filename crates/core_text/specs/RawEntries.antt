@@ -38,13 +38,13 @@ end_level (Pi a b) = end_level b
 end_level (Sort level) = if nat_lt level top then Some level else None
 end_level _ = None
 
--- the term is family n at its p parameters, behind `at` binders, and at i terms more
+-- the term is family n at its p parameters, after `at` binders, and at i terms more
 abbrev pub is_at_targets : ℕ → ℕ → ℕ → ℕ → Term → Bool
 is_at_targets n p zero at t = is_at_parameters n p at t
 is_at_targets n p (suc i) at (App f a) = is_at_targets n p i at f
 is_at_targets n p (suc i) at t = false
 
--- the type is products, behind `at` others, that end in family n at its p parameters and at i terms more
+-- the type is products, after `at` others, that end in family n at its p parameters and at i terms more
 abbrev pub ends_in_family : ℕ → ℕ → ℕ → ℕ → Term → Bool
 ends_in_family n p i at (Pi a b) = ends_in_family n p i (at + 1) b
 ends_in_family n p i at t = is_at_targets n p i at t

@@ -70,7 +70,7 @@ pub record IsReadBack (T S : Signature) (own : List ℕ) (n : ℕ) (t : Term) : 
   pub free : free_of t ≤ n
   pub low : height t ≤ 2000
 
--- the same of types behind those found, each over the variables before it
+-- the same of types after those found, each over the variables before it
 abbrev pub AreReadBack : Signature → Signature → Telescope → Telescope → Type 0
 AreReadBack T S found [] = Unit {0}
 AreReadBack T S found (a ∷ tele) = IsReadBack T S [] (length found) a × AreReadBack T S (found ++ a ∷ []) tele
@@ -79,7 +79,7 @@ AreReadBack T S found (a ∷ tele) = IsReadBack T S [] (length found) a × AreRe
 abbrev pub constructor_line : ℕ → Family → Constructor → RawConstructor
 constructor_line n f c = record { name = c.name; type = constructor_type_shown n f c }
 
--- the same of constructors of family number n behind those found
+-- the same of constructors of family number n after those found
 abbrev pub ConstructorsReadBack : Signature → Signature → ℕ → Family → List RawConstructor → List Constructor → Type 0
 ConstructorsReadBack T S n f found [] = Unit {0}
 ConstructorsReadBack T S n f found (c ∷ constructors) =
@@ -107,7 +107,7 @@ EntryReadsBack T S (AxiomKAt i m) =
 EntryReadsBack T S (Definition name type body) =
     MayDeclare T [] [] name × IsReadBack T S [] 0 type × IsReadBack T S [] 0 body
 
--- An entry that is written is read back over the entries before it, whatever follows, with the offset behind its line.
+-- An entry that is written is read back over the entries before it, whatever follows, with the offset after its line.
 abbrev pub EntriesAreReadBack : Type 0
 EntriesAreReadBack =
     (T S : Signature) (e : Entry) (before rest : List ℕ) → EntryReadsBack T S e →

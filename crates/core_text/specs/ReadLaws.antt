@@ -46,7 +46,7 @@ IsReadEntry S (RawEliminator n m) = IsFamilyNumber S n × (m < top)
 IsReadEntry S (RawAxiomK i m) = (S.has_k ≡ true) × (i < top) × (m < top)
 IsReadEntry S (RawDefinition name type body) = AreFresh S (name ∷ []) × IsReadTerm S 0 type × IsReadTerm S 0 body
 
--- An entry that is read is scoped over the signature, and the offset behind it lies behind the one before it.
+-- An entry that is read is scoped over the signature, and the offset after it lies after the one before it.
 abbrev pub WhatIsRead : Type 0
 WhatIsRead =
     (S : Signature) (text : List ℕ) (from : ℕ) (e : RawEntry) (to : ℕ) → from ≤ length text →

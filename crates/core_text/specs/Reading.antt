@@ -1,4 +1,4 @@
--- Reading from the front of bytes: what stands there and the bytes behind it, or where reading stops.
+-- Reading from the front of bytes: what stands there and the bytes after it, or where reading stops.
 use Rattle.std.specs.Prelude.{◌≡◌, ℕ, zero, suc, ◌+◌, ◌-◌, ◌*◌, ◌==◌, nat_le, nat_lt, Bool, false, ◌&&◌, ◌||◌, if◌then◌else◌, List, [], ◌∷◌, length, drop, Result, Ok, Err, slice_get, slice_index, unwrap_or}
 use Rattle.std.specs.Borrow.{Bor}
 use Rattle.core_terms.specs.Answers.{GivesUnless}
@@ -7,7 +7,7 @@ use Rattle.core_text.specs.Heads.{shared}
 use Rattle.core_text.specs.declared.halt.Halt.{Halt}
 use Rattle.core_text.specs.declared.halt.Halt.TheVariants.{Memory, Wrong}
 
--- what is read and the bytes behind it, or where reading stops
+-- what is read and the bytes after it, or where reading stops
 abbrev pub Reading : Type 0 → Type 0
 Reading A = Result (A × List ℕ) Halt
 
@@ -15,16 +15,16 @@ Reading A = Result (A × List ℕ) Halt
 abbrev pub wrong : {A : Type 0} → List ℕ → Result A Halt
 wrong rest = Err (Wrong (length rest))
 
--- goes on behind what was read
+-- goes on after what was read
 abbrev pub and_then : {A B : Type 0} → Reading A → (A → List ℕ → Reading B) → Reading B
 and_then first next = answers.and_then first (λ p. next p.0 p.1)
 
--- the bytes behind a word, or the first byte with which the word does not go on
+-- the bytes after a word, or the first byte with which the word does not go on
 abbrev pub behind : List ℕ → List ℕ → Result (List ℕ) Halt
 behind word rest =
     if shared rest word == length word then Ok (drop (length word) rest) else Err (Wrong (length rest - shared rest word))
 
--- goes on behind a word
+-- goes on after a word
 abbrev pub after : {B : Type 0} → Result (List ℕ) Halt → (List ℕ → Reading B) → Reading B
 after word next = answers.and_then word next
 
@@ -91,7 +91,7 @@ IsUnforeseen e = e ≡ Memory
 abbrev pub Reads : {A B : Type 0} → (A → B) → Result (A × Bor (List ℕ)) Halt → Reading B → Type 0
 Reads f result meant = GivesUnless IsUnforeseen (λ p. (f p.0, p.1.now)) result meant
 
--- the same of what stands behind a word
+-- the same of what stands after a word
 abbrev pub Behind : Result (Bor (List ℕ)) Halt → Result (List ℕ) Halt → Type 0
 Behind (Ok rest) meant = Ok rest.now ≡ meant
 Behind (Err e) meant = Err e ≡ meant

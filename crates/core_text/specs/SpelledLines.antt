@@ -9,7 +9,7 @@ use Rattle.core_text.specs.Spellings.{raw_line, IsEntryOver}
 use Rattle.core_text.specs.declared.stop.CoreTextStop.{CoreTextStop}
 use Rattle.core_text.specs.declared.stop.CoreTextStop.TheVariants.{Nested, NotCoreText}
 
--- what comes of reading the line that says `raw` behind the entries S and stands from one offset to the other
+-- what comes of reading the line that says `raw` after the entries S and stands from one offset to the other
 abbrev pub IsSpelledOutcome : Signature → RawEntry → ℕ → ℕ → Result (Option (RawEntry × ℕ)) CoreTextStop → Type 0
 IsSpelledOutcome S raw from to r =
     (r ≡ Ok (Some (raw, to))) ⊎ ((at : ℕ) × (r ≡ Err (Nested at)))

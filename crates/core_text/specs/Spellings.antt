@@ -21,7 +21,7 @@ use Rattle.core_text.specs.declared.instances.Series.TheVariants.{Elim, AxiomK}
 
 -- ---- the text of what a line says
 
--- constructors as they are written, the first one behind the text `before`
+-- constructors as they are written, the first one after the text `before`
 abbrev pub raw_constructors : Signature → List ℕ → List RawConstructor → List ℕ
 raw_constructors S before [] = []
 raw_constructors S before (c ∷ cs) = before ++ (c.name ++ (codes " : " ++ (term_text S c.type ++ raw_constructors S (codes " ; ") cs)))
@@ -34,23 +34,23 @@ raw_text S (RawEliminator g m) = codes "elim " ++ (name_at S g ++ (codes " " ++ 
 raw_text S (RawAxiomK i m) = codes "axiomk " ++ (decimal i ++ (codes " " ++ (decimal m ++ codes "\n")))
 raw_text S (RawDefinition name type body) = codes "def " ++ (name ++ (codes " : " ++ (term_text S type ++ (codes " = " ++ (term_text S body ++ codes "\n")))))
 
--- The entries, with one more behind them that has the name: in the line of a family, the family itself.
+-- The entries, with one more after them that has the name: in the line of a family, the family itself.
 abbrev pub with_name : Signature → List ℕ → Signature
 with_name S name = pushed S (Definition name (Sort 0) (Sort 0))
 
--- the line that says it behind the entries S
+-- the line that says it after the entries S
 abbrev pub raw_line : Signature → RawEntry → List ℕ
 raw_line S (RawFamilyOf raw) = raw_text (with_name S raw.name) (RawFamilyOf raw)
 raw_line S raw = raw_text S raw
 
 -- ---- what may stand in it
 
--- A term over n variables and the symbols of S; where `own` says so, also the family behind its entries.
+-- A term over n variables and the symbols of S; where `own` says so, also the family after its entries.
 pub record IsTermOver (S : Signature) (own : Bool) (n : ℕ) (t : Term) : Type 0 where
   pub symbols : HasSymbols S own t
   pub free : free_of t ≤ n
 
--- types behind n variables, each over these and those before it
+-- types after n variables, each over these and those before it
 abbrev pub AreTypesOver : Signature → ℕ → Telescope → Type 0
 AreTypesOver S n [] = Unit {0}
 AreTypesOver S n (a ∷ tele) = IsTermOver S false n a × AreTypesOver S (n + 1) tele
@@ -62,7 +62,7 @@ pub record IsNewName (S : Signature) (own : List ℕ) (found : List RawConstruct
   pub shape : shape_of name ≡ Declarable
   pub may : may_declare S own found name ≡ true
 
--- constructors of the family `own` with p parameters, behind those found
+-- constructors of the family `own` with p parameters, after those found
 abbrev pub AreConstructorsOver : Signature → List ℕ → ℕ → List RawConstructor → List RawConstructor → Type 0
 AreConstructorsOver S own p found [] = Unit {0}
 AreConstructorsOver S own p found (c ∷ cs) =
@@ -74,7 +74,7 @@ pub record IsFamilyOver (S : Signature) (raw : RawFamily) : Type 0 where
   pub type : IsTermOver S false (length raw.parameters) raw.type
   pub constructors : AreConstructorsOver S raw.name (length raw.parameters) [] raw.constructors
 
--- what a line may say behind the entries S
+-- what a line may say after the entries S
 abbrev pub IsEntryOver : Signature → RawEntry → Type 0
 IsEntryOver S (RawFamilyOf raw) = IsFamilyOver S raw
 IsEntryOver S (RawEliminator g m) = IsFamilyNumber S g × (is_left (levels_left S (Elim g)) m ≡ true)

@@ -1,4 +1,4 @@
--- Reading a term: one byte, or the word behind a parenthesis, tells its form.
+-- Reading a term: one byte, or the word after a parenthesis, tells its form.
 use Rattle.std.specs.Prelude.{ℕ, zero, suc, ◌+◌, ◌==◌, nat_le, Bool, true, false, if◌then◌else◌, List, [], ◌∷◌, length, take, drop, codes, bytes_eq, Ok, Err, Option, Some, None}
 use Rattle.theory.specs.Terms.{Term, Var, Sort, Pi, Lam, App, Let, height}
 use Rattle.core_text.specs.NameRuns.{run_len}
@@ -9,7 +9,7 @@ use Rattle.core_text.specs.declared.halt.Halt.TheVariants.{Nested}
 abbrev pub most : ℕ
 most = 2000
 
--- the levels 0 to 15, all of which may stand behind `Type`
+-- the levels 0 to 15, all of which may stand after `Type`
 abbrev pub sort_levels : List Bool
 sort_levels =
     true ∷ true ∷ true ∷ true ∷ true ∷ true ∷ true ∷ true ∷ true ∷ true ∷ true ∷ true ∷ true ∷ true ∷ true ∷ true ∷ []
@@ -37,7 +37,7 @@ abbrev pub variable_at : ℕ → List ℕ → Reading Term
 variable_at zero rest = wrong rest
 variable_at (suc n) rest = as_term Var (read_index (suc n) (drop 1 rest))
 
--- a sort, behind `Type`
+-- a sort, after `Type`
 abbrev pub sort_at : List ℕ → Reading Term
 sort_at rest = after (behind (codes " ") rest) (λ r. as_term Sort (read_level sort_levels r))
 
@@ -53,16 +53,16 @@ is_application _ = false
 
 -- `inner n` reads a term under n binders inside the one that is read.
 module _ (inner : ℕ → List ℕ → Reading Term) where
-  -- a term behind a word
+  -- a term after a word
   abbrev pub term_after : List ℕ → ℕ → List ℕ → Reading Term
   term_after word n rest = after (behind word rest) (inner n)
 
-  -- behind `(\`
+  -- after `(\`
   abbrev pub function_at : ℕ → List ℕ → Reading Term
   function_at n rest =
       and_then (inner n rest) (λ a r. and_then (term_after (codes " . ") (n + 1) r) (λ b end. closed_by (Lam a b) end))
 
-  -- behind `(let `
+  -- after `(let `
   abbrev pub let_at : ℕ → List ℕ → Reading Term
   let_at n rest =
       and_then (inner n rest) (λ a r1.
@@ -77,11 +77,11 @@ module _ (inner : ℕ → List ℕ → Reading Term) where
   abbrev pub argument_of : Term → ℕ → List ℕ → Reading Term
   argument_of f n rest = and_then (inner n rest) (λ a r. limited (App f a) r)
 
-  -- behind an argument, where t is the application so far: a space and one argument more, or the end
+  -- after an argument, where t is the application so far: a space and one argument more, or the end
   abbrev pub behind_argument : (Term → List ℕ → Reading Term) → Term → List ℕ → Reading Term
   behind_argument more t rest = if first rest == 32 then more t (drop 1 rest) else closed_by t rest
 
-  -- The other arguments of f, at most k, and the parenthesis behind them. A term with more would be too high.
+  -- The other arguments of f, at most k, and the parenthesis after them. A term with more would be too high.
   abbrev pub arguments_from : ℕ → Term → ℕ → List ℕ → Reading Term
   arguments_from zero f n rest = Err (Nested (length rest))
   arguments_from (suc k) f n rest = and_then (argument_of f n rest) (behind_argument (λ t end. arguments_from k t n end))
@@ -90,12 +90,12 @@ module _ (inner : ℕ → List ℕ → Reading Term) where
   abbrev pub spine_from : Term → ℕ → List ℕ → Reading Term
   spine_from f n rest = if is_application f then wrong rest else arguments_from most f n rest
 
-  -- behind the first term in parentheses: an arrow, or arguments
+  -- after the first term in parentheses: an arrow, or arguments
   abbrev pub behind_first : Term → ℕ → List ℕ → Reading Term
   behind_first a n rest =
       after (behind (codes " ") rest) (λ r. if first r == 45 then product_from a n r else spine_from a n r)
 
-  -- behind `(`
+  -- after `(`
   abbrev pub enclosed_at : ℕ → List ℕ → Reading Term
   enclosed_at n rest =
       if first rest == 92 then function_at n (drop 1 rest)

@@ -27,7 +27,7 @@ spelled S is_function (AxiomK i m) = axiom_k_name i m
 abbrev pub term_text : Signature → Term → List ℕ
 term_text S t = spelled S false t
 
--- terms, each behind a space
+-- terms, each after a space
 abbrev pub spaced : Signature → List Term → List ℕ
 spaced S [] = []
 spaced S (t ∷ terms) = codes " " ++ term_text S t ++ spaced S terms

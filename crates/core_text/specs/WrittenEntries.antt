@@ -16,7 +16,7 @@ use Rattle.core_text.specs.Reading.{is_left}
 use Rattle.core_text.specs.declared.declared_names.Shape.TheVariants.{Declarable}
 use Rattle.core_text.specs.declared.instances.Series.TheVariants.{Elim as ElimSeries, AxiomK as KSeries}
 
--- Each symbol of the term is one of the signature, or where `own` says so the family behind its entries, and levels are
+-- Each symbol of the term is one of the signature, or where `own` says so the family after its entries, and levels are
 -- those that can be written.
 abbrev pub HasSymbols : Signature → Bool → Term → Type 0
 HasSymbols T own (Var n) = Unit {0}

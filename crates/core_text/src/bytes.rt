@@ -12,7 +12,7 @@ pub(crate) fn write(out: &mut Vec<u8>, bytes: &[u8]) -> Result<(), Stop>
     Ok(())
 }
 
-/// Writes bytes and a number behind them.
+/// Writes bytes and a number after them.
 pub(crate) fn write_numbered(out: &mut Vec<u8>, before: &[u8], n: u64) -> Result<(), Stop>
     ensures ok { OnOk result (out.new.items ≡ out.old.items ++ before.now ++ decimal n) }
     ensures memory { OnErr result (result ≡ Err Memory) }
@@ -22,7 +22,7 @@ pub(crate) fn write_numbered(out: &mut Vec<u8>, before: &[u8], n: u64) -> Result
 }
 
 /// Writes a number in decimal.
-pub(crate) fn write_number(out: &mut Vec<u8>, n: u64) -> Result<(), Stop>
+pub fn write_number(out: &mut Vec<u8>, n: u64) -> Result<(), Stop>
     ensures ok { OnOk result (out.new.items ≡ out.old.items ++ decimal n) }
     ensures memory { OnErr result (result ≡ Err Memory) }
 {

@@ -90,7 +90,7 @@ fn separated<'t>(found: &[RawCon], rest: &'t [u8]) -> Result<&'t [u8], Halt>
     behind(b"; ", rest)
 }
 
-/// One constructor more, or the brace behind them.
+/// One constructor more, or the brace after them.
 fn next_constructor<'t>(
     scope: &Scope,
     count: usize,
@@ -128,7 +128,7 @@ fn read_constructors<'t>(
     Err(Halt::Wrong(rest.len()))
 }
 
-/// A family, behind its keyword.
+/// A family, after its keyword.
 pub(crate) fn read_family<'t>(scope: &Scope, rest: &'t [u8]) -> Result<(Line, &'t [u8]), Halt>
     ensures { Reads line_of result (spec.family_at scope.now.sig.now scope.now.own.now rest.now) }
 {

@@ -156,7 +156,7 @@ fn is_found(found: &[RawCon], name: &[u8]) -> bool
     false
 }
 
-/// Whether the name may be declared behind the constructors that were found.
+/// Whether the name may be declared after the constructors that were found.
 fn may_declare(scope: &Scope, found: &[RawCon], name: &[u8]) -> bool
     ensures { result ≡ spec.may_declare scope.now.sig.now scope.now.own.now (map raw_constructor_of found.now) name.now }
 {
@@ -174,7 +174,7 @@ fn copied(alloc: Global, name: &[u8]) -> Result<Name, Halt>
     Ok(Name::from_vec(Vec::from_slice(alloc, name)?))
 }
 
-/// A name that may be declared behind the constructors that were found.
+/// A name that may be declared after the constructors that were found.
 pub(crate) fn new_name<'t>(
     scope: &Scope,
     found: &[RawCon],

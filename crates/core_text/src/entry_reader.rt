@@ -24,7 +24,7 @@ use crate::scope::Scope;
 use core_sig::{Entry, Signature};
 use std::alloc::Global;
 
-/// Reads the next entry behind lines that begin with `#`, with the offset behind it, and nothing at the end of the
+/// Reads the next entry after lines that begin with `#`, with the offset after it, and nothing at the end of the
 /// text. Memory is also answered where an offset has more than 32 bits.
 pub fn read_entry(
     alloc: Global,
@@ -45,7 +45,7 @@ pub fn read_entry(
     entry_behind(alloc, sig, text, from)
 }
 
-/// The next entry and the offset behind it.
+/// The next entry and the offset after it.
 fn entry_behind(
     alloc: Global,
     sig: &Signature,
@@ -74,7 +74,7 @@ fn entry_behind(
     }
 }
 
-/// The offset of a place with so many bytes behind it.
+/// The offset of a place with so many bytes after it.
 fn offset(size: u32, left: usize) -> u32
     ensures { result ≡ size - left }
 {
@@ -92,7 +92,7 @@ fn stop_at(size: u32, halt: Halt) -> CoreTextStop
     }
 }
 
-/// What stands behind the lines that begin with `#`.
+/// What stands after the lines that begin with `#`.
 fn behind_notes(from: &[u8]) -> Result<&[u8], Halt>
     ensures { Behind result (spec.behind_notes false from.now) }
 {

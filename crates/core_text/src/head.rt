@@ -7,7 +7,7 @@ const HEAD: &[u8] = b"elim 1\nprelude\n";
 
 const HEAD_WITH_K: &[u8] = b"elim 1\nprelude k\n";
 
-/// Reads the two head lines: whether K is on, and the offset behind them. Without `k` a head with K is refused. Takes
+/// Reads the two head lines: whether K is on, and the offset after them. Without `k` a head with K is refused. Takes
 /// no memory.
 pub fn read_head(text: &[u8], k: bool) -> Result<(bool, u32), CoreTextStop>
     ensures { result ≡ head_of k text.now }

@@ -24,12 +24,12 @@ pub fn terms_are_read_back()
     ensures { TermsAreReadBack }
 {}
 
-/// An entry that is written is read back over the entries before it, whatever follows, with the offset behind its line.
+/// An entry that is written is read back over the entries before it, whatever follows, with the offset after its line.
 pub fn entries_are_read_back()
     ensures { EntriesAreReadBack }
 {}
 
-/// What is read as an entry is the line of the entry, behind lines that begin with `#`.
+/// What is read as an entry is the line of the entry, after lines that begin with `#`.
 pub fn lines_are_read()
     ensures { LinesAreRead }
 {}

@@ -26,6 +26,7 @@ mod term_printer;
 mod term_reader;
 mod whole_terms;
 
+pub use bytes::write_number;
 pub use entry_printer::print_entry;
 pub use entry_reader::read_entry;
 pub use head::read_head;

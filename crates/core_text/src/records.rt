@@ -56,7 +56,7 @@ fn is_at_parameters(family: u32, count: u32, at: u32, t: &Term) -> bool
     }
 }
 
-/// Whether the term is the family at its parameters, behind `at` binders, and at `targets` terms more.
+/// Whether the term is the family at its parameters, after `at` binders, and at `targets` terms more.
 fn is_at_targets(family: u32, params: u32, targets: usize, at: u32, t: &Term) -> bool
     requires { at + params < 2 ^ 32 }
     ensures { result ≡ spec.is_at_targets family params targets at (tree_of t.now) }
@@ -70,7 +70,7 @@ fn is_at_targets(family: u32, params: u32, targets: usize, at: u32, t: &Term) ->
     }
 }
 
-/// Whether the type is products, behind `at` others, that end in the family at its parameters and at `targets` terms.
+/// Whether the type is products, after `at` others, that end in the family at its parameters and at `targets` terms.
 fn ends_in_family(family: u32, params: u32, targets: usize, at: u32, ty: &Term) -> bool
     requires { at + params + tree.height (tree_of ty.now) < 2 ^ 32 }
     ensures { result ≡ spec.ends_in_family family params targets at (tree_of ty.now) }
@@ -138,7 +138,7 @@ fn kind(family: u32, f: &Family, at: usize, ty: &Term) -> Result<ArgKind, Halt>
     Ok(kind_of(family, f, at as u32, ty))
 }
 
-/// Adds the domains of the leading products of the term as arguments, with levels 0, and answers what stands behind them.
+/// Adds the domains of the leading products of the term as arguments, with levels 0, and answers what stands after them.
 fn arguments(family: u32, f: &Family, args: &mut Items<Arg>, t: Term) -> Result<Term, Halt>
     ensures types { OnOk result (map typed args.new ≡ map typed args.old ++ map with_level_zero (domains_of (tree_of t))) }
     ensures kinds { OnOk result (HaveKinds family (family_of f.now) 0 args.old → HaveKinds family (family_of f.now) 0 args.new) }

@@ -15,7 +15,7 @@ pub(crate) fn first(rest: &[u8]) -> u8
     }
 }
 
-/// What stands behind the first bytes.
+/// What stands after the first bytes.
 pub(crate) fn skip(rest: &[u8], len: usize) -> &[u8]
     ensures { result.now ≡ drop len rest.now }
 {
@@ -29,7 +29,7 @@ pub(crate) fn begins(word: &[u8], rest: &[u8]) -> bool
     shared_len(rest, word) == word.len()
 }
 
-/// The bytes behind a word.
+/// The bytes after a word.
 pub(crate) fn behind<'t>(word: &[u8], rest: &'t [u8]) -> Result<&'t [u8], Halt>
     ensures { Behind result (behind word.now rest.now) }
 {

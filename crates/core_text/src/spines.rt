@@ -9,7 +9,7 @@ use crate::term_printer::write_term;
 use core_sig::Signature;
 use core_terms::{Stop, Term};
 
-/// Writes terms, each behind a space.
+/// Writes terms, each after a space.
 pub(crate) fn write_spaced(out: &mut Vec<u8>, sig: &Signature, terms: &[Term]) -> Result<(), Stop>
     ensures ok { OnOk result (out.new.items ≡ out.old.items ++ spaced sig.now (tele_of terms.now)) }
     ensures memory { OnErr result (result ≡ Err Memory) }
@@ -21,7 +21,7 @@ pub(crate) fn write_spaced(out: &mut Vec<u8>, sig: &Signature, terms: &[Term]) -
     Ok(())
 }
 
-/// Writes `count` variables, the last of which is numbered `from`, each behind a space.
+/// Writes `count` variables, the last of which is numbered `from`, each after a space.
 pub(crate) fn write_variables(
     out: &mut Vec<u8>,
     sig: &Signature,

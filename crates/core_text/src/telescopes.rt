@@ -9,7 +9,7 @@ use crate::term_printer::write_term;
 use core_sig::{Arg, Signature};
 use core_terms::{Stop, Term};
 
-/// Writes the types of parameters, each behind a space and in parentheses.
+/// Writes the types of parameters, each after a space and in parentheses.
 pub(crate) fn write_parameters(
     out: &mut Vec<u8>,
     sig: &Signature,
@@ -39,7 +39,7 @@ pub(crate) fn open_products(out: &mut Vec<u8>, sig: &Signature, args: &[Arg]) ->
     Ok(())
 }
 
-/// Writes the parentheses behind the end of `count` products.
+/// Writes the parentheses after the end of `count` products.
 pub(crate) fn close_products(out: &mut Vec<u8>, count: usize) -> Result<(), Stop>
     ensures ok { OnOk result (out.new.items ≡ out.old.items ++ closed count) }
     ensures memory { OnErr result (result ≡ Err Memory) }

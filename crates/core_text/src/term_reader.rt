@@ -101,7 +101,7 @@ pub(crate) fn read_term<'t>(
     }
 }
 
-/// A term behind a word.
+/// A term after a word.
 #[cycle(read_term)]
 pub(crate) fn read_after<'t>(
     scope: &Scope,
@@ -116,7 +116,7 @@ pub(crate) fn read_after<'t>(
     read_term(scope, under, room, behind(word, rest)?)
 }
 
-/// What stands behind a parenthesis.
+/// What stands after a parenthesis.
 #[cycle(read_term)]
 fn read_enclosed<'t>(
     scope: &Scope,
@@ -170,7 +170,7 @@ fn read_let<'t>(
     close(term, height, rest)
 }
 
-/// What stands behind the first term in parentheses.
+/// What stands after the first term in parentheses.
 #[cycle(read_term)]
 fn read_behind_first<'t>(
     scope: &Scope,

@@ -44,7 +44,7 @@ pub(crate) fn read_whole<'t>(
     Ok((whole.term, rest))
 }
 
-/// A whole term under `count` parameters, behind a word.
+/// A whole term under `count` parameters, after a word.
 pub(crate) fn read_whole_after<'t>(
     scope: &Scope,
     word: &[u8],
