@@ -27,7 +27,7 @@ pub record Declared : Type 0 where
 abbrev pub declared_in : Signature → Accepted → Declared
 declared_in T accepted = record { accepted = accepted; signature = T }
 
--- the entries of T behind those of S are what was accepted under the name
+-- the entries of T after those of S are what was accepted under the name
 abbrev pub accepted_as : List ℕ → Signature → Signature → Declared
 accepted_as name S T = declared_in T (record { name = name; from = length S.entries; to = length T.entries })
 
@@ -36,7 +36,7 @@ abbrev pub on_resolved : {A : Type 0} → Result A ResolveStop → (A → Result
 on_resolved (Ok a) go = go a
 on_resolved (Err e) go = Err (unresolved e)
 
--- what entered under the name x behind the entries of S, or what refused it
+-- what entered under the name x after the entries of S, or what refused it
 abbrev pub on_entered : Signature → Word → (FamilyStop → Refusal) → Result Entered FamilyStop → Result Declared Refusal
 on_entered S x refusal (Ok e) = Ok (accepted_as x.text S e.signature)
 on_entered S x refusal (Err e) = Err (refusal e)

@@ -5,7 +5,7 @@ use Rattle.theory.specs.Signatures.{Signature}
 use Rattle.core_terms.specs.Verdicts.{Reason, Mismatch, NotAProduct, NotASort, NoSuchInstance, LevelTooHigh}
 use Rattle.core_text.specs.TermText.{term_text}
 
--- types, the first one behind the text `before` and each other one behind a comma
+-- types, the first one after the text `before` and each other one after a comma
 abbrev pub types_text : Signature → List ℕ → List Term → List ℕ
 types_text S before [] = []
 types_text S before (t ∷ types) = before ++ term_text S t ++ types_text S (codes ", ") types

@@ -19,7 +19,7 @@ fn write_term(alloc: Global, out: &mut Vec<u8>, sig: &Signature, t: &Term) -> Re
     Ok(())
 }
 
-/// Writes types, each but the first one behind a comma.
+/// Writes types, each but the first one after a comma.
 fn write_types(
     alloc: Global,
     out: &mut Vec<u8>,
