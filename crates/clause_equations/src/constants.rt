@@ -19,14 +19,14 @@ pub fn entry_number(sig: &Signature, name: &Name) -> u32
     }
 }
 
-/// The name of part k: the function, or helper k.
-pub fn part_name(alloc: Global, plan: &Plan, k: u32) -> Result<Name, Stop>
-    ensures { Gives (λ name. name) result (Ok (spec.part_name (plan_of plan.now) k)) }
+/// The name of part k of a function: its own, or that of helper k.
+pub fn part_name(alloc: Global, function: &Name, k: u32) -> Result<Name, Stop>
+    ensures { Gives (λ name. name) result (Ok (spec.part_named function.now k)) }
 {
     if k == 0 {
-        return Ok(copy_name(alloc, &plan.name)?);
+        return Ok(copy_name(alloc, function)?);
     }
-    helper_name(alloc, &plan.name, k)
+    helper_name(alloc, function, k)
 }
 
 /// The number that a constant of the plan has in the signature.
@@ -36,7 +36,7 @@ fn own_number(alloc: Global, sig: &Signature, plan: &Plan, c: u32) -> Result<u32
     if c < plan.base {
         return Ok(c);
     }
-    let name = part_name(alloc, plan, c - plan.base)?;
+    let name = part_name(alloc, &plan.name, c - plan.base)?;
     Ok(entry_number(sig, &name))
 }
 

@@ -45,7 +45,7 @@ pub struct Equation {
 fn part_constant(alloc: Global, sig: &Signature, plan: &Plan, k: u32) -> Result<Term, Stop>
     ensures { Gives tree_of result (Ok (tree.Const (equations.number_of sig.now (equations.part_name (plan_of plan.now) k)))) }
 {
-    let name = part_name(alloc, plan, k)?;
+    let name = part_name(alloc, &plan.name, k)?;
     Ok(Term::Const(entry_number(sig, &name)))
 }
 
