@@ -58,7 +58,7 @@ generated-marked (Left i m) = between (codes "Eq." ++ level_text i) (codes "!lef
 
 -- ---- what is known
 
--- a constructor's name, or one that is found behind them
+-- a constructor's name, or one that is found after them
 constructors-known : (name : List ℕ) (n number : ℕ) (constructors : List Constructor) (ys : List (List ℕ × Found)) (x : Found)
     → All (λ c. is_marked c.name ≡ false) constructors
     → lookup (bytes_eq name) (named_constructors n number (map (λ c. c.name) constructors) ++ ys) ≡ Some x

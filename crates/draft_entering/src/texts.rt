@@ -1,4 +1,4 @@
-ghost use Rattle.std.specs.Prelude.{◌≡◌, ◌++◌, [], Ok, decimal, length, OnOk, OnErr};
+ghost use Rattle.std.specs.Prelude.{◌≡◌, ◌++◌, [], Ok, length, OnOk, OnErr};
 ghost use Rattle.clause_reports.specs.Texts as spec;
 ghost use Rattle.core_terms.specs.Answers.{Gives};
 ghost use Rattle.core_terms.specs.Meanings.{tree_of, tele_of, reason_of};
@@ -9,7 +9,7 @@ ghost use Rattle.theory.specs.Signatures.{AxiomKAt, Definition, EliminatorAt};
 
 use core_sig::Signature;
 use core_terms::{Items, Reason, Stop, Term};
-use core_text::print_term;
+use core_text::{print_term, write_number};
 use std::alloc::Global;
 
 fn write_term(alloc: Global, out: &mut Vec<u8>, sig: &Signature, t: &Term) -> Result<(), Stop>
@@ -85,18 +85,6 @@ pub(crate) fn reason_text(
     Ok(Items::from_vec(out))
 }
 
-/// Writes a number in decimal.
-fn write_number(out: &mut Vec<u8>, n: u8) -> Result<(), Stop>
-    ensures ok { OnOk result (out.new.items ≡ out.old.items ++ decimal n) }
-    ensures memory { OnErr result (result ≡ Err Memory) }
-{
-    if n >= 10 {
-        write_number(out, n / 10)?;
-    }
-    out.push(b'0' + n % 10)?;
-    Ok(())
-}
-
 /// The line of an eliminator.
 pub(crate) fn eliminator_text(
     alloc: Global,
@@ -110,7 +98,7 @@ pub(crate) fn eliminator_text(
     out.extend_from_slice(b"elim ")?;
     write_term(alloc, &mut out, sig, &Term::Fam(fam))?;
     out.extend_from_slice(b" ")?;
-    write_number(&mut out, m)?;
+    write_number(&mut out, u64::from(m))?;
     Ok(Items::from_vec(out))
 }
 
@@ -120,9 +108,9 @@ pub(crate) fn axiom_k_text(alloc: Global, sig: &Signature, i: u8, m: u8) -> Resu
 {
     let mut out = Vec::new(alloc);
     out.extend_from_slice(b"axiomk ")?;
-    write_number(&mut out, i)?;
+    write_number(&mut out, u64::from(i))?;
     out.extend_from_slice(b" ")?;
-    write_number(&mut out, m)?;
+    write_number(&mut out, u64::from(m))?;
     Ok(Items::from_vec(out))
 }
 
