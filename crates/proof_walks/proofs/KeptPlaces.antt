@@ -5,9 +5,9 @@ use Rattle.std.proofs.lemmas.List.Elements.{All-head, All-tail, All-nil, All-con
 use Rattle.std.specs.List.{All}
 use Rattle.theory.specs.Prelude.{prelude, equality_family}
 use Rattle.theory.specs.Signatures.{Signature, FamilyOf, equality}
-use Rattle.theory.specs.SignatureScopes.{IsScoped, IsScopedTelescope}
+use Rattle.theory.specs.SignatureScopes.{IsScoped}
 use Rattle.theory.specs.Telescopes.{Telescope}
-use Rattle.theory.specs.Terms.{Term, Sort, top}
+use Rattle.theory.specs.Terms.{Term, top}
 use Rattle.theory.proofs.Lists.{slice_get-longer}
 use Rattle.theory.proofs.PreludeWellFormed.{equality_at}
 use Rattle.theory.proofs.ScopedTerms.{sort-scoped}

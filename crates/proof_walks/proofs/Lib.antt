@@ -1,4 +1,3 @@
-pub mod Borrowed
 pub mod BranchCodes
 pub mod FoundTerms
 pub mod Joining

@@ -1,7 +1,6 @@
 -- The walk at a split of the tree, by what the code finds there.
-use Rattle.std.proofs.Common.{◌≡◌, ℕ, ◌==◌, Bool, true, false, cond, Option, Some, None, option_and_then, option_map, Result, Ok, Err, List, refl, sym, ap, ◌∙◌, subst as transport}
+use Rattle.std.proofs.Common.{◌≡◌, ℕ, ◌==◌, Bool, true, false, cond, Option, Some, None, option_and_then, option_map, Result, Ok, Err, refl, sym, ap, ◌∙◌}
 use Rattle.theory.specs.Terms.{Term}
-use Rattle.theory.specs.Telescopes.{Telescope}
 use Rattle.theory.specs.Signatures.{Signature}
 use Rattle.core_terms.specs.Answers.{Spent, and_next, on_answer}
 use Rattle.core_terms.specs.declared.stop.Stop.{Stop}
@@ -11,9 +10,9 @@ use Rattle.unification.specs.Built.{Built, built_of}
 use Rattle.unification.specs.Solutions.{variable_in}
 use Rattle.unification.specs.declared.why.Why.TheVariants.{NotRigid}
 use Rattle.case_trees.specs.Problems.{Member, member_of, type_of_variable}
-use Rattle.clause_reports.specs.ProofWalks.{Place, Proof, Walking, Branching, Splitting, value_at, stuck_at, at_member, at_variable, at_other, at_head, at_split, split_variable, take_branch}
-use Rattle.clause_reports.specs.Stops.{ReportStop, Reporting, Halts, Stuck, or_halts, halting, answers}
-use Rattle.proof_walks.specs.NodeWalks.{Node, again, splitting_by, splitting, walk_node, Met, met_as, met_in, constructor_met, Variable, if_own, kept_own, own_member, variable_with, typed_variable, variable_at, variable_met}
+use Rattle.clause_reports.specs.ProofWalks.{Place, Proof, Walking, Branching, Splitting, value_at, stuck_at, at_member, at_variable, at_other, at_head, split_variable, take_branch}
+use Rattle.clause_reports.specs.Stops.{Reporting, Halts, Stuck, or_halts, halting}
+use Rattle.proof_walks.specs.NodeWalks.{Node, again, splitting_by, splitting, walk_node, Met, met_as, met_in, constructor_met, Variable, if_own, kept_own, own_member, variable_with, variable_at, variable_met}
 
 -- ---- the constructor that is found
 

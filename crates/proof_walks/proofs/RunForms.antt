@@ -10,7 +10,6 @@ use Rattle.unification.specs.Outcomes.{Outcome, steps_in}
 use Rattle.case_trees.specs.Looking.{Look, Found, Passed, StuckRun, Ran, run_all}
 use Rattle.case_trees.specs.Problems.{Member}
 use Rattle.case_trees.specs.Stops as trees
-use Rattle.clause_walks.specs.Reaching as reaching
 use Rattle.clause_walks.specs.Reaching.{RunEnd, end_of_run, ends_behind}
 use Rattle.clause_reports.specs.ProofWalks.{Place, Proof, Splits, Proofs, nil, cons, Walking, bounded_place, moved_place, solved_branch, solved_branches, with_runs, or_halted, split_variable}
 use Rattle.clause_reports.specs.Stops.{ReportStop, Reporting, Stuck, or_halts, answers}

@@ -1,5 +1,5 @@
 -- The solutions of the problems of all constructors are over scoped contexts.
-use Rattle.std.proofs.Common.{◌≡◌, ℕ, zero, suc, ◌+◌, ◌<◌, Some, IfOk, Result, Ok, Err, List, [], ◌∷◌, ◌++◌, length, map, slice_get, refl, sym, ap, ap₂, ◌∙◌, subst as transport, arith}
+use Rattle.std.proofs.Common.{◌≡◌, ℕ, suc, ◌+◌, ◌<◌, Some, IfOk, Result, Ok, Err, List, [], ◌∷◌, length, map, slice_get, refl, ap, ap₂, ◌∙◌, subst as transport, arith}
 use Rattle.theory.specs.Telescopes.{Telescope}
 use Rattle.theory.specs.Families.{Constructor}
 use Rattle.theory.specs.Signatures.{Signature}
@@ -16,7 +16,7 @@ use Rattle.case_trees.specs.Problems.{Member, problem_of}
 use Rattle.case_trees.specs.Standing.{Runs}
 use Rattle.case_trees.specs.Stops.{TreeStop, Stopping}
 use Rattle.case_trees.proofs.Answered.{Holds}
-use Rattle.case_trees.proofs.Running.{HasRun, AllRun, RunHas, all-run}
+use Rattle.case_trees.proofs.Running.{AllRun, RunHas, all-run}
 use Rattle.case_trees.proofs.ScopedProblems.{IsMemberIn, problem-scoped}
 use Rattle.clause_walks.specs.LookConditions.{IsContext, IsMember}
 use Rattle.clause_walks.specs.LookMeanings.{ends_of, member_meant, runs_of}

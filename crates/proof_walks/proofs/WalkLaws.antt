@@ -1,5 +1,5 @@
 -- The walk that is made is that of the clause.
-use Rattle.std.proofs.Common.{◌≡◌, ◌⊎◌, inl, inr, ℕ, zero, suc, Bool, true, false, ◌||◌, cond, is_none, Option, Some, None, option_and_then, Result, Ok, Err, List, refl, sym, ap, ◌∙◌, subst as transport}
+use Rattle.std.proofs.Common.{◌≡◌, ◌⊎◌, inl, inr, ℕ, zero, suc, Bool, true, false, ◌||◌, cond, is_none, Option, Some, None, option_and_then, Result, Ok, Err, List, refl, sym, ap, ◌∙◌}
 use Rattle.theory.specs.Terms.{Term}
 use Rattle.theory.specs.Telescopes.{Telescope}
 use Rattle.theory.specs.Signatures.{Signature}
@@ -8,14 +8,14 @@ use Rattle.core_terms.specs.CaseTrees.{Tree, Walk}
 use Rattle.core_terms.specs.declared.stop.Stop.{Stop}
 use Rattle.core_terms.specs.declared.stop.Stop.TheVariants.{Deep}
 use Rattle.tree_translation.specs.Plans.{Plan, own_part}
-use Rattle.tree_translation.specs.Recursion.{Recursion, recursion_at, recursion_of}
+use Rattle.tree_translation.specs.Recursion.{recursion_at}
 use Rattle.leaf_terms.specs.RecursionMade.{made_at}
 use Rattle.clause_reports.specs.Equations.{Equation}
 use Rattle.clause_reports.specs.ProofWalks.{Place, Proof, first_place, first_values, walk_of, walk_tree}
-use Rattle.clause_reports.specs.Stops.{ReportStop, Reporting, Halts, answers, or_halts}
+use Rattle.clause_reports.specs.Stops.{Reporting, answers, or_halts}
 use Rattle.proof_walks.specs.Laws.{WalkAnswers, WalkIsMade}
 use Rattle.proof_walks.specs.PlaceScopes.{is_scoped_place}
-use Rattle.proof_walks.specs.Starts.{values_in_order, values_made, place_at, scoped_place, start_made, walk_made}
+use Rattle.proof_walks.specs.Starts.{values_in_order, values_made, place_at, scoped_place, start_made}
 
 -- ---- recursion
 

@@ -12,8 +12,7 @@ use Rattle.kernel_reduce.specs.Tidying.{tidy_of}
 use Rattle.unification.specs.Built.{Built, built_of}
 use Rattle.unification.specs.Solutions.{variable_in}
 use Rattle.case_trees.specs.Problems.{Member, member_of, type_of_variable}
-use Rattle.clause_reports.specs.ProofWalks.{Place, Proof, Walking, Splitting, value_at, at_split, split_variable, looked_again, no_splitting, take_branch}
-use Rattle.clause_reports.specs.Stops.{Reporting}
+use Rattle.clause_reports.specs.ProofWalks.{Walking, Splitting, value_at, at_split, split_variable, looked_again, no_splitting, take_branch}
 
 -- A split of the tree: its family, its variable and its branches. After a split of the clause's variable it is looked at again, and does
 -- not split once more.

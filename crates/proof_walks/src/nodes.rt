@@ -1,5 +1,5 @@
 //! What is found at a split of the tree: a constructor, or a variable that is split.
-ghost use Rattle.std.specs.Prelude.{◌≡◌, ◌≤◌, ◌<◌, ◌+◌, ◌∷◌, [], true, ℕ, IfOk, IfSome, Ok, length, option_map};
+ghost use Rattle.std.specs.Prelude.{◌≡◌, ◌≤◌, ◌<◌, ◌+◌, true, IfOk, IfSome, Ok, length, option_map};
 ghost use Rattle.core_terms.specs.Answers.{Gives, Runs as RunsAs};
 ghost use Rattle.core_terms.specs.Meanings.{tree_of, tele_of};
 ghost use Rattle.theory.specs.SignatureScopes.{IsScoped};
@@ -7,7 +7,7 @@ ghost use Rattle.theory.specs.Terms as tree;
 ghost use Rattle.kernel_reduce.specs.Reduction.{whnf_of};
 ghost use Rattle.kernel_reduce.specs.WellScoped.{AreScoped};
 ghost use Rattle.case_trees.specs.Problems.{type_of_variable as type_meant};
-ghost use Rattle.clause_walks.specs.LookConditions.{IsContext, IsMember};
+ghost use Rattle.clause_walks.specs.LookConditions.{IsContext};
 ghost use Rattle.clause_walks.specs.LookMeanings.{member_meant};
 ghost use Rattle.proof_walks.specs.NodeConditions.{IsVariableOf};
 ghost use Rattle.proof_walks.specs.NodeWalks as spec;

@@ -1,5 +1,5 @@
 //! The walk through a tree.
-ghost use Rattle.std.specs.Prelude.{◌≡◌, ◌≤◌, ◌+◌, true, false, IfOk, Ok, length, map};
+ghost use Rattle.std.specs.Prelude.{◌≡◌, ◌≤◌, ◌+◌, IfOk, Ok, length, map};
 ghost use Rattle.core_terms.specs.Answers.{Gives};
 ghost use Rattle.core_terms.specs.Meanings.{tree_of, tele_of};
 ghost use Rattle.core_terms.specs.TreeMeanings.{branch_of, branches_of, case_tree_of};
@@ -13,7 +13,7 @@ ghost use Rattle.proof_walks.specs.NodeConditions.{IsVariableOf};
 ghost use Rattle.proof_walks.specs.NodeWalks as spec;
 ghost use Rattle.proof_walks.specs.PlaceScopes.{AreKeptProofs, IsKeptPlace, IsKeptProof};
 ghost use Rattle.proof_walks.specs.SolvedRuns as runs_spec;
-ghost use Rattle.proof_walks.specs.WalkMeanings.{node_of, variable_of};
+ghost use Rattle.proof_walks.specs.WalkMeanings.{node_of};
 ghost use Rattle.unification.specs.ScopedStates.{IsReady};
 ghost use Rattle.clause_walks.specs.PairConditions.{IsSolving};
 

@@ -2,7 +2,7 @@ use Rattle.std.proofs.Common.{true, length, arith}
 use Rattle.std.proofs.lemmas.List.{length-map}
 use Rattle.core_terms.specs.Meanings.{tree_of, tele_of}
 use Rattle.unifier.proofs.RecordSizes.{scoped-over}
-use Rattle.proof_walks.proofs.Borrowed.{head-given, scoped-reduces, type-made}
+use Rattle.clause_walks.proofs.LookCodes.{head-given, scoped-reduces, type-made}
 use Rattle.proof_walks.proofs.nodes.reduced_type.Goals as goal
 
 pub type_of_variable-requires-clause-context : goal.type_of_variable-requires-clause-context

@@ -1,7 +1,7 @@
 use Rattle.std.proofs.Common.{Ok, length, sym}
 use Rattle.std.proofs.lemmas.List.{length-map}
 use Rattle.core_terms.specs.Meanings.{tree_of, tele_of}
-use Rattle.proof_walks.proofs.Borrowed.{all-from}
+use Rattle.clause_walks.proofs.RunCodes.{all-from}
 use Rattle.proof_walks.proofs.SolvingRuns.{code-solves}
 use Rattle.proof_walks.proofs.runs.all_runs.Goals as goal
 

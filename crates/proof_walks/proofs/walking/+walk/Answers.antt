@@ -7,12 +7,12 @@ use Rattle.core_terms.specs.declared.case_tree.Branch.TheFolds.{the_lemmas}
 use Rattle.core_terms.proofs.Builders.{ok_is}
 use Rattle.clause_reports.specs.ProofWalks.{at_origin}
 use Rattle.clause_walks.specs.LookMeanings.{member_meant, runs_of}
-use Rattle.draft_entering.specs.Stops.{Reports, stop_of}
+use Rattle.clause_walks.proofs.RunCodes.{first-item}
+use Rattle.draft_entering.specs.Stops.{Reports}
 use Rattle.proof_terms.specs.ProofMeanings.{place_of, proof_of, proofs_of}
 use Rattle.proof_walks.specs.NodeWalks.{again, walk_node}
 use Rattle.proof_walks.specs.Sizes.{size_of, size_of_branch}
 use Rattle.proof_walks.specs.WalkMeanings.{node_of, variable_of}
-use Rattle.proof_walks.proofs.Borrowed.{first-item}
 use Rattle.proof_walks.proofs.BranchCodes.{branch-entered, first-goes, none-run, other-found, proofs-made, proofs-refused, pushed-kept, tree-split}
 use Rattle.proof_walks.proofs.KeptPlaces.{branch-kept}
 use Rattle.proof_walks.proofs.walking.+walk.Goals as goal
