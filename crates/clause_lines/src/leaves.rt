@@ -11,13 +11,12 @@ ghost use Rattle.shadow_vectors.specs.LeafMeanings.{all_leaves_of, leaf_of};
 ghost use Rattle.theory.specs.SignatureScopes.{IsScopedSignature};
 
 use crate::clause::{PlannedClause, pats_at, side_or};
-use crate::mappings::{in_old_order, mapping};
 use crate::sides::sides_compared;
 use clause_equations::{Equation, Site, equation_at};
 use core_sig::Signature;
 use core_terms::{Items, Stop, Term, Units, number_of};
 use draft_entering::ReportStop;
-use leaf_terms::{Recursion, order_of, own_tele, recursion_of};
+use leaf_terms::{Recursion, in_old_order, mapping, order_of, own_tele, recursion_of};
 use shadow_vectors::TreeLeaf;
 use std::alloc::Global;
 

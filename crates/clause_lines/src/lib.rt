@@ -9,7 +9,6 @@ mod judging;
 pub mod laws;
 mod leaves;
 mod line;
-mod mappings;
 mod names;
 mod reporting;
 mod shadowing;

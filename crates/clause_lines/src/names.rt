@@ -1,28 +1,16 @@
 //! The names of proofs.
-ghost use Rattle.std.specs.Prelude.{◌≡◌, ◌+◌, ◌++◌, Err, Ok, OnErr, OnOk, codes, decimal};
+ghost use Rattle.std.specs.Prelude.{◌++◌, Ok, codes, decimal};
 ghost use Rattle.clause_reports.specs.Equations.{part_name as part_meant};
 ghost use Rattle.core_terms.specs.Answers.{Gives};
-ghost use Rattle.core_terms.specs.declared.stop.Stop.TheVariants.{Memory};
 ghost use Rattle.leaf_terms.specs.PlanMeanings.{plan_of};
 ghost use Rattle.proof_terms.specs.CodeProofs as spec;
 
 use clause_equations::part_name;
 use core_terms::{Name, Stop};
+use core_text::write_number;
 use leaf_terms::Plan;
 use run_terms::next;
 use std::alloc::Global;
-
-/// Writes a number in decimal.
-fn write_number(out: &mut Vec<u8>, n: u32) -> Result<(), Stop>
-    ensures ok { OnOk result (out.new.items ≡ out.old.items ++ decimal n) }
-    ensures memory { OnErr result (result ≡ Err Memory) }
-{
-    if n >= 10 {
-        write_number(out, n / 10)?;
-    }
-    out.push(b'0' + (n % 10) as u8)?;
-    Ok(())
-}
 
 /// A part's name, a mark, and the number of a clause.
 fn with_clause(part: Name, number: u32) -> Result<Name, Stop>
@@ -30,7 +18,7 @@ fn with_clause(part: Name, number: u32) -> Result<Name, Stop>
 {
     let mut text = part.into_vec();
     text.extend_from_slice(b"!c")?;
-    write_number(&mut text, number)?;
+    write_number(&mut text, u64::from(number))?;
     Ok(Name::from_vec(text))
 }
 
@@ -38,6 +26,6 @@ fn with_clause(part: Name, number: u32) -> Result<Name, Stop>
 pub(crate) fn proof_name(alloc: Global, plan: &Plan, k: u32, clause: u32) -> Result<Name, Stop>
     ensures { Gives (λ name. name) result (Ok (spec.name_made (part_meant (plan_of plan.now) k) clause)) }
 {
-    let part = part_name(alloc, plan, k)?;
+    let part = part_name(alloc, &plan.name, k)?;
     with_clause(part, next(clause)?)
 }
