@@ -7,8 +7,8 @@ ghost use Rattle.function_refusals.specs.RefusalMeanings.{Tells, failing_of};
 ghost use Rattle.function_walks.specs.WalkingMeanings.{session_of};
 ghost use Rattle.structural_rec.specs.Meanings as choices;
 
-use crate::names::part_name;
 use crate::smallness::{small_telescope, small_uses};
+use clause_equations::part_name;
 use core_terms::{Items, Stop, Tele, number_of};
 use core_text::print_term;
 use function_refusals::{FailingCall, Refusal, owner_of};

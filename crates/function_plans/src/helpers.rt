@@ -13,8 +13,8 @@ ghost use Rattle.core_terms.specs.TreeMeanings.{case_tree_of};
 ghost use Rattle.elaboration.specs.Refusals.{walking};
 
 use crate::finishing::finished;
-use crate::names::part_name;
 use crate::trees::tree_of_clauses;
+use clause_equations::part_name;
 use core_terms::{Items, Tree, Units, number_of};
 use function_refusals::Refusal;
 use function_walks::{Session, Walked};

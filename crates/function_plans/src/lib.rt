@@ -5,7 +5,6 @@ mod choosing;
 mod finishing;
 mod helpers;
 pub mod laws;
-mod names;
 mod plans;
 mod smallness;
 mod trees;

@@ -17,7 +17,6 @@ ghost use Rattle.tree_translation.specs.Entries as entries;
 ghost use Rattle.tree_translation.specs.Recursion as recursion;
 ghost use Rattle.unifier.specs.Conditions.{most_levels};
 
-use crate::smallness::free_of;
 use clause_splitting::split;
 use core_sig::Signature;
 use core_terms::{Clause, Items, Stop, Tele, Term, Tree, Units, number_of};
@@ -25,6 +24,7 @@ use function_entries::ordered_variables;
 use function_refusals::{Refusal, ended};
 use function_walks::{Session, Walked};
 use leaf_terms::{Recursion, order_of, ordered_telescope, ordered_term};
+use run_terms::free_of;
 use std::alloc::Global;
 
 /// The tree of clauses of a function or helper.
