@@ -1,5 +1,5 @@
 -- The walks of clauses are those of the definition, one call after the other.
-use Rattle.std.proofs.Common.{◌≡◌, rules, ℕ, ◌+◌, List, [], ◌∷◌, length, Result, Ok, Err, refl, sym, ap, ◌∙◌, subst as transport}
+use Rattle.std.proofs.Common.{◌≡◌, rules, ℕ, List, [], ◌∷◌, Result, Ok, Err, refl, sym, ap, ◌∙◌, subst as transport}
 use Rattle.theory.specs.Terms.{Term}
 use Rattle.theory.specs.Telescopes.{Telescope}
 use Rattle.theory.specs.Signatures.{Signature}
@@ -11,7 +11,6 @@ use Rattle.core_terms.specs.Patterns.{Pats}
 use Rattle.core_terms.specs.PatternMeanings.{clause_of, pats_of, right_of}
 use Rattle.core_terms.specs.declared.pattern.Clause as code
 use Rattle.core_terms.specs.declared.pattern.Right.TheFolds.{the_lemmas}
-use Rattle.core_terms.specs.declared.stop.Stop.{Stop}
 use Rattle.case_trees.specs.OwnWalks.{own_walk_of}
 use Rattle.case_trees.specs.Points.{under_solution}
 use Rattle.case_trees.specs.Stops as tree
@@ -21,8 +20,8 @@ use Rattle.clause_walks.specs.Stops as trees
 use Rattle.clause_walks.specs.declared.stops.TreeStop.{TreeStop}
 use Rattle.elaboration.specs.Refusals as pure
 use Rattle.elaboration.specs.Refusals.{Elaborating, Owner, answers, of_tree, or_halts, owner_of, walking}
-use Rattle.elaboration.specs.Walking.{Session, Opened, Opening, Given, after_dots, check_dot, open_over, opened, walk_clause, walk_clauses, walk_right, with_given}
-use Rattle.function_clauses.specs.CodeClauses.{Scrutinee, clause_walked, helper_opened, inside_walked, others_walked, scrutinee_over, scrutinised, with_dots}
+use Rattle.elaboration.specs.Walking.{Session, Opened, Given, after_dots, check_dot, open_over, walk_clause, walk_right}
+use Rattle.function_clauses.specs.CodeClauses.{Scrutinee, clause_walked, helper_opened, inside_walked, scrutinee_over, scrutinised, with_dots}
 use Rattle.function_refusals.specs.RefusalMeanings.{Elaborates, IsUnforeseen, refusal_of}
 use Rattle.function_refusals.specs.declared.refusal.Refusal.{Refusal}
 use Rattle.walk_checks.specs.CodeDots.{dots_checked}

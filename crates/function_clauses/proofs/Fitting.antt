@@ -1,17 +1,15 @@
 -- Resolved clauses are clauses for as many terms as they have patterns.
-use Rattle.std.proofs.Common.{◌≡◌, ℕ, ◌+◌, true, Some, option_and_then, List, [], ◌∷◌, length, slice_get, refl, sym, ap, ap₂, ◌∙◌, subst as transport, arith, length-append}
+use Rattle.std.proofs.Common.{◌≡◌, ℕ, ◌+◌, true, Some, option_and_then, List, [], ◌∷◌, length, slice_get, refl, sym, ap, ap₂, ◌∙◌, arith, length-append}
 use Rattle.std.specs.Prelude.{unwrap_or}
 use Rattle.std.proofs.lemmas.Option.{slice_get_within}
 use Rattle.theory.specs.Terms.{Term}
-use Rattle.theory.specs.Families.{Constructor}
 use Rattle.theory.specs.Signatures.{Signature}
-use Rattle.theory.specs.SignatureScopes.{IsConstructorNumber, IsScoped}
 use Rattle.core_terms.specs.Clauses as clause
 use Rattle.core_terms.specs.Clauses.{Clause, Clauses, Right, Is}
 use Rattle.core_terms.specs.Patterns as pattern
 use Rattle.core_terms.specs.Patterns.{Pat, Pats}
 use Rattle.case_trees.specs.Pairs.{unbound, all_unbound}
-use Rattle.case_trees.specs.Scoped.{AreClausesFor, AreScopedPatterns, IsClauseFor, IsClauseOf, IsScopedPattern}
+use Rattle.case_trees.specs.Scoped.{AreClausesFor, AreScopedPatterns, IsClauseOf, IsScopedPattern}
 use Rattle.function_clauses.specs.Conditions.{IsRightSide}
 use Rattle.kernel_reduce.specs.Entries.{constructor_at, family_in}
 use Rattle.pattern_vectors.specs.Columns.{AreWhole, IsWhole}

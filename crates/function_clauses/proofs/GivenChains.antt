@@ -1,22 +1,17 @@
 -- What clauses give, one call of the code after the other.
-use Rattle.std.proofs.Common.{◌≡◌, ℕ, ◌+◌, List, [], ◌∷◌, ◌++◌, length, reverse, Result, Ok, Err, refl, sym, ap, ◌∙◌, subst as transport}
+use Rattle.std.proofs.Common.{◌≡◌, ℕ, ◌+◌, List, [], ◌∷◌, ◌++◌, Ok, Err, sym, ap, ◌∙◌, subst as transport}
 use Rattle.theory.specs.Terms.{Term}
 use Rattle.theory.specs.Signatures.{Signature}
 use Rattle.core_terms.specs.Answers.{and_next}
 use Rattle.core_terms.specs.CaseTrees.{Walk}
-use Rattle.core_terms.specs.Clauses as clause
-use Rattle.core_terms.specs.Clauses.{Clause, Clauses}
-use Rattle.case_trees.specs.OwnWalks.{own_walk_of}
+use Rattle.core_terms.specs.Clauses.{Clauses}
 use Rattle.elaboration.specs.Refusals as pure
-use Rattle.elaboration.specs.Refusals.{Elaborating, OfSide, Owner, answers, granted, owner_of, walking}
-use Rattle.elaboration.specs.Walking.{Session, Opened, Opening, Given, Walked, absurd_given, joined, open_over, side_given, walk_clause, walk_clauses}
+use Rattle.elaboration.specs.Refusals.{Elaborating, Owner, answers}
+use Rattle.elaboration.specs.Walking.{Given, Walked, joined}
 use Rattle.function_clauses.proofs.OwnParts.{part-walked}
-use Rattle.function_clauses.specs.CodeClauses.{Scrutinee, clause_walked, helper_opened, inside_walked, others_walked, scrutinee_over, side_checked, with_dots, with_scrutinee}
-use Rattle.function_refusals.specs.RefusalMeanings.{Elaborates}
+use Rattle.function_clauses.specs.CodeClauses.{Scrutinee, with_dots, with_scrutinee}
 use Rattle.function_refusals.specs.declared.refusal.Refusal.{Refusal}
 use Rattle.function_walks.specs.Conditions.{AreWalked, IsPartFor}
-use Rattle.kernel_check.specs.Checking.{check_of}
-use Rattle.kernel_reduce.specs.Reduction.{nesting}
 use Rattle.walk_checks.specs.CodeDots.{dots_checked}
 
 abbrev gave : {A : Type 0} → A → ℕ → Elaborating A

@@ -2,7 +2,7 @@
 use Rattle.std.proofs.Common.{◌≡◌, ℕ, ◌+◌, ◌-◌, ◌≤◌, Bool, true, false, cond, nat_lt, List, [], ◌∷◌, map, refl, sym, ap, ap₂, ◌∙◌, arith}
 use Rattle.std.proofs.lemmas.Bool.Decides.{nat_tests}
 use Rattle.theory.specs.Terms.{Term, lift}
-use Rattle.theory.specs.Terms.Term.{Var, Sort, Pi, Lam, App, Let}
+use Rattle.theory.specs.Terms.Term.{Var, Pi, Lam, App, Let}
 use Rattle.theory.specs.Substitutions.{inst}
 use Rattle.theory.proofs.Instances.{ap₃}
 use Rattle.core_terms.specs.Instances.{under_binders}

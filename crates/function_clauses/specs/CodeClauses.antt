@@ -8,7 +8,6 @@ use Rattle.core_terms.specs.CaseTrees.{Walk}
 use Rattle.core_terms.specs.Clauses.{Clause, Clauses}
 use Rattle.case_trees.specs.OwnWalks.{own_walk_of}
 use Rattle.case_trees.specs.Points.{under_solution}
-use Rattle.clause_reports.specs.Equations.{part_named}
 use Rattle.elaboration.specs.Refusals.{Owner, OfSide, Elaborating, answers, granted, or_halts, owner_of, walking}
 use Rattle.elaboration.specs.Walking.{Session, Opened, Opening, Given, helper_arguments, joined, open_over, opened, side_given, use_of, walk_clauses}
 use Rattle.kernel_check.specs.Checking.{check_of}

@@ -1,12 +1,12 @@
-ghost use Rattle.std.specs.Prelude.{◌≡◌, ◌+◌, ◌++◌, [], ◌∷◌, Ok, map};
+ghost use Rattle.std.specs.Prelude.{◌≡◌, ◌+◌, ◌++◌, [], ◌∷◌, Ok};
 ghost use Rattle.core_terms.specs.Answers.{Gives};
-ghost use Rattle.core_terms.specs.Meanings.{tree_of, tele_of};
+ghost use Rattle.core_terms.specs.Meanings.{tree_of};
 ghost use Rattle.core_terms.specs.PatternMeanings.{clauses_of};
 ghost use Rattle.core_terms.specs.TreeMeanings.{walk_of};
 ghost use Rattle.elaboration.specs.Walking as spec;
 ghost use Rattle.function_clauses.specs.CodeClauses as code;
 ghost use Rattle.function_clauses.specs.ScrutineeMeanings.{scrutinee_of};
-ghost use Rattle.function_walks.specs.WalkingMeanings.{given_of, opened_of, walked_of};
+ghost use Rattle.function_walks.specs.WalkingMeanings.{given_of};
 ghost use Rattle.structural_rec.specs.Meanings.{use_of};
 
 use crate::parts::Scrutinee;

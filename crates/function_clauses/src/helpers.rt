@@ -1,4 +1,4 @@
-ghost use Rattle.std.specs.Prelude.{◌≡◌, ◌+◌, ◌++◌, [], ◌∷◌, Ok, drop, map, take};
+ghost use Rattle.std.specs.Prelude.{◌+◌, ◌++◌, ◌∷◌, Ok, drop, map, take};
 ghost use Rattle.core_terms.specs.Answers.{Gives};
 ghost use Rattle.core_terms.specs.Instances.{under_binders};
 ghost use Rattle.core_terms.specs.Meanings.{tree_of, tele_of};

@@ -5,7 +5,6 @@
 mod giving;
 mod helpers;
 pub mod laws;
-mod names;
 mod own;
 mod parts;
 mod scrutinees;
@@ -13,6 +12,5 @@ mod sides;
 mod single;
 mod walks;
 
-pub use names::part_name;
 pub use own::own_part;
 pub use walks::walk_clauses;

@@ -1,6 +1,5 @@
-ghost use Rattle.std.specs.Prelude.{◌≡◌, Ok};
+ghost use Rattle.std.specs.Prelude.{Ok};
 ghost use Rattle.core_terms.specs.Answers.{Gives};
-ghost use Rattle.core_terms.specs.Meanings.{tree_of, tele_of};
 ghost use Rattle.elaboration.specs.Functions as spec;
 ghost use Rattle.function_walks.specs.WalkingMeanings.{opened_of};
 ghost use Rattle.resolve.specs.PatternMeanings.{fun_of};

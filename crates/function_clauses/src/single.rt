@@ -1,7 +1,6 @@
 ghost use Rattle.std.specs.Prelude.{◌≡◌, ◌≤◌, ◌<◌, ◌+◌, IfOk, OnErr, Err, length};
 ghost use Rattle.case_trees.specs.OwnWalks.{own_walk_of};
 ghost use Rattle.case_trees.specs.Scoped.{IsScopedWalk};
-ghost use Rattle.core_terms.specs.Meanings.{tree_of, tele_of};
 ghost use Rattle.core_terms.specs.PatternMeanings.{clause_of};
 ghost use Rattle.core_terms.specs.TreeMeanings.{walk_of};
 ghost use Rattle.core_terms.specs.declared.stop.Stop.TheVariants.{Memory};

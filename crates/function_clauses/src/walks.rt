@@ -16,11 +16,11 @@ ghost use Rattle.theory.specs.SignatureScopes.{HasEntries};
 ghost use Rattle.walk_checks.specs.CheckMeanings.{site_of};
 
 use crate::giving::{absurd_given, joined, nothing, with_given};
-use crate::names::part_name;
 use crate::parts::Scrutinee;
 use crate::scrutinees::scrutinised;
 use crate::sides::side_walked;
 use crate::single::clause_walked;
+use clause_equations::part_name;
 use core_terms::{Clause, Items, Right, Stop, Term, Units, Walk, number_of};
 use function_refusals::Refusal;
 use function_walks::{Given, Opened, Session};
