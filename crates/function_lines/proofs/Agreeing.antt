@@ -1,10 +1,10 @@
 -- Where the first of two calls answers something, the second does so too: how this goes from parts to what is made of them.
-use Rattle.std.proofs.Common.{◌≡◌, ℕ, Bool, true, false, cond, Result, Ok, Err, IfOk, refl, sym, ap, ◌∙◌, subst as transport, arith}
+use Rattle.std.proofs.Common.{◌≡◌, ℕ, Bool, true, false, cond, Result, Ok, Err, IfOk, refl, sym, ap, subst as transport, arith}
 use Rattle.core_terms.specs.Answers.{SpentOr, on_answer, and_next}
 use Rattle.core_terms.specs.declared.stop.Stop.{Stop}
 use Rattle.clause_reports.specs.Stops.{ReportStop, Reporting}
 use Rattle.theory.specs.Signatures.{Signature}
-use Rattle.elaboration.specs.Refusals.{Owner, Refusal, answers, or_halts, reporting}
+use Rattle.elaboration.specs.Refusals.{Owner, answers, or_halts, reporting}
 use Rattle.function_lines.specs.Laws.{Agrees}
 
 abbrev pub spent : {A E : Type 0} → Result A E → ℕ → SpentOr E A

@@ -1,21 +1,19 @@
 -- What is answered of a function is what is meant, where this holds of its plan, of its drafts and of its clauses.
-use Rattle.std.proofs.Common.{◌≡◌, ℕ, [], Result, Ok, refl, sym, ap, ◌∙◌}
+use Rattle.std.proofs.Common.{ℕ, []}
 use Rattle.theory.specs.Signatures.{Signature, IsPrefix}
 use Rattle.theory.specs.WellFormed.{IsWellFormed}
-use Rattle.core_terms.specs.Answers.{SpentOr, and_next}
-use Rattle.elaboration.specs.Functions.{Lines, enter_plan, function_level, function_of, own_part, plan_of, report_parts}
-use Rattle.elaboration.specs.Refusals.{Elaborating, OfType, answers, granted}
+use Rattle.core_terms.specs.Answers.{and_next}
+use Rattle.elaboration.specs.Functions.{enter_plan, function_level, function_of, own_part, plan_of}
+use Rattle.elaboration.specs.Refusals.{OfType, answers, granted}
 use Rattle.elaboration.specs.Walking.{walk_clauses}
 use Rattle.elaboration.proofs.Keeping.{function-keeps}
 use Rattle.kernel_check.specs.Checking.{infer_sort_of}
 use Rattle.kernel_reduce.specs.Reduction.{nesting}
 use Rattle.resolve.specs.Functions.{Function}
-use Rattle.tree_translation.specs.Plans.{Plan}
 use Rattle.clause_lines.specs.Laws.{ReportAnswers}
 use Rattle.function_plans.specs.Laws.{PlanAnswers}
 use Rattle.translation_laws.specs.EntryLaws.{TranslateMadeIsEntries}
-use Rattle.function_plans.specs.CodePlans.{plan_after}
-use Rattle.function_lines.specs.FunctionMade.{function_made, level_of, parts_reported, plan_entered, plan_from, plan_given, plan_over, plan_reported, session_at}
+use Rattle.function_lines.specs.FunctionMade.{function_made, plan_entered, plan_given, plan_over, plan_reported, session_at}
 use Rattle.function_lines.specs.Laws.{Agrees, FunctionAnswers, FunctionMadeKeeps}
 use Rattle.function_lines.proofs.Agreeing.{agrees-after, agrees-as, agrees-from, agrees-has, agrees-next, agrees-same, next-assoc}
 use Rattle.function_lines.proofs.EnteredPlans.{entered-agrees}

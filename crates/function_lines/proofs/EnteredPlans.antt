@@ -1,5 +1,5 @@
 -- The entries of a plan that enter are those that are meant.
-use Rattle.std.proofs.Common.{◌≡◌, ℕ, Bool, true, false, cond, Option, Some, None, List, [], ◌∷◌, Result, Ok, Err, refl, sym, ap, ◌∙◌, subst as transport, arith}
+use Rattle.std.proofs.Common.{◌≡◌, ℕ, Bool, true, false, cond, Option, Some, None, List, [], ◌∷◌, Result, Ok, Err, refl, sym, subst as transport, arith}
 use Rattle.theory.specs.Signatures.{Signature}
 use Rattle.theory.specs.Telescopes.{Telescope}
 use Rattle.core_terms.specs.Answers.{and_next, and_then, are_low}

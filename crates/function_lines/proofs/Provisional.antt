@@ -1,5 +1,5 @@
 -- The signature with the function at its end, and without it again.
-use Rattle.std.proofs.Common.{◌≡◌, ◌⊎◌, inl, inr, ℕ, Some, List, [], ◌∷◌, ◌++◌, length, append_assoc, refl, sym, ap, ◌∙◌, subst as transport}
+use Rattle.std.proofs.Common.{◌≡◌, inr, ℕ, List, [], ◌∷◌, ◌++◌, length, append_assoc, refl, sym, ap, ◌∙◌, subst as transport}
 use Rattle.std.proofs.lemmas.List.{length-append}
 use Rattle.theory.specs.Terms.{Term, Const}
 use Rattle.theory.specs.Prelude.{prelude}

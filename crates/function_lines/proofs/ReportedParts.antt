@@ -1,14 +1,14 @@
 -- The lines of the parts are those that are meant.
-use Rattle.std.proofs.Common.{◌≡◌, ℕ, ◌+◌, List, [], ◌∷◌, ◌++◌, Result, Ok, Err, refl, sym, ap, ◌∙◌, subst as transport}
+use Rattle.std.proofs.Common.{◌≡◌, ℕ, ◌+◌, List, [], ◌∷◌, ◌++◌, Result, Ok, Err, refl, sym, ap}
 use Rattle.theory.specs.Signatures.{Signature}
-use Rattle.core_terms.specs.Answers.{SpentOr, and_next, on_answer}
+use Rattle.core_terms.specs.Answers.{and_next, on_answer}
 use Rattle.core_terms.specs.CaseTrees.{Walk}
 use Rattle.clause_lines.specs.CodeReports.{report_made}
 use Rattle.clause_lines.specs.Laws.{ReportAnswers}
 use Rattle.clause_reports.specs.Equations.{part_named}
 use Rattle.clause_reports.specs.Reports.{report_of}
 use Rattle.elaboration.specs.Functions.{ClauseLine, Following, Lines, report_parts, report_walks, with_line}
-use Rattle.elaboration.specs.Refusals.{Elaborating, Refusal, answers, owner_of, reporting}
+use Rattle.elaboration.specs.Refusals.{Elaborating, Refusal, owner_of, reporting}
 use Rattle.tele_eq.proofs.Growing.{snoc-append}
 use Rattle.tree_translation.specs.Plans.{Part, Plan}
 use Rattle.function_lines.specs.FunctionMade.{clause_line, clause_reported, lines_with, parts_reported, reference_of, walks_reported}

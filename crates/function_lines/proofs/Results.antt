@@ -1,5 +1,5 @@
 -- What holds of the lines that are meant holds of those that are answered.
-use Rattle.std.proofs.Common.{◌≡◌, ℕ, [], ◌∷◌, length, Ok, Err, IfOk, sym, ap, ◌∙◌, subst as transport, arith}
+use Rattle.std.proofs.Common.{◌≡◌, ℕ, [], ◌∷◌, Ok, Err, IfOk, sym, ap, ◌∙◌, subst as transport, arith}
 use Rattle.theory.specs.Prelude.{prelude}
 use Rattle.theory.specs.Signatures.{Signature, IsPrefix}
 use Rattle.theory.specs.Terms.{Term}

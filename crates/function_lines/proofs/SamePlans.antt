@@ -1,18 +1,18 @@
 -- The plan is meant over the signature itself, and made over the one that has the function: nothing but families is read.
 use mathlib.Core.Path.{fun_ext}
-use Rattle.std.proofs.Common.{◌≡◌, ℕ, Option, List, ◌∷◌, Ok, refl, sym, ap, ap₂, ◌∙◌}
+use Rattle.std.proofs.Common.{◌≡◌, ℕ, Option, ◌∷◌, Ok, sym, ap₂}
 use Rattle.theory.specs.Signatures.{Signature}
 use Rattle.core_terms.specs.Answers.{and_next}
 use Rattle.elaboration.specs.Functions.{helpers_finished, own_finished, own_part, position_chosen, recursion_in}
 use Rattle.elaboration.specs.Refusals.{Elaborating, answers}
-use Rattle.elaboration.specs.Walking.{Given, Opened, Session, Walked}
+use Rattle.elaboration.specs.Walking.{Given, Session, Walked}
 use Rattle.resolve.specs.Functions.{Function}
 use Rattle.structural_rec.specs.Choices.{Choice, choose}
-use Rattle.tree_translation.specs.Plans.{Part, Plan}
+use Rattle.tree_translation.specs.Plans.{Plan}
 use Rattle.tree_translation.specs.Recursion.{Recursion}
 use Rattle.function_plans.specs.CodePlans.{plan_after, planned}
 use Rattle.function_lines.specs.FunctionMade.{session_at}
-use Rattle.function_lines.proofs.SameChoices.{HaveSame, choice-same, provisional-same, recursion-same}
+use Rattle.function_lines.proofs.SameChoices.{choice-same, provisional-same, recursion-same}
 
 abbrev pub walked_of : Function → (level : ℕ) → Given → Walked
 walked_of f level given = record { part = own_part f level; clauses = f.clauses; walks = given.walks; sides = given.sides }

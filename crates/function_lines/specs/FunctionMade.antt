@@ -36,7 +36,7 @@ level_of S type left =
 
 -- ---- the plan
 
--- the function as a provisional constant behind the entries of S
+-- the function as a provisional constant after the entries of S
 abbrev pub session_at : Signature → Function → Session
 session_at S f = record { signature = provisional S f.name f.type; name = f.name; own = length S.entries }
 

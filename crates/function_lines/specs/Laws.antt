@@ -1,10 +1,9 @@
 -- What holds of a function as the code elaborates it.
-use Rattle.std.specs.Prelude.{◌≡◌, ◌≤◌, ℕ, Ok, IfOk}
+use Rattle.std.specs.Prelude.{◌≡◌, ℕ, Ok, IfOk}
 use Rattle.theory.specs.Signatures.{Signature, IsPrefix}
 use Rattle.theory.specs.WellFormed.{IsWellFormed}
 use Rattle.core_terms.specs.Answers.{SpentOr}
-use Rattle.elaboration.specs.Functions.{Lines, function_of}
-use Rattle.elaboration.specs.Refusals.{Elaborating}
+use Rattle.elaboration.specs.Functions.{function_of}
 use Rattle.family_check.specs.Scopes.{HasPrelude}
 use Rattle.resolve.specs.Functions.{Function}
 use Rattle.function_lines.specs.FunctionMade.{function_made}

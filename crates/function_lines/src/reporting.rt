@@ -14,11 +14,11 @@ ghost use Rattle.leaf_terms.specs.PlanMeanings.{parts_of, plan_of};
 
 use crate::ClauseLine;
 use crate::refusing::refused;
+use clause_equations::part_name;
 use clause_lines::{Line, report};
 use core_sig::Signature;
 use core_terms::{Items, Stop, Units, Walk, number_of};
 use draft_entering::ReportStop;
-use function_clauses::part_name;
 use function_refusals::{Refusal, owner_of};
 use leaf_terms::{Part, Plan};
 use std::alloc::Global;

@@ -1,4 +1,4 @@
-ghost use Rattle.std.specs.Prelude.{◌≡◌, Ok, Some, map, option_map};
+ghost use Rattle.std.specs.Prelude.{Ok, Some, option_map};
 ghost use Rattle.clause_reports.specs.Generated.{all_name};
 ghost use Rattle.core_sig.specs.Meanings.{family_of};
 ghost use Rattle.core_terms.specs.Answers.{Gives};

@@ -1,6 +1,5 @@
 use Rattle.std.proofs.Common.{◌≡◌, length, sym, subst as transport}
 use Rattle.core_terms.proofs.Builders.{ok_is}
-use Rattle.elaboration.specs.Functions.{own_part}
 use Rattle.elaboration.specs.Walking.{Opened}
 use Rattle.function_clauses.proofs.OwnParts.{own-columns, own-part-for}
 use Rattle.function_walks.specs.Conditions.{IsPartFor}
