@@ -1,22 +1,33 @@
 -- Where a line says that a declaration is accepted, the lines above show it.
-use Rattle.std.proofs.Common.{◌≡◌, ℕ, List, [], ◌∷◌, ◌++◌, ◌-◌, length, codes, Some, Result, Ok, Err, refl, sym, ap, subst, ◌∙◌, arith, append_assoc, append-nil}
+use Rattle.std.proofs.Common.{◌≡◌, ℕ, false, List, [], ◌∷◌, ◌++◌, ◌-◌, ◌≢◌, length, map, codes, Some, Result, Ok, Err, refl, sym, ap, subst, ◌∙◌, arith, append_assoc, append-nil}
+use Rattle.theory.specs.Terms.{Term}
+use Rattle.theory.specs.Telescopes.{Telescope}
 use Rattle.theory.specs.Signatures.{Signature, IsPrefix}
 use Rattle.theory.specs.Prelude.{prelude}
 use Rattle.surface_syntax.specs.Trees as surf
-use Rattle.elab_session.specs.Declaring.{Declared, declare_of}
-use Rattle.elab_session.specs.Laws.{IsAsWritten}
 use Rattle.elab_session.specs.Sessions.{IsReady}
-use Rattle.elab_session.specs.declared.refusal.Refusal.{Refusal}
 use Rattle.elab_session.proofs.PreludeReady.{prelude-ready}
-use Rattle.elab_session.proofs.Written.{declare-extends, declare-ready, declares-written}
+use Rattle.elaboration.specs.Functions.{ClauseLine}
+use Rattle.elaboration.specs.Refusals as function
+use Rattle.clause_reports.specs.Reports.{Line, Definitional, Proved, Shadowed, Absurd}
+use Rattle.function_session.specs.Elaborating.{Elaborated, Refused, Declaration, Function, elaborate_of}
+use Rattle.function_session.specs.Laws.{GoesOn, IsAsWritten}
+use Rattle.function_session.proofs.Keeping.{elaborate-ready}
+use Rattle.function_session.proofs.Written.{elaborates-written}
+use Rattle.elim_program.specs.ClauseTexts.{clause_line, leaf_line, leaf_lines, with_leaves, clause_lines}
+use Rattle.elim_program.specs.FunctionRefusals.{refusal_text, candidate_lines}
+use Rattle.elim_program.specs.declared.counts.Counts.{Counts}
 use Rattle.elim_program.specs.declared.words.Command.{Command}
-use Rattle.elim_program.specs.Headline.{core_lines, Shows, none, more, IsShown}
-use Rattle.elim_program.specs.DefinedOutputs.{IsOutput, refused_words, compiles, verifies}
-use Rattle.elim_program.specs.Outputs.{Output, accepted_line, lines_behind, declared_name, declared_block, after, followed, declarations, text_block, head_lines}
+use Rattle.elim_program.specs.declared.words.Work.{Work}
+use Rattle.elim_program.specs.Headline.{core_lines, own_lines, Shows, none, more, IsShown}
+use Rattle.elim_program.specs.DefinedOutputs.{IsOutput, refused_words, compiles, verifies, works}
+use Rattle.elim_program.specs.Outputs.{Output, accepted_line, accepted_lines, lines_behind, declared_name, declared_block, refused_lines, after, followed, declarations, text_block, head_lines}
 use Rattle.elim_program.specs.Refusals.{stop_line, refusal_line}
 use Rattle.elim_program.specs.Texts.{Answer, Gives, limited}
 use Rattle.elim_program.specs.Words.{asked}
-use Rattle.elim_program.proofs.Lines.{entries-core, core-lines-core, core-lines-append, third, not_empty, not_one, behind_heads, Found, here, behind, find, if_ok}
+use Rattle.elim_program.specs.WorkTexts.{summary_line}
+use Rattle.elim_program.specs.Works.{none_counted, on_worked, with_accepted, work_block, worked, worked_block}
+use Rattle.elim_program.proofs.Lines.{entries-core, core-lines-core, core-lines-append, third, not_empty, not_one, behind_heads, IsOther, AreOther, core-other, both-other, none_accepted, AreNotes, both-notes, core-lines-notes, Found, here, behind, find, if_ok}
 use Rattle.elim_program.proofs.FileLines.{accepts-none}
 
 -- What is known before the declarations `ds` of a text: those before it were accepted, and `told` are their lines.
@@ -36,86 +47,191 @@ record IsFound (command : Command) (all : List surf.Decl) (lines : List (List �
   before : Signature
   ready : IsReady before
   has_k : before.has_k ≡ command.k
-  accepted : Declared
+  accepted : Elaborated
   written : IsAsWritten before declaration accepted
   named : accepted.accepted.name ≡ name
   whole : IsReady accepted.signature
+  earlier : List (List ℕ)
+  told : lines ≡ earlier ++ own_lines before accepted
   shown : Shows (prelude command.k) accepted.signature (core_lines lines)
 
--- what is known behind a declaration that is accepted
-onward : (command : Command) (all : List surf.Decl) (d : surf.Decl) (ds : List surf.Decl) (told : List (List ℕ)) (S : Signature) (a : Declared) →
-    IsBefore command all (d ∷ ds) told S → IsReady a.signature → IsPrefix S a.signature →
-    IsBefore command all ds (told ++ (lines_behind S a.signature ++ accepted_line a.accepted.name ∷ [])) a.signature
-onward command all d ds told S a b ready longer =
-    let entries = lines_behind S a.signature in
+-- ---- the lines of a declaration
+
+third-other : (line : List ℕ) → third line ≢ 97 → IsOther line
+unfolding third
+third-other line h name e = h (ap third e)
+
+leaves-other : (S : Signature) (leaves : List (Telescope × List Term)) → AreOther (map (leaf_line S) leaves)
+unfolding AreOther third
+leaves-other S [] = tt
+leaves-other S (leaf ∷ leaves) = (third-other (leaf_line S leaf) (λ k. omega (arith, k)), leaves-other S leaves)
+
+line-other : (S : Signature) (line : Line) → AreOther (leaf_lines S line)
+unfolding AreOther
+line-other S Definitional = tt
+line-other S (Proved n) = tt
+line-other S (Shadowed earlier context vector leaves) = leaves-other S leaves
+line-other S Absurd = tt
+
+clause-other : (S : Signature) (c : ClauseLine) → AreOther (with_leaves S c)
+unfolding AreOther third with_leaves
+clause-other S c = (third-other (clause_line S c) (λ k. omega (arith, k)), line-other S c.line)
+
+clauses-other : (S : Signature) (clauses : List ClauseLine) → AreOther (clause_lines S clauses)
+unfolding AreOther
+clauses-other S [] = tt
+clauses-other S (c ∷ clauses) = both-other (with_leaves S c) (clause_lines S clauses) (clause-other S c) (clauses-other S clauses)
+
+leaves-notes : (S : Signature) (leaves : List (Telescope × List Term)) → AreNotes (map (leaf_line S) leaves)
+unfolding AreNotes
+leaves-notes S [] = tt
+leaves-notes S (leaf ∷ leaves) = (refl, leaves-notes S leaves)
+
+line-notes : (S : Signature) (line : Line) → AreNotes (leaf_lines S line)
+unfolding AreNotes
+line-notes S Definitional = tt
+line-notes S (Proved n) = tt
+line-notes S (Shadowed earlier context vector leaves) = leaves-notes S leaves
+line-notes S Absurd = tt
+
+clause-notes : (S : Signature) (c : ClauseLine) → AreNotes (with_leaves S c)
+unfolding AreNotes with_leaves
+clause-notes S c = (refl, line-notes S c.line)
+
+clauses-notes : (S : Signature) (clauses : List ClauseLine) → AreNotes (clause_lines S clauses)
+unfolding AreNotes
+clauses-notes S [] = tt
+clauses-notes S (c ∷ clauses) = both-notes (with_leaves S c) (clause_lines S clauses) (clause-notes S c) (clauses-notes S clauses)
+
+own-other : (S : Signature) (a : Elaborated) → AreOther (own_lines S a)
+own-other S a =
+    both-other (lines_behind S a.signature) (clause_lines a.signature a.lines)
+    (core-other (lines_behind S a.signature) (entries-core a.signature (length S.entries) (length a.signature.entries - length S.entries)))
+    (clauses-other a.signature a.lines)
+
+own-core : (S : Signature) (a : Elaborated) → core_lines (own_lines S a) ≡ lines_behind S a.signature
+own-core S a =
+    core-lines-core (lines_behind S a.signature) (clause_lines a.signature a.lines) (entries-core a.signature (length S.entries) (length a.signature.entries - length S.entries))
+    ∙ ap (λ ls. lines_behind S a.signature ++ ls) (core-lines-notes (clause_lines a.signature a.lines) (clauses-notes a.signature a.lines))
+    ∙ append-nil (lines_behind S a.signature)
+
+candidates-other : (e : function.Refusal) → AreOther (candidate_lines e)
+unfolding AreOther third
+candidates-other (function.Halts e) = tt
+candidates-other (function.IllTyped part place context reason) = tt
+candidates-other (function.WrongConstructor owner context type) = tt
+candidates-other (function.Stuck owner context left right why) = tt
+candidates-other (function.Uncovered name context vector) = tt
+candidates-other (function.NotAbsurd owner constructor) = tt
+candidates-other (function.Impossible owner context left right) = tt
+candidates-other (function.DotMismatch owner context written forced) = tt
+candidates-other (function.SelfInType owner) = tt
+candidates-other (function.NotSmaller rows) = tt
+candidates-other (function.Rejected r) = (third-other (codes "# candidate " ++ r.line) (λ k. omega (arith, k)), tt)
+
+refused-other : (name : List ℕ) (e : Refused) → AreOther (refused_lines name e)
+unfolding AreOther third
+refused-other name (Declaration e) = (third-other (refusal_line name e) (λ k. omega (arith, k)), tt)
+refused-other name (Function e) =
+    both-other (candidate_lines e) ((codes "# refused " ++ name ++ codes " " ++ refusal_text e) ∷ []) (candidates-other e)
+    (third-other (codes "# refused " ++ name ++ codes " " ++ refusal_text e) (λ k. omega (arith, k)), tt)
+
+worked-other : (n fuel : ℕ) (S : Signature) (ds : List surf.Decl) (c : Counts) → AreOther (worked_block n (worked fuel S ds c)).lines
+unfolding AreOther third
+worked-other n fuel S [] c = (third-other (summary_line n c) (λ k. omega (arith, k)), tt)
+worked-other n fuel S (d ∷ ds) c = by (λ T more. worked-other n fuel T ds more) (elaborate_of S fuel d)
+  where
+    by : ((T : Signature) (more : Counts) → AreOther (worked_block n (worked fuel T ds more)).lines) → (r : Result Elaborated Refused)
+        → AreOther (worked_block n (on_worked d r (λ a. worked fuel a.signature ds (with_accepted c a)))).lines
+    by rec (Ok a) = rec a.signature (with_accepted c a)
+    by rec (Err e) = refused-other (declared_name d) e
+
+-- the mode `work` accepts nothing
+work-other : (w : Work) (answer : Answer) → AreOther (work_block w answer).lines
+unfolding AreOther third
+work-other w (Ok ds) = worked-other w.count w.fuel (prelude false) ds none_counted
+work-other w (Err e) = (third-other (stop_line e) (λ k. omega (arith, k)), tt)
+
+-- ---- declarations one by one
+
+-- the lines so far, and those of the declaration, show the signature with it
+shown_with : (command : Command) (all ds : List surf.Decl) (told : List (List ℕ)) (S : Signature) (a : Elaborated) → IsBefore command all ds told S → IsPrefix S a.signature →
+    Shows (prelude command.k) a.signature (core_lines (told ++ own_lines S a))
+shown_with command all ds told S a b longer =
     let P : List (List ℕ) → Type 0 = λ ls. Shows (prelude command.k) a.signature ls in
-    let core : core_lines (told ++ (entries ++ accepted_line a.accepted.name ∷ [])) ≡ core_lines told ++ entries =
-    core-lines-append told (entries ++ accepted_line a.accepted.name ∷ [])
-    ∙ ap (λ ls. core_lines told ++ ls) (core-lines-core entries (accepted_line a.accepted.name ∷ []) (entries-core a.signature (length S.entries) (length a.signature.entries - length S.entries)) ∙ append-nil entries) in
+    let core : core_lines (told ++ own_lines S a) ≡ core_lines told ++ lines_behind S a.signature =
+    core-lines-append told (own_lines S a) ∙ ap (λ ls. core_lines told ++ ls) (own-core S a) in
+    subst P (sym core) (more S a.signature (core_lines told) b.shown longer)
+
+-- what is known after a declaration that is accepted
+onward : (command : Command) (all : List surf.Decl) (d : surf.Decl) (ds : List surf.Decl) (told : List (List ℕ)) (S : Signature) (a : Elaborated) →
+    IsBefore command all (d ∷ ds) told S → GoesOn S a → IsBefore command all ds ((told ++ own_lines S a) ++ accepted_line a.accepted.name ∷ []) a.signature
+onward command all d ds told S a b on =
+    let P : List (List ℕ) → Type 0 = λ ls. Shows (prelude command.k) a.signature ls in
+    let core : core_lines ((told ++ own_lines S a) ++ accepted_line a.accepted.name ∷ []) ≡ core_lines (told ++ own_lines S a) =
+    core-lines-append (told ++ own_lines S a) (accepted_line a.accepted.name ∷ []) ∙ append-nil (core_lines (told ++ own_lines S a)) in
     record {
       done = b.done ++ d ∷ [];
       parts = b.parts ∙ sym (append_assoc b.done (d ∷ []) ds);
-      ready = ready;
-      has_k = longer.has_k ∙ b.has_k;
-      shown = subst P (sym core) (more S a.signature (core_lines told) b.shown longer);
+      ready = on.ready;
+      has_k = on.longer.has_k ∙ b.has_k;
+      shown = subst P (sym core) (shown_with command all (d ∷ ds) told S a b on.longer);
     }
 
-shown_here : (command : Command) (all : List surf.Decl) (d : surf.Decl) (ds : List surf.Decl) (told : List (List ℕ)) (S : Signature) (a : Declared) (name : List ℕ) →
-    IsBefore command all (d ∷ ds) told S → IsReady a.signature → IsPrefix S a.signature → IsAsWritten S d a → a.accepted.name ≡ name →
-    IsFound command all (told ++ lines_behind S a.signature) name
-shown_here command all d ds told S a name b ready longer written named =
+shown_here : (command : Command) (all : List surf.Decl) (d : surf.Decl) (ds : List surf.Decl) (told : List (List ℕ)) (S : Signature) (a : Elaborated) (name : List ℕ) →
+    IsBefore command all (d ∷ ds) told S → GoesOn S a → IsAsWritten S d a → a.accepted.name ≡ name → IsFound command all (told ++ own_lines S a) name
+shown_here command all d ds told S a name b on written named = record {
+  front = b.done;
+  declaration = d;
+  back = ds;
+  in_text = b.parts;
+  before = S;
+  ready = b.ready;
+  has_k = b.has_k;
+  accepted = a;
+  written = written;
+  named = named;
+  whole = on.ready;
+  earlier = told;
+  told = refl;
+  shown = shown_with command all (d ∷ ds) told S a b on.longer;
+}
+
+-- the lines of an accepted declaration and those that follow
+split-lines : (S : Signature) (a : Elaborated) (rest : List (List ℕ)) → accepted_lines S a ++ rest ≡ own_lines S a ++ accepted_line a.accepted.name ∷ rest
+split-lines S a rest =
     let entries = lines_behind S a.signature in
-    let P : List (List ℕ) → Type 0 = λ ls. Shows (prelude command.k) a.signature ls in
-    let same : core_lines entries ≡ entries =
-    ap core_lines (sym (append-nil entries)) ∙ core-lines-core entries [] (entries-core a.signature (length S.entries) (length a.signature.entries - length S.entries)) ∙ append-nil entries in
-    let core : core_lines (told ++ entries) ≡ core_lines told ++ entries = core-lines-append told entries ∙ ap (λ ls. core_lines told ++ ls) same in
-    record {
-      front = b.done;
-      declaration = d;
-      back = ds;
-      in_text = b.parts;
-      before = S;
-      ready = b.ready;
-      has_k = b.has_k;
-      accepted = a;
-      written = written;
-      named = named;
-      whole = ready;
-      shown = subst P (sym core) (more S a.signature (core_lines told) b.shown longer);
-    }
+    let clauses = clause_lines a.signature a.lines in
+    let last = accepted_line a.accepted.name ∷ [] in
+    ap (λ ls. ls ++ rest) (sym (append_assoc entries clauses last)) ∙ append_assoc (entries ++ clauses) last rest
 
 found : (command : Command) (all : List surf.Decl) (S : Signature) (ds : List surf.Decl) (told above below : List (List ℕ)) (name : List ℕ) →
     IsBefore command all ds told S → (declarations command.fuel S ds).lines ≡ above ++ accepted_line name ∷ below → IsFound command all (told ++ above) name
-unfolding third
 found command all S [] told above below name b e = absurd (not_empty above below (accepted_line name) e)
 found command all S (d ∷ ds) told above below name b e =
-    go (λ T later told b r. found command all T ds told later below name b r) (declare_of S command.fuel d) refl e
+    go (λ T later told b r. found command all T ds told later below name b r) (elaborate_of S command.fuel d) refl e
   where
     go : ((T : Signature) (later told : List (List ℕ)) → IsBefore command all ds told T → (declarations command.fuel T ds).lines ≡ later ++ accepted_line name ∷ below → IsFound command all (told ++ later) name)
-        → (r : Result Declared Refusal) → declare_of S command.fuel d ≡ r
+        → (r : Result Elaborated Refused) → elaborate_of S command.fuel d ≡ r
         → (followed (declared_block S d r) (declarations command.fuel (after S r) ds)).lines ≡ above ++ accepted_line name ∷ below
         → IsFound command all (told ++ above) name
-    go rec (Err refusal) er e = absurd (not_one (refusal_line (declared_name d) refusal) (accepted_line name) above below (λ k. omega (arith, k)) e)
+    go rec (Err refusal) er e = absurd (none_accepted (refused_lines (declared_name d) refusal) above below name (refused-other (declared_name d) refusal) e)
     go rec (Ok a) er e =
-        let longer = if_ok (λ x. IsPrefix S x.signature) (declare_of S command.fuel d) a er (declare-extends S command.fuel d) in
-        let ready = if_ok (λ x. IsReady x.signature) (declare_of S command.fuel d) a er (declare-ready S command.fuel d b.ready) in
-        let written = if_ok (IsAsWritten S d) (declare_of S command.fuel d) a er (declares-written S command.fuel d b.ready.well_formed) in
-        let entries = lines_behind S a.signature in
-        let split : entries ++ accepted_line a.accepted.name ∷ (declarations command.fuel a.signature ds).lines ≡ above ++ accepted_line name ∷ below =
-        sym (append_assoc entries (accepted_line a.accepted.name ∷ []) (declarations command.fuel a.signature ds).lines) ∙ e in
-        which longer ready written (find entries (declarations command.fuel a.signature ds).lines above below a.accepted.name name (entries-core a.signature (length S.entries) (length a.signature.entries - length S.entries)) split)
+        let on = if_ok (GoesOn S) (elaborate_of S command.fuel d) a er (elaborate-ready S command.fuel d b.ready) in
+        let written = if_ok (IsAsWritten S d) (elaborate_of S command.fuel d) a er (elaborates-written S command.fuel d b.ready) in
+        let rest = (declarations command.fuel a.signature ds).lines in
+        which on written (find (own_lines S a) rest above below a.accepted.name name (own-other S a) (sym (split-lines S a rest) ∙ e))
       where
-        which : IsPrefix S a.signature → IsReady a.signature → IsAsWritten S d a
-            → Found (lines_behind S a.signature) (declarations command.fuel a.signature ds).lines above below a.accepted.name name → IsFound command all (told ++ above) name
-        which longer ready written (here f m r) =
+        which : GoesOn S a → IsAsWritten S d a → Found (own_lines S a) (declarations command.fuel a.signature ds).lines above below a.accepted.name name → IsFound command all (told ++ above) name
+        which on written (here f m r) =
             let P : List (List ℕ) → Type 0 = λ ls. IsFound command all (told ++ ls) name in
-            subst P (sym f) (shown_here command all d ds told S a name b ready longer written m)
-        which longer ready written (behind later f r) =
-            let block = lines_behind S a.signature ++ accepted_line a.accepted.name ∷ [] in
+            subst P (sym f) (shown_here command all d ds told S a name b on written m)
+        which on written (behind later f r) =
             let P : List (List ℕ) → Type 0 = λ ls. IsFound command all ls name in
-            let place : (told ++ block) ++ later ≡ told ++ above =
-            append_assoc told block later ∙ ap (λ ls. told ++ ls) (append_assoc (lines_behind S a.signature) (accepted_line a.accepted.name ∷ []) later ∙ sym f) in
-            subst P place (rec a.signature later (told ++ block) (onward command all d ds told S a b ready longer) r)
+            let place : ((told ++ own_lines S a) ++ accepted_line a.accepted.name ∷ []) ++ later ≡ told ++ above =
+            append_assoc (told ++ own_lines S a) (accepted_line a.accepted.name ∷ []) later ∙ append_assoc told (own_lines S a) (accepted_line a.accepted.name ∷ later)
+            ∙ ap (λ ls. told ++ ls) (sym f) in
+            subst P place (rec a.signature later ((told ++ own_lines S a) ++ accepted_line a.accepted.name ∷ []) (onward command all d ds told S a b on) r)
 
 -- what is found in a text is shown
 as_shown : (words : List (List ℕ)) (bytes : List ℕ) (command : Command) (decls : List surf.Decl) (lines : List (List ℕ)) (name : List ℕ) →
@@ -138,13 +254,15 @@ as_shown words bytes command decls lines name asks gives f = record {
   whole = f.whole;
   lines = lines;
   heads = refl;
+  earlier = f.earlier;
+  told = f.told;
   shown = f.shown;
 }
 
 pub shown : (words : List (List ℕ)) (bytes : List ℕ) (out : Output) (above below : List (List ℕ)) (name : List ℕ) → IsOutput words bytes out → out.lines ≡ above ++ accepted_line name ∷ below →
     IsShown words bytes above name
 unfolding third
-shown words bytes out above below name (refused_words asks nothing) e = absurd (not_one (codes "# usage elim (compile [--k] | verify [--k] | work N) [--fuel N]") (accepted_line name) above below (λ k. omega (arith, k)) e)
+shown words bytes out above below name (refused_words asks nothing other) e = absurd (not_one (codes "# usage elim (compile [--k] | verify [--k] | work N) [--fuel N]") (accepted_line name) above below (λ k. omega (arith, k)) e)
 shown words bytes out above below name (compiles command answer asks gives) e =
     let b = behind_heads command.k (text_block command answer).lines above below (accepted_line name) (λ k. omega (arith, k)) (λ k. omega (arith, k)) e in
     let P : List (List ℕ) → Type 0 = λ ls. IsShown words bytes ls name in
@@ -162,3 +280,6 @@ shown words bytes out above below name (compiles command answer asks gives) e =
           shown = none;
         }) e)
 shown words bytes out above below name (verifies command asks) e = absurd (accepts-none command (limited bytes) above below name e)
+shown words bytes out above below name (works work answer asks gives) e =
+    let b = behind_heads false (work_block work answer).lines above below (accepted_line name) (λ k. omega (arith, k)) (λ k. omega (arith, k)) e in
+    absurd (none_accepted (work_block work answer).lines b.0 below name (work-other work answer) b.2)

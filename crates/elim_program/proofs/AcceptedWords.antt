@@ -9,7 +9,7 @@ use Rattle.clap.specs.declared.parser.matches.ArgMatches.{ArgMatches}
 use Rattle.clap.specs.Values.{bool_text}
 use Rattle.clap.proofs.WalkLemmas.{both, first_value-rows, one_text-rows}
 use Rattle.elim_program.specs.declared.words.Command.{Command}
-use Rattle.elim_program.specs.Words.{asked, command, default_fuel, flags, fuel_of, is_accepted, is_fuel, is_k, verify_asked}
+use Rattle.elim_program.specs.Words.{asked, command, default_fuel, flags, fuel_of, asks_for_source, is_fuel, is_k, verify_asked}
 use Rattle.elim_program.specs.Words as spec
 use Rattle.elim_program.specs.CommandLine.{command_line}
 use Rattle.elim_program.proofs.CommandWalks.{Finds, Passes, bare, mode_word, with_fuel, with_fuel_and_k, with_k, with_k_and_fuel}
@@ -25,7 +25,7 @@ no_hyphen d n ds e =
     let first = fuel_digit d n ds e in
     ne_eqb d 45 (λ is. omega (arith, is))
 
--- the command finds the values behind a mode
+-- the command finds the values after a mode
 record FindsFlags (words : List Text) (verify : Bool) (given : Command) : Type 0 where
   pub text : Option Text
   pub finds : Finds (mode_word verify ∷ words) verify given.k text
@@ -106,7 +106,7 @@ found_in verify word words given is asks flags_are =
       reads = r.reads;
     }
 
-pub found : (words : List Text) → is_accepted words ≡ true → Found words
+pub found : (words : List Text) → asks_for_source words ≡ true → Found words
 found [] h = cc
 found (word ∷ words) h = go (bytes_eq word (codes "compile")) refl (bytes_eq word (codes "verify")) refl (flags words) refl h
   where

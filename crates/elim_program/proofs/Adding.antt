@@ -1,9 +1,6 @@
 -- What an entry that is read adds to a signature.
-use Rattle.std.proofs.Common.{◌≡◌, ℕ, suc, ◌+◌, Bool, true, false, List, [], ◌∷◌, length, Option, Some, None, Result, Ok, Err, IfOk, refl, sym, ap, subst, ◌∙◌, arith}
-use Rattle.std.specs.Prelude.{◌||◌, cond, slice_get, position, nat_lt, not}
-use Rattle.std.specs.List.{list_any, position_or_len}
-use Rattle.std.proofs.lemmas.Bool.{false≢true}
-use Rattle.std.proofs.lemmas.Bool.Decides.{nat_tests}
+use Rattle.std.proofs.Common.{◌≡◌, ℕ, Bool, true, false, List, [], ◌∷◌, Option, Some, None, Result, Ok, Err, IfOk, refl, sym, subst}
+use Rattle.std.specs.Prelude.{slice_get, position, nat_lt}
 use Rattle.theory.specs.Terms.{Term, top}
 use Rattle.theory.specs.Eliminators.{eliminator_type}
 use Rattle.theory.specs.Signatures.{Entry, FamilyOf, EliminatorAt, AxiomKAt, Definition, Signature, IsPrefix, axiom_k_type}
@@ -64,14 +61,14 @@ if-ok-map : {A E : Type 0} (P Q : A → Type 0) (r : Result A E) → ((a : A) �
 if-ok-map P Q (Ok a) f h = f a h
 if-ok-map P Q (Err e) f h = tt
 
-define-enters : (S : Signature) (name : List ℕ) (type body : Term) (left : ℕ) → Answers (λ e. e ≡ entered S (Definition name type body)) (define_of S name type body left)
+pub define-enters : (S : Signature) (name : List ℕ) (type body : Term) (left : ℕ) → Answers (λ e. e ≡ entered S (Definition name type body)) (define_of S name type body left)
 define-enters S name type body left =
     if_new-has (λ e. e ≡ entered S (Definition name type body)) (are_new S (name ∷ [])) (check_definition S name type body) left (λ test.
     and_next-has Any (λ e. e ≡ entered S (Definition name type body)) (sort_in S OfType [] type left) _ (any (sort_in S OfType [] type left)) (λ sort rest u.
     and_next-has Any (λ e. e ≡ entered S (Definition name type body)) (type_in S OfBody [] body type rest) _ (any (type_in S OfBody [] body type rest)) (λ found end v.
     refl)))
 
-instance-enters : (S : Signature) (e : Entry) (fits : Bool) (type : Term) (left : ℕ) → Answers (λ x. x ≡ entered S e) (enter_instance S e fits type left)
+pub instance-enters : (S : Signature) (e : Entry) (fits : Bool) (type : Term) (left : ℕ) → Answers (λ x. x ≡ entered S e) (enter_instance S e fits type left)
 instance-enters S e true type left = and_next-has Any (λ x. x ≡ entered S e) (sort_in S OfType [] type left) _ (any (sort_in S OfType [] type left)) (λ sort end u. refl)
 instance-enters S e false type left = tt
 

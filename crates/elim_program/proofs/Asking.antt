@@ -59,7 +59,7 @@ is_long bytes e = λ _. too_long (go (nat_lt 1048576 (length bytes)) refl e)
     go true h e = grind (arith, nat_tests)
     go false h e = cc
 
-pub none_found : (o : Option ℕ) → ((x : ℕ) → o ≡ Some x → ⊥) → o ≡ None
+pub none_found : {A : Type 0} (o : Option A) → ((x : A) → o ≡ Some x → ⊥) → o ≡ None
 none_found None h = refl
 none_found (Some x) h = absurd (h x refl)
 

@@ -63,7 +63,7 @@ found_by words w verify k fuel is passed end = record {
 abbrev at_option : Held → Text → ℕ → Walk
 at_option h id n = record { held = h; waiting = option id; position = n; is_trailing = false; stopped = None }
 
--- behind the word that is the option's value
+-- after the word that is the option's value
 abbrev behind_value : List Rule → Held → Text → ℕ → Text → Walk
 behind_value rules h id n word = record {
   held = (option_word (arg_by_id rules id) id word h).0;
@@ -94,7 +94,7 @@ passes-append s w (x ∷ front) back h behind =
     let parts = both (turn_passes s [] w x) (walk_passes s [] (walked s.rules [] w x) front) h in
     rw parts.0 (passes-append s (walked s.rules [] w x) front back parts.1 behind)
 
--- words with a number behind a front that ends in `--fuel`
+-- words with a number after a front that ends in `--fuel`
 found_value : (front back : List Text) (verify k : Bool) (d : ℕ) (ds : Text) (h : Held) (n : ℕ) → (d == 45) ≡ false
     → walk_of front ≡ at_option h (codes "fuel") n → walk_passes shape [] (walk_from nothing_held) front ≡ true
     → walk_passes shape [] (behind_value shape.rules h (codes "fuel") n (d ∷ ds)) back ≡ true

@@ -154,7 +154,7 @@ module _ (before now : Option (List ℕ)) (whole : Block) (text : List ℕ) (fue
         telling = told_one before now end whole (read_block S fuel raw) (entries text fuel n.others (behind S (enter_read S fuel raw)) to) (split e to is n) (subst (λ x. Tells now end (Ok x) (read_block S fuel raw)) eb told);
       }))
 
--- the lines behind a head that is read
+-- the lines after a head that is read
 pub told-file : (before after : Option (List ℕ)) (r : Result Bool Status) (fuel : ℕ) (text : List ℕ) (m : Result (Bool × ℕ) CoreTextStop) (k : Bool) (start : ℕ) → m ≡ Ok (k, start) → (S : Signature) → S ≡ prelude k
     → (left : ℕ) → left ≡ fuel → Tells before after r (entries text left (suc (length text)) S start) → Tells before after r (behind_head fuel text m)
 told-file before after r fuel text m k start em S es left el told =

@@ -12,7 +12,6 @@ use Rattle.elim_program.specs.declared.status.Status.{Status}
 use Rattle.elim_program.specs.declared.status.Status.TheVariants.{Done, Refused, Usage, ReadFault, WriteFault, NoMemory}
 use Rattle.elim_program.specs.Lines.{text_of}
 use Rattle.elim_program.specs.Outputs.{Block, Output, compiled, head_lines, followed}
-use Rattle.elim_program.specs.Blocks.{Shown, shown_block}
 use Rattle.elim_program.proofs.TextLines.{text_both}
 use Rattle.elim_program.specs.Runs.{IsFront, Follows, Says, Sent, Told, Failed}
 use Rattle.elim_program.specs.Texts.{limited}

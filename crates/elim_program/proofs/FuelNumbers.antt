@@ -1,4 +1,4 @@
--- The number behind `--fuel`, as the command reads it.
+-- The number after `--fuel`, as the command reads it.
 use Rattle.std.proofs.Common.{◌≡◌, ℕ, ◌+◌, ◌*◌, ◌≤◌, ◌==◌, ◌&&◌, Bool, true, false, List, [], ◌∷◌, Option, Some, None, Result, Ok, Err, refl, ap, subst, arith, cond, ◌∙◌}
 use Rattle.std.specs.Prelude.{if◌then◌else◌, nat_le, drop}
 use Rattle.std.specs.Int.{IsInRange}
@@ -12,30 +12,30 @@ use Rattle.clap.proofs.ValueTestLemmas.{Accepts-accepts}
 use Rattle.clap.proofs.WalkLemmas.{both}
 use Rattle.clap.specs.declared.builder.value_parser.ValueParser.TheVariants.{Unsigned}
 use Rattle.surface_syntax.specs.Spelling.{is_digit}
-use Rattle.elim_program.specs.Words.{fuel_of, number_behind, with_digit}
+use Rattle.elim_program.specs.Words.{fuel_of, number_after, with_digit}
 
 pub digit_in : (d : ℕ) → is_digit d ≡ true → IsInRange 48 57 d
 digit_in d e =
     let parts = both _ _ e in
     (leb-true _ _ parts.0, leb-true _ _ parts.1)
 
-number_read : (n m : ℕ) (ds : List ℕ) → number_behind n ds ≡ Some m → n ≤ 1000000000
+number_read : (n m : ℕ) (ds : List ℕ) → number_after n ds ≡ Some m → n ≤ 1000000000
     → AllDigits 10 ds × (digits_value_after 10 n ds ≡ m) × (m ≤ 1000000000)
 number_read n m [] e low =
     let is : n ≡ m = cc in
     (tt, is, omega (arith, is))
 number_read n m (d ∷ ds) e low = go (is_digit d && nat_le (with_digit n d) 1000000000) refl e (number_read (with_digit n d) m ds)
   where
-    go : (b : Bool) → (is_digit d && nat_le (with_digit n d) 1000000000) ≡ b → (if b then number_behind (with_digit n d) ds else None) ≡ Some m
-        → (number_behind (with_digit n d) ds ≡ Some m → with_digit n d ≤ 1000000000
+    go : (b : Bool) → (is_digit d && nat_le (with_digit n d) 1000000000) ≡ b → (if b then number_after (with_digit n d) ds else None) ≡ Some m
+        → (number_after (with_digit n d) ds ≡ Some m → with_digit n d ≤ 1000000000
         → AllDigits 10 ds × (digits_value_after 10 (with_digit n d) ds ≡ m) × (m ≤ 1000000000))
         → AllDigits 10 (d ∷ ds) × (digits_value_after 10 n (d ∷ ds) ≡ m) × (m ≤ 1000000000)
-    go false is found behind = cc
-    go true is found behind =
+    go false is found after = cc
+    go true is found after =
         let parts = both _ _ is in
         let digit = digit_in d parts.0 in
         let value = digit_value_digit d digit in
-        let rest = behind found (leb-true _ _ parts.1) in
+        let rest = after found (leb-true _ _ parts.1) in
         let same : with_digit n d ≡ n * 10 + digit_value d = omega (arith, value) in
         ((omega (arith, value), rest.0), subst (λ k. digits_value_after 10 k ds ≡ m) same rest.1, rest.2)
 
@@ -44,7 +44,7 @@ pub fuel_digit : (d n : ℕ) (ds : List ℕ) → fuel_of (d ∷ ds) ≡ Some n �
 fuel_digit d n ds e = go (d == 48) (is_digit d && nat_le (with_digit 0 d) 1000000000) refl e
   where
     go : (zero front : Bool) → (is_digit d && nat_le (with_digit 0 d) 1000000000) ≡ front
-        → (if zero then None else (if front then number_behind (with_digit 0 d) ds else None)) ≡ Some n → IsInRange 48 57 d
+        → (if zero then None else (if front then number_after (with_digit 0 d) ds else None)) ≡ Some n → IsInRange 48 57 d
     go true front is e = cc
     go false false is e = cc
     go false true is e = digit_in d (both _ _ is).0
@@ -59,7 +59,7 @@ pub fuel_is : (text : List ℕ) (n : ℕ) → fuel_of text ≡ Some n → IsFuel
 fuel_is [] n e = cc
 fuel_is (d ∷ ds) n e = go (d == 48) e
   where
-    go : (zero : Bool) → (if zero then None else number_behind 0 (d ∷ ds)) ≡ Some n → IsFuel (d ∷ ds) n
+    go : (zero : Bool) → (if zero then None else number_after 0 (d ∷ ds)) ≡ Some n → IsFuel (d ∷ ds) n
     go true found = cc
     go false found =
         let read = number_read 0 n (d ∷ ds) found (omega arith) in

@@ -3,20 +3,30 @@ mod AcceptedWords
 mod Adding
 mod Asking
 mod CommandWalks
+mod ElaboratedInLine
+mod EnteredNames
 pub mod Entries
 mod FileHeads
 mod FileLines
 pub mod Following
 mod FuelNumbers
+mod FunctionInLine
+mod FunctionTexts
+mod FunctionWords
 mod GrammarInLine
 mod Lines
 mod OneOutput
 mod OutputInLine
+mod QuietWalks
 mod ReadInLine
 mod RefusalsInLine
+pub mod RefusedBlocks
+mod ReportsInLine
 mod SessionInLine
 mod Telling
 pub mod TextLines
 mod TokensInLine
 mod Verified
 mod Whole
+mod WorkCounts
+pub mod WorkLines

@@ -77,20 +77,64 @@ behind_heads false rest (x ∷ []) below line h g e = absurd (g (sym (ap (λ ls.
 behind_heads k rest (x ∷ y ∷ above) below line h g e =
     (above, ap (λ l. l ∷ y ∷ above) (sym (ap first_line e)) ∙ ap (λ l. codes "elim 1" ∷ l ∷ above) (sym (ap (λ ls. first_line (drop 1 ls)) e)), ap (drop 2) e)
 
--- A line of acceptance behind core lines and one of acceptance: it is that one, or it stands behind.
-pub data Found (xs rest front back : List (List ℕ)) (n name : List ℕ) : Type 0 where
-  here : front ≡ xs → n ≡ name → rest ≡ back → Found xs rest front back n name
-  behind : (later : List (List ℕ)) → front ≡ xs ++ accepted_line n ∷ later → rest ≡ later ++ accepted_line name ∷ back → Found xs rest front back n name
+-- lines that say of nothing that it is accepted
+abbrev pub IsOther : List ℕ → Type 0
+IsOther line = (name : List ℕ) → line ≡ accepted_line name → ⊥
+
+unfoldable pub AreOther : List (List ℕ) → Type 0
+AreOther [] = Unit {0}
+AreOther (line ∷ lines) = IsOther line × AreOther lines
 
 core-not : (line name : List ℕ) → is_core line ≡ true → line ≡ accepted_line name → ⊥
 core-not line name h e = let k : is_core (accepted_line name) ≡ true = sym (ap is_core e) ∙ h in cc
 
-pub find : (xs rest front back : List (List ℕ)) (n name : List ℕ) → AreCore xs → xs ++ accepted_line n ∷ rest ≡ front ++ accepted_line name ∷ back
+pub core-other : (lines : List (List ℕ)) → AreCore lines → AreOther lines
+unfolding AreCore AreOther
+core-other [] h = tt
+core-other (line ∷ lines) h = (λ name e. core-not line name h.0 e, core-other lines h.1)
+
+pub both-other : (xs ys : List (List ℕ)) → AreOther xs → AreOther ys → AreOther (xs ++ ys)
+unfolding AreOther
+both-other [] ys h k = k
+both-other (x ∷ xs) ys h k = (h.0, both-other xs ys h.1 k)
+
+-- none of them is accepted
+pub none_accepted : (lines above below : List (List ℕ)) (name : List ℕ) → AreOther lines → lines ≡ above ++ accepted_line name ∷ below → ⊥
+unfolding AreOther first_line
+none_accepted [] above below name h e = not_empty above below (accepted_line name) e
+none_accepted (x ∷ xs) [] below name h e = h.0 name (ap first_line e)
+none_accepted (x ∷ xs) (y ∷ above) below name h e = none_accepted xs above below name h.1 (ap (drop 1) e)
+
+-- lines that begin with `#`
+unfoldable pub AreNotes : List (List ℕ) → Type 0
+AreNotes [] = Unit {0}
+AreNotes (line ∷ lines) = (is_core line ≡ false) × AreNotes lines
+
+pub both-notes : (xs ys : List (List ℕ)) → AreNotes xs → AreNotes ys → AreNotes (xs ++ ys)
+unfolding AreNotes
+both-notes [] ys h k = k
+both-notes (x ∷ xs) ys h k = (h.0, both-notes xs ys h.1 k)
+
+pub core-lines-notes : (lines : List (List ℕ)) → AreNotes lines → core_lines lines ≡ []
+unfolding AreNotes
+core-lines-notes [] h = refl
+core-lines-notes (x ∷ xs) h = drop_it (is_core x) h.0 ∙ core-lines-notes xs h.1
+  where
+    drop_it : (b : Bool) → b ≡ false → (if b then x ∷ core_lines xs else core_lines xs) ≡ core_lines xs
+    drop_it true e = cc
+    drop_it false e = refl
+
+-- A line of acceptance after other lines and one of acceptance: it is that one, or it comes after it.
+pub data Found (xs rest front back : List (List ℕ)) (n name : List ℕ) : Type 0 where
+  here : front ≡ xs → n ≡ name → rest ≡ back → Found xs rest front back n name
+  behind : (later : List (List ℕ)) → front ≡ xs ++ accepted_line n ∷ later → rest ≡ later ++ accepted_line name ∷ back → Found xs rest front back n name
+
+pub find : (xs rest front back : List (List ℕ)) (n name : List ℕ) → AreOther xs → xs ++ accepted_line n ∷ rest ≡ front ++ accepted_line name ∷ back
     → Found xs rest front back n name
-unfolding AreCore first_line
+unfolding AreOther first_line
 find [] rest [] back n name h e = here refl (ap (λ ls. drop 11 (first_line ls)) e) (ap (drop 1) e)
 find [] rest (x ∷ front) back n name h e = behind front (ap (λ l. l ∷ front) (sym (ap first_line e))) (ap (drop 1) e)
-find (x ∷ xs) rest [] back n name h e = absurd (core-not x name h.0 (ap first_line e))
+find (x ∷ xs) rest [] back n name h e = absurd (h.0 name (ap first_line e))
 find (x ∷ xs) rest (y ∷ front) back n name h e =
     let same : x ≡ y = ap first_line e in go (find xs rest front back n name h.1 (ap (drop 1) e)) same
   where

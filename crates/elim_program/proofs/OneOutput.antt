@@ -1,6 +1,6 @@
 -- One output at most is defined.
 use Rattle.std.proofs.Common.{◌≡◌, ℕ, ◌+◌, Bool, true, false, List, [], ◌∷◌, length, take, drop, Option, Some, None, Err, refl, sym, ap, subst, ◌∙◌, arith, codes}
-use Rattle.std.specs.Prelude.{bytes_eq, if◌then◌else◌}
+use Rattle.std.specs.Prelude.{bytes_eq, ◌&&◌, if◌then◌else◌}
 use Rattle.std.proofs.lemmas.Slice.Eq.{bytes_eq-Decides}
 use Rattle.std.specs.Str.{IsUtf8, IsValidUpTo}
 use Rattle.std.proofs.lemmas.Str.{utf8_valid_len-IsValidUpTo, utf8_valid_len-IsUtf8}
@@ -13,12 +13,15 @@ use Rattle.surface_syntax.specs.declared.token.TokenKind.{TokenKind}
 use Rattle.elim_program.specs.declared.text_stop.TextStop.TheVariants as failure
 use Rattle.elim_program.specs.declared.words.Command.{Command}
 use Rattle.surface_syntax.specs.Parses.{parsed}
-use Rattle.elim_program.specs.DefinedOutputs.{refused_words, compiles, verifies, HasOneOutput}
+use Rattle.elim_program.specs.declared.words.Work.{Work}
+use Rattle.elim_program.specs.DefinedOutputs.{refused_words, compiles, verifies, works, HasOneOutput}
 use Rattle.elim_program.specs.Outputs.{compiled, text_block}
 use Rattle.elim_program.specs.Texts.{Answer, Gives, too_long, not_utf8, bad_token, tokens, limited, read, unless_unbuilt}
 use Rattle.elim_program.specs.Unbuilt.{unbuilt}
 use Rattle.elim_program.specs.Verifies.{file_block}
-use Rattle.elim_program.specs.Words.{asked, flags, verify_asked}
+use Rattle.elim_program.specs.Words.{asked, count_of, default_fuel, flags, fuel_of, is_fuel, verify_asked, work_asked, work_of}
+use Rattle.elim_program.specs.WorkTexts.{work_text}
+use Rattle.elim_program.specs.Works.{work_output}
 
 gap-of : Piece → ℕ → ℕ
 gap-of (Gap n) m = n
@@ -116,14 +119,56 @@ not-both-asked (mode ∷ words) c d e f = go (bytes_eq mode (codes "compile")) r
     go true h false g e f = cc
     go false h b g e f = cc
 
+-- words that ask for `work` begin with it
+work-first : (words : List (List ℕ)) (w : Work) → work_asked words ≡ Some w → (rest : List (List ℕ)) × (words ≡ codes "work" ∷ rest)
+work-first [] w e = cc
+work-first (mode ∷ []) w e = cc
+work-first (mode ∷ count ∷ []) w e = go (bytes_eq mode (codes "work")) refl e
+  where
+    go : (a : Bool) → bytes_eq mode (codes "work") ≡ a → (if a then work_of (count_of count) (Some default_fuel) else None) ≡ Some w → (rest : List (List ℕ)) × (mode ∷ count ∷ [] ≡ codes "work" ∷ rest)
+    go true h e = (count ∷ [], ap (λ m. m ∷ count ∷ []) ((bytes_eq-Decides mode (codes "work")).0 h))
+    go false h e = cc
+work-first (mode ∷ count ∷ flag ∷ []) w e = cc
+work-first (mode ∷ count ∷ flag ∷ fuel ∷ []) w e = go (bytes_eq mode (codes "work")) refl (is_fuel flag) e
+  where
+    go : (a : Bool) → bytes_eq mode (codes "work") ≡ a → (b : Bool) → (if a && b then work_of (count_of count) (fuel_of fuel) else None) ≡ Some w
+        → (rest : List (List ℕ)) × (mode ∷ count ∷ flag ∷ fuel ∷ [] ≡ codes "work" ∷ rest)
+    go true h b e = (count ∷ flag ∷ fuel ∷ [], ap (λ m. m ∷ count ∷ flag ∷ fuel ∷ []) ((bytes_eq-Decides mode (codes "work")).0 h))
+    go false h b e = cc
+work-first (mode ∷ count ∷ flag ∷ fuel ∷ more ∷ words) w e = cc
+
+-- no words ask for `work` and for something else
+pub work-no-compile : (words : List (List ℕ)) (w : Work) → work_asked words ≡ Some w → asked words ≡ None
+work-no-compile words w e = ap asked (work-first words w e).1
+
+pub work-no-verify : (words : List (List ℕ)) (w : Work) → work_asked words ≡ Some w → verify_asked words ≡ None
+work-no-verify words w e = ap verify_asked (work-first words w e).1
+
+work-or : Work → Option Work → Work
+work-or w (Some v) = v
+work-or w None = w
+
+same-work : (o : Option Work) (w v : Work) → o ≡ Some w → o ≡ Some v → w ≡ v
+unfolding work-or
+same-work o w v e f = ap (work-or w) (sym e ∙ f)
+
 pub one_output : HasOneOutput
-one_output words bytes a b (refused_words e g) (refused_words f h) = refl
-one_output words bytes a b (refused_words e n) (compiles c x f g) = absurd (let k = sym e ∙ f in cc)
-one_output words bytes a b (compiles c x e g) (refused_words f n) = absurd (let k = sym e ∙ f in cc)
+one_output words bytes a b (refused_words e g i) (refused_words f h j) = refl
+one_output words bytes a b (refused_words e n o) (compiles c x f g) = absurd (let k = sym e ∙ f in cc)
+one_output words bytes a b (compiles c x e g) (refused_words f n o) = absurd (let k = sym e ∙ f in cc)
+one_output words bytes a b (refused_words e n o) (works w x f g) = absurd (let k = sym o ∙ f in cc)
+one_output words bytes a b (works w x e g) (refused_words f n o) = absurd (let k = sym o ∙ e in cc)
+one_output words bytes a b (compiles c x e g) (works w y f h) = absurd (let k = sym (work-no-compile words w f) ∙ e in cc)
+one_output words bytes a b (works w y f h) (compiles c x e g) = absurd (let k = sym (work-no-compile words w f) ∙ e in cc)
+one_output words bytes a b (verifies c e) (works w y f h) = absurd (let k = sym (work-no-verify words w f) ∙ e in cc)
+one_output words bytes a b (works w y f h) (verifies c e) = absurd (let k = sym (work-no-verify words w f) ∙ e in cc)
+one_output words bytes a b (works w x e g) (works v y f h) =
+    let s : w ≡ v = same-work (work_asked words) w v e f in
+    ap (work_output w) (one_answer (work_text w.count) x y g (subst (λ z. Gives (work_text z.count) y) (sym s) h)) ∙ ap (λ z. work_output z y) s
 one_output words bytes a b (compiles c x e g) (compiles d y f h) =
     ap (λ z. compiled c.k (text_block c z)) (one_answer bytes x y g h) ∙ ap (λ z. compiled z.k (text_block z y)) (same-command (asked words) c d e f)
-one_output words bytes a b (refused_words e n) (verifies c f) = absurd (let k = sym n ∙ f in cc)
-one_output words bytes a b (verifies c e) (refused_words f n) = absurd (let k = sym n ∙ e in cc)
+one_output words bytes a b (refused_words e n o) (verifies c f) = absurd (let k = sym n ∙ f in cc)
+one_output words bytes a b (verifies c e) (refused_words f n o) = absurd (let k = sym n ∙ e in cc)
 one_output words bytes a b (compiles c x e g) (verifies d f) = absurd (not-both-asked words c d e f)
 one_output words bytes a b (verifies c e) (compiles d y f h) = absurd (not-both-asked words d c f e)
 one_output words bytes a b (verifies c e) (verifies d f) =

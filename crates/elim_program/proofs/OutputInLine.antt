@@ -1,39 +1,44 @@
 -- No line of an output holds a line feed.
-use Rattle.std.proofs.Common.{◌≡◌, ℕ, zero, suc, ◌+◌, ◌-◌, Bool, true, false, List, [], ◌∷◌, ◌++◌, length, codes, Option, Some, None, Result, Ok, Err, refl, sym, ap, ◌∙◌, append_assoc, append-nil}
-use Rattle.std.specs.Prelude.{slice_get}
+use Rattle.std.proofs.Common.{◌≡◌, ℕ, zero, suc, ◌+◌, ◌-◌, Bool, true, false, List, [], ◌∷◌, ◌++◌, length, codes, Option, Some, None, Result, Ok, Err, IfOk, refl, sym, ap, ◌∙◌, append_assoc, append-nil}
+use Rattle.std.specs.Prelude.{decimal, slice_get}
 use Rattle.theory.specs.Prelude.{prelude}
 use Rattle.theory.specs.Signatures.{Entry, Signature, names_of}
 use Rattle.core_text.specs.Lines.{is_in_line, AreInLine}
-use Rattle.core_text.proofs.Feeds.{both, text-in}
+use Rattle.core_text.proofs.Feeds.{both, decimal-in, text-in}
 use Rattle.surface_syntax.specs.Trees as surf
 use Rattle.surface_syntax.specs.Grammar.{limit}
 use Rattle.surface_syntax.specs.Machine.{Start}
 use Rattle.surface_syntax.specs.Parsing.{Answer, Read, Wrong, Deep, run}
 use Rattle.surface_syntax.proofs.Runs.{run_file}
-use Rattle.elab_session.specs.Declaring.{Declared, declare_of}
-use Rattle.elab_session.specs.Laws.{IsAsWritten}
 use Rattle.elab_session.specs.Sessions.{IsReady}
-use Rattle.elab_session.specs.declared.refusal.Refusal.{Refusal}
 use Rattle.elab_session.proofs.PreludeReady.{prelude-ready}
-use Rattle.elab_session.proofs.Written.{declare-ready, declares-written}
+use Rattle.function_session.specs.Elaborating.{Elaborated, Refused, elaborate_of}
+use Rattle.function_session.specs.Laws.{GoesOn}
+use Rattle.function_session.proofs.Keeping.{elaborate-ready}
 use Rattle.surface_syntax.specs.Lexemes.{lexemes_of}
 use Rattle.surface_syntax.specs.Parses.{by_offset, offset_of}
+use Rattle.elim_program.specs.declared.counts.Counts.{Counts}
 use Rattle.elim_program.specs.declared.words.Command.{Command}
+use Rattle.elim_program.specs.declared.words.Work.{Work}
+use Rattle.elim_program.specs.ClauseTexts.{clause_lines}
 use Rattle.elim_program.specs.Headline.{IsHeadline, Headline}
 use Rattle.elim_program.specs.Lines.{lines_of, text_of}
-use Rattle.elim_program.specs.DefinedOutputs.{IsOutput, refused_words, compiles, verifies}
-use Rattle.elim_program.specs.Outputs.{Output, line_of, entry_lines, accepted_line, declared_name, declared_block, after, followed, declarations, text_block, head_lines}
+use Rattle.elim_program.specs.DefinedOutputs.{IsOutput, refused_words, compiles, verifies, works}
+use Rattle.elim_program.specs.Outputs.{Output, line_of, entry_lines, accepted_line, accepted_lines, lines_behind, declared_name, declared_block, after, followed, declarations, text_block, head_lines}
 use Rattle.elim_program.specs.Runs.{IsFront}
 use Rattle.elim_program.specs.Texts as texts
 use Rattle.elim_program.specs.Texts.{Gives, too_long, not_utf8, bad_token, tokens, limited, read, unless_unbuilt}
 use Rattle.elim_program.specs.Unbuilt.{unbuilt}
 use Rattle.elim_program.specs.Verifies.{file_block, verified_line}
 use Rattle.elim_program.specs.VerifyHeadline.{IsVerifyHeadline, VerifyHeadline}
+use Rattle.elim_program.specs.WorkTexts.{summary_line, work_text}
+use Rattle.elim_program.specs.Works.{none_counted, on_worked, with_accepted, work_block, worked, worked_block}
 use Rattle.elim_program.proofs.Accepted.{shown}
-use Rattle.elim_program.proofs.Lines.{if_ok}
+use Rattle.elim_program.proofs.ElaboratedInLine.{ElaboratedIn, ToldIn, refused-lines-in, elaborated-in}
+use Rattle.elim_program.proofs.FunctionTexts.{clauses-in}
 use Rattle.elim_program.proofs.GrammarInLine.{DeclInLine, file-in, lexemes-good}
-use Rattle.elim_program.proofs.RefusalsInLine.{join, refusal-in, stop-in}
-use Rattle.elim_program.proofs.SessionInLine.{NamesIn, has-names, RefusesIn, refused-in, AcceptedIn, accepted-in, prelude-in}
+use Rattle.elim_program.proofs.RefusalsInLine.{join, stop-in}
+use Rattle.elim_program.proofs.SessionInLine.{NamesIn, has-names, prelude-in}
 use Rattle.elim_program.proofs.TextLines.{lines-text, lines-front}
 use Rattle.elim_program.proofs.TokensInLine.{Each, tokens-in}
 use Rattle.elim_program.proofs.FileLines.{file-lines-in}
@@ -52,28 +57,26 @@ name-in : (d : surf.Decl) → DeclInLine d → is_in_line (declared_name d) ≡ 
 name-in (surf.Def x ty body) h = h.0
 name-in (surf.Decide x f e) h = h
 name-in (surf.Data x params ty cons) h = h.0
-name-in (surf.Mutual params members f tag tags) h = absurd h
-name-in (surf.Fun x ty clauses) h = absurd h
+name-in (surf.Mutual params members f tag tags) h = h
+name-in (surf.Fun x ty clauses) h = h.0
 
-followed-in : (S : Signature) (d : surf.Decl) (a : Declared) (rest : List (List ℕ)) (count : ℕ) → AcceptedIn a → AreInLine rest →
-    AreInLine ((entry_lines a.signature (length S.entries) count ++ accepted_line a.accepted.name ∷ []) ++ rest)
-followed-in S d a rest count h k =
-    join (entry_lines a.signature (length S.entries) count ++ accepted_line a.accepted.name ∷ []) rest
-    (join (entry_lines a.signature (length S.entries) count) (accepted_line a.accepted.name ∷ []) (entries-in a.signature h.names (length S.entries) count) (both (codes "# accepted ") a.accepted.name refl h.name, tt)) k
+accepted-lines-in : (S : Signature) (a : Elaborated) → ElaboratedIn a → AreInLine (accepted_lines S a)
+accepted-lines-in S a h =
+    join (lines_behind S a.signature) (clause_lines a.signature a.lines ++ accepted_line a.accepted.name ∷ [])
+    (entries-in a.signature h.names (length S.entries) (length a.signature.entries - length S.entries))
+    (join (clause_lines a.signature a.lines) (accepted_line a.accepted.name ∷ []) (clauses-in a.signature h.names a.lines h.clauses)
+    (both (codes "# accepted ") a.accepted.name refl h.name, tt))
 
 declarations-in : (fuel : ℕ) (S : Signature) (ds : List surf.Decl) → IsReady S → NamesIn S → Each DeclInLine ds → AreInLine (declarations fuel S ds).lines
 declarations-in fuel S [] ready names h = tt
 declarations-in fuel S (d ∷ ds) ready names h =
-    go (declare_of S fuel d) refl (refused-in S fuel d names h.0) (λ T r n. declarations-in fuel T ds r n h.1)
+    go (elaborate_of S fuel d) (elaborate-ready S fuel d ready) (elaborated-in S fuel d ready names h.0) (λ T r n. declarations-in fuel T ds r n h.1)
   where
-    go : (r : Result Declared Refusal) → declare_of S fuel d ≡ r → RefusesIn r → ((T : Signature) → IsReady T → NamesIn T → AreInLine (declarations fuel T ds).lines) →
+    go : (r : Result Elaborated Refused) → IfOk r (GoesOn S) → ToldIn r → ((T : Signature) → IsReady T → NamesIn T → AreInLine (declarations fuel T ds).lines) →
         AreInLine (followed (declared_block S d r) (declarations fuel (after S r) ds)).lines
-    go (Err e) er k rec = (refusal-in (declared_name d) e (name-in d h.0) k, tt)
-    go (Ok a) er k rec =
-        let more = if_ok (λ x. IsReady x.signature) (declare_of S fuel d) a er (declare-ready S fuel d ready) in
-        let written = if_ok (IsAsWritten S d) (declare_of S fuel d) a er (declares-written S fuel d ready.well_formed) in
-        let is = accepted-in S d a names h.0 written in
-        followed-in S d a (declarations fuel a.signature ds).lines (length a.signature.entries - length S.entries) is (rec a.signature more is.names)
+    go (Err e) on k rec = refused-lines-in (declared_name d) e (name-in d h.0) k
+    go (Ok a) on k rec =
+        join (accepted_lines S a) (declarations fuel a.signature ds).lines (accepted-lines-in S a k) (rec a.signature on.ready k.names)
 
 -- what a text gives is in line
 abbrev AnswerIn : texts.Answer → Type 0
@@ -88,7 +91,7 @@ given-in bytes answer (tokens found within are) = go (unbuilt bytes found) refl 
   where
     go : (o : Option ℕ) → unbuilt bytes found ≡ o → (r : Answer) → run limit Start (lexemes_of bytes found) ≡ r → AnswerIn (unless_unbuilt o (read (by_offset (offset_of bytes found) r)))
     go (Some offset) e r q = tt
-    go None e (Read ds) q = file-in limit (run_file limit (lexemes_of bytes found) ds q) (lexemes-good bytes found (tokens-in bytes found are) e)
+    go None e (Read ds) q = file-in limit (run_file limit (lexemes_of bytes found) ds q) (lexemes-good bytes found (tokens-in bytes found are))
     go None e (Wrong n) q = tt
     go None e (Deep n) q = tt
 
@@ -96,16 +99,45 @@ block-in : (command : Command) (answer : texts.Answer) → AnswerIn answer → A
 block-in command (Ok ds) h = declarations-in command.fuel (prelude command.k) ds (prelude-ready (prelude command.k) command.k refl) (prelude-in command.k) h
 block-in command (Err e) h = (stop-in e, tt)
 
+kind-in : (before kind : List ℕ) (n : ℕ) → is_in_line before ≡ true → is_in_line kind ≡ true → is_in_line (before ++ kind ++ decimal n) ≡ true
+kind-in before kind n h k = both (before ++ kind) (decimal n) (both before kind h k) (decimal-in n)
+
+summary-in : (n : ℕ) (c : Counts) → is_in_line (summary_line n c) ≡ true
+summary-in n c =
+    let accepted = codes "# work " ++ decimal n ++ codes " accepted " ++ decimal c.accepted in
+    let definitional = accepted ++ codes " definitional " ++ decimal c.definitional in
+    let proved = definitional ++ codes " proved " ++ decimal c.proved in
+    let shadowed = proved ++ codes " shadowed " ++ decimal c.shadowed in
+    kind-in shadowed (codes " absurd ") c.absurd (kind-in proved (codes " shadowed ") c.shadowed (kind-in definitional (codes " proved ") c.proved
+    (kind-in accepted (codes " definitional ") c.definitional
+    (kind-in (codes "# work " ++ decimal n) (codes " accepted ") c.accepted (both (codes "# work ") (decimal n) refl (decimal-in n)) refl) refl) refl) refl) refl
+
+worked-in : (n fuel : ℕ) (S : Signature) (ds : List surf.Decl) (c : Counts) → IsReady S → NamesIn S → Each DeclInLine ds → AreInLine (worked_block n (worked fuel S ds c)).lines
+worked-in n fuel S [] c ready names h = (summary-in n c, tt)
+worked-in n fuel S (d ∷ ds) c ready names h =
+    go (λ T more r k. worked-in n fuel T ds more r k h.1) (elaborate_of S fuel d) (elaborate-ready S fuel d ready) (elaborated-in S fuel d ready names h.0)
+  where
+    go : ((T : Signature) (more : Counts) → IsReady T → NamesIn T → AreInLine (worked_block n (worked fuel T ds more)).lines) → (r : Result Elaborated Refused) → IfOk r (GoesOn S) → ToldIn r
+        → AreInLine (worked_block n (on_worked d r (λ a. worked fuel a.signature ds (with_accepted c a)))).lines
+    go rec (Ok a) on k = rec a.signature (with_accepted c a) on.ready k.names
+    go rec (Err e) on k = refused-lines-in (declared_name d) e (name-in d h.0) k
+
+work-in : (w : Work) (answer : texts.Answer) → AnswerIn answer → AreInLine (work_block w answer).lines
+work-in w (Ok ds) h = worked-in w.count w.fuel (prelude false) ds none_counted (prelude-ready (prelude false) false refl) (prelude-in false) h
+work-in w (Err e) h = (stop-in e, tt)
+
 heads-in : (k : Bool) → AreInLine (head_lines k)
 heads-in true = (refl, (refl, tt))
 heads-in false = (refl, (refl, tt))
 
 output-in : (words : List (List ℕ)) (bytes : List ℕ) (out : Output) → IsOutput words bytes out → AreInLine out.lines
-output-in words bytes out (refused_words none nothing) = (refl, tt)
+output-in words bytes out (refused_words none nothing other) = (refl, tt)
 output-in words bytes out (compiles command answer asks gives) =
     join (head_lines command.k) (text_block command answer).lines (heads-in command.k) (block-in command answer (given-in bytes answer gives))
 output-in words bytes out (verifies command asks) =
     join (head_lines command.k) (file_block command (limited bytes)).lines (heads-in command.k) (file-lines-in command (limited bytes))
+output-in words bytes out (works work answer asks gives) =
+    join (head_lines false) (work_block work answer).lines (heads-in false) (work-in work answer (given-in (work_text work.count) answer gives))
 
 -- the first lines of a text of lines are lines of the output
 pub headline_of_front : (words : List (List ℕ)) (bytes text : List ℕ) (out : Output) → IsOutput words bytes out → IsFront text (text_of out.lines) → IsHeadline words bytes text

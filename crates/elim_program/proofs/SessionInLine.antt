@@ -81,18 +81,18 @@ each-last P (y ∷ xs) x h k = (h.0, each-last P xs x h.1 k)
 
 -- Refusals of resolution.
 
-abbrev IsStopIn : ResolveStop → Type 0
+abbrev pub IsStopIn : ResolveStop → Type 0
 IsStopIn (unresolved.UnknownName offset word) = is_in_line word ≡ true
 IsStopIn (unresolved.Duplicate offset word) = is_in_line word ≡ true
 IsStopIn (unresolved.WrongArity offset word) = is_in_line word ≡ true
 IsStopIn (unresolved.NotLinear offset word) = is_in_line word ≡ true
 IsStopIn _ = Unit {0}
 
-abbrev Refuses : {A : Type 0} → Result A ResolveStop → Type 0
+abbrev pub Refuses : {A : Type 0} → Result A ResolveStop → Type 0
 Refuses (Ok a) = Unit {0}
 Refuses (Err e) = IsStopIn e
 
-next : {A B : Type 0} (r : Result A ResolveStop) (go : A → Result B ResolveStop) → Refuses r → ((a : A) → Refuses (go a)) → Refuses (and_then r go)
+pub next : {A B : Type 0} (r : Result A ResolveStop) (go : A → Result B ResolveStop) → Refuses r → ((a : A) → Refuses (go a)) → Refuses (and_then r go)
 next (Ok a) go h k = k a
 next (Err e) go h k = h
 
@@ -118,7 +118,7 @@ named-in x None (Some t) h = tt
 named-in x None None h = h
 
 mutual
-  resolve-in : (known : Known) (t : surf.Surf) (scope : Scope) → UsesInLine t → Refuses (resolve known t scope)
+  pub resolve-in : (known : Known) (t : surf.Surf) (scope : Scope) → UsesInLine t → Refuses (resolve known t scope)
   resolve-in known (surf.Lam bs b) scope h = telescope-in known tree.Lam bs (resolve known b) scope h.0 (λ s. resolve-in known b s h.1)
   resolve-in known (surf.Pi bs b) scope h = telescope-in known tree.Pi bs (resolve known b) scope h.0 (λ s. resolve-in known b s h.1)
   resolve-in known (surf.Arrow a b) scope h = binding-in tree.Pi (resolve known a scope) (resolve known b (None ∷ scope)) (resolve-in known a scope h.0) (resolve-in known b (None ∷ scope) h.1)
@@ -143,7 +143,7 @@ mutual
       next (resolve known a scope) (λ u. and_then (low (tree.App f u)) (λ g. applied known args scope g)) (resolve-in known a scope h.0)
       (λ u. next (low (tree.App f u)) (λ g. applied known args scope g) (low-in (tree.App f u)) (λ g. applied-in known args scope g h.1))
 
-declared-in : (S : Signature) (before : List (List ℕ)) (x : Word) → WordIn x → Refuses (declared S before x)
+pub declared-in : (S : Signature) (before : List (List ℕ)) (x : Word) → WordIn x → Refuses (declared S before x)
 declared-in S before x h = go (is_some (find S x.text) || list_any (bytes_eq x.text) before)
   where
     go : (b : Bool) → Refuses {A = List ℕ} (if b then Err (unresolved.Duplicate x.start x.text) else Ok x.text)
@@ -151,20 +151,20 @@ declared-in S before x h = go (is_some (find S x.text) || list_any (bytes_eq x.t
     go false = tt
 
 -- what is resolved has P, or its refusal is in line
-abbrev Resolves : {A : Type 0} → (A → Type 0) → Result A ResolveStop → Type 0
+abbrev pub Resolves : {A : Type 0} → (A → Type 0) → Result A ResolveStop → Type 0
 Resolves P (Ok a) = P a
 Resolves P (Err e) = IsStopIn e
 
-further : {A B : Type 0} (P : A → Type 0) (Q : B → Type 0) (r : Result A ResolveStop) (go : A → Result B ResolveStop) → Resolves P r → ((a : A) → P a → Resolves Q (go a)) →
+pub further : {A B : Type 0} (P : A → Type 0) (Q : B → Type 0) (r : Result A ResolveStop) (go : A → Result B ResolveStop) → Resolves P r → ((a : A) → P a → Resolves Q (go a)) →
     Resolves Q (and_then r go)
 further P Q (Ok a) go h k = k a h
 further P Q (Err e) go h k = h
 
-after : {A B : Type 0} (Q : B → Type 0) (r : Result A ResolveStop) (go : A → Result B ResolveStop) → Refuses r → ((a : A) → Resolves Q (go a)) → Resolves Q (and_then r go)
+pub after : {A B : Type 0} (Q : B → Type 0) (r : Result A ResolveStop) (go : A → Result B ResolveStop) → Refuses r → ((a : A) → Resolves Q (go a)) → Resolves Q (and_then r go)
 after Q (Ok a) go h k = k a
 after Q (Err e) go h k = h
 
-named-word : (S : Signature) (before : List (List ℕ)) (x : Word) → WordIn x → Resolves (λ name. is_in_line name ≡ true) (declared S before x)
+pub named-word : (S : Signature) (before : List (List ℕ)) (x : Word) → WordIn x → Resolves (λ name. is_in_line name ≡ true) (declared S before x)
 named-word S before x h = go (is_some (find S x.text) || list_any (bytes_eq x.text) before)
   where
     go : (b : Bool) → Resolves {A = List ℕ} (λ name. is_in_line name ≡ true) (if b then Err (unresolved.Duplicate x.start x.text) else Ok x.text)
@@ -212,11 +212,11 @@ definition-in S x ty body hx ht hb =
 abbrev pub TextIn : Refusal → Type 0
 TextIn e = is_in_line (refusal_text e) ≡ true
 
-at-word : (kind : List ℕ) (offset : ℕ) (word : List ℕ) → is_in_line kind ≡ true → is_in_line word ≡ true → is_in_line (kind ++ decimal offset ++ codes " " ++ word) ≡ true
+pub at-word : (kind : List ℕ) (offset : ℕ) (word : List ℕ) → is_in_line kind ≡ true → is_in_line word ≡ true → is_in_line (kind ++ decimal offset ++ codes " " ++ word) ≡ true
 at-word kind offset word h k =
     both (kind ++ decimal offset ++ codes " ") word (both (kind ++ decimal offset) (codes " ") (both kind (decimal offset) h (decimal-in offset)) refl) k
 
-unresolved-in : (e : ResolveStop) → IsStopIn e → TextIn (refusals.unresolved e)
+pub unresolved-in : (e : ResolveStop) → IsStopIn e → TextIn (refusals.unresolved e)
 unresolved-in unresolved.Memory h = refl
 unresolved-in unresolved.Deep h = refl
 unresolved-in (unresolved.UnknownName offset word) h = at-word (codes "UnknownName ") offset word refl h
@@ -244,7 +244,7 @@ reason-in S names (NotASort found) = both (codes "NotASort ") (term_text S found
 reason-in S names NoSuchInstance = refl
 reason-in S names LevelTooHigh = refl
 
-place-in : (place : List ℕ) → is_in_line (place_text place) ≡ true
+pub place-in : (place : List ℕ) → is_in_line (place_text place) ≡ true
 place-in [] = refl
 place-in (n ∷ []) = decimal-in n
 place-in (n ∷ m ∷ place) = both (decimal n ++ codes ".") (place_text (m ∷ place)) (both (decimal n) (codes ".") (decimal-in n) refl) (place-in (m ∷ place))
@@ -275,7 +275,7 @@ denied-in S names hs hn site d =
     (both (codes "IllTyped " ++ part) (codes " ") (both (codes "IllTyped ") part refl (part-in names site hn)) refl) (place-in d.place)) refl) (context-in S hs d.ctx)) refl)
     (reason-in S hs d.reason)
 
-stopped-in : (fuel : ℕ) (e : Stop) → TextIn (refusals.stopped fuel e)
+pub stopped-in : (fuel : ℕ) (e : Stop) → TextIn (refusals.stopped fuel e)
 stopped-in fuel stop.Memory = refl
 stopped-in fuel stop.Fuel = both (codes "Fuel ") (decimal fuel) refl (decimal-in fuel)
 stopped-in fuel stop.Deep = refl
@@ -309,7 +309,7 @@ resolved-in : {A : Type 0} (P : A → Type 0) (r : Result A ResolveStop) (go : A
 resolved-in P (Ok a) go h k = k a h
 resolved-in P (Err e) go h k = unresolved-in e h
 
-anything : {A : Type 0} (r : Result A ResolveStop) → Refuses r → Resolves (λ a. Unit {0}) r
+pub anything : {A : Type 0} (r : Result A ResolveStop) → Refuses r → Resolves (λ a. Unit {0}) r
 anything (Ok a) h = tt
 anything (Err e) h = h
 
@@ -336,8 +336,8 @@ refused-in S fuel (surf.Data x params ty cons) names h =
     (λ raw r. entered-in S x (refusals.unentered (site_signature S raw) (resolve_family.names_of cons) x fuel) (entering.declare_of S raw fuel).0
     (unentered-in (site_signature S raw) (resolve_family.names_of cons) (site-in S raw names r.0) (words-in cons h.3) x h.0 fuel))
 refused-in S fuel (surf.Decide x f e) names h = both (codes "NotYet ") (decimal x.start) refl (decimal-in x.start)
-refused-in S fuel (surf.Mutual params members f tag tags) names h = absurd h
-refused-in S fuel (surf.Fun x ty clauses) names h = absurd h
+refused-in S fuel (surf.Mutual params members f tag tags) names h = both (codes "NotYet ") (decimal (session.first_name members f).start) refl (decimal-in (session.first_name members f).start)
+refused-in S fuel (surf.Fun x ty clauses) names h = both (codes "NotYet ") (decimal x.start) refl (decimal-in x.start)
 
 -- what is accepted has a name in line, and the names of its signature are in line
 pub record AcceptedIn (a : session.Declared) : Type 0 where
@@ -357,12 +357,12 @@ accepted-in S (surf.Data x params ty cons) a names h w =
       names = each-last (λ e. AreInLine (names_of e)) S.entries (FamilyOf w.entry) names (subst AreInLine (sym w.given.names) raw);
     })
 accepted-in S (surf.Decide x f e) a names h w = absurd w
-accepted-in S (surf.Mutual params members f tag tags) a names h w = absurd h
-accepted-in S (surf.Fun x ty clauses) a names h w = absurd h
+accepted-in S (surf.Mutual params members f tag tags) a names h w = absurd w
+accepted-in S (surf.Fun x ty clauses) a names h w = absurd w
 
 -- The prelude.
 
-level-in : (i : ℕ) → is_in_line (level_text i) ≡ true
+pub level-in : (i : ℕ) → is_in_line (level_text i) ≡ true
 level-in i = go (nat_lt i 10)
   where
     go : (b : Bool) → is_in_line (cond b ((48 + i) ∷ []) ((48 + i / 10) ∷ (48 + i % 10) ∷ [])) ≡ true

@@ -5,33 +5,33 @@ use Rattle.theory.specs.Signatures.{Signature}
 use Rattle.surface_syntax.specs.Trees as surf
 use Rattle.surface_syntax.specs.TreeMeanings.{decl_of}
 use Rattle.surface_syntax.specs.declared.tree.Decl.{Decl}
-use Rattle.elab_session.specs.Declaring.{declare_of}
+use Rattle.function_session.specs.Elaborating.{elaborate_of}
 use Rattle.elim_program.specs.declared.status.Status.{Status}
 use Rattle.elim_program.specs.Outputs.{Block, declared_block, after, followed, declarations}
 use Rattle.elim_program.proofs.Following.{IsTelling, Tells, told_one, told_last, told_part}
 
 -- the lines of one declaration
 abbrev Lines : ℕ → Signature → surf.Decl → Block
-Lines fuel S d = declared_block S d (declare_of S fuel d)
+Lines fuel S d = declared_block S d (elaborate_of S fuel d)
 
 module _ (before now end : Option (List ℕ)) (whole : Block) (fuel : ℕ) (S : Signature) (decls : List Decl) (i : ℕ) (d : Decl) (lt : i < length decls) (is : d ≡ get_or decls i d)
     (t : IsTelling before now whole (declarations fuel S (map decl_of (drop i decls)))) where
-  next : IsTelling before now whole (followed (Lines fuel S (decl_of d)) (declarations fuel (after S (declare_of S fuel (decl_of d))) (map decl_of (drop (i + 1) decls))))
+  next : IsTelling before now whole (followed (Lines fuel S (decl_of d)) (declarations fuel (after S (elaborate_of S fuel (decl_of d))) (map decl_of (drop (i + 1) decls))))
   next = subst (λ ds. IsTelling before now whole (declarations fuel S (map decl_of ds))) (drop_more decls i d lt ∙ ap (λ x. x ∷ drop (i + 1) decls) (sym is)) t
 
   pub failed_next : (status : Status) → Tells now end (Err status) (Lines fuel S (decl_of d)) → Tells before end (Err status) whole
-  failed_next status told = told_part before now end whole (Lines fuel S (decl_of d)) (declarations fuel (after S (declare_of S fuel (decl_of d))) (map decl_of (drop (i + 1) decls))) status next told
+  failed_next status told = told_part before now end whole (Lines fuel S (decl_of d)) (declarations fuel (after S (elaborate_of S fuel (decl_of d))) (map decl_of (drop (i + 1) decls))) status next told
 
   pub refused_next : (r : Bool) → r ≡ true → Tells now end (Ok r) (Lines fuel S (decl_of d)) → Tells before end (Ok true) whole
   refused_next r e told =
-      told_last before now end whole (Lines fuel S (decl_of d)) (declarations fuel (after S (declare_of S fuel (decl_of d))) (map decl_of (drop (i + 1) decls))) next
+      told_last before now end whole (Lines fuel S (decl_of d)) (declarations fuel (after S (elaborate_of S fuel (decl_of d))) (map decl_of (drop (i + 1) decls))) next
       (subst (λ x. Tells now end (Ok x) (Lines fuel S (decl_of d))) e told)
 
-  pub accepted_next : (r : Bool) → r ≡ false → Tells now end (Ok r) (Lines fuel S (decl_of d)) → (T : Signature) → T ≡ after S (declare_of S fuel (decl_of d)) → (fuel' : ℕ) → fuel' ≡ fuel →
+  pub accepted_next : (r : Bool) → r ≡ false → Tells now end (Ok r) (Lines fuel S (decl_of d)) → (T : Signature) → T ≡ after S (elaborate_of S fuel (decl_of d)) → (fuel' : ℕ) → fuel' ≡ fuel →
       IsTelling before end whole (declarations fuel' T (map decl_of (drop (i + 1) decls)))
   accepted_next r e told T et fuel' ef =
       let P : Signature → Type 0 = λ X. IsTelling before end whole (declarations fuel' X (map decl_of (drop (i + 1) decls))) in
-      let Q : ℕ → Type 0 = λ n. IsTelling before end whole (declarations n (after S (declare_of S fuel (decl_of d))) (map decl_of (drop (i + 1) decls))) in
+      let Q : ℕ → Type 0 = λ n. IsTelling before end whole (declarations n (after S (elaborate_of S fuel (decl_of d))) (map decl_of (drop (i + 1) decls))) in
       subst P (sym et) (subst Q (sym ef)
-      (told_one before now end whole (Lines fuel S (decl_of d)) (declarations fuel (after S (declare_of S fuel (decl_of d))) (map decl_of (drop (i + 1) decls))) next
+      (told_one before now end whole (Lines fuel S (decl_of d)) (declarations fuel (after S (elaborate_of S fuel (decl_of d))) (map decl_of (drop (i + 1) decls))) next
       (subst (λ x. Tells now end (Ok x) (Lines fuel S (decl_of d))) e told)))

@@ -15,7 +15,7 @@ use Rattle.elab_session.specs.declared.refusal.Refusal.{Refusal}
 use Rattle.elab_session.proofs.PreludeReady.{prelude-ready}
 use Rattle.elim_program.specs.declared.text_stop.TextStop.TheVariants as stop
 use Rattle.elim_program.specs.declared.words.Command.{Command}
-use Rattle.elim_program.specs.DefinedOutputs.{IsOutput, refused_words, compiles, verifies}
+use Rattle.elim_program.specs.DefinedOutputs.{IsOutput, refused_words, compiles, verifies, works}
 use Rattle.elim_program.specs.Outputs.{Output, followed, head_lines}
 use Rattle.elim_program.specs.Refusals.{refusal_line, stop_line}
 use Rattle.elim_program.specs.Texts.{limited}
@@ -25,7 +25,7 @@ use Rattle.elim_program.specs.Words.{verify_asked}
 use Rattle.elim_program.proofs.Adding.{adds-read, ready-read}
 use Rattle.elim_program.proofs.FileHeads.{is-head}
 use Rattle.elim_program.proofs.Lines.{third, first_line, not_empty, not_one, behind_heads, if_ok}
-use Rattle.elim_program.proofs.OneOutput.{not-both-asked, same-command}
+use Rattle.elim_program.proofs.OneOutput.{not-both-asked, same-command, work-no-verify}
 use Rattle.elim_program.proofs.ReadInLine.{is-told}
 
 -- what is known before the entries from an offset on, with the lines of those before them
@@ -36,7 +36,7 @@ record IsBefore (k : Bool) (text : List ℕ) (S : Signature) (from : ℕ) (told 
   lines : told ≡ map verified_line names
   within : from ≤ length text
 
--- what is known behind an entry
+-- what is known after an entry
 onward : (k : Bool) (text : List ℕ) (S T : Signature) (from to : ℕ) (told : List (List ℕ)) (raw : RawEntry) → IsBefore k text S from told → entry_from S text from ≡ Ok (Some (raw, to)) → Adds S raw T → IsReady T → to ≤ length text →
     IsBefore k text T to (told ++ verified_line (read_name S raw) ∷ [])
 onward k text S T from to told raw b is adds ready within = record {
@@ -141,8 +141,9 @@ text-found command bytes above below name e = go (nat_lt 1048576 (length bytes))
 pub verified : (words : List (List ℕ)) (bytes : List ℕ) (out : Output) (command : Command) (above below : List (List ℕ)) (name : List ℕ) → IsOutput words bytes out → verify_asked words ≡ Some command →
     out.lines ≡ above ++ verified_line name ∷ below → IsVerified command.k bytes above name
 unfolding third
-verified words bytes out command above below name (refused_words none nothing) asks e = absurd (let k = sym nothing ∙ asks in cc)
+verified words bytes out command above below name (refused_words none nothing other) asks e = absurd (let k = sym nothing ∙ asks in cc)
 verified words bytes out command above below name (compiles other answer first gives) asks e = absurd (not-both-asked words other command first asks)
+verified words bytes out command above below name (works work answer first gives) asks e = absurd (let k = sym (work-no-verify words work first) ∙ asks in cc)
 verified words bytes out command above below name (verifies other is) asks e =
     let b = behind_heads other.k (file_block other (limited bytes)).lines above below (verified_line name) (λ k. omega (arith, k)) (λ k. omega (arith, k)) e in
     subst (λ c. IsVerified c.k bytes above name) (same-command (verify_asked words) other command is asks)

@@ -9,7 +9,7 @@ use Rattle.elim_program.specs.Lines.{text_of}
 use Rattle.elim_program.specs.DefinedOutputs.{IsOutput, refused_words}
 use Rattle.elim_program.specs.Outputs.{Output, usage}
 use Rattle.elim_program.specs.Runs.{Follows, IsWhole, Runs, Wrote, nothing, output}
-use Rattle.elim_program.specs.Words.{asked, is_accepted, verify_asked}
+use Rattle.elim_program.specs.Words.{asked, asks_for_source, verify_asked, work_asked}
 use Rattle.elim_program.proofs.OutputInLine.{headline_of_front, verify_headline_of_front}
 use Rattle.elim_program.proofs.Following.{no_bytes, appends-nothing}
 
@@ -48,9 +48,14 @@ pub follow : (words : List (List ℕ)) (bytes : List ℕ) (before after : Option
     Wrote words bytes before after status
 follow words bytes before after status out is f = output out is f (headline_of_front words bytes f.text out is f.front) (verify_headline_of_front words bytes f.text out is f.front)
 
-pub usage_runs : (words : List (List ℕ)) (left before after : Option (List ℕ)) (status : Status) → asked words ≡ None → verify_asked words ≡ None → Follows usage before after status → Runs words left before after status
-usage_runs words left before after status none neither follows =
-    let b = no_bytes left in record { bytes = b.0; told = b.1; wrote = follow words b.0 before after status usage (refused_words none neither) follows }
+pub usage_runs : (words : List (List ℕ)) (left before after : Option (List ℕ)) (status : Status) → asked words ≡ None → verify_asked words ≡ None → work_asked words ≡ None → Follows usage before after status
+    → Runs words left before after status
+usage_runs words left before after status none neither other follows =
+    let b = no_bytes left in record { bytes = b.0; told = b.1; wrote = follow words b.0 before after status usage (refused_words none neither other) follows }
+
+-- what is written where no bytes are read
+pub unread_runs : (words : List (List ℕ)) (left before after : Option (List ℕ)) (status : Status) → ((bytes : List ℕ) → Wrote words bytes before after status) → Runs words left before after status
+unread_runs words left before after status wrote = let b = no_bytes left in record { bytes = b.0; told = b.1; wrote = wrote b.0 }
 
 not-first : (a b : Bool) → (a || b) ≡ false → a ≡ false
 not-first true b e = e
@@ -65,11 +70,12 @@ none-of None e = refl
 none-of (Some a) e = absurd (true≢false e)
 
 -- the same where the words are not accepted
-pub unaccepted_runs : (words : List (List ℕ)) (left before after : Option (List ℕ)) (status : Status) → is_accepted words ≡ false → Follows usage before after status → Runs words left before after status
-unaccepted_runs words left before after status refused follows =
+pub unaccepted_runs : (words : List (List ℕ)) (left before after : Option (List ℕ)) (status : Status) → asks_for_source words ≡ false → work_asked words ≡ None → Follows usage before after status
+    → Runs words left before after status
+unaccepted_runs words left before after status refused other follows =
     let first = not-first (is_some (asked words)) (is_some (verify_asked words)) refused in
     let second = not-second (is_some (asked words)) (is_some (verify_asked words)) refused in
-    usage_runs words left before after status (none-of (asked words) first) (none-of (verify_asked words) second) follows
+    usage_runs words left before after status (none-of (asked words) first) (none-of (verify_asked words) second) other follows
 
 -- where the source is not read whole nothing is written
 pub stopped_runs : (words : List (List ℕ)) (left before : Option (List ℕ)) (status : Status) (bytes : List ℕ) → IfSome left (λ known. bytes ≡ known)

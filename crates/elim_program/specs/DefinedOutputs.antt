@@ -1,16 +1,20 @@
 -- The output that is defined for the words and the bytes of a source, and the status.
 use Rattle.std.specs.Prelude.{◌≡◌, ℕ, List, Some, None}
 use Rattle.elim_program.specs.declared.words.Command.{Command}
+use Rattle.elim_program.specs.declared.words.Work.{Work}
 use Rattle.elim_program.specs.Outputs.{Output, usage, compiled, text_block}
 use Rattle.elim_program.specs.Texts.{Answer, Gives, limited}
 use Rattle.elim_program.specs.Verifies.{file_block}
-use Rattle.elim_program.specs.Words.{asked, verify_asked}
+use Rattle.elim_program.specs.Words.{asked, verify_asked, work_asked}
+use Rattle.elim_program.specs.WorkTexts.{work_text}
+use Rattle.elim_program.specs.Works.{work_output}
 
 -- the output that is defined for the words and the bytes
 pub data IsOutput (words : List (List ℕ)) (bytes : List ℕ) : Output → Type 0 where
-  refused_words : asked words ≡ None → verify_asked words ≡ None → IsOutput words bytes usage
+  refused_words : asked words ≡ None → verify_asked words ≡ None → work_asked words ≡ None → IsOutput words bytes usage
   compiles : (command : Command) (answer : Answer) → asked words ≡ Some command → Gives bytes answer → IsOutput words bytes (compiled command.k (text_block command answer))
   verifies : (command : Command) → verify_asked words ≡ Some command → IsOutput words bytes (compiled command.k (file_block command (limited bytes)))
+  works : (work : Work) (answer : Answer) → work_asked words ≡ Some work → Gives (work_text work.count) answer → IsOutput words bytes (work_output work answer)
 
 -- for all words and bytes one output at most is defined
 abbrev pub HasOneOutput : Type 0

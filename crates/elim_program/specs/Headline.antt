@@ -3,9 +3,10 @@ use Rattle.std.specs.Prelude.{◌≡◌, ◌==◌, ℕ, Bool, true, not, if◌th
 use Rattle.theory.specs.Signatures.{Signature, IsPrefix}
 use Rattle.theory.specs.Prelude.{prelude}
 use Rattle.surface_syntax.specs.Trees.{Decl}
-use Rattle.elab_session.specs.Declaring.{Declared}
-use Rattle.elab_session.specs.Laws.{IsAsWritten}
 use Rattle.elab_session.specs.Sessions.{IsReady}
+use Rattle.function_session.specs.Elaborating.{Elaborated}
+use Rattle.function_session.specs.Laws.{IsAsWritten}
+use Rattle.elim_program.specs.ClauseTexts.{clause_lines}
 use Rattle.elim_program.specs.declared.words.Command.{Command}
 use Rattle.elim_program.specs.Lines.{lines_of, text_of}
 use Rattle.elim_program.specs.DefinedOutputs.{IsOutput}
@@ -22,15 +23,20 @@ abbrev pub core_lines : List (List ℕ) → List (List ℕ)
 core_lines [] = []
 core_lines (line ∷ lines) = if is_core line then line ∷ core_lines lines else core_lines lines
 
--- The lines show the entries of a signature behind those of P, declaration by declaration: each adds entries behind those
+-- The lines show the entries of a signature after those of P, declaration by declaration: each adds entries after those
 -- before it, and shows them over the signature that has them.
 pub data Shows (P : Signature) : Signature → List (List ℕ) → Type 0 where
   none : Shows P P []
   more : (S T : Signature) (lines : List (List ℕ)) → Shows P S lines → IsPrefix S T → Shows P T (lines ++ lines_behind S T)
 
+-- the lines of what is accepted over S, up to the one that says so: its entries, and then its clauses
+abbrev pub own_lines : Signature → Elaborated → List (List ℕ)
+own_lines S a = lines_behind S a.signature ++ clause_lines a.signature a.lines
+
 -- The declaration stands in the text, and what was accepted of it is what is written: it has its written type by the typing
--- rules over the entries before it. The signatures before it and with it are well formed, without axiom K unless the words
--- ask for it, and the lines `above` are the head lines and show the entries behind the prelude.
+-- rules over the entries before it, and each clause of a function has its line. The signatures before it and with it are well
+-- formed, without axiom K unless the words ask for it. The lines `above` are the head lines and show the entries after the
+-- prelude; the last of them are those of the declaration.
 pub record IsShown (words : List (List ℕ)) (bytes : List ℕ) (above : List (List ℕ)) (name : List ℕ) : Type 0 where
   pub command : Command
   pub asked_for : asked words ≡ Some command
@@ -43,12 +49,14 @@ pub record IsShown (words : List (List ℕ)) (bytes : List ℕ) (above : List (L
   pub before : Signature
   pub ready : IsReady before
   pub has_k : before.has_k ≡ command.k
-  pub accepted : Declared
+  pub accepted : Elaborated
   pub written : IsAsWritten before declaration accepted
   pub named : accepted.accepted.name ≡ name
   pub whole : IsReady accepted.signature
   pub lines : List (List ℕ)
   pub heads : above ≡ head_lines command.k ++ lines
+  pub earlier : List (List ℕ)
+  pub told : lines ≡ earlier ++ own_lines before accepted
   pub shown : Shows (prelude command.k) accepted.signature (core_lines lines)
 
 -- where a whole line of the text says that a declaration is accepted, the lines above it show it

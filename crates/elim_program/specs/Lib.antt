@@ -1,6 +1,9 @@
 pub mod Blocks
+pub mod ClauseTexts
 pub mod CommandLine
+pub mod Counting
 pub mod DefinedOutputs
+pub mod FunctionRefusals
 pub mod Headline
 pub mod Lines
 pub mod Outputs
@@ -12,3 +15,6 @@ pub mod Unbuilt
 pub mod Verifies
 pub mod VerifyHeadline
 pub mod Words
+pub mod WorkLaws
+pub mod WorkTexts
+pub mod Works

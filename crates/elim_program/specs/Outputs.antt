@@ -4,11 +4,13 @@ use Rattle.theory.specs.Signatures.{Entry, Signature}
 use Rattle.theory.specs.Prelude.{prelude}
 use Rattle.surface_syntax.specs.Trees as surf
 use Rattle.core_text.specs.EntryText.{entry_text}
-use Rattle.elab_session.specs.Declaring.{Declared, declare_of, first_name}
-use Rattle.elab_session.specs.declared.refusal.Refusal.{Refusal}
+use Rattle.elab_session.specs.Declaring.{first_name}
+use Rattle.function_session.specs.Elaborating.{Elaborated, Refused, Declaration, Function, elaborate_of}
 use Rattle.elim_program.specs.declared.status.Status.{Status}
 use Rattle.elim_program.specs.declared.status.Status.TheVariants as status
 use Rattle.elim_program.specs.declared.words.Command.{Command}
+use Rattle.elim_program.specs.ClauseTexts.{clause_lines}
+use Rattle.elim_program.specs.FunctionRefusals as function
 use Rattle.elim_program.specs.Refusals.{stop_line, refusal_line}
 use Rattle.elim_program.specs.Texts.{Answer}
 
@@ -30,7 +32,7 @@ abbrev pub entry_lines : Signature → ℕ → ℕ → List (List ℕ)
 entry_lines S n zero = []
 entry_lines S n (suc count) = line_of S n (slice_get S.entries n) ∷ entry_lines S (n + 1) count
 
--- the lines of the entries of T behind those of S
+-- the lines of the entries of T after those of S
 abbrev pub lines_behind : Signature → Signature → List (List ℕ)
 lines_behind S T = entry_lines T (length S.entries) (length T.entries - length S.entries)
 
@@ -45,17 +47,27 @@ declared_name (surf.Data x params ty cons) = x.text
 declared_name (surf.Mutual params members family tag tags) = (first_name members family).text
 declared_name (surf.Fun x ty clauses) = x.text
 
--- the lines of a declaration over S: its entries and that it is accepted, or its refusal
-abbrev pub declared_block : Signature → surf.Decl → Result Declared Refusal → Block
-declared_block S d (Ok a) = block (lines_behind S a.signature ++ accepted_line a.accepted.name ∷ []) false
-declared_block S d (Err e) = block (refusal_line (declared_name d) e ∷ []) true
+-- the lines of what is accepted over S: its entries, then its clauses, then that it is accepted
+abbrev pub accepted_lines : Signature → Elaborated → List (List ℕ)
+accepted_lines S a =
+    lines_behind S a.signature ++ (clause_lines a.signature a.lines ++ accepted_line a.accepted.name ∷ [])
 
--- the signature behind a declaration
-abbrev pub after : Signature → Result Declared Refusal → Signature
+-- the lines of what is refused under a name
+abbrev pub refused_lines : (name : List ℕ) → Refused → List (List ℕ)
+refused_lines name (Declaration e) = refusal_line name e ∷ []
+refused_lines name (Function e) = function.refusal_lines name e
+
+-- the lines of a declaration over S
+abbrev pub declared_block : Signature → surf.Decl → Result Elaborated Refused → Block
+declared_block S d (Ok a) = block (accepted_lines S a) false
+declared_block S d (Err e) = block (refused_lines (declared_name d) e) true
+
+-- the signature after a declaration
+abbrev pub after : Signature → Result Elaborated Refused → Signature
 after S (Ok a) = a.signature
 after S (Err e) = S
 
--- lines behind others, where these do not refuse
+-- lines after others, where these do not refuse
 abbrev pub followed : Block → Block → Block
 followed first rest = if first.refused then first else block (first.lines ++ rest.lines) rest.refused
 
@@ -63,7 +75,7 @@ followed first rest = if first.refused then first else block (first.lines ++ res
 abbrev pub declarations : ℕ → Signature → List surf.Decl → Block
 declarations fuel S [] = block [] false
 declarations fuel S (d ∷ ds) =
-    followed (declared_block S d (declare_of S fuel d)) (declarations fuel (after S (declare_of S fuel d)) ds)
+    followed (declared_block S d (elaborate_of S fuel d)) (declarations fuel (after S (elaborate_of S fuel d)) ds)
 
 -- the lines of what a text gives
 abbrev pub text_block : Command → Answer → Block

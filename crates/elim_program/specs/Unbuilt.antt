@@ -1,4 +1,4 @@
--- What is written and not built yet: functions by clauses, families that refer to each other, decisions of equality.
+-- What is written and not built yet: families that refer to each other, decisions of equality.
 use Rattle.std.specs.Prelude.{ℕ, Bool, true, false, ◌&&◌, ◌||◌, if◌then◌else◌, List, [], ◌∷◌, codes, Option, Some, None, slice_range}
 use Rattle.surface_syntax.specs.Spelling.{is_text}
 use Rattle.surface_syntax.specs.declared.token.Token.{Token}
@@ -18,12 +18,35 @@ abbrev pub names_equal : List ℕ → List Token → Bool
 names_equal bytes (name ∷ mark ∷ tokens) = is_plain name.kind && is_spelled (codes "=") bytes mark
 names_equal bytes _ = false
 
--- `fun`, `with`, or `def` before a name and `=`
-abbrev pub begins_unbuilt : List ℕ → Token → List Token → Bool
-begins_unbuilt bytes token tokens =
-    is_spelled (codes "fun") bytes token || is_spelled (codes "with") bytes token || (is_spelled (codes "def") bytes token && names_equal bytes tokens)
+-- `with` stands at the front
+abbrev pub goes_on : List ℕ → List Token → Bool
+goes_on bytes (word ∷ tokens) = is_spelled (codes "with") bytes word
+goes_on bytes [] = false
 
--- the offset of the first token that begins what is not built yet
+-- the offset of the `data` of the declaration that the token belongs to, where it is a family; `family` is that of the token
+-- before it
+abbrev pub family_at : List ℕ → Option ℕ → Token → Option ℕ
+family_at bytes family token =
+    if is_spelled (codes "data") bytes token then Some token.start
+    else (if is_spelled (codes "def") bytes token || is_spelled (codes "fun") bytes token then None else family)
+
+-- The first token of a declaration that is not built, where the token shows it: the `def` before a name and `=`, or the `data`
+-- of a family whose `}` has `with` after it.
+abbrev pub shown_unbuilt : List ℕ → Option ℕ → Token → List Token → Option ℕ
+shown_unbuilt bytes family token tokens =
+    if is_spelled (codes "def") bytes token && names_equal bytes tokens then Some token.start
+    else (if is_spelled (codes "}") bytes token && goes_on bytes tokens then family else None)
+
+-- what is shown, or else what is found after it
+abbrev pub or_later : Option ℕ → Option ℕ → Option ℕ
+or_later (Some offset) later = Some offset
+or_later None later = later
+
+abbrev pub unbuilt_after : List ℕ → Option ℕ → List Token → Option ℕ
+unbuilt_after bytes family [] = None
+unbuilt_after bytes family (token ∷ tokens) =
+    or_later (shown_unbuilt bytes family token tokens) (unbuilt_after bytes (family_at bytes family token) tokens)
+
+-- the offset of the first token of a declaration that is not built yet
 abbrev pub unbuilt : List ℕ → List Token → Option ℕ
-unbuilt bytes [] = None
-unbuilt bytes (token ∷ tokens) = if begins_unbuilt bytes token tokens then Some token.start else unbuilt bytes tokens
+unbuilt bytes tokens = unbuilt_after bytes None tokens

@@ -47,7 +47,7 @@ entry_block name (Err e) = block (refusal_line name e ∷ []) true
 abbrev pub read_block : Signature → ℕ → RawEntry → Block
 read_block S fuel raw = entry_block (read_name S raw) (enter_read S fuel raw)
 
--- the signature behind an entry
+-- the signature after an entry
 abbrev pub behind : Signature → Result Entered Refusal → Signature
 behind S (Ok x) = x.signature
 behind S (Err e) = S
@@ -61,7 +61,7 @@ unread (core.NotCoreText offset) = stop.NotCoreText offset
 abbrev pub unread_block : CoreTextStop → Block
 unread_block e = block (stop_line (unread e) ∷ []) true
 
--- the lines of what is read next over S, and behind it those of the `others`
+-- the lines of what is read next over S, and after it those of the `others`
 abbrev pub next_block : ℕ → Signature → (Signature → ℕ → Block) → Result (Option (RawEntry × ℕ)) CoreTextStop → Block
 next_block fuel S others (Ok None) = block [] false
 next_block fuel S others (Ok (Some p)) =
@@ -73,7 +73,7 @@ abbrev pub entries : List ℕ → ℕ → ℕ → Signature → ℕ → Block
 entries text fuel zero S from = block [] false
 entries text fuel (suc most) S from = next_block fuel S (entries text fuel most) (entry_from S text from)
 
--- The lines behind a head that is read. Each entry may spend `fuel` units, and has one byte at least.
+-- The lines after a head that is read. Each entry may spend `fuel` units, and has one byte at least.
 abbrev pub behind_head : ℕ → List ℕ → Result (Bool × ℕ) CoreTextStop → Block
 behind_head fuel text (Ok p) = entries text fuel (suc (length text)) (prelude p.0) p.1
 behind_head fuel text (Err e) = unread_block e

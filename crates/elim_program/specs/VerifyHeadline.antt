@@ -26,13 +26,13 @@ pub data Adds (S : Signature) : RawEntry → Signature → Type 0 where
   definition : (name : List ℕ) (type body : Term) → Adds S (RawDefinition name type body) (pushed S (Definition name type body))
 
 -- The core text up to an offset has the signature: the prelude, with axiom K where the head says so and `k` allows it, and
--- behind it the entries that are read one by one, which have the names.
+-- after it the entries that are read one by one, which have the names.
 pub data Holds (k : Bool) (text : List ℕ) : Signature → ℕ → List (List ℕ) → Type 0 where
   head : (has_k : Bool) (from : ℕ) → head_of k text ≡ Ok (has_k, from) → Holds k text (prelude has_k) from []
   entry : (S T : Signature) (from to : ℕ) (names : List (List ℕ)) (raw : RawEntry) → Holds k text S from names
       → entry_from S text from ≡ Ok (Some (raw, to)) → Adds S raw T → Holds k text T to (names ++ read_name S raw ∷ [])
 
--- The lines up to the one that verifies an entry are the head lines and one line for each entry of a signature behind the
+-- The lines up to the one that verifies an entry are the head lines and one line for each entry of a signature after the
 -- prelude, which the core text has. The signature is well formed, and without axiom K unless the words ask for it.
 pub record IsVerified (k : Bool) (text : List ℕ) (above : List (List ℕ)) (name : List ℕ) : Type 0 where
   pub signature : Signature

@@ -1,8 +1,9 @@
--- The words behind the program's name, and what they ask for: `compile` or `verify`, and behind it in any order `--k` at
--- most once and `--fuel` with its number at most once.
+-- The words after the program's name, and what they ask for: `compile` or `verify`, and after it in any order `--k` at most
+-- once and `--fuel` with its number at most once; or `work` and its number, and after these `--fuel` with its number at most once.
 use Rattle.std.specs.Prelude.{◌≡◌, ℕ, ◌+◌, ◌-◌, ◌*◌, ◌==◌, Bool, true, false, ◌&&◌, ◌||◌, if◌then◌else◌, List, [], ◌∷◌, codes, nat_le, Option, Some, None, option_map, is_some}
 use Rattle.surface_syntax.specs.Spelling.{is_text, is_digit}
 use Rattle.elim_program.specs.declared.words.Command.{Command}
+use Rattle.elim_program.specs.declared.words.Work.{Work}
 use Rattle.elim_program.specs.declared.words.Asked.{Asked}
 use Rattle.elim_program.specs.declared.words.Asked.TheVariants.{Compile, Verify}
 
@@ -10,19 +11,19 @@ use Rattle.elim_program.specs.declared.words.Asked.TheVariants.{Compile, Verify}
 abbrev pub default_fuel : ℕ
 default_fuel = 100000000
 
--- the number n behind which one more digit stands
+-- the number n with one more digit after it
 abbrev pub with_digit : ℕ → ℕ → ℕ
 with_digit n d = 10 * n + (d - 48)
 
--- the number that the digits spell behind those of n, where it is at most 1,000,000,000
-abbrev pub number_behind : ℕ → List ℕ → Option ℕ
-number_behind n [] = Some n
-number_behind n (d ∷ ds) = if is_digit d && nat_le (with_digit n d) 1000000000 then number_behind (with_digit n d) ds else None
+-- the number that the digits spell after those of n, where it is at most 1,000,000,000
+abbrev pub number_after : ℕ → List ℕ → Option ℕ
+number_after n [] = Some n
+number_after n (d ∷ ds) = if is_digit d && nat_le (with_digit n d) 1000000000 then number_after (with_digit n d) ds else None
 
 -- a number from 1 to 1,000,000,000: digits, of which the first is not `0`
 abbrev pub fuel_of : List ℕ → Option ℕ
 fuel_of [] = None
-fuel_of (d ∷ ds) = if d == 48 then None else number_behind 0 (d ∷ ds)
+fuel_of (d ∷ ds) = if d == 48 then None else number_after 0 (d ∷ ds)
 
 abbrev pub command : Bool → ℕ → Command
 command k fuel = record { k = k; fuel = fuel }
@@ -37,7 +38,7 @@ is_k word = is_text word (codes "--k")
 abbrev pub is_fuel : List ℕ → Bool
 is_fuel word = is_text word (codes "--fuel")
 
--- what the words behind the mode ask for
+-- what the words after the mode ask for
 abbrev pub flags : List (List ℕ) → Option Command
 flags [] = Some (command false default_fuel)
 flags (a ∷ []) = if is_k a then Some (command true default_fuel) else None
@@ -57,8 +58,28 @@ abbrev pub verify_asked : List (List ℕ) → Option Command
 verify_asked [] = None
 verify_asked (mode ∷ words) = if is_text mode (codes "verify") then flags words else None
 
-abbrev pub is_accepted : List (List ℕ) → Bool
-is_accepted words = is_some (asked words) || is_some (verify_asked words)
+-- a number from 1 to 200
+abbrev pub at_most_200 : Option ℕ → Option ℕ
+at_most_200 (Some n) = if nat_le n 200 then Some n else None
+at_most_200 None = None
+
+abbrev pub count_of : List ℕ → Option ℕ
+count_of word = at_most_200 (fuel_of word)
+
+abbrev pub work_of : Option ℕ → Option ℕ → Option Work
+work_of (Some count) (Some fuel) = Some (record { count = count; fuel = fuel })
+work_of _ _ = None
+
+-- what the words ask for where they ask for the mode `work`: its number follows it directly, and `--fuel` may come after that
+abbrev pub work_asked : List (List ℕ) → Option Work
+work_asked (mode ∷ count ∷ []) = if is_text mode (codes "work") then work_of (count_of count) (Some default_fuel) else None
+work_asked (mode ∷ count ∷ flag ∷ fuel ∷ []) =
+    if is_text mode (codes "work") && is_fuel flag then work_of (count_of count) (fuel_of fuel) else None
+work_asked _ = None
+
+-- the words ask to compile the text of the source, or to verify the core file that it holds
+abbrev pub asks_for_source : List (List ℕ) → Bool
+asks_for_source words = is_some (asked words) || is_some (verify_asked words)
 
 -- the words ask for this
 abbrev pub Asks : List (List ℕ) → Asked → Type 0

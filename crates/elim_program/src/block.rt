@@ -1,17 +1,25 @@
-ghost use Rattle.std.specs.Prelude.{◌≡◌, ◌≤◌, ◌<◌, ◌+◌, ◌-◌, ◌++◌, ◌∷◌, [], length, slice_get, codes, true, false, Err, OnErr, OnOk};
+ghost use Rattle.std.specs.Prelude.{◌≡◌, ◌≤◌, ◌<◌, ◌+◌, ◌-◌, ◌++◌, ◌∷◌, [], length, map, slice_get, codes, true, false, Err, OnErr, OnOk};
 ghost use Rattle.elim_program.specs.declared.status.Status.TheVariants.{NoMemory};
 ghost use Rattle.elim_program.specs.Blocks.{Makes};
+ghost use Rattle.elim_program.specs.ClauseTexts.{clause_lines};
+ghost use Rattle.elim_program.specs.FunctionRefusals.{refusal_lines};
 ghost use Rattle.elim_program.specs.Lines.{text_of};
 ghost use Rattle.elim_program.specs.Outputs as spec;
 ghost use Rattle.elim_program.specs.Refusals.{stop_line, refusal_line};
 ghost use Rattle.elim_program.specs.Verifies.{verified_line};
+ghost use Rattle.function_lines.specs.LineMeanings.{clause_line_of};
+ghost use Rattle.function_refusals.specs.RefusalMeanings.{refusal_of};
 
+use crate::clause_texts::write_clauses;
 use crate::refusals::{write_refusal, write_stop};
+use crate::refused_functions::write_function_refusal;
 use crate::{Status, TextStop};
 use core_sig::Signature;
 use core_terms::Name;
 use core_text::print_entry;
 use elab_session::Refusal;
+use function_lines::ClauseLine;
+use function_refusals::Refusal as FunctionRefusal;
 use std::alloc::Global;
 
 /// Lines, each with its line feed, and whether the last one refuses.
@@ -45,6 +53,22 @@ pub(crate) fn refusal_block(alloc: Global, name: &Name, refusal: &Refusal) -> Re
     text.extend_from_slice(b" ")?;
     write_refusal(&mut text, refusal)?;
     text.extend_from_slice(b"\n")?;
+    Ok(Block {
+        text,
+        refused: true,
+    })
+}
+
+/// The lines where a function is refused for a reason of functions alone.
+pub(crate) fn function_refusal_block(
+    alloc: Global,
+    name: &Name,
+    refusal: &FunctionRefusal,
+) -> Result<Block, Status>
+    ensures { Makes result (spec.block (refusal_lines name.now (refusal_of refusal.now)) true) }
+{
+    let mut text = Vec::new(alloc);
+    write_function_refusal(&mut text, name, refusal)?;
     Ok(Block {
         text,
         refused: true,
@@ -106,20 +130,37 @@ fn write_accepted(out: &mut Vec<u8>, name: &Name) -> Result<(), Status>
     Ok(())
 }
 
-/// The lines of a declaration: its entries, from number `from` on, and that it is accepted.
+/// Writes the lines of clauses, and that the declaration is accepted.
+fn write_end(
+    alloc: Global,
+    out: &mut Vec<u8>,
+    sig: &Signature,
+    clauses: &[ClauseLine],
+    name: &Name,
+) -> Result<(), Status>
+    ensures ok { OnOk result (out.new.items ≡ out.old.items ++ text_of (clause_lines sig.now (map clause_line_of clauses.now) ++ spec.accepted_line name.now ∷ [])) }
+    ensures memory { OnErr result (result ≡ Err NoMemory) }
+{
+    write_clauses(alloc, out, sig, clauses)?;
+    write_accepted(out, name)
+}
+
+/// The lines of a declaration: its entries, from number `from` on, its clauses, and that it is accepted.
 #[tactic(auto, using(crate::proofs::TextLines::text_both))]
 pub(crate) fn accepted_block(
     alloc: Global,
     sig: &Signature,
     from: u32,
+    clauses: &[ClauseLine],
     name: &Name,
 ) -> Result<Block, Status>
     requires { from ≤ length sig.now.entries }
-    ensures { Makes result (spec.block (spec.entry_lines sig.now from (length sig.now.entries - from) ++ spec.accepted_line name.now ∷ []) false) }
+    ensures { Makes result (spec.block (spec.entry_lines sig.now from (length sig.now.entries - from)
+        ++ (clause_lines sig.now (map clause_line_of clauses.now) ++ spec.accepted_line name.now ∷ [])) false) }
 {
     let mut text = Vec::new(alloc);
     write_entries(alloc, &mut text, sig, from, sig.len() - from)?;
-    write_accepted(&mut text, name)?;
+    write_end(alloc, &mut text, sig, clauses, name)?;
     Ok(Block {
         text,
         refused: false,

@@ -4,13 +4,10 @@ ghost use Rattle.elim_program.specs.Words as spec;
 ghost use Rattle.elim_program.specs.CommandLine.{command_line};
 
 use crate::Status;
-use crate::words::{Asked, Command};
+use crate::words::{Asked, Command, DEFAULT_FUEL};
 use clap::error::ErrorKind;
 use clap::{Arg, ArgAction, ArgMatches};
 use std::alloc::{AllocError, Global};
-
-/// The units where the words don't say.
-const DEFAULT_FUEL: u64 = 100_000_000;
 
 fn command_line<'a>(alloc: Global) -> Result<clap::Command<'a>, AllocError>
     ensures { IfOk result (λ command. app_of command ≡ command_line) }
@@ -57,9 +54,9 @@ fn matched<'a>(alloc: Global, words: &'a [String]) -> Result<ArgMatches<'a>, Sta
     }
 }
 
-/// What accepted words ask for.
+/// What the words want of the source.
 pub(crate) fn asked(alloc: Global, words: &[String]) -> Result<Asked, Status>
-    requires { spec.is_accepted (map string_bytes words.now) ≡ true }
+    requires { spec.asks_for_source (map string_bytes words.now) ≡ true }
     ensures ok { IfOk result (spec.Asks (map string_bytes words.now)) }
     ensures err { IfErr result (λ status. status ≡ Status.NoMemory) }
 {

@@ -1,23 +1,25 @@
-ghost use Rattle.std.specs.Prelude.{◌≡◌, ◌≤◌, ℕ, List, map, Err, OnOk};
+ghost use Rattle.std.specs.Prelude.{◌≡◌, ◌≤◌, ℕ, List, map, true, Err, OnOk};
 ghost use Rattle.std.specs.Io.KnownBytes.{Appends};
 ghost use Rattle.core_terms.specs.Count.{Rose};
-ghost use Rattle.elab_session.specs.Declaring.{declare_of};
 ghost use Rattle.elim_program.specs.Blocks.{Makes};
 ghost use Rattle.elim_program.specs.Outputs as spec;
 ghost use Rattle.elim_program.specs.Runs.{Told};
+ghost use Rattle.function_session.specs.Elaborating.{elaborate_of};
+ghost use Rattle.function_session.specs.Meanings.{IsUnforeseen, refused_of};
 ghost use Rattle.surface_syntax.specs.TreeMeanings.{decl_of};
 
-use crate::block::{accepted_block, refusal_block};
+use crate::block::{accepted_block, function_refusal_block, refusal_block};
 use crate::running::send;
 use crate::{Block, Status};
 use core_terms::Name;
 use elab_session::{Refusal, Session};
 use elim_ports::Sink;
+use function_session::{Refused, elaborate};
 use std::alloc::Global;
 use surface_syntax::Decl;
 
 /// The name of a declaration; of families that refer to each other it is the first one's.
-fn declared_name(d: &Decl) -> &Name
+pub(crate) fn declared_name(d: &Decl) -> &Name
     ensures { result.now ≡ spec.declared_name (decl_of d.now) }
 {
     match d {
@@ -36,17 +38,34 @@ fn declared_name(d: &Decl) -> &Name
     }
 }
 
+/// The lines of a declaration that is refused, or want of memory.
+pub(crate) fn refused_block(alloc: Global, name: &Name, refused: &Refused) -> Result<Block, Status>
+    ensures made { Makes result (spec.block (spec.refused_lines name.now (refused_of refused.now)) true) }
+    ensures memory { IsUnforeseen refused.now → result ≡ Err Status.NoMemory }
+{
+    match refused {
+        Refused::Declaration(Refusal::Memory) => Err(Status::NoMemory),
+        Refused::Declaration(refusal) => refusal_block(alloc, name, refusal),
+        Refused::Function(refusal) => function_refusal_block(alloc, name, refusal),
+    }
+}
+
 /// Adds a declaration to the session, and makes its lines.
 fn declare(alloc: Global, session: &mut Session, d: &Decl) -> Result<Block, Status>
-    ensures made { Makes result (spec.declared_block session.old.signature (decl_of d.now) (declare_of session.old.signature session.old.fuel (decl_of d.now))) }
-    ensures after { OnOk result (session.new.signature ≡ spec.after session.old.signature (declare_of session.old.signature session.old.fuel (decl_of d.now))) }
+    ensures made { Makes result (spec.declared_block session.old.signature (decl_of d.now) (elaborate_of session.old.signature session.old.fuel (decl_of d.now))) }
+    ensures after { OnOk result (session.new.signature ≡ spec.after session.old.signature (elaborate_of session.old.signature session.old.fuel (decl_of d.now))) }
     ensures fuel { session.new.fuel ≡ session.old.fuel }
 {
     let from = session.signature().len();
-    match session.declare(d) {
-        Ok(accepted) => accepted_block(alloc, session.signature(), from, &accepted.name),
-        Err(Refusal::Memory) => Err(Status::NoMemory),
-        Err(refusal) => refusal_block(alloc, declared_name(d), &refusal),
+    match elaborate(alloc, session, d) {
+        Ok(made) => accepted_block(
+            alloc,
+            session.signature(),
+            from,
+            made.lines.as_slice(),
+            &made.accepted.name,
+        ),
+        Err(refused) => refused_block(alloc, declared_name(d), &refused),
     }
 }
 
@@ -58,8 +77,8 @@ fn tell_declaration<K: Sink>(
     sink: &mut K,
 ) -> Result<bool, Status>
     ensures told { (text : List ℕ) × Appends (K.written sink.old) (K.written sink.new) text
-        × Told result (spec.declared_block session.old.signature (decl_of d.now) (declare_of session.old.signature session.old.fuel (decl_of d.now))) text }
-    ensures after { OnOk result (session.new.signature ≡ spec.after session.old.signature (declare_of session.old.signature session.old.fuel (decl_of d.now))) }
+        × Told result (spec.declared_block session.old.signature (decl_of d.now) (elaborate_of session.old.signature session.old.fuel (decl_of d.now))) text }
+    ensures after { OnOk result (session.new.signature ≡ spec.after session.old.signature (elaborate_of session.old.signature session.old.fuel (decl_of d.now))) }
     ensures fuel { session.new.fuel ≡ session.old.fuel }
     ensures fault { result ≡ Err Status.WriteFault → Rose (K.faults sink.old) (K.faults sink.new) }
     ensures never_falls { K.faults sink.old ≤ K.faults sink.new }

@@ -3,6 +3,7 @@ ghost use Rattle.elim_program.specs.DefinedOutputs.{HasOneOutput};
 ghost use Rattle.elim_program.specs.Headline.{Headline};
 ghost use Rattle.elim_program.specs.Verifies.{AllAreTold};
 ghost use Rattle.elim_program.specs.VerifyHeadline.{VerifyHeadline};
+ghost use Rattle.elim_program.specs.WorkLaws.{WorkCountsOutput};
 
 /// Where a line says that a declaration is accepted, the lines above it show that it has its written type.
 pub fn headline()
@@ -23,4 +24,10 @@ pub fn verify_headline()
 /// What is written and the status are a function of the words and the bytes.
 pub fn has_one_output()
     ensures { HasOneOutput }
+{}
+
+/// The mode `work` counts the clauses of the lines that `compile` writes for the same declarations, or ends in the lines of the
+/// same refusal.
+pub fn work_counts_output()
+    ensures { WorkCountsOutput }
 {}

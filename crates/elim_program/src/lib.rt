@@ -2,10 +2,13 @@
 #![tactic(auto)]
 
 mod block;
+mod clause_texts;
 mod command_line;
+mod counts;
 mod declaring;
 pub mod laws;
 mod refusals;
+mod refused_functions;
 mod running;
 mod status;
 mod text_stop;
@@ -13,6 +16,8 @@ mod texts;
 mod unbuilt;
 mod verifying;
 mod words;
+mod work_texts;
+mod working;
 
 use block::Block;
 pub use running::run;

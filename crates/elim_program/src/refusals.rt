@@ -6,7 +6,7 @@ use core_terms::Name;
 use elab_session::{PartName, Refusal};
 use std::alloc::AllocError;
 
-fn write_number(out: &mut Vec<u8>, n: u64) -> Result<(), AllocError>
+pub(crate) fn write_number(out: &mut Vec<u8>, n: u64) -> Result<(), AllocError>
     ensures { OnOk result (out.new.items ≡ out.old.items ++ decimal n) }
 {
     let text = format!(in *out.allocator(); "{n}")?;
@@ -40,7 +40,7 @@ fn write_argument(out: &mut Vec<u8>, kind: &[u8], owner: &[u8], k: u32) -> Resul
     write_number(out, k as u64)
 }
 
-fn write_place(out: &mut Vec<u8>, place: &[u8]) -> Result<(), AllocError>
+pub(crate) fn write_place(out: &mut Vec<u8>, place: &[u8]) -> Result<(), AllocError>
     ensures { OnOk result (out.new.items ≡ out.old.items ++ spec.place_text place.now) }
 {
     match place {

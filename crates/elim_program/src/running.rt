@@ -6,7 +6,7 @@ ghost use Rattle.elim_program.specs.Runs.{Follows, IsWhole, Runs, Sent, Told, Wr
 ghost use Rattle.elim_program.specs.Texts.{answer_of, limit, limited};
 ghost use Rattle.elim_program.specs.Lines.{text_of};
 ghost use Rattle.elim_program.specs.Refusals.{stop_line};
-ghost use Rattle.elim_program.specs.Words.{is_accepted, asked};
+ghost use Rattle.elim_program.specs.Words.{asks_for_source, asked};
 
 use crate::block::stop_block;
 use crate::command_line::asked;
@@ -14,7 +14,8 @@ use crate::declaring::tell_declarations;
 use crate::text_stop::is_memory;
 use crate::texts::declarations;
 use crate::verifying::verify;
-use crate::words::{Asked, is_accepted};
+use crate::words::{Asked, asks_for_source, work_asked};
+use crate::working::tell_work;
 use crate::{Command, Status, TextStop};
 use core_terms::Items;
 use elab_session::Session;
@@ -165,7 +166,7 @@ fn answer<K: Sink>(
     text: &Option<Items<u8>>,
     sink: &mut K,
 ) -> Status
-    requires accepted { is_accepted (map string_bytes words.now) ≡ true }
+    requires asks { asks_for_source (map string_bytes words.now) ≡ true }
     requires within { IfSome text.now (λ bytes. length bytes ≤ limit) }
     ensures wrote { (bytes : List ℕ) → text.now ≡ limited bytes → Wrote (map string_bytes words.now) bytes (K.written sink.old) (K.written sink.new) result }
     ensures fault { result ≡ Status.WriteFault → Rose (K.faults sink.old) (K.faults sink.new) }
@@ -178,11 +179,12 @@ fn answer<K: Sink>(
     }
 }
 
-/// Compiles the text of `source`, or verifies the core file that it holds, as the words ask for, and writes the lines to
-/// `sink`.
+/// Compiles the text of `source`, or verifies the core file that it holds, or counts the clauses of a text of its own, as the
+/// words ask for, and writes the lines to `sink`.
 ///
-/// `words` are those behind the program's name. The source is read whole before the first write. The first write holds
-/// the two head lines, each further one the lines of one declaration, the line of one verified entry or the last line.
+/// `words` are those after the program's name. The source is read whole before the first write; for `work`, or where the words
+/// are not accepted, it is not read. The first write holds the two head lines, each further one the lines of one declaration,
+/// the line of one verified entry or the last line.
 pub fn run<S: Source, K: Sink>(
     alloc: Global,
     words: &[String],
@@ -197,9 +199,12 @@ pub fn run<S: Source, K: Sink>(
     ensures write_fault { result ≡ Status.WriteFault → Rose (K.faults sink.old) (K.faults sink.new) }
     ensures complete { (Rose (S.faults source.old) (S.faults source.new) → ⊥) → (Rose (K.faults sink.old) (K.faults sink.new) → ⊥) → result ≢ Status.NoMemory
         → IsWhole (map string_bytes words.now) (S.left source.old) (K.written sink.old) (K.written sink.new) result }
-    ensures unread { IsTrue (not (is_accepted (map string_bytes words.now))) → source.new ≡ source.old }
+    ensures unread { IsTrue (not (asks_for_source (map string_bytes words.now))) → source.new ≡ source.old }
 {
-    if !is_accepted(words) {
+    if let Some(command) = work_asked(words) {
+        return tell_work(alloc, command, sink);
+    }
+    if !asks_for_source(words) {
         return refuse_words(sink);
     }
     match take_text(alloc, source) {

@@ -33,24 +33,53 @@ fn names_equal(bytes: &[u8], tokens: &[Token]) -> bool
     }
 }
 
-fn begins_unbuilt(bytes: &[u8], token: &Token, tokens: &[Token]) -> bool
-    ensures { result ≡ spec.begins_unbuilt bytes.now token.now tokens.now }
+fn goes_on(bytes: &[u8], tokens: &[Token]) -> bool
+    ensures { result ≡ spec.goes_on bytes.now tokens.now }
 {
-    is_spelled(b"fun", bytes, token)
-        || is_spelled(b"with", bytes, token)
-        || (is_spelled(b"def", bytes, token) && names_equal(bytes, tokens))
+    match tokens {
+        [word, ..] => is_spelled(b"with", bytes, word),
+        [] => false,
+    }
 }
 
-/// The offset of the first token that begins what is not built yet.
+/// The offset of the `data` of the declaration that the token belongs to, where it is a family.
+fn family_at(bytes: &[u8], family: Option<u32>, token: &Token) -> Option<u32>
+    ensures { result ≡ spec.family_at bytes.now family token.now }
+{
+    if is_spelled(b"data", bytes, token) {
+        Some(token.start)
+    } else if is_spelled(b"def", bytes, token) || is_spelled(b"fun", bytes, token) {
+        None
+    } else {
+        family
+    }
+}
+
+/// The first token of a declaration that is not built, where the token shows it.
+fn shown_unbuilt(bytes: &[u8], family: Option<u32>, token: &Token, tokens: &[Token]) -> Option<u32>
+    ensures { result ≡ spec.shown_unbuilt bytes.now family token.now tokens.now }
+{
+    if is_spelled(b"def", bytes, token) && names_equal(bytes, tokens) {
+        Some(token.start)
+    } else if is_spelled(b"}", bytes, token) && goes_on(bytes, tokens) {
+        family
+    } else {
+        None
+    }
+}
+
+/// The offset of the first token of a declaration that is not built yet.
 pub(crate) fn unbuilt(bytes: &[u8], tokens: &[Token]) -> Option<u32>
     ensures { result ≡ spec.unbuilt bytes.now tokens.now }
 {
+    let mut family = None;
     let mut rest = tokens;
-    while let [token, behind @ ..] = rest {
-        if begins_unbuilt(bytes, token, behind) {
-            return Some(token.start);
+    while let [token, after @ ..] = rest {
+        if let Some(offset) = shown_unbuilt(bytes, family, token, after) {
+            return Some(offset);
         }
-        rest = behind;
+        family = family_at(bytes, family, token);
+        rest = after;
     }
     None
 }

@@ -1,22 +1,35 @@
-ghost use Rattle.std.specs.Prelude.{◌≡◌, ◌≤◌, ◌∷◌, [], map, string_bytes, is_some};
+ghost use Rattle.std.specs.Prelude.{◌≡◌, ◌≤◌, ◌∷◌, [], map, string_bytes, is_some, IfSome};
 ghost use Rattle.surface_syntax.specs.Spelling.{is_text, is_digit};
 ghost use Rattle.elim_program.specs.Words as spec;
 
-/// The values of accepted words: axiom K or not, and the units that each declaration or entry may spend.
+/// The values of words that ask for the source: axiom K or not, and the units that each declaration or entry may spend.
 #[derive(Clone, Copy, Debug, PartialEq, Eq)]
 pub(crate) struct Command {
     pub k: bool,
     pub fuel: u64,
 }
 
-/// What accepted words ask for: a text is compiled, or a core file is verified.
+/// What the words want of the source: its text is compiled, or its core file is verified.
 #[derive(Clone, Copy, Debug, PartialEq, Eq)]
 pub(crate) enum Asked {
     Compile(Command),
     Verify(Command),
 }
 
+/// What the mode `work` is asked for: how many families and functions its text has, and the units that each declaration may
+/// spend.
+#[derive(Clone, Copy, Debug, PartialEq, Eq)]
+pub(crate) struct Work {
+    pub count: u64,
+    pub fuel: u64,
+}
+
+/// The units where the words don't say.
+pub(crate) const DEFAULT_FUEL: u64 = 100_000_000;
+
 const MOST_FUEL: u64 = 1_000_000_000;
+
+const MOST_COUNT: u64 = 200;
 
 fn is_word(word: &String, text: &[u8]) -> bool
     ensures { result ≡ is_text (string_bytes word.now) text.now }
@@ -30,33 +43,54 @@ fn is_digit(byte: u8) -> bool
     byte >= b'0' && byte <= b'9'
 }
 
-/// Whether digits spell a number in the limit behind those of `number`.
-fn is_number_behind(number: u64, digits: &[u8]) -> bool
+/// The number that digits spell after those of `number`, where it is within the limit.
+fn number_after(number: u64, digits: &[u8]) -> Option<u64>
     requires { number ≤ 1000000000 }
-    ensures { result ≡ is_some (spec.number_behind number digits.now) }
+    ensures { result ≡ spec.number_after number digits.now }
 {
     match digits {
-        [] => true,
+        [] => Some(number),
         [digit, rest @ ..] => {
             if !is_digit(*digit) {
-                return false;
+                return None;
             }
             let next = 10 * number + (*digit - b'0') as u64;
             if next > MOST_FUEL {
-                return false;
+                return None;
             }
-            is_number_behind(next, rest)
+            number_after(next, rest)
         }
+    }
+}
+
+fn fuel_number(word: &String) -> Option<u64>
+    ensures { result ≡ spec.fuel_of (string_bytes word.now) }
+{
+    let digits = word.as_bytes();
+    match digits {
+        [] | [b'0', ..] => None,
+        _ => number_after(0, digits),
     }
 }
 
 fn is_fuel_number(word: &String) -> bool
     ensures { result ≡ is_some (spec.fuel_of (string_bytes word.now)) }
 {
-    let digits = word.as_bytes();
-    match digits {
-        [] | [b'0', ..] => false,
-        _ => is_number_behind(0, digits),
+    fuel_number(word).is_some()
+}
+
+fn count_number(word: &String) -> Option<u64>
+    ensures { result ≡ spec.count_of (string_bytes word.now) }
+{
+    match fuel_number(word) {
+        Some(count) => {
+            if count <= MOST_COUNT {
+                Some(count)
+            } else {
+                None
+            }
+        }
+        None => None,
     }
 }
 
@@ -84,9 +118,42 @@ fn are_flags(words: &[String]) -> bool
     }
 }
 
-/// Whether the words are one of the accepted lists.
-pub(crate) fn is_accepted(words: &[String]) -> bool
-    ensures { result ≡ spec.is_accepted (map string_bytes words.now) }
+fn work_of(count: Option<u64>, fuel: Option<u64>) -> Option<Work>
+    ensures { result ≡ spec.work_of count fuel }
+{
+    match (count, fuel) {
+        (Some(count), Some(fuel)) => Some(Work { count, fuel }),
+        _ => None,
+    }
+}
+
+/// What the words ask for where they ask for the mode `work`.
+pub(crate) fn work_asked(words: &[String]) -> Option<Work>
+    ensures asked { result ≡ spec.work_asked (map string_bytes words.now) }
+    ensures within { IfSome result (λ work. work.count ≤ 200) }
+{
+    match words {
+        [mode, count] => {
+            if is_word(mode, b"work") {
+                work_of(count_number(count), Some(DEFAULT_FUEL))
+            } else {
+                None
+            }
+        }
+        [mode, count, flag, fuel] => {
+            if is_word(mode, b"work") && is_word(flag, b"--fuel") {
+                work_of(count_number(count), fuel_number(fuel))
+            } else {
+                None
+            }
+        }
+        _ => None,
+    }
+}
+
+/// Whether the words ask to compile the text of the source, or to verify the core file that it holds.
+pub(crate) fn asks_for_source(words: &[String]) -> bool
+    ensures { result ≡ spec.asks_for_source (map string_bytes words.now) }
 {
     match words {
         [mode, rest @ ..] => {

@@ -1,17 +1,26 @@
-use Rattle.std.proofs.Common.{◌≡◌, false, ap, Err, rules}
+use Rattle.std.proofs.Common.{◌≡◌, false, ap, sym, ◌∙◌, Err, rules}
 use Rattle.std.specs.Prelude.{map, string_bytes}
-use Rattle.elim_program.specs.Words.{is_accepted}
-use Rattle.elim_program.proofs.Whole.{complete, unaccepted_runs, stopped_runs, stop_of, not_write_fault}
+use Rattle.elim_program.specs.Words.{asks_for_source}
+use Rattle.elim_program.proofs.Asking.{none_found}
+use Rattle.elim_program.proofs.Whole.{complete, unaccepted_runs, unread_runs, stopped_runs, stop_of, not_write_fault}
 use Rattle.elim_program.proofs.running.run.Goals as goal
 
-pub returns-then-not-is_accepted-clause-runs : goal.returns-then-not-is_accepted-clause-runs
-returns-then-not-is_accepted-clause-runs g c =
-    let refused : is_accepted (map string_bytes c.args.words.now) ≡ false = search rules in
-    unaccepted_runs _ _ _ _ _ refused c.refuse_words.ensures.follows
+pub returns-in-Some-clause-runs : goal.returns-in-Some-clause-runs
+returns-in-Some-clause-runs g c =
+    unread_runs _ _ _ _ _ (λ bytes. c.tell_work.ensures.wrote (map string_bytes c.args.words.now) bytes (sym c.work_asked.ensures.asked ∙ c.in-Some.is))
 
-pub returns-then-not-is_accepted-clause-complete : goal.returns-then-not-is_accepted-clause-complete
-returns-then-not-is_accepted-clause-complete g c = λ source sink memory.
-    complete _ _ _ _ _ (returns-then-not-is_accepted-clause-runs g c) c.refuse_words.ensures.read (λ e. sink (c.refuse_words.ensures.fault e)) memory
+pub returns-in-Some-clause-complete : goal.returns-in-Some-clause-complete
+returns-in-Some-clause-complete g c = λ source sink memory.
+    complete _ _ _ _ _ (returns-in-Some-clause-runs g c) c.tell_work.ensures.read (λ e. sink (c.tell_work.ensures.fault e)) memory
+
+pub returns-then-not-asks_for_source-clause-runs : goal.returns-then-not-asks_for_source-clause-runs
+returns-then-not-asks_for_source-clause-runs g c =
+    let refused : asks_for_source (map string_bytes c.args.words.now) ≡ false = search rules in
+    unaccepted_runs _ _ _ _ _ refused (none_found _ (λ w e. c.in_default.not-Some w (c.work_asked.ensures.asked ∙ e))) c.refuse_words.ensures.follows
+
+pub returns-then-not-asks_for_source-clause-complete : goal.returns-then-not-asks_for_source-clause-complete
+returns-then-not-asks_for_source-clause-complete g c = λ source sink memory.
+    complete _ _ _ _ _ (returns-then-not-asks_for_source-clause-runs g c) c.refuse_words.ensures.read (λ e. sink (c.refuse_words.ensures.fault e)) memory
 
 pub returns-in-Ok-clause-runs : goal.returns-in-Ok-clause-runs
 returns-in-Ok-clause-runs g c = record {

@@ -1,0 +1,50 @@
+-- How the mode `work` makes its text, and the lines where it is refused.
+use Rattle.std.proofs.Common.{◌≡◌, ◌≢◌, ℕ, zero, suc, ◌+◌, ◌-◌, ◌≤◌, true, List, [], ◌∷◌, ◌++◌, length, map, get_or, Result, Ok, Err, refl, ap, subst, ◌∙◌, arith, append_assoc}
+use Rattle.std.specs.Prelude.{OnOk}
+use Rattle.theory.specs.Signatures.{Signature}
+use Rattle.core_terms.specs.Answers.{Unless}
+use Rattle.surface_syntax.specs.TreeMeanings.{decl_of}
+use Rattle.surface_syntax.specs.declared.tree.Decl.{Decl}
+use Rattle.function_session.specs.Elaborating.{Elaborated, elaborate_of}
+use Rattle.function_session.specs.Meanings.{IsUnforeseen, refused_of}
+use Rattle.function_session.specs.declared.refused.Refused.{Refused}
+use Rattle.elim_program.specs.Blocks.{Makes}
+use Rattle.elim_program.specs.Counting.{Refuses}
+use Rattle.elim_program.specs.Outputs.{block, declared_name, refused_lines}
+use Rattle.elim_program.specs.WorkTexts.{numbered, template, text_from}
+use Rattle.elim_program.specs.Works.{on_worked, with_accepted, worked}
+use Rattle.elim_program.specs.declared.block.Block.{Block}
+use Rattle.elim_program.specs.declared.counts.Counts.{Counts}
+use Rattle.elim_program.specs.declared.status.Status.{Status}
+use Rattle.elim_program.specs.declared.status.Status.TheVariants.{NoMemory}
+
+-- one family and one function more
+text_more : (from count : ℕ) (before middle after : List ℕ) → count ≢ 0 → middle ≡ before ++ numbered from template → after ≡ middle ++ text_from (from + 1) (count - 1)
+    → after ≡ before ++ text_from from count
+text_more from zero before middle after some m a = absurd (some refl)
+text_more from (suc count) before middle after some m a =
+    let less : suc count - 1 ≡ count = omega arith in
+    a ∙ ap (λ n. middle ++ text_from (from + 1) n) less ∙ ap (λ l. l ++ text_from (from + 1) count) m ∙ append_assoc before (numbered from template) (text_from (from + 1) count)
+
+pub on_text : {E : Type 0} (r : Result (Unit {0}) E) (from count : ℕ) (before middle after : List ℕ) → count ≢ 0 → middle ≡ before ++ numbered from template
+    → OnOk r (after ≡ middle ++ text_from (from + 1) (count - 1)) → OnOk r (after ≡ before ++ text_from from count)
+on_text (Ok u) from count before middle after some m a = text_more from count before middle after some m a
+on_text (Err e) from count before middle after some m a = tt
+
+abbrev Made : Block → Result Block Status
+Made b = Ok b
+
+no_ok : (b : Block) → Made b ≡ Err NoMemory → ⊥
+no_ok b e = cc
+
+-- the first declaration is refused
+pub refused_first : (fuel : ℕ) (S : Signature) (decls : List Decl) (d : Decl) (c : Counts) (e : Refused) (b : Block) (name : List ℕ) → 1 ≤ length decls → d ≡ get_or decls 0 d
+    → name ≡ declared_name (decl_of d) → Makes (Made b) (block (refused_lines name (refused_of e)) true) → (IsUnforeseen e → Made b ≡ Err NoMemory)
+    → Unless (IsUnforeseen e) (Err (refused_of e) ≡ elaborate_of S fuel (decl_of d)) → Refuses b (worked fuel S (map decl_of decls) c)
+refused_first fuel S [] d c e b name some first same made memory answer = absurd (omega (arith, some))
+refused_first fuel S (d ∷ ds) x c e b name some first same made memory answer =
+    let go : Elaborated → Result Counts (List (List ℕ)) = λ a. worked fuel a.signature (map decl_of ds) (with_accepted c a) in
+    let is : Err (refused_of e) ≡ elaborate_of S fuel (decl_of d) =
+    subst (λ y. Err (refused_of e) ≡ elaborate_of S fuel (decl_of y)) first (answer (λ u. no_ok b (memory u))) in
+    let named : name ≡ declared_name (decl_of d) = same ∙ ap (λ y. declared_name (decl_of y)) first in
+    subst (λ m. Refuses b (on_worked (decl_of d) m go)) is (subst (λ n. Makes (Made b) (block (refused_lines n (refused_of e)) true)) named made)

@@ -1,0 +1,60 @@
+-- The mode `work`: how many clauses of its text have each line.
+use Rattle.std.specs.Prelude.{ℕ, ◌+◌, true, false, List, [], ◌∷◌, Result, Ok, Err}
+use Rattle.theory.specs.Prelude.{prelude}
+use Rattle.theory.specs.Signatures.{Signature}
+use Rattle.surface_syntax.specs.Trees as surf
+use Rattle.clause_reports.specs.Reports.{Line, Definitional, Proved, Shadowed, Absurd}
+use Rattle.elaboration.specs.Functions.{ClauseLine}
+use Rattle.function_session.specs.Elaborating.{Elaborated, Refused, elaborate_of}
+use Rattle.elim_program.specs.declared.counts.Counts.{Counts}
+use Rattle.elim_program.specs.declared.words.Work.{Work}
+use Rattle.elim_program.specs.Outputs.{Block, block, declared_name, refused_lines, Output, compiled}
+use Rattle.elim_program.specs.Refusals.{stop_line}
+use Rattle.elim_program.specs.Texts.{Answer}
+use Rattle.elim_program.specs.WorkTexts.{summary_line}
+
+-- ---- counting
+
+abbrev pub none_counted : Counts
+none_counted = record { accepted = 0; definitional = 0; proved = 0; shadowed = 0; absurd = 0 }
+
+-- one clause more
+abbrev pub counted : Counts → Line → Counts
+counted c Definitional = record c { definitional = c.definitional + 1 }
+counted c (Proved n) = record c { proved = c.proved + 1 }
+counted c (Shadowed earlier context vector leaves) = record c { shadowed = c.shadowed + 1 }
+counted c Absurd = record c { absurd = c.absurd + 1 }
+
+abbrev pub all_counted : Counts → List ClauseLine → Counts
+all_counted c [] = c
+all_counted c (l ∷ lines) = all_counted (counted c l.line) lines
+
+-- one declaration more
+abbrev pub one_accepted : Counts → Counts
+one_accepted c = record c { accepted = c.accepted + 1 }
+
+abbrev pub with_accepted : Counts → Elaborated → Counts
+with_accepted c a = all_counted (one_accepted c) a.lines
+
+-- what is counted, or the lines of a refusal
+abbrev pub on_worked : surf.Decl → Result Elaborated Refused → (Elaborated → Result Counts (List (List ℕ))) → Result Counts (List (List ℕ))
+on_worked d (Ok a) go = go a
+on_worked d (Err e) go = Err (refused_lines (declared_name d) e)
+
+-- declarations one by one, up to the first that is refused
+abbrev pub worked : ℕ → Signature → List surf.Decl → Counts → Result Counts (List (List ℕ))
+worked fuel S [] c = Ok c
+worked fuel S (d ∷ ds) c = on_worked d (elaborate_of S fuel d) (λ a. worked fuel a.signature ds (with_accepted c a))
+
+-- ---- the output
+
+abbrev pub worked_block : ℕ → Result Counts (List (List ℕ)) → Block
+worked_block n (Ok c) = block (summary_line n c ∷ []) false
+worked_block n (Err lines) = block lines true
+
+abbrev pub work_block : Work → Answer → Block
+work_block w (Ok ds) = worked_block w.count (worked w.fuel (prelude false) ds none_counted)
+work_block w (Err e) = block (stop_line e ∷ []) true
+
+abbrev pub work_output : Work → Answer → Output
+work_output w answer = compiled false (work_block w answer)
