@@ -1,0 +1,4 @@
+pub mod Runs
+pub mod Reducing
+pub mod Checking
+pub mod Entering

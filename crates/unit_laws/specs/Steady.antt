@@ -1,0 +1,27 @@
+-- More units change no answer but want of units.
+use Rattle.std.specs.Prelude.{◌≡◌, ℕ, ◌+◌, Result, Ok, Err}
+use Rattle.core_terms.specs.Answers.{SpentOr}
+use Rattle.core_terms.specs.declared.stop.Stop.{Stop}
+use Rattle.core_terms.specs.declared.stop.Stop.TheVariants.{Fuel}
+use Rattle.family_check.specs.Outcomes.{FamilyStop, Stopped}
+
+-- a refusal for want of units
+abbrev pub IsFuel : Stop → Type 0
+IsFuel e = e ≡ Fuel
+
+abbrev pub IsFamilyFuel : FamilyStop → Type 0
+IsFamilyFuel e = e ≡ Stopped Fuel
+
+-- units were not wanting: there is an answer, or a refusal that is no want of units
+abbrev pub IsPaid : {A E : Type 0} → (E → Type 0) → Result A E → Type 0
+IsPaid wants (Ok a) = Unit {0}
+IsPaid wants (Err e) = ¬ wants e
+
+-- the same answer with so many more units left behind it
+abbrev pub with_more : {A E : Type 0} → ℕ → SpentOr E A → SpentOr E A
+with_more more answer = (answer.0, answer.1 + more)
+
+-- What is answered with some units, unless they were wanting, is answered with more too, and what is more is left.
+abbrev pub IsSteady : {A E : Type 0} → (E → Type 0) → (ℕ → SpentOr E A) → Type 0
+IsSteady {A} {E} wants run =
+    (left more : ℕ) → IsPaid wants (run left).0 → ◌≡◌ {A = SpentOr E A} (run (left + more)) (with_more more (run left))
