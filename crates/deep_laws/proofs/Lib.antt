@@ -1,0 +1,4 @@
+pub mod AlikeContexts
+pub mod AlikeNames
+pub mod ExactEntries
+pub mod MadeParts
