@@ -1,0 +1,80 @@
+-- Signatures of which the same is read have the same position of recursion.
+use mathlib.Core.Path.{fun_ext}
+use Rattle.std.proofs.Common.{◌≡◌, ℕ, ◌+◌, not, cond, Option, Some, None, option_map, option_and_then, List, [], ◌∷◌, length, find, slice_get, nat_le, ◌&&◌, refl, ap, ap₂, ◌∙◌}
+use Rattle.std.specs.Option.{option_or}
+use Rattle.std.specs.List.{list_all}
+use Rattle.theory.specs.Terms.{Term, lift}
+use Rattle.theory.specs.Telescopes.{Telescope}
+use Rattle.theory.specs.Signatures.{Signature}
+use Rattle.theory.specs.Spines.{head_of, spine_of}
+use Rattle.structural_rec.specs.Calls.{Call, calls}
+use Rattle.structural_rec.specs.Choices.{NotRecursive, choose, failing_at, failing_in, failing_row, first_failing, first_usable, or_later}
+use Rattle.structural_rec.specs.Fitting.{both_pass, fits, is_same, is_smaller, part_in, pass_at}
+use Rattle.structural_rec.specs.Positions.{Admission, admission, admission_in, admission_of, admission_with, family_number}
+use Rattle.structural_rec.specs.Uses.{Use, is_recursive}
+use Rattle.tree_translation.specs.Recursion.{recursion_at, recursion_with}
+use Rattle.elaboration.specs.Functions.{recursion_in}
+use Rattle.kernel_reduce.specs.Entries.{family_at}
+use Rattle.plan_laws.specs.Reading.{AreReadAlike}
+
+module _ (S T : Signature) (alike : AreReadAlike S T) where
+  number-same : (tele : Telescope) (j : ℕ) (spine : List Term) (o : Option ℕ)
+      → option_and_then (admission_in S tele j spine) o ≡ option_and_then (admission_in T tele j spine) o
+  number-same tele j spine None = refl
+  number-same tele j spine (Some n) = ap (option_and_then (admission_with tele j n spine)) (alike.families n)
+
+  type-same : (tele : Telescope) (j : ℕ) (o : Option Term) → option_and_then (admission_of S tele j) o ≡ option_and_then (admission_of T tele j) o
+  type-same tele j None = refl
+  type-same tele j (Some t) = number-same tele j (spine_of t) (family_number (head_of t))
+
+  admission-same : (tele : Telescope) (j : ℕ) → admission S tele j ≡ admission T tele j
+  admission-same tele j = type-same tele j (slice_get tele j)
+
+  smaller-same : (n under : ℕ) (argument own : Term) → is_smaller S n under argument own ≡ is_smaller T n under argument own
+  smaller-same n under argument own = ap (part_in n argument (lift own under 0)) (alike.families n)
+
+  pass-same : (n under : ℕ) (a b : Option Term) → both_pass (is_smaller S n under) a b ≡ both_pass (is_smaller T n under) a b
+  pass-same n under (Some a) (Some b) = smaller-same n under a b
+  pass-same n under (Some a) None = refl
+  pass-same n under None b = refl
+
+  fits-same : (count j : ℕ) (a : Admission) (terms : List Term) (c : Call) → fits S count j a terms c ≡ fits T count j a terms c
+  fits-same count j a terms c =
+      ap (λ b. nat_le count (length (spine_of c.term)) && (b && list_all (pass_at (is_same c.under) (spine_of c.term) terms) a.fixed))
+      (pass-same a.number c.under (slice_get (spine_of c.term) j) (slice_get terms j))
+
+  failing-same : (own count j : ℕ) (a : Admission) (u : Use) → failing_in S own count j a u ≡ failing_in T own count j a u
+  failing-same own count j a u =
+      ap (λ p. option_map (failing_row j u) (option_map (λ c. c.term) (find p (calls own u.body))))
+      (fun_ext (λ c. ap not (fits-same count j a u.terms c)))
+
+  first-same : (own count j : ℕ) (a : Admission) (uses : List Use) → first_failing S own count j a uses ≡ first_failing T own count j a uses
+  first-same own count j a [] = refl
+  first-same own count j a (u ∷ uses) = ap₂ option_or (failing-same own count j a u) (first-same own count j a uses)
+
+  at-same : (tele : Telescope) (own : ℕ) (uses : List Use) (j : ℕ) → failing_at S tele own uses j ≡ failing_at T tele own uses j
+  at-same tele own uses j =
+      ap₂ option_map (fun_ext (λ a. first-same own (length tele) j a uses)) (admission-same tele j)
+
+  usable-same : (tele : Telescope) (own : ℕ) (uses : List Use) (j : ℕ) (rest : List Term)
+      → first_usable S tele own uses j rest ≡ first_usable T tele own uses j rest
+  usable-same tele own uses j [] = refl
+  usable-same tele own uses j (type ∷ rest) = ap₂ (or_later j) (at-same tele own uses j) (usable-same tele own uses (j + 1) rest)
+
+  pub choice-same : (tele : Telescope) (own : ℕ) (uses : List Use) → choose S tele own uses ≡ choose T tele own uses
+  choice-same tele own uses = ap (λ c. cond (is_recursive own uses) c NotRecursive) (usable-same tele own uses 0 tele)
+
+  family-same : (j : ℕ) (o : Option Admission)
+      → option_and_then (λ a. option_map (recursion_with j a) (family_at S a.number)) o
+      ≡ option_and_then (λ a. option_map (recursion_with j a) (family_at T a.number)) o
+  family-same j None = refl
+  family-same j (Some a) = ap (option_map (recursion_with j a)) (alike.families a.number)
+
+  at-position : (tele : Telescope) (j : ℕ) → recursion_at S tele j ≡ recursion_at T tele j
+  at-position tele j =
+      ap (option_and_then (λ a. option_map (recursion_with j a) (family_at S a.number))) (admission-same tele j)
+      ∙ family-same j (admission T tele j)
+
+  pub recursion-same : (tele : Telescope) (position : Option ℕ) → recursion_in S tele position ≡ recursion_in T tele position
+  recursion-same tele None = refl
+  recursion-same tele (Some j) = at-position tele j

@@ -1,0 +1,57 @@
+-- What holds of walks, trees and plans over a signature that has the function.
+use Rattle.std.specs.Prelude.{◌≡◌, ◌<◌, ℕ, true, Ok, IfOk, List, length}
+use Rattle.theory.specs.Terms.{Term, top}
+use Rattle.theory.specs.Telescopes.{Telescope}
+use Rattle.theory.specs.Signatures.{Signature}
+use Rattle.core_terms.specs.Clauses.{Clause, Clauses}
+use Rattle.case_trees.specs.OwnWalks.{own_walk_of}
+use Rattle.case_trees.specs.Trees.{split_of}
+use Rattle.with_abstraction.specs.Abstractions.{abstract_over_of}
+use Rattle.elaboration.specs.Functions.{plan_of}
+use Rattle.order_scopes.specs.Laws.{begins_closed}
+use Rattle.resolve.specs.Functions.{Function}
+use Rattle.tree_translation.specs.Conditions.{IsPlanned}
+use Rattle.tree_translation.specs.Plans.{Plan, own_part}
+use Rattle.tree_translation.specs.Recursion.{order_of, ordered_telescope, recursion_of}
+use Rattle.plan_laws.specs.Conditions.{IsFunctionFor}
+use Rattle.plan_laws.specs.Reading.{AreReadAlike}
+
+-- Walks, trees and abstractions over two such signatures are the same, with the same units.
+abbrev pub SameWalks : Type 0
+SameWalks =
+    (S T : Signature) (context : Telescope) (goal : Term) (terms : List Term) (c : Clause) (number left : ℕ) → AreReadAlike S T →
+    own_walk_of S context goal terms c number left ≡ own_walk_of T context goal terms c number left
+
+abbrev pub SameTrees : Type 0
+SameTrees =
+    (S T : Signature) (context : Telescope) (goal : Term) (terms : List Term) (clauses : Clauses) (left : ℕ) → AreReadAlike S T →
+    split_of S context goal terms clauses left ≡ split_of T context goal terms clauses left
+
+abbrev pub SameAbstractions : Type 0
+SameAbstractions =
+    (S T : Signature) (context : Telescope) (goal t type : Term) (left : ℕ) → AreReadAlike S T →
+    abstract_over_of S context goal t type left ≡ abstract_over_of T context goal t type left
+
+-- ---- plans
+
+-- the telescope of a plan begins with a type over no variables in the order of recursion
+abbrev pub BeginsClosed : Signature → Plan → Type 0
+BeginsClosed S plan = (let tele = (own_part plan).tele in begins_closed (ordered_telescope tele (order_of (length tele) (recursion_of S plan)))) ≡ true
+
+-- what a plan has of its function
+pub record IsPlanOf (S : Signature) (f : Function) (level : ℕ) (plan : Plan) : Type 0 where
+  pub base : plan.base ≡ length S.entries
+  pub name : plan.name ≡ f.name
+  pub type : plan.type ≡ f.type
+  pub arity : plan.arity ≡ f.arity
+  pub level_is : plan.level ≡ level
+
+abbrev pub PlanIsOfFunction : Type 0
+PlanIsOfFunction = (S : Signature) (f : Function) (level left : ℕ) → IfOk (plan_of S f level left).0 (IsPlanOf S f level)
+
+-- The plan of a function is one: its parts have the walks, the right sides and the trees of their clauses, over the signature with the
+-- function, and neither a tree nor what a part begins with names the function.
+abbrev pub PlanIsPlanned : Type 0
+PlanIsPlanned =
+    (S : Signature) (f : Function) (level left : ℕ) (plan : Plan) → IsFunctionFor S f → level < top → (plan_of S f level left).0 ≡ Ok plan →
+    BeginsClosed S plan → IsPlanned S plan

@@ -1,0 +1,4 @@
+pub mod Conditions
+pub mod Laws
+pub mod MadePlans
+pub mod Reading

@@ -1,0 +1,39 @@
+//! What is read of a signature, and what the plan of a function is.
+ghost use Rattle.plan_laws.specs.Laws.{PlanIsOfFunction, PlanIsPlanned, SameAbstractions, SameTrees, SameWalks};
+ghost use Rattle.plan_laws.specs.MadePlans.{PlanIsMade};
+ghost use Rattle.plan_laws.specs.Reading.{FunctionIsNotRead};
+
+/// A function at the end of a signature is not read.
+pub fn function_is_not_read()
+    ensures { FunctionIsNotRead }
+{}
+
+/// Signatures of which the same is read have the same walks.
+pub fn same_walks()
+    ensures { SameWalks }
+{}
+
+/// Signatures of which the same is read have the same trees.
+pub fn same_trees()
+    ensures { SameTrees }
+{}
+
+/// Signatures of which the same is read have the same abstractions.
+pub fn same_abstractions()
+    ensures { SameAbstractions }
+{}
+
+/// A plan has the name and the type of its function.
+pub fn plan_is_of_function()
+    ensures { PlanIsOfFunction }
+{}
+
+/// The plan of a function is one.
+pub fn plan_is_planned()
+    ensures { PlanIsPlanned }
+{}
+
+/// The plan that the code makes is the plan that is meant.
+pub fn plan_is_made()
+    ensures { PlanIsMade }
+{}
