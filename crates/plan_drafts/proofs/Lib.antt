@@ -1,0 +1,2 @@
+pub mod FunctionDrafts
+pub mod TestedDrafts
