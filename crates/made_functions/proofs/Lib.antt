@@ -1,0 +1,5 @@
+pub mod Sequences
+pub mod EnteredPlans
+pub mod EnteringFunctions
+pub mod MadeFunctions
+pub mod ReportedParts
