@@ -1,0 +1,4 @@
+//! Why functions by clauses are refused: what a refusal shows holds of the clauses.
+#![tactic(auto)]
+
+pub mod laws;
