@@ -1,0 +1,6 @@
+pub mod Declarations
+pub mod Drafts
+pub mod Families
+pub mod Functions
+pub mod Reports
+pub mod Steps
