@@ -1,0 +1,13 @@
+mod AnswersRead
+mod CoreFiles
+mod CoreLaws
+mod EntriesWithoutK
+mod FirstInvalid
+mod InstancesLeft
+mod LastLines
+mod LinesWithoutK
+mod OneSignature
+mod Outputs
+mod RecordsShown
+mod Splitting
+mod Writable

@@ -1,0 +1,5 @@
+pub mod Answers
+pub mod CoreFiles
+pub mod LastLines
+pub mod Laws
+pub mod WithoutK

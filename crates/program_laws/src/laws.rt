@@ -1,0 +1,37 @@
+//! The laws.
+ghost use Rattle.program_laws.specs.Laws.{GivesByTheGrammar, HasOutput, OneSignature, ReadsByTheGrammar, StatusFollows, VerifiedWithoutK, WithoutK};
+
+/// For all words and bytes an output is defined.
+pub fn has_output()
+    ensures { HasOutput }
+{}
+
+/// Tokens are read as declarations, or have a first place at which they go wrong or something is too deep.
+pub fn reads_by_the_grammar()
+    ensures { ReadsByTheGrammar }
+{}
+
+/// The declarations of a text are those that the grammar has for it.
+pub fn gives_by_the_grammar()
+    ensures { GivesByTheGrammar }
+{}
+
+/// The last line of an output shows its status.
+pub fn status_follows()
+    ensures { StatusFollows }
+{}
+
+/// Where the words do not ask for axiom K, nothing of an accepted text holds it.
+pub fn without_k()
+    ensures { WithoutK }
+{}
+
+/// Where the words do not ask for axiom K, no verified entry holds it.
+pub fn verified_without_k()
+    ensures { VerifiedWithoutK }
+{}
+
+/// What stands above a line that accepts a declaration is a core file of the signature that has it.
+pub fn one_signature()
+    ensures { OneSignature }
+{}
