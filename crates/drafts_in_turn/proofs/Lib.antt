@@ -1,0 +1,12 @@
+pub mod CycleSides
+pub mod RunNames
+pub mod TreeNames
+pub mod GrowingDrafts
+pub mod EnteredDraft
+pub mod EnteringInTurn
+pub mod PartLevels
+pub mod FamilyLevels
+pub mod PlanNames
+pub mod FunctionNames
+pub mod ClosedOrders
+pub mod MadeInTurn

@@ -1,0 +1,4 @@
+//! The names of the drafts of a function enter in turn.
+#![tactic(auto)]
+
+pub mod laws;
