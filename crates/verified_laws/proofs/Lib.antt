@@ -1,0 +1,3 @@
+pub mod CoreFiles
+pub mod LetIn
+pub mod Texts

@@ -1,0 +1,27 @@
+//! What is accepted is verified.
+ghost use Rattle.verified_laws.specs.Laws.{AcceptedIsVerified, CoreFileIsVerified, EachIsNamed, OutputVerifies, TextIsChecked};
+
+/// Where no declaration of a text is refused, each entry of the signature that they give is let in by itself.
+pub fn text_is_checked()
+    ensures { TextIsChecked }
+{}
+
+/// A core file has a name for each entry after the prelude.
+pub fn each_is_named()
+    ensures { EachIsNamed }
+{}
+
+/// A core file is verified line by line, where each of its entries is let in by itself.
+pub fn core_file_is_verified()
+    ensures { CoreFileIsVerified }
+{}
+
+/// A core file of the signature that an accepted text gives is verified with as much fuel.
+pub fn accepted_is_verified()
+    ensures { AcceptedIsVerified }
+{}
+
+/// So the output that is defined for `verify` on such a file has one line for each entry, and refuses nothing.
+pub fn output_verifies()
+    ensures { OutputVerifies }
+{}
