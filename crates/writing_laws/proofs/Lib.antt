@@ -1,0 +1,10 @@
+mod Carrying
+mod Functions
+mod Heights
+mod Marks
+mod Names
+mod Reporting
+mod Sessions
+mod StaysLow
+mod Stems
+mod Writables
