@@ -24,7 +24,7 @@ pub checked-on : {fuel : ℕ} {S T U : Signature} → Checked fuel S T → Check
 checked-on h unchanged = h
 checked-on h (one_more T e k lets) = one_more T e (checked-on h k) lets
 
--- the answer has P, and no more than `fuel` units are left behind it
+-- the answer has P, and no more than `fuel` units are left after it
 abbrev pub Within : {A E : Type 0} → ℕ → (A → Type 0) → SpentOr E A → Type 0
 Within fuel P r = IfOk r.0 P × (r.1 ≤ fuel)
 

@@ -55,7 +55,7 @@ binds-hypotheses q first at depth (a ∷ arguments) t =
 
 -- ---- the type of pairs at arguments and hypotheses
 
--- The arguments stand behind `before`, and the hypotheses last of all.
+-- The arguments come after `before`, and the hypotheses last of all.
 parts-filled : (S : Signature) (n : ℕ) (f : Family) (q : Carrier) (args : List Term) (depth : ℕ) (P D R : Term) → depth ≡ length args → inst (fill no_variable args) (variable depth q.params) ≡ P → ((u : Term) → Converts S (App R u) (App D u))
     → (s : ℕ → Term) (at : ℕ) (arguments : List Argument) (us before behind front : List Term) (argument hyp : ℕ) → All HasNoTargets arguments → length us ≡ length arguments → args ≡ before ++ (us ++ behind) → argument ≡ length before → args ≡ front ++ hypotheses s R arguments us → hyp ≡ length front
     → Converts S (inst (fill no_variable args) (parts_type q depth (directs argument hyp (argument_shapes n f at arguments)))) (parts_of q.level P D arguments us)

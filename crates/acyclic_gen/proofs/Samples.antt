@@ -27,7 +27,7 @@ list = record {
       ∷ record { name = codes "cons"; arguments = Plain (Var 0) 0 ∷ Recursive [] [] 0 ∷ []; targets = [] } ∷ [];
 }
 
--- entry 47, behind Nat: Ord, with oz, os : Ord -> Ord and lim : (Nat -> Ord) -> Ord
+-- entry 47, after Nat: Ord, with oz, os : Ord -> Ord and lim : (Nat -> Ord) -> Ord
 abbrev pub ord : Family
 ord = record {
   name = codes "Ord";
@@ -59,7 +59,7 @@ two = record {
       } ∷ [];
 }
 
--- entry 48, behind Nat and Fin : Nat -> Type 0: Bin, with tip and bin : (n : Nat) -> Bin -> Fin n -> Bin -> Bin
+-- entry 48, after Nat and Fin : Nat -> Type 0: Bin, with tip and bin : (n : Nat) -> Bin -> Fin n -> Bin -> Bin
 abbrev pub bin : Family
 bin = record {
   name = codes "Bin";

@@ -47,7 +47,7 @@ acyclic_method q constructors depth number noconf c =
     method_over Acyclic q depth c
     (pushes q constructors push c.arguments (inside + recursive_count c.arguments) (directs depth inside c.arguments))
 
--- the constant behind that of a constructor with direct arguments
+-- the constant after that of a constructor with direct arguments
 abbrev pub next_noconf : (noconf : ℕ) → List ArgumentShape → ℕ
 next_noconf noconf arguments = cond (has_direct arguments) (noconf + 1) noconf
 

@@ -1,5 +1,5 @@
 -- `D!direct`: a motive at each part of a term, the parts along direct arguments alone (McBride, Goguen and McKinna, "A few
--- constructions on constructors", 2006). The motive P stands behind the parameters.
+-- constructions on constructors", 2006). The motive P comes after the parameters.
 use Rattle.std.specs.Prelude.{ℕ, ◌+◌, List, [], ◌∷◌, ◌++◌, length, Result, codes}
 use Rattle.theory.specs.Terms.{Term, Var, Sort, Pi, App, Fam}
 use Rattle.theory.specs.Prelude.{unit_type}

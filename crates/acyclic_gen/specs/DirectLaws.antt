@@ -11,7 +11,7 @@ abbrev pub HasNoTargets : Argument → Type 0
 HasNoTargets (Plain type level) = Unit {0}
 HasNoTargets (Recursive inner targets level) = targets ≡ []
 
--- behind `at` arguments, one is direct exactly where its type is the family at its parameters
+-- after `at` arguments, one is direct exactly where its type is the family at its parameters
 abbrev pub DirectAtTheFamily : Type 0
 DirectAtTheFamily =
     (n : ℕ) (f : Family) (at : ℕ) (a : Argument) → IsPositiveArgument n a → HasNoTargets a

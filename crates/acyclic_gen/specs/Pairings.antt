@@ -12,7 +12,7 @@ use Rattle.acyclic_gen.specs.declared.point.Point.{Point}
 use Rattle.acyclic_gen.specs.declared.direct_arguments.Direct.{Direct}
 
 -- `Within x y`: x is not y, and no part of y. `Several x d directs`: x is not within the direct argument d, nor within one of
--- those behind it.
+-- those after it.
 pub data Pairing : Type 0 where
   Within : (x y : Point) → Pairing
   Several : (x : Point) (d : Direct) (directs : List Direct) → Pairing

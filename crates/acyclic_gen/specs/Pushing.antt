@@ -35,7 +35,7 @@ abbrev pub argument_equations : (q : Carrier) (push : Push) (own : List Argument
 argument_equations q push own branch depth =
     equations (argument_items q push own depth) (run depth push.first push.count) (run depth branch.start push.count)
 
--- behind these equations, what H says of the argument a'_i of c p a', that a_i is not a'_i, at the equation of the two
+-- after these equations, what H says of the argument a'_i of c p a', that a_i is not a'_i, at the equation of the two
 abbrev pub refuted : (q : Carrier) (push : Push) (own : List ArgumentShape) (branch : Branch) (depth : ℕ) → Term
 refuted q push own branch depth =
     let inside = depth + push.count in
@@ -83,7 +83,7 @@ pushed_tuple q push depth (d ∷ directs) tuple =
     (pushed_on q push depth d directs tuple)
     (pushed_tuple q push depth directs (projection Second q depth (Several (pushed_part push) d directs) tuple))
 
--- the branch for constructor c', behind whose method there are `depth` binders
+-- the branch for constructor c', after whose method there are `depth` binders
 abbrev pub branch_of : (depth number : ℕ) → ConstructorShape → Branch
 branch_of depth number c =
     let count = length c.arguments in
@@ -95,7 +95,7 @@ branch_of depth number c =
       given = depth + count + recursive_count c.arguments;
     }
 
--- the pair of both parts of the claim, behind H
+-- the pair of both parts of the claim, after H
 abbrev pub pushed_pair : (q : Carrier) (push : Push) (own : List ArgumentShape) (branch : Branch) → List Direct → Term
 pushed_pair q push own branch directs =
     let depth = branch.given + 1 in

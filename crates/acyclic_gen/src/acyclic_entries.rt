@@ -110,7 +110,7 @@ fn acyclic_term(alloc: Global, f: &Family, q: Carrier, noconf: u32) -> Result<Te
     acyclic_over(alloc, Binder::Function, f, q, end)
 }
 
-/// The constant behind that of a constructor with direct arguments.
+/// The constant after that of a constructor with direct arguments.
 fn next_noconf(noconf: u32, args: &[Arg]) -> u32
     requires { noconf < 4294967295 }
     ensures is { result ≡ spec.next_noconf noconf (map argument_shape args.now) }

@@ -35,7 +35,7 @@ pub fn has_direct(args: &[Arg]) -> bool
     }
 }
 
-/// The level of the next hypothesis behind an argument of a kind.
+/// The level of the next hypothesis after an argument of a kind.
 fn next_hypothesis(hypothesis: u32, kind: ArgKind) -> u32
     requires { hypothesis ≤ 1000000 }
     ensures is { result ≡ by_kind kind hypothesis (λ count. hypothesis + 1) }
@@ -47,7 +47,7 @@ fn next_hypothesis(hypothesis: u32, kind: ArgKind) -> u32
     }
 }
 
-/// The direct arguments, behind those that are found.
+/// The direct arguments, after those that are found.
 #[tactic(auto, using(tele_eq::proofs::Growing::listing))]
 fn directs_from(
     alloc: Global,

@@ -113,7 +113,7 @@ fn hypothesis(
     )
 }
 
-/// The function with `end` over the hypotheses for arguments behind `at` others, at a depth.
+/// The function with `end` over the hypotheses for arguments after `at` others, at a depth.
 fn hypotheses_over(
     alloc: Global,
     claim: Claim,
@@ -144,7 +144,7 @@ fn hypotheses_over(
     }
 }
 
-/// The method with `end` behind the arguments of a constructor and their hypotheses, at a depth.
+/// The method with `end` after the arguments of a constructor and their hypotheses, at a depth.
 pub fn method_over(
     alloc: Global,
     claim: Claim,

@@ -41,7 +41,7 @@ fn noconf_name(alloc: Global, family: &Name, constructor: &Name) -> Result<Name,
     Ok(Name::from_vec(name))
 }
 
-/// `D!noconf.c.0` for each constructor with direct arguments, behind the names that are there.
+/// `D!noconf.c.0` for each constructor with direct arguments, after the names that are there.
 #[tactic(auto, using(tele_eq::proofs::Growing::listing))]
 fn with_noconf_names(
     alloc: Global,

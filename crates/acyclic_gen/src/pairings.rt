@@ -18,7 +18,7 @@ use core_terms::{Stop, Term};
 use std::alloc::Global;
 
 /// `Within(x, y)`: that x is not y, and no part of y. `Several(x, d, directs)`: that x is not within the direct argument d, nor
-/// within one of those behind it.
+/// within one of those after it.
 #[derive(Clone, Copy)]
 pub enum Pairing<'a> {
     Within(Point, Point),

@@ -70,7 +70,7 @@ fn pushed_tuple(
     }
 }
 
-/// Both parts of the claim for the branch's constructor, behind the given tuple.
+/// Both parts of the claim for the branch's constructor, after the given tuple.
 fn pushed_pair(
     alloc: Global,
     q: Carrier,

@@ -37,7 +37,7 @@ pub fn branch_point(branch: Branch) -> Point
     built(branch.number, branch.start, branch.count)
 }
 
-/// The arguments as the types of a telescope at a depth, behind those that are made.
+/// The arguments as the types of a telescope at a depth, after those that are made.
 #[tactic(auto, using(tele_eq::proofs::Growing::growing))]
 fn placed_items(
     alloc: Global,
@@ -63,7 +63,7 @@ fn placed_items(
     }
 }
 
-/// The variables with `count` levels from `start` on, behind those that are made.
+/// The variables with `count` levels from `start` on, after those that are made.
 #[tactic(auto, using(tele_eq::proofs::Growing::growing))]
 fn variables_from(depth: u32, start: u32, count: u32, mut made: Tele) -> Result<Tele, Stop>
     requires { start + count ≤ 1000000 }
@@ -127,7 +127,7 @@ fn argument_equations(
     tele_equations_whole(alloc, &tele, &left, &right)
 }
 
-/// What the given tuple says of the argument at the push's position, at the equation of the two, behind the equations.
+/// What the given tuple says of the argument at the push's position, at the equation of the two, after the equations.
 fn refuted(
     alloc: Global,
     q: Carrier,

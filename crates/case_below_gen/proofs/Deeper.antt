@@ -1,4 +1,4 @@
--- What is made by levels, where more binders stand behind the first d: a lift by e under the i binders that come after them.
+-- What is made by levels, where more binders come after the first d: a lift by e under the i binders that come after them.
 use Rattle.std.proofs.Common.{◌≡◌, ◌⊎◌, ℕ, zero, suc, ◌+◌, ◌-◌, ◌<◌, ◌≤◌, Bool, true, false, nat_lt, nat_le, cond, if◌then◌else◌, List, [], ◌∷◌, map, refl, ap, ap₂, sym, ◌∙◌, inl, inr, arith}
 use Rattle.std.proofs.lemmas.Bool.Decides.{nat_tests}
 use Rattle.theory.specs.Terms.{Term, height, free_of, lift, lift_var}
@@ -37,7 +37,7 @@ module _ (d e : ℕ) where
 
   -- ---- terms of a record
 
-  -- a level below d stays, and one behind it moves by e
+  -- a level below d stays, and one after it moves by e
   abbrev pub IsMovedTo : (i from to : ℕ) → Type 0
   IsMovedTo i from to = ((from < d) × (to ≡ from)) ⊎ ((d ≤ from) × (from < d + i) × (to ≡ from + e))
 

@@ -12,7 +12,7 @@ pub fill-append : (s : ℕ → Term) (xs ys : List Term) (v : ℕ) → fill s (x
 fill-append s [] ys v = refl
 fill-append s (x ∷ xs) ys v = fill-append (extend s x) xs ys v
 
--- behind the terms of a list
+-- after the terms of a list
 pub fill-past : (s : ℕ → Term) (us : List Term) (v : ℕ) → fill s us (v + length us) ≡ s v
 fill-past s [] v = ap s (omega arith)
 fill-past s (u ∷ us) v = ap (fill (extend s u) us) (omega arith) ∙ fill-past (extend s u) us (suc v)
@@ -49,7 +49,7 @@ run-filled s args xs (u ∷ us) ys depth start count is deep at counted =
     more : start + 1 ≡ length (xs ++ u ∷ [])
     more = let count = length-append xs (u ∷ []) in omega arith
 
--- a term that stands behind more binders, which are put in behind the nearest ones
+-- a term that comes after more binders, which are put in after the nearest ones
 pub fill-between : (s : ℕ → Term) (xs ys zs : List Term) (e i v : ℕ) → e ≡ length ys → i ≡ length zs → fill s (xs ++ (ys ++ zs)) (lift_var v e i) ≡ fill s (xs ++ zs) v
 fill-between s xs ys zs e i v more near = go (nat_lt v i) refl
   where

@@ -37,7 +37,7 @@ pub at_scrutinee-draft : {T : Signature} {base count : ℕ} (depth start k : ℕ
 at_scrutinee-draft depth start k head low h =
     app-draft (at-run-draft head depth start k (omega arith) h) (variable-draft (start + k) low)
 
--- what stands behind the arguments of a constructor
+-- what comes after the arguments of a constructor
 pub constructor-over-draft : {T : Signature} {base count : ℕ} (binder : Binder) (p depth : ℕ) (c : ConstructorShape) (end : Term) → IsDraftConstructor T base count p c → p ≤ depth → IsDraftTerm T base count (depth + length c.arguments) end
     → IsDraftTerm T base count depth (over binder ((0, p) ∷ (depth, length c.arguments) ∷ []) p depth (types_of c.arguments) end)
 constructor-over-draft binder p depth c end is low h =
@@ -57,7 +57,7 @@ branches_over-draft {T} {base} {count} binder n p motive number depth (c ∷ con
     (branches_over-draft binder n p motive (number + 1) (depth + 1) constructors end (λ i lt. known i (omega arith)) (All-tail (IsDraftConstructor T base count p) c constructors all)
     (omega arith) (omega arith) (draft-more (omega arith) h))
 
--- the types of a constructor's arguments, behind as many parameters
+-- the types of a constructor's arguments, after as many parameters
 pub arguments-behind : {T : Signature} {base count p : ℕ} (c : ConstructorShape) → IsDraftConstructor T base count p c → EachInTelescope (IsDraftTerm T base count) (p + 0) (types_of c.arguments)
 arguments-behind {T} {base} {count} {p} c is = transport (λ k. EachInTelescope (IsDraftTerm T base count) k (types_of c.arguments)) (omega arith) is.arguments
 

@@ -89,7 +89,7 @@ component-draft {T} {base} {count} e q first at depth h inner t is named low bel
         (two-lists q.params first at depth inner low (omega arith)) hp below (omega arith) hh ht
     by false = draft-more (omega arith) ht
 
--- the arguments behind the first of some
+-- the arguments after the first of some
 pub arguments-next : (T : Signature) (base count p at : ℕ) (a : ArgumentShape) (arguments : List ArgumentShape) → EachInTelescope (IsDraftTerm T base count) (p + at) (types_of (a ∷ arguments)) → EachInTelescope (IsDraftTerm T base count) (p + (at + 1)) (types_of arguments)
 arguments-next T base count p at a arguments all = transport (λ m. EachInTelescope (IsDraftTerm T base count) m (types_of arguments)) (omega arith) all.1
 

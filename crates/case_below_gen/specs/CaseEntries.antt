@@ -64,7 +64,7 @@ case_over binder n f m end =
     (branches_over binder n p p 0 (p + 1) f.constructors
     (scrutinee_over binder n f (p + 1 + length f.constructors) end)))
 
--- `head` applied to k indices, whose levels begin with `start`, and to the scrutinee behind them, at a depth
+-- `head` applied to k indices, whose levels begin with `start`, and to the scrutinee after them, at a depth
 abbrev pub at_scrutinee : (depth start k : ℕ) → Term → Term
 at_scrutinee depth start k head = App (applied head (run depth start k)) (variable depth (start + k))
 

@@ -9,7 +9,7 @@ use Rattle.core_terms.specs.Answers.{bounded}
 use Rattle.case_below_gen.specs.CaseEntries.{case_type}
 use Rattle.core_sig.specs.FamilyShapes.{family_shape}
 
--- arguments behind `at` others, each taken as plain: a recursive one with its whole type
+-- arguments after `at` others, each taken as plain: a recursive one with its whole type
 abbrev pub plain_arguments : (n : ℕ) (f : Family) (at : ℕ) → List Argument → List Argument
 plain_arguments n f at [] = []
 plain_arguments n f at (a ∷ arguments) =

@@ -1,5 +1,5 @@
 -- What course-of-values recursion keeps of the recursive arguments of a constructor: a component for each, and their tuple.
--- The motive P stands behind the parameters, whose levels begin with 0.
+-- The motive P comes after the parameters, whose levels begin with 0.
 use Rattle.std.specs.Prelude.{ℕ, suc, ◌+◌, ◌-◌, nat_le, if◌then◌else◌, List, [], ◌∷◌}
 use Rattle.theory.specs.Terms.{Term, Sort, Pi, Lam, App, Const, Fam, Con}
 use Rattle.theory.specs.Telescopes.{applied}
@@ -31,7 +31,7 @@ at_inner depth r start = applied (variable depth r) (run depth start (depth - st
 abbrev pub at_argument : (runs : List (ℕ × ℕ)) (size depth : ℕ) (head : Term) (r start k : ℕ) → Term → Term
 at_argument runs size depth head r start k t = App (applied_to_targets runs size depth head k t) (at_inner depth r start)
 
--- what stands behind the inner arguments of the argument r with the hypothesis h: Type m, or Pair.m (P targets (r inner)) (h inner),
+-- what comes after the inner arguments of the argument r with the hypothesis h: Type m, or Pair.m (P targets (r inner)) (h inner),
 -- or Pair.m (P targets (r inner)) (D!below.m p P targets (r inner))
 abbrev pub behind_inner : (e : Ending) (q : Course) (runs : List (ℕ × ℕ)) (size depth r start h : ℕ) → Term → Term
 behind_inner Level q runs size depth r start h t = Sort q.m
@@ -41,7 +41,7 @@ behind_inner Folded q runs size depth r start h t =
     pair_of q.m (at_argument runs size depth (variable depth q.params) r start q.indices t)
     (at_argument runs size depth (below_at q depth) r start q.indices t)
 
--- (inner) -> what stands behind, for so many inner arguments
+-- (inner) -> what comes after, for so many inner arguments
 abbrev pub component_from : (e : Ending) (q : Course) (runs : List (ℕ × ℕ)) (size depth r start h count : ℕ) → Term → Term
 component_from e q runs size depth r start h (suc count) (Pi a b) =
     Pi (place runs size depth a) (component_from e q runs (size + 1) (depth + 1) r start h count b)

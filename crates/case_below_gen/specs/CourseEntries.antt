@@ -77,7 +77,7 @@ at_constructor n p number first depth head c =
     (applied (applied (Con n number) (run depth 0 p)) (run depth first count))
 
 -- pair.m (P us (c p arguments)) (D!below.m p P us (c p arguments)) (s us (c p arguments) t) t, with the tuple t of the hypotheses,
--- where s stands behind P
+-- where s comes after P
 abbrev pub aux_pair : (n : ℕ) (q : Course) (number first depth hypothesis : ℕ) → ConstructorShape → Term
 aux_pair n q number first depth hypothesis c =
     let t = tuple q first 0 depth hypothesis c.arguments in

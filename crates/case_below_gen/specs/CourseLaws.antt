@@ -28,7 +28,7 @@ abbrev pub HasFewInner : ArgKind → Type 0
 HasFewInner PlainKind = Unit {0}
 HasFewInner (RecursiveKind count) = count ≤ 2000
 
--- arguments behind `at` others, over p parameters
+-- arguments after `at` others, over p parameters
 abbrev pub AreRegular : (p at : ℕ) → List ArgumentShape → Type 0
 AreRegular p at [] = Unit {0}
 AreRegular p at (a ∷ arguments) = (free_of a.type ≤ p + at) × (height a.type ≤ 2000) × HasFewInner a.kind × AreRegular p (at + 1) arguments

@@ -16,7 +16,7 @@ use Rattle.case_below_gen.specs.Paths.{path_of}
 use Rattle.case_below_gen.specs.Projections.{side_entry_term}
 use Rattle.case_below_gen.specs.StrictParts.{IsStrictPart}
 
--- t is a constructor with the parameters ps, and r is a recursive argument of it, behind the arguments `before`
+-- t is a constructor with the parameters ps, and r is a recursive argument of it, after the arguments `before`
 pub record IsArgumentAt (n : ℕ) (f : Family) (ps : List Term) (t r : Term) (inner : Telescope) (targets before : List Term) : Type 0 where
   pub number : ℕ
   pub constructor : Constructor

@@ -28,7 +28,7 @@ projected side m A B A' B' q =
     (Lam A (Lam B' (side_variable side))))
     q
 
--- the component for argument `at`, or the tuple of those behind it, of the tuple b of the components from this argument on
+-- the component for argument `at`, or the tuple of those after it, of the tuple b of the components from this argument on
 abbrev pub component_side : (side : Side) (q : Course) (depth at count : ℕ) → Term → List ArgumentShape → (b : Term) → Term
 component_side side q depth at count type arguments b =
     projected side q.m

@@ -27,7 +27,7 @@ abbrev pub side_variable : Side → Term
 side_variable First = Var 1
 side_variable Second = Var 0
 
--- D!aux.m p P s, where the constant stands behind `D!below.m`
+-- D!aux.m p P s, where the constant comes after `D!below.m`
 abbrev pub aux_at : (q : Course) (aux depth : ℕ) → Term
 aux_at q aux depth =
     App (App (applied (Const aux) (run depth 0 q.params)) (variable depth q.params)) (variable depth (q.params + 1))

@@ -44,7 +44,7 @@ pub fn scrutinee_over(
     arguments_over(alloc, binder, &runs, params, depth, indices, end)
 }
 
-/// `head` applied to `count` indices, whose levels begin with `start`, and to the scrutinee behind them, at a depth.
+/// `head` applied to `count` indices, whose levels begin with `start`, and to the scrutinee after them, at a depth.
 pub fn at_scrutinee(
     alloc: Global,
     depth: u32,

@@ -98,7 +98,7 @@ fn case_over(
     closed_over(alloc, binder, f.params.as_slice(), end)
 }
 
-/// The motive behind the parameters.
+/// The motive after the parameters.
 fn motive_of(f: &Family) -> Motive
     requires { IsFew (shape_of f.now) }
     ensures { result ≡ record { level = length f.now.params; params = length f.now.params; indices = length f.now.indices } }

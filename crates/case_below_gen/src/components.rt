@@ -9,7 +9,7 @@ use core_terms::{MAX_HEIGHT, Run, Stop, Term, applied_to_run, copy_whole, place,
 use std::alloc::Global;
 
 /// Course-of-values recursion into `Type m`: how many parameters and indices the family has, and the number of the constant
-/// `D!below.m`. The motive stands behind the parameters.
+/// `D!below.m`. The motive comes after the parameters.
 #[derive(Clone, Copy)]
 pub struct Course {
     pub m: u8,
@@ -18,7 +18,7 @@ pub struct Course {
     pub below: u32,
 }
 
-/// What stands behind the inner arguments of a recursive argument r: `Type m`, or the motive at r beside its hypothesis, or
+/// What comes after the inner arguments of a recursive argument r: `Type m`, or the motive at r beside its hypothesis, or
 /// beside `D!below.m` at r.
 #[derive(Clone, Copy, Debug, PartialEq, Eq)]
 pub enum Ending {

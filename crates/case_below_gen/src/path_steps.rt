@@ -59,7 +59,7 @@ fn projected(alloc: Global, side: Side, m: u8, types: &Types, value: Term) -> Re
     Term::new_app(alloc, head, value)
 }
 
-/// The component for argument `at`, or the tuple of those behind it, of the tuple of the components from this argument on.
+/// The component for argument `at`, or the tuple of those after it, of the tuple of the components from this argument on.
 fn component_side(
     alloc: Global,
     side: Side,

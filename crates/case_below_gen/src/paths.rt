@@ -330,7 +330,7 @@ fn copy_first(alloc: Global, terms: &[Term], count: usize) -> Result<Vec<Term>, 
     Ok(copy_tele(alloc, &terms[..count])?.into_vec())
 }
 
-/// The terms behind the first `count`.
+/// The terms after the first `count`.
 #[tactic(auto, using(crate::proofs::TermLists::cut_laws))]
 fn copy_behind(alloc: Global, terms: &[Term], count: usize) -> Result<Vec<Term>, Stop>
     requires { count ≤ length terms.now }
@@ -339,7 +339,7 @@ fn copy_behind(alloc: Global, terms: &[Term], count: usize) -> Result<Vec<Term>,
     Ok(copy_tele(alloc, &terms[count..])?.into_vec())
 }
 
-/// The terms with more behind them.
+/// The terms with more after them.
 #[tactic(auto, using(crate::proofs::TermLists::joined_laws))]
 fn with_all(mut terms: Vec<Term>, more: Vec<Term>) -> Result<Vec<Term>, Stop>
     ensures { Gives (λ v. tele_of v.items) result (Ok (tele_of terms.items ++ tele_of more.items)) }
@@ -359,7 +359,7 @@ fn last_arguments(alloc: Global, count: u32, t: &Term) -> Result<Vec<Term>, Stop
     copy_behind(alloc, spine.as_slice(), before)
 }
 
-/// What stands behind the first `count` products of a term.
+/// What comes after the first `count` products of a term.
 fn behind(t: &Term, count: u32) -> &Term
     ensures { tree_of result.now ≡ behind count (tree_of t.now) }
 {

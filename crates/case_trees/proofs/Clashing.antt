@@ -56,7 +56,7 @@ head-clash S _ _ (shape.any t b e) =
       told = record { told = λ clause context. ap (clashing S clause context pattern.Absurd) e };
     }
 
--- the clash of a pair, or that of the pairs behind it
+-- the clash of a pair, or that of the pairs after it
 either-clash : (S : Signature) (pat : Pat) (pats : Pats) (pair : Pair) (pairs : Pairs) (clash : Pat × Term) (o : Option (Pat × Term))
     → (clash_in pair ≡ Some clash → HasClash S pat (term_in pair) clash)
     → (first_clash pairs ≡ Some clash → HaveClash S pats (terms_in pairs) clash) → clash_in pair ≡ o → or_later o (first_clash pairs) ≡ Some clash

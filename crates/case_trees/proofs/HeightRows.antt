@@ -1,4 +1,4 @@
--- Heights where pairs are worked: a constructor that is too high for its place is Deep there, before the pairs behind it and also where
+-- Heights where pairs are worked: a constructor that is too high for its place is Deep there, before the pairs after it and also where
 -- it clashes. A wildcard is done.
 use native.Mathlib.Decide.{ℕ_discrete}
 use Rattle.std.proofs.Common.{◌≡◌, ℕ, false, true, Ok, Err, [], ◌∷◌, refl}
@@ -38,7 +38,7 @@ too_high : work 5 (pair_pattern (pair_pattern Bind Wild) zero_pattern) 10 ≡ an
 unfolding native.Mathlib.Decide.ℕ_discrete sample
 too_high = refl
 
--- before a clash behind it
+-- before a clash after it
 before_clash : work 5 (pair_pattern (pair_pattern Bind Wild) (suc_pattern Bind)) 10 ≡ answered (Err Deep) 8
 unfolding native.Mathlib.Decide.ℕ_discrete sample
 before_clash = refl
@@ -48,7 +48,7 @@ at_clash : work 5 (pair_pattern zero_pattern zero_pattern) 10 ≡ answered (Err 
 unfolding native.Mathlib.Decide.ℕ_discrete sample
 at_clash = refl
 
--- and before units run out behind it
+-- and before units run out after it
 before_fuel : work 5 (pair_pattern (pair_pattern (suc_pattern Bind) Wild) zero_pattern) 2 ≡ answered (Err Deep) 0
 unfolding native.Mathlib.Decide.ℕ_discrete sample
 before_fuel = refl

@@ -72,7 +72,7 @@ leads-kept S start p us h all =
 
 -- ---- solutions
 
--- one substitution behind another
+-- one substitution after another
 pub twice-under : (solution s : List Term) (t : Term) → under_solution solution (under_solution s t) ≡ under_solution (map (under_solution solution) s) t
 twice-under solution s t =
     inst-inst (fill no_variable solution) (fill no_variable s) t

@@ -105,7 +105,7 @@ live-moves S closed solution clauses plain c h =
           (each-inst S closed (fill no_variable solution) plain (terms_in c.pairs) h.converts);
     }
 
--- the clauses behind a solution
+-- the clauses after a solution
 pub all-live-move : (S : Signature) → HasClosedBodies S → (solution : List Term) (clauses : Clauses) (plain : List Term) (live : List Live)
     → AreLiveAt S clauses plain live → IfOk (moved_live solution live) (AreLiveAt S clauses (map (under_solution solution) plain))
 all-live-move S closed solution clauses plain [] h = tt

@@ -1,4 +1,4 @@
--- Each variable of the context behind a constructor's solved problem stands for itself at its origin.
+-- Each variable of the context after a constructor's solved problem stands for itself at its origin.
 use Rattle.std.proofs.Common.{◌≡◌, ℕ, ◌+◌, Result, Ok, Err, IfOk, List, length, map, sym, ap, ◌∙◌, refl, subst as transport, arith}
 use Rattle.std.proofs.lemmas.List.{length-append, length-map}
 use Rattle.theory.specs.Terms.{Term}

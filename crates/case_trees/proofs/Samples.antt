@@ -1,4 +1,4 @@
--- A signature for examples: behind the prelude Nat, Vec, Fin, Bool, up, U, P, twice, W, Q and Has.
+-- A signature for examples: after the prelude Nat, Vec, Fin, Bool, up, U, P, twice, W, Q and Has.
 use Rattle.std.proofs.Common.{Bool, [], ◌∷◌, ◌++◌}
 use Rattle.theory.specs.Terms.{Term}
 use Rattle.theory.specs.Terms.Term.{Var, Sort, Pi, Lam, App, Const, Fam, Con, Elim}

@@ -1,4 +1,4 @@
--- The order of the variables behind a solution has each other level of the context once.
+-- The order of the variables after a solution has each other level of the context once.
 use Rattle.std.proofs.Common.{◌≡◌, ◌⊎◌, inl, inr, ℕ, zero, suc, ◌+◌, ◌<◌, ◌≤◌, ◌==◌, ◌||◌, Bool, true, false, cond, Some, List, [], ◌∷◌, ◌++◌, length, drop, slice_get, refl, sym, ap, ◌∙◌, subst as transport, arith, eq-eqb}
 use Rattle.std.proofs.lemmas.Bool.{eqb-true, true≢false}
 use Rattle.std.proofs.lemmas.List.{length-drop}

@@ -1,4 +1,4 @@
--- Each variable of the context behind a run stands for itself at its origin.
+-- Each variable of the context after a run stands for itself at its origin.
 use Rattle.std.proofs.Common.{◌≡◌, ◌⊎◌, inl, inr, ℕ, zero, suc, ◌+◌, ◌-◌, ◌<◌, nat_lt, true, false, cond, Option, Some, None, option_map, List, ◌∷◌, length, map, slice_get, get_or, refl, sym, ap, ap₂, ◌∙◌, subst as transport, arith}
 use Rattle.std.proofs.lemmas.Bool.Decides.{nat_tests}
 use Rattle.std.proofs.lemmas.List.{length-map, length-append}
@@ -54,7 +54,7 @@ mapped-at {A = A} f xs k b e = by (slice_get xs k) refl (sym (slice_get-map f xs
     by (Some a) is same = (a, is, some_is same)
     by None is same = absurd (grind arith)
 
--- the origins behind a solution
+-- the origins after a solution
 solved-origins : (n : ℕ) (context : Telescope) (solution : List Term) (origins : List Origin) (x : ℕ) (u : Term) → x < length context
     → AreOrigins n (length context) solution origins
     → AreOrigins n (length (order_without context (level_of (length context) x)))
@@ -96,7 +96,7 @@ moved-origins n s i x A v origins less h =
     (order_without s.context (level_of (length s.context) x))))
     (solved-origins n s.context s.solution origins x v less h)
 
--- the origins behind the steps of a chain
+-- the origins after the steps of a chain
 pub chain-origins : (S : Signature) (P : State → Step → Type 0) (n : ℕ) (s t : State) (steps : List Step) (origins : List Origin) → ChainWith S P s steps t
     → AreOrigins n (length s.context) s.solution origins → AreOrigins n (length t.context) t.solution (origins_behind steps s.context origins)
 chain-origins S P n _ _ _ origins (rule.none s) h = h

@@ -131,7 +131,7 @@ dropped = refl
 
 -- ---- what clauses were compared with stays in the terms
 
--- f _ v, f zero _, f n (u zero): behind u the second clause is compared with `up k`, for two units. The third one binds `up k` as
+-- f _ v, f zero _, f n (u zero): after u the second clause is compared with `up k`, for two units. The third one binds `up k` as
 -- it stands, and leaves the vector that is shown.
 kept : split_of (sample false) (Nat ∷ U (Var 0) ∷ []) Nat (Var 1 ∷ Var 0 ∷ [])
     (clauses
@@ -167,7 +167,7 @@ bound_as_it_stands : split_of (sample false) (Nat ∷ U (Var 0) ∷ []) Nat (Var
 unfolding native.Mathlib.Decide.ℕ_discrete sample
 bound_as_it_stands = refl
 
--- f _ x, f (pair zero zero) _, f (pair (suc (suc _)) zero) _: the second clause leaves `suc zero` in the first argument. Behind
+-- f _ x, f (pair zero zero) _, f (pair (suc (suc _)) zero) _: the second clause leaves `suc zero` in the first argument. After
 -- its clash it looks no further. The third one reduces its own terms anew, and takes nothing back.
 not_overwritten : split_of (sample false) (P ∷ W (Var 0) ∷ []) Nat (Var 1 ∷ Var 0 ∷ [])
     (clauses
@@ -187,7 +187,7 @@ stuck : split_of (sample false) (Q zero_term ∷ []) Nat (Var 0 ∷ []) (clauses
 unfolding native.Mathlib.Decide.ℕ_discrete sample
 stuck = refl
 
--- The first clause is the one that is told: behind zero the second one asks for q0 k at Q zero.
+-- The first clause is the one that is told: after zero the second one asks for q0 k at Q zero.
 stuck_later : split_of (sample false) (Nat ∷ Q (Var 0) ∷ []) Nat (Var 1 ∷ Var 0 ∷ [])
     (clauses
     (a_clause (suc_pattern Wild ∷ Wild ∷ []) 0

@@ -174,7 +174,7 @@ LeavesLead =
     OfTree (λ S start clauses t.
     EachLeaf (λ number context goal substitution terms binds. LeadsTo S start goal substitution terms) t)
 
--- the level of a variable of the context that is split, or of a constructor's argument behind its n variables
+-- the level of a variable of the context that is split, or of a constructor's argument after its n variables
 abbrev pub origin_level : (n : ℕ) → Origin → ℕ
 origin_level n (Old x) = n - (x + 1)
 origin_level n (Arg j) = n + j

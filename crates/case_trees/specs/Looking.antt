@@ -42,7 +42,7 @@ none_found (Some e) forced = e
 none_found None (Some e) = e
 none_found None None = stop.Halts Deep
 
--- how the looking goes on behind a pair, with the first stuck run and the first pair without a variable
+-- how the looking goes on after a pair, with the first stuck run and the first pair without a variable
 abbrev pub Further : Type 0 → Type 0
 Further A = (stuck forced : Option TreeStop) → ℕ → Stopping A
 

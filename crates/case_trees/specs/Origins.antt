@@ -20,7 +20,7 @@ first_origins n count = each_position (λ j. Old (n - (j + 1))) 0 n ++ each_posi
 abbrev pub level_in : Telescope → (x : ℕ) → ℕ
 level_in context x = length context - (x + 1)
 
--- the context behind a solution of variable x by the term u
+-- the context after a solution of variable x by the term u
 abbrev pub context_without : Telescope → (x : ℕ) → (u : Term) → Telescope
 context_without context x u =
     let p = level_in context x in
@@ -36,7 +36,7 @@ behind_rule (SolveRight x) left right go context origins = go (context_without c
 behind_rule (SolveLeft x) left right go context origins = go (context_without context x right) (origins_without context x origins)
 behind_rule rule left right go context origins = go context origins
 
--- the origins behind steps, from the context before them
+-- the origins after steps, from the context before them
 abbrev pub origins_behind : List Step → Telescope → List Origin → List Origin
 origins_behind [] context origins = origins
 origins_behind (step ∷ steps) context origins =

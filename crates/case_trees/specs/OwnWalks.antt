@@ -28,7 +28,7 @@ pub data Turn : Type 0 where
   Goes : Point → Pairs → Turn
   Ends : Turn
 
--- the state behind a solution, or Deep
+-- the state after a solution, or Deep
 abbrev pub solved_pairs : Point → Pairs → Telescope → (solution : List Term) → Result Turn Stop
 solved_pairs p pairs context solution =
     and_then (bounded_point (moved_point p context solution)) (λ next.

@@ -99,7 +99,7 @@ abbrev mutual
   AreScopedBranches S n tree.nil = Unit {0}
   AreScopedBranches S n (tree.cons branch branches) = IsScopedBranch S n branch × AreScopedBranches S n branches
 
-  -- The steps begin behind the arguments of the constructor, which stand behind the n variables of the split.
+  -- The steps begin after the arguments of the constructor, which come after the n variables of the split.
   pub IsScopedBranch : Signature → (n : ℕ) → Branch → Type 0
   IsScopedBranch S n (tree.Absurd steps context u v) =
       HasScopedSteps S n steps × IsScopedTelescope S 0 context × IsScoped S (length context) u × IsScoped S (length context) v

@@ -35,7 +35,7 @@ pub record HasFamily (S : Signature) (context : Telescope) (x : ℕ) (type : Ter
   pub reduced : IsHeadForm S true (type_of_variable context x) type
   pub member : member_of S type ≡ Some m
 
--- the point behind the solution of a constructor's problem
+-- the point after the solution of a constructor's problem
 abbrev pub behind_solution : Point → Telescope → List Term → Point
 behind_solution p context solution = moved_point p context (solution_for p solution)
 
@@ -49,7 +49,7 @@ mutual
         → BranchesAt S p x m 0 m.family.constructors branches
         → StandsAt S p (tree.Split p.context x m.n type branches)
 
-  -- One branch for each constructor, in their order. An absurd one is the end of the constructor's run; behind a solved one the
+  -- One branch for each constructor, in their order. An absurd one is the end of the constructor's run; after a solved one the
   -- subtree stands over the point under the solution of the run.
   pub data BranchesAt (S : Signature) : Point → ℕ → Member → ℕ → List Constructor → Branches → Type 0 where
     none : (p : Point) (x : ℕ) (m : Member) (number : ℕ) → BranchesAt S p x m number [] tree.nil

@@ -83,7 +83,7 @@ moved_live solution (c ∷ live) =
     and_then (bounded_pairs (moved_pairs solution c.pairs)) (λ pairs.
     and_then (moved_live solution live) (λ others. Ok (record { number = c.number; pairs = pairs } ∷ others)))
 
--- the node behind a solution, before its clauses are worked, or Deep
+-- the node after a solution, before its clauses are worked, or Deep
 abbrev pub solved_node : Point → List Live → Telescope → (solution : List Term) → Result Node Stop
 solved_node p live context solution =
     and_then (bounded_point (moved_point p context solution)) (λ next.

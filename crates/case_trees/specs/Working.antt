@@ -55,7 +55,7 @@ abbrev pub against_absurd : (t w : Term) → Option Built → Pair
 against_absurd t w None = Waits pattern.Absurd t
 against_absurd t w (Some b) = Clashes pattern.Absurd w
 
--- the other pairs, or those that wait behind a clash: they are not worked, since the clause is dropped
+-- the other pairs, or those that wait after a clash: they are not worked, since the clause is dropped
 abbrev pub unless_clash : (waits : Pairs) → (work : ℕ → Spent Pairs) → Pair → ℕ → Spent Pairs
 unless_clash waits work pair left =
     cond (clashes pair) (answered (Ok (cons pair waits)) left)

@@ -131,7 +131,7 @@ pub fn tree_caused()
     ensures { TreeCaused }
 {}
 
-/// Each variable of the context behind a solved problem stands for itself at its origin.
+/// Each variable of the context after a solved problem stands for itself at its origin.
 pub fn origins_tell()
     ensures { OriginsTell }
 {}

@@ -39,7 +39,7 @@ run-equal one other h = ap₂ (λ r left. spent r left) (equal-results one.0 oth
 pub equal-run : {A E : Type 0} (one other : SpentOr E A) → one ≡ other → RunAlike (λ a b. a ≡ b) one other
 equal-run one other e = transport (λ x. RunAlike (λ a b. a ≡ b) one x) e (run-itself (λ a b. a ≡ b) one (λ a. refl))
 
--- ---- one call behind the other
+-- ---- one call after the other
 
 pub and_then-alike : {A B C D E : Type 0} (R : A → B → Type 0) (Q : C → D → Type 0) (one : Result A E) (other : Result B E) (go : A → Result C E)
     (further : B → Result D E) → Alike R one other → ((a : A) (b : B) → R a b → Alike Q (go a) (further b))

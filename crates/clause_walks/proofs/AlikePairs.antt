@@ -18,7 +18,7 @@ use Rattle.case_trees.proofs.Arguments.{built-with}
 use Rattle.clause_walks.specs.Forgetting.{forget, forget_all, Covers, CoverAll}
 use Rattle.clause_walks.proofs.AlikeAnswers.{RunAlike, run-itself, and_next-alike}
 
--- the first shared term, where there is one, and those behind it
+-- the first shared term, where there is one, and those after it
 abbrev pub first : List Term → Option Term
 first [] = None
 first (u ∷ us) = Some u

@@ -13,7 +13,7 @@ use Rattle.case_trees.specs.Stops.{TreeStop, Stopping, or_halts, answers}
 use Rattle.case_trees.specs.Looking.{Look, Found, Passed, Further, behind_look, at_open, first_found}
 use Rattle.clause_walks.specs.Reaching.{Reached, Arrival, Arrives, IsStuck, IsForced, reach, arrival, arrive_at, arrive}
 
--- how the looking goes on behind a pair
+-- how the looking goes on after a pair
 abbrev pub go_on : Further Reached → (stuck forced : Option TreeStop) → Arrival → ℕ → Stopping Reached
 go_on further stuck forced (Arrives r) left = answers (Ok r) left
 go_on further stuck forced (IsStuck e) left = further (or_later stuck (Some e)) forced left

@@ -56,7 +56,7 @@ look-in clause go further passed stuck forced (Err e) left same = refl
 look-in clause go further passed stuck forced (Ok (Found a)) left same = refl
 look-in clause go further passed stuck forced (Ok (Passed s)) left same = same s
 
--- what comes behind a pair leads to the same
+-- what comes after a pair leads to the same
 abbrev Same : {A B C : Type 0} → Further A → Going A C → Further B → Going B C → Type 0
 Same further go further' go' = (stuck forced : Option TreeStop) (left : ℕ) → and_next (further stuck forced left) go ≡ and_next (further' stuck forced left) go'
 

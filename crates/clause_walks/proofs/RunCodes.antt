@@ -39,7 +39,7 @@ module _ (S : Signature) (context : Telescope) (x : ℕ) (m : Member) (number p 
       ap (λ r. (Ok r, mid)) (e ∙ ap (λ k. run_end k q o) (sym (length-map con.args (argument_of p))))
       ∙ one-ends S context x m number (constructor_of p con) q left mid o made run
 
--- ---- runs behind one another
+-- ---- runs after one another
 
 -- a slice that has a first item
 pub first-item : {A : Type 0} (xs : List A) (x : A) → 1 ≤ length xs → x ≡ get_or xs 0 x → xs ≡ x ∷ take (length xs - 1) (drop 1 xs)

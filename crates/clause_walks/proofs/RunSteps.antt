@@ -1,4 +1,4 @@
--- Runs of constructors, one behind the other.
+-- Runs of constructors, one after the other.
 use Rattle.std.proofs.Common.{◌≡◌, ℕ, ◌+◌, Result, Ok, Err, List, [], ◌∷◌, ◌++◌, length, map, append_assoc, refl, sym, ap, ◌∙◌}
 use Rattle.theory.specs.Telescopes.{Telescope}
 use Rattle.theory.specs.Families.{Constructor}
@@ -15,7 +15,7 @@ use Rattle.case_trees.specs.Stops.{TreeStop, Halts, Stopping, or_halts, halting,
 use Rattle.case_trees.specs.Looking.{Look, Found, Passed, StuckRun, Ran, with_run, unless_stuck, run_all}
 use Rattle.clause_walks.specs.Reaching.{RunEnd, run_end, end_of_run, run_one, sorted, ends_behind}
 
--- how the runs go on behind one of them
+-- how the runs go on after one of them
 abbrev pub run_on : Signature → Telescope → (x : ℕ) → Member → (number : ℕ) → List Constructor → (made : List RunEnd) → Result RunEnd StuckRun → ℕ
     → Stopping (Look (List RunEnd))
 run_on S context x m number cs made (Ok r) left = ends_behind (made ++ r ∷ []) (run_all S context x m (number + 1) cs left)

@@ -71,7 +71,7 @@ sorted_by r outcome = Ok r
 abbrev pub sorted : RunEnd → Result RunEnd StuckRun
 sorted r = sorted_by r r.outcome
 
--- runs behind those that are made
+-- runs after those that are made
 abbrev pub with_ends : (made : List RunEnd) → Look (List Ran) → Look (List RunEnd)
 with_ends made (Found runs) = Found (made ++ map end_of_run runs)
 with_ends made (Passed r) = Passed r

@@ -26,7 +26,7 @@ use std::alloc::Global;
 use tele_eq::Item;
 use unifier::{Problem, argument_items, constructor_terms, family_items, lifted, split_spine};
 
-/// How many variables a context may have where a constructor's arguments are put behind it; with more, memory is short.
+/// How many variables a context may have where a constructor's arguments are put after it; with more, memory is short.
 const MOST_VARIABLES: usize = 2147390000;
 
 /// A family with its number, and all its parameters and indices.
@@ -92,7 +92,7 @@ pub fn type_of_variable(alloc: Global, ctx: &[Term], x: u32) -> Result<Term, Sto
     lift(alloc, &ctx[ctx.len() - (x as usize + 1)], x + 1, 0)
 }
 
-/// Types, and those of a telescope behind them.
+/// Types, and those of a telescope after them.
 #[tactic(auto, using(tele_eq::proofs::Growing::growing))]
 fn types_behind(alloc: Global, items: &[Item], mut made: Tele) -> Result<Tele, Stop>
     ensures { Gives tele_of result (Ok (tele_of made ++ map (λ item. item.type) (items_of items.now))) }
@@ -106,7 +106,7 @@ fn types_behind(alloc: Global, items: &[Item], mut made: Tele) -> Result<Tele, S
     }
 }
 
-/// Indices behind the arguments of a constructor, and the variable that is split.
+/// Indices after the arguments of a constructor, and the variable that is split.
 fn indices_with(alloc: Global, count: u32, indices: &[Term], x: u32) -> Result<Tele, Stop>
     requires variable { x ≤ 2147400000 }
     requires count { count ≤ 2000 }
@@ -125,7 +125,7 @@ fn has_few(f: &Family, con: &Constructor) -> bool
     con.args.as_slice().len() <= 2000 && f.indices.as_slice().len() <= 2000
 }
 
-/// The problem of a constructor, behind whose arguments the telescope and the left terms stand.
+/// The problem of a constructor, after whose arguments the telescope and the left terms stand.
 fn problem_from(
     alloc: Global,
     ctx: &[Term],
@@ -162,7 +162,7 @@ fn arguments_at(alloc: Global, m: &Member, con: &Constructor) -> Result<Items<It
     argument_items(alloc, m.params.as_slice(), con)
 }
 
-/// The telescope of the family's indices, with the family at them, behind so many arguments, or Deep.
+/// The telescope of the family's indices, with the family at them, after so many arguments, or Deep.
 fn indices_behind(alloc: Global, m: &Member, count: u32) -> Result<Items<Item>, Stop>
     requires kinds { HasKinds m.now.number m.now.family.now }
     requires count { count ≤ 2000 }
@@ -174,7 +174,7 @@ fn indices_behind(alloc: Global, m: &Member, count: u32) -> Result<Items<Item>, 
     family_items(alloc, m.number, m.family, params.as_slice())
 }
 
-/// The targets of a constructor and the constructor itself at the family's parameters, behind its arguments, or Deep.
+/// The targets of a constructor and the constructor itself at the family's parameters, after its arguments, or Deep.
 fn terms_at(alloc: Global, m: &Member, number: u32, con: &Constructor) -> Result<Tele, Stop>
     requires few { length con.now.args ≤ 2000 }
     requires parameters { AreOver most_params (tele_of m.now.params) }

@@ -111,7 +111,7 @@ fn unless_stuck(ran: Ran) -> Result<Ran, StuckRun>
     }
 }
 
-/// The runs of constructors of a family, the first of which has this number, behind those that are made, up to the first that is stuck.
+/// The runs of constructors of a family, the first of which has this number, after those that are made, up to the first that is stuck.
 pub fn run_from(
     alloc: Global,
     sig: &Signature,

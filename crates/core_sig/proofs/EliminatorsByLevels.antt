@@ -35,7 +35,7 @@ use Rattle.core_sig.proofs.EntryInstances.{ren-id, inst_telescope-inst, map-inst
 use Rattle.core_sig.proofs.Lists.{all-unmapped}
 use Rattle.core_sig.proofs.MethodsByLevels.{AtParameters, none-yet, further, alike-method}
 
--- ---- the parameters behind the motive and j methods
+-- ---- the parameters after the motive and j methods
 
 pub parameters-there : (p j : ℕ) → map (weaken_by j) (map weaken (variables p)) ≡ run (p + 1 + j) 0 p
 parameters-there p j =
@@ -69,7 +69,7 @@ alike-indices n p depth k s head indices x y counted scoped placed le is same =
         ∙ (ren-applied (λ v. v + k) (Fam n) (run depth 0 p) ∙ ap (applied (Fam n)) (run-further depth 0 p k (omega arith))))
         (sym (run-variables (depth + k) depth k refl))
 
--- the goal behind the motive and j methods
+-- the goal after the motive and j methods
 abbrev pub goal_of : (n p k : ℕ) → Telescope → Term
 goal_of n p k indices =
     products (inst_telescope (λ v. Var (suc v)) indices)

@@ -12,7 +12,7 @@ use Rattle.theory.proofs.Instances.{inst-inst, inst-ren, inst-same, ren-inst, re
 use Rattle.theory.proofs.Instantiation.{inst-weaken, inst-applied, inst-arrows, inst-products, inst-fill, map-inst-inst, ups_by, inst-extend}
 use Rattle.theory.proofs.Scopes.{length-argument_types}
 
--- instantiations one after the other, in a telescope and behind a binder more
+-- instantiations one after the other, in a telescope and after a binder more
 pub inst_telescope-inst : (q s : ℕ → Term) (tele : Telescope) → inst_telescope q (inst_telescope s tele) ≡ inst_telescope (λ v. inst q (s v)) tele
 inst_telescope-inst q s [] = refl
 inst_telescope-inst q s (a ∷ tele) =
@@ -79,7 +79,7 @@ inst-hypothesis_types q s P (Recursive inner targets level ∷ arguments) (u ∷
 pub ren-id : (r : ℕ → ℕ) (t : Term) → ((n : ℕ) → r n ≡ n) → ren r t ≡ t
 ren-id r t stays = ren-is_inst r t ∙ (inst-same t (λ n. ap Var (stays n)) ∙ inst-var t)
 
--- an instantiation under k binders, at a variable behind them
+-- an instantiation under k binders, at a variable after them
 ups_by-at : (k : ℕ) (q : ℕ → Term) (n : ℕ) → ups_by k q (n + k) ≡ weaken_by k (q n)
 ups_by-at zero q n = ap q (omega arith) ∙ sym (ren-id (λ m. m + 0) (q n) (λ m. omega arith))
 ups_by-at (suc k) q n =

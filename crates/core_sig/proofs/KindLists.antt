@@ -7,7 +7,7 @@ use Rattle.core_sig.specs.KindTests.{inner_count, kind_by}
 use Rattle.core_sig.specs.declared.family.Arg.{Arg}
 use Rattle.core_sig.proofs.RecursiveForms.{kind-is, kind-same}
 
--- arguments with one more, whose kind is right behind them
+-- arguments with one more, whose kind is right after them
 pub kinds-push : (n : ℕ) (f : pure.Family) (at : ℕ) (args : List Arg) (a : Arg) → HaveKinds n f at args → HasKind n f (at + length args) a.kind (tree_of a.ty) → HaveKinds n f at (args ++ a ∷ [])
 kinds-push n f at [] a kinds kind = (subst (λ k. HasKind n f k a.kind (tree_of a.ty)) (nothing at) kind, tt)
   where

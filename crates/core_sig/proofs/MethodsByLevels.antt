@@ -136,7 +136,7 @@ alike-hypothesis p k motive first at depth count s head inner targets t is inner
         let wanted_least = height-hypothesis s (variable depth motive) (variable depth (first + at)) inner targets in
         inr (omega arith, omega arith)
 
--- what stands behind j binders more
+-- what comes after j binders more
 pub further : (j : ℕ) (a b : Term) → weaken_by j (Pi a (weaken b)) ≡ Pi (weaken_by j a) (weaken_by (j + 1) b)
 further j a b = ap (Pi (weaken_by j a)) (ren-weaken (λ n. n + j) b ∙ weaken-weaken_by j b)
 
@@ -169,7 +169,7 @@ at-parameters p depth s placed le = from p 0 (omega arith)
         here : s count ≡ variable depth (level_at ((0, p) ∷ []) (p - (count + 1))) → s count ≡ variable depth start
         here e = e ∙ ap (variable depth) (grind (arith, nat_tests))
 
--- the motive at the targets and at the constructor, behind h hypotheses
+-- the motive at the targets and at the constructor, after h hypotheses
 pub alike-conclusion : (n number p motive first a h depth : ℕ) (s : ℕ → Term) (targets : List Term) → depth ≡ first + a → motive < first → p ≤ first → IsPlaced ((0, p) ∷ (first, a) ∷ []) (p + a) depth s → All (λ t. free_of t ≤ p + a) targets
     → Alike (App (applied (variable (depth + h) motive) (map (place ((0, p) ∷ (first, a) ∷ []) (p + a) (depth + h)) targets)) (applied (applied (Con n number) (run (depth + h) 0 p)) (run (depth + h) first a)))
     (weaken_by h (App (applied (variable depth motive) (map (inst s) targets)) (applied (weaken_by a (applied (Con n number) (run first 0 p))) (variables a))))
@@ -201,7 +201,7 @@ module _ (n : ℕ) (f : pure.Family) where
   abbrev k : ℕ
   k = length f.indices
 
-  -- the hypothesis for a recursive argument, behind j others
+  -- the hypothesis for a recursive argument, after j others
   pub hypothesis-behind : (motive first at depth j count rest : ℕ) (s : ℕ → Term) (t : Term) (level : ℕ) → (kind : HasKind n f at (Recursive count) t) → IsArgumentOver (p + at) (argument_with p t level (Recursive count))
       → depth ≡ first + at + suc rest → motive < first → IsPlaced ((0, p) ∷ (first, at) ∷ []) (p + at) depth s
       → Alike (hypothesis_type p k motive first at (depth + j) count t) (weaken_by j (spec.hypothesis_type s (variable depth motive) (Var rest) kind.0 kind.1))
@@ -223,7 +223,7 @@ module _ (n : ℕ) (f : pure.Family) where
           ∙ (ap (λ e. spec.hypothesis_type e (inst q (variable depth motive)) (inst q (Var rest)) inner targets) (fun_ext (λ v. sym (ren-is_inst (λ m. m + j) (s v))))
           ∙ ap₂ (λ P u. spec.hypothesis_type (λ v. weaken_by j (s v)) P u inner targets) (ap Var (omega arith)) (ap Var (omega arith))))
 
-  -- what follows an argument, once it is known of those behind it
+  -- what follows an argument, once it is known of those after it
   step : (motive first at depth j : ℕ) (rest : List Arg) (s : ℕ → Term) (end E : Term) (t : Term) (level : ℕ) (kind : ArgKind) → HasKind n f at kind t → IsArgumentOver (p + at) (argument_with p t level kind)
       → depth ≡ first + at + suc (length (map argument_shape rest)) → motive < first → IsPlaced ((0, p) ∷ (first, at) ∷ []) (p + at) depth s
       → Alike end (weaken_by (j + recursive_count (record { type = t; level = level; kind = kind } ∷ map argument_shape rest)) E)
@@ -246,7 +246,7 @@ module _ (n : ℕ) (f : pure.Family) where
       behind : Term
       behind = arrows (hypothesis_types (extend s (Var (length (map argument_shape rest)))) (variable depth motive) (map (argument_of p) rest) (variables (length (map argument_shape rest)))) E
 
-  -- the hypotheses for arguments behind `at` others, behind j hypotheses
+  -- the hypotheses for arguments after `at` others, after j hypotheses
   pub alike-hypotheses : (motive first at depth j : ℕ) (args : List Arg) (s : ℕ → Term) (end E : Term) → HaveKinds n f at args → AreArgumentsOver (p + at) (map (argument_of p) args)
       → depth ≡ first + at + length (map argument_shape args) → motive < first → p ≤ first → IsPlaced ((0, p) ∷ (first, at) ∷ []) (p + at) depth s
       → Alike end (weaken_by (j + recursive_count (map argument_shape args)) E)

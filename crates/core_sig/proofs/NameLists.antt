@@ -38,7 +38,7 @@ length-named_by m n (signature.EliminatorAt f l) = refl
 length-named_by m n (signature.AxiomKAt i l) = refl
 length-named_by m n (signature.Definition name type body) = refl
 
--- the names of two lists of entries, one behind the other
+-- the names of two lists of entries, one after the other
 pub named-append : (n : ℕ) (xs ys : List signature.Entry) → named n (xs ++ ys) ≡ named n xs ++ named (n + length xs) ys
 named-append n [] ys = ap (λ k. named k ys) (omega arith)
 named-append n (x ∷ xs) ys =
@@ -123,7 +123,7 @@ named-push es e =
     counted : 0 + length (map entry_of es) ≡ length es
     counted = omega (arith, length-map es entry_of)
 
--- a list that keeps one with names behind xs keeps xs
+-- a list that keeps one with names after xs keeps xs
 pub take-kept : (xs ys zs kept : List (List ℕ × Found)) → zs ≡ xs ++ ys → take (length zs) kept ≡ zs → take (length xs) kept ≡ xs
 take-kept xs ys zs kept is keeps =
     sym (take-take (length xs) (length zs) kept (omega (arith, ap length is, length-append xs ys)))

@@ -159,15 +159,15 @@ below-next {runs} {size} {depth} {more} h = record {
 pub below-here : {runs : List (ℕ × ℕ)} {size depth more : ℕ} → AreBelow runs size depth more → AreBelow runs size depth 0
 below-here h = record { room = h.room; levels = λ i l le lt. h.levels i l (omega arith) lt }
 
--- a record's parameters, and a list behind the depth
+-- a record's parameters, and a list after the depth
 pub one-list : (p depth k : ℕ) → p ≤ depth → AreBelow ((0, p) ∷ (depth, k) ∷ []) p depth k
 one-list p depth k low = record { room = low; levels = λ i l le lt. grind (arith, nat_tests) }
 
--- parameters, the first of a list behind them, and another list behind the depth
+-- parameters, the first of a list after them, and another list after the depth
 pub two-lists : (p first at depth k : ℕ) → p ≤ first → first + at ≤ depth → AreBelow ((0, p) ∷ (first, at) ∷ (depth, k) ∷ []) (p + at) depth k
 two-lists p first at depth k low below = record { room = omega arith; levels = λ i l le lt. grind (arith, nat_tests) }
 
--- parameters, and a list behind them
+-- parameters, and a list after them
 pub both-lists : (p first k depth : ℕ) → p ≤ first → first + k ≤ depth → AreBelow ((0, p) ∷ (first, k) ∷ []) (p + k) depth 0
 both-lists p first k depth low below = record { room = omega arith; levels = λ i l le lt. grind (arith, nat_tests) }
 

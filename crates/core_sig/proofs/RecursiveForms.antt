@@ -29,7 +29,7 @@ variables-end : (at p : ℕ) → map (weaken_by at) (variables (suc p)) ≡ map 
 variables-end at zero = ap (λ k. Var k ∷ []) (omega arith)
 variables-end at (suc p) = ap₂ ◌∷◌ (ap Var (omega arith)) (variables-end at p)
 
--- family n at its p parameters, behind `at` binders
+-- family n at its p parameters, after `at` binders
 abbrev head : ℕ → ℕ → ℕ → Term
 head n p at = applied (Fam n) (map (weaken_by at) (variables p))
 

@@ -67,7 +67,7 @@ recursive-scoped S s n m head (a ∷ inner) targets h k l ts =
     (recursive-scoped S (ups s) (n + 1) (m + 1) (weaken head) inner targets (ups-scoped S s n m h) (weaken-scoped k) l.1
     (All-weaker (IsScoped S (n + length (a ∷ inner))) (IsScoped S (n + 1 + length inner)) (λ t. scoped_over_more S (n + length (a ∷ inner)) (n + 1 + length inner) t (omega arith)) targets ts))
 
--- arguments behind `at` others, with their whole types
+-- arguments after `at` others, with their whole types
 arguments-draft : (S : Signature) (k count n : ℕ) (f : Family) (at m : ℕ) (arguments : List Argument) → m ≡ length f.parameters + at → IsScoped S (length f.parameters) (family_head n f) → IsScopedArguments (first_entries S k) m arguments
     → EachInTelescope (IsDraftTerm S (length S.entries) count) m (types_of (argument_shapes n f at arguments))
 arguments-draft S k count n f at m [] e head h = tt
@@ -213,7 +213,7 @@ hypothesis_type-draft {T} {base} {count} p k motive first at depth inner t low b
         (two-lists p first at depth inner low (omega arith)) hm below (omega arith) ht
     by false = draft-more (omega arith) ht
 
--- hypotheses for arguments behind `at` others
+-- hypotheses for arguments after `at` others
 pub hypotheses_over-draft : {T : Signature} {base count : ℕ} (binder : Binder) (p k motive first at depth : ℕ) (arguments : List ArgumentShape) (end : Term) → p ≤ first → first + at + length arguments ≤ depth → motive < depth → EachInTelescope (IsDraftTerm T base count) (p + at) (types_of arguments) → IsDraftTerm T base count (depth + recursive_count arguments) end → IsDraftTerm T base count depth (hypotheses_over binder p k motive first at depth arguments end)
 hypotheses_over-draft binder p k motive first at depth [] end low below hm all h = draft-more (omega arith) h
 hypotheses_over-draft {T} {base} {count} binder p k motive first at depth (a ∷ arguments) end low below hm all h =

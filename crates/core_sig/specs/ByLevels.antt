@@ -1,5 +1,5 @@
 -- What is made of a family's shape, with variables by level: the parameters have the levels from 0 on, and whatever stands
--- at a depth stands behind so many binders.
+-- at a depth comes after so many binders.
 use Rattle.std.specs.Prelude.{ℕ, suc, ◌+◌, ◌-◌, nat_le, if◌then◌else◌, List, [], ◌∷◌, map, length}
 use Rattle.theory.specs.Terms.{Term, Sort, Pi, App, Fam, Con}
 use Rattle.theory.specs.Telescopes.{Telescope, products, applied}
@@ -53,7 +53,7 @@ hypothesis_type p k motive first at depth count t =
     then hypothesis_from ((0, p) ∷ (first, at) ∷ (depth, count) ∷ []) (p + at) depth motive (first + at) depth k count t
     else t
 
--- hypotheses -> end, or \hypotheses. end, for arguments behind `at` others of a constructor, whose arguments' levels begin
+-- hypotheses -> end, or \hypotheses. end, for arguments after `at` others of a constructor, whose arguments' levels begin
 -- with `first`
 abbrev pub hypotheses_over : (binder : Binder) (p k motive first at depth : ℕ) → List ArgumentShape → Term → Term
 hypotheses_over binder p k motive first at depth [] end = end

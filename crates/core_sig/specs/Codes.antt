@@ -29,7 +29,7 @@ leaf (suc zero) n = Sort n
 leaf (suc (suc zero)) n = Const n
 leaf _ n = Fam n
 
--- the parts of a `let` behind its type are held as a product
+-- the parts of a `let` after its type are held as a product
 abbrev let_of : Term → Term → Term
 let_of a (Pi t b) = Let a t b
 let_of a _ = a

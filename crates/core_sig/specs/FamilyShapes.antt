@@ -11,7 +11,7 @@ abbrev pub kind_of : Argument → ArgKind
 kind_of (Plain type level) = PlainKind
 kind_of (Recursive inner targets level) = RecursiveKind (length inner)
 
--- the shapes of arguments behind `at` others, for family number n
+-- the shapes of arguments after `at` others, for family number n
 abbrev pub argument_shapes : (n : ℕ) (f : Family) (at : ℕ) → List Argument → List ArgumentShape
 argument_shapes n f at [] = []
 argument_shapes n f at (a ∷ arguments) =

@@ -15,7 +15,7 @@ is_at_parameters n p at (Fam f) = p == 0 && f == n
 is_at_parameters n (suc p) at (App f a) = is_variable at a && is_at_parameters n p (at + 1) f
 is_at_parameters n p at t = false
 
--- and behind these at `count` targets that lack the family
+-- and after these at `count` targets that lack the family
 abbrev pub is_at_targets : ℕ → ℕ → ℕ → ℕ → Term → Bool
 is_at_targets n p zero at t = is_at_parameters n p at t
 is_at_targets n p (suc count) at (App f a) = is_at_targets n p count at f && not (mentions n a)

@@ -14,7 +14,7 @@ use Rattle.core_sig.specs.declared.family.Family.{Family}
 use Rattle.core_sig.specs.declared.entry.Entry.{Entry}
 use Rattle.core_sig.specs.declared.entry.Entry.TheVariants.{Family as FamilyEntry}
 
--- Behind `at` arguments, the type t is (inner) -> D p targets, where D is family number n with the declared parameters
+-- After `at` arguments, the type t is (inner) -> D p targets, where D is family number n with the declared parameters
 -- p and one target for each index, and D is absent from `inner` and the targets.
 pub record IsRecursiveType (n : ℕ) (f : pure.Family) (at : ℕ) (inner : Telescope) (targets : List tree.Term) (t : tree.Term) : Type 0 where
   pub form : t ≡ recursive_type Var (weaken_by at (family_head n f)) inner targets
@@ -28,7 +28,7 @@ HasKind n f at Plain t = (inner : Telescope) (targets : List tree.Term) → ¬ I
 HasKind n f at (Recursive count) t =
     (inner : Telescope) × (targets : List tree.Term) × (length inner ≡ count) × IsRecursiveType n f at inner targets t
 
--- the arguments behind `at` others have the kinds of their types
+-- the arguments after `at` others have the kinds of their types
 abbrev pub HaveKinds : ℕ → pure.Family → ℕ → List Arg → Type 0
 HaveKinds n f at [] = Unit {0}
 HaveKinds n f at (a ∷ args) = HasKind n f at a.kind (tree_of a.ty) × HaveKinds n f (at + 1) args

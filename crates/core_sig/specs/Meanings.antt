@@ -19,7 +19,7 @@ abbrev pub domains : ℕ → tree.Term → Telescope
 domains (suc n) (tree.Pi a b) = a ∷ domains n b
 domains _ t = []
 
--- what stands behind the first n products of a term
+-- what comes after the first n products of a term
 abbrev pub behind : ℕ → tree.Term → tree.Term
 behind (suc n) (tree.Pi a b) = behind n b
 behind _ t = t

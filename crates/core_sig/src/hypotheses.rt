@@ -112,7 +112,7 @@ pub fn hypothesis_type(
     hypothesis_from(alloc, &runs, motive.params + at, depth, site, count, ty)
 }
 
-/// Binds the hypotheses for arguments behind `at` others around `end`, at a depth.
+/// Binds the hypotheses for arguments after `at` others around `end`, at a depth.
 pub fn hypotheses_over(
     alloc: Global,
     binder: Binder,

@@ -9,7 +9,7 @@ use crate::positivity::mentions;
 use crate::{ArgKind, Family};
 use core_terms::Term;
 
-/// The kind of an argument with the type `ty`, behind `at` other arguments, of a constructor of family `fam`. Of the
+/// The kind of an argument with the type `ty`, after `at` other arguments, of a constructor of family `fam`. Of the
 /// family's record it reads how many parameters and indices there are. Takes no memory.
 pub fn kind_of(fam: u32, f: &Family, at: u32, ty: &Term) -> ArgKind
     requires { at + length f.now.params + tree.height (tree_of ty.now) < 2 ^ 32 }
@@ -34,7 +34,7 @@ struct Shape {
     indices: usize,
 }
 
-/// The number of inner arguments, where the type has the form of a recursive argument behind `at` binders.
+/// The number of inner arguments, where the type has the form of a recursive argument after `at` binders.
 fn inner_count(shape: Shape, at: u32, ty: &Term) -> Option<u32>
     requires { at + shape.params + tree.height (tree_of ty.now) < 2 ^ 32 }
     ensures count { result ≡ inner_count shape.fam shape.params shape.indices at (tree_of ty.now) }
@@ -51,7 +51,7 @@ fn inner_count(shape: Shape, at: u32, ty: &Term) -> Option<u32>
     }
 }
 
-/// Whether the term is the family at its parameters, behind `at` binders, and at `count` targets that lack the family.
+/// Whether the term is the family at its parameters, after `at` binders, and at `count` targets that lack the family.
 fn is_at_targets(shape: Shape, count: usize, at: u32, t: &Term) -> bool
     requires { at + shape.params < 2 ^ 32 }
     ensures { result ≡ is_at_targets shape.fam shape.params count at (tree_of t.now) }

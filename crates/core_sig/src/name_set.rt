@@ -32,7 +32,7 @@ impl NameSet {
         }
     }
 
-    /// Adds the name behind the others where it is new, and says whether it is.
+    /// Adds the name after the others where it is new, and says whether it is.
     pub fn insert(&mut self, name: &Name) -> Result<bool, Stop>
         ensures added { Gives (λ added. added) result (Ok (not (list_any (bytes_eq name.now) self.old))) }
         ensures names { IfOk result (λ added. IsTrue added → self.new ≡ self.old ++ name.now ∷ []) }

@@ -101,7 +101,7 @@ fn two<T: Drop>(alloc: Global, x: T, y: T) -> Result<Items<T>, Stop>
     Ok(items)
 }
 
-/// The bytes with the level behind them, in decimal.
+/// The bytes with the level after them, in decimal.
 fn name_at(alloc: Global, bytes: &[u8], level: u8) -> Result<Name, Stop>
     requires { level < 100 }
     ensures ok { IfOk result (λ n. n ≡ bytes.now ++ spec.level_text level) }

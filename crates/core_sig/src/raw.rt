@@ -28,7 +28,7 @@ pub struct MutualRaw {
 }
 
 /// One of the families that refer to each other. In the types of constructors member k, from 1 on, is the constant
-/// numbered k - 1 behind the entries of the signature.
+/// numbered k - 1 after the entries of the signature.
 #[derive(Debug, Drop)]
 pub struct RawMember {
     pub name: Name,

@@ -1,4 +1,4 @@
--- What holds of an answer and of the units that are left behind it, from what holds of the parts.
+-- What holds of an answer and of the units that are left after it, from what holds of the parts.
 use Rattle.std.proofs.Common.{◌≡◌, ℕ, ◌≤◌, Bool, true, false, cond, Result, Ok, Err, IfOk, IfErr, refl, sym, subst as transport, arith}
 use Rattle.std.proofs.lemmas.Bool.Decides.{nat_tests}
 use Rattle.theory.specs.Terms.{Term, height}

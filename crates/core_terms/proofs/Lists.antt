@@ -47,7 +47,7 @@ pub value-has : (P : tree.Term → Type 0) (values : List Term) (k : ℕ) (r : T
 value-has P values k r low e h =
     transport P (value-at values k r low e) (h k (tree_of r) (transport (λ n. k < n) (sym (length-map values tree_of)) low))
 
--- what holds of all terms holds of those behind the first
+-- what holds of all terms holds of those after the first
 pub rest-have : (P : tree.Term → Type 0) (terms : List Term) → All P (tele_of terms) → All P (tele_of (take (length terms - 1) (drop 1 terms)))
 rest-have P [] h = h
 rest-have P (t ∷ terms) h =

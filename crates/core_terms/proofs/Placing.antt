@@ -21,7 +21,7 @@ abbrev pub IsPlaced : (runs : List (ℕ × ℕ)) (size depth : ℕ) (s : ℕ →
 IsPlaced runs size depth s =
     (v : ℕ) → v < size → (level_at runs (size - (v + 1)) < depth) × (s v ≡ variable depth (level_at runs (size - (v + 1))))
 
--- the same behind so many binders of a term's own
+-- the same after so many binders of a term's own
 abbrev IsPlacedUnder : (runs : List (ℕ × ℕ)) (size depth under : ℕ) (s : ℕ → Term) → Type 0
 IsPlacedUnder runs size depth under s = (v : ℕ) → v < size + under → s v ≡ Var (place_var runs size depth under v)
 
@@ -156,7 +156,7 @@ placed-up runs size depth s next at (suc v) lt =
     let low = before.0 in
     (omega arith, ap weaken before.1 ∙ (variable-weaken depth (level_at runs (size - (v + 1))) low ∙ ap (variable (depth + 1)) (sym e)))
 
--- the next variable of the record is one that is there, and the runs may change behind those that were placed
+-- the next variable of the record is one that is there, and the runs may change after those that were placed
 pub placed-extend : (runs more : List (ℕ × ℕ)) (size depth level : ℕ) (s : ℕ → Term) → ((l : ℕ) → l < size → level_at more l ≡ level_at runs l) → level_at more size ≡ level → level < depth → IsPlaced runs size depth s → IsPlaced more (size + 1) depth (extend s (variable depth level))
 placed-extend runs more size depth level s kept next low at zero lt =
     let e : level_at more (size + 1 - (0 + 1)) ≡ level = (let f : size + 1 - (0 + 1) ≡ size = omega arith in ap (level_at more) f) ∙ next in
@@ -167,7 +167,7 @@ placed-extend runs more size depth level s kept next low at (suc v) lt =
     let below = before.0 in
     (omega arith, before.1 ∙ ap (variable depth) (sym e))
 
--- the runs may change behind the variables that are placed
+-- the runs may change after the variables that are placed
 pub placed-kept : (runs more : List (ℕ × ℕ)) (size depth : ℕ) (s : ℕ → Term) → ((l : ℕ) → l < size → level_at more l ≡ level_at runs l) → IsPlaced runs size depth s → IsPlaced more size depth s
 placed-kept runs more size depth s kept at v lt =
     let e = kept (size - (v + 1)) (omega arith) in
@@ -223,13 +223,13 @@ run-variables depth start zero is = refl
 run-variables depth start (suc count) is =
     ap₂ ◌∷◌ (ap Var (omega arith)) (run-variables depth (start + 1) count (omega arith))
 
--- behind more binders
+-- after more binders
 pub run-further : (depth start count more : ℕ) → start + count ≤ depth → map (weaken_by more) (run depth start count) ≡ run (depth + more) start count
 run-further depth start zero more le = refl
 run-further depth start (suc count) more le =
     ap₂ ◌∷◌ (ap Var (omega arith)) (run-further depth (start + 1) count more (omega arith))
 
--- behind one more
+-- after one more
 pub run-weaken : (depth start count : ℕ) → start + count ≤ depth → map weaken (run depth start count) ≡ run (depth + 1) start count
 run-weaken depth start zero le = refl
 run-weaken depth start (suc count) le =

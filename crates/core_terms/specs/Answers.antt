@@ -1,4 +1,4 @@
--- How the answer of a call is tied to the answer that is meant, and how answers are put one behind the other.
+-- How the answer of a call is tied to the answer that is meant, and how answers are put one after the other.
 use Rattle.std.specs.Prelude.{◌≡◌, ℕ, ◌<◌, ◌+◌, Bool, true, nat_le, ◌&&◌, if◌then◌else◌, List, [], ◌∷◌, Result, Ok, Err}
 use Rattle.theory.specs.Terms.{Term, height}
 use Rattle.core_terms.specs.Bounds.{most_height}
@@ -28,7 +28,7 @@ GivesUnless free f result meant = StandsFor free (λ e. e) f result meant
 abbrev pub Gives : {A B : Type 0} → (A → B) → Result A Stop → Result B Stop → Type 0
 Gives f result meant = GivesUnless IsUnforeseen f result meant
 
--- an answer, or a refusal of E, with the units that are left behind it
+-- an answer, or a refusal of E, with the units that are left after it
 abbrev pub SpentOr : Type 0 → Type 0 → Type 0
 SpentOr E A = Result A E × ℕ
 

@@ -3,7 +3,7 @@ use Rattle.std.specs.Prelude.{ℕ, List, [], ◌∷◌}
 use Rattle.theory.specs.Terms.{Term}
 use Rattle.core_terms.specs.Patterns.{Pats}
 
--- `Is pats binds right` is a clause: its patterns, the number of variables that they bind, and what stands behind them.
+-- `Is pats binds right` is a clause: its patterns, the number of variables that they bind, and what comes after them.
 -- That is a term, a scrutinee with clauses that have one pattern more, or nothing, where a pattern is absurd.
 mutual
   pub data Right : Type 0 where

@@ -1,4 +1,4 @@
--- Variables by level: the outermost binder has level 0, and a term at depth d stands behind d binders.
+-- Variables by level: the outermost binder has level 0, and a term at depth d comes after d binders.
 --
 -- A record's terms stand over the record's own variables. Where such a term is put into a larger one, its variables lie in
 -- runs of levels: (start, count) are `count` levels from `start` on, for so many of the record's variables.

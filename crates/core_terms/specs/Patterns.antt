@@ -2,7 +2,7 @@
 use Rattle.std.specs.Prelude.{ℕ, List, [], ◌∷◌}
 use Rattle.theory.specs.Terms.{Term}
 
--- `Con f c args` is constructor `c` of the family with entry number `f`, with its arguments behind the parameters
+-- `Con f c args` is constructor `c` of the family with entry number `f`, with its arguments after the parameters
 mutual
   pub data Pat : Type 0 where
     Bind : Pat

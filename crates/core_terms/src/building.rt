@@ -52,7 +52,7 @@ pub fn functions(alloc: Global, mut tele: Vec<Term>, body: Term) -> Result<Term,
     Ok(whole)
 }
 
-/// Adds the domains of the leading products of the term to the types, and answers what stands behind them.
+/// Adds the domains of the leading products of the term to the types, and answers what comes after them.
 pub fn split_products(types: &mut Vec<Term>, t: Term) -> Result<Term, Stop>
     ensures domains { OnOk result (tele_of types.new.items ≡ tele_of types.old.items ++ domains_of (tree_of t)) }
     ensures end { IfOk result (λ end. tree_of end ≡ end_of (tree_of t)) }

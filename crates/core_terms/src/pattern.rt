@@ -2,7 +2,7 @@ use crate::{Items, Term};
 
 /// A pattern of a clause.
 ///
-/// `Bind` is a variable and `Wild` the pattern `_`. `Dot` is a forced term, written behind a dot, and `Absurd` the
+/// `Bind` is a variable and `Wild` the pattern `_`. `Dot` is a forced term, written after a dot, and `Absurd` the
 /// pattern `( )`. `Con(f, c, args)` is constructor `c` of the family with entry number `f`, whose arguments stand
 /// without the parameters.
 #[derive(Debug, Drop)]

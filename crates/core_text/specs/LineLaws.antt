@@ -14,7 +14,7 @@ pub data AreNotes : List ℕ → Type 0 where
   no_note : AreNotes []
   note : (text others : List ℕ) → is_in_line text ≡ true → AreNotes others → AreNotes (codes "#" ++ (text ++ (codes "\n" ++ others)))
 
--- Behind its first bytes the text has lines that begin with `#` and then the line of the entry, written over the entries S
+-- After its first bytes the text has lines that begin with `#` and then the line of the entry, written over the entries S
 -- and itself, which ends where `to` says.
 pub record Stands (S : Signature) (text : List ℕ) (from : ℕ) (e : Entry) (to : ℕ) : Type 0 where
   pub notes : List ℕ

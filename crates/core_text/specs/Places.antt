@@ -25,7 +25,7 @@ pub record GoesOn (S : Signature) (bytes : List ℕ) : Type 0 where
   pub over : IsEntryOver S entry
   pub line : bytes ++ more ≡ notes ++ raw_line S entry
 
--- Behind lines that begin with `#`, the bytes begin the word, or are the whole of it.
+-- After lines that begin with `#`, the bytes begin the word, or are the whole of it.
 pub record BeginsWord (bytes word : List ℕ) : Type 0 where
   pub more : List ℕ
   pub notes : List ℕ

@@ -27,7 +27,7 @@ const DEPTH: u32 = 5;
 /// then the draft, and answers its number.
 ///
 /// Rejected comes of what the checker denies, the draft or what it needs, and holds it as
-/// texts over the signature in which that arose. After an error the signature stands as before, and the units that were spent stay
+/// texts over the signature in which that arose. After an error the signature is as it was, and the units that were spent stay
 /// spent.
 pub fn enter_draft(
     alloc: Global,

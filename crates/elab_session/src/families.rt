@@ -116,7 +116,7 @@ pub(crate) fn enter_raw(
     }
 }
 
-/// The refusal of a family. The signature stands as before.
+/// The refusal of a family. The signature is as it was.
 fn refuse_family(
     alloc: Global,
     sig: &mut Signature,
@@ -135,7 +135,7 @@ fn refuse_family(
     }
 }
 
-/// The denial of a part of a family. The signature stands as before.
+/// The denial of a part of a family. The signature is as it was.
 fn deny_part(
     alloc: Global,
     sig: &mut Signature,
@@ -159,7 +159,7 @@ fn deny_part(
 }
 
 /// The denial of a constructor, whose texts are over the signature with the family, without constructors, at its end. The
-/// signature stands as before.
+/// signature is as it was.
 fn denied_constructor(
     alloc: Global,
     sig: &mut Signature,

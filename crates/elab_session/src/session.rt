@@ -59,7 +59,7 @@ impl Session {
         &self.sig
     }
 
-    /// Adds the entries of a declaration. After a refusal the session stands as before.
+    /// Adds the entries of a declaration. After a refusal the session is as it was.
     pub fn declare(&mut self, d: &Decl) -> Result<Accepted, Refusal>
         ensures answer { spec.Answers self.new.signature result (spec.declare_of self.old.signature self.old.fuel (decl_of d.now)) }
         ensures err { OnErr result (self.new ≡ self.old) }
@@ -71,7 +71,7 @@ impl Session {
         declare(self.alloc, &mut self.sig, self.fuel, d)
     }
 
-    /// Adds an entry of a core file and answers its number. After a refusal the session stands as before.
+    /// Adds an entry of a core file and answers its number. After a refusal the session is as it was.
     pub fn enter(&mut self, entry: Entry) -> Result<u32, Refusal>
         requires entry { CanEnter self.old.signature (entry_of entry) }
         requires kinds { HasEntryKinds (length self.old.signature.entries) entry }
@@ -85,7 +85,7 @@ impl Session {
     }
 }
 
-/// Adds the entries of a declaration, which may spend `fuel` units. After a refusal the signature stands as before.
+/// Adds the entries of a declaration, which may spend `fuel` units. After a refusal the signature is as it was.
 pub fn declare(alloc: Global, sig: &mut Signature, fuel: u64, d: &Decl) -> Result<Accepted, Refusal>
     requires ready { IsReady sig.old }
     ensures answer { spec.Answers sig.new result (spec.declare_of sig.old fuel (decl_of d.now)) }

@@ -11,7 +11,7 @@ const NO_MEMORY: u8 = 5;
 
 const NO_WORDS: u8 = 6;
 
-/// The words behind the program's name, or the status.
+/// The words after the program's name, or the status.
 fn words(rt: &HostRuntime) -> Result<Vec<String>, u8> {
     match env::args(rt) {
         Ok(args) => args.skip(1).collect(rt.alloc()).map_err(|_| NO_MEMORY),

@@ -4,7 +4,7 @@ use Rattle.elim_ports.specs.declared.reading.ReadError.{ReadError}
 use Rattle.elim_ports.specs.declared.reading.ReadError.TheVariants.{TooLong}
 use Rattle.std.specs.Io.KnownBytes.{Consumes}
 
--- behind the n bytes that a read gave, the slice is as it was; after an error all of it is
+-- after the n bytes that a read gave, the slice is as it was; after an error all of it is
 abbrev pub FillsFront : {E : Type 0} → Result ℕ E → List ℕ → List ℕ → Type 0
 FillsFront r before after = MatchResult r (λ n. drop n after ≡ drop n before) (λ _. after ≡ before)
 

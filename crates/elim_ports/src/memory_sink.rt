@@ -12,7 +12,7 @@ use std::marker::Model;
 
 /// A sink that keeps what it takes in memory, with the allocator of `fails`.
 ///
-/// Its writes are numbered from 1, and those in `fails` fail; behind number `u32::MAX` none does.
+/// Its writes are numbered from 1, and those in `fails` fail; after number `u32::MAX` none does.
 #[derive(Debug, Drop)]
 pub struct MemorySink {
     bytes: Vec<u8>,

@@ -13,7 +13,7 @@ use std::marker::Model;
 
 /// A source over bytes in memory.
 ///
-/// Its reads are numbered from 1, and those in `fails` fail; behind number `u32::MAX` none does.
+/// Its reads are numbered from 1, and those in `fails` fail; after number `u32::MAX` none does.
 #[derive(Debug, Drop)]
 pub struct MemorySource {
     bytes: Items<u8>,

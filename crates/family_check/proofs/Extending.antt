@@ -1,4 +1,4 @@
--- Whatever enters stands behind the entries that are there.
+-- Whatever enters comes after the entries that are there.
 use Rattle.std.proofs.Common.{ℕ, Bool, true, false, ◌&&◌, nat_lt, position, Option, Some, None, Result, Ok, Err, IfOk, List, [], ◌∷◌}
 use Rattle.theory.specs.Terms.{Term, top}
 use Rattle.theory.specs.Eliminators.{eliminator_type}

@@ -128,7 +128,7 @@ end-tells n f k kind t ended h =
     mapped (Some ts) = refl
     mapped None = refl
 
--- where there are targets, they are the arguments behind the parameters
+-- where there are targets, they are the arguments after the parameters
 pub targets-behind : (n : ℕ) (f : Family) (k : ℕ) (t : Term) → is_some (targets_of n f k t) ≡ true → targets_of n f k t ≡ Some (drop (length f.parameters) (spine_of t))
 targets-behind n f k t h = by_case _ h
   where

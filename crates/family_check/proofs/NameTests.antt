@@ -62,7 +62,7 @@ all-behind S names =
 abbrev pub con_names : List RawCon → List (List ℕ)
 con_names cs = map (λ c. c.name) (map raw_constructor_of cs)
 
--- the first name is new, and the others are looked at behind it
+-- the first name is new, and the others are looked at after it
 pub names-start : (S : Signature) (name : List ℕ) (names old before : List (List ℕ)) (test : Bool) → old ≡ [] → test ≡ not (is_taken S old name) → test ≡ true → before ≡ old ++ name ∷ []
     → are_new S (name ∷ names) ≡ are_new_behind S before names
 names-start S name names old before test none tested passes grown =

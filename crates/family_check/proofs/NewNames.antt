@@ -29,7 +29,7 @@ none-passes p (x ∷ xs) h =
 differs : (x y : List ℕ) → bytes_eq x y ≡ false → x ≢ y
 differs x y h e = absurd (let t = (bytes_eq-Decides x y).1 e in grind arith)
 
--- a list behind another one, where each of its elements is related to all of the other
+-- a list after another one, where each of its elements is related to all of the other
 pairs-append : {X : Type 0} (R : X → X → Type 0) (xs ys : List X) → AllPairs R xs → AllPairs R ys → All (λ y. All (λ x. R x y) xs) ys
     → AllPairs R (xs ++ ys)
 pairs-append R [] ys r s h = s

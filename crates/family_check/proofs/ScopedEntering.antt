@@ -199,7 +199,7 @@ declare-settles S raw left settled h =
     (and_next-splits (Settles S) StaysSettled (IsScopedStop (site_signature S raw)) (declare_family S raw left) _
     (family-settles S settled raw left h) (λ f end settles. settles)))
 
--- a constant that is scoped over the signature is none behind it
+-- a constant that is scoped over the signature is none after it
 not-beyond : (S : Signature) → ¬ IsConstantNumber S (length S.entries)
 not-beyond S (name, type, body, at) = absurd (let lt = slice_get_within S.entries (length S.entries) _ at in omega arith)
 

@@ -33,7 +33,7 @@ all-lack n (t ∷ ts) h =
     let parts = both-true (not (mentions n t)) (all_lack n ts) h in
     All-cons (Lacks n) t ts (not-true (mentions n t) parts.0) (all-lack n ts parts.1)
 
--- Behind k binders, t is family n at its own parameters and at the targets, one for each index, which lack the family.
+-- After k binders, t is family n at its own parameters and at the targets, one for each index, which lack the family.
 pub record IsEnd (n : ℕ) (f : Family) (k : ℕ) (t : Term) (targets : List Term) : Type 0 where
   pub form : t ≡ applied (weaken_by k (family_head n f)) targets
   pub count : length targets ≡ length f.indices
@@ -192,7 +192,7 @@ telescope-of n f name types levels targets counted =
     ap (λ h. argument_types Var h (arguments n f 0 types levels)) (sym (weaken_by-none (family_head n f)))
     ∙ arguments-typed n f 0 types levels counted
 
--- and the constructor has the type, behind the parameters
+-- and the constructor has the type, after the parameters
 pub constructor-typed : (n : ℕ) (f : Family) (name : List ℕ) (t : Term) (levels : List ℕ) (targets : List Term) → length levels ≡ length (domains_of t)
     → IsEnd n f (length (domains_of t)) (end_of t) targets
     → constructor_type n f (record { name = name; arguments = arguments n f 0 (domains_of t) levels; targets = targets }) ≡ products f.parameters t

@@ -40,7 +40,7 @@ DefineKeepsWellFormed =
 abbrev pub PreludeIsSettled : Type 0
 PreludeIsSettled = (k : Bool) → IsSettled (prelude k) × HasPrelude (prelude k)
 
--- what is left behind a call is at most what was left before it
+-- what is left after a call is at most what was left before it
 
 abbrev pub DeclareSpends : Type 0
 DeclareSpends = (S : Signature) (raw : RawFamily) (left : ℕ) → (declare_of S raw left).1 ≤ left

@@ -1,4 +1,4 @@
--- Why an entry does not enter, and answers with the units that are left behind them.
+-- Why an entry does not enter, and answers with the units that are left after them.
 use Rattle.std.specs.Prelude.{ℕ, Option, Result, Ok, Err}
 use Rattle.theory.specs.Terms.{Term}
 use Rattle.core_terms.specs.Answers.{Spent, SpentOr}
@@ -22,7 +22,7 @@ pub data FamilyStop : Type 0 where
   BadFamily : FamilyStop
   Duplicate : FamilyStop
 
--- an answer with the units that are left behind it
+-- an answer with the units that are left after it
 abbrev pub Outcome : Type 0 → Type 0
 Outcome A = SpentOr FamilyStop A
 

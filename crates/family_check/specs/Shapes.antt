@@ -15,7 +15,7 @@ use Rattle.kernel_reduce.specs.Comparison.{same}
 abbrev pub all_lack : ℕ → List Term → Bool
 all_lack n ts = list_all (λ t. not (mentions n t)) ts
 
--- The targets of family n, where t is the family at its own parameters, k binders behind them, and at one target for
+-- The targets of family n, where t is the family at its own parameters, k binders after them, and at one target for
 -- each index, and the targets lack the family.
 abbrev pub targets_of : ℕ → Family → ℕ → Term → Option (List Term)
 targets_of n f k t =
@@ -24,7 +24,7 @@ targets_of n f k t =
     (Some targets)
     None
 
--- the inner telescope and the targets of a recursive argument, behind k others
+-- the inner telescope and the targets of a recursive argument, after k others
 abbrev pub recursive_parts : ℕ → Family → ℕ → Term → Option (Telescope × List Term)
 recursive_parts n f k t =
     let inner = domains_of t in
@@ -34,13 +34,13 @@ abbrev pub argument_of : Term → ℕ → Option (Telescope × List Term) → Ar
 argument_of t level (Some parts) = Recursive parts.0 parts.1 level
 argument_of t level None = Plain t level
 
--- the arguments of a constructor of family n with the given types and levels, behind k others
+-- the arguments of a constructor of family n with the given types and levels, after k others
 abbrev pub arguments : ℕ → Family → ℕ → Telescope → List ℕ → List Argument
 arguments n f k (t ∷ types) (level ∷ levels) =
     argument_of t level (recursive_parts n f k t) ∷ arguments n f (k + 1) types levels
 arguments n f k _ _ = []
 
--- an argument, behind k others, keeps positivity
+-- an argument, after k others, keeps positivity
 abbrev pub is_positive : ℕ → Family → ℕ → Term → Bool
 is_positive n f k t = not (mentions n t) || is_some (recursive_parts n f k t)
 

@@ -30,7 +30,7 @@ fn is_recursive(kind: ArgKind) -> bool
     }
 }
 
-/// Whether an argument behind `at` others keeps positivity.
+/// Whether an argument after `at` others keeps positivity.
 fn is_positive(n: u32, f: &Family, at: u32, ty: &Term) -> bool
     requires { at + length f.now.params + tree.height (tree_of ty.now) < 2 ^ 32 }
     ensures { result ≡ shapes.is_positive n (family_of f.now) at (tree_of ty.now) }
@@ -52,7 +52,7 @@ fn first_offender(n: u32, f: &Family, types: &[Term]) -> Option<u32>
     None
 }
 
-/// The arguments of a term's head behind the first `count`.
+/// The arguments of a term's head after the first `count`.
 fn into_targets(alloc: Global, t: Term, count: usize) -> Result<Tele, Stop>
     requires { count ≤ length (spine_of (tree_of t)) }
     ensures { Gives tele_of result (Ok (drop count (spine_of (tree_of t)))) }

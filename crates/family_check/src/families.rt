@@ -38,7 +38,7 @@ const MOST_CONSTRUCTORS: usize = 4294967295;
 /// Each written type, of a parameter, of the family and of a constructor, costs the units of one call of `infer_sort`, and
 /// each type of an index or an argument those of one more, for its level. Duplicate costs none and comes first. All other
 /// errors come in the order of the text: Denied, Fuel or Deep for a type, BadFamily and TooLarge after the type of the
-/// family, NotPositive and then TooLarge after the type of a constructor. After an error the signature stands as before, and
+/// family, NotPositive and then TooLarge after the type of a constructor. After an error the signature is as it was, and
 /// the units that were spent stay spent. Memory is also answered where the parameters or the constructors are too many to be
 /// counted, 2^31 - 2000 and 2^32.
 pub fn declare(
@@ -88,7 +88,7 @@ fn enter_family(
     Ok(sig.push(Entry::Family(family))?)
 }
 
-/// Checks a family whose names are new. The signature stands as before.
+/// Checks a family whose names are new. The signature is as it was.
 fn declare_family(
     alloc: Global,
     sig: &mut Signature,
@@ -131,7 +131,7 @@ fn declare_family(
 }
 
 /// Checks the constructors of a family over the signature with the family, without constructors, at its end. The
-/// signature stands as before.
+/// signature is as it was.
 fn over_bare(
     alloc: Global,
     sig: &mut Signature,

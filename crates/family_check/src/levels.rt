@@ -70,7 +70,7 @@ fn level_in(
     fitting(role, k, sort_level(&sort))
 }
 
-/// The levels of the types of a telescope behind the parameters, from the left.
+/// The levels of the types of a telescope after the parameters, from the left.
 pub(crate) fn levels(
     alloc: Global,
     sig: &Signature,

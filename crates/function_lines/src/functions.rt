@@ -77,7 +77,7 @@ fn elaborate(
 /// Adds the entries of a function by clauses: those that its case trees translate to, and for each clause what its equation needs. The
 /// answer is the lines of the clauses, those of the function before those of its helpers.
 ///
-/// The units are one count for all of it. After a refusal the signature stands as before, and the units that were spent stay spent.
+/// The units are one count for all of it. After a refusal the signature is as it was, and the units that were spent stay spent.
 /// Deep is also answered where the name of a family or of a constructor holds a `!`.
 pub fn function(
     alloc: Global,

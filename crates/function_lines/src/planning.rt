@@ -97,7 +97,7 @@ fn plan_at(
     plan_from(alloc, s, f, part, units)
 }
 
-/// The plan of a function. The signature has the function as a provisional constant meanwhile, and then stands as before.
+/// The plan of a function. The signature has the function as a provisional constant meanwhile, and then is as it was.
 pub(crate) fn plan_over(
     alloc: Global,
     sig: &mut Signature,

@@ -15,7 +15,7 @@ use elab_session::{Session, declare};
 use std::alloc::Global;
 use surface_syntax::Decl;
 
-/// Adds the entries of a declaration to the session. After a refusal the session stands as before.
+/// Adds the entries of a declaration to the session. After a refusal the session is as it was.
 pub fn elaborate(alloc: Global, session: &mut Session, d: &Decl) -> Result<Elaborated, Refused>
     ensures answer { Answers session.new.signature result (spec.elaborate_of session.old.signature session.old.fuel (decl_of d.now)) }
     ensures err { OnErr result (session.new ≡ session.old) }

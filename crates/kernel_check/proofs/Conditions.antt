@@ -116,7 +116,7 @@ compare_inferred {wanted = wanted} at l v ty left h k is meant =
     let found = reduce_inferred at l v ty left h is meant in
     record { signature = h.signature; terms = (found.terms.0, (wide wanted k k.term, tt)) }
 
--- a Yes behind a child is the child's
+-- a Yes after a child is the child's
 behind_yes : (child : ℕ) (x : pure.Verdict) (a : tree.Term) → pure.Yes a ≡ verdict_behind child x → x ≡ pure.Yes a
 behind_yes child (pure.Yes b) a e = sym e
 behind_yes child (pure.No denial) a e = absurd (grind arith)

@@ -118,7 +118,7 @@ no_k : infer_of sample nesting [] (AxiomK 0 0) 9 ≡ no_with [] [] NoSuchInstanc
 unfolding no_with native.Mathlib.Decide.ℕ_discrete sample
 no_k = refl
 
--- a denial inside the reduced type of a function: in the domain of the product, behind child 0 of the application
+-- a denial inside the reduced type of a function: in the domain of the product, after child 0 of the application
 reducible : Term
 reducible = App (Lam (Sort 0) (Pi (Sort 15) (Sort 0))) (Sort 0)
 
@@ -127,7 +127,7 @@ no_reduct : infer_of sample nesting (reducible ∷ []) (App (Var 0) (Sort 0)) 9
 unfolding no_with native.Mathlib.Decide.ℕ_discrete sample reducible
 no_reduct = refl
 
--- a denial in what follows a `let`, behind child 2
+-- a denial in what follows a `let`, after child 2
 no_body : infer_of sample nesting [] (Let (Sort 1) (Sort 0) (Pi (Var 0) (App (Var 1) (Var 1)))) 9
     ≡ no_with (2 ∷ 1 ∷ []) (Sort 0 ∷ []) (NotAProduct (Sort 1)) 1
 unfolding no_with native.Mathlib.Decide.ℕ_discrete sample

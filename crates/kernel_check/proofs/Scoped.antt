@@ -63,7 +63,7 @@ CheckingScopes S check =
     (G : Context) (t wanted : Term) (left : ℕ) → IsScopedContext S G → IsScoped S (length G) t → IsScoped S (length G) wanted
     → Scopes S (length G) (check G t wanted left)
 
--- a type of a scoped context is scoped over the variables behind it
+-- a type of a scoped context is scoped over the variables after it
 pub declared-scoped : (S : Signature) (G : Context) (n : ℕ) (a : Term) → IsScopedContext S G → slice_get G n ≡ Some a
     → (k : ℕ) × (k + (n + 1) ≡ length G) × IsScoped S k a
 declared-scoped S [] n a ctx e = absurd (grind arith)

@@ -41,7 +41,7 @@ on_verdict (No denial) left next = answered (Ok (No denial)) left
 abbrev pub if_typed : Spent Verdict → (Term → ℕ → Spent Verdict) → Spent Verdict
 if_typed first next = and_next first (λ verdict left. on_verdict verdict left next)
 
--- what is denied in a child has its place behind the number of the child
+-- what is denied in a child has its place after the number of the child
 abbrev pub denial_behind : ℕ → Denial → Denial
 denial_behind child denial = record denial { place = child ∷ denial.place }
 

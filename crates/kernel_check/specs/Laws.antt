@@ -82,7 +82,7 @@ CheckIsSound =
     (S : Signature) → IsTyped S → (room : ℕ) (G : Context) (t wanted : Term) (left : ℕ) → IsContext S G → IsType S G wanted →
     IfOk (check_of S room G t wanted left).0 (λ verdict. IfYes verdict (HasWanted S G t wanted))
 
--- what is left behind a call is at most what was left before it
+-- what is left after a call is at most what was left before it
 abbrev pub InferSpends : Type 0
 InferSpends = (S : Signature) (room : ℕ) (G : Context) (t : Term) (left : ℕ) → (infer_of S room G t left).1 ≤ left
 

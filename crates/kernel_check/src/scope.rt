@@ -8,7 +8,7 @@ ghost use Rattle.kernel_check.specs.Scopes.{AreLow, scope_of};
 use core_terms::{Stop, Tele, Term, copy, copy_tele};
 use std::alloc::Global;
 
-/// A context: a list of types from the outermost on, and the types of the binders that were entered behind it.
+/// A context: a list of types from the outermost on, and the types of the binders that were entered after it.
 #[derive(Clone, Copy)]
 pub(crate) enum Scope<'a> {
     Given(&'a [Term]),
@@ -28,7 +28,7 @@ fn from_the_end(types: &[Term], n: u32) -> Option<&Term>
     }
 }
 
-/// The type of variable `n`, over the variables behind it.
+/// The type of variable `n`, over the variables after it.
 pub(crate) fn declared<'a>(scope: &Scope<'a>, n: u32) -> Option<&'a Term>
     ensures { option_map tree_of (option_copied result) ≡ slice_get (scope_of scope.now) n }
 {

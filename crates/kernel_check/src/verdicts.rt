@@ -27,7 +27,7 @@ pub(crate) fn deny(alloc: Global, scope: &Scope, reason: Reason) -> Result<Verdi
     }))
 }
 
-/// What is denied in child number `child` has its place behind that number.
+/// What is denied in child number `child` has its place after that number.
 pub(crate) fn behind(child: u8, verdict: Verdict) -> Result<Verdict, Stop>
     ensures { Gives verdict_of result (Ok (checking.verdict_behind child (verdict_of verdict))) }
 {

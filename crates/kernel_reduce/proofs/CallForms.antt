@@ -35,7 +35,7 @@ drop-snoc xs a zero h = refl
 drop-snoc [] a (suc n) h = absurd (omega arith)
 drop-snoc (x ∷ xs) a (suc n) h = drop-snoc xs a n (omega arith)
 
--- the targets behind p arguments
+-- the targets after p arguments
 pub call-is : (values : List Term) (p : ℕ) (recursor : Term) (under : ℕ) (t : Term) → p ≤ 2000
     → call_of values p recursor under t ≡ applied (lift recursor under 0) (map (instance_of values under) (drop p (spine_of t)))
 call-is values p recursor under (App f a) few = by_case (nat_le p (min (length (spine_of f)) 2001)) refl (call-is values p recursor under f few)

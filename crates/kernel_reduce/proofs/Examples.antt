@@ -52,7 +52,7 @@ tree_family = record {
       ∷ [];
 }
 
--- behind the prelude Nat, Vec and Tree, then the constant 49 for Type 0 -> Type 0, and the provisional constant 50
+-- after the prelude Nat, Vec and Tree, then the constant 49 for Type 0 -> Type 0, and the provisional constant 50
 sample : Bool → Signature
 unfolding natural_family vector_family tree_family
 sample k = record {

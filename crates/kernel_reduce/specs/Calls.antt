@@ -40,7 +40,7 @@ hypothesis_before values p recursor known t Plain rest = rest
 hypothesis_before values p recursor known t (Recursive inner) rest =
     hypothesis_of (take known values) p recursor (get_or values known (Sort 0)) inner 0 t ∷ rest
 
--- the hypotheses for arguments behind the first `known` values
+-- the hypotheses for arguments after the first `known` values
 abbrev pub hypotheses_of : List Term → ℕ → Term → ℕ → List Arg → List Term
 hypotheses_of values p recursor known [] = []
 hypotheses_of values p recursor known (a ∷ args) =

@@ -50,7 +50,7 @@ SubtypeIsBelow =
     (S : Signature) (room : ℕ) (a b : Term) (left : ℕ) →
     IfOk (subtype_of S room a b left).0 (λ holds. IsTrue holds → Below S a b)
 
--- what is left behind a call is at most what was left before it
+-- what is left after a call is at most what was left before it
 abbrev pub HeadStepSpends : Type 0
 HeadStepSpends = (S : Signature) (delta : Bool) (t : Term) (left : ℕ) → (head_step_of S delta t left).1 ≤ left
 

@@ -17,7 +17,7 @@ nesting = 2000
 abbrev pub most_variables : ℕ
 most_variables = 3221223472
 
--- an answer with the units that are left behind it
+-- an answer with the units that are left after it
 abbrev pub answered : {A : Type 0} → Result A Stop → ℕ → Spent A
 answered answer left = (answer, left)
 

@@ -15,7 +15,7 @@ IsWhole S = (n : ℕ) (name : List ℕ) (type body : Term) → IsEntryAt S n (De
 abbrev pub PreludeScoped : Type 0
 PreludeScoped = (k : Bool) → IsScopedSignature (prelude k)
 
--- an entry that is scoped behind the others
+-- an entry that is scoped after the others
 abbrev pub PushedScoped : Type 0
 PushedScoped =
     (S : Signature) (e : Entry) → IsScopedSignature S → IsWhole S → IsScopedEntry (pushed S e) (length S.entries) e →

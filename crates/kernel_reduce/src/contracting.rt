@@ -28,7 +28,7 @@ fn copy_first(alloc: Global, terms: &[Term], count: usize) -> Result<Vec<Term>, 
     Ok(copy_tele(alloc, &terms[..count])?.into_vec())
 }
 
-/// The terms behind the first `count`.
+/// The terms after the first `count`.
 #[tactic(auto, using(crate::proofs::CallForms::tele_behind))]
 fn copy_behind(alloc: Global, terms: &[Term], count: usize) -> Result<Vec<Term>, Stop>
     requires { count ≤ length terms.now }
@@ -54,7 +54,7 @@ fn recursor(alloc: Global, n: u32, m: u8, args: &[Term], count: usize) -> Result
     applied(alloc, Term::Elim(n, m), args)
 }
 
-/// Argument `at` of the eliminator at the arguments of the constructor behind its parameters.
+/// Argument `at` of the eliminator at the arguments of the constructor after its parameters.
 #[tactic(auto, using(crate::proofs::CallHeights::height_applied))]
 fn method(alloc: Global, args: &[Term], at: usize, us: &[Term], params: usize) -> Result<Term, Stop>
     requires at { at < length args.now }
@@ -67,7 +67,7 @@ fn method(alloc: Global, args: &[Term], at: usize, us: &[Term], params: usize) -
 }
 
 /// The values of the variables of a family's record: the parameters of the eliminator, then the arguments of the
-/// constructor behind its own.
+/// constructor after its own.
 fn values(alloc: Global, args: &[Term], us: &[Term], params: usize) -> Result<Vec<Term>, Stop>
     requires args { params ≤ length args.now }
     requires us { params ≤ length us.now }

@@ -62,7 +62,7 @@ fn recursive_call(
     Term::new_app(alloc, f, r)
 }
 
-/// The hypothesis for the recursive argument `r`: the recursive call on it, behind functions over its inner arguments.
+/// The hypothesis for the recursive argument `r`: the recursive call on it, after functions over its inner arguments.
 fn hypothesis(
     alloc: Global,
     recursor: &Term,
@@ -137,7 +137,7 @@ fn with_hypothesis(
     }
 }
 
-/// `whole` applied to the hypotheses for arguments behind the first `known` values.
+/// `whole` applied to the hypotheses for arguments after the first `known` values.
 #[tactic(auto, using(crate::proofs::CallHeights::height_applied))]
 pub(crate) fn with_hypotheses(
     alloc: Global,

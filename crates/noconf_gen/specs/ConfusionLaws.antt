@@ -39,7 +39,7 @@ confusion_at n at nct ps ss is qs us es = applied (Const nct) (ps ++ (ss ++ (is 
 abbrev pub put_for_all : (n at : ℕ) (ps ss is qs us es : List Term) → Term → Term
 put_for_all n at ps ss is qs us es t = inst (fill no_variable (ps ++ (ss ++ (is ++ applied (Con n at) (qs ++ us) ∷ (us ++ es))))) t
 
--- the level behind the parameters, the arguments of c, the indices and the other term
+-- the level after the parameters, the arguments of c, the indices and the other term
 abbrev pub level_of_second : (n : ℕ) (f : Family) → Constructor → ℕ
 level_of_second n f c = length f.parameters + length (constructor_shape n f c).arguments + length (family_shape n f).indices + 1
 

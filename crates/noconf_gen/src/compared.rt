@@ -12,7 +12,7 @@ use core_terms::{Items, Run, Stop, Tele, Term, applied_to_run, place, variable};
 use std::alloc::Global;
 use tele_eq::Item;
 
-/// Arguments or indices, the first of which stands over `size` variables of the family's record, behind the items that are made.
+/// Arguments or indices, the first of which stands over `size` variables of the family's record, after the items that are made.
 #[tactic(auto, using(tele_eq::proofs::Growing::growing))]
 fn placed_items(
     alloc: Global,
@@ -76,7 +76,7 @@ pub fn member_items(alloc: Global, fam: u32, f: &Family, depth: u32) -> Result<I
     Ok(items)
 }
 
-/// The first `count` terms of a record, at a depth, behind those that are made.
+/// The first `count` terms of a record, at a depth, after those that are made.
 #[tactic(auto, using(tele_eq::proofs::Growing::growing))]
 fn places(
     alloc: Global,
@@ -138,7 +138,7 @@ pub fn constructed(
     Ok(terms)
 }
 
-/// The variables with `count` levels from `start` on, at a depth, behind those that are made.
+/// The variables with `count` levels from `start` on, at a depth, after those that are made.
 #[tactic(auto, using(tele_eq::proofs::Growing::growing))]
 fn run_from(depth: u32, start: u32, count: u32, mut made: Tele) -> Result<Tele, Stop>
     requires { start + count ≤ 1000000 }

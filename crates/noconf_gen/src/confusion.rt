@@ -171,7 +171,7 @@ fn injection_type(
     Term::new_pi(alloc, motive, end)
 }
 
-/// What equations of the constructor, at arguments behind the parameters, and constructor `at`, at arguments whose levels begin
+/// What equations of the constructor, at arguments after the parameters, and constructor `at`, at arguments whose levels begin
 /// with `second`, come to, at a depth.
 pub fn confusion_type(
     alloc: Global,

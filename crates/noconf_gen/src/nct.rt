@@ -61,7 +61,7 @@ fn nct_of_subject(alloc: Global, base: u32, subject: Subject, m: u8) -> Result<D
     drafted(name, base, names, ty, body)
 }
 
-/// The type: behind the parameters, the arguments and a member, a type over the equations.
+/// The type: after the parameters, the arguments and a member, a type over the equations.
 fn nct_type(alloc: Global, subject: Subject, j: u8) -> Result<Term, Stop>
     requires { IsFitSubject subject }
     ensures { Gives tree_of result (Ok (spec.nct_type subject.entry.fam (shape_of subject.entry.family.now) subject.entry.number (constructor_shape subject.entry.con.now) j)) }

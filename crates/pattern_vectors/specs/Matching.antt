@@ -20,14 +20,14 @@ abbrev pub is_there : Option Built → Bool
 is_there None = false
 is_there (Some b) = true
 
--- constructor `number` of family n, whose arguments behind the parameters match
+-- constructor `number` of family n, whose arguments after the parameters match
 abbrev pub matches_built : (n number : ℕ) → (match : List Term → Bool) → Option Built → Bool
 matches_built n number match None = false
 matches_built n number match (Some b) = is_constructor n number b && match b.arguments
 
 abbrev mutual
   -- A variable, a wildcard and a forced term match every term. A constructor matches itself with all its arguments, where those
-  -- behind the parameters match. The absurd pattern matches no term.
+  -- after the parameters match. The absurd pattern matches no term.
   pub matches : Signature → Pat → Term → Bool
   matches S Bind t = true
   matches S Wild t = true

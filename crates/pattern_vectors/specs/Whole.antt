@@ -1,4 +1,4 @@
--- What the code finds of a constructor with all its arguments: its numbers, and how many arguments it has behind the parameters.
+-- What the code finds of a constructor with all its arguments: its numbers, and how many arguments it has after the parameters.
 use Rattle.std.specs.Prelude.{ℕ, ◌-◌, Bool, false, ◌==◌, ◌&&◌, Option, Some, None, List, length, drop}
 use Rattle.unification.specs.Built.{Built}
 use Rattle.pattern_vectors.specs.declared.matching.Found as code

@@ -11,7 +11,7 @@ use core_sig::Signature;
 use core_terms::{Items, Pat, Tele, Term, head};
 use kernel_reduce::family;
 
-/// A constructor, with how many arguments it has behind the parameters.
+/// A constructor, with how many arguments it has after the parameters.
 #[derive(Clone, Copy)]
 pub(crate) struct Found {
     pub(crate) family: u32,
@@ -49,7 +49,7 @@ pub(crate) fn find_constructor(sig: &Signature, t: &Term) -> Option<Found>
     })
 }
 
-/// Whether the term is constructor `number` of the family, with `count` arguments behind the parameters.
+/// Whether the term is constructor `number` of the family, with `count` arguments after the parameters.
 fn is_whole(sig: &Signature, n: u32, number: u32, count: usize, t: &Term) -> bool
     ensures { result ≡ is_whole_of n number count (built_of sig.now (tree_of t.now)) }
 {

@@ -25,7 +25,7 @@ fn meet_pattern(alloc: Global, a: &Pat, b: &Pat) -> Result<Option<Pat>, Stop>
     }
 }
 
-/// Column by column, behind those that are made.
+/// Column by column, after those that are made.
 #[cycle(meeting)]
 fn meet_columns(
     alloc: Global,

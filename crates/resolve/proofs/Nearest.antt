@@ -94,7 +94,7 @@ variable-near name (x ∷ near) far n is = go (has_name name x) (variable_of nam
     go false (Some k) inside e = ap (option_map (λ k. k + 1)) (inside k refl) ∙ e
     go false None inside e = absurd (none-some n e)
 
--- a variable behind them
+-- a variable after them
 pub variable-far : (name : List ℕ) (near far : Scope) → variable_of name near ≡ None → variable_of name (near ++ far) ≡ option_map (λ n. n + length near) (variable_of name far)
 variable-far name [] far is = zeroed (variable_of name far)
   where
@@ -114,7 +114,7 @@ variable-far name (x ∷ near) far is = go (has_name name x) (variable_of name n
     go false (Some k) inside e = absurd (none-some (k + 1) (sym e))
     go false None inside e = ap (option_map (λ k. k + 1)) (inside refl) ∙ more (variable_of name far)
 
--- what is found behind them, counted from the nearest
+-- what is found after them, counted from the nearest
 pub far_found : (name : List ℕ) (near far : Scope) (found : Option ℕ) (n : ℕ) → variable_of name near ≡ None → ◌≡◌ {A = Result (Option ℕ) ResolveStop} (Ok found) (Ok (variable_of name far)) → n ≡ length near
     → option_map (λ k. k + n) found ≡ variable_of name (near ++ far)
 far_found name near far found n none is count =

@@ -20,7 +20,7 @@ use Rattle.resolve.proofs.ScopedTerms.{term_resolved}
 pub length_scope : (names : List (List ℕ)) → length (scope_of names) ≡ length names
 length_scope names = length-map (reverse names) (λ x. Some x) ∙ length-reverse names
 
--- types of parameters behind n variables
+-- types of parameters after n variables
 pub record AreParameters (S : Signature) (n : ℕ) (count : ℕ) (types : List Term) : Type 0 where
   pub scoped : IsScopedTelescope S n types
   pub low : All (λ t. height t ≤ 2000) types

@@ -20,7 +20,7 @@ declared S before x = if is_some (find S x.text) || list_any (bytes_eq x.text) b
 abbrev pub names_of : List surf.Typed → List (List ℕ)
 names_of list = map (λ p. p.name.text) list
 
--- the types of parameters behind those named `before`, from the outermost on
+-- the types of parameters after those named `before`, from the outermost on
 abbrev pub parameters : Known → List (List ℕ) → List surf.Typed → Result (List tree.Term) ResolveStop
 parameters known before [] = Ok []
 parameters known before (p ∷ params) =

@@ -33,7 +33,7 @@ abbrev mutual
       and_then (patterns S known (scope_of variables) [] (surf.pats pats)) (λ qs.
       and_then (right_side S known own (scope_of variables) n right) (λ r. Ok (core.Is qs (length variables) r))))
 
-  -- What stands behind n patterns. The clauses of a `with` have one pattern more, and variables of their own.
+  -- What comes after n patterns. The clauses of a `with` have one pattern more, and variables of their own.
   pub right_side : Signature → Known → List ℕ → Scope → ℕ → surf.Right → Result core.Right ResolveStop
   right_side S known own scope n (surf.Side t) = and_then (resolve known t scope) (λ t. Ok (core.Side t))
   right_side S known own scope n (surf.With t cs) =

@@ -16,7 +16,7 @@ use Rattle.core_terms.specs.Answers.{and_then}
 use Rattle.resolve.specs.Names.{Known, Scope}
 use Rattle.resolve.specs.Resolving.{resolve}
 
--- a constructor: the entry number of its family, its own number, and how many arguments it has behind the parameters
+-- a constructor: the entry number of its family, its own number, and how many arguments it has after the parameters
 pub record Constructor : Type 0 where
   pub family : ℕ
   pub number : ℕ
@@ -70,7 +70,7 @@ headed (Some c) args = core.Con c.family c.number args
 headed None args = core.Bind
 
 abbrev mutual
-  -- A pattern behind the variables `before`. The scope has all the variables of its clause, for the terms behind dots.
+  -- A pattern after the variables `before`. The scope has all the variables of its clause, for the terms after dots.
   pub pattern : Signature → Known → Scope → List (List ℕ) → surf.Pat → Result core.Pat ResolveStop
   pattern S known scope before (surf.Name x) =
       and_then (head 0 before x (constructor S x.text)) (λ c. Ok (headed c core.nil))

@@ -80,7 +80,7 @@ impl Binders {
     }
 }
 
-/// Adds a binder behind the others. Where it has a name, it becomes the last binder of the name.
+/// Adds a binder after the others. Where it has a name, it becomes the last binder of the name.
 fn add(
     alloc: Global,
     names: &mut Vec<Option<Name>>,
@@ -102,7 +102,7 @@ fn add(
     }
 }
 
-/// Adds a name behind the others, whose last binder it becomes.
+/// Adds a name after the others, whose last binder it becomes.
 fn add_named(
     alloc: Global,
     names: &mut Vec<Option<Name>>,

@@ -164,7 +164,7 @@ fn clause_over(
     Ok(Clause { pats, binds, right })
 }
 
-/// What stands behind so many patterns.
+/// What comes after so many patterns.
 #[cycle(clause)]
 fn right_side(
     alloc: Global,

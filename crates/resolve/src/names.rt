@@ -8,7 +8,7 @@ use core_terms::{Name, copy_name};
 use std::alloc::Global;
 use surface_syntax::Word;
 
-/// The name that is declared behind the names `before`, where it is new.
+/// The name that is declared after the names `before`, where it is new.
 pub(crate) fn declare(
     alloc: Global,
     sig: &Signature,

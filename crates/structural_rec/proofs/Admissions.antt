@@ -20,7 +20,7 @@ admission-whole tele j n spine f counted = by (length spine == length f.paramete
     by true e = refl
     by false e = absurd (false≢true (sym e ∙ (Decides-eqb (length spine) (length f.parameters + length f.indices)).1 counted))
 
--- the spine of a type that is a family at all its arguments, split behind the parameters
+-- the spine of a type that is a family at all its arguments, split after the parameters
 pub admission-split : (tele : List Term) (j n count : ℕ) (spine : List code.Term) (f : CodeFamily) → count ≡ length f.params
     → length spine ≡ count + length f.indices
     → admission_with tele j n (tele_of spine) (family_of f)

@@ -129,7 +129,7 @@ none-first S own count j a (u ∷ uses) h =
     ap (λ o. option_or o (first_failing S own count j a uses)) (none-in S own count j a u (All-head (Fit S own count j a) u uses h))
     ∙ none-first S own count j a uses (All-tail (Fit S own count j a) u uses h)
 
--- the row of one right side or scrutinee, behind others that fit
+-- the row of one right side or scrutinee, after others that fit
 row-of : (S : Signature) (own count j : ℕ) (a : Admission) (before : List Use) (u : Use) (behind : List Use) (row : Failing) → AllFit S own count j a before
     → FailsIn S own count j a u row → IsFirstFailing S own count j a (before ++ u ∷ behind) row
 row-of S own count j a before u behind row earlier f = record {
@@ -147,7 +147,7 @@ row-of S own count j a before u behind row earlier f = record {
   form = f.form;
 }
 
--- and behind one more
+-- and after one more
 row-later : (S : Signature) (own count j : ℕ) (a : Admission) (u : Use) (uses : List Use) (row : Failing) → Fit S own count j a u
     → IsFirstFailing S own count j a uses row → IsFirstFailing S own count j a (u ∷ uses) row
 row-later S own count j a u uses row fit f = record {

@@ -72,7 +72,7 @@ with-next : (tele : List Term) (j : ℕ) (ps : List Term) (i : ℕ) (found : Lis
     → is_among i (with_fixed tele j ps i found) ≡ true
 with-next tele j ps i found h = ap (λ b. is_among i (cond b (i ∷ found) found)) h ∙ among-first i found
 
--- what is fixed at `at` is mentioned, where all fixed positions behind are found
+-- what is fixed at `at` is mentioned, where all fixed positions after are found
 fixed-next : (tele : List Term) (j : ℕ) (ps : List Term) (i : ℕ) (found : List ℕ) → ((k : ℕ) → i < k → IsFixed tele j ps k → is_among k found ≡ true)
     → IsFixed tele j ps i → is_next tele j ps i found ≡ true
 fixed-next tele j ps i found known (parameter h) = or_left (have_position j i ps) (list_any (λ k. mentions tele k i) found) h

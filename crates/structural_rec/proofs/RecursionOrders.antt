@@ -62,7 +62,7 @@ among-all P (x ∷ xs) h i among = elim (or-tells (x == i) (is_among i xs) among
   | inr later ↦ among-all P xs (All-tail P x xs h) i later
 ]
 
--- different ones behind different ones that are not among them
+-- different ones after different ones that are not among them
 once-append : (xs ys : List ℕ) → AllPairs (λ i k. i ≢ k) xs → AllPairs (λ i k. i ≢ k) ys → ((i : ℕ) → is_among i ys ≡ true → is_among i xs ≡ false)
     → AllPairs (λ i k. i ≢ k) (xs ++ ys)
 once-append xs ys first second apart =

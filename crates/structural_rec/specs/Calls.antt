@@ -11,12 +11,12 @@ has_constant own (Let a t b) = has_constant own a || (has_constant own t || has_
 has_constant own (Const c) = c == own
 has_constant own _ = false
 
--- the constant with all the arguments that stand behind it, none or more, and how many binders stand around them
+-- the constant with all the arguments that come after it, none or more, and how many binders stand around them
 pub record Call : Type 0 where
   pub under : ℕ
   pub term : Term
 
--- the calls in t, of which `whole` is the application to what stands behind it: a call before those in its arguments, and those
+-- the calls in t, of which `whole` is the application to what comes after it: a call before those in its arguments, and those
 -- from the left
 abbrev pub calls_in : (own under : ℕ) (whole : Term) → Term → List Call
 calls_in own under whole (Pi a b) = calls_in own under a a ++ calls_in own (under + 1) b b

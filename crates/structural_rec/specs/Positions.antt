@@ -32,7 +32,7 @@ pub data IsFixed (tele : List Term) (j : ℕ) (ps : List Term) : ℕ → Type 0 
   parameter : {i : ℕ} → have_position j i ps ≡ true → IsFixed tele j ps i
   behind : {k i : ℕ} → IsFixed tele j ps k → mentions tele k i ≡ true → IsFixed tele j ps i
 
--- position i before the fixed positions that are found behind it, where the parameters or the types of these mention it
+-- position i before the fixed positions that are found after it, where the parameters or the types of these mention it
 abbrev pub with_fixed : (tele : List Term) (j : ℕ) (ps : List Term) (i : ℕ) (found : List ℕ) → List ℕ
 with_fixed tele j ps i found = cond (have_position j i ps || list_any (λ k. mentions tele k i) found) (i ∷ found) found
 

@@ -32,7 +32,7 @@ fn unless_fits(
     Ok(Some(copy_whole(alloc, call)?))
 }
 
-/// The first call in `t` that does not fit; `whole` is the application of `t` to what stands behind it.
+/// The first call in `t` that does not fit; `whole` is the application of `t` to what comes after it.
 #[cycle(failing_call)]
 #[tactic(auto, using(crate::proofs::FailingCalls::failing_append, crate::proofs::FailingCalls::or_assoc))]
 fn failing_call(

@@ -31,7 +31,7 @@ fn recursive_positions(alloc: Global, j: u32, a: &Admission) -> Result<Vec<u32>,
     Ok(positions)
 }
 
-/// Positions with those of `count` from `from` on behind them that are not among the first.
+/// Positions with those of `count` from `from` on after them that are not among the first.
 fn with_others(positions: Vec<u32>, first: &[u32], from: u32, count: u32) -> Result<Vec<u32>, Stop>
     requires { from + count < 2 ^ 32 }
     ensures { Gives (λ v. v.items) result (Ok (positions.items ++ flat_map (spec.unless_among first.now) (range_with_len from count))) }
@@ -43,7 +43,7 @@ fn with_others(positions: Vec<u32>, first: &[u32], from: u32, count: u32) -> Res
     with_others(positions, first, from + 1, count - 1)
 }
 
-/// Positions with one more behind them, unless it is among the first.
+/// Positions with one more after them, unless it is among the first.
 fn unless_among(mut positions: Vec<u32>, first: &[u32], i: u32) -> Result<Vec<u32>, Stop>
     ensures { Gives (λ v. v.items) result (Ok (positions.items ++ spec.unless_among first.now i)) }
 {

@@ -65,7 +65,7 @@ fn one_mentions(tele: &[Term], i: u32, positions: &[u32]) -> bool
     }
 }
 
-/// Position `i` before the fixed positions that are found behind it, where the parameters or the types of these mention it.
+/// Position `i` before the fixed positions that are found after it, where the parameters or the types of these mention it.
 fn with_fixed(
     tele: &[Term],
     j: u32,

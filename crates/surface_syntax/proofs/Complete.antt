@@ -115,7 +115,7 @@ module _ (allows : ℕ → ℕ → Bool) where
   mutual_led (r.next s) = r.goes (r.in_mutual (r.tag s))
   mutual_led (r.last file) = r.gives (r.start file)
 
-  -- behind clauses
+  -- after clauses
   closed_led : {k : m.Clauses_in} {ts : List Lexeme} {ds : List tree.Decl} → r.RestClosed allows k ts ds → r.Led allows (m.closed k) ts ds
   closed_led (r.fun file) = r.gives (r.start file)
   closed_led (r.inspect more) = r.goes (r.in_clause (r.end more))
@@ -124,7 +124,7 @@ module _ (allows : ℕ → ℕ → Bool) where
   clause_led (r.more more) = r.goes (r.in_clause (r.due more))
   clause_led (r.last more) = closed_led more
 
-  -- behind terms
+  -- after terms
   part_led : {p : m.Part} {t : tree.Surf} {y : Lexeme} {ts : List Lexeme} {ds : List tree.Decl} → r.RestPart allows p t (y ∷ ts) ds → r.Led allows (m.part_end t p y) ts ds
   part_led (r.def_type t file) = r.goes (r.in_term (r.due (r.term t (r.whole (r.def_body file)))))
   part_led (r.def_body file) = starts_some _ (begins file)
@@ -245,7 +245,7 @@ module _ (allows : ℕ → ℕ → Bool) where
   no_binders (g.one b) = no_binder b
   no_binders (g.more b bs) = no_binder b
 
-  -- behind `(` at the front of a term
+  -- after `(` at the front of a term
   plain_term : {d : ℕ} {k : m.Term_in} {t : tree.Surf} {v : Word} {ts us : List Lexeme} {ds : List tree.Decl} → g.Term allows (d + 1) (x.Plain v ∷ ts) us t → r.RestTerm allows (m.Parens d None k) t us ds →
       r.RestIn allows (m.Names d (length (x.Plain v ∷ ts)) v [] k) ts ds
   plain_term (g.pi may bs b) more = let e = no_binders bs in cc
@@ -267,7 +267,7 @@ module _ (allows : ℕ → ℕ → Bool) where
   opened_names_led (r.plain more) = r.goes (r.in_term (r.names_binder more))
   opened_names_led (r.blank more) = r.goes (r.in_term (r.names more))
 
-  -- behind `(` and plain names at the front of a term
+  -- after `(` and plain names at the front of a term
   pub some_names_more : (ws : List Word) (v : Word) → m.some_names (ws ++ v ∷ []) ≡ m.some_names ws ++ Some v ∷ []
   some_names_more [] v = refl
   some_names_more (w' ∷ ws) v = ap (λ (l : List (Option Word)). Some w' ∷ l) (some_names_more ws v)

@@ -64,7 +64,7 @@ module _ (allows : ℕ → ℕ → Bool) where
   tags_read (r.last file) = read_tags g.last file refl
   tags_read {ps} {ms} {f} {t} {acc} (r.more {w = v} rest) = more_tags ps ms f t v acc (tags_read rest)
 
-  -- the members behind the first two, or none, and then the tags
+  -- the members after the first two, or none, and then the tags
   data Members_read : List tree.Typed → List tree.Member → List Lexeme → List tree.Decl → Type 0 where
     read_tail : {ps : List tree.Typed} {ms : List tree.Member} {f t : Word} {ts : List Lexeme} {ds : List tree.Decl} → Tags_read ps ms f t [] ts ds → Members_read ps ms (x.In ∷ x.Plain f ∷ x.Plain t ∷ x.OpenBrace ∷ ts) ds
     read_members : {ps : List tree.Typed} {ms ns : List tree.Member} {f t : Word} {ts ys : List Lexeme} {ds : List tree.Decl} → g.Members allows ts (x.In ∷ x.Plain f ∷ x.Plain t ∷ x.OpenBrace ∷ ys) ns →

@@ -109,7 +109,7 @@ due_at_the_end = refl
 due_at_a_colon : run two Start (opened ++ x.Colon ∷ []) ≡ Deep 1
 due_at_a_colon = refl
 
--- `x y =` can't be a binder, so a term begins at `x`; `x :` is one, and its type is due behind that; `_` begins a binder
+-- `x y =` can't be a binder, so a term begins at `x`; `x :` is one, and its type is due after that; `_` begins a binder
 names_of_a_term : run two Start (opened ++ x.Plain w ∷ x.Plain w ∷ x.Equals ∷ []) ≡ Deep 3
 names_of_a_term = refl
 

@@ -110,7 +110,7 @@ past_next s (y ∷ back) zs out still e (first {more = ts}) =
     found_step every (placed (suc (length ts)) s) y ts (e every (suc (length ts))) ∙ past_found out ts j still (omega arith) ∙
     sym (found_step (past j) (placed (suc (length ts)) s) y ts (e (past j) (suc (length ts))))
 
--- a text that has something too deep at a place isn't read where what begins behind that alone is allowed
+-- a text that has something too deep at a place isn't read where what begins after that alone is allowed
 not_past : {front : List Lexeme} {s : m.State} (zs : List Lexeme) (j : ℕ) → Passes m.Start front s → IsTooDeepAt (front ++ zs) j → result (past j) (placed (length zs) s) zs ≡ Read [] → ⊥
 not_past {front} zs j passes at q = read (result_file (past j) (front ++ zs) (way_text (past j) (past_covers j) zs passes ∙ q))
   where

@@ -97,7 +97,7 @@ above_length : (ws : List Word) (zs : List Lexeme) → above (length zs) ws ≡ 
 above_length [] zs = refl
 above_length (w ∷ ws) zs = ap suc (above_length ws zs)
 
--- names behind `(` stand behind a state in which a term or a binder is awaited
+-- names after `(` come after a state in which a term or a binder is awaited
 data Origin (s : m.State) (ts : List Lexeme) (d : ℕ) (w : Word) (ws : List Word) (k : m.Term_in) : Type 0 where
   inside : (at : ℕ) (vs us : List Word) → s ≡ m.In_term (m.Names d at w vs k) → ws ≡ vs ++ us → ts ≡ plains us → Origin s ts d w ws k
   behind : (front : List Lexeme) → ts ≡ front ++ x.Plain w ∷ plains ws → Passes s front (m.In_term (m.Opened d k)) → Origin s ts d w ws k

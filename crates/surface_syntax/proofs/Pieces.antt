@@ -1,4 +1,4 @@
--- What is left to read in a state, as whole productions of the grammar and what stands behind them.
+-- What is left to read in a state, as whole productions of the grammar and what comes after them.
 use Rattle.std.proofs.Common.{◌≡◌, ℕ, ◌+◌, Bool, true, false, List, [], ◌∷◌, ◌++◌, length, refl, sym, subst, ◌∙◌, append_assoc, arith}
 use Rattle.std.proofs.lemmas.List.{append-nil}
 use Rattle.std.specs.Prelude.{Option, Some, None}
@@ -57,7 +57,7 @@ module _ (allows : ℕ → ℕ → Bool) where
   and_blank none = g.blank
   and_blank (some names) = g.blanks names
 
-  -- names behind the `(` of a binder, with all binders from there on
+  -- names after the `(` of a binder, with all binders from there on
   pub data Names_read : ℕ → m.Quantifier → List tree.Binder → List (Option Word) → m.Term_in → List Lexeme → List tree.Decl → Type 0 where
     read : {d : ℕ} {q : m.Quantifier} {acc : List tree.Binder} {ns ms : List (Option Word)} {a : tree.Surf} {k : m.Term_in} {ts us vs : List Lexeme} {ds : List tree.Decl} →
         Some_names ts (x.Colon ∷ us) ms → (ns ++ ms ≡ [] → ⊥) → g.Term allows (d + 1) us (x.Close ∷ vs) a → Binders_read d q (acc ++ tree.Group (ns ++ ms) a ∷ []) k vs ds → Names_read d q acc ns k ts ds
@@ -74,7 +74,7 @@ module _ (allows : ℕ → ℕ → Bool) where
       read (some (and_blank names)) (λ e. ne (append_assoc ns (None ∷ []) ms ∙ e)) t
       (subst (λ (l : List (Option Word)). Binders_read d q (acc ++ tree.Group l a ∷ []) k vs ds) (append_assoc ns (None ∷ []) ms) behind)
 
-  -- a whole binder with the binders behind it
+  -- a whole binder with the binders after it
   binder_read : (d : ℕ) (q : m.Quantifier) (acc : List tree.Binder) (b : tree.Binder) (k : m.Term_in) {ts us : List Lexeme} {ds : List tree.Decl} → g.Binder allows d ts us b → Binders_read d q (acc ++ b ∷ []) k us ds → Binders_read d q acc k ts ds
   binder_read d q acc b k binder (into t rest) = more (g.one binder) t rest
   binder_read d q acc b k binder (more {bs = bs} {t = t'} {vs = vs} {ds = ds} binders t rest) =

@@ -7,7 +7,7 @@ use Rattle.unicode_ident.specs.Ident.{is_xid_start}
 use Rattle.unicode_ident.proofs.IdentLemmas.{is_xid_start-ascii, is_xid_continue-ascii}
 use Rattle.surface_syntax.specs.Spelling.{is_blank, is_digit, is_continuing, is_mark}
 
--- the characters that pass, and what is behind them
+-- the characters that pass, and what is after them
 pub record Span (p : ℕ → Bool) (cs : List ℕ) : Type 0 where
   pub front : List ℕ
   pub rest : List ℕ

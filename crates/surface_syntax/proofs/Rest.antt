@@ -10,14 +10,14 @@ use Rattle.surface_syntax.specs.declared.lexeme.Lexeme.{Lexeme}
 use Rattle.surface_syntax.specs.declared.lexeme.Lexeme.TheVariants as x
 
 module _ (allows : ℕ → ℕ → Bool) where
-  -- behind tags
+  -- after tags
   pub data RestTags : List tree.Typed → List tree.Member → Word → Word → List Word → List Lexeme → List tree.Decl → Type 0 where
     last : {ps : List tree.Typed} {ms : List tree.Member} {f t w : Word} {us : List Word} {ts : List Lexeme} {ds : List tree.Decl} →
         g.File allows ts ds → RestTags ps ms f t us (x.Plain w ∷ x.CloseBrace ∷ ts) (tree.Mutual ps ms f t (us ++ w ∷ []) ∷ ds)
     more : {ps : List tree.Typed} {ms : List tree.Member} {f t w : Word} {us : List Word} {ts : List Lexeme} {ds : List tree.Decl} →
         RestTags ps ms f t (us ++ w ∷ []) ts ds → RestTags ps ms f t us (x.Plain w ∷ x.Semicolon ∷ ts) ds
 
-  -- behind two members at least
+  -- after two members at least
   pub data RestMembers : List tree.Typed → List tree.Member → List Lexeme → List tree.Decl → Type 0 where
     packed : {ps : List tree.Typed} {ms : List tree.Member} {f t : Word} {ts : List Lexeme} {ds : List tree.Decl} →
         RestTags ps ms f t [] ts ds → RestMembers ps ms (x.In ∷ x.Plain f ∷ x.Plain t ∷ x.OpenBrace ∷ ts) ds
@@ -25,7 +25,7 @@ module _ (allows : ℕ → ℕ → Bool) where
         g.Term allows 0 ts (x.OpenBrace ∷ us) a → g.Cons allows us vs cs → RestMembers ps (ms ++ record { name = w; ty = a; cons = cs } ∷ []) vs ds →
         RestMembers ps ms (x.With ∷ x.Plain w ∷ x.Colon ∷ ts) ds
 
-  -- behind a member
+  -- after a member
   pub data RestMember : List tree.Typed → List tree.Member → tree.Member → List Lexeme → List tree.Decl → Type 0 where
     only : {ps : List tree.Typed} {m : tree.Member} {ts : List Lexeme} {ds : List tree.Decl} →
         g.File allows ts ds → RestMember ps [] m ts (tree.Data m.name ps m.ty m.cons ∷ ds)
@@ -42,19 +42,19 @@ module _ (allows : ℕ → ℕ → Bool) where
     more : {f : m.Families} {n : tree.Member} {c : Word} {ts us : List Lexeme} {a : tree.Surf} {ds : List tree.Decl} →
         g.Term allows 0 ts (x.Semicolon ∷ us) a → RestCons f (m.with_con n c a) us ds → RestCons f n (x.Plain c ∷ x.Colon ∷ ts) ds
 
-  -- behind the `{` of constructors
+  -- after the `{` of constructors
   pub data RestFamily : m.Families → tree.Member → List Lexeme → List tree.Decl → Type 0 where
     none : {f : m.Families} {n : tree.Member} {ts : List Lexeme} {ds : List tree.Decl} → RestMember f.params f.members n ts ds → RestFamily f n (x.CloseBrace ∷ ts) ds
     some : {f : m.Families} {n : tree.Member} {ts : List Lexeme} {ds : List tree.Decl} → RestCons f n ts ds → RestFamily f n ts ds
 
-  -- behind parameters
+  -- after parameters
   pub data RestParams : Word → List tree.Typed → List Lexeme → List tree.Decl → Type 0 where
     param : {w p : Word} {ps : List tree.Typed} {ts us : List Lexeme} {a : tree.Surf} {ds : List tree.Decl} →
         g.Term allows 0 ts (x.Close ∷ us) a → RestParams w (ps ++ record { name = p; ty = a } ∷ []) us ds → RestParams w ps (x.Open ∷ x.Plain p ∷ x.Colon ∷ ts) ds
     end : {w : Word} {ps : List tree.Typed} {ts us : List Lexeme} {a : tree.Surf} {ds : List tree.Decl} →
         g.Term allows 0 ts (x.OpenBrace ∷ us) a → RestFamily (record { params = ps; members = [] }) (record { name = w; ty = a; cons = [] }) us ds → RestParams w ps (x.Colon ∷ ts) ds
 
-  -- behind a clause of depth `d`; behind the `}` of clauses; where a clause is due; behind the `{` of clauses
+  -- after a clause of depth `d`; after the `}` of clauses; where a clause is due; after the `{` of clauses
   mutual
     pub data RestClause : ℕ → tree.Clause → m.Clauses_in → List Lexeme → List tree.Decl → Type 0 where
       more : {d : ℕ} {c : tree.Clause} {k : m.Clauses_in} {ts : List Lexeme} {ds : List tree.Decl} → RestDue d (m.with_clause c k) ts ds → RestClause d c k (x.Semicolon ∷ ts) ds
@@ -88,7 +88,7 @@ module _ (allows : ℕ → ℕ → Bool) where
     absurd : {d : ℕ} {h : m.Headed} {k : m.Clauses_in} {ts : List Lexeme} {ds : List tree.Decl} →
         RestClause h.depth (m.clause h tree.Absurd) k ts ds → RestPats d true (m.Behind h k) ts ds
 
-  -- behind a part of a declaration
+  -- after a part of a declaration
   pub data RestPart : m.Part → tree.Surf → List Lexeme → List tree.Decl → Type 0 where
     def_type : {w : Word} {a b : tree.Surf} {ts us : List Lexeme} {ds : List tree.Decl} →
         g.Term allows 0 ts us b → g.File allows us ds → RestPart (m.DefType w) a (x.Equals ∷ ts) (tree.Def w a b ∷ ds)
@@ -103,7 +103,7 @@ module _ (allows : ℕ → ℕ → Bool) where
         RestMember f.params f.members (m.with_con n c a) ts ds → RestPart (m.ConType f n c) a (x.CloseBrace ∷ ts) ds
     fun : {w : Word} {a : tree.Surf} {ts : List Lexeme} {ds : List tree.Decl} → RestClauses 0 (m.Fun w a []) ts ds → RestPart (m.FunType w) a (x.OpenBrace ∷ ts) ds
 
-  -- behind a whole term; behind the atoms of an application; behind a binder; behind names of a binder
+  -- after a whole term; after the atoms of an application; after a binder; after names of a binder
   mutual
     pub data RestTerm : m.Term_in → tree.Surf → List Lexeme → List tree.Decl → Type 0 where
       whole : {p : m.Part} {t : tree.Surf} {ts : List Lexeme} {ds : List tree.Decl} → RestPart p t ts ds → RestTerm (m.Whole p) t ts ds
@@ -223,7 +223,7 @@ module _ (allows : ℕ → ℕ → Bool) where
     in_term : {s : m.Term_state} {ts : List Lexeme} {ds : List tree.Decl} → RestIn s ts ds → Rest (m.In_term s) ts ds
     in_clause : {s : m.Clause_state} {ts : List Lexeme} {ds : List tree.Decl} → RestAmong s ts ds → Rest (m.In_clause s) ts ds
 
-  -- behind a lexeme: perhaps a whole declaration, and what is left then
+  -- after a lexeme: perhaps a whole declaration, and what is left then
   pub data Led : m.Outcome → List Lexeme → List tree.Decl → Type 0 where
     goes : {s : m.State} {ts : List Lexeme} {ds : List tree.Decl} → Rest s ts ds → Led (m.Goes None s) ts ds
     gives : {d : tree.Decl} {s : m.State} {ts : List Lexeme} {ds : List tree.Decl} → Rest s ts ds → Led (m.Goes (Some d) s) ts (d ∷ ds)

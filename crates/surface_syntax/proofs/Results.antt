@@ -59,7 +59,7 @@ found_step allows s y ts e = ap (λ (o : m.Outcome). shape (onward (suc (length 
 pub ended_step : (allows : Allows) (s : m.State) {out : m.Outcome} → m.step allows 0 s x.End ≡ out → result allows s [] ≡ ended out
 ended_step allows s e = ap (λ (o : m.Outcome). shape (finish o)) e ∙ shape_finish _
 
--- the state behind a still outcome
+-- the state after a still outcome
 pub still_placed : (n : ℕ) (s : m.State) → IsSteady s → placed n s ≡ s
 still_placed n m.Start h = refl
 still_placed n (m.In_def s) h = refl
@@ -94,7 +94,7 @@ still_begun n (m.In_term (m.LetName d k)) h = refl
 still_begun n (m.In_term (m.LetColon d w k)) h = refl
 still_begun n (m.In_term (m.Atoms d s k)) h = refl
 
--- behind a name more
+-- after a name more
 name_more : (n : ℕ) (ws : List Word) (u : Word) → above (suc n) ws ≡ above n (ws ++ u ∷ [])
 name_more n [] u = refl
 name_more n (w ∷ ws) u = ap suc (name_more n ws u)

@@ -132,7 +132,7 @@ module _ (allows : ℕ → ℕ → Bool) where
   mutual_sound (m.TagNext f v t us) x.CloseBrace (r.gives (r.start file)) = r.last file
   mutual_sound (m.TagNext f v t us) _ l = elim l [ ]
 
-  -- behind clauses and terms
+  -- after clauses and terms
   closed_sound : (k : m.Clauses_in) {ts : List Lexeme} {ds : List tree.Decl} → r.Led allows (m.closed k) ts ds → r.RestClosed allows k ts ds
   closed_sound (m.Fun v a cs) (r.gives (r.start file)) = r.fun file
   closed_sound (m.Inspect h t cs k) (r.goes (r.in_clause (r.end s))) = r.inspect s

@@ -45,7 +45,7 @@ number_parts_at (c ∷ cs) h = by (c == 48) refl
     by true e = number_parts (48 ∷ []) cs (ap (λ (i : ℕ). i ∷ cs) (eqb-true c 48 e)) naught (if_true _ _ e)
     by false e = digits_parts c cs e h (pre.span is_digit (c ∷ cs))
 
--- behind a name
+-- after a name
 data Tail_parts (cs : List ℕ) : Type 0 where
   tail_parts : (ds last : List ℕ) → cs ≡ 46 ∷ (ds ++ last) → IsNumber ds → tail_len cs ≡ suc (length ds) → Tail_parts cs
 

@@ -1,4 +1,4 @@
--- The grammar, as relations between the lexemes that are read, those that are left behind them, and a tree.
+-- The grammar, as relations between the lexemes that are read, those that are left after them, and a tree.
 use Rattle.std.specs.Prelude.{◌≡◌, ℕ, ◌+◌, Bool, true, List, [], ◌∷◌, length, Option, Some, None, nat_lt}
 use Rattle.surface_syntax.specs.Trees as tree
 use Rattle.surface_syntax.specs.declared.tree.Word.{Word}
@@ -88,7 +88,7 @@ module _ (allows : ℕ → ℕ → Bool) where
       absurd : {d : ℕ} {f : Word} {ts rest : List Lexeme} {ps : List tree.Pat} → May d (x.Plain f ∷ ts) →
           Pats (d + 1) ts rest ps 1 → Clause d (x.Plain f ∷ ts) rest (tree.Is f ps tree.Absurd)
 
-    -- clauses behind `{` with the `}` that ends them
+    -- clauses after `{` with the `}` that ends them
     pub data Clauses : ℕ → List Lexeme → List Lexeme → List tree.Clause → Type 0 where
       none : {d : ℕ} {ts : List Lexeme} → Clauses d (x.CloseBrace ∷ ts) ts []
       some : {d : ℕ} {ts rest : List Lexeme} {cs : List tree.Clause} → Listed d ts rest cs → Clauses d ts rest cs
@@ -110,12 +110,12 @@ module _ (allows : ℕ → ℕ → Bool) where
     more : {c : Word} {ts us rest : List Lexeme} {a : tree.Surf} {cs : List tree.Typed} → Term 0 ts (x.Semicolon ∷ us) a → Listed_cons us rest cs →
         Listed_cons (x.Plain c ∷ x.Colon ∷ ts) rest (record { name = c; ty = a } ∷ cs)
 
-  -- constructors behind `{` with the `}` that ends them
+  -- constructors after `{` with the `}` that ends them
   pub data Cons : List Lexeme → List Lexeme → List tree.Typed → Type 0 where
     none : {ts : List Lexeme} → Cons (x.CloseBrace ∷ ts) ts []
     some : {ts rest : List Lexeme} {cs : List tree.Typed} → Listed_cons ts rest cs → Cons ts rest cs
 
-  -- the members behind the first, one at least
+  -- the members after the first, one at least
   pub data Members : List Lexeme → List Lexeme → List tree.Member → Type 0 where
     last : {w : Word} {ts us rest : List Lexeme} {a : tree.Surf} {cs : List tree.Typed} → Term 0 ts (x.OpenBrace ∷ us) a → Cons us rest cs →
         Members (x.With ∷ x.Plain w ∷ x.Colon ∷ ts) rest (record { name = w; ty = a; cons = cs } ∷ [])

@@ -222,29 +222,29 @@ abbrev pub «in» : State → Lexeme → Outcome
 «in» c x.In = to c
 «in» c _ = Stuck
 
--- behind the `}` that ends clauses
+-- after the `}` that ends clauses
 abbrev pub closed : Clauses_in → Outcome
 closed (Fun w a cs) = Goes (Some (tree.Fun w a (tree.clauses cs))) Start
 closed (Inspect h t cs k) = to (In_clause (ClauseEnd h.depth (clause h (tree.With t (tree.clauses cs))) k))
 
--- behind a whole clause
+-- after a whole clause
 abbrev pub clause_end : ℕ → tree.Clause → Clauses_in → Lexeme → Outcome
 clause_end d c k x.Semicolon = to (In_clause (ClauseName d (with_clause c k)))
 clause_end d c k x.CloseBrace = closed (with_clause c k)
 clause_end d c k _ = Stuck
 
--- behind the `}` that ends constructors
+-- after the `}` that ends constructors
 abbrev pub member_end : List tree.Typed → List tree.Member → tree.Member → Outcome
 member_end ps [] m = to (In_data (FamilyEnd ps m))
 member_end ps (n ∷ ns) m = to (In_mutual (MembersEnd (record { params = ps; members = n ∷ ns ++ m ∷ [] })))
 
--- behind the type of a constructor
+-- after the type of a constructor
 abbrev pub con_end : Families → tree.Member → Lexeme → Outcome
 con_end g m x.Semicolon = to (In_data (ConName g m))
 con_end g m x.CloseBrace = member_end g.params g.members m
 con_end g m _ = Stuck
 
--- behind a term that is a part of a declaration
+-- after a term that is a part of a declaration
 abbrev pub part_end : tree.Surf → Part → Lexeme → Outcome
 part_end t (DefType w) x = equals (part (DefBody w t)) x
 part_end t (DefBody w a) x = start (Some (tree.Def w a t)) x
@@ -253,7 +253,7 @@ part_end t (MemberType g w) x = open_brace (In_data (FirstCon g (record { name =
 part_end t (ConType g m c) x = con_end g (with_con m c t) x
 part_end t (FunType w) x = open_brace (In_clause (FirstClause 0 (Fun w t []))) x
 
--- behind a whole term
+-- after a whole term
 abbrev pub term_end : tree.Surf → Term_in → Lexeme → Outcome
 term_end t (Whole p) x = part_end t p x
 term_end t (Parens d s k) x = close (In_term (Atoms d (plus s t) k)) x
@@ -277,7 +277,7 @@ term_start d k (x.Plain w) = to (In_term (Atoms d (named w []) k))
 term_start d k (x.Dotted w) = to (In_term (Atoms d (named w []) k))
 term_start d k _ = Stuck
 
--- behind the atoms of an application
+-- after the atoms of an application
 abbrev pub atoms : ℕ → Spine → Term_in → Lexeme → Outcome
 atoms d s k (x.Plain w) = to (In_term (Atoms d (plus (Some s) (tree.Named w)) k))
 atoms d s k (x.Dotted w) = to (In_term (Atoms d (plus (Some s) (tree.Named w)) k))
@@ -286,32 +286,32 @@ atoms d s k x.Open = to (term (d + 1) (Parens d (Some s) k))
 atoms d s k x.Arrow = to (term (d + 1) (Codomain (spine s) k))
 atoms d s k x = term_end (spine s) k x
 
--- behind the `:` of a binder
+-- after the `:` of a binder
 abbrev pub domain : Telescope → List (Option Word) → Term_in → Outcome
 domain b [] k = Stuck
 domain b (n ∷ ns) k = to (term (b.depth + 1) (Domain b (n ∷ ns) k))
 
--- behind `(` and names of a binder
+-- after `(` and names of a binder
 abbrev pub binder_names : Telescope → List (Option Word) → Term_in → Lexeme → Outcome
 binder_names b ns k (x.Plain w) = to (In_term (BinderNames b (ns ++ Some w ∷ []) k))
 binder_names b ns k x.Underscore = to (In_term (BinderNames b (ns ++ None ∷ []) k))
 binder_names b ns k x.Colon = domain b ns k
 binder_names b ns k _ = Stuck
 
--- behind a whole binder
+-- after a whole binder
 abbrev pub binder_next : Telescope → Term_in → Lexeme → Outcome
 binder_next b k x.Open = to (In_term (BinderNames b [] k))
 binder_next b k x.Arrow = to (term (b.depth + 1) (Body b k))
 binder_next b k _ = Stuck
 
--- behind `(` in a pattern
+-- after `(` in a pattern
 abbrev pub pat_open : ℕ → Bool → Pats_in → Lexeme → Outcome
 pat_open d void k (x.Plain c) = to (In_clause (Pats (d + 1) void (Inside (behind d c) k)))
 pat_open d void k (x.Dotted c) = to (In_clause (Pats (d + 1) void (Inside (behind d c) k)))
 pat_open d void k x.Close = cond void Stuck (to (In_clause (Pats d true (with_pat tree.Void k))))
 pat_open d void k _ = Stuck
 
--- behind the dot of a pattern
+-- after the dot of a pattern
 abbrev pub dot_atom : ℕ → Bool → Pats_in → Lexeme → Outcome
 dot_atom d void k (x.Plain w) = to (In_clause (Pats d void (with_pat (tree.Dot (tree.Named w)) k)))
 dot_atom d void k (x.Dotted w) = to (In_clause (Pats d void (with_pat (tree.Dot (tree.Named w)) k)))
@@ -364,7 +364,7 @@ data_step (ConColon g m c) x = colon (part (ConType g m c)) x
 data_step (FamilyEnd ps m) x.With = to (In_mutual (MemberName (record { params = ps; members = m ∷ [] })))
 data_step (FamilyEnd ps m) x = start (Some (tree.Data m.name ps m.ty m.cons)) x
 
--- the states of families that refer to each other, behind the first
+-- the states of families that refer to each other, after the first
 abbrev pub mutual_step : Mutual_state → Lexeme → Outcome
 mutual_step (MembersEnd g) x.With = to (In_mutual (MemberName g))
 mutual_step (MembersEnd g) x.In = to (In_mutual (PackedName g))
@@ -402,13 +402,13 @@ module _ (allows : ℕ → ℕ → Bool) where
   abbrev pub product : ℕ → Telescope
   product d = record { depth = d; quantifier = Product; binders = [] }
 
-  -- behind `(` at the front of a term: a binder, or a term in parentheses
+  -- after `(` at the front of a term: a binder, or a term in parentheses
   abbrev pub opened : ℕ → ℕ → Term_in → Lexeme → Outcome
   opened d i k (x.Plain w) = to (In_term (Names d i w [] k))
   opened d i k x.Underscore = to (In_term (BinderNames (product d) (None ∷ []) k))
   opened d i k x = may (d + 1) i (term_start (d + 1) (Parens d None k) x)
 
-  -- the same behind plain names, the first of which stood where `at` lexemes were left
+  -- the same after plain names, the first of which stood where `at` lexemes were left
   abbrev pub names : ℕ → ℕ → Word → List Word → Term_in → Lexeme → Outcome
   names d at w ws k (x.Plain v) = to (In_term (Names d at w (ws ++ v ∷ []) k))
   names d at w ws k x.Underscore = to (In_term (BinderNames (product d) (some_names (w ∷ ws) ++ None ∷ []) k))

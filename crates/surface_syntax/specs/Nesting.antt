@@ -6,11 +6,11 @@ use Rattle.surface_syntax.specs.Viable.{every, IsViable, Next, GoesOn}
 use Rattle.surface_syntax.specs.declared.lexeme.Lexeme.{Lexeme}
 use Rattle.surface_syntax.specs.declared.lexeme.Lexeme.TheVariants.{Backslash}
 
--- all that begins where more than `i` lexemes are left is within the limit, and behind that anything may begin
+-- all that begins where more than `i` lexemes are left is within the limit, and after that anything may begin
 abbrev pub down_to : ℕ → ℕ → ℕ → Bool
 down_to i d j = limit d j || nat_le j i
 
--- all that begins where `i` lexemes or more are left is within the limit, and behind that anything may begin
+-- all that begins where `i` lexemes or more are left is within the limit, and after that anything may begin
 abbrev pub past : ℕ → ℕ → ℕ → Bool
 past i d j = limit d j || nat_lt j i
 
@@ -22,10 +22,10 @@ pub record IsTooDeepAt (text : List Lexeme) (i : ℕ) : Type 0 where
 
 -- The first that stands inside 2,000 others begins where `n` of the lexemes are left.
 --
--- It begins behind `front`. Behind `(` names may begin a term or a binder, so it can take some lexemes until that is sure:
+-- It begins after `front`. After `(` names may begin a term or a binder, so it can take some lexemes until that is sure:
 -- these are `seen`. Some text that begins with `front` and `seen` has it there (`deep`), and so does every text that goes
 -- on as `back` does (`always`). Either such a text exists, or a term is due at that place whatever stands there (`due`): `\`
--- could stand there, with which nothing but a term begins. A pattern, or a clause behind `{`, counts only where the
+-- could stand there, with which nothing but a term begins. A pattern, or a clause after `{`, counts only where the
 -- lexemes begin one.
 pub record IsNested (ts : List Lexeme) (n : ℕ) : Type 0 where
   pub front : List Lexeme

@@ -1,5 +1,5 @@
 -- The spellings of tokens: how many characters of a text its first token has, and which kind it is. A token goes on
--- as far as it can; its limits are looked at behind that.
+-- as far as it can; its limits are looked at after that.
 use Rattle.std.specs.Prelude.{ℕ, ◌+◌, ◌==◌, Bool, not, ◌&&◌, ◌||◌, if◌then◌else◌, List, [], ◌∷◌, take, drop, codes, nat_lt, nat_le, ◌<◌, ◌≤◌, length}
 use Rattle.std.specs.List.{prefix_len, sum_by}
 use Rattle.std.specs.Char.{len_utf8}
@@ -46,7 +46,7 @@ abbrev pub number_len : List ℕ → ℕ
 number_len [] = 0
 number_len (c ∷ cs) = if c == 48 then 1 else prefix_len is_digit (c ∷ cs)
 
--- the `.` and the number behind it at the front
+-- the `.` and the number after it at the front
 abbrev pub tail_len : List ℕ → ℕ
 tail_len [] = 0
 tail_len (c ∷ cs) = if (c == 46) && nat_lt 0 (number_len cs) then 1 + number_len cs else 0
@@ -68,7 +68,7 @@ abbrev pub found_within : Bool → TokenKind → ℕ → Piece
 found_within fits kind n = if fits then Found kind n else Bad
 
 -- a name of n characters: a keyword, a dotted name where a `.` and a number of at most two digits follow, or a plain
--- name; at most 255 bytes long, the part behind the name not counted
+-- name; at most 255 bytes long, the part after the name not counted
 abbrev pub name_piece : ℕ → List ℕ → Piece
 name_piece n cs =
     if is_keyword (take n cs) then Found Keyword n

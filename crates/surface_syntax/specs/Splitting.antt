@@ -36,7 +36,7 @@ pub record IsBadToken (bytes : List ℕ) (offset : ℕ) : Type 0 where
   pub utf8 : IsUtf8 bytes
   pub stops : StopsAt (chars bytes) offset
 
--- the tokens stand one behind the other between the two offsets
+-- the tokens stand one after the other between the two offsets
 abbrev pub AreInOrder : ℕ → List Token → ℕ → Type 0
 AreInOrder from [] to = from ≤ to
 AreInOrder from (t ∷ ts) to = (from ≤ t.start) × (t.start ≤ t.end) × AreInOrder t.end ts to

@@ -25,7 +25,7 @@ mutual
     no_binder : Binders
     bind : Binder → Binders → Binders
 
--- A pattern: a name, `_`, a forced term behind a dot, `( )`, and a form in parentheses with or without arguments.
+-- A pattern: a name, `_`, a forced term after a dot, `( )`, and a form in parentheses with or without arguments.
 mutual
   pub data Pat : Type 0 where
     Name : Word → Pat
@@ -38,7 +38,7 @@ mutual
     no_pat : Pats
     arg : Pat → Pats → Pats
 
--- A clause: its head, its patterns, and what stands behind them.
+-- A clause: its head, its patterns, and what comes after them.
 mutual
   pub data Right : Type 0 where
     Side : Surf → Right

@@ -8,7 +8,7 @@ use Rattle.surface_syntax.specs.declared.lexeme.Lexeme.{Lexeme}
 abbrev pub every : ℕ → ℕ → Bool
 every d i = true
 
--- some lexemes behind these make a text of the language
+-- some lexemes after these make a text of the language
 pub record IsViable (front : List Lexeme) : Type 0 where
   pub more : List Lexeme
   pub decls : List tree.Decl
@@ -19,7 +19,7 @@ pub data Next : List Lexeme → List Lexeme → Type 0 where
   nothing : Next [] []
   first : {y : Lexeme} {back more : List Lexeme} → Next (y ∷ back) (y ∷ more)
 
--- a text of the language goes on behind the front with the first of these lexemes, or ends there where these are none
+-- a text of the language goes on after the front with the first of these lexemes, or ends there where these are none
 pub record GoesOn (front back : List Lexeme) : Type 0 where
   pub more : List Lexeme
   pub next : Next back more

@@ -11,7 +11,7 @@ use crate::{Lexeme, Surf, SurfPat};
 use core_terms::Items;
 use std::alloc::Global;
 
-/// Behind `Type` in a term.
+/// After `Type` in a term.
 pub(crate) fn level(
     alloc: Global,
     depth: u32,
@@ -27,7 +27,7 @@ pub(crate) fn level(
     }
 }
 
-/// Behind `Type` in a pattern.
+/// After `Type` in a pattern.
 pub(crate) fn dot_level(
     depth: u32,
     void: bool,
@@ -42,7 +42,7 @@ pub(crate) fn dot_level(
     }
 }
 
-/// Behind `\`.
+/// After `\`.
 pub(crate) fn binder_open(
     alloc: Global,
     telescope: Telescope,

@@ -29,7 +29,7 @@ fn pats_inside(alloc: Global, depth: u32, void: bool, context: PatsIn) -> Result
     to(ClauseState::Pats(inner, void, context))
 }
 
-/// Behind `( )`, which stands once at most in the patterns of a clause.
+/// After `( )`, which stands once at most in the patterns of a clause.
 fn pat_void(depth: u32, void: bool, context: Box<PatsIn>) -> Result<Step, Halt>
     ensures { Follows result (machine.pat_open depth void (pats_in_of context.value) Lexeme.Close) }
 {
@@ -39,7 +39,7 @@ fn pat_void(depth: u32, void: bool, context: Box<PatsIn>) -> Result<Step, Halt>
     behind_pat(depth, true, SurfPat::Absurd, context)
 }
 
-/// Behind `(` in a pattern.
+/// After `(` in a pattern.
 fn pat_open(
     alloc: Global,
     depth: u32,
@@ -59,7 +59,7 @@ fn pat_open(
     }
 }
 
-/// Behind the dot of a pattern.
+/// After the dot of a pattern.
 fn dot_atom(depth: u32, void: bool, context: Box<PatsIn>, lexeme: Lexeme) -> Result<Step, Halt>
     ensures { Follows result (machine.dot_atom depth void (pats_in_of context.value) lexeme) }
 {

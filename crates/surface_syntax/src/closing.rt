@@ -17,7 +17,7 @@ use crate::{Decl, Lexeme, Surf, SurfClause, SurfMember, SurfParam, SurfPat, Surf
 use core_terms::Items;
 use std::alloc::Global;
 
-/// Behind the `}` that ends clauses.
+/// After the `}` that ends clauses.
 pub(crate) fn closed(context: Box<ClausesIn>) -> Step
     ensures { Follows (Ok result) (machine.closed (clauses_in_of context.value)) }
 {
@@ -33,7 +33,7 @@ pub(crate) fn closed(context: Box<ClausesIn>) -> Step
     }
 }
 
-/// Behind a clause and `;`.
+/// After a clause and `;`.
 fn next_clause(depth: u32, clause: SurfClause, context: Box<ClausesIn>) -> Result<Step, Halt>
     ensures { Follows result (machine.to (machine.In_clause (machine.ClauseName depth (machine.with_clause (clause_of clause) (clauses_in_of context.value))))) }
 {
@@ -41,14 +41,14 @@ fn next_clause(depth: u32, clause: SurfClause, context: Box<ClausesIn>) -> Resul
     Ok(Step::to(State::InClause(ClauseState::ClauseName(depth, context))))
 }
 
-/// Behind a clause and `}`.
+/// After a clause and `}`.
 fn last_clause(clause: SurfClause, context: Box<ClausesIn>) -> Result<Step, Halt>
     ensures { Follows result (machine.closed (machine.with_clause (clause_of clause) (clauses_in_of context.value))) }
 {
     Ok(closed(with_clause(clause, context)?))
 }
 
-/// Behind a whole clause.
+/// After a whole clause.
 pub(crate) fn clause_end(
     depth: u32,
     clause: SurfClause,
@@ -64,7 +64,7 @@ pub(crate) fn clause_end(
     }
 }
 
-/// Behind the `}` that ends the constructors of a family that others stand before.
+/// After the `}` that ends the constructors of a family that others stand before.
 fn next_member_end(families: Families, member: SurfMember) -> Result<Step, Halt>
     ensures { Follows result (machine.to (machine.In_mutual (machine.MembersEnd (record { params = map param_of families.params; members = map member_of families.members ++ member_of member ∷ [] })))) }
 {
@@ -72,7 +72,7 @@ fn next_member_end(families: Families, member: SurfMember) -> Result<Step, Halt>
     Ok(Step::to(State::InMutual(MutualState::MembersEnd(families))))
 }
 
-/// Behind the `}` that ends constructors.
+/// After the `}` that ends constructors.
 pub(crate) fn member_end(families: Families, member: SurfMember) -> Result<Step, Halt>
     ensures { Follows result (machine.member_end (map param_of families.params) (map member_of families.members) (member_of member)) }
 {
@@ -83,7 +83,7 @@ pub(crate) fn member_end(families: Families, member: SurfMember) -> Result<Step,
     }
 }
 
-/// Behind the type of a constructor.
+/// After the type of a constructor.
 fn con_end(families: Families, member: SurfMember, lexeme: Lexeme) -> Result<Step, Halt>
     ensures { Follows result (machine.con_end (families_of families) (member_of member) lexeme) }
 {
@@ -94,7 +94,7 @@ fn con_end(families: Families, member: SurfMember, lexeme: Lexeme) -> Result<Ste
     }
 }
 
-/// Behind the type of a parameter.
+/// After the type of a parameter.
 fn param_end(
     t: Surf,
     name: Word,
@@ -107,7 +107,7 @@ fn param_end(
     close(lexeme).and(behind_param(t, name, params, param))
 }
 
-/// Behind the type of a family.
+/// After the type of a family.
 fn member_type_end(
     alloc: Global,
     t: Surf,
@@ -125,21 +125,21 @@ fn member_type_end(
     open_brace(lexeme).and(Ok(Step::to(State::InData(DataState::FirstCon(families, member)))))
 }
 
-/// Behind the type of a function by clauses.
+/// After the type of a function by clauses.
 fn fun_type_end(alloc: Global, t: Surf, name: Word, lexeme: Lexeme) -> Result<Step, Halt>
     ensures { Follows result (machine.part_end (surf_of t) (machine.FunType name) lexeme) }
 {
     open_brace(lexeme).and(first_clause(alloc, 0, ClausesIn::Fun(name, t, Items::new(alloc))))
 }
 
-/// Behind the type of a definition.
+/// After the type of a definition.
 fn def_type_end(t: Surf, name: Word, lexeme: Lexeme) -> Result<Step, Halt>
     ensures { Follows result (machine.part_end (surf_of t) (machine.DefType name) lexeme) }
 {
     equals(lexeme).and(Ok(Step::to(State::part(Part::DefBody(name, t)))))
 }
 
-/// Behind the type of a constructor, which is not yet among those of its family.
+/// After the type of a constructor, which is not yet among those of its family.
 fn con_type_end(
     t: Surf,
     families: Families,
@@ -153,7 +153,7 @@ fn con_type_end(
     con_end(families, member, lexeme)
 }
 
-/// Behind a term that is a part of a declaration.
+/// After a term that is a part of a declaration.
 pub(crate) fn part_end(alloc: Global, t: Surf, part: Part, lexeme: Lexeme) -> Result<Step, Halt>
     ensures { Follows result (machine.part_end (surf_of t) (part_of part) lexeme) }
 {
@@ -167,7 +167,7 @@ pub(crate) fn part_end(alloc: Global, t: Surf, part: Part, lexeme: Lexeme) -> Re
     }
 }
 
-/// Behind a term in parentheses.
+/// After a term in parentheses.
 pub(crate) fn parens_end(
     alloc: Global,
     t: Surf,
@@ -181,7 +181,7 @@ pub(crate) fn parens_end(
     close(lexeme).and(behind_atom(alloc, depth, spine, t, outer))
 }
 
-/// Behind the type of a binder.
+/// After the type of a binder.
 pub(crate) fn domain_end(
     t: Surf,
     telescope: Telescope,
@@ -194,7 +194,7 @@ pub(crate) fn domain_end(
     close(lexeme).and(behind_binder(t, telescope, names, outer))
 }
 
-/// Behind the type of a local definition.
+/// After the type of a local definition.
 pub(crate) fn let_type_end(
     t: Surf,
     depth: u32,
@@ -207,7 +207,7 @@ pub(crate) fn let_type_end(
     equals(lexeme).and(term_inside(depth, TermIn::LetValue(depth, name, t, outer)))
 }
 
-/// Behind the value of a local definition.
+/// After the value of a local definition.
 pub(crate) fn let_value_end(
     t: Surf,
     depth: u32,
@@ -221,7 +221,7 @@ pub(crate) fn let_value_end(
     inside(lexeme).and(term_inside(depth, TermIn::LetBody(name, ty, t, outer)))
 }
 
-/// Behind a term in parentheses behind the dot of a pattern.
+/// After a term in parentheses after the dot of a pattern.
 pub(crate) fn dot_end(
     t: Surf,
     depth: u32,
@@ -234,7 +234,7 @@ pub(crate) fn dot_end(
     close(lexeme).and(behind_pat(depth, void, SurfPat::Dot(t), outer))
 }
 
-/// Behind the scrutinee of a `with`.
+/// After the scrutinee of a `with`.
 pub(crate) fn scrutinee_end(
     alloc: Global,
     t: Surf,
@@ -249,7 +249,7 @@ pub(crate) fn scrutinee_end(
     open_brace(lexeme).and(clauses_inside(alloc, depth, context))
 }
 
-/// Behind the right side of a clause.
+/// After the right side of a clause.
 pub(crate) fn side_end(
     t: Surf,
     headed: Headed,

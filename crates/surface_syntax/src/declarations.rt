@@ -70,7 +70,7 @@ fn decide_data(word: Word, lexeme: Lexeme) -> Result<Step, Halt>
     }
 }
 
-/// Behind `def`.
+/// After `def`.
 fn def_name(lexeme: Lexeme) -> Result<Step, Halt>
     ensures { Follows result (machine.def_step machine.DefName lexeme) }
 {
@@ -99,7 +99,7 @@ fn decide_decision(word: Word, family: Word, lexeme: Lexeme) -> Result<Step, Hal
     Ok(Step::Goes(Some(whole), State::Start))
 }
 
-/// Behind `fun`.
+/// After `fun`.
 fn fun_name(lexeme: Lexeme) -> Result<Step, Halt>
     ensures { Follows result (machine.def_step machine.FunName lexeme) }
 {
@@ -107,7 +107,7 @@ fn fun_name(lexeme: Lexeme) -> Result<Step, Halt>
     in_def(DefState::FunColon(word))
 }
 
-/// Behind the name of a function.
+/// After the name of a function.
 fn fun_colon(word: Word, lexeme: Lexeme) -> Result<Step, Halt>
     ensures { Follows result (machine.def_step (machine.FunColon word) lexeme) }
 {
@@ -129,7 +129,7 @@ pub(crate) fn def_step(state: DefState, lexeme: Lexeme) -> Result<Step, Halt>
     }
 }
 
-/// Behind parameters of a family.
+/// After parameters of a family.
 fn params(alloc: Global, word: Word, params: Items<SurfParam>, lexeme: Lexeme) -> Result<Step, Halt>
     ensures { Follows result (machine.data_step (machine.Params word (map param_of params)) lexeme) }
 {
@@ -146,7 +146,7 @@ fn params(alloc: Global, word: Word, params: Items<SurfParam>, lexeme: Lexeme) -
     }
 }
 
-/// Behind the `{` of constructors.
+/// After the `{` of constructors.
 fn first_con(families: Families, member: SurfMember, lexeme: Lexeme) -> Result<Step, Halt>
     ensures { Follows result (machine.data_step (machine.FirstCon (families_of families) (member_of member)) lexeme) }
 {
@@ -165,7 +165,7 @@ fn another_member(families: Families, member: SurfMember) -> Result<Step, Halt>
     in_mutual(MutualState::MemberName(families))
 }
 
-/// Behind the first family of a declaration.
+/// After the first family of a declaration.
 fn family_end(
     alloc: Global,
     params: Items<SurfParam>,
@@ -194,7 +194,7 @@ fn family_end(
     }
 }
 
-/// Behind `data`.
+/// After `data`.
 fn data_name(alloc: Global, lexeme: Lexeme) -> Result<Step, Halt>
     ensures { Follows result (machine.data_step machine.DataName lexeme) }
 {
@@ -203,7 +203,7 @@ fn data_name(alloc: Global, lexeme: Lexeme) -> Result<Step, Halt>
     in_data(DataState::Params(word, params))
 }
 
-/// Behind the `(` of a parameter.
+/// After the `(` of a parameter.
 fn param_name(word: Word, params: Items<SurfParam>, lexeme: Lexeme) -> Result<Step, Halt>
     ensures { Follows result (machine.data_step (machine.ParamName word (map param_of params)) lexeme) }
 {
@@ -211,7 +211,7 @@ fn param_name(word: Word, params: Items<SurfParam>, lexeme: Lexeme) -> Result<St
     in_data(DataState::ParamColon(word, params, param))
 }
 
-/// Behind the name of a parameter.
+/// After the name of a parameter.
 fn param_colon(
     word: Word,
     params: Items<SurfParam>,
@@ -231,7 +231,7 @@ fn con_name(families: Families, member: SurfMember, lexeme: Lexeme) -> Result<St
     in_data(DataState::ConColon(families, member, con))
 }
 
-/// Behind the name of a constructor.
+/// After the name of a constructor.
 fn con_colon(
     families: Families,
     member: SurfMember,
@@ -259,7 +259,7 @@ pub(crate) fn data_step(alloc: Global, state: DataState, lexeme: Lexeme) -> Resu
     }
 }
 
-/// Behind a family among those that refer to each other.
+/// After a family among those that refer to each other.
 fn members_end(families: Families, lexeme: Lexeme) -> Result<Step, Halt>
     ensures { Follows result (machine.mutual_step (machine.MembersEnd (families_of families)) lexeme) }
 {
@@ -270,7 +270,7 @@ fn members_end(families: Families, lexeme: Lexeme) -> Result<Step, Halt>
     }
 }
 
-/// Behind a tag.
+/// After a tag.
 fn tag_next(
     families: Families,
     family: Word,
@@ -297,7 +297,7 @@ fn tag_next(
     }
 }
 
-/// Behind the `with` of one family more.
+/// After the `with` of one family more.
 fn member_name(families: Families, lexeme: Lexeme) -> Result<Step, Halt>
     ensures { Follows result (machine.mutual_step (machine.MemberName (families_of families)) lexeme) }
 {
@@ -305,14 +305,14 @@ fn member_name(families: Families, lexeme: Lexeme) -> Result<Step, Halt>
     in_mutual(MutualState::MemberColon(families, word))
 }
 
-/// Behind the name of one family more.
+/// After the name of one family more.
 fn member_colon(families: Families, word: Word, lexeme: Lexeme) -> Result<Step, Halt>
     ensures { Follows result (machine.mutual_step (machine.MemberColon (families_of families) word) lexeme) }
 {
     colon(lexeme).and(part(Part::MemberType(families, word)))
 }
 
-/// Behind the `in` of families.
+/// After the `in` of families.
 fn packed_name(families: Families, lexeme: Lexeme) -> Result<Step, Halt>
     ensures { Follows result (machine.mutual_step (machine.PackedName (families_of families)) lexeme) }
 {
@@ -320,7 +320,7 @@ fn packed_name(families: Families, lexeme: Lexeme) -> Result<Step, Halt>
     in_mutual(MutualState::TagFamily(families, family))
 }
 
-/// Behind the name of the packed family.
+/// After the name of the packed family.
 fn tag_family(families: Families, family: Word, lexeme: Lexeme) -> Result<Step, Halt>
     ensures { Follows result (machine.mutual_step (machine.TagFamily (families_of families) family) lexeme) }
 {
@@ -328,7 +328,7 @@ fn tag_family(families: Families, family: Word, lexeme: Lexeme) -> Result<Step, 
     in_mutual(MutualState::TagsOpen(families, family, tag))
 }
 
-/// Behind the name of the family of tags.
+/// After the name of the family of tags.
 fn tags_open(
     alloc: Global,
     families: Families,
@@ -342,7 +342,7 @@ fn tags_open(
     open_brace(lexeme).and(in_mutual(MutualState::TagName(families, family, tag, tags)))
 }
 
-/// On behind one tag more.
+/// On after one tag more.
 fn behind_tag(
     families: Families,
     family: Word,
@@ -370,7 +370,7 @@ fn tag_name(
     behind_tag(families, family, tag, tags, word)
 }
 
-/// The states of families that refer to each other, behind the first.
+/// The states of families that refer to each other, after the first.
 pub(crate) fn mutual_step(alloc: Global, state: MutualState, lexeme: Lexeme) -> Result<Step, Halt>
     ensures { Follows result (machine.mutual_step (mutual_state_of state) lexeme) }
 {

@@ -74,7 +74,7 @@ fn step_out(alloc: Global, t: Surf, context: TermIn) -> Result<Outward, Halt>
     })
 }
 
-/// Behind a term that is not the last part of another.
+/// After a term that is not the last part of another.
 fn ended(alloc: Global, t: Surf, ending: Ending, lexeme: Lexeme) -> Result<Step, Halt>
     ensures { Follows result (machine.term_end (surf_of t) (ending_of ending) lexeme) }
 {
@@ -92,7 +92,7 @@ fn ended(alloc: Global, t: Surf, ending: Ending, lexeme: Lexeme) -> Result<Step,
     }
 }
 
-/// Behind a whole term, which may be the last part of others.
+/// After a whole term, which may be the last part of others.
 pub(crate) fn term_end(
     alloc: Global,
     t: Surf,

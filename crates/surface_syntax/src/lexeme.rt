@@ -1,7 +1,7 @@
 use crate::tree::Word;
 
 /// A token as the grammar sees it. `Level` is a number that is the level of a sort, and `Number` any other number. `End`
-/// stands behind the last token.
+/// comes after the last token.
 #[derive(Debug, Drop)]
 pub enum Lexeme {
     Plain(Word),

@@ -20,7 +20,7 @@ pub(crate) fn term_inside(depth: u32, context: TermIn) -> Result<Step, Halt>
     Ok(Step::to(State::term(inner, context)))
 }
 
-/// On behind a whole parameter.
+/// On after a whole parameter.
 pub(crate) fn behind_param(
     t: Surf,
     name: Word,
@@ -33,7 +33,7 @@ pub(crate) fn behind_param(
     Ok(Step::to(State::InData(DataState::Params(name, params))))
 }
 
-/// On behind one atom more of an application.
+/// On after one atom more of an application.
 pub(crate) fn behind_atom(
     alloc: Global,
     depth: u32,
@@ -47,7 +47,7 @@ pub(crate) fn behind_atom(
     Ok(Step::to(State::InTerm(TermState::Atoms(depth, spine, context))))
 }
 
-/// On behind a whole binder.
+/// On after a whole binder.
 pub(crate) fn behind_binder(
     t: Surf,
     telescope: Telescope,
@@ -60,7 +60,7 @@ pub(crate) fn behind_binder(
     Ok(Step::to(State::InTerm(TermState::BinderNext(telescope, outer))))
 }
 
-/// On behind a whole pattern.
+/// On after a whole pattern.
 pub(crate) fn behind_pat(
     depth: u32,
     void: bool,

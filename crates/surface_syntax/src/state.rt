@@ -29,7 +29,7 @@ pub(crate) enum DataState {
     FamilyEnd(Items<SurfParam>, SurfMember),
 }
 
-/// What is awaited in families that refer to each other, behind the first.
+/// What is awaited in families that refer to each other, after the first.
 #[derive(Drop)]
 pub(crate) enum MutualState {
     MembersEnd(Families),
@@ -48,7 +48,7 @@ pub(crate) enum TermState {
     Term(u32, TermIn),
     Level(u32, Option<Spine>, Box<TermIn>),
     Opened(u32, Box<TermIn>),
-    /// Names behind `(`, and how many lexemes were left where the first of them stood.
+    /// Names after `(`, and how many lexemes were left where the first of them stood.
     Names(u32, u32, Word, Items<Word>, Box<TermIn>),
     BinderOpen(Telescope, Box<TermIn>),
     BinderNames(Telescope, Items<Option<Word>>, Box<TermIn>),

@@ -21,7 +21,7 @@ fn to(state: TermState) -> Result<Step, Halt>
     Ok(Step::to(State::InTerm(state)))
 }
 
-/// On behind the name of a local definition.
+/// On after the name of a local definition.
 fn behind_let(depth: u32, word: Word, context: Box<TermIn>) -> Result<Step, Halt>
     ensures { Follows result (machine.to (machine.In_term (machine.LetColon depth word (term_in_of context.value)))) }
 {
@@ -64,14 +64,14 @@ fn term_start(alloc: Global, depth: u32, context: Box<TermIn>, lexeme: Lexeme) -
     }
 }
 
-/// Behind `(` in an application.
+/// After `(` in an application.
 fn atom_open(depth: u32, spine: Spine, context: Box<TermIn>) -> Result<Step, Halt>
     ensures { Follows result (machine.atoms depth (spine_of spine) (term_in_of context.value) Lexeme.Open) }
 {
     term_inside(depth, TermIn::Parens(depth, Some(spine), context))
 }
 
-/// Behind the `->` of an application.
+/// After the `->` of an application.
 fn codomain(alloc: Global, depth: u32, spine: Spine, context: Box<TermIn>) -> Result<Step, Halt>
     ensures { Follows result (machine.atoms depth (spine_of spine) (term_in_of context.value) Lexeme.Arrow) }
 {
@@ -79,7 +79,7 @@ fn codomain(alloc: Global, depth: u32, spine: Spine, context: Box<TermIn>) -> Re
     term_inside(depth, TermIn::Codomain(front, context))
 }
 
-/// Behind a whole application.
+/// After a whole application.
 fn atoms_end(
     alloc: Global,
     spine: Spine,
@@ -92,7 +92,7 @@ fn atoms_end(
     term_end(alloc, whole, Box::into_inner(context), lexeme)
 }
 
-/// Behind the atoms of an application.
+/// After the atoms of an application.
 fn atoms(
     alloc: Global,
     depth: u32,
@@ -113,7 +113,7 @@ fn atoms(
     }
 }
 
-/// Behind the `:` of a binder.
+/// After the `:` of a binder.
 fn domain(
     telescope: Telescope,
     names: Items<Option<Word>>,
@@ -127,7 +127,7 @@ fn domain(
     term_inside(telescope.depth, TermIn::Domain(telescope, names, context))
 }
 
-/// On behind one name more of a binder.
+/// On after one name more of a binder.
 fn behind_name(
     telescope: Telescope,
     names: Items<Option<Word>>,
@@ -140,7 +140,7 @@ fn behind_name(
     to(TermState::BinderNames(telescope, names, context))
 }
 
-/// Behind `(` and names of a binder.
+/// After `(` and names of a binder.
 fn binder_names(
     telescope: Telescope,
     names: Items<Option<Word>>,
@@ -157,7 +157,7 @@ fn binder_names(
     }
 }
 
-/// Behind a whole binder.
+/// After a whole binder.
 fn binder_next(
     alloc: Global,
     telescope: Telescope,
@@ -187,7 +187,7 @@ fn parens_start(
     term_start(alloc, inner, context, lexeme)
 }
 
-/// Behind the `(` of a term in parentheses.
+/// After the `(` of a term in parentheses.
 fn opened_term(
     alloc: Global,
     left: u32,
@@ -201,7 +201,7 @@ fn opened_term(
     may(inner, left).and(parens_start(alloc, depth, inner, context, lexeme))
 }
 
-/// Behind `(` at the front of a term: a binder, or a term in parentheses.
+/// After `(` at the front of a term: a binder, or a term in parentheses.
 fn opened(
     alloc: Global,
     left: u32,
@@ -221,7 +221,7 @@ fn opened(
     }
 }
 
-/// Behind `(`, plain names and `_`, which begin a binder.
+/// After `(`, plain names and `_`, which begin a binder.
 fn names_blank(
     alloc: Global,
     depth: u32,
@@ -240,7 +240,7 @@ fn names_blank(
     )
 }
 
-/// Behind `(`, plain names and `:`, which begin a binder.
+/// After `(`, plain names and `:`, which begin a binder.
 fn names_colon(
     alloc: Global,
     depth: u32,
@@ -255,7 +255,7 @@ fn names_colon(
     term_inside(depth, TermIn::Domain(telescope, names, context))
 }
 
-/// Behind names in parentheses, with so many productions around the parentheses and the names.
+/// After names in parentheses, with so many productions around the parentheses and the names.
 fn parens_atoms(
     alloc: Global,
     depth: u32,
@@ -270,7 +270,7 @@ fn parens_atoms(
     atoms(alloc, inner, spine, context, lexeme)
 }
 
-/// Behind `(` and plain names that begin a term, the first of which stood where `at` lexemes were left.
+/// After `(` and plain names that begin a term, the first of which stood where `at` lexemes were left.
 fn names_inside(
     alloc: Global,
     depth: u32,
@@ -285,7 +285,7 @@ fn names_inside(
     may(inner, at).and(parens_atoms(alloc, depth, inner, spine, context, lexeme))
 }
 
-/// Behind `(`, plain names and one name more.
+/// After `(`, plain names and one name more.
 fn names_word(
     depth: u32,
     at: u32,
@@ -300,7 +300,7 @@ fn names_word(
     to(TermState::Names(depth, at, first, more, context))
 }
 
-/// Behind `(` and plain names that begin a term, and what follows them.
+/// After `(` and plain names that begin a term, and what follows them.
 fn names_term(
     alloc: Global,
     depth: u32,
@@ -316,7 +316,7 @@ fn names_term(
     names_inside(alloc, depth, at, spine, context, lexeme)
 }
 
-/// Behind `(` and plain names, the first of which stood where `at` lexemes were left.
+/// After `(` and plain names, the first of which stood where `at` lexemes were left.
 fn names(
     alloc: Global,
     depth: u32,
@@ -344,7 +344,7 @@ fn due(alloc: Global, left: u32, depth: u32, context: TermIn, lexeme: Lexeme) ->
     may(depth, left).and(term_start(alloc, depth, context, lexeme))
 }
 
-/// Behind `let`.
+/// After `let`.
 fn let_name(depth: u32, context: Box<TermIn>, lexeme: Lexeme) -> Result<Step, Halt>
     ensures { Follows result (machine.term_step machine.limit 0 (machine.LetName depth (term_in_of context.value)) lexeme) }
 {
@@ -354,7 +354,7 @@ fn let_name(depth: u32, context: Box<TermIn>, lexeme: Lexeme) -> Result<Step, Ha
     }
 }
 
-/// Behind `let` and a name.
+/// After `let` and a name.
 fn let_colon(depth: u32, word: Word, context: Box<TermIn>, lexeme: Lexeme) -> Result<Step, Halt>
     ensures { Follows result (machine.term_step machine.limit 0 (machine.LetColon depth word (term_in_of context.value)) lexeme) }
 {

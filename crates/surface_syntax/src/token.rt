@@ -8,7 +8,7 @@ pub enum TokenKind {
     Mark,
 }
 
-/// A token of a text, by the offsets in bytes at which it begins and behind which it ends.
+/// A token of a text, by the offsets in bytes at which it begins and after which it ends.
 #[derive(Clone, Copy, Debug, PartialEq, Eq)]
 pub struct Token {
     pub kind: TokenKind,

@@ -40,7 +40,7 @@ pub enum SurfPat {
     Con(Word, Items<SurfPat>),
 }
 
-/// What stands behind the patterns of a clause: a term, a `with`, or nothing.
+/// What comes after the patterns of a clause: a term, a `with`, or nothing.
 #[cycle(clause)]
 #[derive(Debug, Drop)]
 pub enum SurfRight {

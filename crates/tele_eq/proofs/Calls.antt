@@ -59,7 +59,7 @@ pub goal-of_map : (X : List Item) (u : Environment) (map : Map) (n j : ℕ) (sid
     (equations_of (items_of map.to.now) (left_of (Images map)) (Mapped map n sides)) depth j
 goal-of_map X u map n j sides depth count eX eu ec = rw (eX, eu, ec)
 
--- the depth behind the rest of the positions
+-- the depth after the rest of the positions
 room-behind : (depth count more : ℕ) → 1 ≤ count → depth + count * count + 5000 + more ≤ 2030000000
     → depth + 2 * (count - 1) + (count - 1) * (count - 1) + 5000 + more ≤ 2030000000
 room-behind depth zero more some le = absurd (omega arith)

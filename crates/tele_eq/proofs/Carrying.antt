@@ -62,14 +62,14 @@ inst-under k k' s t e = ap (λ r. inst r t) (ups_by-more k s ∙ ap (λ i. ups_b
 
 -- ---- depths
 
--- an instantiation that takes the variables of the context from behind `old` binders to behind `new` ones
+-- an instantiation that takes the variables of the context from after `old` binders to after `new` ones
 pub record Carries : Type 0 where
   pub old : ℕ
   pub new : ℕ
   pub terms : ℕ → Term
   pub each : (n : ℕ) → terms (n + old) ≡ Var (n + new)
 
--- d and d' are k binders behind the old and the new ones
+-- d and d' are k binders after the old and the new ones
 pub record AreDepths (c : Carries) (k d d' : ℕ) : Type 0 where
   pub old : d ≡ c.old + k
   pub new : d' ≡ c.new + k

@@ -1,5 +1,5 @@
 -- What telescopic equality makes of terms of a draft are terms of that draft. The names of a draft are taken as definitions
--- behind the entries of its signature.
+-- after the entries of its signature.
 use Rattle.std.proofs.Common.{◌≡◌, ◌⊎◌, ℕ, zero, suc, ◌+◌, ◌-◌, ◌<◌, ◌≤◌, Bool, true, false, nat_lt, List, [], ◌∷◌, ◌++◌, length, map, All, Some, inl, inr, refl, ap, sym, ◌∙◌, slice_get, arith}
 use Rattle.std.proofs.lemmas.Bool.Decides.{nat_tests}
 use Rattle.std.proofs.lemmas.List.{length-append}
@@ -135,7 +135,7 @@ from-telescope S count n (a ∷ tele) h = (from-scoped S count n a h.0, from-tel
 
 -- ---- telescopes of a draft
 
--- a telescope behind n variables, with levels that types have
+-- a telescope after n variables, with levels that types have
 pub record AreDraftItems (S : Signature) (count n : ℕ) (X : List Item) : Type 0 where
   pub types : EachInTelescope (IsDraftTerm S (length S.entries) count) n (map (λ item. item.type) X)
   pub levels : All (λ item. item.level < top) X

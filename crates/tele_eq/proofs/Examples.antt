@@ -63,7 +63,7 @@ both = refl
 by_way_of_another : dependences (item Nat ∷ item (Fin (Var 0)) ∷ item (App (Fam 0) (Var 0)) ∷ []) 2 ≡ 0 ∷ 1 ∷ []
 by_way_of_another = refl
 
--- behind n, i, n', i', t', with two n i on the left and t' on the right
+-- after n, i, n', i', t', with two n i on the left and t' on the right
 two_equations : equations pair_of_indices (Var 4 ∷ Var 3 ∷ two (Var 4) (Var 3) ∷ []) (Var 2 ∷ Var 1 ∷ Var 0 ∷ [])
     ≡ equation 0 Nat (Var 4) (Var 2) ∷ equation 0 (Fin (Var 3)) (App (J 0 0 Nat (Var 5) (Lam Nat (Lam (equation 0 Nat (Var 6) (Var
     0)) (Pi (Fin (Var 7)) (Fin (Var 2))))) (Lam (Fin (Var 5)) (Var 0)) (Var 3) (Var 0)) (Var 4)) (Var 2) ∷ equation 0 (Two (Var 4)
@@ -76,7 +76,7 @@ two_equations : equations pair_of_indices (Var 4 ∷ Var 3 ∷ two (Var 4) (Var 
     (Lam (Two (Var 8) (Var 7)) (Var 0)) (Var 1) (Var 0)))) (Var 4) (Var 1)) (Var 3)) (Var 0)) (two (Var 6) (Var 5))) (Var 2) ∷ []
 two_equations = refl
 
--- behind the equations of n and i too: two n i, transported to Two n' i'
+-- after the equations of n and i too: two n i, transported to Two n' i'
 two_transported : transport pair_of_indices 2 (Var 6 ∷ Var 5 ∷ two (Var 6) (Var 5) ∷ []) (Var 4 ∷ Var 3 ∷ Var 2 ∷ []) (Var 1 ∷ Var 0 ∷ [])
     ≡ App (App (App (J 0 0 Nat (Var 6) (Lam Nat (Lam (equation 0 Nat (Var 7) (Var 0)) (Pi (Fin (Var 1)) (Pi (equation 0 (Fin (Var
     2)) (App (J 0 0 Nat (Var 9) (Lam Nat (Lam (equation 0 Nat (Var 10) (Var 0)) (Pi (Fin (Var 11)) (Fin (Var 2))))) (Lam (Fin (Var
@@ -93,7 +93,7 @@ two_transported = refl
 abbrev points : List Item
 points = item_at (Sort 0) 1 ∷ item_at (Var 0) 0 ∷ item_at (Point (Var 1) (Var 0)) 1 ∷ []
 
--- behind X, x, X', x', p', with point X x on the left and p' on the right
+-- after X, x, X', x', p', with point X x on the left and p' on the right
 point_equations : equations points (Var 4 ∷ Var 3 ∷ point (Var 4) (Var 3) ∷ []) (Var 2 ∷ Var 1 ∷ Var 0 ∷ [])
     ≡ equation 1 (Sort 0) (Var 4) (Var 2) ∷ equation 0 (Var 3) (App (J 1 1 (Sort 0) (Var 5) (Lam (Sort 0) (Lam (equation 1
     (Sort 0) (Var 6) (Var 0)) (Pi (Var 7) (Var 2)))) (Lam (Var 5) (Var 0)) (Var 3) (Var 0)) (Var 4)) (Var 2) ∷ equation 1

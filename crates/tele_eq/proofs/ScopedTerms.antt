@@ -133,7 +133,7 @@ level-low [] all j = omega arith
 level-low (item ∷ X) all zero = All-head (λ item. item.level < top) item X all
 level-low (item ∷ X) all (suc j) = level-low X (All-tail (λ item. item.level < top) item X all) j
 
--- a signature, a telescope and terms behind n variables
+-- a signature, a telescope and terms after n variables
 pub record IsSetting (S : Signature) (n : ℕ) (X : List Item) (u : Environment) : Type 0 where
   pub has : HasAllIdentities S
   pub items : AreScopedItems S n X

@@ -12,7 +12,7 @@ has_variable n (App f a) = has_variable n f || has_variable n a
 has_variable n (Let a t b) = has_variable n a || has_variable n t || has_variable (n + 1) b
 has_variable n _ = false
 
--- whether the type at one of the positions, all behind `at`, mentions the variable at `at`
+-- whether the type at one of the positions, all after `at`, mentions the variable at `at`
 abbrev pub is_mentioned : (tele : List Item) (at : ℕ) (positions : List ℕ) → Bool
 is_mentioned tele at [] = false
 is_mentioned tele at (position ∷ positions) =

@@ -12,7 +12,7 @@ use Rattle.tele_eq.specs.Congruences.{congruences}
 abbrev pub HasAllIdentities : Signature → Type 0
 HasAllIdentities S = (i : ℕ) → i < top → HasIdentity S i
 
--- a telescope behind n variables, with levels that types have
+-- a telescope after n variables, with levels that types have
 pub record AreScopedItems (S : Signature) (n : ℕ) (X : List Item) : Type 0 where
   pub types : IsScopedTelescope S n (map (λ item. item.type) X)
   pub levels : All (λ item. item.level < top) X

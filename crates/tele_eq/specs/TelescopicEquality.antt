@@ -46,7 +46,7 @@ applied_to_pairs head (t ∷ positions) z e depth = applied_to_pairs (App (App h
 abbrev pub Goal : Type 0
 Goal = (z e : Environment) → ℕ → Term
 
--- \z_s e_s. (z_t : A_t) (e_t : its equation from u to z) .. -> C, for the positions t behind s
+-- \z_s e_s. (z_t : A_t) (e_t : its equation from u to z) .. -> C, for the positions t after s
 abbrev pub motive : List Item → (u : Environment) → Lefts → Goal → (s : ℕ) (positions : List ℕ) (depth : ℕ) → Term
 motive X u w C s positions depth =
     let z = inside (s ∷ positions) depth u in
@@ -56,7 +56,7 @@ motive X u w C s positions depth =
     (equations_over Product X w positions z e (depth + 2) (C z e (depth + 2 + 2 * length positions))))
 
 -- The telescopic J: a term of the goal at z and e, from a base for the goal at u and the reflexivities, by the eliminator into
--- Type m of one equation after the other. A position stands behind those that its type depends on.
+-- Type m of one equation after the other. A position comes after those that its type depends on.
 --
 -- tj(s, t ..) = Eq.i_s!elim.m A_s u_s motive (\z_t e_t .. . tj(t ..)) z_s e_s z_t e_t ..
 abbrev pub telescopic_j : List Item → (u : Environment) → Lefts → (m : ℕ) → Goal → (base : ℕ → Term) (positions : List ℕ)
@@ -106,7 +106,7 @@ left_sides X u = left_below (length X) X u
 abbrev pub as_bound : Environment
 as_bound depth j = variable depth j
 
--- the equation of u_j and v_j behind those of the earlier positions, with the left sides that n levels of transports give
+-- the equation of u_j and v_j after those of the earlier positions, with the left sides that n levels of transports give
 abbrev pub equation_behind : (n : ℕ) → List Item → (left right : List Term) → (j : ℕ) → Term
 equation_behind n X left right j = equation X (left_below n X (outside left)) (outside right) as_bound j j
 

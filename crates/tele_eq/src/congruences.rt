@@ -13,7 +13,7 @@ use crate::telescopic::congruence_below;
 use core_terms::{Items, Stop, Tele};
 use std::alloc::Global;
 
-/// The congruences at `count` positions from `j` on, each with those of `n` levels before it, behind those that are made.
+/// The congruences at `count` positions from `j` on, each with those of `n` levels before it, after those that are made.
 #[tactic(auto, using(crate::proofs::Growing::growing))]
 fn congruences_from(
     alloc: Global,

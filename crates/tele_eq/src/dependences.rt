@@ -44,7 +44,7 @@ fn type_has(tele: &[Item], position: u32, n: u32) -> bool
     }
 }
 
-/// Whether the type at one of the positions, all behind `at`, mentions the variable at `at`.
+/// Whether the type at one of the positions, all after `at`, mentions the variable at `at`.
 fn is_mentioned(tele: &[Item], at: u32, positions: &[u32]) -> bool
     requires { AreSmall (items_of tele.now) }
     ensures { result ≡ spec.is_mentioned (items_of tele.now) at positions.now }

@@ -11,7 +11,7 @@ use crate::telescopic::equation;
 use core_terms::{Items, Stop, Tele, Term};
 use std::alloc::Global;
 
-/// The equations at `count` positions from `j` on, behind those that are made.
+/// The equations at `count` positions from `j` on, after those that are made.
 #[tactic(auto, using(crate::proofs::Growing::growing))]
 fn equations_from(
     alloc: Global,

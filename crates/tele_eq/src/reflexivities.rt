@@ -12,7 +12,7 @@ use crate::typing::reflexive;
 use core_terms::{Items, Stop, Tele, Term};
 use std::alloc::Global;
 
-/// The reflexivities of `count` positions from `j` on, behind those that are made.
+/// The reflexivities of `count` positions from `j` on, after those that are made.
 #[tactic(auto, using(crate::proofs::Growing::growing))]
 fn reflexivities_from(
     alloc: Global,

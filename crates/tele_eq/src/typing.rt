@@ -16,7 +16,7 @@ use core_sig::equality;
 use core_terms::{Stop, Term};
 use std::alloc::Global;
 
-/// The level at a position, or 0 behind the last one.
+/// The level at a position, or 0 after the last one.
 pub(crate) fn level_at(tele: &[Item], position: u32) -> u8
     ensures { result ≡ items.level_at (items_of tele.now) position }
 {

@@ -93,7 +93,7 @@ context_before G (a ∷ tele) context = elim (context_before (a ∷ G) tele cont
 head_sort : {S : Signature} {G : Context} {a : Term} → IsContext S (a ∷ G) → HasSort S G a
 head_sort (bind i context d) = (i, d)
 
--- products over a telescope have a sort where the body has one behind it
+-- products over a telescope have a sort where the body has one after it
 pub telescope_formation : TelescopeFormation
 telescope_formation S G [] body context d = d
 telescope_formation S G (a ∷ tele) body context d =

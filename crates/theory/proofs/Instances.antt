@@ -34,7 +34,7 @@ ups-up : (s : ℕ → Term) (r : ℕ → ℕ) (n : ℕ) → ups s (up r n) ≡ u
 ups-up s r zero = refl
 ups-up s r (suc n) = refl
 
--- an instantiation behind a renaming is one instantiation
+-- an instantiation after a renaming is one instantiation
 pub inst-ren : (s : ℕ → Term) (r : ℕ → ℕ) (t : Term) → inst s (ren r t) ≡ inst (λ n. s (r n)) t
 inst-ren s r (Pi a b) = ap₂ Pi (inst-ren s r a) (inst-ren (ups s) (up r) b ∙ inst-same b (ups-up s r))
 inst-ren s r (Lam a b) = ap₂ Lam (inst-ren s r a) (inst-ren (ups s) (up r) b ∙ inst-same b (ups-up s r))
@@ -47,7 +47,7 @@ up-ups : (r : ℕ → ℕ) (s : ℕ → Term) (n : ℕ) → ren (up r) (ups s n)
 up-ups r s zero = refl
 up-ups r s (suc n) = ren-ren (up r) suc (s n) ∙ sym (ren-ren suc r (s n))
 
--- a renaming behind an instantiation is one instantiation
+-- a renaming after an instantiation is one instantiation
 pub ren-inst : (r : ℕ → ℕ) (s : ℕ → Term) (t : Term) → ren r (inst s t) ≡ inst (λ n. ren r (s n)) t
 ren-inst r s (Pi a b) = ap₂ Pi (ren-inst r s a) (ren-inst (up r) (ups s) b ∙ inst-same b (up-ups r s))
 ren-inst r s (Lam a b) = ap₂ Lam (ren-inst r s a) (ren-inst (up r) (ups s) b ∙ inst-same b (up-ups r s))

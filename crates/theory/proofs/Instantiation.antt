@@ -40,7 +40,7 @@ extend-ups : (s : ℕ → Term) (u : Term) (n : ℕ) → inst (extend Var u) (up
 extend-ups s u zero = refl
 extend-ups s u (suc n) = inst-ren (extend Var u) suc (s n) ∙ inst-var (s n)
 
--- a term for the nearest variable behind an instantiation under a binder
+-- a term for the nearest variable after an instantiation under a binder
 put-ups : (s : ℕ → Term) (b u : Term) → put u (inst (ups s) b) ≡ inst (extend s u) b
 put-ups s b u = inst-inst (extend Var u) (ups s) b ∙ inst-same b (extend-ups s u)
 
@@ -77,7 +77,7 @@ pub inst-products : (s : ℕ → Term) (tele : Telescope) (body : Term)
 inst-products s [] body = refl
 inst-products s (a ∷ tele) body = ap (Pi (inst s a)) (inst-products (ups s) tele body)
 
--- an instantiation behind another, in each term of a list
+-- an instantiation after another, in each term of a list
 pub map-inst-inst : (p s : ℕ → Term) (ts : List Term) → map (inst p) (map (inst s) ts) ≡ map (inst (λ n. inst p (s n))) ts
 map-inst-inst p s [] = refl
 map-inst-inst p s (t ∷ ts) = ap₂ ◌∷◌ (inst-inst p s t) (map-inst-inst p s ts)

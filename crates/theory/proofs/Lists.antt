@@ -28,7 +28,7 @@ slice_get-append_right (x ∷ xs) ys n = let e : suc (length xs) + n ≡ suc (le
 pub All-tail : {X : Type 0} (P : X → Type 0) (x : X) (xs : List X) → All P (x ∷ xs) → All P xs
 All-tail P x xs h k d w = h (suc k) d (omega arith)
 
--- each element of xs is before the split, and each of ys behind it
+-- each element of xs is before the split, and each of ys after it
 pub AllPairs-append : {X : Type 0} (R : X → X → Type 0) (B A : X → Type 0) (xs ys : List X) → ((x y : X) → B x → A y → R x y)
     → All B xs → All A ys → AllPairs R xs → AllPairs R ys → AllPairs R (xs ++ ys)
 AllPairs-append R B A [] ys across b a r s = s
@@ -71,7 +71,7 @@ slice_get-take (suc n) [] m x at = at
 slice_get-take (suc n) (y ∷ xs) zero x at = at
 slice_get-take (suc n) (y ∷ xs) (suc m) x at = slice_get-take n xs m x at
 
--- a list is what stands before an element, the element and what is behind it
+-- a list is what stands before an element, the element and what is after it
 pub split_at : {X : Type 0} (xs : List X) (n : ℕ) (x : X) → slice_get xs n ≡ Some x → xs ≡ (take n xs ++ x ∷ []) ++ drop (suc n) xs
 split_at [] n x at = absurd (none-some x at)
 split_at (y ∷ xs) zero x at = ap (λ z. z ∷ xs) (some_is at)

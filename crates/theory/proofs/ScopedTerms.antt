@@ -192,6 +192,6 @@ telescope-from S G n (a ∷ tele) e h =
     let k = telescope-from S (a ∷ G) (n + 1) tele (omega arith) h in
     (k.0.1, (scoped_over_more S (length G) n a (omega arith) k.0.0, k.1))
 
--- a telescope is scoped where the context behind it is
+-- a telescope is scoped where the context after it is
 pub context-scoped : ContextScoped
 context-scoped S tele = (λ h. context-from S [] 0 tele refl tt h, λ h. (telescope-from S [] 0 tele refl h).1)

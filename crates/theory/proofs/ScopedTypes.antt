@@ -100,7 +100,7 @@ scoped-hypotheses s P (Recursive inner targets level ∷ arguments) (u ∷ us) k
     (scoped-hypotheses (extend s u) P arguments us (k + 1) n (free_of-extend s u k n each hu) hp sa.1
     (All-tail (Scoped n) u us su))
 
--- the variables that are bound by a method's arguments, and those of the record behind them
+-- the variables that are bound by a method's arguments, and those of the record after them
 scoped-filled : (s : ℕ → Term) (j k n : ℕ) → Places s k n
     → Places (fill (λ i. weaken_by j (s i)) (variables j)) (k + j) (n + j)
 scoped-filled s j k n each i lt =

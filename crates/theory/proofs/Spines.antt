@@ -5,7 +5,7 @@ use Rattle.theory.specs.Terms.Term.{App}
 use Rattle.theory.specs.Telescopes.{applied}
 use Rattle.theory.specs.Spines.{head_of, spine_of}
 
--- arguments behind arguments
+-- arguments after arguments
 pub applied-append : (h : Term) (us vs : List Term) → applied h (us ++ vs) ≡ applied (applied h us) vs
 applied-append h [] vs = refl
 applied-append h (u ∷ us) vs = applied-append (App h u) us vs

@@ -10,7 +10,7 @@ use Rattle.theory.specs.Conversion.{Step}
 use Rattle.theory.specs.WellFormed.{IsTyped}
 use Rattle.theory.specs.Scopes.{IsTelescopeOver, IsConstructorOver, IsClosedFamily}
 
--- products are scoped where their telescope is, and what stands behind it
+-- products are scoped where their telescope is, and what comes after it
 abbrev pub FreeOfProducts : Type 0
 FreeOfProducts =
     (tele : Telescope) (body : Term) (n : ℕ) →

@@ -64,6 +64,6 @@ IotaScoped =
     All (IsScoped S k) ps → IsScoped S k P → All (IsScoped S k) ms → IsScoped S k method → All (IsScoped S k) us →
     IsScoped S k (iota_right n m ps P ms c.arguments method us)
 
--- the context behind a telescope
+-- the context after a telescope
 abbrev pub ContextScoped : Type 0
 ContextScoped = (S : Signature) (tele : Telescope) → IsScopedTelescope S 0 tele ↔ IsScopedContext S (context_behind [] tele)

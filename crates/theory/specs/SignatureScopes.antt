@@ -35,7 +35,7 @@ pub record IsScoped (S : Signature) (n : ℕ) (t : Term) : Type 0 where
   pub variables : free_of t ≤ n
   pub entries : HasEntries S t
 
--- each type of a telescope behind n variables is scoped over these and the types before it
+-- each type of a telescope after n variables is scoped over these and the types before it
 abbrev pub IsScopedTelescope : Signature → ℕ → Telescope → Type 0
 IsScopedTelescope S n [] = Unit {0}
 IsScopedTelescope S n (a ∷ tele) = IsScoped S n a × IsScopedTelescope S (n + 1) tele
@@ -45,7 +45,7 @@ abbrev pub IsScopedContext : Signature → Context → Type 0
 IsScopedContext S [] = Unit {0}
 IsScopedContext S (a ∷ G) = IsScoped S (length G) a × IsScopedContext S G
 
--- an argument behind n variables, with a level that a family may have
+-- an argument after n variables, with a level that a family may have
 abbrev pub IsScopedArgument : Signature → ℕ → Argument → Type 0
 IsScopedArgument S n (Plain type level) = IsScoped S n type × (level < top)
 IsScopedArgument S n (Recursive inner targets level) =
@@ -55,7 +55,7 @@ abbrev pub IsScopedArguments : Signature → ℕ → List Argument → Type 0
 IsScopedArguments S n [] = Unit {0}
 IsScopedArguments S n (a ∷ arguments) = IsScopedArgument S n a × IsScopedArguments S (n + 1) arguments
 
--- a constructor behind n parameters, of a family with `count` indices
+-- a constructor after n parameters, of a family with `count` indices
 pub record IsScopedConstructor (S : Signature) (n count : ℕ) (c : Constructor) : Type 0 where
   pub arguments : IsScopedArguments S n c.arguments
   pub targets : All (IsScoped S (n + length c.arguments)) c.targets

@@ -3,19 +3,19 @@ use Rattle.std.specs.Prelude.{ℕ, zero, suc, ◌+◌, List, [], ◌∷◌, leng
 use Rattle.theory.specs.Terms.{Term, Var, Pi, Lam, App, lift}
 use Rattle.theory.specs.Substitutions.{weaken, ups, ren, inst}
 
--- a context lists the types of its variables from the nearest one on, each over the variables behind it
+-- a context lists the types of its variables from the nearest one on, each over the variables after it
 abbrev pub Context : Type 0
 Context = List Term
 
 abbrev pub Telescope : Type 0
 Telescope = List Term
 
--- the context behind a telescope
+-- the context after a telescope
 abbrev pub context_behind : Context → Telescope → Context
 context_behind G [] = G
 context_behind G (a ∷ tele) = context_behind (a ∷ G) tele
 
--- the nearest types of a context where `by` types are put in behind them
+-- the nearest types of a context where `by` types are put in after them
 abbrev pub lift_context : Context → ℕ → Context
 lift_context [] by = []
 lift_context (a ∷ near) by = lift a by (length near) ∷ lift_context near by

@@ -7,7 +7,7 @@ use Rattle.theory.specs.Signatures.{Signature, TypeOf}
 use Rattle.theory.specs.Conversion.{Below}
 
 mutual
-  -- each type of the context has a sort over those behind it
+  -- each type of the context has a sort over those after it
   pub data IsContext (S : Signature) : Context → Type 0 where
     empty : IsContext S []
     bind : {G : Context} {a : Term} (i : ℕ) → IsContext S G → Has S G a (Sort i) → IsContext S (a ∷ G)

@@ -71,7 +71,7 @@ Substitution =
 abbrev pub Generation : Type 0
 Generation = (S : Signature) (G : Context) (t a : Term) → Has S G t a → Parts S G t a
 
--- products over a telescope have a sort where its types make a context, and the body has a sort behind it
+-- products over a telescope have a sort where its types make a context, and the body has a sort after it
 abbrev pub TelescopeFormation : Type 0
 TelescopeFormation =
     (S : Signature) (G : Context) (tele : Telescope) (body : Term) →

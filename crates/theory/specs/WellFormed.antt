@@ -69,7 +69,7 @@ pub record IsWellFormed (S : Signature) : Type 0 where
   pub distinct : AllPairs (λ x y. x ≢ y) (names S)
   pub each : (n : ℕ) (e : Entry) → IsEntryAt S n e → IsEntry (first_entries S n) e
 
--- a definition that has a type and no body yet, behind the entries of S
+-- a definition that has a type and no body yet, after the entries of S
 abbrev pub provisional : Signature → List ℕ → Term → Signature
 provisional S name type = pushed S (Definition name type (Const (length S.entries)))
 

@@ -16,7 +16,7 @@ pub fn height_of_ren()
     ensures { HeightOfRen }
 {}
 
-/// The bounds on the height behind an instantiation.
+/// The bounds on the height after an instantiation.
 pub fn height_of_inst()
     ensures { HeightOfInst }
 {}

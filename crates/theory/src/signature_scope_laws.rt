@@ -46,7 +46,7 @@ pub fn subst_scoped()
     ensures { SubstScoped }
 {}
 
-/// A telescope is scoped exactly where the context behind it is.
+/// A telescope is scoped exactly where the context after it is.
 pub fn context_scoped()
     ensures { ContextScoped }
 {}

@@ -51,7 +51,7 @@ pub fn generation()
     ensures { Generation }
 {}
 
-/// Products over a telescope have a sort where the body has one behind it.
+/// Products over a telescope have a sort where the body has one after it.
 pub fn telescope_formation()
     ensures { TelescopeFormation }
 {}

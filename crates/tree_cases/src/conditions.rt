@@ -16,7 +16,7 @@ use core_terms::{Clause, Pat, Tele, Term};
 /// More variables than any context may have that walks and trees begin with.
 const MOST_LEVELS: usize = 2_147_400_000;
 
-/// Whether each type of a telescope behind `n` variables is over these and the types before it.
+/// Whether each type of a telescope after `n` variables is over these and the types before it.
 fn is_scoped_telescope(sig: &Signature, n: u32, tele: &[Term]) -> bool
     ensures { IsTrue result → IsScopedTelescope sig.now n (tele_of tele.now) }
 {

@@ -11,7 +11,7 @@ use core_sig::{Signature, is_scoped};
 use core_terms::{Pat, Term};
 use kernel_reduce::family;
 
-/// Whether a constructor has so many arguments behind the parameters.
+/// Whether a constructor has so many arguments after the parameters.
 fn has_arguments(sig: &Signature, n: u32, number: u32, count: usize) -> bool
     ensures { IsTrue result → (c : Constructor) → constructor_at sig.now n number ≡ Some c → count ≡ length c.arguments }
 {

@@ -76,7 +76,7 @@ struct Function {
     clauses: Items<Clause>,
 }
 
-/// Moves copies of the first products' domains to the types, and answers a copy of what stands behind them.
+/// Moves copies of the first products' domains to the types, and answers a copy of what comes after them.
 fn opened(alloc: Global, t: &Term, count: u32, types: &mut Tele) -> Result<Term, Stop> {
     match t {
         Term::Pi(a, b) if count > 0 => {

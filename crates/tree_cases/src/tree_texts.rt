@@ -1,7 +1,7 @@
 //! Texts of trees.
 //!
 //! A leaf is the number of its clause, with the terms of the clause's variables in brackets. A split is the variable with its branches
-//! in parentheses. A branch has the rules of its steps, and behind a colon its tree, or `!` where it is absurd. The rules are `R`
+//! in parentheses. A branch has the rules of its steps, and after a colon its tree, or `!` where it is absurd. The rules are `R`
 //! and `L`, with the variable, for a solution of the right or the left side, `I` for injectivity, `C` for a conflict, `Y` with the variable
 //! for a cycle, and `D` for a deletion.
 use crate::texts::{add_number, add_terms};

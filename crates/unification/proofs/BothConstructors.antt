@@ -1,4 +1,4 @@
--- Injectivity and conflict of the constructors on both sides of an equation, which stands behind k others of its group.
+-- Injectivity and conflict of the constructors on both sides of an equation, which comes after k others of its group.
 use Rattle.std.proofs.Common.{◌≡◌, ℕ, suc, ◌+◌, ◌<◌, ◌≤◌, inl, inr, ◌==◌, Bool, true, Some, List, length, drop, slice_get, All, refl, ap, sym, subst as transport, subst₂, ◌∙◌, arith}
 use Rattle.std.proofs.lemmas.Bool.{eqb-true}
 use Rattle.theory.specs.Terms.{Term}

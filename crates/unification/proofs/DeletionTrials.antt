@@ -28,7 +28,7 @@ use Rattle.unification.proofs.Sizes.{size-positive, sides-moved, sides-behind}
 use Rattle.unification.proofs.Trials.{Found, Comes, none-comes, applies-comes, goes_to-comes, cond-comes, on_tidied-comes}
 use Rattle.unification.proofs.TurnProperties.{IsTurn, AreScopedSides, sticks-is, sticks_at-is, tried, first-at, type-scoped, first-as, single-scoped}
 
--- the equations behind a deletion are smaller
+-- the equations after a deletion are smaller
 deleted-smaller : (s : State) (e : Equation) (i : ℕ) (A u : Term) → slice_get s.equations 0 ≡ Some e
     → size_of_sides (deleted_state s i A u).equations < size_of_sides s.equations
 deleted-smaller s e i A u at =

@@ -1,4 +1,4 @@
--- The dependants of a variable: they stand behind it, in order, and the type of a variable that is none of them mentions none.
+-- The dependants of a variable: they come after it, in order, and the type of a variable that is none of them mentions none.
 use Rattle.std.proofs.Common.{◌≡◌, ℕ, zero, suc, ◌+◌, ◌-◌, ◌<◌, ◌≤◌, ◌⊎◌, inl, inr, ◌||◌, Bool, true, false, cond, List, [], ◌∷◌, length, refl, subst, arith}
 use Rattle.theory.specs.Terms.{Term}
 use Rattle.theory.specs.Telescopes.{Telescope}

@@ -1,4 +1,4 @@
--- Equations that move behind other variables are scoped there, where what stands for their variables is.
+-- Equations that move after other variables are scoped there, where what stands for their variables is.
 use Rattle.std.proofs.Common.{◌≡◌, ℕ, zero, suc, ◌+◌, ◌-◌, ◌<◌, ◌≤◌, ◌⊎◌, inl, inr, IfSome, List, [], ◌∷◌, ◌++◌, length, drop, slice_get, All, ap, sym, subst, arith}
 use Rattle.theory.specs.Terms.{Term}
 use Rattle.theory.specs.Signatures.{Signature}
@@ -35,7 +35,7 @@ equations-at S n k (suc i) (e ∷ es) h =
 
 -- ---- what stands for variables and places
 
--- what stands for each level is scoped from a depth on, also behind i equations more on both sides
+-- what stands for each level is scoped from a depth on, also after i equations more on both sides
 abbrev pub StandsFrom : Signature → (size depth : ℕ) → Environment → Type 0
 StandsFrom S size depth z = (i j d : ℕ) → j < size + i → depth + i ≤ d → IsScoped S d (z d j)
 
@@ -71,7 +71,7 @@ moved-form z y side size depth e h = record {
   form = ap (put y size depth) h.form;
 }
 
--- equations behind k others in a context of n variables become equations behind l others in one of m
+-- equations after k others in a context of n variables become equations after l others in one of m
 moved-from : (S : Signature) (n m : ℕ) (z y : Environment) (side : Term → Term) (first depth : ℕ) → StandsFrom S first depth z → StandsFrom S first depth y
     → ((t : Term) → IsScoped S n t → IsScoped S m (side t)) → (i k l : ℕ) (es : List Equation) → n + k ≡ first + i → m + l ≡ depth + i
     → AreScopedEquations S n k es → AreScopedEquations S m l (moved z y side (first + i) (depth + i) es)

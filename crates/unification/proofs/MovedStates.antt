@@ -1,4 +1,4 @@
--- The states behind a solution, a deletion and an injectivity are scoped.
+-- The states after a solution, a deletion and an injectivity are scoped.
 use Rattle.std.proofs.Common.{◌≡◌, ℕ, ◌+◌, ◌-◌, ◌<◌, ◌≤◌, inl, inr, ◌==◌, true, Some, IfOk, List, [], ◌∷◌, ◌++◌, length, map, drop, slice_get, All, refl, sym, subst, ◌∙◌, arith, eq-eqb}
 use Rattle.std.proofs.lemmas.List.Elements.{All-weaker, All-map}
 use Rattle.std.proofs.lemmas.Bool.{eqb-true}

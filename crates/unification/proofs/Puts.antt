@@ -12,7 +12,7 @@ use Rattle.tele_eq.specs.Environments.{Environment, put, put_under, put_variable
 use Rattle.tele_eq.proofs.Carrying.{ups_by, inst-under, inst-none}
 use Rattle.unification.proofs.Cases.{below-or_from, first-of_two, second-of_two, first-of_three, second-of_three, third-of_three}
 
--- behind the depth d the environment lifts its terms at the positions below `size`
+-- after the depth d the environment lifts its terms at the positions below `size`
 abbrev pub Lifts : Environment → (size d : ℕ) → Type 0
 Lifts s size d = (by j : ℕ) → j < size → s (d + by) j ≡ weaken_by by (s d j)
 

@@ -26,7 +26,7 @@ goes_on-runs : (S : Signature) (s t : State) (left rest : ℕ) (step : Step) →
 goes_on-runs S s t left rest step is (Ok outcome) end run = goes s t left rest end step (Ok outcome) is run
 goes_on-runs S s t left rest step is (Err e) end run = goes s t left rest end step (Err e) is run
 
--- one turn, with runs behind it
+-- one turn, with runs after it
 one_turn-runs : (S : Signature) (s : State) (left : ℕ) (go : State → ℕ → Going)
     → ((t : State) (rest : ℕ) (step : Step) → turn_of S s left ≡ answered (Ok (Some (Goes step t))) rest → IsRunOf S (go s left) t rest)
     → IsRunOf S (one_turn S go) s left

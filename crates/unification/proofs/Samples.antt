@@ -1,4 +1,4 @@
--- A signature for examples: behind the prelude Nat, Fin, Has, Box, Vec, K, W, D, Tk, Het, Tree, and constants.
+-- A signature for examples: after the prelude Nat, Fin, Has, Box, Vec, K, W, D, Tk, Het, Tree, and constants.
 use Rattle.std.proofs.Common.{ℕ, zero, suc, Bool, List, [], ◌∷◌, ◌++◌}
 use Rattle.theory.specs.Terms.{Term}
 use Rattle.theory.specs.Terms.Term.{Var, Sort, Pi, Lam, App, Const, Fam, Con}

@@ -30,7 +30,7 @@ variables-scoped S n zero low = All-nil (IsScoped S n)
 variables-scoped S n (suc k) low =
     All-cons (IsScoped S n) (Var k) (variables k) (var-scoped (omega arith)) (variables-scoped S n k (omega arith))
 
--- parameters, with a closed term behind them
+-- parameters, with a closed term after them
 filled : (S : Signature) (m : ℕ) (ps : List Term) → All (IsScoped S m) ps → (v : ℕ) → IsScoped S m (fill no_variable ps v)
 filled S m ps all v = fill-kept (IsScoped S m) no_variable ps (λ i. sort-scoped 0) all v
 

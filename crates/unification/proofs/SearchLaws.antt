@@ -75,7 +75,7 @@ here_or-same None search other left e = e
 found_as-same : {A B : Type 0} (f : A → B) (search other : Search A) (left : ℕ) → search left ≡ other left → found_as f search left ≡ found_as f other left
 found_as-same f search other left e = ap (λ r. and_next r (λ found rest. answered (Ok (option_map f found)) rest)) e
 
--- an argument that has been reduced, and those behind it
+-- an argument that has been reduced, and those after it
 argument-same : (S : Signature) (below other : Below) (most high : ℕ) → Agree most high below other → BelowSpends other
     → (a : Argument) (u : Term) (arguments : List Argument) (us : List Term) (left rest : ℕ) (v : Term) → left ≤ most → rest ≤ left → (rest ≡ left → height v < high)
     → ((end : ℕ) → end ≤ most → among_arguments S below arguments us end ≡ among_arguments S other arguments us end)

@@ -57,7 +57,7 @@ sides-moved items types side size depth (e ∷ es) h =
     let k = sides-moved items types side (size + 1) (depth + 1) es h in
     omega arith
 
--- an equation has no part in those behind it
+-- an equation has no part in those after it
 pub sides-behind : (es : List Equation) (k : ℕ) (e : Equation) → slice_get es k ≡ Some e
     → size_of e.left + size_of e.right + size_of_sides (drop (suc k) es) ≤ size_of_sides es
 sides-behind [] k e at = absurd (cc)

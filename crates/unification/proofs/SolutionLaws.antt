@@ -59,7 +59,7 @@ solved-is_unified S p s t steps ready scoped start chain end =
 
 -- ---- runs
 
--- a step more behind a chain
+-- a step more after a chain
 chain-then : (S : Signature) (s t u : State) (steps : List Step) (step : Step) → Chain S s steps t → IsScopedAt S t step
     → Steps S t step u → Chain S s (steps ++ step ∷ []) u
 chain-then S s t u steps step (none s') scoped follows = more s u u step [] scoped follows (none u)

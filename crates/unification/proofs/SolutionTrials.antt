@@ -39,7 +39,7 @@ use Rattle.unification.proofs.Trials.{Found, Comes, none-comes, or_else-comes, o
 use Rattle.unification.proofs.TurnProperties.{DeletesWithK, IsTurn, IsTried, tried, first-at, type-scoped, first-as, single-scoped}
 use Rattle.unification.proofs.Variables.{variable-is, variable-low}
 
--- ---- the state behind a solution
+-- ---- the state after a solution
 
 put-of_none : (s : Environment) (n m : ℕ) → n ≡ 0 → m ≡ 0 → (t : Term) → size_of (put s n m t) ≡ size_of t
 put-of_none s n m e f t = ap₂ (λ i j. size_of (put s i j t)) e f ∙ size-put s t

@@ -1,4 +1,4 @@
--- The context behind a solution: the other variables stand in it once each, and each type is over what stands before it.
+-- The context after a solution: the other variables stand in it once each, and each type is over what stands before it.
 use Rattle.std.proofs.Common.{◌≡◌, ℕ, zero, suc, ◌+◌, ◌-◌, ◌<◌, ◌≤◌, ◌⊎◌, inl, inr, Bool, true, false, cond, List, [], ◌∷◌, ◌++◌, length, drop, refl, ap, sym, get_or-drop, length-drop, length-append, drop_of_length-le, subst, ◌∙◌, arith}
 use Rattle.std.proofs.lemmas.Bool.{not-true}
 use Rattle.theory.specs.Terms.{Term}

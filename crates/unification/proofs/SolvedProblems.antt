@@ -65,7 +65,7 @@ sides-moved S r q items types side size depth (e ∷ equations) passes h = (
   sides-moved S r q items types side (size + 1) (depth + 1) equations passes h.1,
 )
 
--- the equations behind a solution
+-- the equations after a solution
 sides-solved : (S : Signature) (r q : ℕ → Term) (s : State) (i p : ℕ) (A u : Term)
     → ((t : Term) → inst r (put (solved (length s.context) (order_without s.context p) p u) (length s.context) (length (order_without s.context p)) t) ≡ inst q t)
     → SidesConvert S r (solved_state s i p A u).equations → SidesConvert S q (drop 1 s.equations)
@@ -79,7 +79,7 @@ sides-solved S r q s i p A u passes h =
     (behind n 1 m (solved n order p u) (over_first m (reflexivity i A' u' ∷ []))) (put (solved n order p u) n m) (n + 1) m
     (drop 1 s.equations) passes h
 
--- behind a deletion
+-- after a deletion
 sides-deleted : (S : Signature) (q : ℕ → Term) (s : State) (i : ℕ) (A u : Term)
     → SidesConvert S q (deleted_state s i A u).equations → SidesConvert S q (drop 1 s.equations)
 sides-deleted S q s i A u h =
@@ -112,7 +112,7 @@ sides-taken S closed q (suc k) (e ∷ equations) (t ∷ ts) (u ∷ us) hl hr h =
   sides-taken S closed q k equations ts us hl.1 hr.1 h.1,
 )
 
--- the equations of a group, and those behind it
+-- the equations of a group, and those after it
 sides-group : (S : Signature) (q : ℕ → Term) (k g : ℕ) (equations : List Equation) (last : Equation) → g ≡ k + 1
     → slice_get equations k ≡ Some last → SidesConvert S q (take k equations)
     → Converts S (inst q last.left) (inst q last.right) → SidesConvert S q (drop g equations) → SidesConvert S q equations
@@ -143,7 +143,7 @@ built-converts S q b d e number hp ha =
     (transport (Converts S (Con b.n b.number)) (ap₂ Con e number) same)
     (each-append S (map (inst q) b.parameters) (map (inst q) d.parameters) (map (inst q) b.arguments) (map (inst q) d.arguments) hp ha)))
 
--- what the equations behind an injectivity tell: the arguments convert, and the equations behind the group hold
+-- what the equations after an injectivity tell: the arguments convert, and the equations after the group hold
 injected-sides : (S : Signature) (s : State) (q : ℕ → Term) (g : ℕ) (f : Family) (ps : List Term) (b d : Built) → IsBuilt S b → IsBuilt S d
     → b.n ≡ d.n → b.number ≡ d.number
     → SidesConvert S q (injected_state s g b.n b.number f b.constructor ps b.arguments d.arguments).equations
@@ -186,7 +186,7 @@ map-passes : (r q : ℕ → Term) (side : Term → Term) (ts : List Term) → ((
 map-passes r q side [] passes = refl
 map-passes r q side (t ∷ ts) passes = ap₂ ◌∷◌ (passes t) (map-passes r q side ts passes)
 
--- behind a solution, where the two sides are the variable and the term
+-- after a solution, where the two sides are the variable and the term
 solve-unifies : (S : Signature) → HasClosedBodies S → (s t : State) (e : Equation) (x : ℕ) (A u l r : Term) → IsFirst S s e A l r
     → IsSolvable s x A u → ((q : ℕ → Term) → inst q (Var x) ≡ inst q u → inst q l ≡ inst q r)
     → IsUnifiedIn S (solved_state s e.place.level (level_of (length s.context) x) A u) t → IsUnifiedIn S s t
@@ -218,7 +218,7 @@ solve-unifies S closed s t e x A u l r first solvable become h = record {
         ∙ (ap (inst h.terms) (solved-agrees s.context (level_of (length s.context) x) x u there solvable.variable refl solvable.term)
         ∙ inst-inst h.terms (solution_at s.context (level_of (length s.context) x) u) u)
 
--- behind an injectivity of one equation
+-- after an injectivity of one equation
 inject-unifies : (S : Signature) → HasClosedBodies S → (s t : State) (e : Equation) (A : Term) (b d : Built) → IsBuilt S b → IsBuilt S d
     → b.n ≡ d.n → b.number ≡ d.number → IsFirst S s e A (term_of b) (term_of d) → AreMembers S s 1 b d
     → IsUnifiedIn S (injected_state s 1 b.n b.number b.family b.constructor b.parameters b.arguments d.arguments) t
@@ -234,7 +234,7 @@ inject-unifies S closed s t e A b d hb hd n number first members h =
           parts.1;
     }
 
--- behind the injectivity of a group
+-- after the injectivity of a group
 group-unifies : (S : Signature) → HasClosedBodies S → (s t : State) (k : ℕ) (f : Family) (ps : List Term) (type : Term) (b d : Built)
     → IsBuilt S b → IsBuilt S d → b.n ≡ d.n → b.number ≡ d.number → IsGroup S s k b.n f ps type (term_of b) (term_of d)
     → AreMembers S s (k + 1) b d
@@ -272,7 +272,7 @@ group-unifies S closed s t k f ps type b d hb hd n number group members h =
         (values-each S closed (map (inst h.terms) b.parameters) (map (inst h.terms) d.parameters) (map (inst h.terms) b.arguments)
         (map (inst h.terms) d.arguments) b.constructor.targets hp ha))
 
--- behind any step
+-- after any step
 step-unifies : (S : Signature) → HasClosedBodies S → (s u t : State) (step : Step) → Steps S s step u → IsCoherent S s step
     → IsUnifiedIn S u t → IsUnifiedIn S s t
 step-unifies S closed s u t step (solve_right s' e x A w first solvable) coherent h =

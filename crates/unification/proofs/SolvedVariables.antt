@@ -1,4 +1,4 @@
--- What stands for the variables behind a solution: an instantiation, by which the solved variable and the term that solves it
+-- What stands for the variables after a solution: an instantiation, by which the solved variable and the term that solves it
 -- become one term.
 use Rattle.std.proofs.Common.{◌≡◌, ℕ, ◌+◌, ◌-◌, ◌<◌, ◌≤◌, inl, inr, ◌==◌, false, IsTrue, cond, List, length, ap, sym, ◌∙◌, arith}
 use Rattle.std.proofs.lemmas.Bool.{not-true, or_parts}
@@ -19,7 +19,7 @@ use Rattle.unification.proofs.Levels.{place-there}
 use Rattle.unification.proofs.Puts.{Lifts, stands, put-is_inst, put-without}
 use Rattle.unification.proofs.SolvedContexts.{other-among}
 
--- each other variable has a place in the order behind a solution
+-- each other variable has a place in the order after a solution
 other-place : (context : Telescope) (p j : ℕ) → j < length context → (j ≡ p → ⊥)
     → place_in (order_without context p) j < length (order_without context p)
 other-place context p j lt other = (place-there (order_without context p) j (other-among context p j lt other)).0
@@ -61,7 +61,7 @@ stands-lift s size d lifts by v = elim (below-or_from v size) [
       second-of_two v size _ _ le ∙ (ap Var e ∙ ap (weaken_by by) (sym (second-of_two v size _ _ le)))
 ]
 
--- the term that solves variable p, moved behind the new context
+-- the term that solves variable p, moved after the new context
 pub moved-term : (context : Telescope) (p : ℕ) (u : Term) (d : ℕ) → p < length context
     → has_variable (length context - (p + 1)) u ≡ false → length (order_without context p) ≤ d
     → put (reordered (order_without context p)) (length context) d u
@@ -96,7 +96,7 @@ solved-lifts context p u there free by j lt = elim (same-or_not j p) [
         ∙ (sym (ren-inst (λ v. v + by) (stands s (length context) m) u)
         ∙ ap (weaken_by by) (sym (moved-term context p u m there free (omega arith)))))
 
--- what stands for the variables of the context behind a solution of the variable with level p
+-- what stands for the variables of the context after a solution of the variable with level p
 abbrev pub solution_at : Telescope → (p : ℕ) → Term → ℕ → Term
 solution_at context p u =
     stands (solved (length context) (order_without context p) p u) (length context) (length (order_without context p))

@@ -1,10 +1,10 @@
--- What holds of an answer and of the units that are left behind it, where no call gives units back.
+-- What holds of an answer and of the units that are left after it, where no call gives units back.
 use Rattle.std.proofs.Common.{◌≡◌, ℕ, ◌≤◌, Bool, true, false, cond, Result, Ok, Err, IfOk, refl, arith}
 use Rattle.core_terms.specs.Answers.{Spent, and_next, on_answer}
 use Rattle.core_terms.specs.declared.stop.Stop.{Stop}
 use Rattle.kernel_reduce.specs.Reduction.{answered}
 
--- the answer, where there is one, and the units behind it have P
+-- the answer, where there is one, and the units after it have P
 abbrev pub Leaves : {A : Type 0} → (A → ℕ → Type 0) → Result A Stop → ℕ → Type 0
 Leaves P (Ok a) rest = P a rest
 Leaves P (Err e) rest = Unit {0}
@@ -53,7 +53,7 @@ on_answer-within : {A B : Type 0} (P : A → ℕ → Type 0) (Q : B → ℕ → 
 on_answer-within P Q (Ok a) left all go le h k = within-later Q Q (go a left) left all le (λ b rest l q. q) (k a h)
 on_answer-within P Q (Err e) left all go le h k = record { spends = le; leaves = tt }
 
--- one call behind another one
+-- one call after another one
 pub and_next-within : {A B : Type 0} (P : A → ℕ → Type 0) (Q : B → ℕ → Type 0) (first : Spent A) (go : A → ℕ → Spent B) (left : ℕ)
     → Within left P first → ((a : A) (rest : ℕ) → rest ≤ left → P a rest → Within rest Q (go a rest)) → Within left Q (and_next first go)
 and_next-within P Q first go left h k =

@@ -79,7 +79,7 @@ no_cycle : unify_of (sample false)
 unfolding native.Mathlib.Decide.ℕ_discrete sample
 no_cycle = refl
 
--- a term below 2,041 constructors, six times behind a definition
+-- a term below 2,041 constructors, six times after a definition
 abbrev far : Term → Term
 far n = add (add (add (add (add (add (suc_term n))))))
 
@@ -174,7 +174,7 @@ occurs : unify_of (sample false)
 unfolding native.Mathlib.Decide.ℕ_discrete sample
 occurs = refl
 
--- g : Nat -> Nat, n : Nat, e : Eq.0 Nat (suc (g n)) (suc zero): stuck behind an injectivity
+-- g : Nat -> Nat, n : Nat, e : Eq.0 Nat (suc (g n)) (suc zero): stuck after an injectivity
 not_rigid : unify_of (sample false)
     (of_refl (Pi Nat Nat ∷ Nat ∷ equation 0 Nat (suc_term (App (Var 1) (Var 0))) (suc_term zero_term) ∷ [])
     Nat (suc_term (App (Var 2) (Var 1))) (suc_term zero_term)) 100
@@ -285,7 +285,7 @@ group_of_three : unify_of (sample false)
 unfolding native.Mathlib.Decide.ℕ_discrete sample
 group_of_three = refl
 
--- n : Nat, i : Fin n, x : W n i (k n i); n', i': x is matched with w n' i'. The group stands behind a solution, and its
+-- n : Nat, i : Fin n, x : W n i (k n i); n', i': x is matched with w n' i'. The group comes after a solution, and its
 -- types have reflexivities in their transports.
 group_behind_a_solution : unify_of (sample false)
     (record {

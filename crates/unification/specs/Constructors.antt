@@ -21,7 +21,7 @@ abbrev pub both_heads : (l r : Term) → Option Built → Option (Term × Term)
 both_heads l r None = None
 both_heads l r (Some d) = Some (l, r)
 
--- behind the left head form, which is a constructor where there is one: the right side is reduced only then
+-- after the left head form, which is a constructor where there is one: the right side is reduced only then
 abbrev pub right_head : Signature → (l v : Term) → Option Built → ℕ → Spent (Option (Term × Term))
 right_head S l v None left = answered (Ok None) left
 right_head S l v (Some b) left =

@@ -26,7 +26,7 @@ not_found left = answered (Ok None) left
 abbrev pub found_as : {A B : Type 0} → (A → B) → Search A → Search B
 found_as f search left = and_next (search left) (λ found rest. answered (Ok (option_map f found)) rest)
 
--- the arguments with the one that is found in them, or those behind it
+-- the arguments with the one that is found in them, or those after it
 abbrev pub here_or : {A : Type 0} → Option A → Search A → Search A
 here_or (Some a) search left = answered (Ok (Some a)) left
 here_or None search left = search left

@@ -57,7 +57,7 @@ abbrev pub membership_with : Signature → (k : ℕ) → Term → List Term → 
 membership_with S k (Fam n) spine = option_and_then (with_places k n spine) (family_at S n)
 membership_with S k h spine = None
 
--- the type of the place behind k others as a family at them
+-- the type of the place after k others as a family at them
 abbrev pub membership_of : Signature → (k : ℕ) → Term → Option Membership
 membership_of S k t = membership_with S k (head_of t) (spine_of t)
 

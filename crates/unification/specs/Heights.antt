@@ -50,7 +50,7 @@ group_made n number f c ps us vs =
     and_then (bounded_terms (constructor_terms n number ps' c)) (λ terms.
     bounded_terms (group_proofs n number f c ps us vs))))
 
--- the equations behind an injectivity, or Deep
+-- the equations after an injectivity, or Deep
 abbrev pub injected_made : State → (g n number : ℕ) → Family → Constructor → (ps us vs : List Term) → Result (List Equation) Stop
 injected_made s g n number f c ps us vs =
     and_then (equations_made (argument_items n ps c) us vs) (λ types.
@@ -58,7 +58,7 @@ injected_made s g n number f c ps us vs =
     and_then (bounded_terms (constructor_terms n number ps c)) (λ terms.
     Ok (injected_equations s g n number f c ps us vs))))
 
--- the state behind it, or Deep
+-- the state after it, or Deep
 abbrev pub injection_made : State → (g n number : ℕ) → Family → Constructor → (ps us vs : List Term) → Result State Stop
 injection_made s g n number f c ps us vs =
     and_then (injected_made s g n number f c ps us vs) (λ equations. bounded_state (record s { equations = equations }))

@@ -1,4 +1,4 @@
--- The state behind an injectivity: the first equations, between `us_c, c ps us` and `us_c, c ps vs`, become those between the
+-- The state after an injectivity: the first equations, between `us_c, c ps us` and `us_c, c ps vs`, become those between the
 -- arguments us and vs.
 use Rattle.std.specs.Prelude.{ℕ, ◌+◌, List, ◌++◌, length, map, drop}
 use Rattle.theory.specs.Terms.{Term, lift}
@@ -11,11 +11,11 @@ use Rattle.unification.specs.States.{Equation, State, equations_at}
 use Rattle.unification.specs.Moving.{over_first, behind, moved}
 use Rattle.unification.specs.Records.{argument_items, family_items, constructor_terms}
 
--- terms behind so many equations more
+-- terms after so many equations more
 abbrev pub lifted : (by : ℕ) → List Term → List Term
 lifted by terms = map (λ t. lift t by 0) terms
 
--- Behind the equations of the arguments, what proves each equation of the group: congs(I, D ps I; us_c, c ps Ac; es).
+-- After the equations of the arguments, what proves each equation of the group: congs(I, D ps I; us_c, c ps Ac; es).
 abbrev pub group_proofs : (n number : ℕ) → Family → Constructor → (ps us vs : List Term) → List Term
 group_proofs n number f c ps us vs =
     let count = length c.arguments in

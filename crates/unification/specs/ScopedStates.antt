@@ -18,7 +18,7 @@ pub record HasForm (e : Equation) : Type 0 where
   pub v : Term
   pub form : e.type ≡ equation e.place.level A u v
 
--- an equation behind k others, in a context of n variables
+-- an equation after k others, in a context of n variables
 pub record IsScopedEquation (S : Signature) (n k : ℕ) (e : Equation) : Type 0 where
   pub place : IsScoped S (n + k) e.place.type
   pub level : e.place.level < top
@@ -49,7 +49,7 @@ pub record IsScopedProblem (S : Signature) (p : Problem) : Type 0 where
   pub left_length : length p.left ≡ length p.telescope
   pub right_length : length p.right ≡ length p.telescope
 
--- The sides of a step are scoped in the context, and its type behind the places before the group's last one.
+-- The sides of a step are scoped in the context, and its type after the places before the group's last one.
 pub record IsScopedStep (S : Signature) (n : ℕ) (step : Step) : Type 0 where
   pub place : ℕ
   pub group : step.group ≡ place + 1
@@ -69,7 +69,7 @@ IsScopedTurn S s (Fails step u v) =
     IsScopedStep S (length s.context) step × IsScoped S (length s.context) u × IsScoped S (length s.context) v
 IsScopedTurn S s (Sticks why u v) = IsScoped S (length s.context) u × IsScoped S (length s.context) v
 
--- how many variables a context of n has behind a step
+-- how many variables a context of n has after a step
 abbrev pub variables_behind : Rule → (n : ℕ) → ℕ
 variables_behind (SolveRight x) n = n - 1
 variables_behind (SolveLeft x) n = n - 1

@@ -35,7 +35,7 @@ solution_from S s x u left =
 abbrev pub solves : Signature → State → (x : ℕ) (A u : Term) → ℕ → Spent (Option Term)
 solves S s x A u left = cond (is_free_of s x A) (solution_from S s x u left) (answered (Ok None) left)
 
--- the solving term with the state behind the solution, where there is one, or Deep
+-- the solving term with the state after the solution, where there is one, or Deep
 abbrev pub state_solved : State → Equation → (x : ℕ) (A : Term) → Option Term → Result (Option (Term × State)) Stop
 state_solved s e x A None = Ok None
 state_solved s e x A (Some u) =

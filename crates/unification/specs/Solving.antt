@@ -1,4 +1,4 @@
--- The state behind a solution and behind a deletion: the first equation, `Eq.i A u v`, goes out.
+-- The state after a solution and after a deletion: the first equation, `Eq.i A u v`, goes out.
 use Rattle.std.specs.Prelude.{ℕ, ◌+◌, ◌==◌, cond, List, [], ◌∷◌, length, map, drop}
 use Rattle.theory.specs.Terms.{Term}
 use Rattle.theory.specs.Telescopes.{Telescope}

@@ -19,7 +19,7 @@ first_trials S s e =
     (or_else (deletion_trial S s e)
     (stuck_trial S e))))
 
--- `rest` stand behind the first equation: as many groups are tried
+-- `rest` come after the first equation: as many groups are tried
 abbrev pub trials : Signature → State → List Equation → Trial
 trials S s [] = applies Done
 trials S s (e ∷ rest) = or_else (group_trials S s (length rest)) (first_trials S s e)

@@ -1,4 +1,4 @@
-//! What is scoped: the states of runs, their turns and outcomes, and the context behind a solution.
+//! What is scoped: the states of runs, their turns and outcomes, and the context after a solution.
 ghost use Rattle.unification.specs.Laws.{OutcomeScoped, SolvedContext, StartScoped, TurnScoped};
 
 /// The state from which a scoped problem is solved.
@@ -16,7 +16,7 @@ pub fn outcome_scoped()
     ensures { OutcomeScoped }
 {}
 
-/// The context behind a solution.
+/// The context after a solution.
 pub fn solved_context()
     ensures { SolvedContext }
 {}

@@ -39,7 +39,7 @@ module _ (S : Signature) (n x room p : ℕ) (args : List Arg) (us : List code.Te
   no-arguments le = sym (ap (λ xs. among_arguments S (λ before. search_within S n x room) (map (argument_of p) xs) (drop at (tele_of us)) left) (drop-past args at le))
 
   module _ (a : Arg) (u : code.Term) (few : at < length args) (is : a ≡ get_or args at a) (there : at < length us) (at_u : u ≡ get_or us at u) where
-    -- those behind it
+    -- those after it
     abbrev behind : Search (List Term)
     behind left = among_arguments S (λ before. search_within S n x room) (map (argument_of p) (drop (at + 1) args)) (drop (at + 1) (tele_of us)) left
 
@@ -116,7 +116,7 @@ written-before [] (suc at) w = refl
 written-before (u ∷ us) zero w = refl
 written-before (u ∷ us) (suc at) w = ap (λ ws. u ∷ ws) (written-before us at w)
 
--- the answer for those behind is one for all of them
+-- the answer for those after is one for all of them
 pub behind-runs : (at : ℕ) (old new : List code.Term) (u : code.Term) (result : Result Bool Stop) (left : ℕ) (rest whole : Spent (Option (List Term))) → at < length old → u ≡ get_or old at u
     → take (at + 1) new ≡ take (at + 1) old → whole ≡ mapped (λ ws. tree_of u ∷ ws) rest → Runs (λ found. cond found (Some (drop (at + 1) (tele_of new))) None) result left rest
     → Runs (λ found. cond found (Some (drop at (tele_of new))) None) result left whole

@@ -22,7 +22,7 @@ use Rattle.unifier.specs.declared.built.Built.{Built}
 use Rattle.unifier.proofs.BuiltCodes.{from_code, of-built, of-pure}
 use Rattle.unifier.proofs.CycleForms.{bounded_by, mapped, search-among}
 
--- an answer behind units that are left
+-- an answer after units that are left
 pub gives-runs : {A B : Type 0} (f : A → B) (result : Result A Stop) (left : ℕ) (meant : Result B Stop) (whole : Spent B) → Gives f result meant → ◌≡◌ {A = Spent B} (meant, left) whole → Runs f result left whole
 gives-runs f (Ok a) left meant whole g e = ap (λ r. (r, left)) g ∙ e
 gives-runs f (Err x) left meant whole g e = λ other. ap (λ r. (r, left)) (g other) ∙ e

@@ -38,7 +38,7 @@ goes-refused step x made left e = ap (λ made. goes_to step made left) e
 
 -- ---- one constructor on both sides of an equation
 
--- the state behind it, by what the code has found in the left side
+-- the state after it, by what the code has found in the left side
 abbrev pub made_of : State → (g k : ℕ) → Built → (ps : List Term) → (l r : Term) → Result State Stop
 made_of s g k b ps l r =
     let f = b.record.now in
@@ -95,7 +95,7 @@ count-parameters S l b ps h is =
     let w = take-whole (length b.record.now.params) (spine_of l) (omega arith) in
     omega (arith, length-map ps tree_of)
 
--- and behind them its arguments
+-- and after them its arguments
 pub count-arguments : (l : Term) (us : List code.Term) (count args : ℕ) → length (spine_of l) ≡ count + args → tele_of us ≡ drop count (spine_of l) → length us ≡ args
 count-arguments l us count args all is =
     let e = ap length is in

@@ -47,7 +47,7 @@ reverse-one : (b : Bool) (u : Term) → reverse (cond b (u ∷ []) []) ≡ cond 
 reverse-one true u = refl
 reverse-one false u = refl
 
--- one more is put behind those that wait
+-- one more is put after those that wait
 pub one-waits : (arguments : List Argument) (us rest : List code.Term) (u : code.Term) (direct : Bool) (made more whole : List Term) → us ≡ rest ++ u ∷ []
     → direct ≡ is_direct_at (slice_get arguments (length rest)) → more ≡ made ++ cond direct (tree_of u ∷ []) [] → made ++ reverse (direct_among arguments (tele_of us)) ≡ whole
     → more ++ reverse (direct_among arguments (tele_of rest)) ≡ whole

@@ -148,7 +148,7 @@ module _ (S : Signature) (n x room : ℕ) where
       go true e = refl
       go false e = ap (λ r. answered r end) (too-high room v (wrap (v ∷ us)) e (lower v))
 
-  -- the same of an argument and those behind it
+  -- the same of an argument and those after it
   among-at : (wrap : List Term → Term) (a : Argument) (u : Term) (us : List Term) (M N : Search (List Term)) → ((v : Term) → height v < height (wrap (v ∷ us)))
       → ((left : ℕ) → bounded_by (suc room) (mapped wrap (M left)) ≡ bounded_by (suc room) (mapped wrap (N left))) → (left : ℕ) (b : Bool)
       → bounded_by (suc room) (mapped wrap (cond b (and_next (whnf_of S true left u) (λ v rest. and_next (search_in S n x v rest) (λ found end. here_or (option_map (λ w. w ∷ us) found) M end))) (M left)))

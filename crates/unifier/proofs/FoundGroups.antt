@@ -34,7 +34,7 @@ lowered-low k (u ∷ us) h = (let e = height-ren (λ n. n - k) u in omega (arith
 pub number-same : (n m : ℕ) → (n == m) ≡ true → n ≡ m
 number-same n m e = grind (arith, nat_tests)
 
--- an answer that is found behind another one, or where a test holds
+-- an answer that is found after another one, or where a test holds
 pub next-some : {A B : Type 0} (f : A → Option B) (o : Option A) (y : B) → option_and_then f o ≡ Some y → (x : A) × (o ≡ Some x) × (f x ≡ Some y)
 next-some f (Some x) y e = (x, refl, e)
 next-some f None y e = absurd (grind arith)

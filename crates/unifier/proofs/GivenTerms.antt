@@ -118,7 +118,7 @@ spine-over n t h =
 
 -- ---- the equations of a state
 
--- an equation behind k others, over n variables
+-- an equation after k others, over n variables
 pub record IsGivenEquation (S : Signature) (n k : ℕ) (e : Equation) : Type 0 where
   pub scoped : IsScopedEquation S n k e
   pub place : IsGiven S (n + k) e.place.type

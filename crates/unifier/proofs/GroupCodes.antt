@@ -134,7 +134,7 @@ pub wanted-parameters : (S : Signature) (n k : ℕ) (m : Membership) (l : Term) 
 wanted-parameters S n k m l p is e test =
     ap (λ (f : Family). length f.parameters) (wanted-family S n k m l p is e test) ∙ (count-parameters m.record.now k [] ∙ sym is.count)
 
--- ---- the trial behind the head forms
+-- ---- the trial after the head forms
 
 module _ (S : Signature) (s : State) (k : ℕ) (e : PureEquation) (type : Term) (m : Membership) (left : ℕ) where
   abbrev pub member_trial : Spent (Option Turn)

@@ -111,7 +111,7 @@ state-few s room =
     let k = behind-few (length (tele_of s.ctx)) (length (tele_of s.ctx)) (equations_of s.equations) room.equations in
     omega (arith, length-map s.ctx tree_of, length-map s.equations equation_of)
 
--- the equations behind a group
+-- the equations after a group
 pub group-behind : (s : code.State) (n g : ℕ) (rest : List Equation) → HasRoom (state_of s) → g ≤ length s.equations → n ≡ length s.ctx
     → rest ≡ drop g (equations_of s.equations) → AreBehind n (n + g) rest
 group-behind s n g rest room le en er =

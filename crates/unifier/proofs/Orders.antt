@@ -1,4 +1,4 @@
--- The new order of the variables of a context: the other variables behind a solution, its dependants last.
+-- The new order of the variables of a context: the other variables after a solution, its dependants last.
 use Rattle.std.proofs.Common.{◌≡◌, ℕ, zero, suc, ◌+◌, ◌-◌, ◌≤◌, ◌<◌, ◌==◌, Bool, true, false, cond, List, [], ◌∷◌, ◌++◌, length, take, drop, ap, ap₂, sym, ◌∙◌, subst as transport, length-drop, arith}
 use Rattle.std.proofs.lemmas.List.{length-map}
 use Rattle.theory.specs.Telescopes.{Telescope}
@@ -11,7 +11,7 @@ use Rattle.tele_eq.specs.Levels.{has_level, place_in, is_among}
 use Rattle.unification.specs.Occurrences.{dependants_from, dependants, without, order_without}
 use Rattle.unifier.proofs.LowTerms.{slice-from, map-drop}
 
--- the dependants, found in the types behind the variable
+-- the dependants, found in the types after the variable
 pub dependants-sliced : (made found : List ℕ) (p : ℕ) (context : List code.Term) → made ≡ [] → found ≡ p ∷ []
     → made ++ dependants_from (p + 1) found (tele_of (take (length context - (p + 1)) (drop (p + 1) context))) ≡ dependants (tele_of context) p
 dependants-sliced made found p context em ef =

@@ -71,7 +71,7 @@ over-first tele (j ∷ levels) t h below some e =
 pub code-few : (ctx : List code.Term) → AreTypesOver 0 (tele_of ctx) → length ctx ≤ most_levels
 code-few ctx h = let k = types-few 0 (tele_of ctx) h in omega (arith, length-map ctx tree_of)
 
--- the equations behind the first one
+-- the equations after the first one
 pub rest-few : (n depth : ℕ) (equations rest : List Equation) → AreBehind n n equations → depth ≤ n → rest ≡ drop 1 equations
     → depth + length rest ≤ 2147401000
 rest-few n depth equations rest h le e =

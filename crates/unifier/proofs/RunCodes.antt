@@ -69,7 +69,7 @@ turns-fall S s t left rest step e = turns-fewer S s t left rest step _ _ _ _ (ru
 
 -- ---- with the steps before
 
--- an outcome behind the steps that were made
+-- an outcome after the steps that were made
 abbrev pub behind_all : List Step → Spent Outcome → Spent Outcome
 behind_all steps r = and_next r (λ outcome rest. answered (Ok (behind_steps steps outcome)) rest)
 
@@ -109,6 +109,6 @@ end-there s (Goes step t) h = absurd (h step t refl)
 end-there s (Fails step u v) h = (_, refl)
 end-there s (Sticks why u v) h = (_, refl)
 
--- the steps behind others, once there is one more
+-- the steps after others, once there is one more
 pub steps-more : (steps : List Step) (step : Step) (outcome : Outcome) → behind_steps (steps ++ step ∷ []) outcome ≡ behind_steps steps (before step outcome)
 steps-more steps step outcome = behind-more steps step outcome

@@ -1,4 +1,4 @@
--- The outcome of a turn that is an end, behind the steps before it.
+-- The outcome of a turn that is an end, after the steps before it.
 use Rattle.std.proofs.Common.{◌≡◌, Option, Some, None, List, [], ◌∷◌, ◌++◌, refl, sym, ap, ◌∙◌}
 use Rattle.theory.specs.Terms.{Term}
 use Rattle.theory.specs.Telescopes.{Telescope}

@@ -38,7 +38,7 @@ pub variable-within : (t : Term) (n x : ℕ) → variable_in t ≡ Some x → fr
 variable-within (Var y) n x e h = let k : y ≡ x = cc in omega arith
 variable-within _ n x e h = absurd (cc)
 
--- what is answered behind a first part
+-- what is answered after a first part
 pub runs-behind : {A B X : Type 0} (f : A → B) (r : Result A Stop) (left : ℕ) (first : Spent X) (x : X) (go : X → ℕ → Spent B) (meant : Result B Stop)
     → (Ok x, left) ≡ first → go x left ≡ answered meant left → Gives f r meant → Runs f r left (and_next first go)
 runs-behind f (Ok a) left first x go meant e g h = rw (← e) (rw g (ap (λ m. (m, left)) h))
@@ -90,7 +90,7 @@ solves-normal S s x A u left e k =
     sym (ap (λ b. cond b (answered (Ok (Some u)) left) (and_next (normal_of S true nesting u left) (λ v rest. answered (Ok (if_free s x v)) rest))) k)
     ∙ solves-from S s x A u left e
 
--- behind the normal form
+-- after the normal form
 pub solves-form : (S : Signature) (s : State) (x : ℕ) (A u v : Term) (left rest : ℕ) (b : Bool) → is_free_of s x A ≡ true → is_free_of s x u ≡ false
     → (Ok v, rest) ≡ normal_of S true nesting u left → is_free_of s x v ≡ b → answered (Ok (cond b (Some v) None)) rest ≡ solves S s x A u left
 solves-form S s x A u v left rest b e k h f =

@@ -1,4 +1,4 @@
--- Trials behind one another, as the code makes them.
+-- Trials after one another, as the code makes them.
 use Rattle.std.proofs.Common.{◌≡◌, ℕ, ◌-◌, ◌<◌, Option, Some, None, Ok, Err, List, [], ◌∷◌, length, get_or, sym, ap, ap₂, ◌∙◌, subst, arith}
 use Rattle.std.proofs.lemmas.List.{length-map}
 use Rattle.theory.specs.Signatures.{Signature}

@@ -15,7 +15,7 @@ use Rattle.unifier.specs.declared.groups.Membership.{Membership}
 abbrev pub membership_from : Membership → pure.Membership
 membership_from m = record { n = m.number; family = family_of m.record.now; parameters = tele_of m.params }
 
--- so many indices stand behind all parameters of a family that no confusion can be made of
+-- so many indices come after all parameters of a family that no confusion can be made of
 abbrev pub has_places : (k : ℕ) (spine : List Term) → Family → Bool
 has_places k spine f = (length f.indices == k) && ((length spine == length f.parameters + k) && is_fitting f)
 

@@ -1,4 +1,4 @@
--- The parts of which the code makes the equations behind an injectivity.
+-- The parts of which the code makes the equations after an injectivity.
 use Rattle.std.specs.Prelude.{ℕ, ◌+◌, List, ◌++◌, length, drop, Result, Ok}
 use Rattle.theory.specs.Families.{Family, Constructor}
 use Rattle.theory.specs.Telescopes.{Telescope, variables}
@@ -14,7 +14,7 @@ use Rattle.unification.specs.Moving.{over_first, behind, moved}
 use Rattle.unification.specs.Records.{argument_items, family_items, constructor_terms}
 use Rattle.unification.specs.States.{Equation, State, equations_at}
 
--- what stands for the places and the equations of a group, at parameters behind the equations of the arguments
+-- what stands for the places and the equations of a group, at parameters after the equations of the arguments
 abbrev pub group_made_behind : (n number : ℕ) → Family → Constructor → (ps us vs : List Term) → Result (List Term) Stop
 group_made_behind n number f c ps us vs =
     and_then (bounded_items (argument_items n ps c)) (λ arguments.
@@ -24,7 +24,7 @@ group_made_behind n number f c ps us vs =
     (congruences (argument_items n ps c) (family_items n f ps) (constructor_terms n number ps c) (lifted (length c.arguments) us)
     (lifted (length c.arguments) vs) (variables (length c.arguments))))))
 
--- equations between the terms of a telescope, and behind them those of a state from the g-th one on: the terms stand for the g
+-- equations between the terms of a telescope, and after them those of a state from the g-th one on: the terms stand for the g
 -- places before these, and the proofs for the equations
 abbrev pub equations_joined : State → (g : ℕ) → List Item → Telescope → (us vs terms proofs : List Term) → List Equation
 equations_joined s g X types us vs terms proofs =
@@ -33,7 +33,7 @@ equations_joined s g X types us vs terms proofs =
     equations_at X types us vs
     ++ moved (behind m g new variable (over_first new terms)) (behind m g new variable (over_first new proofs)) (λ t. t) (m + g) new (drop g s.equations)
 
--- the equations behind an injectivity, once those of the arguments are made
+-- the equations after an injectivity, once those of the arguments are made
 abbrev pub injected_rest : State → (g n number : ℕ) → Family → Constructor → (ps us vs : List Term) → Result (List Equation) Stop
 injected_rest s g n number f c ps us vs =
     and_then (group_made n number f c ps us vs) (λ proofs.

@@ -49,7 +49,7 @@ equation_moved items types side size depth e = record {
   right = side e.right;
 }
 
--- the equations behind the first one, once it is solved: `depth` variables are left
+-- the equations after the first one, once it is solved: `depth` variables are left
 abbrev pub solved_equations : pure.State → (i : ℕ) → Solution → (depth : ℕ) → Term → List pure.Equation
 solved_equations s i solution depth A =
     let n = solution.size in

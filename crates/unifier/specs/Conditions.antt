@@ -18,11 +18,11 @@ use Rattle.unifier.specs.declared.moving.Places.TheVariants as place
 use Rattle.unifier.specs.declared.moving.Sides.{Sides}
 use Rattle.unifier.specs.declared.moving.Sides.TheVariants as side
 
--- variables and equations that stand behind one another are at most so many
+-- variables and equations that come after one another are at most so many
 abbrev pub most_levels : ℕ
 most_levels = 2147400000
 
--- and behind one injectivity at most so many
+-- and after one injectivity at most so many
 abbrev pub most_depth : ℕ
 most_depth = 2147401000
 
@@ -136,13 +136,13 @@ abbrev pub AreSides : (n : ℕ) → Sides → Type 0
 AreSides n side.Same = Unit {0}
 AreSides n (side.Solved s depth) = IsSolution s × (s.size ≡ n) × (depth ≤ most_depth)
 
--- equations that stand behind `size` variables, each of them over those before it
+-- equations that come after `size` variables, each of them over those before it
 abbrev pub AreBehind : (n size : ℕ) → List Equation → Type 0
 AreBehind n size [] = size ≤ most_levels
 AreBehind n size (e ∷ equations) =
     IsOver size e.place.type × IsOver size e.type × IsOver n e.left × IsOver n e.right × AreBehind n (size + 1) equations
 
--- the types of a context behind n variables, each over those before it
+-- the types of a context after n variables, each over those before it
 abbrev pub AreTypesOver : (n : ℕ) → Telescope → Type 0
 AreTypesOver n [] = n ≤ most_levels
 AreTypesOver n (a ∷ tele) = IsOver n a × AreTypesOver (n + 1) tele

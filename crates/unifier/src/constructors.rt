@@ -138,7 +138,7 @@ fn parameters(alloc: Global, t: &Term, b: Built) -> Result<Tele, Stop>
     Ok(ps)
 }
 
-/// The state behind the injectivity of one constructor on both sides, or Deep.
+/// The state after the injectivity of one constructor on both sides, or Deep.
 pub(crate) fn inject_sides(
     alloc: Global,
     s: &State,

@@ -191,7 +191,7 @@ fn below_too_deep(
     Ok(None)
 }
 
-/// The terms with the direct arguments of the constructor that a term is behind them, the first argument last.
+/// The terms with the direct arguments of the constructor that a term is after them, the first argument last.
 fn with_direct(alloc: Global, b: Built, t: &Term, terms: Vec<Term>) -> Result<Vec<Term>, Stop>
     ensures { Gives (λ made. tele_of made.items) result (Ok (tele_of terms.items ++ reverse (code.direct_in b.entry (tree_of t.now)))) }
 {
@@ -213,7 +213,7 @@ fn is_direct_at(args: &[Arg], at: usize) -> bool
     matches!(args.get(at), Some(arg) if is_direct(arg))
 }
 
-/// The terms with one behind them, where it stands for a direct argument.
+/// The terms with one after them, where it stands for a direct argument.
 fn with_argument(direct: bool, u: Term, mut terms: Vec<Term>) -> Result<Vec<Term>, Stop>
     ensures { Gives (λ made. tele_of made.items) result (Ok (tele_of terms.items ++ cond direct (tree_of u ∷ []) [])) }
 {
@@ -247,7 +247,7 @@ fn search_too_deep(
     Ok(())
 }
 
-/// The terms that wait once one more is reduced: its direct arguments, behind the others. Deep where it is the variable.
+/// The terms that wait once one more is reduced: its direct arguments, after the others. Deep where it is the variable.
 fn go_below(
     alloc: Global,
     sig: &Signature,
@@ -272,7 +272,7 @@ fn go_below(
     with_arguments(alloc, sig, n, &t, waiting)
 }
 
-/// The terms with the direct arguments of a head form behind them, where it is a constructor of the family.
+/// The terms with the direct arguments of a head form after them, where it is a constructor of the family.
 fn with_arguments(
     alloc: Global,
     sig: &Signature,

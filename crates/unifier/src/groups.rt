@@ -134,7 +134,7 @@ fn membership_of<'a>(
     at_places(alloc, k, *n, f, ty)
 }
 
-/// Whether so many indices stand behind all parameters of a family that no confusion can be made of.
+/// Whether so many indices come after all parameters of a family that no confusion can be made of.
 fn has_places(k: u32, f: &Family, ty: &Term) -> bool
     requires { tree.height (tree_of ty.now) ≤ 2000 }
     ensures { result ≡ has_places k (spine_of (tree_of ty.now)) (family_of f.now) }
@@ -198,7 +198,7 @@ fn sides(alloc: Global, equations: &[Equation]) -> Result<(Tele, Tele), Stop>
     with_sides(alloc, equations, Items::new(alloc), Items::new(alloc))
 }
 
-/// The same behind those that are made.
+/// The same after those that are made.
 #[tactic(auto, using(tele_eq::proofs::Growing::growing))]
 fn with_sides(
     alloc: Global,

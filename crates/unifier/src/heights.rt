@@ -15,7 +15,7 @@ use tele_eq::{Item, tele_equations};
 /// How many places a telescope of equations has at most.
 const MOST_PLACES: usize = 1000;
 
-/// How many variables and equations may stand behind one another; with more, memory is short.
+/// How many variables and equations may come after one another; with more, memory is short.
 const MOST_LEVELS: usize = 2147400000;
 
 fn is_low(t: &Term) -> bool

@@ -27,7 +27,7 @@ use core_terms::{Items, Stop, Tele, Term};
 use std::alloc::Global;
 use tele_eq::{Item, cong};
 
-/// What proves each equation of a group, behind the equations of the arguments, or Deep.
+/// What proves each equation of a group, after the equations of the arguments, or Deep.
 fn group_proofs(
     alloc: Global,
     built: Built,
@@ -49,7 +49,7 @@ fn group_proofs(
     proofs_behind(alloc, built, ps.as_slice(), left, right)
 }
 
-/// The same at parameters that stand behind the equations of the arguments.
+/// The same at parameters that come after the equations of the arguments.
 fn proofs_behind(
     alloc: Global,
     built: Built,
@@ -72,7 +72,7 @@ fn proofs_behind(
     lifted_congruences(alloc, built.con, &arguments, &members, &terms, left, right)
 }
 
-/// Congruences from the equations of a constructor's arguments, behind these, or Deep.
+/// Congruences from the equations of a constructor's arguments, after these, or Deep.
 fn lifted_congruences(
     alloc: Global,
     con: &Constructor,
@@ -99,7 +99,7 @@ fn lifted_congruences(
     cong(alloc, arguments, members, terms, &left, &right, &proofs)
 }
 
-/// The equations behind the first `group` ones.
+/// The equations after the first `group` ones.
 fn behind_group(s: &State, group: u32) -> &[Equation]
     requires { group ≤ length s.now.equations }
     ensures { equations_of result.now ≡ drop group (state_of s.now).equations }
@@ -107,7 +107,7 @@ fn behind_group(s: &State, group: u32) -> &[Equation]
     &s.equations.as_slice()[group as usize..]
 }
 
-/// The equations of a constructor's arguments, and the further ones behind them.
+/// The equations of a constructor's arguments, and the further ones after them.
 fn joined(
     alloc: Global,
     s: &State,
@@ -227,7 +227,7 @@ pub(crate) fn inject(
     with_equations(alloc, s, equations)
 }
 
-/// What stands for the first `count` places behind a context: terms behind the variables up to a depth.
+/// What stands for the first `count` places after a context: terms after the variables up to a depth.
 fn behind_places(size: u32, count: u32, depth: u32, terms: &[Term]) -> Places
     requires size { size ≤ most_levels }
     requires count { count ≤ most_levels }

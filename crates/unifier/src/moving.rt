@@ -23,7 +23,7 @@ pub struct Solution<'a> {
     pub by: &'a Term,
 }
 
-/// Terms over the first `over` variables for the first `count` places behind `size` variables; the further places stand from
+/// Terms over the first `over` variables for the first `count` places after `size` variables; the further places stand from
 /// level `new` on.
 #[derive(Clone, Copy)]
 pub(crate) struct Behind<'a> {
@@ -120,7 +120,7 @@ fn term_at(alloc: Global, terms: &[Term], position: u32, by: u32) -> Result<Term
     }
 }
 
-/// What stands behind the variables of a context.
+/// What comes after the variables of a context.
 #[cycle(put)]
 fn behind_at(alloc: Global, behind: Behind, depth: u32, j: u32) -> Result<Term, Stop>
     requires behind { IsBehind behind }
@@ -278,7 +278,7 @@ fn side(alloc: Global, n: u32, sides: Sides, t: &Term) -> Result<Term, Stop>
     }
 }
 
-/// Equations of terms over `n` variables, that stood behind `size` variables and now stand at a depth, behind those that are made:
+/// Equations of terms over `n` variables, that came after `size` variables and now stand at a depth, after those that are made:
 /// `items` stands for the variables in their places, `types` in their types.
 #[tactic(auto, using(tele_eq::proofs::Growing::growing))]
 pub(crate) fn moved(

@@ -11,7 +11,7 @@ use core_terms::{Stop, Term};
 use std::alloc::Global;
 use tele_eq::{has_level, has_variable, is_among};
 
-/// The levels from `at` on whose types have a variable that is found, behind those that are made.
+/// The levels from `at` on whose types have a variable that is found, after those that are made.
 #[tactic(auto, using(tele_eq::proofs::Growing::listing))]
 fn dependants_from(
     alloc: Global,
@@ -58,7 +58,7 @@ pub(crate) fn lacks(n: u32, p: u32, dependants: &[u32], t: &Term) -> bool
     !(has_variable(number, t) || has_level(n, dependants, t))
 }
 
-/// The levels from `at` on, `count` of them, that are neither `p` nor among those left out, behind those that are made.
+/// The levels from `at` on, `count` of them, that are neither `p` nor among those left out, after those that are made.
 #[tactic(auto, using(tele_eq::proofs::Growing::listing))]
 fn others_from(
     alloc: Global,

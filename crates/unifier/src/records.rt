@@ -60,7 +60,7 @@ pub fn argument_items(alloc: Global, ps: &[Term], con: &Constructor) -> Result<I
     items_at(alloc, ps, con.args.as_slice())
 }
 
-/// Each of the terms behind so many variables more.
+/// Each of the terms after so many variables more.
 pub fn lifted(alloc: Global, by: u32, terms: &[Term]) -> Result<Tele, Stop>
     requires terms { AreOver most_depth (tele_of terms.now) }
     requires by { by ≤ 2000 }
@@ -73,7 +73,7 @@ pub fn lifted(alloc: Global, by: u32, terms: &[Term]) -> Result<Tele, Stop>
     Ok(made)
 }
 
-/// `head` at parameters and at the nearest `count` variables, which stand behind the parameters, or Deep.
+/// `head` at parameters and at the nearest `count` variables, which come after the parameters, or Deep.
 fn at_nearest(alloc: Global, head: Term, ps: &[Term], count: u32) -> Result<Term, Stop>
     requires head { tree.free_of (tree_of head) ≡ 0 }
     requires count { count ≤ 2000 }
@@ -103,7 +103,7 @@ pub fn family_items(alloc: Global, n: u32, f: &Family, ps: &[Term]) -> Result<It
     Ok(made)
 }
 
-/// The variables of a context of `count` types, from the outermost on, behind those that are made.
+/// The variables of a context of `count` types, from the outermost on, after those that are made.
 pub(crate) fn with_variables(mut made: Tele, count: u32) -> Result<Tele, Stop>
     ensures { Gives tele_of result (Ok (tele_of made ++ telescopes.variables count)) }
 {
@@ -113,7 +113,7 @@ pub(crate) fn with_variables(mut made: Tele, count: u32) -> Result<Tele, Stop>
     Ok(made)
 }
 
-/// The targets of a constructor at parameters, behind its arguments, or Deep.
+/// The targets of a constructor at parameters, after its arguments, or Deep.
 fn targets_at(alloc: Global, ps: &[Term], con: &Constructor) -> Result<Tele, Stop>
     requires few { length con.now.args ≤ 2000 }
     requires ps { AreOver most_depth (tele_of ps.now) }
@@ -124,7 +124,7 @@ fn targets_at(alloc: Global, ps: &[Term], con: &Constructor) -> Result<Tele, Sto
     inst_terms(alloc, values.as_slice(), con.targets.as_slice())
 }
 
-/// A constructor at parameters and at its arguments, behind these, or Deep.
+/// A constructor at parameters and at its arguments, after these, or Deep.
 fn constructor_at(
     alloc: Global,
     n: u32,
@@ -140,7 +140,7 @@ fn constructor_at(
     at_nearest(alloc, Term::Con(n, number), ps, count)
 }
 
-/// The targets of a constructor, and the constructor itself, at parameters and behind its arguments, or Deep.
+/// The targets of a constructor, and the constructor itself, at parameters and after its arguments, or Deep.
 #[tactic(auto, using(crate::proofs::RecordItems::record_laws))]
 pub fn constructor_terms(
     alloc: Global,

@@ -28,7 +28,7 @@ fn reflexivity(alloc: Global, level: u8, ty: Term, a: Term) -> Result<Term, Stop
     Term::new_app(alloc, Term::new_app(alloc, head, ty)?, a)
 }
 
-/// The types of the variables with these levels, the first of which stands at a depth, behind those that are made.
+/// The types of the variables with these levels, the first of which stands at a depth, after those that are made.
 #[tactic(auto, using(tele_eq::proofs::Growing::growing))]
 pub fn new_context(
     alloc: Global,
@@ -146,7 +146,7 @@ pub(crate) fn solve(
     solved(alloc, s, level, solution, ty)
 }
 
-/// The equations behind the first one, once it is solved.
+/// The equations after the first one, once it is solved.
 fn behind_solved(
     alloc: Global,
     s: &State,
@@ -185,7 +185,7 @@ fn behind_solved(
     )
 }
 
-/// What stands for the first place behind a context of `size` variables, of which `depth` are left: the term.
+/// What stands for the first place after a context of `size` variables, of which `depth` are left: the term.
 fn behind_first<'a>(
     solution: Option<Solution<'a>>,
     size: u32,
@@ -209,7 +209,7 @@ fn behind_first<'a>(
     })
 }
 
-/// The equations behind the first one.
+/// The equations after the first one.
 fn behind_the_first(s: &State) -> &[Equation]
     ensures { equations_of result.now ≡ drop 1 (state_of s.now).equations }
 {

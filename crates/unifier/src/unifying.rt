@@ -42,7 +42,7 @@ fn run(
     }
 }
 
-/// The outcome of a turn that is an end, behind the steps.
+/// The outcome of a turn that is an end, after the steps.
 fn finish(state: State, mut steps: Items<Step>, end: Turn) -> Result<Outcome, Stop>
     ensures { (outcome : outcomes.Outcome) → spec.end_of (state_of state) (turn_of end) ≡ Some outcome → Gives outcome_of result (Ok (outcomes.behind_steps (steps_of steps) outcome)) }
 {

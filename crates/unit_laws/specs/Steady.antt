@@ -17,7 +17,7 @@ abbrev pub IsPaid : {A E : Type 0} → (E → Type 0) → Result A E → Type 0
 IsPaid wants (Ok a) = Unit {0}
 IsPaid wants (Err e) = ¬ wants e
 
--- the same answer with so many more units left behind it
+-- the same answer with so many more units left after it
 abbrev pub with_more : {A E : Type 0} → ℕ → SpentOr E A → SpentOr E A
 with_more more answer = (answer.0, answer.1 + more)
 

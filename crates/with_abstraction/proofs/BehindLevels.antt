@@ -1,4 +1,4 @@
--- The variables behind the new one: in order, below the context's length, and the type of a variable before it mentions none.
+-- The variables after the new one: in order, below the context's length, and the type of a variable before it mentions none.
 use Rattle.std.proofs.Common.{◌≡◌, ℕ, zero, suc, ◌+◌, ◌-◌, ◌≤◌, ◌<◌, ◌⊎◌, inl, inr, Bool, true, false, ◌||◌, cond, List, [], ◌∷◌, length, refl, subst as transport, arith}
 use Rattle.theory.specs.Terms.{Term}
 use Rattle.tele_eq.specs.Levels.{has_level, is_among}
@@ -34,13 +34,13 @@ behind-below n j found (a ∷ types) l h =
     ]
     by one other false k = let lt : l < j + 1 + length types = other k in omega arith
 
--- all variables but the new one stand before it or behind
+-- all variables but the new one stand before it or after
 pub length-both : (n : ℕ) (types : List Term) → length types ≡ n → length (in_front n types) + length (behind n types) ≡ n
 length-both n types e =
     length-without (behind n types) 0 n (behind-order n 0 (n ∷ []) types)
     (λ l h. let lt : l < 0 + length types = behind-below n 0 (n ∷ []) types l h in omega arith)
 
--- The type of a variable that is not behind mentions no level that was found before, and none of those behind.
+-- The type of a variable that is not after mentions no level that was found before, and none of those after.
 pub type-lacks : (n j : ℕ) (found : List ℕ) (types : List Term) (k : ℕ) → k < length types → is_among (j + k) (behind_from n j found types) ≡ false
     → (i : ℕ) → (is_among i found ≡ true) ⊎ ((i < j + k) × (is_among i (behind_from n j found types) ≡ true))
     → has_variable (n + 1 - (i + 1)) (term_at types k) ≡ false
@@ -117,7 +117,7 @@ AreClosed n kept j types =
     (k : ℕ) → k < length types → is_among (j + k) kept ≡ true → (i : ℕ) → i < n + 1 → has_variable (n + 1 - (i + 1)) (term_at types k) ≡ true
     → is_among i kept ≡ true
 
--- None of the kept variables stands behind.
+-- None of the kept variables comes after.
 pub kept-front : (n : ℕ) (kept : List ℕ) (j : ℕ) (found : List ℕ) (types : List Term) → j + length types ≤ n → AreOthers n kept found → AreClosed n kept j types
     → (l : ℕ) → is_among l (behind_from n j found types) ≡ true → is_among l kept ≡ false
 kept-front n kept j found [] le others closed l h = absurd (cc)

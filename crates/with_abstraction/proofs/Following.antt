@@ -15,7 +15,7 @@ use Rattle.with_abstraction.proofs.BehindLevels.{behind-order, type-lacks}
 abbrev pub IsWithin : (n : ℕ) (levels : List ℕ) → Term → Type 0
 IsWithin n levels t = (l : ℕ) → l < n + 1 → has_variable (n + 1 - (l + 1)) t ≡ true → is_among l levels ≡ true
 
--- the types of the variables with the levels `rest`, which stand behind those that are done, have those before them alone
+-- the types of the variables with the levels `rest`, which come after those that are done, have those before them alone
 abbrev pub EachFollows : (n : ℕ) (types : List Term) (done rest : List ℕ) → Type 0
 EachFollows n types done [] = Unit {0}
 EachFollows n types done (j ∷ rest) = IsWithin n done (term_at types j) × EachFollows n types (done ++ j ∷ []) rest
@@ -37,7 +37,7 @@ term-last [] s (suc j) e = absurd (omega arith)
 term-last (a ∷ terms) s zero e = absurd (omega arith)
 term-last (a ∷ terms) s (suc j) e = term-last terms s j (omega arith)
 
--- a level is behind or in front
+-- a level is after or in front
 pub in-front_among : (n : ℕ) (types : List Term) (l : ℕ) → l < n → is_among l (behind n types) ≡ false → is_among l (in_front n types) ≡ true
 in-front_among n types l lt h =
     among-without l (behind n types) (each_position (λ j. j) 0 n) (each-among 0 n l (omega arith) (omega arith)) h
@@ -115,7 +115,7 @@ not-cons l j levels ne h = elim (either (is_among l (j ∷ levels))) [
   ]
 ]
 
--- the variables of a type behind the new variable stand before it too
+-- the variables of a type after the new variable stand before it too
 behind-within : (n : ℕ) (types : List Term) (s : Term) → IsOpened n types s → (j : ℕ) → j < n → (done : List ℕ)
     → ((l : ℕ) → l < j → is_among l done ≡ true) → is_among n done ≡ true → IsWithin n done (term_at (types ++ s ∷ []) j)
 behind-within n types s h j low done lower new l lt has =

@@ -23,7 +23,7 @@ pub record IsFitting (S : Signature) (n : ℕ) (t : Term) : Type 0 where
   pub scoped : IsScoped S n t
   pub low : height t ≤ 2000
 
--- types of a context behind j variables, so many of them
+-- types of a context after j variables, so many of them
 pub data AreFitting (S : Signature) : (j count : ℕ) → Telescope → Type 0 where
   none : (j : ℕ) → AreFitting S j 0 []
   one : (j count : ℕ) (a : Term) (types : Telescope) → IsFitting S j a → AreFitting S (j + 1) count types → AreFitting S j (suc count) (a ∷ types)

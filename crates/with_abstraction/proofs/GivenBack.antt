@@ -143,7 +143,7 @@ each-stands n t order done rest x e within l lt has =
     stands-done n t order done rest l e
     (within l lt (transport (λ v. has_variable v x ≡ true) (let f : n + 1 - (l + 1) + 0 ≡ n + 1 - (l + 1) = omega arith in f) has))
 
--- a term over all variables, put behind those that are done
+-- a term over all variables, put after those that are done
 term-back : (n : ℕ) (t : Term) (order done rest : List ℕ) (d : ℕ) (x : Term) → order ≡ done ++ rest → d ≡ length (map (value_of n t) done)
     → free_of x ≤ n + 1 → IsWithin n done x → at_terms (map (value_of n t) done) (put (reordered order) (n + 1) d x) ≡ subst_under x 0 t 0
 term-back n t order done rest d x e same free within =

@@ -86,7 +86,7 @@ needed-low n types S i h = elim (needed-cases n types S n [] i h) [
   | inr lt ↦ lt
 ]
 
--- and none of them stands behind the new variable
+-- and none of them comes after the new variable
 pub needed-front : (n : ℕ) (t S : Term) (types : List Term) → length types ≡ n → (l : ℕ)
     → is_among l (needed n (widened n 0 types) S) ≡ true → is_among l (behind n (opened_types n t S (widened n 0 types))) ≡ false
 needed-front n t S types e l h = elim (either (is_among l (behind n (opened_types n t S (widened n 0 types))))) [

@@ -20,7 +20,7 @@ abbrev families : Term
 families = Pi Nat (Sort 0)
 
 -- (g : Nat -> Nat) (n : Nat) (P : Nat -> Type 0) (y : P (g n)) (m : Nat), and P (g n): the scrutinee g n occurs in the goal and in
--- a type, which stands behind the new variable, while m stands before it
+-- a type, which comes after the new variable, while m stands before it
 in_both : abstract_over_of (sample false) (functions ∷ Nat ∷ families ∷ App (Var 0) (App (Var 2) (Var 1)) ∷ Nat ∷ [])
     (App (Var 2) (App (Var 4) (Var 3)))
     (App (Var 4) (Var 3)) Nat 0

@@ -1,4 +1,4 @@
--- A signature for examples: Nat, Fin and Has behind the prelude.
+-- A signature for examples: Nat, Fin and Has after the prelude.
 use Rattle.std.proofs.Common.{Bool, [], ◌∷◌, ◌++◌}
 use Rattle.theory.specs.Terms.{Term}
 use Rattle.theory.specs.Terms.Term.{Var, App, Fam, Con}

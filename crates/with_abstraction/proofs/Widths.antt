@@ -184,7 +184,7 @@ low-end [] t u e le h =
     (omega arith, tt)
 low-end (a ∷ terms) t u e le h = (h.0, low-end terms t u e le h.1)
 
--- the levels in front of the new variable and behind it are as many as the types
+-- the levels in front of the new variable and after it are as many as the types
 pub levels-fit : (n : ℕ) (types slice : List code.Term) (front last made out first second : List ℕ) → slice ≡ types → length types ≡ n
     → ◌≡◌ {A = Result (List ℕ) Stop} (Ok last) (Ok (behind n (tele_of slice))) → out ≡ last → made ≡ []
     → ◌≡◌ {A = Result (List ℕ) Stop} (Ok front) (Ok (made ++ levels.without out (each_position (λ j. j) 0 n))) → first ≡ front → second ≡ last

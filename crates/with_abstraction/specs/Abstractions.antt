@@ -31,11 +31,11 @@ opened t kept j (a ∷ types) = cond (is_among j kept) (lift a 1 0) (without t a
 abbrev pub opened_types : (n : ℕ) (t S : Term) (types : List Term) → List Term
 opened_types n t S types = opened t (needed n types S) 0 types
 
--- a goal over n variables without t, behind these variables and the new one in an order
+-- a goal over n variables without t, after these variables and the new one in an order
 abbrev pub arranged_goal : (order : List ℕ) (n : ℕ) (t : Term) (goal : Term) → Term
 arranged_goal order n t goal = put (reordered order) (n + 1) (n + 1) (without t goal)
 
--- the types of the context and of the new variable, in the order of the levels in front of it, itself, and those behind it
+-- the types of the context and of the new variable, in the order of the levels in front of it, itself, and those after it
 abbrev pub placed_with : (n : ℕ) (t : Term) (types : List Term) (goal : Term) (front behind : List ℕ) → Abstracted
 placed_with n t types goal front behind = record {
   telescope = arranged (front ++ n ∷ behind) n types 0 (front ++ n ∷ behind);
@@ -44,7 +44,7 @@ placed_with n t types goal front behind = record {
   order = map (λ j. n - (j + 1)) (front ++ behind);
 }
 
--- the new variable of type S behind the context whose types are opened, and all of these in their new order
+-- the new variable of type S after the context whose types are opened, and all of these in their new order
 abbrev pub arranged_with : (n : ℕ) (t S : Term) (types : List Term) (goal : Term) → Abstracted
 arranged_with n t S types goal = placed_with n t (types ++ lift S 1 0 ∷ []) goal (in_front n types) (behind n types)
 
@@ -54,7 +54,7 @@ abstracted m S =
     let n = length m.types in
     arranged_with n m.scrutinee S (opened_types n m.scrutinee S (widened n 0 m.types)) m.goal
 
--- Units are spent on normal forms alone. The type is taken as it stands, and is Deep behind them where it is too high.
+-- Units are spent on normal forms alone. The type is taken as it stands, and is Deep after them where it is too high.
 abbrev pub abstract_over_of : Signature → (context : Telescope) (goal t type : Term) → ℕ → Spent Abstracted
 abstract_over_of S context goal t type left =
     and_next (normal_forms_of S context goal t left) (λ m rest. if_low (is_low type) (answered (Ok (abstracted m type))) rest)

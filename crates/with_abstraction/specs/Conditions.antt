@@ -12,7 +12,7 @@ abbrev pub AreOver : (n : ℕ) → List Term → Type 0
 AreOver n [] = Unit {0}
 AreOver n (t ∷ terms) = IsOver n t × AreOver n terms
 
--- the types of a context behind j variables, each over those before it
+-- the types of a context after j variables, each over those before it
 abbrev pub AreTypesOver : (j : ℕ) → List Term → Type 0
 AreTypesOver j [] = Unit {0}
 AreTypesOver j (a ∷ types) = IsOver j a × AreTypesOver (j + 1) types

@@ -30,7 +30,7 @@ arguments t a = map Var (take a.place a.order) ++ t ∷ map Var (drop a.place a.
 abbrev pub at_terms : List Term → Term → Term
 at_terms terms u = inst (fill no_variable terms) u
 
--- each type of a telescope at the terms for the variables before it, behind those that are `done`
+-- each type of a telescope at the terms for the variables before it, after those that are `done`
 abbrev pub types_at_terms : (done terms : List Term) → Telescope → List Term
 types_at_terms done terms [] = []
 types_at_terms done [] (a ∷ tele) = []

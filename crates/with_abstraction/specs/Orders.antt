@@ -1,4 +1,4 @@
--- In which order the variables of a context and the new variable stand. The new one is told by level n, behind the n levels of the
+-- In which order the variables of a context and the new variable stand. The new one is told by level n, after the n levels of the
 -- context, and the types are terms over all of these n + 1 variables.
 use Rattle.std.specs.Prelude.{ℕ, ◌+◌, cond, List, [], ◌∷◌, ◌++◌}
 use Rattle.theory.specs.Terms.{Term}
@@ -15,7 +15,7 @@ behind_from n j found [] = []
 behind_from n j found (a ∷ types) =
     cond (has_level (n + 1) found a) (j ∷ behind_from n (j + 1) (j ∷ found) types) (behind_from n (j + 1) found types)
 
--- the variables behind the new one: those whose types have it, and those that depend on them
+-- the variables after the new one: those whose types have it, and those that depend on them
 abbrev pub behind : (n : ℕ) (types : List Term) → List ℕ
 behind n types = behind_from n 0 (n ∷ []) types
 

@@ -17,7 +17,7 @@ use core_sig::Signature;
 use core_terms::{Items, MAX_HEIGHT, Stop, Tele, Term, Units};
 use std::alloc::Global;
 
-/// Telescope and goal, with the levels in front of the new variable and those behind it.
+/// Telescope and goal, with the levels in front of the new variable and those after it.
 fn placed(
     alloc: Global,
     n: u32,
@@ -52,7 +52,7 @@ fn placed(
     })
 }
 
-/// The new variable of type `ty` behind a context whose types are opened, and all of these in their new order.
+/// The new variable of type `ty` after a context whose types are opened, and all of these in their new order.
 fn arranged_with(
     alloc: Global,
     n: u32,
@@ -99,7 +99,7 @@ fn abstracted(alloc: Global, forms: &NormalForms, ty: &Term) -> Result<Abstracte
 ///
 /// Goal, types and scrutinee are brought into plain normal form. A new variable stands for each subterm that is letter for letter the
 /// scrutinee, but not in the types of the variables that `ty` needs. Those whose types changed, and those that depend on them, stand
-/// behind the new variable, all others before it.
+/// after the new variable, all others before it.
 ///
 /// Each head step costs a unit: first those of the goal, then those of the types from the outermost on, then those of the scrutinee.
 /// Fuel and Deep come as in `normal`, and Deep also where `ty` is too high, once all these units are spent.

@@ -104,7 +104,7 @@ fn type_put(
     }
 }
 
-/// The types of the variables with these levels, the first of which stands at a depth, behind those that are made.
+/// The types of the variables with these levels, the first of which stands at a depth, after those that are made.
 #[tactic(auto, using(tele_eq::proofs::Growing::growing))]
 pub(crate) fn arranged(
     alloc: Global,
@@ -130,7 +130,7 @@ pub(crate) fn arranged(
     }
 }
 
-/// A goal without `t`, behind all variables in their new order.
+/// A goal without `t`, after all variables in their new order.
 pub(crate) fn arranged_goal(
     alloc: Global,
     order: &[u32],

@@ -1,6 +1,6 @@
 //! Abstraction over a scrutinee: a goal and its context, in which a new variable stands for each occurrence of a term.
 //!
-//! `occurrences` replaces the term, `needed` says where it stays, `orders` where the variables stand behind it, and `arranging` brings
+//! `occurrences` replaces the term, `needed` says where it stays, `orders` where the variables come after it, and `arranging` brings
 //! types and goal into that order.
 #![tactic(auto)]
 

@@ -23,7 +23,7 @@ pub(crate) fn lifted(alloc: Global, t: &Term, by: u32) -> Result<Term, Stop>
 }
 
 /// The types of a context of `n` variables, the first of which is that of the variable with level `j`, each as a term over all `n`
-/// variables, behind those that are made.
+/// variables, after those that are made.
 #[tactic(auto, using(tele_eq::proofs::Growing::growing))]
 fn widened(alloc: Global, n: u32, j: u32, types: &[Term], mut made: Tele) -> Result<Tele, Stop>
     requires types { AreTypesOver j (tele_of types.now) }
@@ -52,7 +52,7 @@ fn all_widened(alloc: Global, types: &[Term]) -> Result<Tele, Stop>
     widened(alloc, types.len() as u32, 0, types, Items::new(alloc))
 }
 
-/// The types one variable further in, the first of which is that of the variable with level `j`, behind those that are made: the new
+/// The types one variable further in, the first of which is that of the variable with level `j`, after those that are made: the new
 /// variable stands for `t`, but not in those that are kept.
 #[tactic(auto, using(tele_eq::proofs::Growing::growing))]
 fn opened(

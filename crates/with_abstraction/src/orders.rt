@@ -11,7 +11,7 @@ use core_terms::{Items, Stop, Term};
 use std::alloc::Global;
 use tele_eq::{has_level, is_among};
 
-/// The levels from `j` on whose types have a variable that is found, behind those that are made.
+/// The levels from `j` on whose types have a variable that is found, after those that are made.
 #[tactic(auto, using(tele_eq::proofs::Growing::growing))]
 fn behind_from(
     alloc: Global,
@@ -38,7 +38,7 @@ fn behind_from(
     }
 }
 
-/// The variables behind the new one, by their levels. The types are over the context and the new variable.
+/// The variables after the new one, by their levels. The types are over the context and the new variable.
 pub(crate) fn behind(alloc: Global, n: u32, types: &[Term]) -> Result<Vec<u32>, Stop>
     requires types { AreLow (tele_of types.now) }
     requires few { n ≤ 2147483648 }
@@ -50,7 +50,7 @@ pub(crate) fn behind(alloc: Global, n: u32, types: &[Term]) -> Result<Vec<u32>, 
     behind_from(alloc, n, 0, found, types, Vec::new(alloc))
 }
 
-/// The levels from `j` on, `count` of them, that are not left out, behind those that are made.
+/// The levels from `j` on, `count` of them, that are not left out, after those that are made.
 #[tactic(auto, using(tele_eq::proofs::Growing::listing))]
 pub(crate) fn others_from(
     alloc: Global,
@@ -71,7 +71,7 @@ pub(crate) fn others_from(
     others_from(alloc, out, j + 1, count - 1, made)
 }
 
-/// The levels behind those that are made.
+/// The levels after those that are made.
 #[tactic(auto, using(tele_eq::proofs::Growing::growing))]
 fn appended(mut made: Vec<u32>, levels: &[u32]) -> Result<Vec<u32>, Stop>
     ensures { Gives (λ v. v.items) result (Ok (made.items ++ levels.now)) }
@@ -85,7 +85,7 @@ fn appended(mut made: Vec<u32>, levels: &[u32]) -> Result<Vec<u32>, Stop>
     }
 }
 
-/// All levels in their new order: those in front, the new variable, those behind it.
+/// All levels in their new order: those in front, the new variable, those after it.
 pub(crate) fn new_order(
     alloc: Global,
     n: u32,
@@ -99,7 +99,7 @@ pub(crate) fn new_order(
     appended(order, behind)
 }
 
-/// The numbers of the variables with these levels in a context of `n` variables, behind those that are made.
+/// The numbers of the variables with these levels in a context of `n` variables, after those that are made.
 #[tactic(auto, using(tele_eq::proofs::Growing::growing))]
 pub(crate) fn numbers(
     alloc: Global,

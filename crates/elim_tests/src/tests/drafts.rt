@@ -37,7 +37,7 @@ fn define(alloc: Global, sig: &mut Signature, name: &[u8]) -> Result<(), Fail>
     Ok(())
 }
 
-/// The prelude with two definitions behind it.
+/// The prelude with two definitions after it.
 fn two_definitions(alloc: Global) -> Result<Signature, Fail> {
     let mut sig = Signature::prelude(alloc, false)?;
     if sig.find(b"a").is_some() {

@@ -1,4 +1,4 @@
-// Declarations that are refused with the units that the identity costs. Behind each of them the same session accepts it.
+// Declarations that are refused with the units that the identity costs. After each of them the same session accepts it.
 use super::IDENTITY;
 use elab_session::Session;
 use std::alloc::Global;

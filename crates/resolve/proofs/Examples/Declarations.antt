@@ -64,7 +64,7 @@ nested : resolve_fun sample (binary (only (Is (word (codes "f") 22) (Con (word (
 unfolding named word sample numbers binary only native.Mathlib.Decide.ℕ_discrete
 nested = refl
 
--- f .y y = f: a term behind a dot sees the variables behind it, and the function is the next entry
+-- f .y y = f: a term after a dot sees the variables after it, and the function is the next entry
 dots : resolve_fun sample (binary (only (Is (word (codes "f") 22) (Dot (named (codes "y") 25) ∷ Name (word (codes "y") 27) ∷ []) (Side (named (codes "f") 31)))))
     ≡ Ok (record {
       name = codes "f";

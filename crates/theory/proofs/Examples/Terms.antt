@@ -61,7 +61,7 @@ telescope_variables f = refl
 three_arrows : arrows (Var 2 ∷ Var 1 ∷ []) (Var 0) ≡ Pi (Var 2) (Pi (Var 2) (Var 2))
 three_arrows = refl
 
--- x : A and F : A -> Type 0 behind a variable A, where two types are put in between
+-- x : A and F : A -> Type 0 after a variable A, where two types are put in between
 context_lifted : lift_context (Pi (Var 1) (Sort 0) ∷ Var 0 ∷ []) 2 ≡ Pi (Var 3) (Sort 0) ∷ Var 2 ∷ []
 context_lifted = refl
 

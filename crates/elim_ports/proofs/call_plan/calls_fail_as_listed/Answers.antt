@@ -11,7 +11,7 @@ fails_after : (step : Option ℕ) (fails : List ℕ) (n : ℕ) → (after_calls 
 fails_after step fails zero = refl
 fails_after step fails (suc n) = fails_after step fails n
 
--- behind the last number that is counted none fails
+-- after the last number that is counted none fails
 fails_at-counted : (fails : List ℕ) (n : ℕ) → fails_at fails (min n (2 ^ 32 - 1) + 1) ≡ fails_at fails (n + 1)
 fails_at-counted fails n = grind (arith, nat_tests)
 
