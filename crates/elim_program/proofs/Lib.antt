@@ -1,4 +1,4 @@
-mod Accepted
+pub mod Accepted
 mod AcceptedWords
 mod Adding
 mod Asking
@@ -14,9 +14,9 @@ mod FunctionInLine
 mod FunctionTexts
 mod FunctionWords
 mod GrammarInLine
-mod Lines
+pub mod Lines
 mod OneOutput
-mod OutputInLine
+pub mod OutputInLine
 mod QuietWalks
 mod ReadInLine
 mod RefusalsInLine
