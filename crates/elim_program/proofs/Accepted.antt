@@ -109,7 +109,7 @@ own-other S a =
     (core-other (lines_behind S a.signature) (entries-core a.signature (length S.entries) (length a.signature.entries - length S.entries)))
     (clauses-other a.signature a.lines)
 
-own-core : (S : Signature) (a : Elaborated) → core_lines (own_lines S a) ≡ lines_behind S a.signature
+pub own-core : (S : Signature) (a : Elaborated) → core_lines (own_lines S a) ≡ lines_behind S a.signature
 own-core S a =
     core-lines-core (lines_behind S a.signature) (clause_lines a.signature a.lines) (entries-core a.signature (length S.entries) (length a.signature.entries - length S.entries))
     ∙ ap (λ ls. lines_behind S a.signature ++ ls) (core-lines-notes (clause_lines a.signature a.lines) (clauses-notes a.signature a.lines))

@@ -95,6 +95,10 @@ given-in bytes answer (tokens found within are) = go (unbuilt bytes found) refl 
     go None e (Wrong n) q = tt
     go None e (Deep n) q = tt
 
+-- the lines of a text that is read
+pub told-in : (bytes : List ℕ) (fuel : ℕ) (k : Bool) (ds : List surf.Decl) → Gives bytes (Ok ds) → AreInLine (declarations fuel (prelude k) ds).lines
+told-in bytes fuel k ds gives = declarations-in fuel (prelude k) ds (prelude-ready (prelude k) k refl) (prelude-in k) (given-in bytes (Ok ds) gives)
+
 block-in : (command : Command) (answer : texts.Answer) → AnswerIn answer → AreInLine (text_block command answer).lines
 block-in command (Ok ds) h = declarations-in command.fuel (prelude command.k) ds (prelude-ready (prelude command.k) command.k refl) (prelude-in command.k) h
 block-in command (Err e) h = (stop-in e, tt)
