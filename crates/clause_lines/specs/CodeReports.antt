@@ -1,5 +1,6 @@
 -- The line of a clause as the code finds it. It is the clause's own, or Deep: where the equation, its walk or its proof is Deep; where a
--- side of an equation names what is no entry, or has a variable that no context has; and where a proof names what can't be generated.
+-- side of an equation names what is no entry, or has a variable that no context has; and where a proof names something that is neither
+-- an entry nor generated.
 use Rattle.std.specs.Prelude.{ℕ, zero, suc, Bool, true, false, ◌&&◌, not, nat_lt, cond, bytes_eq, Option, None, List, [], ◌∷◌, length, map, Result, Ok, Err}
 use Rattle.theory.specs.Terms.{Term}
 use Rattle.theory.specs.Telescopes.{Telescope}
@@ -60,7 +61,7 @@ order_at (suc k) plan part r = order_of (length part.tele) None
 abbrev pub first_order : PlannedClause → Option Recursion → List ℕ
 first_order c r = order_at c.number c.plan c.part r
 
--- the equation of the clause where it stands
+-- the equation of the clause at its place
 abbrev pub equation_in : Signature → PlannedClause → Option Recursion → Site → Result Equation Stop
 equation_in S c r site = equation_at S c.plan r c.number (pats_of c.part c.clause) (side_of c.part c.clause) site
 

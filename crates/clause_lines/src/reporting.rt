@@ -115,8 +115,8 @@ fn clause_report(
 /// The line of clause `clause`, counted from 0, of a part of a plan, whose own walk is given.
 ///
 /// The equation of the clause holds by conversion, or a proof of it, with what the proof needs, is added to the signature. Where the
-/// checker denies the proof itself, and an earlier clause shadows the clause, the signature is as it was. After an error it does so
-/// too, and the units that were spent stay spent. It is Deep where the equation, its walk or its proof is so, where a side of an equation
+/// checker denies the proof itself, and an earlier clause shadows the clause, the signature is as it was, and so it is after an
+/// error. The units that were spent stay spent. It is Deep where the equation, its walk or its proof is so, where a side of an equation
 /// names what is no entry, and where the proof may not enter.
 pub fn report(
     alloc: Global,

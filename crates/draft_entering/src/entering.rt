@@ -26,9 +26,8 @@ const DEPTH: u32 = 5;
 /// Adds what the draft mentions and the signature lacks, from the left in its type and then in its term, each in the same way, and
 /// then the draft, and answers its number.
 ///
-/// Rejected comes of what the checker denies, the draft or what it needs, and holds it as
-/// texts over the signature in which that arose. After an error the signature is as it was, and the units that were spent stay
-/// spent.
+/// Rejected comes of what the checker denies, the draft or what it needs, and holds it as texts over the signature in which that
+/// arose. After an error the signature is as it was, and the units that were spent stay spent.
 pub fn enter_draft(
     alloc: Global,
     sig: &mut Signature,

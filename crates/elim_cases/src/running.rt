@@ -6,7 +6,7 @@ use std::alloc::{AllocError, Global};
 use std::io;
 
 /// Runs the program over memory.
-fn ran(alloc: Global, case: &Case) -> Result<(Status, MemorySink), AllocError> {
+fn run_over_memory(alloc: Global, case: &Case) -> Result<(Status, MemorySink), AllocError> {
     let input = Items::from_vec(case.input.as_slice().to_vec(alloc)?);
     let mut source = MemorySource::new(input, Items::from_vec(Vec::new(alloc)));
     let mut sink = MemorySink::new(Items::from_vec(Vec::new(alloc)));
@@ -16,7 +16,7 @@ fn ran(alloc: Global, case: &Case) -> Result<(Status, MemorySink), AllocError> {
 
 /// Runs a case, prints its line, and answers whether the output and the status are those that are wanted.
 pub fn run_case(rt: &HostRuntime, case: &Case) -> io::Result<bool> {
-    let (status, sink) = ran(rt.alloc(), case)?;
+    let (status, sink) = run_over_memory(rt.alloc(), case)?;
     let name = case.name.as_str();
     if status.code() == case.status && sink.written() == case.output.as_slice() {
         println!(rt; "ok {name}")?;

@@ -15,7 +15,7 @@ struct Written {
 }
 
 /// Runs the program over memory.
-fn ran(alloc: Global, words: &[String], input: &[u8]) -> Result<Written, AllocError> {
+fn run_over_memory(alloc: Global, words: &[String], input: &[u8]) -> Result<Written, AllocError> {
     let input = Items::from_vec(input.to_vec(alloc)?);
     let mut source = MemorySource::new(input, Items::from_vec(Vec::new(alloc)));
     let mut sink = MemorySink::new(Items::from_vec(Vec::new(alloc)));
@@ -27,10 +27,10 @@ fn ran(alloc: Global, words: &[String], input: &[u8]) -> Result<Written, AllocEr
 }
 
 /// Runs the program as a command says.
-fn ran_as(alloc: Global, command: &Command, text: &str) -> Result<Written, AllocError> {
-    let written = ran(alloc, command.words.as_slice(), text.as_bytes())?;
+fn run_command(alloc: Global, command: &Command, text: &str) -> Result<Written, AllocError> {
+    let written = run_over_memory(alloc, command.words.as_slice(), text.as_bytes())?;
     match &command.again {
-        Some(words) => ran(alloc, words.as_slice(), written.bytes.as_slice()),
+        Some(words) => run_over_memory(alloc, words.as_slice(), written.bytes.as_slice()),
         None => Ok(written),
     }
 }
@@ -58,7 +58,7 @@ fn output_name(alloc: Global, name: &str, command: &Command) -> Result<String, A
 }
 
 /// Runs a text as a command says, prints a line, and answers whether output and status are those that are wanted.
-pub fn is_as_wanted(
+pub fn check_output(
     rt: &HostRuntime,
     name: &str,
     text: &str,
@@ -66,7 +66,7 @@ pub fn is_as_wanted(
 ) -> io::Result<bool> {
     let file = output_name(rt.alloc(), name, command)?;
     let output = fs::read_to_string(rt, file.as_str())?;
-    let written = ran_as(rt.alloc(), command, text)?;
+    let written = run_command(rt.alloc(), command, text)?;
     if written.status == wanted_status(output.as_str())
         && written.bytes.as_slice() == output.as_bytes()
     {

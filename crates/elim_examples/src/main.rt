@@ -9,7 +9,7 @@ mod command;
 mod example;
 
 use command::read_commands;
-use example::is_as_wanted;
+use example::check_output;
 use std::process::ExitCode;
 use std::{env, fs, io};
 
@@ -40,7 +40,7 @@ fn run_text(rt: &HostRuntime, name: &str, tally: &mut Tally) -> io::Result<()> {
         tally.count(false);
     }
     for command in commands.iter() {
-        tally.count(is_as_wanted(rt, name, text.as_str(), command)?);
+        tally.count(check_output(rt, name, text.as_str(), command)?);
     }
     Ok(())
 }

@@ -11,7 +11,7 @@ use Rattle.elaboration.specs.Functions.{ClauseLine}
 use Rattle.elaboration.specs.Refusals as function
 use Rattle.clause_reports.specs.Reports.{Line, Definitional, Proved, Shadowed, Absurd}
 use Rattle.function_session.specs.Elaborating.{Elaborated, Refused, Declaration, Function, elaborate_of}
-use Rattle.function_session.specs.Laws.{GoesOn, IsAsWritten}
+use Rattle.function_session.specs.Laws.{KeepsReady, IsAsWritten}
 use Rattle.function_session.proofs.Keeping.{elaborate-ready}
 use Rattle.function_session.proofs.Written.{elaborates-written}
 use Rattle.elim_program.specs.ClauseTexts.{clause_line, leaf_line, leaf_lines, with_leaves, clause_lines}
@@ -21,22 +21,22 @@ use Rattle.elim_program.specs.declared.words.Command.{Command}
 use Rattle.elim_program.specs.declared.words.Work.{Work}
 use Rattle.elim_program.specs.Headline.{core_lines, own_lines, Shows, none, more, IsShown}
 use Rattle.elim_program.specs.DefinedOutputs.{IsOutput, refused_words, compiles, verifies, works}
-use Rattle.elim_program.specs.Outputs.{Output, accepted_line, accepted_lines, lines_behind, declared_name, declared_block, refused_lines, after, followed, declarations, text_block, head_lines}
+use Rattle.elim_program.specs.Outputs.{Output, accepted_line, accepted_lines, lines_after, declared_name, declared_block, refused_lines, after, followed, declarations, text_block, head_lines}
 use Rattle.elim_program.specs.Refusals.{stop_line, refusal_line}
 use Rattle.elim_program.specs.Texts.{Answer, Gives, limited}
 use Rattle.elim_program.specs.Words.{asked}
 use Rattle.elim_program.specs.WorkTexts.{summary_line}
 use Rattle.elim_program.specs.Works.{none_counted, on_worked, with_accepted, work_block, worked, worked_block}
-use Rattle.elim_program.proofs.Lines.{entries-core, core-lines-core, core-lines-append, third, not_empty, not_one, behind_heads, IsOther, AreOther, core-other, both-other, none_accepted, AreNotes, both-notes, core-lines-notes, Found, here, behind, find, if_ok}
+use Rattle.elim_program.proofs.Lines.{entries-core, core-lines-core, core-lines-append, third, not_empty, not_one, after_heads, IsOther, AreOther, core-other, both-other, none_accepted, AreNotes, both-notes, core-lines-notes, Found, here, later_on, find, if_ok}
 use Rattle.elim_program.proofs.FileLines.{accepts-none}
 
--- What is known before the declarations `ds` of a text: those before it were accepted, and `told` are their lines.
-record IsBefore (command : Command) (all ds : List surf.Decl) (told : List (List ℕ)) (S : Signature) : Type 0 where
+-- What is known before the declarations `ds` of a text: those before it were accepted, and `earlier` are their lines.
+record IsBefore (command : Command) (all ds : List surf.Decl) (earlier : List (List ℕ)) (S : Signature) : Type 0 where
   done : List surf.Decl
   parts : all ≡ done ++ ds
   ready : IsReady S
   has_k : S.has_k ≡ command.k
-  shown : Shows (prelude command.k) S (core_lines told)
+  shown : Shows (prelude command.k) S (core_lines earlier)
 
 -- a declaration of the text that is shown
 record IsFound (command : Command) (all : List surf.Decl) (lines : List (List ℕ)) (name : List ℕ) : Type 0 where
@@ -52,7 +52,7 @@ record IsFound (command : Command) (all : List surf.Decl) (lines : List (List �
   named : accepted.accepted.name ≡ name
   whole : IsReady accepted.signature
   earlier : List (List ℕ)
-  told : lines ≡ earlier ++ own_lines before accepted
+  ends : lines ≡ earlier ++ own_lines before accepted
   shown : Shows (prelude command.k) accepted.signature (core_lines lines)
 
 -- ---- the lines of a declaration
@@ -105,15 +105,15 @@ clauses-notes S (c ∷ clauses) = both-notes (with_leaves S c) (clause_lines S c
 
 own-other : (S : Signature) (a : Elaborated) → AreOther (own_lines S a)
 own-other S a =
-    both-other (lines_behind S a.signature) (clause_lines a.signature a.lines)
-    (core-other (lines_behind S a.signature) (entries-core a.signature (length S.entries) (length a.signature.entries - length S.entries)))
+    both-other (lines_after S a.signature) (clause_lines a.signature a.lines)
+    (core-other (lines_after S a.signature) (entries-core a.signature (length S.entries) (length a.signature.entries - length S.entries)))
     (clauses-other a.signature a.lines)
 
-pub own-core : (S : Signature) (a : Elaborated) → core_lines (own_lines S a) ≡ lines_behind S a.signature
+pub own-core : (S : Signature) (a : Elaborated) → core_lines (own_lines S a) ≡ lines_after S a.signature
 own-core S a =
-    core-lines-core (lines_behind S a.signature) (clause_lines a.signature a.lines) (entries-core a.signature (length S.entries) (length a.signature.entries - length S.entries))
-    ∙ ap (λ ls. lines_behind S a.signature ++ ls) (core-lines-notes (clause_lines a.signature a.lines) (clauses-notes a.signature a.lines))
-    ∙ append-nil (lines_behind S a.signature)
+    core-lines-core (lines_after S a.signature) (clause_lines a.signature a.lines) (entries-core a.signature (length S.entries) (length a.signature.entries - length S.entries))
+    ∙ ap (λ ls. lines_after S a.signature ++ ls) (core-lines-notes (clause_lines a.signature a.lines) (clauses-notes a.signature a.lines))
+    ∙ append-nil (lines_after S a.signature)
 
 candidates-other : (e : function.Refusal) → AreOther (candidate_lines e)
 unfolding AreOther third
@@ -155,32 +155,32 @@ work-other w (Err e) = (third-other (stop_line e) (λ k. omega (arith, k)), tt)
 -- ---- declarations one by one
 
 -- the lines so far, and those of the declaration, show the signature with it
-shown_with : (command : Command) (all ds : List surf.Decl) (told : List (List ℕ)) (S : Signature) (a : Elaborated) → IsBefore command all ds told S → IsPrefix S a.signature →
-    Shows (prelude command.k) a.signature (core_lines (told ++ own_lines S a))
-shown_with command all ds told S a b longer =
+shown_with : (command : Command) (all ds : List surf.Decl) (earlier : List (List ℕ)) (S : Signature) (a : Elaborated) → IsBefore command all ds earlier S → IsPrefix S a.signature →
+    Shows (prelude command.k) a.signature (core_lines (earlier ++ own_lines S a))
+shown_with command all ds earlier S a b longer =
     let P : List (List ℕ) → Type 0 = λ ls. Shows (prelude command.k) a.signature ls in
-    let core : core_lines (told ++ own_lines S a) ≡ core_lines told ++ lines_behind S a.signature =
-    core-lines-append told (own_lines S a) ∙ ap (λ ls. core_lines told ++ ls) (own-core S a) in
-    subst P (sym core) (more S a.signature (core_lines told) b.shown longer)
+    let core : core_lines (earlier ++ own_lines S a) ≡ core_lines earlier ++ lines_after S a.signature =
+    core-lines-append earlier (own_lines S a) ∙ ap (λ ls. core_lines earlier ++ ls) (own-core S a) in
+    subst P (sym core) (more S a.signature (core_lines earlier) b.shown longer)
 
 -- what is known after a declaration that is accepted
-onward : (command : Command) (all : List surf.Decl) (d : surf.Decl) (ds : List surf.Decl) (told : List (List ℕ)) (S : Signature) (a : Elaborated) →
-    IsBefore command all (d ∷ ds) told S → GoesOn S a → IsBefore command all ds ((told ++ own_lines S a) ++ accepted_line a.accepted.name ∷ []) a.signature
-onward command all d ds told S a b on =
+onward : (command : Command) (all : List surf.Decl) (d : surf.Decl) (ds : List surf.Decl) (earlier : List (List ℕ)) (S : Signature) (a : Elaborated) →
+    IsBefore command all (d ∷ ds) earlier S → KeepsReady S a → IsBefore command all ds ((earlier ++ own_lines S a) ++ accepted_line a.accepted.name ∷ []) a.signature
+onward command all d ds earlier S a b on =
     let P : List (List ℕ) → Type 0 = λ ls. Shows (prelude command.k) a.signature ls in
-    let core : core_lines ((told ++ own_lines S a) ++ accepted_line a.accepted.name ∷ []) ≡ core_lines (told ++ own_lines S a) =
-    core-lines-append (told ++ own_lines S a) (accepted_line a.accepted.name ∷ []) ∙ append-nil (core_lines (told ++ own_lines S a)) in
+    let core : core_lines ((earlier ++ own_lines S a) ++ accepted_line a.accepted.name ∷ []) ≡ core_lines (earlier ++ own_lines S a) =
+    core-lines-append (earlier ++ own_lines S a) (accepted_line a.accepted.name ∷ []) ∙ append-nil (core_lines (earlier ++ own_lines S a)) in
     record {
       done = b.done ++ d ∷ [];
       parts = b.parts ∙ sym (append_assoc b.done (d ∷ []) ds);
       ready = on.ready;
       has_k = on.longer.has_k ∙ b.has_k;
-      shown = subst P (sym core) (shown_with command all (d ∷ ds) told S a b on.longer);
+      shown = subst P (sym core) (shown_with command all (d ∷ ds) earlier S a b on.longer);
     }
 
-shown_here : (command : Command) (all : List surf.Decl) (d : surf.Decl) (ds : List surf.Decl) (told : List (List ℕ)) (S : Signature) (a : Elaborated) (name : List ℕ) →
-    IsBefore command all (d ∷ ds) told S → GoesOn S a → IsAsWritten S d a → a.accepted.name ≡ name → IsFound command all (told ++ own_lines S a) name
-shown_here command all d ds told S a name b on written named = record {
+shown_here : (command : Command) (all : List surf.Decl) (d : surf.Decl) (ds : List surf.Decl) (earlier : List (List ℕ)) (S : Signature) (a : Elaborated) (name : List ℕ) →
+    IsBefore command all (d ∷ ds) earlier S → KeepsReady S a → IsAsWritten S d a → a.accepted.name ≡ name → IsFound command all (earlier ++ own_lines S a) name
+shown_here command all d ds earlier S a name b on written named = record {
   front = b.done;
   declaration = d;
   back = ds;
@@ -192,46 +192,46 @@ shown_here command all d ds told S a name b on written named = record {
   written = written;
   named = named;
   whole = on.ready;
-  earlier = told;
-  told = refl;
-  shown = shown_with command all (d ∷ ds) told S a b on.longer;
+  earlier = earlier;
+  ends = refl;
+  shown = shown_with command all (d ∷ ds) earlier S a b on.longer;
 }
 
 -- the lines of an accepted declaration and those that follow
 split-lines : (S : Signature) (a : Elaborated) (rest : List (List ℕ)) → accepted_lines S a ++ rest ≡ own_lines S a ++ accepted_line a.accepted.name ∷ rest
 split-lines S a rest =
-    let entries = lines_behind S a.signature in
+    let entries = lines_after S a.signature in
     let clauses = clause_lines a.signature a.lines in
     let last = accepted_line a.accepted.name ∷ [] in
     ap (λ ls. ls ++ rest) (sym (append_assoc entries clauses last)) ∙ append_assoc (entries ++ clauses) last rest
 
-found : (command : Command) (all : List surf.Decl) (S : Signature) (ds : List surf.Decl) (told above below : List (List ℕ)) (name : List ℕ) →
-    IsBefore command all ds told S → (declarations command.fuel S ds).lines ≡ above ++ accepted_line name ∷ below → IsFound command all (told ++ above) name
-found command all S [] told above below name b e = absurd (not_empty above below (accepted_line name) e)
-found command all S (d ∷ ds) told above below name b e =
-    go (λ T later told b r. found command all T ds told later below name b r) (elaborate_of S command.fuel d) refl e
+found : (command : Command) (all : List surf.Decl) (S : Signature) (ds : List surf.Decl) (earlier above below : List (List ℕ)) (name : List ℕ) →
+    IsBefore command all ds earlier S → (declarations command.fuel S ds).lines ≡ above ++ accepted_line name ∷ below → IsFound command all (earlier ++ above) name
+found command all S [] earlier above below name b e = absurd (not_empty above below (accepted_line name) e)
+found command all S (d ∷ ds) earlier above below name b e =
+    go (λ T later earlier b r. found command all T ds earlier later below name b r) (elaborate_of S command.fuel d) refl e
   where
-    go : ((T : Signature) (later told : List (List ℕ)) → IsBefore command all ds told T → (declarations command.fuel T ds).lines ≡ later ++ accepted_line name ∷ below → IsFound command all (told ++ later) name)
+    go : ((T : Signature) (later earlier : List (List ℕ)) → IsBefore command all ds earlier T → (declarations command.fuel T ds).lines ≡ later ++ accepted_line name ∷ below → IsFound command all (earlier ++ later) name)
         → (r : Result Elaborated Refused) → elaborate_of S command.fuel d ≡ r
         → (followed (declared_block S d r) (declarations command.fuel (after S r) ds)).lines ≡ above ++ accepted_line name ∷ below
-        → IsFound command all (told ++ above) name
+        → IsFound command all (earlier ++ above) name
     go rec (Err refusal) er e = absurd (none_accepted (refused_lines (declared_name d) refusal) above below name (refused-other (declared_name d) refusal) e)
     go rec (Ok a) er e =
-        let on = if_ok (GoesOn S) (elaborate_of S command.fuel d) a er (elaborate-ready S command.fuel d b.ready) in
+        let on = if_ok (KeepsReady S) (elaborate_of S command.fuel d) a er (elaborate-ready S command.fuel d b.ready) in
         let written = if_ok (IsAsWritten S d) (elaborate_of S command.fuel d) a er (elaborates-written S command.fuel d b.ready) in
         let rest = (declarations command.fuel a.signature ds).lines in
         which on written (find (own_lines S a) rest above below a.accepted.name name (own-other S a) (sym (split-lines S a rest) ∙ e))
       where
-        which : GoesOn S a → IsAsWritten S d a → Found (own_lines S a) (declarations command.fuel a.signature ds).lines above below a.accepted.name name → IsFound command all (told ++ above) name
+        which : KeepsReady S a → IsAsWritten S d a → Found (own_lines S a) (declarations command.fuel a.signature ds).lines above below a.accepted.name name → IsFound command all (earlier ++ above) name
         which on written (here f m r) =
-            let P : List (List ℕ) → Type 0 = λ ls. IsFound command all (told ++ ls) name in
-            subst P (sym f) (shown_here command all d ds told S a name b on written m)
-        which on written (behind later f r) =
+            let P : List (List ℕ) → Type 0 = λ ls. IsFound command all (earlier ++ ls) name in
+            subst P (sym f) (shown_here command all d ds earlier S a name b on written m)
+        which on written (later_on later f r) =
             let P : List (List ℕ) → Type 0 = λ ls. IsFound command all ls name in
-            let place : ((told ++ own_lines S a) ++ accepted_line a.accepted.name ∷ []) ++ later ≡ told ++ above =
-            append_assoc (told ++ own_lines S a) (accepted_line a.accepted.name ∷ []) later ∙ append_assoc told (own_lines S a) (accepted_line a.accepted.name ∷ later)
-            ∙ ap (λ ls. told ++ ls) (sym f) in
-            subst P place (rec a.signature later ((told ++ own_lines S a) ++ accepted_line a.accepted.name ∷ []) (onward command all d ds told S a b on) r)
+            let place : ((earlier ++ own_lines S a) ++ accepted_line a.accepted.name ∷ []) ++ later ≡ earlier ++ above =
+            append_assoc (earlier ++ own_lines S a) (accepted_line a.accepted.name ∷ []) later ∙ append_assoc earlier (own_lines S a) (accepted_line a.accepted.name ∷ later)
+            ∙ ap (λ ls. earlier ++ ls) (sym f) in
+            subst P place (rec a.signature later ((earlier ++ own_lines S a) ++ accepted_line a.accepted.name ∷ []) (onward command all d ds earlier S a b on) r)
 
 -- what is found in a text is shown
 as_shown : (words : List (List ℕ)) (bytes : List ℕ) (command : Command) (decls : List surf.Decl) (lines : List (List ℕ)) (name : List ℕ) →
@@ -255,7 +255,7 @@ as_shown words bytes command decls lines name asks gives f = record {
   lines = lines;
   heads = refl;
   earlier = f.earlier;
-  told = f.told;
+  ends = f.ends;
   shown = f.shown;
 }
 
@@ -264,7 +264,7 @@ pub shown : (words : List (List ℕ)) (bytes : List ℕ) (out : Output) (above b
 unfolding third
 shown words bytes out above below name (refused_words asks nothing other) e = absurd (not_one (codes "# usage elim (compile [--k] | verify [--k] | work N) [--fuel N]") (accepted_line name) above below (λ k. omega (arith, k)) e)
 shown words bytes out above below name (compiles command answer asks gives) e =
-    let b = behind_heads command.k (text_block command answer).lines above below (accepted_line name) (λ k. omega (arith, k)) (λ k. omega (arith, k)) e in
+    let b = after_heads command.k (text_block command answer).lines above below (accepted_line name) (λ k. omega (arith, k)) (λ k. omega (arith, k)) e in
     let P : List (List ℕ) → Type 0 = λ ls. IsShown words bytes ls name in
     subst P (sym b.1) (go answer gives b.0 b.2)
   where
@@ -281,5 +281,5 @@ shown words bytes out above below name (compiles command answer asks gives) e =
         }) e)
 shown words bytes out above below name (verifies command asks) e = absurd (accepts-none command (limited bytes) above below name e)
 shown words bytes out above below name (works work answer asks gives) e =
-    let b = behind_heads false (work_block work answer).lines above below (accepted_line name) (λ k. omega (arith, k)) (λ k. omega (arith, k)) e in
+    let b = after_heads false (work_block work answer).lines above below (accepted_line name) (λ k. omega (arith, k)) (λ k. omega (arith, k)) e in
     absurd (none_accepted (work_block work answer).lines b.0 below name (work-other work answer) b.2)

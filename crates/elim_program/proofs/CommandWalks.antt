@@ -64,8 +64,8 @@ abbrev at_option : Held → Text → ℕ → Walk
 at_option h id n = record { held = h; waiting = option id; position = n; is_trailing = false; stopped = None }
 
 -- after the word that is the option's value
-abbrev behind_value : List Rule → Held → Text → ℕ → Text → Walk
-behind_value rules h id n word = record {
+abbrev after_value : List Rule → Held → Text → ℕ → Text → Walk
+after_value rules h id n word = record {
   held = (option_word (arg_by_id rules id) id word h).0;
   waiting = (option_word (arg_by_id rules id) id word h).1;
   position = n;
@@ -75,38 +75,38 @@ behind_value rules h id n word = record {
 
 -- a word that begins with no hyphen is the value
 value_walked : (rules : List Rule) (h : Held) (id : Text) (n d : ℕ) (ds : Text) → (d == 45) ≡ false
-    → walked rules [] (at_option h id n) (d ∷ ds) ≡ behind_value rules h id n (d ∷ ds)
+    → walked rules [] (at_option h id n) (d ∷ ds) ≡ after_value rules h id n (d ∷ ds)
 unfolding walked
 value_walked rules h id n d ds e = simp e refl
 
 value_passes : (s : Shape) (h : Held) (id : Text) (n d : ℕ) (ds : Text) (back : List Text) → (d == 45) ≡ false
-    → walk_passes s [] (behind_value s.rules h id n (d ∷ ds)) back ≡ true → walk_passes s [] (at_option h id n) ((d ∷ ds) ∷ back) ≡ true
+    → walk_passes s [] (after_value s.rules h id n (d ∷ ds)) back ≡ true → walk_passes s [] (at_option h id n) ((d ∷ ds) ∷ back) ≡ true
 unfolding walk_passes
-value_passes s h id n d ds back e behind =
+value_passes s h id n d ds back e later =
     let turn : turn_passes s [] (at_option h id n) (d ∷ ds) ≡ true = simp e refl in
-    rw (turn, value_walked s.rules h id n d ds e) behind
+    rw (turn, value_walked s.rules h id n d ds e) later
 
 passes-append : (s : Shape) (w : Walk) (front back : List Text) → walk_passes s [] w front ≡ true
     → walk_passes s [] (fold (walked s.rules []) w front) back ≡ true → walk_passes s [] w (front ++ back) ≡ true
 unfolding walk_passes
-passes-append s w [] back h behind = behind
-passes-append s w (x ∷ front) back h behind =
+passes-append s w [] back h later = later
+passes-append s w (x ∷ front) back h later =
     let parts = both (turn_passes s [] w x) (walk_passes s [] (walked s.rules [] w x) front) h in
-    rw parts.0 (passes-append s (walked s.rules [] w x) front back parts.1 behind)
+    rw parts.0 (passes-append s (walked s.rules [] w x) front back parts.1 later)
 
 -- words with a number after a front that ends in `--fuel`
 found_value : (front back : List Text) (verify k : Bool) (d : ℕ) (ds : Text) (h : Held) (n : ℕ) → (d == 45) ≡ false
     → walk_of front ≡ at_option h (codes "fuel") n → walk_passes shape [] (walk_from nothing_held) front ≡ true
-    → walk_passes shape [] (behind_value shape.rules h (codes "fuel") n (d ∷ ds)) back ≡ true
-    → Ends (fold (walked shape.rules []) (behind_value shape.rules h (codes "fuel") n (d ∷ ds)) back) verify k (Some (d ∷ ds))
+    → walk_passes shape [] (after_value shape.rules h (codes "fuel") n (d ∷ ds)) back ≡ true
+    → Ends (fold (walked shape.rules []) (after_value shape.rules h (codes "fuel") n (d ∷ ds)) back) verify k (Some (d ∷ ds))
     → Finds (front ++ (d ∷ ds) ∷ back) verify k (Some (d ∷ ds))
-found_value front back verify k d ds h n e waits passed behind end =
+found_value front back verify k d ds h n e waits passed later end =
     found_by (front ++ (d ∷ ds) ∷ back) _ verify k (Some (d ∷ ds))
     (fold-append (walked shape.rules []) (walk_from nothing_held) front ((d ∷ ds) ∷ back)
     ∙ (ap (λ w. fold (walked shape.rules []) w ((d ∷ ds) ∷ back)) waits
     ∙ ap (λ w. fold (walked shape.rules []) w back) (value_walked shape.rules h (codes "fuel") n d ds e)))
     (passes-append shape (walk_from nothing_held) front ((d ∷ ds) ∷ back) passed
-    (rw waits (value_passes shape h (codes "fuel") n d ds back e behind))) end
+    (rw waits (value_passes shape h (codes "fuel") n d ds back e later))) end
 
 -- ---- the lists of words
 

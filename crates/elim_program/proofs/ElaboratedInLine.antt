@@ -1,4 +1,4 @@
--- What a declaration gives is told in line, where its words and the names of the signature are in line.
+-- What a declaration gives is written in line, where its words and the names of the signature are in line.
 use Rattle.std.proofs.Common.{ℕ, List, Result, Ok, Err, IfOk}
 use Rattle.theory.specs.Signatures.{Signature}
 use Rattle.core_terms.proofs.Answers.{Splits}
@@ -18,7 +18,7 @@ use Rattle.elab_session.proofs.Written.{declares-written}
 use Rattle.function_session.specs.Elaborating.{Elaborated, Refused, Declaration, Function, without_lines, refused_function, on_lines, enter_function, on_function, elaborate_of}
 use Rattle.elim_program.specs.Outputs.{refused_lines}
 use Rattle.elim_program.proofs.EnteredNames.{IsIn, if-ok}
-use Rattle.elim_program.proofs.FunctionInLine.{LinesIn, function-told}
+use Rattle.elim_program.proofs.FunctionInLine.{LinesIn, function-written}
 use Rattle.elim_program.proofs.FunctionTexts.{RefusalIn, ClauseIn, refusal-lines-in}
 use Rattle.elim_program.proofs.FunctionWords.{NameIn, function-in}
 use Rattle.elim_program.proofs.GrammarInLine.{WordIn, DeclInLine}
@@ -35,9 +35,9 @@ abbrev pub RefusedIn : Refused → Type 0
 RefusedIn (Declaration e) = TextIn e
 RefusedIn (Function e) = RefusalIn e
 
--- it is told in line
-abbrev pub ToldIn : Result Elaborated Refused → Type 0
-ToldIn r = Splits ElaboratedIn RefusedIn r
+-- it is written in line
+abbrev pub WrittenIn : Result Elaborated Refused → Type 0
+WrittenIn r = Splits ElaboratedIn RefusedIn r
 
 pub refused-lines-in : (name : List ℕ) (e : Refused) → IsIn name → RefusedIn e → AreInLine (refused_lines name e)
 refused-lines-in name (Declaration e) h k = (refusal-in name e h k, tt)
@@ -45,42 +45,42 @@ refused-lines-in name (Function e) h k = refusal-lines-in name e h k
 
 -- ---- definitions and families
 
-plain-in : (r : Result session.Declared Refusal) → RefusesIn r → IfOk r AcceptedIn → ToldIn (without_lines r)
+plain-in : (r : Result session.Declared Refusal) → RefusesIn r → IfOk r AcceptedIn → WrittenIn (without_lines r)
 plain-in (Ok d) h k = record { name = k.name; names = k.names; clauses = tt }
 plain-in (Err e) h k = h
 
-declared-in : (S : Signature) (fuel : ℕ) (d : surf.Decl) → IsReady S → NamesIn S → DeclInLine d → ToldIn (without_lines (session.declare_of S fuel d))
+declared-in : (S : Signature) (fuel : ℕ) (d : surf.Decl) → IsReady S → NamesIn S → DeclInLine d → WrittenIn (without_lines (session.declare_of S fuel d))
 declared-in S fuel d ready names h =
     plain-in (session.declare_of S fuel d) (refused-in S fuel d names h)
     (if-ok (IsAsWritten S d) AcceptedIn (session.declare_of S fuel d) (λ a w. accepted-in S d a names h w) (declares-written S fuel d ready.well_formed))
 
 -- ---- functions
 
-refusal-told : (fuel : ℕ) (e : refusal.Refusal) → RefusalIn e → RefusedIn (refused_function fuel e)
-refusal-told fuel (refusal.Halts e) h = stopped-in fuel e
-refusal-told fuel (refusal.IllTyped part place context reason) h = h
-refusal-told fuel (refusal.WrongConstructor owner context type) h = h
-refusal-told fuel (refusal.Stuck owner context left right why) h = h
-refusal-told fuel (refusal.Uncovered name context vector) h = h
-refusal-told fuel (refusal.NotAbsurd owner constructor) h = h
-refusal-told fuel (refusal.Impossible owner context left right) h = h
-refusal-told fuel (refusal.DotMismatch owner context written forced) h = h
-refusal-told fuel (refusal.SelfInType owner) h = h
-refusal-told fuel (refusal.NotSmaller rows) h = h
-refusal-told fuel (refusal.Rejected r) h = h
+refusal-written : (fuel : ℕ) (e : refusal.Refusal) → RefusalIn e → RefusedIn (refused_function fuel e)
+refusal-written fuel (refusal.Halts e) h = stopped-in fuel e
+refusal-written fuel (refusal.IllTyped part place context reason) h = h
+refusal-written fuel (refusal.WrongConstructor owner context type) h = h
+refusal-written fuel (refusal.Stuck owner context left right why) h = h
+refusal-written fuel (refusal.Uncovered name context vector) h = h
+refusal-written fuel (refusal.NotAbsurd owner constructor) h = h
+refusal-written fuel (refusal.Impossible owner context left right) h = h
+refusal-written fuel (refusal.DotMismatch owner context written forced) h = h
+refusal-written fuel (refusal.SelfInType owner) h = h
+refusal-written fuel (refusal.NotSmaller rows) h = h
+refusal-written fuel (refusal.Rejected r) h = h
 
-lines-told : (S : Signature) (x : Word) → WordIn x → (fuel : ℕ) (r : Result Lines refusal.Refusal) → Splits LinesIn RefusalIn r → ToldIn (on_lines S x fuel r)
-lines-told S x h fuel (Ok l) k = record { name = h; names = k.names; clauses = k.clauses }
-lines-told S x h fuel (Err e) k = refusal-told fuel e k
+lines-written : (S : Signature) (x : Word) → WordIn x → (fuel : ℕ) (r : Result Lines refusal.Refusal) → Splits LinesIn RefusalIn r → WrittenIn (on_lines S x fuel r)
+lines-written S x h fuel (Ok l) k = record { name = h; names = k.names; clauses = k.clauses }
+lines-written S x h fuel (Err e) k = refusal-written fuel e k
 
 function-in-line : (S : Signature) → NamesIn S → (x : Word) → WordIn x → (fuel : ℕ) (r : Result function.Function ResolveStop) → Resolves NameIn r
-    → ToldIn (on_function r (enter_function S fuel x))
-function-in-line S names x h fuel (Ok f) k = lines-told S x h fuel (function_made S f fuel).0 (function-told S names f k fuel)
+    → WrittenIn (on_function r (enter_function S fuel x))
+function-in-line S names x h fuel (Ok f) k = lines-written S x h fuel (function_made S f fuel).0 (function-written S names f k fuel)
 function-in-line S names x h fuel (Err e) k = unresolved-in e k
 
 -- ---- declarations
 
-pub elaborated-in : (S : Signature) (fuel : ℕ) (d : surf.Decl) → IsReady S → NamesIn S → DeclInLine d → ToldIn (elaborate_of S fuel d)
+pub elaborated-in : (S : Signature) (fuel : ℕ) (d : surf.Decl) → IsReady S → NamesIn S → DeclInLine d → WrittenIn (elaborate_of S fuel d)
 elaborated-in S fuel (surf.Def x ty body) ready names h = declared-in S fuel (surf.Def x ty body) ready names h
 elaborated-in S fuel (surf.Data x params ty cons) ready names h = declared-in S fuel (surf.Data x params ty cons) ready names h
 elaborated-in S fuel (surf.Decide x f e) ready names h = declared-in S fuel (surf.Decide x f e) ready names h

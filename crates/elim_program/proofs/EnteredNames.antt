@@ -1,4 +1,4 @@
--- What enters for a function has names in line, and so is told what the checker denies.
+-- What enters for a function has names in line, and so is written what the checker denies.
 use Rattle.std.proofs.Common.{◌≡◌, ℕ, zero, suc, Bool, true, false, cond, List, [], ◌∷◌, ◌++◌, length, map, codes, Option, Some, None, Result, Ok, Err, IfOk, refl, sym, ap, subst, ◌∙◌}
 use Rattle.std.specs.Prelude.{get_or, position, nat_lt, ◌&&◌, slice_get, decimal}
 use Rattle.theory.specs.Terms.{Term, top}
@@ -76,7 +76,7 @@ ReportIn (Rejected r) = RejectionIn r
 ReportIn (Halts e) = Unit {0}
 ReportIn (Stuck context u v why) = Unit {0}
 
--- a signature with names in line, or a refusal that is told in line
+-- a signature with names in line, or a refusal that is written in line
 abbrev pub NamesAfter : Entered → Type 0
 NamesAfter e = NamesIn e.signature
 

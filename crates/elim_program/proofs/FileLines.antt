@@ -20,11 +20,11 @@ use Rattle.elim_program.specs.declared.text_stop.TextStop.TheVariants as stop
 use Rattle.elim_program.specs.declared.words.Command.{Command}
 use Rattle.elim_program.specs.Outputs.{accepted_line, compiled, followed}
 use Rattle.elim_program.specs.Refusals.{refusal_line, stop_line}
-use Rattle.elim_program.specs.Verifies.{behind, behind_head, enter_read, entries, entry_block, file_block, next_block, read_name, unread, verified_line}
+use Rattle.elim_program.specs.Verifies.{after_entry, after_head, enter_read, entries, entry_block, file_block, next_block, read_name, unread, verified_line}
 use Rattle.elim_program.specs.VerifyHeadline.{Adds, family, eliminator, axiom_k, definition}
 use Rattle.elim_program.proofs.Adding.{adds-read}
-use Rattle.elim_program.proofs.Lines.{third, first_line, not_empty, behind_heads, if_ok}
-use Rattle.elim_program.proofs.ReadInLine.{IsTold, is-told}
+use Rattle.elim_program.proofs.Lines.{third, first_line, not_empty, after_heads, if_ok}
+use Rattle.elim_program.proofs.ReadInLine.{IsRead, is-read}
 use Rattle.elim_program.proofs.RefusalsInLine.{refusal-in, stop-in}
 use Rattle.elim_program.proofs.SessionInLine.{NamesIn, TextIn, each-last, prelude-in, site-in, term-in, unentered-in}
 use Rattle.elim_program.proofs.TokensInLine.{Each}
@@ -39,36 +39,36 @@ answered-in : (refusal : FamilyStop → Refusal) (r : Result Entered FamilyStop)
 answered-in refusal (Ok x) h = tt
 answered-in refusal (Err e) h = h e
 
-refuses-in : (S : Signature) (fuel : ℕ) (raw : RawEntry) → NamesIn S → IsTold S raw → Refuses (enter_read S fuel raw)
-refuses-in S fuel (RawFamilyOf raw) names told =
+refuses-in : (S : Signature) (fuel : ℕ) (raw : RawEntry) → NamesIn S → IsRead S raw → Refuses (enter_read S fuel raw)
+refuses-in S fuel (RawFamilyOf raw) names read =
     answered-in (unentered (site_signature S raw) (map (λ c. c.name) raw.constructors) (record { text = raw.name; start = 0 }) fuel) (declare_of S raw fuel).0
-    (unentered-in (site_signature S raw) (map (λ c. c.name) raw.constructors) (site-in S raw names told.names.0) told.names.1 (record { text = raw.name; start = 0 }) told.names.0 fuel)
-refuses-in S fuel (RawEliminator n m) names told =
+    (unentered-in (site_signature S raw) (map (λ c. c.name) raw.constructors) (site-in S raw names read.names.0) read.names.1 (record { text = raw.name; start = 0 }) read.names.0 fuel)
+refuses-in S fuel (RawEliminator n m) names read =
     answered-in (unentered (part_signature S (EliminatorAt n m)) [] (record { text = []; start = 0 }) fuel) (checked_entry S (EliminatorAt n m) fuel).0
     (unentered-in (part_signature S (EliminatorAt n m)) [] (λ site. names) tt (record { text = []; start = 0 }) refl fuel)
-refuses-in S fuel (RawAxiomK i m) names told =
+refuses-in S fuel (RawAxiomK i m) names read =
     answered-in (unentered (part_signature S (AxiomKAt i m)) [] (record { text = []; start = 0 }) fuel) (checked_entry S (AxiomKAt i m) fuel).0
     (unentered-in (part_signature S (AxiomKAt i m)) [] (λ site. names) tt (record { text = []; start = 0 }) refl fuel)
-refuses-in S fuel (RawDefinition name type body) names told =
+refuses-in S fuel (RawDefinition name type body) names read =
     answered-in (unentered (part_signature S (Definition name type body)) [] (record { text = name; start = 0 }) fuel) (checked_entry S (Definition name type body) fuel).0
-    (unentered-in (part_signature S (Definition name type body)) [] (λ site. names) tt (record { text = name; start = 0 }) told.names.0 fuel)
+    (unentered-in (part_signature S (Definition name type body)) [] (λ site. names) tt (record { text = name; start = 0 }) read.names.0 fuel)
 
 -- Names.
 
-name-in : (S : Signature) (raw : RawEntry) → NamesIn S → IsTold S raw → is_in_line (read_name S raw) ≡ true
-name-in S (RawFamilyOf raw) names told = told.names.0
-name-in S (RawEliminator n m) names told = term-in S names (Elim n m)
-name-in S (RawAxiomK i m) names told = term-in S names (AxiomK i m)
-name-in S (RawDefinition name type body) names told = told.names.0
+name-in : (S : Signature) (raw : RawEntry) → NamesIn S → IsRead S raw → is_in_line (read_name S raw) ≡ true
+name-in S (RawFamilyOf raw) names read = read.names.0
+name-in S (RawEliminator n m) names read = term-in S names (Elim n m)
+name-in S (RawAxiomK i m) names read = term-in S names (AxiomK i m)
+name-in S (RawDefinition name type body) names read = read.names.0
 
 pushed-in : (S : Signature) (e : Entry) → NamesIn S → AreInLine (names_of e) → NamesIn (record { entries = S.entries ++ e ∷ []; has_k = S.has_k })
 pushed-in S e names h = each-last (λ x. AreInLine (names_of x)) S.entries e names h
 
-added-in : (S T : Signature) (raw : RawEntry) → NamesIn S → IsTold S raw → Adds S raw T → NamesIn T
-added-in S T raw names told (family given f is) = pushed-in S (FamilyOf f) names (subst AreInLine (sym is.names) told.names)
-added-in S T raw names told (eliminator n m) = pushed-in S (EliminatorAt n m) names tt
-added-in S T raw names told (axiom_k i m) = pushed-in S (AxiomKAt i m) names tt
-added-in S T raw names told (definition name type body) = pushed-in S (Definition name type body) names told.names
+added-in : (S T : Signature) (raw : RawEntry) → NamesIn S → IsRead S raw → Adds S raw T → NamesIn T
+added-in S T raw names read (family given f is) = pushed-in S (FamilyOf f) names (subst AreInLine (sym is.names) read.names)
+added-in S T raw names read (eliminator n m) = pushed-in S (EliminatorAt n m) names tt
+added-in S T raw names read (axiom_k i m) = pushed-in S (AxiomKAt i m) names tt
+added-in S T raw names read (definition name type body) = pushed-in S (Definition name type body) names read.names
 
 -- The lines of entries.
 
@@ -98,21 +98,21 @@ entries-plain text fuel (suc most) S from names = go (entry_from S text from) re
     go (Ok None) e rec = tt
     go (Err stop) e rec = (stop-plain (unread stop), tt)
     go (Ok (Some (raw, to))) e rec =
-        let told = is-told S text from raw to e in
-        answer (enter_read S fuel raw) refl told (refuses-in S fuel raw names told)
+        let read = is-read S text from raw to e in
+        answer (enter_read S fuel raw) refl read (refuses-in S fuel raw names read)
       where
-        answer : (r : Result Entered Refusal) → enter_read S fuel raw ≡ r → IsTold S raw → Refuses r
-            → Each IsPlain (followed (entry_block (read_name S raw) r) (entries text fuel most (behind S r) to)).lines
-        answer (Err why) is told in_line = (refusal-plain (read_name S raw) why (name-in S raw names told) in_line, tt)
-        answer (Ok x) is told in_line =
-            let added = if_ok (λ y. Adds S raw y.signature) (enter_read S fuel raw) x is (adds-read S fuel raw told.missing) in
-            (verified-plain (read_name S raw) (name-in S raw names told), rec x.signature to (added-in S x.signature raw names told added))
+        answer : (r : Result Entered Refusal) → enter_read S fuel raw ≡ r → IsRead S raw → Refuses r
+            → Each IsPlain (followed (entry_block (read_name S raw) r) (entries text fuel most (after_entry S r) to)).lines
+        answer (Err why) is read in_line = (refusal-plain (read_name S raw) why (name-in S raw names read) in_line, tt)
+        answer (Ok x) is read in_line =
+            let added = if_ok (λ y. Adds S raw y.signature) (enter_read S fuel raw) x is (adds-read S fuel raw read.missing) in
+            (verified-plain (read_name S raw) (name-in S raw names read), rec x.signature to (added-in S x.signature raw names read added))
 
 file-plain : (command : Command) (text : Option (List ℕ)) → Each IsPlain (file_block command text).lines
 file-plain command None = (stop-plain stop.TooLong, tt)
 file-plain command (Some text) = go (head_of command.k text)
   where
-    go : (m : Result (Bool × ℕ) CoreTextStop) → Each IsPlain (behind_head command.fuel text m).lines
+    go : (m : Result (Bool × ℕ) CoreTextStop) → Each IsPlain (after_head command.fuel text m).lines
     go (Ok p) = entries-plain text command.fuel (suc (length text)) (prelude p.0) p.1 (prelude-in p.0)
     go (Err stop) = (stop-plain (unread stop), tt)
 
@@ -132,5 +132,5 @@ none-accepts (line ∷ lines) (x ∷ above) below name h e = none-accepts lines 
 pub accepts-none : (command : Command) (text : Option (List ℕ)) (above below : List (List ℕ)) (name : List ℕ) → (compiled command.k (file_block command text)).lines ≡ above ++ accepted_line name ∷ below → ⊥
 unfolding third
 accepts-none command text above below name e =
-    let b = behind_heads command.k (file_block command text).lines above below (accepted_line name) (λ k. omega (arith, k)) (λ k. omega (arith, k)) e in
+    let b = after_heads command.k (file_block command text).lines above below (accepted_line name) (λ k. omega (arith, k)) (λ k. omega (arith, k)) e in
     none-accepts (file_block command text).lines b.0 below name (file-plain command text) b.2

@@ -13,7 +13,7 @@ use Rattle.elim_program.specs.declared.status.Status.TheVariants.{Done, Refused,
 use Rattle.elim_program.specs.Lines.{text_of}
 use Rattle.elim_program.specs.Outputs.{Block, Output, compiled, head_lines, followed}
 use Rattle.elim_program.proofs.TextLines.{text_both}
-use Rattle.elim_program.specs.Runs.{IsFront, Follows, Says, Sent, Told, Failed}
+use Rattle.elim_program.specs.Runs.{IsFront, Follows, Says, Sent, Written, Failed}
 use Rattle.elim_program.specs.Texts.{limited}
 
 -- The bytes of a source.
@@ -71,26 +71,26 @@ appends-nothing (Some text) = sym (append-nil text)
 -- Blocks.
 
 -- a block went out, or a front of it
-abbrev pub Tells : Option (List ℕ) → Option (List ℕ) → Result Bool Status → Block → Type 0
-Tells before after r b = (text : List ℕ) × Appends before after text × Told r b text
+abbrev pub Writes : Option (List ℕ) → Option (List ℕ) → Result Bool Status → Block → Type 0
+Writes before after r b = (text : List ℕ) × Appends before after text × Written r b text
 
-pub no_block : (before : Option (List ℕ)) (status : Status) (b : Block) → status ≡ NoMemory → Tells before before (Err status) b
+pub no_block : (before : Option (List ℕ)) (status : Status) (b : Block) → status ≡ NoMemory → Writes before before (Err status) b
 no_block before status b e = ([], appends-nothing before, ((text_of b.lines, refl), subst (λ s. Failed s [] (text_of b.lines)) (sym e) tt))
 
 -- Blocks one by one: what went out so far, where the lines of `rest` are still to come for those of `whole`.
-pub record IsTelling (before now : Option (List ℕ)) (whole rest : Block) : Type 0 where
+pub record IsWriting (before now : Option (List ℕ)) (whole rest : Block) : Type 0 where
   pub text : List ℕ
   pub appended : Appends before now text
   pub parts : text_of whole.lines ≡ text ++ text_of rest.lines
   pub refused : whole.refused ≡ rest.refused
 
-pub telling : (before : Option (List ℕ)) (whole : Block) → IsTelling before before whole whole
-telling before whole = record { text = []; appended = appends-nothing before; parts = refl; refused = refl }
+pub writing : (before : Option (List ℕ)) (whole : Block) → IsWriting before before whole whole
+writing before whole = record { text = []; appended = appends-nothing before; parts = refl; refused = refl }
 
 -- a block that does not refuse went out
-pub told_one : (before middle after : Option (List ℕ)) (whole b rest : Block) → IsTelling before middle whole (followed b rest) → Tells middle after (Ok false) b →
-    IsTelling before after whole rest
-told_one before middle after whole b rest t one =
+pub written_one : (before middle after : Option (List ℕ)) (whole b rest : Block) → IsWriting before middle whole (followed b rest) → Writes middle after (Ok false) b →
+    IsWriting before after whole rest
+written_one before middle after whole b rest t one =
     let refuses : b.refused ≡ false = sym one.2.1 in
     let next : followed b rest ≡ record { lines = b.lines ++ rest.lines; refused = rest.refused } =
     ap (λ x. if x then b else record { lines = b.lines ++ rest.lines; refused = rest.refused }) refuses in
@@ -102,9 +102,9 @@ told_one before middle after whole b rest t one =
     }
 
 -- the last block refuses
-pub told_last : (before middle after : Option (List ℕ)) (whole b rest : Block) → IsTelling before middle whole (followed b rest) → Tells middle after (Ok true) b →
-    Tells before after (Ok true) whole
-told_last before middle after whole b rest t one =
+pub written_last : (before middle after : Option (List ℕ)) (whole b rest : Block) → IsWriting before middle whole (followed b rest) → Writes middle after (Ok true) b →
+    Writes before after (Ok true) whole
+written_last before middle after whole b rest t one =
     let refuses : b.refused ≡ true = sym one.2.1 in
     let next : followed b rest ≡ b = ap (λ x. if x then b else record { lines = b.lines ++ rest.lines; refused = rest.refused }) refuses in (
       t.text ++ one.0,
@@ -137,17 +137,17 @@ failed_part Usage front x y z whole f h e = absurd h
 failed_part ReadFault front x y z whole f h e = absurd h
 
 -- the text of a block and of what follows it
-behind_block : (b rest : Block) → (more : List ℕ) × (text_of (followed b rest).lines ≡ text_of b.lines ++ more)
-behind_block b rest = go b.refused
+after_block : (b rest : Block) → (more : List ℕ) × (text_of (followed b rest).lines ≡ text_of b.lines ++ more)
+after_block b rest = go b.refused
   where
     go : (r : Bool) → (more : List ℕ) × (text_of (if r then b else record { lines = b.lines ++ rest.lines; refused = rest.refused }).lines ≡ text_of b.lines ++ more)
     go true = ([], sym (append-nil (text_of b.lines)))
     go false = (text_of rest.lines, text_both b.lines rest.lines)
 
-pub told_part : (before middle after : Option (List ℕ)) (whole b rest : Block) (status : Status) → IsTelling before middle whole (followed b rest) → Tells middle after (Err status) b →
-    Tells before after (Err status) whole
-told_part before middle after whole b rest status t one =
-    let more = behind_block b rest in
+pub written_part : (before middle after : Option (List ℕ)) (whole b rest : Block) (status : Status) → IsWriting before middle whole (followed b rest) → Writes middle after (Err status) b →
+    Writes before after (Err status) whole
+written_part before middle after whole b rest status t one =
+    let more = after_block b rest in
     let all : text_of whole.lines ≡ t.text ++ (text_of b.lines ++ more.0) = t.parts ∙ ap (λ l. t.text ++ l) more.1 in
     let front = one.2.0 in (
       t.text ++ one.0,
@@ -159,13 +159,13 @@ told_part before middle after whole b rest status t one =
     )
 
 -- what is still to come went out, or a front of it
-pub told_rest : (before middle after : Option (List ℕ)) (whole rest : Block) (r : Result Bool Status) → IsTelling before middle whole rest → Tells middle after r rest → Tells before after r whole
-told_rest before middle after whole rest (Ok b) t one = (
+pub written_rest : (before middle after : Option (List ℕ)) (whole rest : Block) (r : Result Bool Status) → IsWriting before middle whole rest → Writes middle after r rest → Writes before after r whole
+written_rest before middle after whole rest (Ok b) t one = (
   t.text ++ one.0,
   appends-both before middle after t.text one.0 t.appended one.1,
   (ap (λ l. t.text ++ l) one.2.0 ∙ sym t.parts, one.2.1 ∙ sym t.refused),
 )
-told_rest before middle after whole rest (Err status) t one =
+written_rest before middle after whole rest (Err status) t one =
     let front = one.2.0 in
     let all : text_of whole.lines ≡ t.text ++ (text_of rest.lines ++ []) = t.parts ∙ ap (λ l. t.text ++ l) (sym (append-nil (text_of rest.lines))) in (
       t.text ++ one.0,
@@ -176,8 +176,8 @@ told_rest before middle after whole rest (Err status) t one =
       ),
     )
 
-pub told_all : (before after : Option (List ℕ)) (whole : Block) → IsTelling before after whole (record { lines = []; refused = false }) → Tells before after (Ok false) whole
-told_all before after whole t = (t.text, t.appended, (sym (t.parts ∙ append-nil t.text), sym t.refused))
+pub written_all : (before after : Option (List ℕ)) (whole : Block) → IsWriting before after whole (record { lines = []; refused = false }) → Writes before after (Ok false) whole
+written_all before after whole t = (t.text, t.appended, (sym (t.parts ∙ append-nil t.text), sym t.refused))
 
 -- The head lines and what follows them.
 
@@ -203,33 +203,33 @@ head_part k b before after status bytes eb sent0 =
     }
 
 pub body_part : (k : Bool) (b : Block) (before middle after : Option (List ℕ)) (status : Status) (bytes : List ℕ) → bytes ≡ text_of (head_lines k) →
-    ((text : List ℕ) × Appends before middle text × (text ≡ bytes)) → Tells middle after (Err status) b → Follows (compiled k b) before after status
-body_part k b before middle after status bytes eb head told =
+    ((text : List ℕ) × Appends before middle text × (text ≡ bytes)) → Writes middle after (Err status) b → Follows (compiled k b) before after status
+body_part k b before middle after status bytes eb head body =
     let all : text_of (head_lines k ++ b.lines) ≡ head.0 ++ text_of b.lines = text_both (head_lines k) b.lines ∙ ap (λ l. l ++ text_of b.lines) (sym (head.2 ∙ eb)) in
     let same : text_of (head_lines k ++ b.lines) ≡ head.0 ++ (text_of b.lines ++ []) = all ∙ ap (λ l. head.0 ++ l) (sym (append-nil (text_of b.lines))) in
     record {
-      text = head.0 ++ told.0;
-      appended = appends-both before middle after head.0 told.0 head.1 told.1;
-      front = (told.2.0.0, all ∙ ap (λ l. head.0 ++ l) told.2.0.1 ∙ sym (append_assoc head.0 told.0 told.2.0.0));
-      says = says_lost status (compiled k b) (head.0 ++ told.0) (failed_part status head.0 told.0 (text_of b.lines) [] (text_of (compiled k b).lines) told.2.0 told.2.1 same);
+      text = head.0 ++ body.0;
+      appended = appends-both before middle after head.0 body.0 head.1 body.1;
+      front = (body.2.0.0, all ∙ ap (λ l. head.0 ++ l) body.2.0.1 ∙ sym (append_assoc head.0 body.0 body.2.0.0));
+      says = says_lost status (compiled k b) (head.0 ++ body.0) (failed_part status head.0 body.0 (text_of b.lines) [] (text_of (compiled k b).lines) body.2.0 body.2.1 same);
     }
 
 abbrev pub ending : Bool → Status
 ending refused = if refused then Refused else Done
 
 pub body_whole : (k : Bool) (b : Block) (before middle after : Option (List ℕ)) (refused : Bool) (bytes : List ℕ) → bytes ≡ text_of (head_lines k) →
-    ((text : List ℕ) × Appends before middle text × (text ≡ bytes)) → Tells middle after (Ok refused) b → Follows (compiled k b) before after (ending refused)
-body_whole k b before middle after refused bytes eb head told =
-    let all : text_of (head_lines k ++ b.lines) ≡ head.0 ++ told.0 =
-    text_both (head_lines k) b.lines ∙ ap (λ l. l ++ text_of b.lines) (sym (head.2 ∙ eb)) ∙ ap (λ l. head.0 ++ l) (sym told.2.0) in
+    ((text : List ℕ) × Appends before middle text × (text ≡ bytes)) → Writes middle after (Ok refused) b → Follows (compiled k b) before after (ending refused)
+body_whole k b before middle after refused bytes eb head body =
+    let all : text_of (head_lines k ++ b.lines) ≡ head.0 ++ body.0 =
+    text_both (head_lines k) b.lines ∙ ap (λ l. l ++ text_of b.lines) (sym (head.2 ∙ eb)) ∙ ap (λ l. head.0 ++ l) (sym body.2.0) in
     record {
-      text = head.0 ++ told.0;
-      appended = appends-both before middle after head.0 told.0 head.1 told.1;
-      front = ([], all ∙ sym (append-nil (head.0 ++ told.0)));
-      says = says_whole refused told.2.1 (sym all);
+      text = head.0 ++ body.0;
+      appended = appends-both before middle after head.0 body.0 head.1 body.1;
+      front = ([], all ∙ sym (append-nil (head.0 ++ body.0)));
+      says = says_whole refused body.2.1 (sym all);
     }
   where
-    says_whole : (r : Bool) → r ≡ b.refused → head.0 ++ told.0 ≡ text_of (compiled k b).lines → Says (ending r) (compiled k b) (head.0 ++ told.0)
+    says_whole : (r : Bool) → r ≡ b.refused → head.0 ++ body.0 ≡ text_of (compiled k b).lines → Says (ending r) (compiled k b) (head.0 ++ body.0)
     says_whole true e all = (all, ap (λ x. if x then Refused else Done) (sym e))
     says_whole false e all = (all, ap (λ x. if x then Refused else Done) (sym e))
 

@@ -1,4 +1,4 @@
--- A function by clauses with a name in line: what is accepted of it has names in line, and its refusal is told in line.
+-- A function by clauses with a name in line: what is accepted of it has names in line, and its refusal is written in line.
 use Rattle.std.proofs.Common.{◌≡◌, ℕ, ◌+◌, ◌&&◌, Bool, true, false, cond, nat_lt, List, [], ◌∷◌, ◌++◌, length, map, take, drop, reverse, codes, Option, Some, None, Result, Ok, Err, IfOk, refl, subst}
 use Rattle.theory.specs.Terms.{Term, Var, Sort, Pi, Lam, App, Let, Const, Fam, Con, Elim, AxiomK}
 use Rattle.theory.specs.Telescopes.{Telescope, products, functions}
@@ -50,12 +50,12 @@ use Rattle.elim_program.proofs.ReportsInLine.{ReportedIn, part-in, helper-in, or
 use Rattle.elim_program.proofs.SessionInLine.{NamesIn, each-last, term-in}
 use Rattle.elim_program.proofs.TokensInLine.{Each}
 
--- the answer has P, or the refusal is told in line
-abbrev pub Tells : {A : Type 0} → (A → Type 0) → Elaborating A → Type 0
-Tells P r = Splits P RefusalIn r.0
+-- the answer has P, or the refusal is written in line
+abbrev pub WritesIn : {A : Type 0} → (A → Type 0) → Elaborating A → Type 0
+WritesIn P r = Splits P RefusalIn r.0
 
-told_next : {A B : Type 0} (Q : B → Type 0) (first : Elaborating A) (go : A → ℕ → Elaborating B) → Tells Any first → ((a : A) (rest : ℕ) → Tells Q (go a rest)) → Tells Q (and_next first go)
-told_next Q first go h k = and_next-splits Any Q RefusalIn first go h (λ a rest u. k a rest)
+written_next : {A B : Type 0} (Q : B → Type 0) (first : Elaborating A) (go : A → ℕ → Elaborating B) → WritesIn Any first → ((a : A) (rest : ℕ) → WritesIn Q (go a rest)) → WritesIn Q (and_next first go)
+written_next Q first go h k = and_next-splits Any Q RefusalIn first go h (λ a rest u. k a rest)
 
 -- ---- the walks
 
@@ -68,21 +68,21 @@ forced-in : (S : Signature) → NamesIn S → (o : Owner) → IsIn o.function �
 forced-in S names o h context written forced true = tt
 forced-in S names o h context written forced false = mismatch-in S names o h context _ (term-in S names written) forced
 
-check_dot-in : (S : Signature) → NamesIn S → (o : Owner) → IsIn o.function → (context : Telescope) (d : Term × Term) (left : ℕ) → Tells Any (check_dot S o context d left)
+check_dot-in : (S : Signature) → NamesIn S → (o : Owner) → IsIn o.function → (context : Telescope) (d : Term × Term) (left : ℕ) → WritesIn Any (check_dot S o context d left)
 check_dot-in S names o h context d left =
     let part = at-owner (codes "dot ") o refl h in
     let inferred = infer_of S nesting (reverse context) d.1 left in
-    told_next Any (granted S (OfDot o) inferred) _ (granted-in S names (OfDot o) part inferred.0) (λ type rest.
+    written_next Any (granted S (OfDot o) inferred) _ (granted-in S names (OfDot o) part inferred.0) (λ type rest.
     let checked = check_of S nesting (reverse context) d.0 type rest in
-    told_next Any (granted S (OfDot o) checked) _ (granted-in S names (OfDot o) part checked.0) (λ same more.
+    written_next Any (granted S (OfDot o) checked) _ (granted-in S names (OfDot o) part checked.0) (λ same more.
     let compared = convertible_of S nesting d.0 d.1 more in
-    told_next Any (halting compared) _ (or-halts-in compared.0) (λ holds end. forced-in S names o h context d.0 d.1 holds)))
+    written_next Any (halting compared) _ (or-halts-in compared.0) (λ holds end. forced-in S names o h context d.0 d.1 holds)))
 
 after_dots-in : {A : Type 0} (S : Signature) → NamesIn S → (o : Owner) → IsIn o.function → (context : Telescope) (dots : List (Term × Term)) (next : ℕ → Elaborating A) (left : ℕ)
-    → ((rest : ℕ) → Tells Any (next rest)) → Tells Any (after_dots S o context dots next left)
+    → ((rest : ℕ) → WritesIn Any (next rest)) → WritesIn Any (after_dots S o context dots next left)
 after_dots-in S names o h context [] next left k = k left
 after_dots-in S names o h context (d ∷ dots) next left k =
-    told_next Any (check_dot S o context d left) _ (check_dot-in S names o h context d left) (λ written rest. after_dots-in S names o h context dots next rest k)
+    written_next Any (check_dot S o context d left) _ (check_dot-in S names o h context d left) (λ written rest. after_dots-in S names o h context dots next rest k)
 
 without_self-in : (own : ℕ) (o : Owner) → IsIn o.function → (t : Term) → Splits Any RefusalIn (without_self own o t)
 without_self-in own o h t = by (has_constant own t)
@@ -108,49 +108,49 @@ level-in S names o h a (Con n c) = tt
 level-in S names o h a (Elim n m) = tt
 level-in S names o h a (AxiomK i m) = tt
 
-open_over-in : (s : Session) → SessionIn s → (o : Owner) → IsIn o.function → (w : Walk) (t : Term) (left : ℕ) → Tells Any (open_over s o w t left)
+open_over-in : (s : Session) → SessionIn s → (o : Owner) → IsIn o.function → (w : Walk) (t : Term) (left : ℕ) → WritesIn Any (open_over s o w t left)
 open_over-in s is o h w t left =
     let S = s.signature in
     let inferred = infer_of S nesting (reverse w.ctx) t left in
-    told_next Any (granted S (OfWith o) inferred) _ (granted-in S is.names (OfWith o) (at-owner (codes "with ") o refl h) inferred.0) (λ found rest.
-    told_next Any (without_self s.own o found, rest) _ (without_self-in s.own o h found) (λ type more.
+    written_next Any (granted S (OfWith o) inferred) _ (granted-in S is.names (OfWith o) (at-owner (codes "with ") o refl h) inferred.0) (λ found rest.
+    written_next Any (without_self s.own o found, rest) _ (without_self-in s.own o h found) (λ type more.
     let abstracted = abstract_over_of S w.ctx w.goal t type more in
-    told_next Any (halting abstracted) _ (or-halts-in abstracted.0) (λ a more.
-    told_next Any (without_self s.own o a.goal, more) _ (without_self-in s.own o h a.goal) (λ goal more.
+    written_next Any (halting abstracted) _ (or-halts-in abstracted.0) (λ a more.
+    written_next Any (without_self s.own o a.goal, more) _ (without_self-in s.own o h a.goal) (λ goal more.
     let sorted = infer_sort_of S nesting [] (products a.telescope goal) more in
-    told_next Any (granted S (OfGoal o) sorted) _ (granted-in S is.names (OfGoal o) (at-owner (codes "goal ") o refl h) sorted.0) (λ sort end.
+    written_next Any (granted S (OfGoal o) sorted) _ (granted-in S is.names (OfGoal o) (at-owner (codes "goal ") o refl h) sorted.0) (λ sort end.
     level-in S is.names o h a sort)))))
 
 mutual
-  walk_clause-in : (s : Session) → SessionIn s → (k : ℕ) (part : Opened) (number next : ℕ) (c : Clause) (left : ℕ) → Tells Any (walk_clause s k part number next c left)
+  walk_clause-in : (s : Session) → SessionIn s → (k : ℕ) (part : Opened) (number next : ℕ) (c : Clause) (left : ℕ) → WritesIn Any (walk_clause s k part number next c left)
   walk_clause-in s is k part number next (Is pats binds right) left =
       let S = s.signature in
       let name = part_named s.name k in
       let owner = owner_of name number in
       let h = part-in s.name k is.name in
       let walked = own_walk_of S part.tele part.goal part.terms (Is pats binds right) number left in
-      told_next Any (walking S name walked) _ (walking-in S is.names name h walked.0) (λ w rest.
+      written_next Any (walking S name walked) _ (walking-in S is.names name h walked.0) (λ w rest.
       after_dots-in S is.names owner h w.ctx w.dots (walk_right s k number next owner w right) rest (walk_right-in s is k number next owner h w right))
 
   walk_right-in : (s : Session) → SessionIn s → (k number next : ℕ) (o : Owner) → IsIn o.function → (w : Walk) (right : Right) (left : ℕ)
-      → Tells Any (walk_right s k number next o w right left)
+      → WritesIn Any (walk_right s k number next o w right left)
   walk_right-in s is k number next o h w (clause.Side side) left =
       let S = s.signature in
-      told_next Any (or_halts (bounded (under_solution w.binds side)), left) _ (or-halts-in (bounded (under_solution w.binds side))) (λ body rest.
+      written_next Any (or_halts (bounded (under_solution w.binds side)), left) _ (or-halts-in (bounded (under_solution w.binds side))) (λ body rest.
       let checked = check_of S nesting (reverse w.ctx) body w.goal rest in
-      told_next Any (granted S (OfSide o) checked) _ (granted-in S is.names (OfSide o) (at-owner (codes "side ") o refl h) checked.0) (λ type end. tt))
+      written_next Any (granted S (OfSide o) checked) _ (granted-in S is.names (OfSide o) (at-owner (codes "side ") o refl h) checked.0) (λ type end. tt))
   walk_right-in s is k number next o h w (clause.With scrutinee inner) left =
-      told_next Any (or_halts (bounded (under_solution w.binds scrutinee)), left) _ (or-halts-in (bounded (under_solution w.binds scrutinee))) (λ t rest.
-      told_next Any (open_over s o w t rest) _ (open_over-in s is o h w t rest) (λ opening more.
-      told_next Any (walk_clauses s next (opened opening w) 0 (next + 1) inner more) _ (walk_clauses-in s is next (opened opening w) 0 (next + 1) inner more) (λ given end. tt)))
+      written_next Any (or_halts (bounded (under_solution w.binds scrutinee)), left) _ (or-halts-in (bounded (under_solution w.binds scrutinee))) (λ t rest.
+      written_next Any (open_over s o w t rest) _ (open_over-in s is o h w t rest) (λ opening more.
+      written_next Any (walk_clauses s next (opened opening w) 0 (next + 1) inner more) _ (walk_clauses-in s is next (opened opening w) 0 (next + 1) inner more) (λ given end. tt)))
   walk_right-in s is k number next o h w clause.Absurd left = tt
 
   walk_clauses-in : (s : Session) → SessionIn s → (k : ℕ) (part : Opened) (number next : ℕ) (clauses : Clauses) (left : ℕ)
-      → Tells Any (walk_clauses s k part number next clauses left)
+      → WritesIn Any (walk_clauses s k part number next clauses left)
   walk_clauses-in s is k part number next clause.nil left = tt
   walk_clauses-in s is k part number next (clause.cons c clauses) left =
-      told_next Any (walk_clause s k part number next c left) _ (walk_clause-in s is k part number next c left) (λ given rest.
-      told_next Any (walk_clauses s k part (number + 1) (next + length given.helpers) clauses rest) _
+      written_next Any (walk_clause s k part number next c left) _ (walk_clause-in s is k part number next c left) (λ given rest.
+      written_next Any (walk_clauses s k part (number + 1) (next + length given.helpers) clauses rest) _
       (walk_clauses-in s is k part (number + 1) (next + length given.helpers) clauses rest) (λ others end. tt))
 
 -- ---- the plan
@@ -164,28 +164,28 @@ position-in s is NotRecursive = tt
 position-in s is (At j) = tt
 position-in s is (NotSmaller rows) = not-smaller-in (map (failing_call s) rows) (calls-in s is rows)
 
-own_tree-in : (s : Session) → SessionIn s → (w : Walked) (count : ℕ) (order : List ℕ) (left : ℕ) → Tells Any (own_tree_made s w count order left)
+own_tree-in : (s : Session) → SessionIn s → (w : Walked) (count : ℕ) (order : List ℕ) (left : ℕ) → WritesIn Any (own_tree_made s w count order left)
 own_tree-in s is w count order left = by (begins_closed (ordered_telescope w.part.tele order))
   where
     made : Stopping Tree
     made = split_of s.signature (ordered_telescope w.part.tele order) (ordered_term count order w.part.goal) (ordered_variables order count) w.clauses left
 
-    by : (closed : Bool) → Tells Any (cond closed (own_tree_of s w count order left) (answers (Err (Halts Deep)) left))
+    by : (closed : Bool) → WritesIn Any (cond closed (own_tree_of s w count order left) (answers (Err (Halts Deep)) left))
     by true = walking-in s.signature is.names s.name is.name made.0
     by false = halts-in Deep
 
-own_finished-in : (s : Session) → SessionIn s → (r : Option Recursion) (w : Walked) (left : ℕ) → Tells Any (own_finished_made s r w left)
+own_finished-in : (s : Session) → SessionIn s → (r : Option Recursion) (w : Walked) (left : ℕ) → WritesIn Any (own_finished_made s r w left)
 own_finished-in s is r w left =
     let count = length w.part.tele in
-    told_next Any (own_tree_made s w count (order_of count r) left) _ (own_tree-in s is w count (order_of count r) left) (λ t rest. tt)
+    written_next Any (own_tree_made s w count (order_of count r) left) _ (own_tree-in s is w count (order_of count r) left) (λ t rest. tt)
 
-helpers_finished-in : (s : Session) → SessionIn s → (r : Option Recursion) (level number : ℕ) (helpers : List Walked) (left : ℕ) → Tells Any (helpers_finished s r level number helpers left)
+helpers_finished-in : (s : Session) → SessionIn s → (r : Option Recursion) (level number : ℕ) (helpers : List Walked) (left : ℕ) → WritesIn Any (helpers_finished s r level number helpers left)
 helpers_finished-in s is r level number [] left = tt
 helpers_finished-in s is r level number (w ∷ helpers) left =
     let made = split_of s.signature w.part.tele w.part.goal w.part.terms w.clauses left in
-    told_next Any (walking s.signature (part_named s.name number) made) _
+    written_next Any (walking s.signature (part_named s.name number) made) _
     (walking-in s.signature is.names (part_named s.name number) (part-in s.name number is.name) made.0) (λ t rest.
-    told_next Any (helpers_finished s r level (number + 1) helpers rest) _ (helpers_finished-in s is r level (number + 1) helpers rest) (λ parts end. tt))
+    written_next Any (helpers_finished s r level (number + 1) helpers rest) _ (helpers_finished-in s is r level (number + 1) helpers rest) (λ parts end. tt))
 
 chosen-in : (s : Session) → SessionIn s → (tele : Telescope) (uses : List Use) → Splits Any RefusalIn (chosen_made s tele uses)
 chosen-in s is tele uses = by (are_low tele && are_low_uses uses)
@@ -194,26 +194,26 @@ chosen-in s is tele uses = by (are_low tele && are_low_uses uses)
     by true = position-in s is (choose s.signature tele s.own uses)
     by false = halts-in Deep
 
-parts-in : (s : Session) → SessionIn s → (position : Option ℕ) (level : ℕ) (w : Walked) (helpers : List Walked) (left : ℕ) → Tells Any (parts_made s position level w helpers left)
+parts-in : (s : Session) → SessionIn s → (position : Option ℕ) (level : ℕ) (w : Walked) (helpers : List Walked) (left : ℕ) → WritesIn Any (parts_made s position level w helpers left)
 parts-in s is position level w helpers left =
-    told_next Any (or_halts (made_at s.signature w.part.tele position), left) _ (or-halts-in (made_at s.signature w.part.tele position)) (λ r more.
-    told_next Any (own_alone s r w more) _ (told_next Any (own_finished_made s r w more) _ (own_finished-in s is r w more) (λ own end. tt)) (λ made end.
-    told_next Any (helpers_finished s r level 1 helpers end) _ (helpers_finished-in s is r level 1 helpers end) (λ parts last. tt)))
+    written_next Any (or_halts (made_at s.signature w.part.tele position), left) _ (or-halts-in (made_at s.signature w.part.tele position)) (λ r more.
+    written_next Any (own_alone s r w more) _ (written_next Any (own_finished_made s r w more) _ (own_finished-in s is r w more) (λ own end. tt)) (λ made end.
+    written_next Any (helpers_finished s r level 1 helpers end) _ (helpers_finished-in s is r level 1 helpers end) (λ parts last. tt)))
 
 abbrev PlanIn : Plan → Type 0
 PlanIn plan = IsIn plan.name
 
-plan_made-in : (s : Session) → SessionIn s → (type : Term) (arity level : ℕ) (w : Walked) (helpers : List Walked) (uses : List Use) (left : ℕ) → Tells PlanIn (plan_made s type arity level w helpers uses left)
+plan_made-in : (s : Session) → SessionIn s → (type : Term) (arity level : ℕ) (w : Walked) (helpers : List Walked) (uses : List Use) (left : ℕ) → WritesIn PlanIn (plan_made s type arity level w helpers uses left)
 plan_made-in s is type arity level w helpers uses left =
-    told_next PlanIn (chosen_made s w.part.tele uses, left) _ (chosen-in s is w.part.tele uses) (λ position more.
-    told_next PlanIn (parts_made s position level w helpers more) _ (parts-in s is position level w helpers more) (λ parts end. is.name))
+    written_next PlanIn (chosen_made s w.part.tele uses, left) _ (chosen-in s is w.part.tele uses) (λ position more.
+    written_next PlanIn (parts_made s position level w helpers more) _ (parts-in s is position level w helpers more) (λ parts end. is.name))
 
-plan-in : (S : Signature) → NamesIn S → (f : Function) → IsIn f.name → (level left : ℕ) → Tells PlanIn (plan_over S f level left)
+plan-in : (S : Signature) → NamesIn S → (f : Function) → IsIn f.name → (level left : ℕ) → WritesIn PlanIn (plan_over S f level left)
 plan-in S names f h level left =
     let s = session_at S f in
     let is : SessionIn s = record { names = each-last EntryIn S.entries (Definition f.name f.type (Const (length S.entries))) names (h, tt); name = h } in
     let part = own_part f level in
-    told_next PlanIn (walk_clauses s 0 part 0 1 f.clauses left) _ (walk_clauses-in s is 0 part 0 1 f.clauses left) (λ given rest.
+    written_next PlanIn (walk_clauses s 0 part 0 1 f.clauses left) _ (walk_clauses-in s is 0 part 0 1 f.clauses left) (λ given rest.
     plan_made-in s is f.type f.arity part.level (record { part = part; clauses = f.clauses; walks = given.walks; sides = given.sides }) given.helpers given.uses rest)
 
 -- ---- entries
@@ -288,39 +288,39 @@ translated-in : {A : Type 0} (P : A → Type 0) (r : Result A Stop) → IfOk r P
 translated-in P (Ok a) h = h
 translated-in P (Err e) h = halts-in e
 
-draft_entered-in : (S : Signature) → NamesIn S → (name : List ℕ) → IsIn name → (d : Draft) → DraftIn d → (left : ℕ) → Tells NamesIn (draft_entered S name d left)
+draft_entered-in : (S : Signature) → NamesIn S → (name : List ℕ) → IsIn name → (d : Draft) → DraftIn d → (left : ℕ) → WritesIn NamesIn (draft_entered S name d left)
 draft_entered-in S names name h d k left = by (enterable S d)
   where
-    by : (may : Bool) → Tells NamesIn (cond may (checked_entered S name d left) (answers (Err (Halts Deep)) left))
+    by : (may : Bool) → WritesIn NamesIn (cond may (checked_entered S name d left) (answers (Err (Halts Deep)) left))
     by true =
         and_next-splits NamesAfter NamesIn RefusalIn (reporting S (owner_of name 0) (enter_draft_of S d left)) _
         (reporting-in NamesAfter S names (owner_of name 0) h (enter_draft_of S d left).0 (enter_draft-in S d left names k)) (λ e rest i. i)
     by false = halts-in Deep
 
-drafts_entered-in : (S : Signature) → NamesIn S → (name : List ℕ) → IsIn name → (drafts : List Draft) → DraftsIn drafts → (left : ℕ) → Tells NamesIn (drafts_entered S name drafts left)
+drafts_entered-in : (S : Signature) → NamesIn S → (name : List ℕ) → IsIn name → (drafts : List Draft) → DraftsIn drafts → (left : ℕ) → WritesIn NamesIn (drafts_entered S name drafts left)
 drafts_entered-in S names name h [] all left = names
 drafts_entered-in S names name h (d ∷ drafts) all left =
     and_next-splits NamesIn NamesIn RefusalIn (draft_entered S name d left) _ (draft_entered-in S names name h d all.0 left) (λ T rest k.
     drafts_entered-in T k name h drafts all.1 rest)
 
-values_entered-in : (S : Signature) → NamesIn S → (name : List ℕ) → IsIn name → (values : Option (List ℕ)) (left : ℕ) → Tells NamesIn (values_entered S name values left)
+values_entered-in : (S : Signature) → NamesIn S → (name : List ℕ) → IsIn name → (values : Option (List ℕ)) (left : ℕ) → WritesIn NamesIn (values_entered S name values left)
 values_entered-in S names name h None left = names
 values_entered-in S names name h (Some values) left =
     let entered = enter_mention enter_needed S (Names values) left in
     reporting-in NamesIn S names (owner_of name 0) h entered.0 (enter_mention-in enter_needed enter_needed-in S names (Names values) left)
 
-plan_entered-in : (S : Signature) → NamesIn S → (plan : Plan) → PlanIn plan → (left : ℕ) → Tells NamesIn (plan_entered S plan left)
+plan_entered-in : (S : Signature) → NamesIn S → (plan : Plan) → PlanIn plan → (left : ℕ) → WritesIn NamesIn (plan_entered S plan left)
 plan_entered-in S names plan own left = by (unmarked S)
   where
-    entered : Tells NamesIn (translated S plan left)
+    entered : WritesIn NamesIn (translated S plan left)
     entered =
         and_next-splits DraftsIn NamesIn RefusalIn (or_halts (translate_made S plan), left) _
         (translated-in DraftsIn (translate_made S plan) (drafts-in S plan own (translate_made S plan) refl)) (λ drafts rest all.
-        told_next NamesIn (or_halts (values_name S plan), rest) _ (or-halts-in (values_name S plan)) (λ values more.
+        written_next NamesIn (or_halts (values_name S plan), rest) _ (or-halts-in (values_name S plan)) (λ values more.
         and_next-splits NamesIn NamesIn RefusalIn (drafts_entered S plan.name drafts more) _ (drafts_entered-in S names plan.name own drafts all more) (λ T end k.
         values_entered-in T k plan.name own values end)))
 
-    by : (free : Bool) → Tells NamesIn (cond free (translated S plan left) (answers (Err (Halts Deep)) left))
+    by : (free : Bool) → WritesIn NamesIn (cond free (translated S plan left) (answers (Err (Halts Deep)) left))
     by true = entered
     by false = halts-in Deep
 
@@ -331,19 +331,19 @@ pub record LinesIn (l : Lines) : Type 0 where
   pub clauses : Each ClauseIn l.lines
 
 walks_reported-in : (plan : Plan) → PlanIn plan → (k number : ℕ) (walks : List Walk) (made : List ClauseLine) → Each ClauseIn made → (S : Signature) → NamesIn S → (left : ℕ)
-    → Tells LinesIn (walks_reported plan k number walks made S left)
+    → WritesIn LinesIn (walks_reported plan k number walks made S left)
 unfolding clause_reported
 walks_reported-in plan own k number [] made all S names left = record { names = names; clauses = all }
 walks_reported-in plan own k number (w ∷ walks) made all S names left =
     let c = reference_of k number w in
     let owner = owner_of (part_named plan.name k) number in
-    let told = part-in plan.name k own in
+    let written = part-in plan.name k own in
     and_next-splits ReportedIn LinesIn RefusalIn (clause_reported plan k number w S left) _
-    (reporting-in ReportedIn S names owner told (report_made S plan c left).0 (report-in S names plan own c left)) (λ r rest i.
-    walks_reported-in plan own k (number + 1) walks (made ++ clause_line plan k number r.line ∷ []) (each-last ClauseIn made (clause_line plan k number r.line) all told) r.signature i rest)
+    (reporting-in ReportedIn S names owner written (report_made S plan c left).0 (report-in S names plan own c left)) (λ r rest i.
+    walks_reported-in plan own k (number + 1) walks (made ++ clause_line plan k number r.line ∷ []) (each-last ClauseIn made (clause_line plan k number r.line) all written) r.signature i rest)
 
 parts_reported-in : (plan : Plan) → PlanIn plan → (k : ℕ) (parts : List Part) (made : List ClauseLine) → Each ClauseIn made → (S : Signature) → NamesIn S → (left : ℕ)
-    → Tells LinesIn (parts_reported plan k parts made S left)
+    → WritesIn LinesIn (parts_reported plan k parts made S left)
 parts_reported-in plan own k [] made all S names left = record { names = names; clauses = all }
 parts_reported-in plan own k (part ∷ parts) made all S names left =
     and_next-splits LinesIn LinesIn RefusalIn (walks_reported plan k 0 part.walks made S left) _ (walks_reported-in plan own k 0 part.walks made all S names left) (λ lines rest i.
@@ -368,14 +368,14 @@ function-level-in S names (Con n c) = tt
 function-level-in S names (Elim n m) = tt
 function-level-in S names (AxiomK i m) = tt
 
-level_of-in : (S : Signature) → NamesIn S → (type : Term) (left : ℕ) → Tells Any (level_of S type left)
+level_of-in : (S : Signature) → NamesIn S → (type : Term) (left : ℕ) → WritesIn Any (level_of S type left)
 level_of-in S names type left =
     let sorted = infer_sort_of S nesting [] type left in
-    told_next Any (granted S OfType sorted) _ (granted-in S names OfType refl sorted.0) (λ sort rest. function-level-in S names sort)
+    written_next Any (granted S OfType sorted) _ (granted-in S names OfType refl sorted.0) (λ sort rest. function-level-in S names sort)
 
-pub function-told : (S : Signature) → NamesIn S → (f : Function) → IsIn f.name → (fuel : ℕ) → Tells LinesIn (function_made S f fuel)
-function-told S names f h fuel =
-    told_next LinesIn (level_of S f.type fuel) _ (level_of-in S names f.type fuel) (λ level rest.
+pub function-written : (S : Signature) → NamesIn S → (f : Function) → IsIn f.name → (fuel : ℕ) → WritesIn LinesIn (function_made S f fuel)
+function-written S names f h fuel =
+    written_next LinesIn (level_of S f.type fuel) _ (level_of-in S names f.type fuel) (λ level rest.
     and_next-splits PlanIn LinesIn RefusalIn (plan_over S f level rest) _ (plan-in S names f h level rest) (λ plan more own.
     and_next-splits NamesIn LinesIn RefusalIn (plan_entered S plan more) _ (plan_entered-in S names plan own more) (λ T end k.
     parts_reported-in plan own 0 plan.parts [] tt T k end)))

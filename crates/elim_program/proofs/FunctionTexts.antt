@@ -1,4 +1,4 @@
--- What is told of functions by clauses is in line where names are.
+-- What is written of functions by clauses is in line where names are.
 use Rattle.std.proofs.Common.{ℕ, ◌+◌, List, [], ◌∷◌, ◌++◌, map, codes, Result, Ok, Err, refl}
 use Rattle.std.specs.Prelude.{decimal}
 use Rattle.theory.specs.Terms.{Term, Sort}
@@ -24,7 +24,7 @@ use Rattle.clause_reports.specs.Texts.{context_text, reason_text}
 use Rattle.elaboration.specs.Functions.{ClauseLine}
 use Rattle.elaboration.specs.Refusals.{Owner, Part, FailingCall, Refusal, Halts, Stuck, DotMismatch, SelfInType, NotSmaller, ill_typed, or_ill_typed, level_too_high, pattern_text, of_tree, or_ends, of_report, or_no_report, or_halts, owner_of}
 use Rattle.elim_program.specs.ClauseTexts.{vector_text, line_text, clause_line, leaf_line, leaf_lines, with_leaves, clause_lines}
-use Rattle.elim_program.specs.FunctionRefusals.{owner_text, part_text, why_text, row_text, rows_text, sides_text, denial_text, refusal_text, candidate_lines, refusal_lines}
+use Rattle.elim_program.specs.FunctionRefusals.{owner_text, part_text, why_text, failing_call_text, failing_calls_text, sides_text, denial_text, refusal_text, candidate_lines, refusal_lines}
 use Rattle.elim_program.specs.Refusals.{place_text}
 use Rattle.elim_program.proofs.EnteredNames.{IsIn, ReportIn, context-in, reason-in}
 use Rattle.elim_program.proofs.QuietWalks.{Any}
@@ -180,17 +180,17 @@ self-in o h = (at-owner (codes "SelfInType ") o refl h, tt)
 abbrev pub CallIn : FailingCall → Type 0
 CallIn c = IsIn c.owner.function × IsIn c.call
 
-row-in : (c : FailingCall) → CallIn c → IsIn (row_text c)
+row-in : (c : FailingCall) → CallIn c → IsIn (failing_call_text c)
 row-in c h =
     apart (codes " " ++ decimal c.position ++ codes " " ++ owner_text c.owner) c.call
     (apart (codes " " ++ decimal c.position) (owner_text c.owner) (both (codes " ") (decimal c.position) refl (decimal-in c.position)) (owner-in c.owner h.0)) h.1
 
-rows-in : (rows : List FailingCall) → Each CallIn rows → IsIn (rows_text rows)
+rows-in : (rows : List FailingCall) → Each CallIn rows → IsIn (failing_calls_text rows)
 rows-in [] h = refl
-rows-in (c ∷ rows) h = both (row_text c) (rows_text rows) (row-in c h.0) (rows-in rows h.1)
+rows-in (c ∷ rows) h = both (failing_call_text c) (failing_calls_text rows) (row-in c h.0) (rows-in rows h.1)
 
 pub not-smaller-in : (rows : List FailingCall) → Each CallIn rows → RefusalIn (NotSmaller rows)
-not-smaller-in rows h = (both (codes "NotSmaller") (rows_text rows) refl (rows-in rows h), tt)
+not-smaller-in rows h = (both (codes "NotSmaller") (failing_calls_text rows) refl (rows-in rows h), tt)
 
 -- ---- clauses
 

@@ -23,10 +23,10 @@ mod RefusalsInLine
 pub mod RefusedBlocks
 mod ReportsInLine
 mod SessionInLine
-mod Telling
 pub mod TextLines
 mod TokensInLine
 mod Verified
 mod Whole
 mod WorkCounts
 pub mod WorkLines
+mod Writing

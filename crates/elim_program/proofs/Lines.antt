@@ -48,7 +48,7 @@ core-lines-append (x ∷ xs) ys = go (is_core x) (core-lines-append xs ys)
     go true h = ap (λ ls. x ∷ ls) h
     go false h = h
 
--- The third character tells lines of acceptance from those of refusal.
+-- The third character sets lines of acceptance apart from those of refusal.
 unfoldable pub third : List ℕ → ℕ
 third (a ∷ b ∷ c ∷ cs) = c
 third _ = 0
@@ -68,13 +68,13 @@ not_one other line [] back h e = h (ap (λ ls. third (first_line ls)) e)
 not_one other line (x ∷ front) back h e = not_empty front back line (ap (drop 1) e)
 
 -- the head lines are none that has another third character
-pub behind_heads : (k : Bool) (rest above below : List (List ℕ)) (line : List ℕ) → third line ≢ 105 → third line ≢ 101 → head_lines k ++ rest ≡ above ++ line ∷ below →
+pub after_heads : (k : Bool) (rest above below : List (List ℕ)) (line : List ℕ) → third line ≢ 105 → third line ≢ 101 → head_lines k ++ rest ≡ above ++ line ∷ below →
     (later : List (List ℕ)) × (above ≡ head_lines k ++ later) × (rest ≡ later ++ line ∷ below)
 unfolding third first_line
-behind_heads k rest [] below line h g e = absurd (h (sym (ap (λ ls. third (first_line ls)) e)))
-behind_heads true rest (x ∷ []) below line h g e = absurd (g (sym (ap (λ ls. third (first_line (drop 1 ls))) e)))
-behind_heads false rest (x ∷ []) below line h g e = absurd (g (sym (ap (λ ls. third (first_line (drop 1 ls))) e)))
-behind_heads k rest (x ∷ y ∷ above) below line h g e =
+after_heads k rest [] below line h g e = absurd (h (sym (ap (λ ls. third (first_line ls)) e)))
+after_heads true rest (x ∷ []) below line h g e = absurd (g (sym (ap (λ ls. third (first_line (drop 1 ls))) e)))
+after_heads false rest (x ∷ []) below line h g e = absurd (g (sym (ap (λ ls. third (first_line (drop 1 ls))) e)))
+after_heads k rest (x ∷ y ∷ above) below line h g e =
     (above, ap (λ l. l ∷ y ∷ above) (sym (ap first_line e)) ∙ ap (λ l. codes "elim 1" ∷ l ∷ above) (sym (ap (λ ls. first_line (drop 1 ls)) e)), ap (drop 2) e)
 
 -- lines that say of nothing that it is accepted
@@ -127,17 +127,17 @@ core-lines-notes (x ∷ xs) h = drop_it (is_core x) h.0 ∙ core-lines-notes xs 
 -- A line of acceptance after other lines and one of acceptance: it is that one, or it comes after it.
 pub data Found (xs rest front back : List (List ℕ)) (n name : List ℕ) : Type 0 where
   here : front ≡ xs → n ≡ name → rest ≡ back → Found xs rest front back n name
-  behind : (later : List (List ℕ)) → front ≡ xs ++ accepted_line n ∷ later → rest ≡ later ++ accepted_line name ∷ back → Found xs rest front back n name
+  later_on : (later : List (List ℕ)) → front ≡ xs ++ accepted_line n ∷ later → rest ≡ later ++ accepted_line name ∷ back → Found xs rest front back n name
 
 pub find : (xs rest front back : List (List ℕ)) (n name : List ℕ) → AreOther xs → xs ++ accepted_line n ∷ rest ≡ front ++ accepted_line name ∷ back
     → Found xs rest front back n name
 unfolding AreOther first_line
 find [] rest [] back n name h e = here refl (ap (λ ls. drop 11 (first_line ls)) e) (ap (drop 1) e)
-find [] rest (x ∷ front) back n name h e = behind front (ap (λ l. l ∷ front) (sym (ap first_line e))) (ap (drop 1) e)
+find [] rest (x ∷ front) back n name h e = later_on front (ap (λ l. l ∷ front) (sym (ap first_line e))) (ap (drop 1) e)
 find (x ∷ xs) rest [] back n name h e = absurd (h.0 name (ap first_line e))
 find (x ∷ xs) rest (y ∷ front) back n name h e =
     let same : x ≡ y = ap first_line e in go (find xs rest front back n name h.1 (ap (drop 1) e)) same
   where
     go : Found xs rest front back n name → x ≡ y → Found (x ∷ xs) rest (y ∷ front) back n name
     go (here f m r) same = here (ap (λ ls. y ∷ ls) f ∙ ap (λ l. l ∷ xs) (sym same)) m r
-    go (behind later f r) same = behind later (ap (λ ls. y ∷ ls) f ∙ ap (λ l. l ∷ (xs ++ accepted_line n ∷ later)) (sym same)) r
+    go (later_on later f r) same = later_on later (ap (λ ls. y ∷ ls) f ∙ ap (λ l. l ∷ (xs ++ accepted_line n ∷ later)) (sym same)) r

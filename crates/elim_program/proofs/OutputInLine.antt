@@ -13,7 +13,7 @@ use Rattle.surface_syntax.proofs.Runs.{run_file}
 use Rattle.elab_session.specs.Sessions.{IsReady}
 use Rattle.elab_session.proofs.PreludeReady.{prelude-ready}
 use Rattle.function_session.specs.Elaborating.{Elaborated, Refused, elaborate_of}
-use Rattle.function_session.specs.Laws.{GoesOn}
+use Rattle.function_session.specs.Laws.{KeepsReady}
 use Rattle.function_session.proofs.Keeping.{elaborate-ready}
 use Rattle.surface_syntax.specs.Lexemes.{lexemes_of}
 use Rattle.surface_syntax.specs.Parses.{by_offset, offset_of}
@@ -24,7 +24,7 @@ use Rattle.elim_program.specs.ClauseTexts.{clause_lines}
 use Rattle.elim_program.specs.Headline.{IsHeadline, Headline}
 use Rattle.elim_program.specs.Lines.{lines_of, text_of}
 use Rattle.elim_program.specs.DefinedOutputs.{IsOutput, refused_words, compiles, verifies, works}
-use Rattle.elim_program.specs.Outputs.{Output, line_of, entry_lines, accepted_line, accepted_lines, lines_behind, declared_name, declared_block, after, followed, declarations, text_block, head_lines}
+use Rattle.elim_program.specs.Outputs.{Output, line_of, entry_lines, accepted_line, accepted_lines, lines_after, declared_name, declared_block, after, followed, declarations, text_block, head_lines}
 use Rattle.elim_program.specs.Runs.{IsFront}
 use Rattle.elim_program.specs.Texts as texts
 use Rattle.elim_program.specs.Texts.{Gives, too_long, not_utf8, bad_token, tokens, limited, read, unless_unbuilt}
@@ -34,7 +34,7 @@ use Rattle.elim_program.specs.VerifyHeadline.{IsVerifyHeadline, VerifyHeadline}
 use Rattle.elim_program.specs.WorkTexts.{summary_line, work_text}
 use Rattle.elim_program.specs.Works.{none_counted, on_worked, with_accepted, work_block, worked, worked_block}
 use Rattle.elim_program.proofs.Accepted.{shown}
-use Rattle.elim_program.proofs.ElaboratedInLine.{ElaboratedIn, ToldIn, refused-lines-in, elaborated-in}
+use Rattle.elim_program.proofs.ElaboratedInLine.{ElaboratedIn, WrittenIn, refused-lines-in, elaborated-in}
 use Rattle.elim_program.proofs.FunctionTexts.{clauses-in}
 use Rattle.elim_program.proofs.GrammarInLine.{DeclInLine, file-in, lexemes-good}
 use Rattle.elim_program.proofs.RefusalsInLine.{join, stop-in}
@@ -62,7 +62,7 @@ name-in (surf.Fun x ty clauses) h = h.0
 
 accepted-lines-in : (S : Signature) (a : Elaborated) → ElaboratedIn a → AreInLine (accepted_lines S a)
 accepted-lines-in S a h =
-    join (lines_behind S a.signature) (clause_lines a.signature a.lines ++ accepted_line a.accepted.name ∷ [])
+    join (lines_after S a.signature) (clause_lines a.signature a.lines ++ accepted_line a.accepted.name ∷ [])
     (entries-in a.signature h.names (length S.entries) (length a.signature.entries - length S.entries))
     (join (clause_lines a.signature a.lines) (accepted_line a.accepted.name ∷ []) (clauses-in a.signature h.names a.lines h.clauses)
     (both (codes "# accepted ") a.accepted.name refl h.name, tt))
@@ -72,7 +72,7 @@ declarations-in fuel S [] ready names h = tt
 declarations-in fuel S (d ∷ ds) ready names h =
     go (elaborate_of S fuel d) (elaborate-ready S fuel d ready) (elaborated-in S fuel d ready names h.0) (λ T r n. declarations-in fuel T ds r n h.1)
   where
-    go : (r : Result Elaborated Refused) → IfOk r (GoesOn S) → ToldIn r → ((T : Signature) → IsReady T → NamesIn T → AreInLine (declarations fuel T ds).lines) →
+    go : (r : Result Elaborated Refused) → IfOk r (KeepsReady S) → WrittenIn r → ((T : Signature) → IsReady T → NamesIn T → AreInLine (declarations fuel T ds).lines) →
         AreInLine (followed (declared_block S d r) (declarations fuel (after S r) ds)).lines
     go (Err e) on k rec = refused-lines-in (declared_name d) e (name-in d h.0) k
     go (Ok a) on k rec =
@@ -96,8 +96,8 @@ given-in bytes answer (tokens found within are) = go (unbuilt bytes found) refl 
     go None e (Deep n) q = tt
 
 -- the lines of a text that is read
-pub told-in : (bytes : List ℕ) (fuel : ℕ) (k : Bool) (ds : List surf.Decl) → Gives bytes (Ok ds) → AreInLine (declarations fuel (prelude k) ds).lines
-told-in bytes fuel k ds gives = declarations-in fuel (prelude k) ds (prelude-ready (prelude k) k refl) (prelude-in k) (given-in bytes (Ok ds) gives)
+pub written-in : (bytes : List ℕ) (fuel : ℕ) (k : Bool) (ds : List surf.Decl) → Gives bytes (Ok ds) → AreInLine (declarations fuel (prelude k) ds).lines
+written-in bytes fuel k ds gives = declarations-in fuel (prelude k) ds (prelude-ready (prelude k) k refl) (prelude-in k) (given-in bytes (Ok ds) gives)
 
 block-in : (command : Command) (answer : texts.Answer) → AnswerIn answer → AreInLine (text_block command answer).lines
 block-in command (Ok ds) h = declarations-in command.fuel (prelude command.k) ds (prelude-ready (prelude command.k) command.k refl) (prelude-in command.k) h
@@ -121,7 +121,7 @@ worked-in n fuel S [] c ready names h = (summary-in n c, tt)
 worked-in n fuel S (d ∷ ds) c ready names h =
     go (λ T more r k. worked-in n fuel T ds more r k h.1) (elaborate_of S fuel d) (elaborate-ready S fuel d ready) (elaborated-in S fuel d ready names h.0)
   where
-    go : ((T : Signature) (more : Counts) → IsReady T → NamesIn T → AreInLine (worked_block n (worked fuel T ds more)).lines) → (r : Result Elaborated Refused) → IfOk r (GoesOn S) → ToldIn r
+    go : ((T : Signature) (more : Counts) → IsReady T → NamesIn T → AreInLine (worked_block n (worked fuel T ds more)).lines) → (r : Result Elaborated Refused) → IfOk r (KeepsReady S) → WrittenIn r
         → AreInLine (worked_block n (on_worked d r (λ a. worked fuel a.signature ds (with_accepted c a)))).lines
     go rec (Ok a) on k = rec a.signature (with_accepted c a) on.ready k.names
     go rec (Err e) on k = refused-lines-in (declared_name d) e (name-in d h.0) k

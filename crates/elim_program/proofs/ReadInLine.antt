@@ -104,12 +104,12 @@ names_read (RawFamilyOf raw) = raw_names raw
 names_read (RawDefinition name type body) = name ∷ []
 names_read _ = []
 
-pub record IsTold (S : Signature) (raw : RawEntry) : Type 0 where
+pub record IsRead (S : Signature) (raw : RawEntry) : Type 0 where
   pub missing : IsMissing S raw
   pub names : AreInLine (names_read raw)
 
-abbrev Told : Signature → RawEntry → List ℕ → Type 0
-Told S raw r = IsTold S raw
+abbrev Read : Signature → RawEntry → List ℕ → Type 0
+Read S raw r = IsRead S raw
 
 any-then : {A B : Type 0} (Q : B → List ℕ → Type 0) (m : Reading A) (next : A → List ℕ → Reading B) → ((a : A) (r : List ℕ) → Ensures Q (next a r)) → Ensures Q (and_then m next)
 any-then Q (Ok p) next k = k p.0 p.1
@@ -118,15 +118,15 @@ any-then Q (Err e) next k = tt
 any-behind : {B : Type 0} (Q : B → List ℕ → Type 0) (word rest : List ℕ) (next : List ℕ → Reading B) → ((r : List ℕ) → Ensures Q (next r)) → Ensures Q (after (behind word rest) next)
 any-behind Q word rest next k = ensures-behind Q word rest next (λ r is. k r)
 
-ended-told : (S : Signature) (raw : RawEntry) (rest : List ℕ) → IsTold S raw → Ensures (Told S) (ended raw rest)
-ended-told S raw rest is = any-behind (Told S) (codes "\n") rest (λ end. Ok (raw, end)) (λ r. is)
+ended-read : (S : Signature) (raw : RawEntry) (rest : List ℕ) → IsRead S raw → Ensures (Read S) (ended raw rest)
+ended-read S raw rest is = any-behind (Read S) (codes "\n") rest (λ end. Ok (raw, end)) (λ r. is)
 
-definition-told : (S : Signature) (rest : List ℕ) → Ensures (Told S) (definition_at S [] rest)
-definition-told S rest =
-    ensures-then NameIn (Told S) (new_name S [] [] rest) _ (name-in S [] [] rest)
-    (λ name r1 named. any-then (Told S) (term_after (whole_term S []) (codes " : ") 0 r1) _
-    (λ type r2. any-then (Told S) (term_after (whole_term S []) (codes " = ") 0 r2) _
-    (λ body r3. ended-told S (RawDefinition name type body) r3 (record { missing = tt; names = (named, tt) }))))
+definition-read : (S : Signature) (rest : List ℕ) → Ensures (Read S) (definition_at S [] rest)
+definition-read S rest =
+    ensures-then NameIn (Read S) (new_name S [] [] rest) _ (name-in S [] [] rest)
+    (λ name r1 named. any-then (Read S) (term_after (whole_term S []) (codes " : ") 0 r1) _
+    (λ type r2. any-then (Read S) (term_after (whole_term S []) (codes " = ") 0 r2) _
+    (λ body r3. ended-read S (RawDefinition name type body) r3 (record { missing = tt; names = (named, tt) }))))
 
 -- a level that is left is one of those that were asked for
 left-at : (left : ℕ → Bool) (n k v : ℕ) → is_left (level_list left n k) v ≡ true → left (n + v) ≡ true
@@ -137,33 +137,33 @@ left-at left n (suc k) (suc v) e = let same : n + 1 + v ≡ n + suc v = omega ar
 left-first : (left : ℕ → Bool) (k v : ℕ) → is_left (level_list left 0 k) v ≡ true → left v ≡ true
 left-first left k v e = let same : 0 + v ≡ v = omega arith in ap left (sym same) ∙ left-at left 0 k v e
 
-untold : (b : Bool) → not b ≡ true → b ≡ false
-untold true e = absurd (false≢true e)
-untold false e = refl
+denied : (b : Bool) → not b ≡ true → b ≡ false
+denied true e = absurd (false≢true e)
+denied false e = refl
 
 level-then : {B : Type 0} (Q : B → List ℕ → Type 0) (levels : List Bool) (rest : List ℕ) (next : ℕ → List ℕ → Reading B) → ((m : ℕ) (r : List ℕ) → is_left levels m ≡ true → Ensures Q (next m r)) →
     Ensures Q (and_then (read_level levels rest) next)
 level-then Q levels rest next k = ensures-then (IsLevel levels (length rest)) Q (read_level levels rest) next (read_level-within levels (length rest) rest (omega arith)) (λ m r level. k m r level.0)
 
-eliminator-told : (S : Signature) (rest : List ℕ) → Ensures (Told S) (eliminator_at S rest)
+eliminator-read : (S : Signature) (rest : List ℕ) → Ensures (Read S) (eliminator_at S rest)
 unfolding levels_left
-eliminator-told S rest =
-    any-then (Told S) (family_name S rest) _
-    (λ n r1. any-behind (Told S) (codes " ") r1 _
-    (λ r2. level-then (Told S) (level_list (λ k. not (list_any (is_eliminator n k) S.entries)) 0 top) r2 _
-    (λ m r3 left. ended-told S (RawEliminator n m) r3 (record {
-      missing = untold (list_any (is_eliminator n m) S.entries) (left-first (λ k. not (list_any (is_eliminator n k) S.entries)) top m left);
+eliminator-read S rest =
+    any-then (Read S) (family_name S rest) _
+    (λ n r1. any-behind (Read S) (codes " ") r1 _
+    (λ r2. level-then (Read S) (level_list (λ k. not (list_any (is_eliminator n k) S.entries)) 0 top) r2 _
+    (λ m r3 left. ended-read S (RawEliminator n m) r3 (record {
+      missing = denied (list_any (is_eliminator n m) S.entries) (left-first (λ k. not (list_any (is_eliminator n k) S.entries)) top m left);
       names = tt;
     }))))
 
-axiom_k-told : (S : Signature) (rest : List ℕ) → Ensures (Told S) (axiom_k_line S rest)
+axiom_k-read : (S : Signature) (rest : List ℕ) → Ensures (Read S) (axiom_k_line S rest)
 unfolding levels_left
-axiom_k-told S rest =
-    any-then (Told S) (read_level (identities_left S) rest) _
-    (λ i r1. any-behind (Told S) (codes " ") r1 _
-    (λ r2. level-then (Told S) (level_list (λ k. not (list_any (is_axiom_k i k) S.entries)) 0 top) r2 _
-    (λ m r3 left. ended-told S (RawAxiomK i m) r3 (record {
-      missing = untold (list_any (is_axiom_k i m) S.entries) (left-first (λ k. not (list_any (is_axiom_k i k) S.entries)) top m left);
+axiom_k-read S rest =
+    any-then (Read S) (read_level (identities_left S) rest) _
+    (λ i r1. any-behind (Read S) (codes " ") r1 _
+    (λ r2. level-then (Read S) (level_list (λ k. not (list_any (is_axiom_k i k) S.entries)) 0 top) r2 _
+    (λ m r3 left. ended-read S (RawAxiomK i m) r3 (record {
+      missing = denied (list_any (is_axiom_k i m) S.entries) (left-first (λ k. not (list_any (is_axiom_k i k) S.entries)) top m left);
       names = tt;
     }))))
 
@@ -207,56 +207,56 @@ next-in S own p found rest =
     apart [] r = constructor-in S own p found r
     apart (c ∷ before) r = any-behind Next (codes "; ") r (constructor_at S own p found) (λ r2. constructor-in S own p found r2)
 
-family-told : (S : Signature) (rest : List ℕ) → Ensures (Told S) (family_at S [] rest)
-family-told S rest =
-    ensures-then NameIn (Told S) (new_name S [] [] rest) _ (name-in S [] [] rest)
-    (λ name r1 own. any-then (Told S) (parameters_at S [] r1) _
-    (λ parameters r2. any-then (Told S) (whole_term S [] (length parameters) r2) _
-    (λ type r3. any-behind (Told S) (codes " {") r3 (family_behind S name parameters type)
-    (λ r4. ensures-then AreNamed (Told S) (constructors_at S name (length parameters) r4) _
+family-read : (S : Signature) (rest : List ℕ) → Ensures (Read S) (family_at S [] rest)
+family-read S rest =
+    ensures-then NameIn (Read S) (new_name S [] [] rest) _ (name-in S [] [] rest)
+    (λ name r1 own. any-then (Read S) (parameters_at S [] r1) _
+    (λ parameters r2. any-then (Read S) (whole_term S [] (length parameters) r2) _
+    (λ type r3. any-behind (Read S) (codes " {") r3 (family_behind S name parameters type)
+    (λ r4. ensures-then AreNamed (Read S) (constructors_at S name (length parameters) r4) _
     (collected-in (next_constructor S name (length parameters)) (next-in S name (length parameters)) (length r4) [] r4 tt)
-    (λ constructors end list. ended-told S (RawFamilyOf (record { name = name; parameters = parameters; type = type; constructors = constructors })) end
+    (λ constructors end list. ended-read S (RawFamilyOf (record { name = name; parameters = parameters; type = type; constructors = constructors })) end
     (record { missing = tt; names = (own, list) }))))))
 
-line-told : (S : Signature) (rest : List ℕ) → Ensures (Told S) (line_at S [] rest)
-line-told S rest =
-    ensures-if (Told S) (begins (codes "de") rest) (after (behind (codes "def ") rest) (definition_at S [])) _
-    (λ e. any-behind (Told S) (codes "def ") rest (definition_at S []) (definition-told S))
-    (λ e. ensures-if (Told S) (first rest == 101) (after (behind (codes "elim ") rest) (eliminator_at S)) _
-    (λ e. any-behind (Told S) (codes "elim ") rest (eliminator_at S) (eliminator-told S))
-    (λ e. ensures-if (Told S) (S.has_k && (first rest == 97)) (after (behind (codes "axiomk ") rest) (axiom_k_line S)) _
-    (λ e. any-behind (Told S) (codes "axiomk ") rest (axiom_k_line S) (axiom_k-told S))
-    (λ e. any-behind (Told S) (codes "data ") rest (family_at S []) (family-told S))))
+line-read : (S : Signature) (rest : List ℕ) → Ensures (Read S) (line_at S [] rest)
+line-read S rest =
+    ensures-if (Read S) (begins (codes "de") rest) (after (behind (codes "def ") rest) (definition_at S [])) _
+    (λ e. any-behind (Read S) (codes "def ") rest (definition_at S []) (definition-read S))
+    (λ e. ensures-if (Read S) (first rest == 101) (after (behind (codes "elim ") rest) (eliminator_at S)) _
+    (λ e. any-behind (Read S) (codes "elim ") rest (eliminator_at S) (eliminator-read S))
+    (λ e. ensures-if (Read S) (S.has_k && (first rest == 97)) (after (behind (codes "axiomk ") rest) (axiom_k_line S)) _
+    (λ e. any-behind (Read S) (codes "axiomk ") rest (axiom_k_line S) (axiom_k-read S))
+    (λ e. any-behind (Read S) (codes "data ") rest (family_at S []) (family-read S))))
 
 -- The next entry.
 
 abbrev NextEntry : Signature → Option RawEntry → List ℕ → Type 0
 NextEntry S None r = Unit {0}
-NextEntry S (Some raw) r = IsTold S raw
+NextEntry S (Some raw) r = IsRead S raw
 
-shown-told : (S : Signature) (n : ℕ) (line : List ℕ) (m : Reading RawEntry) → Ensures (Told S) m → Ensures (NextEntry S) (shown_by n line m)
-shown-told S n line (Ok p) told = ensures-if (NextEntry S) (shows_entry n p.0) (Ok (Some p.0, p.1)) (wrong line) (λ e. told) (λ e. tt)
-shown-told S n line (Err e) told = tt
+shown-read : (S : Signature) (n : ℕ) (line : List ℕ) (m : Reading RawEntry) → Ensures (Read S) m → Ensures (NextEntry S) (shown_by n line m)
+shown-read S n line (Ok p) read = ensures-if (NextEntry S) (shows_entry n p.0) (Ok (Some p.0, p.1)) (wrong line) (λ e. read) (λ e. tt)
+shown-read S n line (Err e) read = tt
 
-entry-told : (S : Signature) (rest : List ℕ) → Ensures (NextEntry S) (entry_at S rest)
-entry-told S [] = tt
-entry-told S (b ∷ rest) = shown-told S (length S.entries) (b ∷ rest) (line_at S [] (b ∷ rest)) (line-told S (b ∷ rest))
+entry-read : (S : Signature) (rest : List ℕ) → Ensures (NextEntry S) (entry_at S rest)
+entry-read S [] = tt
+entry-read S (b ∷ rest) = shown-read S (length S.entries) (b ∷ rest) (line_at S [] (b ∷ rest)) (line-read S (b ∷ rest))
 
-next-told : (S : Signature) (rest : List ℕ) → Ensures (NextEntry S) (next_entry S rest)
-next-told S rest =
+next-read : (S : Signature) (rest : List ℕ) → Ensures (NextEntry S) (next_entry S rest)
+next-read S rest =
     elim (behind_notes false rest) as (λ m. Ensures (NextEntry S) (after m (entry_at S))) [
-      | Ok r ↦ entry-told S r
+      | Ok r ↦ entry-read S r
       | Err h ↦ tt
     ]
 
-pub is-told : (S : Signature) (text : List ℕ) (from : ℕ) (raw : RawEntry) (to : ℕ) → entry_from S text from ≡ Ok (Some (raw, to)) → IsTold S raw
-is-told S text from raw to is = go (next_entry S (drop from text)) (next-told S (drop from text)) is
+pub is-read : (S : Signature) (text : List ℕ) (from : ℕ) (raw : RawEntry) (to : ℕ) → entry_from S text from ≡ Ok (Some (raw, to)) → IsRead S raw
+is-read S text from raw to is = go (next_entry S (drop from text)) (next-read S (drop from text)) is
   where
-    go : (m : Reading (Option RawEntry)) → Ensures (NextEntry S) m → with_offset (length text) m ≡ Ok (Some (raw, to)) → IsTold S raw
-    go (Ok (None, r)) told same = absurd (cc)
-    go (Ok (Some other, r)) told same =
-        let pair : (other, length text - length r) ≡ (raw, to) = pair-is same in subst (IsTold S) (ap (λ p. p.0) pair) told
+    go : (m : Reading (Option RawEntry)) → Ensures (NextEntry S) m → with_offset (length text) m ≡ Ok (Some (raw, to)) → IsRead S raw
+    go (Ok (None, r)) read same = absurd (cc)
+    go (Ok (Some other, r)) read same =
+        let pair : (other, length text - length r) ≡ (raw, to) = pair-is same in subst (IsRead S) (ap (λ p. p.0) pair) read
       where
         pair-is : {a b : RawEntry × ℕ} → ◌≡◌ {A = Result (Option (RawEntry × ℕ)) CoreTextStop} (Ok (Some a)) (Ok (Some b)) → a ≡ b
         pair-is eq = cc
-    go (Err h) told same = absurd (cc)
+    go (Err h) read same = absurd (cc)

@@ -1,4 +1,4 @@
--- What a report of a clause leaves has names in line, and what it denies is told in line.
+-- What a report of a clause leaves has names in line, and what it denies is written in line.
 use Rattle.std.proofs.Common.{ℕ, zero, suc, ◌+◌, nat_lt, Bool, true, false, cond, Option, List, [], ◌∷◌, ◌++◌, length, map, get_or, codes, Result, Ok, Err, IfOk, refl, arith}
 use Rattle.std.specs.Prelude.{◌%◌, ◌/◌, decimal}
 use Rattle.theory.specs.Terms.{Term}
@@ -131,22 +131,22 @@ after_quiet first go h k = and_next-splits Any ReportedIn ReportIn first go h (�
 
 if_shadowed-in : (S : Signature) → NamesIn S → (stop : ReportStop) → ReportIn stop → (earlier : ℕ) (context : Telescope) (vector : List Term) (leaves : List TreeLeaf) (holds : Bool)
     → Splits ReportedIn ReportIn (if_shadowed S stop earlier context vector leaves holds)
-if_shadowed-in S names stop told earlier context vector leaves true = names
-if_shadowed-in S names stop told earlier context vector leaves false = told
+if_shadowed-in S names stop stopped earlier context vector leaves true = names
+if_shadowed-in S names stop stopped earlier context vector leaves false = stopped
 
 at_vector-in : (S : Signature) → NamesIn S → (c : PlannedClause) (stop : ReportStop) → ReportIn stop → (earlier : ℕ) (context : Telescope) (vector : List Term) (left : ℕ)
     → Reports (at_vector_made S c stop earlier context vector left)
-at_vector-in S names c stop told earlier context vector left = by (both_match S c earlier vector) (leaves_of c.clause c.part.tree)
+at_vector-in S names c stop stopped earlier context vector left = by (both_match S c earlier vector) (leaves_of c.clause c.part.tree)
   where
     by : (match : Bool) (leaves : List TreeLeaf) → Reports (cond match (at_matched S c stop earlier context vector leaves left) (answers (Err stop) left))
     by true leaves =
-        after_quiet (converts_at_leaves S c leaves left) _ (leaves-quiet S c leaves left) (λ holds rest. if_shadowed-in S names stop told earlier context vector leaves holds)
-    by false leaves = told
+        after_quiet (converts_at_leaves S c leaves left) _ (leaves-quiet S c leaves left) (λ holds rest. if_shadowed-in S names stop stopped earlier context vector leaves holds)
+    by false leaves = stopped
 
 at_place-in : (S : Signature) → NamesIn S → (c : PlannedClause) (stop : ReportStop) → ReportIn stop → (earlier : ℕ) (p : Place) (left : ℕ) → Reports (at_place S c stop earlier p left)
-at_place-in S names c stop told earlier p left =
+at_place-in S names c stop stopped earlier p left =
     let vector = vector_of S (pats_of c.part c.clause) (pats_of c.part earlier) p.terms left in
-    after_quiet (halting vector) _ (halts-quiet vector.0) (λ v rest. at_vector-in S names c stop told earlier p.context v rest)
+    after_quiet (halting vector) _ (halts-quiet vector.0) (λ v rest. at_vector-in S names c stop stopped earlier p.context v rest)
 
 place-quiet : (S : Signature) (p : Place) (left : ℕ) → Quiet (place_converts S p left)
 unfolding place_converts
@@ -156,10 +156,10 @@ earlier-quiet : (S : Signature) (clause : ℕ) (leaf : ℕ × Place) (left : ℕ
 earlier-quiet S clause leaf left = quietly (place_converts S leaf.1 left) _ (place-quiet S leaf.1 left) (λ holds rest. tt)
 
 shadowed-in : (S : Signature) → NamesIn S → (c : PlannedClause) (stop : ReportStop) → ReportIn stop → (leaves : List (ℕ × Place)) (left : ℕ) → Reports (shadowed_among S c stop leaves left)
-shadowed-in S names c stop told [] left = told
-shadowed-in S names c stop told (leaf ∷ leaves) left =
+shadowed-in S names c stop stopped [] left = stopped
+shadowed-in S names c stop stopped (leaf ∷ leaves) left =
     after_quiet (is_earlier S c.clause leaf left) _ (earlier-quiet S c.clause leaf left) (λ found rest.
-    by found rest (at_place-in S names c stop told leaf.0 leaf.1 rest) (shadowed-in S names c stop told leaves rest))
+    by found rest (at_place-in S names c stop stopped leaf.0 leaf.1 rest) (shadowed-in S names c stop stopped leaves rest))
   where
     by : (found : Bool) (rest : ℕ) → Reports (at_place S c stop leaf.0 leaf.1 rest) → Reports (shadowed_among S c stop leaves rest)
         → Reports (cond found (at_place S c stop leaf.0 leaf.1 rest) (shadowed_among S c stop leaves rest))

@@ -19,27 +19,27 @@ use Rattle.elim_program.specs.DefinedOutputs.{IsOutput, refused_words, compiles,
 use Rattle.elim_program.specs.Outputs.{Output, followed, head_lines}
 use Rattle.elim_program.specs.Refusals.{refusal_line, stop_line}
 use Rattle.elim_program.specs.Texts.{limited}
-use Rattle.elim_program.specs.Verifies.{behind, behind_head, enter_read, entries, entry_block, file_block, next_block, read_name, unread, verified_line}
+use Rattle.elim_program.specs.Verifies.{after_entry, after_head, enter_read, entries, entry_block, file_block, next_block, read_name, unread, verified_line}
 use Rattle.elim_program.specs.VerifyHeadline.{Adds, family, eliminator, axiom_k, definition, Holds, head, entry, IsVerified}
 use Rattle.elim_program.specs.Words.{verify_asked}
 use Rattle.elim_program.proofs.Adding.{adds-read, ready-read}
 use Rattle.elim_program.proofs.FileHeads.{is-head}
-use Rattle.elim_program.proofs.Lines.{third, first_line, not_empty, not_one, behind_heads, if_ok}
+use Rattle.elim_program.proofs.Lines.{third, first_line, not_empty, not_one, after_heads, if_ok}
 use Rattle.elim_program.proofs.OneOutput.{not-both-asked, same-command, work-no-verify}
-use Rattle.elim_program.proofs.ReadInLine.{is-told}
+use Rattle.elim_program.proofs.ReadInLine.{is-read}
 
 -- what is known before the entries from an offset on, with the lines of those before them
-record IsBefore (k : Bool) (text : List ℕ) (S : Signature) (from : ℕ) (told : List (List ℕ)) : Type 0 where
+record IsBefore (k : Bool) (text : List ℕ) (S : Signature) (from : ℕ) (earlier : List (List ℕ)) : Type 0 where
   names : List (List ℕ)
   held : Holds k text S from names
   ready : IsReady S
-  lines : told ≡ map verified_line names
+  lines : earlier ≡ map verified_line names
   within : from ≤ length text
 
 -- what is known after an entry
-onward : (k : Bool) (text : List ℕ) (S T : Signature) (from to : ℕ) (told : List (List ℕ)) (raw : RawEntry) → IsBefore k text S from told → entry_from S text from ≡ Ok (Some (raw, to)) → Adds S raw T → IsReady T → to ≤ length text →
-    IsBefore k text T to (told ++ verified_line (read_name S raw) ∷ [])
-onward k text S T from to told raw b is adds ready within = record {
+onward : (k : Bool) (text : List ℕ) (S T : Signature) (from to : ℕ) (earlier : List (List ℕ)) (raw : RawEntry) → IsBefore k text S from earlier → entry_from S text from ≡ Ok (Some (raw, to)) → Adds S raw T → IsReady T → to ≤ length text →
+    IsBefore k text T to (earlier ++ verified_line (read_name S raw) ∷ [])
+onward k text S T from to earlier raw b is adds ready within = record {
   names = b.names ++ read_name S raw ∷ [];
   held = entry S T from to b.names raw b.held is adds;
   ready = ready;
@@ -53,44 +53,44 @@ record IsFound (k : Bool) (text : List ℕ) (above : List (List ℕ)) (name : Li
   offset : ℕ
   known : IsBefore k text signature offset (above ++ verified_line name ∷ [])
 
-found : (k : Bool) (text : List ℕ) (fuel most : ℕ) (S : Signature) (from : ℕ) (told above below : List (List ℕ)) (name : List ℕ) → IsBefore k text S from told →
-    (entries text fuel most S from).lines ≡ above ++ verified_line name ∷ below → IsFound k text (told ++ above) name
+found : (k : Bool) (text : List ℕ) (fuel most : ℕ) (S : Signature) (from : ℕ) (earlier above below : List (List ℕ)) (name : List ℕ) → IsBefore k text S from earlier →
+    (entries text fuel most S from).lines ≡ above ++ verified_line name ∷ below → IsFound k text (earlier ++ above) name
 unfolding third first_line
-found k text fuel zero S from told above below name b e = absurd (not_empty above below (verified_line name) e)
-found k text fuel (suc most) S from told above below name b e =
-    go (λ T to told later b e. found k text fuel most T to told later below name b e) (entry_from S text from) refl e
+found k text fuel zero S from earlier above below name b e = absurd (not_empty above below (verified_line name) e)
+found k text fuel (suc most) S from earlier above below name b e =
+    go (λ T to earlier later b e. found k text fuel most T to earlier later below name b e) (entry_from S text from) refl e
   where
-    go : ((T : Signature) (to : ℕ) (told later : List (List ℕ)) → IsBefore k text T to told → (entries text fuel most T to).lines ≡ later ++ verified_line name ∷ below → IsFound k text (told ++ later) name)
+    go : ((T : Signature) (to : ℕ) (earlier later : List (List ℕ)) → IsBefore k text T to earlier → (entries text fuel most T to).lines ≡ later ++ verified_line name ∷ below → IsFound k text (earlier ++ later) name)
         → (m : Result (Option (RawEntry × ℕ)) CoreTextStop) → entry_from S text from ≡ m → (next_block fuel S (entries text fuel most) m).lines ≡ above ++ verified_line name ∷ below
-        → IsFound k text (told ++ above) name
+        → IsFound k text (earlier ++ above) name
     go rec (Ok None) is e = absurd (not_empty above below (verified_line name) e)
     go rec (Err stop) is e = absurd (not_one (stop_line (unread stop)) (verified_line name) above below (λ k. omega (arith, k)) e)
     go rec (Ok (Some (raw, to))) is e = answer (enter_read S fuel raw) refl e
       where
         answer : (r : Result Entered Refusal) → enter_read S fuel raw ≡ r
-            → (followed (entry_block (read_name S raw) r) (entries text fuel most (behind S r) to)).lines ≡ above ++ verified_line name ∷ below → IsFound k text (told ++ above) name
+            → (followed (entry_block (read_name S raw) r) (entries text fuel most (after_entry S r) to)).lines ≡ above ++ verified_line name ∷ below → IsFound k text (earlier ++ above) name
         answer (Err why) same e = absurd (not_one (refusal_line (read_name S raw) why) (verified_line name) above below (λ k. omega (arith, k)) e)
         answer (Ok x) same e =
             let what = what-is-read S text from raw to b.within is in
-            let adds = if_ok (λ y. Adds S raw y.signature) (enter_read S fuel raw) x same (adds-read S fuel raw (is-told S text from raw to is).missing) in
+            let adds = if_ok (λ y. Adds S raw y.signature) (enter_read S fuel raw) x same (adds-read S fuel raw (is-read S text from raw to is).missing) in
             let ready = if_ok (λ y. IsReady y.signature) (enter_read S fuel raw) x same (ready-read S fuel raw b.ready what.0) in
-            place above e (onward k text S x.signature from to told raw b is adds ready what.2)
+            place above e (onward k text S x.signature from to earlier raw b is adds ready what.2)
           where
             place : (above : List (List ℕ)) → verified_line (read_name S raw) ∷ (entries text fuel most x.signature to).lines ≡ above ++ verified_line name ∷ below
-                → IsBefore k text x.signature to (told ++ verified_line (read_name S raw) ∷ []) → IsFound k text (told ++ above) name
+                → IsBefore k text x.signature to (earlier ++ verified_line (read_name S raw) ∷ []) → IsFound k text (earlier ++ above) name
             place [] e known =
                 let line : verified_line (read_name S raw) ≡ verified_line name = ap first_line e in
                 let P : List (List ℕ) → Type 0 = λ ls. IsBefore k text x.signature to ls in
                 record {
                   signature = x.signature;
                   offset = to;
-                  known = subst P (ap (λ l. told ++ l ∷ []) line ∙ ap (λ ls. ls ++ verified_line name ∷ []) (sym (append-nil told))) known;
+                  known = subst P (ap (λ l. earlier ++ l ∷ []) line ∙ ap (λ ls. ls ++ verified_line name ∷ []) (sym (append-nil earlier))) known;
                 }
             place (y ∷ later) e known =
                 let line : verified_line (read_name S raw) ≡ y = ap first_line e in
                 let P : List (List ℕ) → Type 0 = λ ls. IsFound k text ls name in
-                subst P (append_assoc told (verified_line (read_name S raw) ∷ []) later ∙ ap (λ l. told ++ l ∷ later) line)
-                (rec x.signature to (told ++ verified_line (read_name S raw) ∷ []) later known (ap (drop 1) e))
+                subst P (append_assoc earlier (verified_line (read_name S raw) ∷ []) later ∙ ap (λ l. earlier ++ l ∷ later) line)
+                (rec x.signature to (earlier ++ verified_line (read_name S raw) ∷ []) later known (ap (drop 1) e))
 
 -- a file has axiom K only where it is allowed
 has-k : (k : Bool) (text : List ℕ) (S : Signature) (from : ℕ) (names : List (List ℕ)) → Holds k text S from names → IsTrue S.has_k → IsTrue k
@@ -114,11 +114,11 @@ as_verified k text above name f = record {
   lines = append_assoc (head_lines k) above (verified_line name ∷ []) ∙ ap (λ ls. head_lines k ++ ls) f.known.lines;
 }
 
-file-found : (k : Bool) (fuel : ℕ) (text : List ℕ) (above below : List (List ℕ)) (name : List ℕ) → (behind_head fuel text (head_of k text)).lines ≡ above ++ verified_line name ∷ below → IsFound k text above name
+file-found : (k : Bool) (fuel : ℕ) (text : List ℕ) (above below : List (List ℕ)) (name : List ℕ) → (after_head fuel text (head_of k text)).lines ≡ above ++ verified_line name ∷ below → IsFound k text above name
 unfolding third
 file-found k fuel text above below name e = go (head_of k text) refl e
   where
-    go : (m : Result (Bool × ℕ) CoreTextStop) → head_of k text ≡ m → (behind_head fuel text m).lines ≡ above ++ verified_line name ∷ below → IsFound k text above name
+    go : (m : Result (Bool × ℕ) CoreTextStop) → head_of k text ≡ m → (after_head fuel text m).lines ≡ above ++ verified_line name ∷ below → IsFound k text above name
     go (Err stop) is e = absurd (not_one (stop_line (unread stop)) (verified_line name) above below (λ k. omega (arith, k)) e)
     go (Ok (has_k, from)) is e =
         found k text fuel (suc (length text)) (prelude has_k) from [] above below name (record {
@@ -145,6 +145,6 @@ verified words bytes out command above below name (refused_words none nothing ot
 verified words bytes out command above below name (compiles other answer first gives) asks e = absurd (not-both-asked words other command first asks)
 verified words bytes out command above below name (works work answer first gives) asks e = absurd (let k = sym (work-no-verify words work first) ∙ asks in cc)
 verified words bytes out command above below name (verifies other is) asks e =
-    let b = behind_heads other.k (file_block other (limited bytes)).lines above below (verified_line name) (λ k. omega (arith, k)) (λ k. omega (arith, k)) e in
+    let b = after_heads other.k (file_block other (limited bytes)).lines above below (verified_line name) (λ k. omega (arith, k)) (λ k. omega (arith, k)) e in
     subst (λ c. IsVerified c.k bytes above name) (same-command (verify_asked words) other command is asks)
     (subst (λ ls. IsVerified other.k bytes ls name) (sym b.1) (as_verified other.k bytes b.0 name (text-found other bytes b.0 below name b.2)))

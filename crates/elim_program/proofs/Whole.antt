@@ -15,9 +15,9 @@ use Rattle.elim_program.proofs.Following.{no_bytes, appends-nothing}
 
 whole : (words : List (List ℕ)) (left before after : Option (List ℕ)) (status : Status) (bytes : List ℕ) → IfSome left (λ known. bytes ≡ known) → (out : Output) → IsOutput words bytes out →
     (f : Follows out before after status) → (f.text ≡ text_of out.lines) × (out.status ≡ status) → IsWhole words left before after status
-whole words left before after status bytes told out is f says = record {
+whole words left before after status bytes known out is f says = record {
   bytes = bytes;
-  told = told;
+  known = known;
   out = out;
   is_output = is;
   appended = subst (λ text. Appends before after text) says.0 f.appended;
@@ -26,12 +26,12 @@ whole words left before after status bytes told out is f says = record {
 
 finished : (words : List (List ℕ)) (left before after : Option (List ℕ)) (status : Status) (bytes : List ℕ) → IfSome left (λ known. bytes ≡ known) → (out : Output) → IsOutput words bytes out →
     Follows out before after status → status ≢ WriteFault → status ≢ NoMemory → IsWhole words left before after status
-finished words left before after Done bytes told out is f nw nm = whole words left before after Done bytes told out is f f.says
-finished words left before after Refused bytes told out is f nw nm = whole words left before after Refused bytes told out is f f.says
-finished words left before after Usage bytes told out is f nw nm = whole words left before after Usage bytes told out is f f.says
-finished words left before after ReadFault bytes told out is f nw nm = absurd f.says
-finished words left before after WriteFault bytes told out is f nw nm = absurd (nw refl)
-finished words left before after NoMemory bytes told out is f nw nm = absurd (nm refl)
+finished words left before after Done bytes known out is f nw nm = whole words left before after Done bytes known out is f f.says
+finished words left before after Refused bytes known out is f nw nm = whole words left before after Refused bytes known out is f f.says
+finished words left before after Usage bytes known out is f nw nm = whole words left before after Usage bytes known out is f f.says
+finished words left before after ReadFault bytes known out is f nw nm = absurd f.says
+finished words left before after WriteFault bytes known out is f nw nm = absurd (nw refl)
+finished words left before after NoMemory bytes known out is f nw nm = absurd (nm refl)
 
 -- where nothing failed the output is whole
 pub complete : (words : List (List ℕ)) (left before after : Option (List ℕ)) (status : Status) → Runs words left before after status
@@ -41,7 +41,7 @@ complete words left before after status r nr nw nm = go r.wrote
     go : Wrote words r.bytes before after status → IsWhole words left before after status
     go (nothing a (inl e)) = absurd (nr e)
     go (nothing a (inr e)) = absurd (nm e)
-    go (output out is f h v) = finished words left before after status r.bytes r.told out is f nw nm
+    go (output out is f h v) = finished words left before after status r.bytes r.known out is f nw nm
 
 -- what follows a defined output has the headline
 pub follow : (words : List (List ℕ)) (bytes : List ℕ) (before after : Option (List ℕ)) (status : Status) (out : Output) → IsOutput words bytes out → Follows out before after status →
@@ -51,11 +51,11 @@ follow words bytes before after status out is f = output out is f (headline_of_f
 pub usage_runs : (words : List (List ℕ)) (left before after : Option (List ℕ)) (status : Status) → asked words ≡ None → verify_asked words ≡ None → work_asked words ≡ None → Follows usage before after status
     → Runs words left before after status
 usage_runs words left before after status none neither other follows =
-    let b = no_bytes left in record { bytes = b.0; told = b.1; wrote = follow words b.0 before after status usage (refused_words none neither other) follows }
+    let b = no_bytes left in record { bytes = b.0; known = b.1; wrote = follow words b.0 before after status usage (refused_words none neither other) follows }
 
 -- what is written where no bytes are read
 pub unread_runs : (words : List (List ℕ)) (left before after : Option (List ℕ)) (status : Status) → ((bytes : List ℕ) → Wrote words bytes before after status) → Runs words left before after status
-unread_runs words left before after status wrote = let b = no_bytes left in record { bytes = b.0; told = b.1; wrote = wrote b.0 }
+unread_runs words left before after status wrote = let b = no_bytes left in record { bytes = b.0; known = b.1; wrote = wrote b.0 }
 
 not-first : (a b : Bool) → (a || b) ≡ false → a ≡ false
 not-first true b e = e
@@ -80,7 +80,7 @@ unaccepted_runs words left before after status refused other follows =
 -- where the source is not read whole nothing is written
 pub stopped_runs : (words : List (List ℕ)) (left before : Option (List ℕ)) (status : Status) (bytes : List ℕ) → IfSome left (λ known. bytes ≡ known)
     → (status ≡ ReadFault) ⊎ (status ≡ NoMemory) → Runs words left before before status
-stopped_runs words left before status bytes told s = record { bytes = bytes; told = told; wrote = nothing (appends-nothing before) s }
+stopped_runs words left before status bytes known s = record { bytes = bytes; known = known; wrote = nothing (appends-nothing before) s }
 
 abbrev pub ErrStatus : (A : Type 0) → Status → Result A Status
 ErrStatus A status = Err status

@@ -4,11 +4,11 @@ use Rattle.theory.specs.Signatures.{Signature}
 use Rattle.function_session.specs.Elaborating.{Elaborated, Refused, elaborate_of}
 use Rattle.elim_program.specs.declared.counts.Counts.{Counts}
 use Rattle.elim_program.specs.Outputs.{Block, accepted_lines, after, block, declarations, declared_block, followed}
-use Rattle.elim_program.specs.WorkLaws.{IsCountOf, Step, WorkCountsOutput, on_step, steps}
+use Rattle.elim_program.specs.WorkLaws.{IsCountOf, Accepting, WorkCountsOutput, on_accepting, acceptings}
 use Rattle.elim_program.specs.Works.{on_worked, with_accepted, worked}
 
 -- one declaration more, where those after it are counted
-count_more : (S : Signature) (a : Elaborated) (c : Counts) (all : List Step) (written : Block) (r : Result Counts (List (List ℕ))) → IsCountOf (with_accepted c a) all written r
+count_more : (S : Signature) (a : Elaborated) (c : Counts) (all : List Accepting) (written : Block) (r : Result Counts (List (List ℕ))) → IsCountOf (with_accepted c a) all written r
     → IsCountOf c ((S, a) ∷ all) (followed (block (accepted_lines S a) false) written) r
 count_more S a c all written (Ok n) h = (ap (λ b. followed (block (accepted_lines S a) false) b) h.0, h.1)
 count_more S a c all written (Err lines) h =
@@ -19,7 +19,7 @@ pub work_counts_output : WorkCountsOutput
 work_counts_output fuel S [] c = (refl, refl)
 work_counts_output fuel S (d ∷ ds) c = by (λ T more. work_counts_output fuel T ds more) (elaborate_of S fuel d)
   where
-    by : ((T : Signature) (more : Counts) → IsCountOf more (steps fuel T ds) (declarations fuel T ds) (worked fuel T ds more)) → (r : Result Elaborated Refused)
-        → IsCountOf c (on_step S r (λ T. steps fuel T ds)) (followed (declared_block S d r) (declarations fuel (after S r) ds)) (on_worked d r (λ a. worked fuel a.signature ds (with_accepted c a)))
-    by rec (Ok a) = count_more S a c (steps fuel a.signature ds) (declarations fuel a.signature ds) (worked fuel a.signature ds (with_accepted c a)) (rec a.signature (with_accepted c a))
+    by : ((T : Signature) (more : Counts) → IsCountOf more (acceptings fuel T ds) (declarations fuel T ds) (worked fuel T ds more)) → (r : Result Elaborated Refused)
+        → IsCountOf c (on_accepting S r (λ T. acceptings fuel T ds)) (followed (declared_block S d r) (declarations fuel (after S r) ds)) (on_worked d r (λ a. worked fuel a.signature ds (with_accepted c a)))
+    by rec (Ok a) = count_more S a c (acceptings fuel a.signature ds) (declarations fuel a.signature ds) (worked fuel a.signature ds (with_accepted c a)) (rec a.signature (with_accepted c a))
     by rec (Err e) = refl

@@ -7,21 +7,21 @@ use Rattle.elim_program.specs.Outputs.{Block}
 use Rattle.elim_program.specs.declared.status.Status.{Status}
 use Rattle.elim_program.specs.declared.status.Status.TheVariants.{NoMemory}
 
-pub record Shown : Type 0 where
+pub record BlockText : Type 0 where
   pub text : List ℕ
   pub refused : Bool
 
-abbrev pub shown_of : code.Block → Shown
-shown_of b = record { text = b.text.items; refused = b.refused }
+abbrev pub text_of_block : code.Block → BlockText
+text_of_block b = record { text = b.text.items; refused = b.refused }
 
 -- these lines as a text
-abbrev pub shown : List (List ℕ) → Bool → Shown
+abbrev pub shown : List (List ℕ) → Bool → BlockText
 shown lines refused = record { text = text_of lines; refused = refused }
 
-abbrev pub shown_block : Block → Shown
+abbrev pub shown_block : Block → BlockText
 shown_block block = shown block.lines block.refused
 
 -- the code makes this block, unless memory ran out
 abbrev pub Makes : Result code.Block Status → Block → Type 0
-Makes (Ok b) meant = shown_of b ≡ shown_block meant
+Makes (Ok b) meant = text_of_block b ≡ shown_block meant
 Makes (Err e) meant = e ≡ NoMemory

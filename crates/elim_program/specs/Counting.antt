@@ -1,15 +1,15 @@
--- What is counted, in the code.
+-- What the code counts, and what is meant.
 use Rattle.std.specs.Prelude.{◌≡◌, ℕ, true, List, Result, Ok, Err}
 use Rattle.elim_program.specs.declared.block.Block as code
 use Rattle.elim_program.specs.declared.counts.Counts.{Counts}
 use Rattle.elim_program.specs.declared.status.Status.{Status}
 use Rattle.elim_program.specs.declared.status.Status.TheVariants.{NoMemory}
-use Rattle.elim_program.specs.Blocks.{shown_of, shown}
+use Rattle.elim_program.specs.Blocks.{text_of_block, shown}
 
 -- the lines of a block that refuses
 abbrev pub Refuses : code.Block → Result Counts (List (List ℕ)) → Type 0
 Refuses b (Ok c) = ⊥
-Refuses b (Err lines) = shown_of b ≡ shown lines true
+Refuses b (Err lines) = text_of_block b ≡ shown lines true
 
 -- the code counts what is meant, or makes the lines of its refusal, unless memory ran out
 abbrev pub Counted : Result (Result Counts code.Block) Status → Result Counts (List (List ℕ)) → Type 0

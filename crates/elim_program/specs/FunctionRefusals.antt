@@ -26,12 +26,12 @@ why_text Depends = codes "Depends"
 why_text NeedsIndexEquations = codes "NeedsIndexEquations"
 
 -- a position, and the first call that does not fit it
-abbrev pub row_text : FailingCall → List ℕ
-row_text c = codes " " ++ decimal c.position ++ codes " " ++ owner_text c.owner ++ codes " " ++ c.call
+abbrev pub failing_call_text : FailingCall → List ℕ
+failing_call_text c = codes " " ++ decimal c.position ++ codes " " ++ owner_text c.owner ++ codes " " ++ c.call
 
-abbrev pub rows_text : List FailingCall → List ℕ
-rows_text [] = []
-rows_text (c ∷ rows) = row_text c ++ rows_text rows
+abbrev pub failing_calls_text : List FailingCall → List ℕ
+failing_calls_text [] = []
+failing_calls_text (c ∷ calls) = failing_call_text c ++ failing_calls_text calls
 
 -- two sides that are not the same
 abbrev pub sides_text : (context left right : List ℕ) → List ℕ
@@ -40,8 +40,8 @@ sides_text context left right = context ++ codes " " ++ left ++ codes " = " ++ r
 abbrev pub denial_text : (place context reason : List ℕ) → List ℕ
 denial_text place context reason = place_text place ++ codes " " ++ context ++ codes " " ++ reason
 
--- Why a function is refused; a vector has each of its terms after a space. What halts a declaration is told with its other
--- refusals.
+-- Why a function is refused. In a vector a space precedes each term. `Halts` has no text here: its line is that of any
+-- declaration (`Refusals`).
 abbrev pub refusal_text : Refusal → List ℕ
 refusal_text (Halts e) = []
 refusal_text (IllTyped part place context reason) =
@@ -57,7 +57,7 @@ refusal_text (Impossible owner context left right) =
 refusal_text (DotMismatch owner context written forced) =
     codes "DotMismatch " ++ owner_text owner ++ codes " " ++ context ++ codes " " ++ written ++ codes " forced " ++ forced
 refusal_text (SelfInType owner) = codes "SelfInType " ++ owner_text owner
-refusal_text (NotSmaller rows) = codes "NotSmaller" ++ rows_text rows
+refusal_text (NotSmaller calls) = codes "NotSmaller" ++ failing_calls_text calls
 refusal_text (Rejected r) = codes "Rejected " ++ r.entry ++ codes " " ++ denial_text r.place r.context r.reason
 
 -- the core line of an entry that the checker denies

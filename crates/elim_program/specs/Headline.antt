@@ -10,7 +10,7 @@ use Rattle.elim_program.specs.ClauseTexts.{clause_lines}
 use Rattle.elim_program.specs.declared.words.Command.{Command}
 use Rattle.elim_program.specs.Lines.{lines_of, text_of}
 use Rattle.elim_program.specs.DefinedOutputs.{IsOutput}
-use Rattle.elim_program.specs.Outputs.{Output, accepted_line, head_lines, lines_behind}
+use Rattle.elim_program.specs.Outputs.{Output, accepted_line, head_lines, lines_after}
 use Rattle.elim_program.specs.Texts.{Gives}
 use Rattle.elim_program.specs.Words.{asked}
 
@@ -27,13 +27,13 @@ core_lines (line ∷ lines) = if is_core line then line ∷ core_lines lines els
 -- before it, and shows them over the signature that has them.
 pub data Shows (P : Signature) : Signature → List (List ℕ) → Type 0 where
   none : Shows P P []
-  more : (S T : Signature) (lines : List (List ℕ)) → Shows P S lines → IsPrefix S T → Shows P T (lines ++ lines_behind S T)
+  more : (S T : Signature) (lines : List (List ℕ)) → Shows P S lines → IsPrefix S T → Shows P T (lines ++ lines_after S T)
 
 -- the lines of what is accepted over S, up to the one that says so: its entries, and then its clauses
 abbrev pub own_lines : Signature → Elaborated → List (List ℕ)
-own_lines S a = lines_behind S a.signature ++ clause_lines a.signature a.lines
+own_lines S a = lines_after S a.signature ++ clause_lines a.signature a.lines
 
--- The declaration stands in the text, and what was accepted of it is what is written: it has its written type by the typing
+-- The declaration is in the text, and what was accepted of it is what is written: it has its written type by the typing
 -- rules over the entries before it, and each clause of a function has its line. The signatures before it and with it are well
 -- formed, without axiom K unless the words ask for it. The lines `above` are the head lines and show the entries after the
 -- prelude; the last of them are those of the declaration.
@@ -56,7 +56,7 @@ pub record IsShown (words : List (List ℕ)) (bytes : List ℕ) (above : List (L
   pub lines : List (List ℕ)
   pub heads : above ≡ head_lines command.k ++ lines
   pub earlier : List (List ℕ)
-  pub told : lines ≡ earlier ++ own_lines before accepted
+  pub ends : lines ≡ earlier ++ own_lines before accepted
   pub shown : Shows (prelude command.k) accepted.signature (core_lines lines)
 
 -- where a whole line of the text says that a declaration is accepted, the lines above it show it

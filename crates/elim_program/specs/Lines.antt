@@ -6,7 +6,7 @@ abbrev pub longer : ℕ → List (List ℕ) → List (List ℕ)
 longer c [] = []
 longer c (line ∷ lines) = (c ∷ line) ∷ lines
 
--- the whole lines of a text, without their line feeds; what stands after the last line feed is no whole line
+-- the whole lines of a text, without their line feeds; what follows the last line feed is no whole line
 abbrev pub lines_of : List ℕ → List (List ℕ)
 lines_of [] = []
 lines_of (c ∷ cs) = if c == 10 then [] ∷ lines_of cs else longer c (lines_of cs)

@@ -33,8 +33,8 @@ entry_lines S n zero = []
 entry_lines S n (suc count) = line_of S n (slice_get S.entries n) ∷ entry_lines S (n + 1) count
 
 -- the lines of the entries of T after those of S
-abbrev pub lines_behind : Signature → Signature → List (List ℕ)
-lines_behind S T = entry_lines T (length S.entries) (length T.entries - length S.entries)
+abbrev pub lines_after : Signature → Signature → List (List ℕ)
+lines_after S T = entry_lines T (length S.entries) (length T.entries - length S.entries)
 
 abbrev pub accepted_line : List ℕ → List ℕ
 accepted_line name = codes "# accepted " ++ name
@@ -50,7 +50,7 @@ declared_name (surf.Fun x ty clauses) = x.text
 -- the lines of what is accepted over S: its entries, then its clauses, then that it is accepted
 abbrev pub accepted_lines : Signature → Elaborated → List (List ℕ)
 accepted_lines S a =
-    lines_behind S a.signature ++ (clause_lines a.signature a.lines ++ accepted_line a.accepted.name ∷ [])
+    lines_after S a.signature ++ (clause_lines a.signature a.lines ++ accepted_line a.accepted.name ∷ [])
 
 -- the lines of what is refused under a name
 abbrev pub refused_lines : (name : List ℕ) → Refused → List (List ℕ)
@@ -100,7 +100,7 @@ abbrev pub head_lines : Bool → List (List ℕ)
 head_lines k = codes "elim 1" ∷ prelude_line k ∷ []
 
 abbrev pub compiled : Bool → Block → Output
-compiled k told = record {
-  lines = head_lines k ++ told.lines;
-  status = if told.refused then status.Refused else status.Done;
+compiled k b = record {
+  lines = head_lines k ++ b.lines;
+  status = if b.refused then status.Refused else status.Done;
 }

@@ -35,16 +35,16 @@ pub data Wrote (words : List (List ℕ)) (bytes : List ℕ) (before after : Opti
   nothing : Appends before after [] → (status ≡ ReadFault) ⊎ (status ≡ NoMemory) → Wrote words bytes before after status
   output : (out : Output) → IsOutput words bytes out → (follows : Follows out before after status) → IsHeadline words bytes follows.text → IsVerifyHeadline words bytes follows.text → Wrote words bytes before after status
 
--- the bytes are those that the source had left, where it tells them
+-- the bytes are those that the source had left, where they are known
 pub record Runs (words : List (List ℕ)) (left before after : Option (List ℕ)) (status : Status) : Type 0 where
   pub bytes : List ℕ
-  pub told : IfSome left (λ known. bytes ≡ known)
+  pub known : IfSome left (λ known. bytes ≡ known)
   pub wrote : Wrote words bytes before after status
 
 -- a whole output was written, and the status is its own
 pub record IsWhole (words : List (List ℕ)) (left before after : Option (List ℕ)) (status : Status) : Type 0 where
   pub bytes : List ℕ
-  pub told : IfSome left (λ known. bytes ≡ known)
+  pub known : IfSome left (λ known. bytes ≡ known)
   pub out : Output
   pub is_output : IsOutput words bytes out
   pub appended : Appends before after (text_of out.lines)
@@ -62,6 +62,6 @@ Sent (Ok _) text whole = text ≡ whole
 Sent (Err status) text whole = IsFront text whole × Failed status text whole
 
 -- the lines of a block went out whole, with whether it refuses, or a front of them
-abbrev pub Told : Result Bool Status → Block → List ℕ → Type 0
-Told (Ok refused) b text = (text ≡ text_of b.lines) × (refused ≡ b.refused)
-Told (Err status) b text = IsFront text (text_of b.lines) × Failed status text (text_of b.lines)
+abbrev pub Written : Result Bool Status → Block → List ℕ → Type 0
+Written (Ok refused) b text = (text ≡ text_of b.lines) × (refused ≡ b.refused)
+Written (Err status) b text = IsFront text (text_of b.lines) × Failed status text (text_of b.lines)

@@ -1,4 +1,5 @@
--- What is written and not built yet: families that refer to each other, decisions of equality.
+-- The declarations that the grammar has and that are not built yet: families that refer to each other, and decisions of
+-- equality.
 use Rattle.std.specs.Prelude.{ℕ, Bool, true, false, ◌&&◌, ◌||◌, if◌then◌else◌, List, [], ◌∷◌, codes, Option, Some, None, slice_range}
 use Rattle.surface_syntax.specs.Spelling.{is_text}
 use Rattle.surface_syntax.specs.declared.token.Token.{Token}
@@ -13,15 +14,15 @@ abbrev pub is_plain : TokenKind → Bool
 is_plain Plain = true
 is_plain _ = false
 
--- a plain name and `=` stand at the front
-abbrev pub names_equal : List ℕ → List Token → Bool
-names_equal bytes (name ∷ mark ∷ tokens) = is_plain name.kind && is_spelled (codes "=") bytes mark
-names_equal bytes _ = false
+-- the tokens begin with a plain name and `=`
+abbrev pub begins_decision : List ℕ → List Token → Bool
+begins_decision bytes (name ∷ mark ∷ tokens) = is_plain name.kind && is_spelled (codes "=") bytes mark
+begins_decision bytes _ = false
 
--- `with` stands at the front
-abbrev pub goes_on : List ℕ → List Token → Bool
-goes_on bytes (word ∷ tokens) = is_spelled (codes "with") bytes word
-goes_on bytes [] = false
+-- the tokens begin with `with`
+abbrev pub begins_next_family : List ℕ → List Token → Bool
+begins_next_family bytes (word ∷ tokens) = is_spelled (codes "with") bytes word
+begins_next_family bytes [] = false
 
 -- the offset of the `data` of the declaration that the token belongs to, where it is a family; `family` is that of the token
 -- before it
@@ -34,8 +35,8 @@ family_at bytes family token =
 -- of a family whose `}` has `with` after it.
 abbrev pub shown_unbuilt : List ℕ → Option ℕ → Token → List Token → Option ℕ
 shown_unbuilt bytes family token tokens =
-    if is_spelled (codes "def") bytes token && names_equal bytes tokens then Some token.start
-    else (if is_spelled (codes "}") bytes token && goes_on bytes tokens then family else None)
+    if is_spelled (codes "def") bytes token && begins_decision bytes tokens then Some token.start
+    else (if is_spelled (codes "}") bytes token && begins_next_family bytes tokens then family else None)
 
 -- what is shown, or else what is found after it
 abbrev pub or_later : Option ℕ → Option ℕ → Option ℕ

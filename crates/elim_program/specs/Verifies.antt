@@ -48,9 +48,9 @@ abbrev pub read_block : Signature → ℕ → RawEntry → Block
 read_block S fuel raw = entry_block (read_name S raw) (enter_read S fuel raw)
 
 -- the signature after an entry
-abbrev pub behind : Signature → Result Entered Refusal → Signature
-behind S (Ok x) = x.signature
-behind S (Err e) = S
+abbrev pub after_entry : Signature → Result Entered Refusal → Signature
+after_entry S (Ok x) = x.signature
+after_entry S (Err e) = S
 
 -- why core text is not read
 abbrev pub unread : CoreTextStop → TextStop
@@ -65,26 +65,26 @@ unread_block e = block (stop_line (unread e) ∷ []) true
 abbrev pub next_block : ℕ → Signature → (Signature → ℕ → Block) → Result (Option (RawEntry × ℕ)) CoreTextStop → Block
 next_block fuel S others (Ok None) = block [] false
 next_block fuel S others (Ok (Some p)) =
-    followed (read_block S fuel p.0) (others (behind S (enter_read S fuel p.0)) p.1)
+    followed (read_block S fuel p.0) (others (after_entry S (enter_read S fuel p.0)) p.1)
 next_block fuel S others (Err e) = unread_block e
 
--- the lines of the entries that stand from an offset on, of which there are fewer than `most`
+-- the lines of the entries from an offset on, of which there are fewer than `most`
 abbrev pub entries : List ℕ → ℕ → ℕ → Signature → ℕ → Block
 entries text fuel zero S from = block [] false
 entries text fuel (suc most) S from = next_block fuel S (entries text fuel most) (entry_from S text from)
 
 -- The lines after a head that is read. Each entry may spend `fuel` units, and has one byte at least.
-abbrev pub behind_head : ℕ → List ℕ → Result (Bool × ℕ) CoreTextStop → Block
-behind_head fuel text (Ok p) = entries text fuel (suc (length text)) (prelude p.0) p.1
-behind_head fuel text (Err e) = unread_block e
+abbrev pub after_head : ℕ → List ℕ → Result (Bool × ℕ) CoreTextStop → Block
+after_head fuel text (Ok p) = entries text fuel (suc (length text)) (prelude p.0) p.1
+after_head fuel text (Err e) = unread_block e
 
 -- the lines of a core file, or of a text that is too long to be read
 abbrev pub file_block : Command → Option (List ℕ) → Block
-file_block command (Some text) = behind_head command.fuel text (head_of command.k text)
+file_block command (Some text) = after_head command.fuel text (head_of command.k text)
 file_block command None = block (stop_line stop.TooLong ∷ []) true
 
--- A greater bound tells no more entries: where it is above the number of the bytes that are left, all are told.
-abbrev pub AllAreTold : Type 0
-AllAreTold =
+-- A greater bound adds no entry: where it is above the number of the bytes that are left, the lines are those of all entries.
+abbrev pub BoundIsEnough : Type 0
+BoundIsEnough =
     (text : List ℕ) (fuel : ℕ) (S : Signature) (from most more : ℕ) → from ≤ length text → length text - from < most → most ≤ more
     → entries text fuel most S from ≡ entries text fuel more S from

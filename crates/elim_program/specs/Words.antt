@@ -31,10 +31,11 @@ command k fuel = record { k = k; fuel = fuel }
 abbrev pub with_fuel : Bool → Option ℕ → Option Command
 with_fuel k fuel = option_map (command k) fuel
 
--- the words are `--k`, and `--fuel` before another one
+-- the word is `--k`
 abbrev pub is_k : List ℕ → Bool
 is_k word = is_text word (codes "--k")
 
+-- the word is `--fuel`
 abbrev pub is_fuel : List ℕ → Bool
 is_fuel word = is_text word (codes "--fuel")
 
@@ -58,11 +59,12 @@ abbrev pub verify_asked : List (List ℕ) → Option Command
 verify_asked [] = None
 verify_asked (mode ∷ words) = if is_text mode (codes "verify") then flags words else None
 
--- a number from 1 to 200
+-- the number, where it is at most 200
 abbrev pub at_most_200 : Option ℕ → Option ℕ
 at_most_200 (Some n) = if nat_le n 200 then Some n else None
 at_most_200 None = None
 
+-- a number from 1 to 200
 abbrev pub count_of : List ℕ → Option ℕ
 count_of word = at_most_200 (fuel_of word)
 

@@ -3,7 +3,7 @@ ghost use Rattle.std.specs.Io.KnownBytes.{Appends};
 ghost use Rattle.core_terms.specs.Count.{Rose};
 ghost use Rattle.elim_program.specs.Blocks.{Makes};
 ghost use Rattle.elim_program.specs.Outputs as spec;
-ghost use Rattle.elim_program.specs.Runs.{Told};
+ghost use Rattle.elim_program.specs.Runs.{Written};
 ghost use Rattle.function_session.specs.Elaborating.{elaborate_of};
 ghost use Rattle.function_session.specs.Meanings.{IsUnforeseen, refused_of};
 ghost use Rattle.surface_syntax.specs.TreeMeanings.{decl_of};
@@ -70,14 +70,14 @@ fn declare(alloc: Global, session: &mut Session, d: &Decl) -> Result<Block, Stat
 }
 
 /// Adds a declaration to the session, writes its lines, and answers whether they refuse it.
-fn tell_declaration<K: Sink>(
+fn write_declaration<K: Sink>(
     alloc: Global,
     session: &mut Session,
     d: &Decl,
     sink: &mut K,
 ) -> Result<bool, Status>
-    ensures told { (text : List ℕ) × Appends (K.written sink.old) (K.written sink.new) text
-        × Told result (spec.declared_block session.old.signature (decl_of d.now) (elaborate_of session.old.signature session.old.fuel (decl_of d.now))) text }
+    ensures written { (text : List ℕ) × Appends (K.written sink.old) (K.written sink.new) text
+        × Written result (spec.declared_block session.old.signature (decl_of d.now) (elaborate_of session.old.signature session.old.fuel (decl_of d.now))) text }
     ensures after { OnOk result (session.new.signature ≡ spec.after session.old.signature (elaborate_of session.old.signature session.old.fuel (decl_of d.now))) }
     ensures fuel { session.new.fuel ≡ session.old.fuel }
     ensures fault { result ≡ Err Status.WriteFault → Rose (K.faults sink.old) (K.faults sink.new) }
@@ -93,18 +93,18 @@ fn tell_declaration<K: Sink>(
 
 /// Adds declarations one by one, up to the first that is refused, and writes the lines of each. The answer is whether one is
 /// refused.
-pub(crate) fn tell_declarations<K: Sink>(
+pub(crate) fn write_declarations<K: Sink>(
     alloc: Global,
     session: &mut Session,
     decls: &[Decl],
     sink: &mut K,
 ) -> Result<bool, Status>
-    ensures told { (text : List ℕ) × Appends (K.written sink.old) (K.written sink.new) text
-        × Told result (spec.declarations session.old.fuel session.old.signature (map decl_of decls.now)) text }
+    ensures written { (text : List ℕ) × Appends (K.written sink.old) (K.written sink.new) text
+        × Written result (spec.declarations session.old.fuel session.old.signature (map decl_of decls.now)) text }
     ensures fault { result ≡ Err Status.WriteFault → Rose (K.faults sink.old) (K.faults sink.new) }
 {
     'decls: for d in decls {
-        let refused = match tell_declaration(alloc, session, d, sink) {
+        let refused = match write_declaration(alloc, session, d, sink) {
             Ok(refused) => refused,
             Err(status) => return Err(status),
         };

@@ -1,7 +1,7 @@
 //! The laws of the defined output.
 ghost use Rattle.elim_program.specs.DefinedOutputs.{HasOneOutput};
 ghost use Rattle.elim_program.specs.Headline.{Headline};
-ghost use Rattle.elim_program.specs.Verifies.{AllAreTold};
+ghost use Rattle.elim_program.specs.Verifies.{BoundIsEnough};
 ghost use Rattle.elim_program.specs.VerifyHeadline.{VerifyHeadline};
 ghost use Rattle.elim_program.specs.WorkLaws.{WorkCountsOutput};
 
@@ -11,8 +11,8 @@ pub fn headline()
 {}
 
 /// The bound in the definition of the lines of a core file cuts nothing off.
-pub fn all_are_told()
-    ensures { AllAreTold }
+pub fn bound_is_enough()
+    ensures { BoundIsEnough }
 {}
 
 /// Where a line says that an entry of a core file is verified, the entries that are verified up to it are a signature by the

@@ -68,23 +68,23 @@ fn why_text(why: Why) -> &'static [u8]
 }
 
 /// Writes a position, and the first call that does not fit it.
-fn write_row(out: &mut Vec<u8>, row: &FailingCall) -> Result<(), AllocError>
-    ensures { OnOk result (out.new.items ≡ out.old.items ++ spec.row_text (failing_of row.now)) }
+fn write_failing_call(out: &mut Vec<u8>, failing: &FailingCall) -> Result<(), AllocError>
+    ensures { OnOk result (out.new.items ≡ out.old.items ++ spec.failing_call_text (failing_of failing.now)) }
 {
     out.extend_from_slice(b" ")?;
-    write_number(out, row.position as u64)?;
-    write_at(out, b" ", &row.owner)?;
-    write_after(out, b" ", row.call.as_slice())
+    write_number(out, failing.position as u64)?;
+    write_at(out, b" ", &failing.owner)?;
+    write_after(out, b" ", failing.call.as_slice())
 }
 
-fn write_rows(out: &mut Vec<u8>, rows: &[FailingCall]) -> Result<(), AllocError>
-    ensures { OnOk result (out.new.items ≡ out.old.items ++ spec.rows_text (map failing_of rows.now)) }
+fn write_failing_calls(out: &mut Vec<u8>, calls: &[FailingCall]) -> Result<(), AllocError>
+    ensures { OnOk result (out.new.items ≡ out.old.items ++ spec.failing_calls_text (map failing_of calls.now)) }
 {
-    match rows {
+    match calls {
         [] => Ok(()),
         [first, rest @ ..] => {
-            write_row(out, first)?;
-            write_rows(out, rest)
+            write_failing_call(out, first)?;
+            write_failing_calls(out, rest)
         }
     }
 }
@@ -216,11 +216,11 @@ fn write_mismatch(
     write_after(out, b" forced ", forced)
 }
 
-fn write_not_smaller(out: &mut Vec<u8>, rows: &[FailingCall]) -> Result<(), AllocError>
-    ensures { OnOk result (out.new.items ≡ out.old.items ++ (codes "NotSmaller" ++ spec.rows_text (map failing_of rows.now))) }
+fn write_not_smaller(out: &mut Vec<u8>, calls: &[FailingCall]) -> Result<(), AllocError>
+    ensures { OnOk result (out.new.items ≡ out.old.items ++ (codes "NotSmaller" ++ spec.failing_calls_text (map failing_of calls.now))) }
 {
     out.extend_from_slice(b"NotSmaller")?;
-    write_rows(out, rows)
+    write_failing_calls(out, calls)
 }
 
 fn write_rejected(
@@ -303,7 +303,7 @@ fn write_refusal(out: &mut Vec<u8>, refusal: &Refusal) -> Result<(), AllocError>
             forced.as_slice(),
         ),
         Refusal::SelfInType(owner) => write_at(out, b"SelfInType ", owner),
-        Refusal::NotSmaller(rows) => write_not_smaller(out, rows.as_slice()),
+        Refusal::NotSmaller(calls) => write_not_smaller(out, calls.as_slice()),
         Refusal::Rejected {
             entry,
             place,

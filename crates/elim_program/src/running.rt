@@ -2,7 +2,7 @@ ghost use Rattle.std.specs.Prelude.{◌≡◌, ◌≢◌, ℕ, ◌≤◌, ◌∷
 ghost use Rattle.std.specs.Io.KnownBytes.{Appends};
 ghost use Rattle.core_terms.specs.Count.{Rose};
 ghost use Rattle.elim_program.specs.Outputs as spec;
-ghost use Rattle.elim_program.specs.Runs.{Follows, IsWhole, Runs, Sent, Told, Wrote};
+ghost use Rattle.elim_program.specs.Runs.{Follows, IsWhole, Runs, Sent, Written, Wrote};
 ghost use Rattle.elim_program.specs.Texts.{answer_of, limit, limited};
 ghost use Rattle.elim_program.specs.Lines.{text_of};
 ghost use Rattle.elim_program.specs.Refusals.{stop_line};
@@ -10,21 +10,18 @@ ghost use Rattle.elim_program.specs.Words.{asks_for_source, asked};
 
 use crate::block::stop_block;
 use crate::command_line::asked;
-use crate::declaring::tell_declarations;
+use crate::declaring::write_declarations;
 use crate::text_stop::is_memory;
-use crate::texts::declarations;
+use crate::texts::{LIMIT, declarations};
 use crate::verifying::verify;
 use crate::words::{Asked, asks_for_source, work_asked};
-use crate::working::tell_work;
+use crate::working::write_work;
 use crate::{Command, Status, TextStop};
 use core_terms::Items;
 use elab_session::Session;
 use elim_ports::{PortError, ReadError, Sink, Source, read_all, write_all};
 use std::alloc::Global;
 use surface_syntax::Decl;
-
-/// The most bytes of a text.
-const LIMIT: u32 = 1_048_576;
 
 const USAGE: &[u8] = b"# usage elim (compile [--k] | verify [--k] | work N) [--fuel N]\n";
 
@@ -67,13 +64,13 @@ pub(crate) fn head(k: bool) -> &'static [u8]
 }
 
 /// Writes the line of a text that is refused.
-pub(crate) fn tell_stop<K: Sink>(
+pub(crate) fn write_stop_line<K: Sink>(
     alloc: Global,
     stop: TextStop,
     sink: &mut K,
 ) -> Result<bool, Status>
-    ensures told { (text : List ℕ) × Appends (K.written sink.old) (K.written sink.new) text
-        × Told result (spec.block (stop_line stop ∷ []) true) text }
+    ensures written { (text : List ℕ) × Appends (K.written sink.old) (K.written sink.new) text
+        × Written result (spec.block (stop_line stop ∷ []) true) text }
     ensures fault { result ≡ Err Status.WriteFault → Rose (K.faults sink.old) (K.faults sink.new) }
     ensures never_falls { K.faults sink.old ≤ K.faults sink.new }
 {
@@ -83,27 +80,27 @@ pub(crate) fn tell_stop<K: Sink>(
 }
 
 /// Writes what the text gives, and answers whether the last line refuses.
-fn tell_text<K: Sink>(
+fn write_whole_text<K: Sink>(
     alloc: Global,
     command: Command,
     answer: Result<Items<Decl>, TextStop>,
     sink: &mut K,
 ) -> Result<bool, Status>
-    ensures told { (text : List ℕ) × Appends (K.written sink.old) (K.written sink.new) text
-        × Told result (spec.text_block command (answer_of answer)) text }
+    ensures written { (text : List ℕ) × Appends (K.written sink.old) (K.written sink.new) text
+        × Written result (spec.text_block command (answer_of answer)) text }
     ensures fault { result ≡ Err Status.WriteFault → Rose (K.faults sink.old) (K.faults sink.new) }
 {
     match answer {
         Ok(decls) => {
             let mut session = Session::new(alloc, command.k, command.fuel)?;
-            tell_declarations(alloc, &mut session, decls.as_slice(), sink)
+            write_declarations(alloc, &mut session, decls.as_slice(), sink)
         }
-        Err(stop) => tell_stop(alloc, stop, sink),
+        Err(stop) => write_stop_line(alloc, stop, sink),
     }
 }
 
 /// Writes the head lines and what the text gives.
-fn tell<K: Sink>(
+fn write_output<K: Sink>(
     alloc: Global,
     command: Command,
     answer: Result<Items<Decl>, TextStop>,
@@ -116,7 +113,7 @@ fn tell<K: Sink>(
     if let Err(status) = send(sink, head(command.k)) {
         return status;
     }
-    match tell_text(alloc, command, answer, sink) {
+    match write_whole_text(alloc, command, answer, sink) {
         Ok(true) => Status::Refused,
         Ok(false) => Status::Done,
         Err(status) => status,
@@ -137,12 +134,12 @@ fn compile<K: Sink>(
     ensures read { result ≢ Status.ReadFault }
 {
     match declarations(alloc, text) {
-        Ok(decls) => tell(alloc, command, Ok(decls), sink),
+        Ok(decls) => write_output(alloc, command, Ok(decls), sink),
         Err(stop) => {
             if is_memory(stop) {
                 return Status::NoMemory;
             }
-            tell(alloc, command, Err(stop), sink)
+            write_output(alloc, command, Err(stop), sink)
         }
     }
 }
@@ -202,7 +199,7 @@ pub fn run<S: Source, K: Sink>(
     ensures unread { IsTrue (not (asks_for_source (map string_bytes words.now))) → source.new ≡ source.old }
 {
     if let Some(command) = work_asked(words) {
-        return tell_work(alloc, command, sink);
+        return write_work(alloc, command, sink);
     }
     if !asks_for_source(words) {
         return refuse_words(sink);

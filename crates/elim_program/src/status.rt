@@ -43,7 +43,7 @@ impl From<AllocError> for Status {
     }
 }
 
-/// Of the calls that stop a run, those that print have want of memory alone.
+/// A call that prints stops for want of memory alone.
 impl From<Stop> for Status {
     ghost use Rattle.std.specs.Prelude.{◌≡◌};
 

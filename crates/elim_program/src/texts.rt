@@ -8,6 +8,9 @@ use core_terms::Items;
 use std::alloc::Global;
 use surface_syntax::{Decl, parse, tokens};
 
+/// The most bytes of a text.
+pub(crate) const LIMIT: u32 = 1_048_576;
+
 fn written(alloc: Global, bytes: &[u8]) -> Result<Items<Decl>, TextStop>
     requires { length bytes.now ≤ limit }
     ensures { Says bytes.now result }

@@ -24,8 +24,8 @@ fn is_plain(kind: TokenKind) -> bool
     matches!(kind, TokenKind::Plain)
 }
 
-fn names_equal(bytes: &[u8], tokens: &[Token]) -> bool
-    ensures { result ≡ spec.names_equal bytes.now tokens.now }
+fn begins_decision(bytes: &[u8], tokens: &[Token]) -> bool
+    ensures { result ≡ spec.begins_decision bytes.now tokens.now }
 {
     match tokens {
         [name, mark, ..] => is_plain(name.kind) && is_spelled(b"=", bytes, mark),
@@ -33,8 +33,8 @@ fn names_equal(bytes: &[u8], tokens: &[Token]) -> bool
     }
 }
 
-fn goes_on(bytes: &[u8], tokens: &[Token]) -> bool
-    ensures { result ≡ spec.goes_on bytes.now tokens.now }
+fn begins_next_family(bytes: &[u8], tokens: &[Token]) -> bool
+    ensures { result ≡ spec.begins_next_family bytes.now tokens.now }
 {
     match tokens {
         [word, ..] => is_spelled(b"with", bytes, word),
@@ -59,9 +59,9 @@ fn family_at(bytes: &[u8], family: Option<u32>, token: &Token) -> Option<u32>
 fn shown_unbuilt(bytes: &[u8], family: Option<u32>, token: &Token, tokens: &[Token]) -> Option<u32>
     ensures { result ≡ spec.shown_unbuilt bytes.now family token.now tokens.now }
 {
-    if is_spelled(b"def", bytes, token) && names_equal(bytes, tokens) {
+    if is_spelled(b"def", bytes, token) && begins_decision(bytes, tokens) {
         Some(token.start)
-    } else if is_spelled(b"}", bytes, token) && goes_on(bytes, tokens) {
+    } else if is_spelled(b"}", bytes, token) && begins_next_family(bytes, tokens) {
         family
     } else {
         None

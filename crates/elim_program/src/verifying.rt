@@ -12,13 +12,13 @@ ghost use Rattle.core_text.specs.EntryReading.{IsUnforeseen};
 ghost use Rattle.elab_session.specs.Entering.{enter_of};
 ghost use Rattle.elim_program.specs.Blocks.{Makes};
 ghost use Rattle.elim_program.specs.Outputs as outputs;
-ghost use Rattle.elim_program.specs.Runs.{Follows, Told, Wrote};
+ghost use Rattle.elim_program.specs.Runs.{Follows, Written, Wrote};
 ghost use Rattle.elim_program.specs.Texts.{limit, limited};
 ghost use Rattle.elim_program.specs.Verifies as spec;
 ghost use Rattle.elim_program.specs.Words.{verify_asked};
 
 use crate::block::{refusal_block, verified_block};
-use crate::running::{head, send, tell_stop};
+use crate::running::{head, send, write_stop_line};
 use crate::text_stop::{is_memory, unread};
 use crate::{Block, Command, Status, TextStop};
 use core_sig::{Entry, Signature};
@@ -55,7 +55,7 @@ fn enter(alloc: Global, session: &mut Session, name: &Name, entry: Entry) -> Res
     requires kinds { HasEntryKinds (length session.old.signature.entries) entry }
     requires scoped { IsReadEntry session.old.signature (entry_shown (length session.old.signature.entries) (entry_of entry)) }
     ensures made { Makes result (spec.entry_block name.now (enter_of session.old.signature session.old.fuel (entry_of entry))) }
-    ensures after { OnOk result (session.new.signature ≡ spec.behind session.old.signature (enter_of session.old.signature session.old.fuel (entry_of entry))) }
+    ensures after { OnOk result (session.new.signature ≡ spec.after_entry session.old.signature (enter_of session.old.signature session.old.fuel (entry_of entry))) }
     ensures fuel { session.new.fuel ≡ session.old.fuel }
 {
     match session.enter(entry) {
@@ -67,7 +67,7 @@ fn enter(alloc: Global, session: &mut Session, name: &Name, entry: Entry) -> Res
 
 /// Adds an entry to the session, writes its line, and answers whether that refuses it.
 #[tactic(auto, using(crate::proofs::Entries::read_as_entered))]
-fn tell_entry<K: Sink>(
+fn write_entry_line<K: Sink>(
     alloc: Global,
     session: &mut Session,
     entry: Entry,
@@ -75,9 +75,9 @@ fn tell_entry<K: Sink>(
 ) -> Result<bool, Status>
     requires kinds { HasEntryKinds (length session.old.signature.entries) entry }
     requires scoped { IsReadEntry session.old.signature (entry_shown (length session.old.signature.entries) (entry_of entry)) }
-    ensures told { (text : List ℕ) × Appends (K.written sink.old) (K.written sink.new) text
-        × Told result (spec.read_block session.old.signature session.old.fuel (entry_shown (length session.old.signature.entries) (entry_of entry))) text }
-    ensures after { OnOk result (session.new.signature ≡ spec.behind session.old.signature (spec.enter_read session.old.signature session.old.fuel (entry_shown (length session.old.signature.entries) (entry_of entry)))) }
+    ensures written { (text : List ℕ) × Appends (K.written sink.old) (K.written sink.new) text
+        × Written result (spec.read_block session.old.signature session.old.fuel (entry_shown (length session.old.signature.entries) (entry_of entry))) text }
+    ensures after { OnOk result (session.new.signature ≡ spec.after_entry session.old.signature (spec.enter_read session.old.signature session.old.fuel (entry_shown (length session.old.signature.entries) (entry_of entry)))) }
     ensures fuel { session.new.fuel ≡ session.old.fuel }
     ensures fault { result ≡ Err Status.WriteFault → Rose (K.faults sink.old) (K.faults sink.new) }
     ensures never_falls { K.faults sink.old ≤ K.faults sink.new }
@@ -95,9 +95,9 @@ fn tell_entry<K: Sink>(
 }
 
 /// Writes the line of core text that is not read.
-fn tell_unread<K: Sink>(alloc: Global, stop: CoreTextStop, sink: &mut K) -> Result<bool, Status>
-    ensures told { (meant : outputs.Block) → Unless (IsUnforeseen stop) (spec.unread_block stop ≡ meant)
-        → (text : List ℕ) × Appends (K.written sink.old) (K.written sink.new) text × Told result meant text }
+fn write_unread<K: Sink>(alloc: Global, stop: CoreTextStop, sink: &mut K) -> Result<bool, Status>
+    ensures written { (meant : outputs.Block) → Unless (IsUnforeseen stop) (spec.unread_block stop ≡ meant)
+        → (text : List ℕ) × Appends (K.written sink.old) (K.written sink.new) text × Written result meant text }
     ensures fault { result ≡ Err Status.WriteFault → Rose (K.faults sink.old) (K.faults sink.new) }
     ensures never_falls { K.faults sink.old ≤ K.faults sink.new }
 {
@@ -105,12 +105,12 @@ fn tell_unread<K: Sink>(alloc: Global, stop: CoreTextStop, sink: &mut K) -> Resu
     if is_memory(stop) {
         return Err(Status::NoMemory);
     }
-    tell_stop(alloc, stop, sink)
+    write_stop_line(alloc, stop, sink)
 }
 
-/// Enters the entries that stand from an offset on, one by one up to the first that is refused, and writes the line of each.
+/// Enters the entries from an offset on, one by one up to the first that is refused, and writes the line of each.
 /// The answer is whether the last line refuses.
-fn tell_entries<K: Sink>(
+fn write_entry_lines<K: Sink>(
     alloc: Global,
     session: &mut Session,
     text: &[u8],
@@ -118,8 +118,8 @@ fn tell_entries<K: Sink>(
     sink: &mut K,
 ) -> Result<bool, Status>
     requires { start ≤ length text.now }
-    ensures told { (told : List ℕ) × Appends (K.written sink.old) (K.written sink.new) told
-        × Told result (spec.entries text.now session.old.fuel (suc (length text.now)) session.old.signature start) told }
+    ensures written { (written : List ℕ) × Appends (K.written sink.old) (K.written sink.new) written
+        × Written result (spec.entries text.now session.old.fuel (suc (length text.now)) session.old.signature start) written }
     ensures fault { result ≡ Err Status.WriteFault → Rose (K.faults sink.old) (K.faults sink.new) }
 {
     let mut from = start;
@@ -127,9 +127,9 @@ fn tell_entries<K: Sink>(
         let (entry, end) = match read_entry(alloc, session.signature(), text, from) {
             Ok(Some(read)) => read,
             Ok(None) => return Ok(false),
-            Err(stop) => return tell_unread(alloc, stop, sink),
+            Err(stop) => return write_unread(alloc, stop, sink),
         };
-        let refused = match tell_entry(alloc, session, entry, sink) {
+        let refused = match write_entry_line(alloc, session, entry, sink) {
             Ok(refused) => refused,
             Err(status) => return Err(status),
         };
@@ -141,14 +141,14 @@ fn tell_entries<K: Sink>(
 }
 
 /// Writes the lines of a core file. The answer is whether the last line refuses.
-fn tell_file<K: Sink>(
+fn write_file<K: Sink>(
     alloc: Global,
     command: Command,
     text: &[u8],
     sink: &mut K,
 ) -> Result<bool, Status>
-    ensures told { (told : List ℕ) × Appends (K.written sink.old) (K.written sink.new) told
-        × Told result (spec.file_block command (Some text.now)) told }
+    ensures written { (written : List ℕ) × Appends (K.written sink.old) (K.written sink.new) written
+        × Written result (spec.file_block command (Some text.now)) written }
     ensures fault { result ≡ Err Status.WriteFault → Rose (K.faults sink.old) (K.faults sink.new) }
 {
     match read_head(text, command.k) {
@@ -157,31 +157,36 @@ fn tell_file<K: Sink>(
                 Ok(session) => session,
                 Err(_) => return Err(Status::NoMemory),
             };
-            tell_entries(alloc, &mut session, text, start, sink)
+            write_entry_lines(alloc, &mut session, text, start, sink)
         }
-        Err(stop) => tell_unread(alloc, stop, sink),
+        Err(stop) => write_unread(alloc, stop, sink),
     }
 }
 
 /// The same of a text that may be too long.
-fn tell_text<K: Sink>(
+fn write_whole_text<K: Sink>(
     alloc: Global,
     command: Command,
     text: &Option<Items<u8>>,
     sink: &mut K,
 ) -> Result<bool, Status>
-    ensures told { (told : List ℕ) × Appends (K.written sink.old) (K.written sink.new) told
-        × Told result (spec.file_block command text.now) told }
+    ensures written { (written : List ℕ) × Appends (K.written sink.old) (K.written sink.new) written
+        × Written result (spec.file_block command text.now) written }
     ensures fault { result ≡ Err Status.WriteFault → Rose (K.faults sink.old) (K.faults sink.new) }
 {
     match text {
-        Some(bytes) => tell_file(alloc, command, bytes.as_slice(), sink),
-        None => tell_stop(alloc, TextStop::TooLong, sink),
+        Some(bytes) => write_file(alloc, command, bytes.as_slice(), sink),
+        None => write_stop_line(alloc, TextStop::TooLong, sink),
     }
 }
 
 /// Writes the head lines and the lines of a core file.
-fn tell<K: Sink>(alloc: Global, command: Command, text: &Option<Items<u8>>, sink: &mut K) -> Status
+fn write_output<K: Sink>(
+    alloc: Global,
+    command: Command,
+    text: &Option<Items<u8>>,
+    sink: &mut K,
+) -> Status
     ensures follows { Follows (outputs.compiled command.k (spec.file_block command text.now)) (K.written sink.old) (K.written sink.new) result }
     ensures fault { result ≡ Status.WriteFault → Rose (K.faults sink.old) (K.faults sink.new) }
     ensures read { result ≢ Status.ReadFault }
@@ -189,7 +194,7 @@ fn tell<K: Sink>(alloc: Global, command: Command, text: &Option<Items<u8>>, sink
     if let Err(status) = send(sink, head(command.k)) {
         return status;
     }
-    match tell_text(alloc, command, text, sink) {
+    match write_whole_text(alloc, command, text, sink) {
         Ok(true) => Status::Refused,
         Ok(false) => Status::Done,
         Err(status) => status,
@@ -208,5 +213,5 @@ pub(crate) fn verify<K: Sink>(
     ensures fault { result ≡ Status.WriteFault → Rose (K.faults sink.old) (K.faults sink.new) }
     ensures read { result ≢ Status.ReadFault }
 {
-    tell(alloc, command, text, sink)
+    write_output(alloc, command, text, sink)
 }

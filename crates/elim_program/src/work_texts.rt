@@ -7,12 +7,10 @@ ghost use Rattle.elim_program.specs.declared.status.Status.TheVariants.{NoMemory
 
 use crate::counts::Counts;
 use crate::refusals::write_number;
+use crate::texts::LIMIT;
 use crate::{Block, Status};
 use core_terms::Items;
 use std::alloc::{AllocError, Global};
-
-/// The most bytes of a text.
-const LIMIT: usize = 1_048_576;
 
 const TEMPLATE: &[u8] =
     b"data T# : Type 0 { a# : T# ; b# : T# -> T# ; c# : T# -> T# -> T# }\nfun f# : T# -> T# -> T# { f# a# y = y ; f# (b# x) y = b# (f# x y) ;\n  f# (c# u v) y = c# (f# u y) (f# v y) }\n";
@@ -54,7 +52,7 @@ fn write_text(out: &mut Vec<u8>, from: u64, count: u64) -> Result<(), AllocError
     write_text(out, from + 1, count - 1)
 }
 
-/// The text, or None where it is longer than texts that are read.
+/// The text, or None where it is longer than a text may be.
 pub(crate) fn work_text(alloc: Global, count: u64) -> Result<Option<Items<u8>>, Status>
     requires { count ≤ 200 }
     ensures ok { IfOk result (λ text. text ≡ limited (spec.work_text count)) }
@@ -63,7 +61,7 @@ pub(crate) fn work_text(alloc: Global, count: u64) -> Result<Option<Items<u8>>, 
 {
     let mut text = Vec::new(alloc);
     write_text(&mut text, 0, count)?;
-    if text.len() > LIMIT {
+    if text.len() > LIMIT as usize {
         Ok(None)
     } else {
         Ok(Some(Items::from_vec(text)))

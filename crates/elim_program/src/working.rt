@@ -3,7 +3,7 @@ ghost use Rattle.std.specs.Io.KnownBytes.{Appends};
 ghost use Rattle.core_terms.specs.Count.{Rose};
 ghost use Rattle.elim_program.specs.Blocks.{Makes};
 ghost use Rattle.elim_program.specs.Counting.{Counted};
-ghost use Rattle.elim_program.specs.Runs.{Follows, Told, Wrote};
+ghost use Rattle.elim_program.specs.Runs.{Follows, Written, Wrote};
 ghost use Rattle.elim_program.specs.Texts.{answer_of, limit, limited};
 ghost use Rattle.elim_program.specs.Words.{work_asked};
 ghost use Rattle.elim_program.specs.WorkTexts.{work_text};
@@ -77,14 +77,14 @@ fn answer_block(
 }
 
 /// Makes the lines of what a text gives, and writes them. The answer is whether the last line refuses.
-fn tell_answer<K: Sink>(
+fn write_answer<K: Sink>(
     alloc: Global,
     work: Work,
     answer: Result<Items<Decl>, TextStop>,
     sink: &mut K,
 ) -> Result<bool, Status>
-    ensures told { (text : List ℕ) × Appends (K.written sink.old) (K.written sink.new) text
-        × Told result (spec.work_block work (answer_of answer)) text }
+    ensures written { (text : List ℕ) × Appends (K.written sink.old) (K.written sink.new) text
+        × Written result (spec.work_block work (answer_of answer)) text }
     ensures fault { result ≡ Err Status.WriteFault → Rose (K.faults sink.old) (K.faults sink.new) }
     ensures never_falls { K.faults sink.old ≤ K.faults sink.new }
 {
@@ -97,7 +97,7 @@ fn tell_answer<K: Sink>(
 }
 
 /// Writes the head lines and the lines of what a text gives.
-fn tell<K: Sink>(
+fn write_output<K: Sink>(
     alloc: Global,
     work: Work,
     answer: Result<Items<Decl>, TextStop>,
@@ -110,7 +110,7 @@ fn tell<K: Sink>(
     if let Err(status) = send(sink, head(false)) {
         return status;
     }
-    match tell_answer(alloc, work, answer, sink) {
+    match write_answer(alloc, work, answer, sink) {
         Ok(true) => Status::Refused,
         Ok(false) => Status::Done,
         Err(status) => status,
@@ -126,18 +126,18 @@ fn count_text<K: Sink>(alloc: Global, work: Work, text: &Option<Items<u8>>, sink
     ensures read { result ≢ Status.ReadFault }
 {
     match declarations(alloc, text) {
-        Ok(decls) => tell(alloc, work, Ok(decls), sink),
+        Ok(decls) => write_output(alloc, work, Ok(decls), sink),
         Err(stop) => {
             if is_memory(stop) {
                 return Status::NoMemory;
             }
-            tell(alloc, work, Err(stop), sink)
+            write_output(alloc, work, Err(stop), sink)
         }
     }
 }
 
 /// Makes the text of `work`, compiles it, and writes how many of its clauses have each line.
-pub(crate) fn tell_work<K: Sink>(alloc: Global, work: Work, sink: &mut K) -> Status
+pub(crate) fn write_work<K: Sink>(alloc: Global, work: Work, sink: &mut K) -> Status
     requires { work.count ≤ 200 }
     ensures wrote { (words : List (List ℕ)) (bytes : List ℕ) → work_asked words ≡ Some work → Wrote words bytes (K.written sink.old) (K.written sink.new) result }
     ensures fault { result ≡ Status.WriteFault → Rose (K.faults sink.old) (K.faults sink.new) }

@@ -112,7 +112,7 @@ pub(crate) fn absurd_given<'a>(alloc: Global, w: Walk) -> Result<Given<'a>, Stop
     })
 }
 
-/// What a clause gives that has a scrutinee, with what the clauses inside give: its helper stands before the helpers inside.
+/// What a clause gives that has a scrutinee, with what the clauses inside give: its helper comes before the helpers inside.
 pub(crate) fn with_given<'a>(
     alloc: Global,
     k: u32,

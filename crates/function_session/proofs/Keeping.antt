@@ -22,7 +22,7 @@ use Rattle.elab_session.specs.declared.refusal.Refusal as session
 use Rattle.elab_session.proofs.Resolved.{prelude-stays, together}
 use Rattle.elab_session.proofs.Written.{declare-extends, declare-ready}
 use Rattle.function_session.specs.Elaborating.{Elaborated, Refused, elaborate_function, enter_function, on_function, on_lines, with_lines, without_lines}
-use Rattle.function_session.specs.Laws.{ElaborateKeepsReady, GoesOn}
+use Rattle.function_session.specs.Laws.{ElaborateKeepsReady, KeepsReady}
 
 pub without_lines-has : (P : Elaborated → Type 0) (r : Result Declared session.Refusal) → IfOk r (λ d. P (with_lines d [])) → IfOk (without_lines r) P
 without_lines-has P (Ok d) h = h
@@ -72,18 +72,18 @@ longer-ready S T ready longer well = record {
 }
 
 function-ready : (S : Signature) (fuel : ℕ) (x : Word) (ty : surf.Surf) (clauses : surf.Clauses) → IsReady S
-    → IfOk (elaborate_function S fuel x ty clauses) (GoesOn S)
+    → IfOk (elaborate_function S fuel x ty clauses) (KeepsReady S)
 function-ready S fuel x ty clauses ready =
-    function-has (GoesOn S) S fuel x ty clauses (λ f is.
+    function-has (KeepsReady S) S fuel x ty clauses (λ f is.
     weaker (λ (l : Lines). IsPrefix S l.signature × IsWellFormed l.signature)
-    (λ (l : Lines). GoesOn S (with_lines (accepted_as x.text S l.signature) l.lines)) (function_of S f fuel).0
+    (λ (l : Lines). KeepsReady S (with_lines (accepted_as x.text S l.signature) l.lines)) (function_of S f fuel).0
     (λ l h. record { longer = h.0; ready = longer-ready S l.signature ready h.0 h.1 })
     (function-keeps S f fuel ready.well_formed ready.prelude))
 
-plain-ready : (S : Signature) (fuel : ℕ) (d : surf.Decl) → IsReady S → IfOk (without_lines (declare_of S fuel d)) (GoesOn S)
+plain-ready : (S : Signature) (fuel : ℕ) (d : surf.Decl) → IsReady S → IfOk (without_lines (declare_of S fuel d)) (KeepsReady S)
 plain-ready S fuel d ready =
-    without_lines-has (GoesOn S) (declare_of S fuel d)
-    (together (λ (a : Declared). IsPrefix S a.signature) (λ (a : Declared). IsReady a.signature) Any (λ (a : Declared). GoesOn S (with_lines a []))
+    without_lines-has (KeepsReady S) (declare_of S fuel d)
+    (together (λ (a : Declared). IsPrefix S a.signature) (λ (a : Declared). IsReady a.signature) Any (λ (a : Declared). KeepsReady S (with_lines a []))
     (declare_of S fuel d) (declare-extends S fuel d) (declare-ready S fuel d ready) (any (declare_of S fuel d))
     (λ a longer is u. record { longer = longer; ready = is }))
 

@@ -24,7 +24,8 @@ pub record HasConverting (S : Signature) (answer : Result Equation Stop) : Type 
   pub is : answer ≡ Ok given
   pub converts : Converts S given.left given.right
 
--- entry n of T is a definition of the closed equation type, where the terms of the equation are over the entries of S
+-- Entry n of T proves the equation: it is a definition, under the clause's name, of the equation's closed type. The field `entry`
+-- says so where the terms of the equation are over the entries of S; `given` and `is` hold in any case.
 pub record IsProofEntry (S : Signature) (plan : Plan) (c : Reference) (T : Signature) (n : ℕ) : Type 0 where
   pub given : Equation
   pub is : equation_of S plan c.part c.clause c.walk ≡ Ok given
@@ -55,7 +56,7 @@ Says S plan c T Absurd = some_absurd (pats_of (part_at plan c.part) c.clause) �
 abbrev pub line_owner : ClauseLine → Owner
 line_owner l = record { function = l.function; clause = l.clause }
 
--- The line of a clause of the plan, over signatures from S to T.
+-- The line of a clause of the plan. What it says holds over a signature `before` and one `after` it, both between S and T.
 pub record IsLineOf (S T : Signature) (plan : Plan) (c : Reference) (l : ClauseLine) : Type 0 where
   pub owner : line_owner l ≡ owner_of (part_named plan.name c.part) c.clause
   pub before : Signature

@@ -20,13 +20,13 @@ use Rattle.elab_session.specs.Sessions.{IsReady}
 use Rattle.function_session.specs.Elaborating.{Elaborated, declared_of, elaborate_of}
 use Rattle.function_session.specs.Evidence.{AreLinesOf, line_owner, references_from}
 
--- a signature that a session may have is one also after a declaration, and the earlier entries stay
-pub record GoesOn (S : Signature) (a : Elaborated) : Type 0 where
+-- After a declaration the signature is again one that a session may have, and the earlier entries stay.
+pub record KeepsReady (S : Signature) (a : Elaborated) : Type 0 where
   pub longer : IsPrefix S a.signature
   pub ready : IsReady a.signature
 
 abbrev pub ElaborateKeepsReady : Type 0
-ElaborateKeepsReady = (S : Signature) (fuel : ℕ) (d : surf.Decl) → IsReady S → IfOk (elaborate_of S fuel d) (GoesOn S)
+ElaborateKeepsReady = (S : Signature) (fuel : ℕ) (d : surf.Decl) → IsReady S → IfOk (elaborate_of S fuel d) (KeepsReady S)
 
 -- ---- the clauses of a function
 

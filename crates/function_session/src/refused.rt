@@ -12,8 +12,8 @@ use std::alloc::AllocError;
 
 /// Why a declaration is refused.
 ///
-/// `Declaration` has what a definition or a family may be refused for too: names, units, heights and memory are its alone.
-/// `Function` has why a function by clauses is refused, and never a `Stop`.
+/// `Declaration` is a reason for which definitions and families are refused too; names, units, heights and memory are always one
+/// of these. `Function` is a reason of functions by clauses alone, and never a `Stop`.
 #[derive(Debug, Drop)]
 pub enum Refused {
     Declaration(elab_session::Refusal),

@@ -27,8 +27,8 @@ abbrev pub is_function : (base : ℕ) → Term → Bool
 is_function base (Const c) = c == base
 is_function base _ = false
 
--- A call of the function becomes a path at its arguments at the other positions: what stands at the fixed positions, at the indices and at
--- the position of recursion is dropped. No call stands in such an argument.
+-- A call of the function becomes a path at its arguments at the other positions: the arguments at the fixed positions, at the indices and at
+-- the position of recursion are dropped. No call is in such an argument.
 abbrev pub DropsNoCall : (base : ℕ) (dropped : List ℕ) → Term → Type 0
 DropsNoCall base dropped (Pi a b) = DropsNoCall base dropped a × DropsNoCall base dropped b
 DropsNoCall base dropped (Lam a b) = DropsNoCall base dropped a × DropsNoCall base dropped b

@@ -16,11 +16,11 @@ use Rattle.elim_program.specs.declared.status.Status.TheVariants as status
 use Rattle.elim_program.specs.ClauseTexts.{clause_lines}
 use Rattle.elim_program.specs.DefinedOutputs.{refused_words, compiles, verifies, works}
 use Rattle.elim_program.specs.FunctionRefusals as function
-use Rattle.elim_program.specs.Outputs.{Block, block, lines_behind, accepted_line, declared_name, refused_lines, declared_block, after, followed, declarations, text_block, head_lines, compiled}
+use Rattle.elim_program.specs.declared.counts.Counts.{Counts}
+use Rattle.elim_program.specs.Outputs.{Block, block, lines_after, accepted_line, declared_name, refused_lines, declared_block, after, followed, declarations, text_block, head_lines, compiled}
 use Rattle.elim_program.specs.Refusals.{stop_text, refusal_line, refusal_text}
 use Rattle.elim_program.specs.Texts.{limited}
-use Rattle.elim_program.specs.Verifies.{read_name, enter_read, verified_line, entry_block, read_block, behind, unread, next_block, entries, behind_head, file_block}
-use Rattle.elim_program.specs.WorkLaws.{Tally}
+use Rattle.elim_program.specs.Verifies.{read_name, enter_read, verified_line, entry_block, read_block, after_entry, unread, next_block, entries, after_head, file_block}
 use Rattle.elim_program.specs.WorkTexts.{summary_line}
 use Rattle.elim_program.specs.Works.{none_counted, on_worked, with_accepted, work_block, worked, worked_block}
 use Rattle.program_laws.specs.LastLines.{begins, last_line, status_by}
@@ -109,7 +109,7 @@ heads-told false = record { front = codes "elim 1" ∷ []; line = codes "prelude
 declared-told : (S : Signature) (d : Decl) (r : Result Elaborated Refused) → IsToldBy (declared_block S d r)
 unfolding IsToldBy
 declared-told S d (Ok a) =
-    inr (after-others (lines_behind S a.signature) (clause_lines a.signature a.lines ++ accepted_line a.accepted.name ∷ []) false
+    inr (after-others (lines_after S a.signature) (clause_lines a.signature a.lines ++ accepted_line a.accepted.name ∷ []) false
     (after-others (clause_lines a.signature a.lines) (accepted_line a.accepted.name ∷ []) false (one (accepted_line a.accepted.name) false (accepted-told a.accepted.name))))
 declared-told S d (Err e) = inr (refused-told (declared_name d) e)
 
@@ -130,7 +130,7 @@ next-told : (fuel : ℕ) (S : Signature) (others : Signature → ℕ → Block) 
 unfolding IsToldBy
 next-told fuel S others (Ok None) h = inl (refl, refl)
 next-told fuel S others (Ok (Some p)) h =
-    followed-told (read_block S fuel p.0) (others (behind S (enter_read S fuel p.0)) p.1) (entry-told (read_name S p.0) (enter_read S fuel p.0)) (h (behind S (enter_read S fuel p.0)) p.1)
+    followed-told (read_block S fuel p.0) (others (after_entry S (enter_read S fuel p.0)) p.1) (entry-told (read_name S p.0) (enter_read S fuel p.0)) (h (after_entry S (enter_read S fuel p.0)) p.1)
 next-told fuel S others (Err e) h = inr (stop-told (stop_text (unread e)))
 
 entries-told : (text : List ℕ) (fuel most : ℕ) (S : Signature) (from : ℕ) → IsToldBy (entries text fuel most S from)
@@ -139,7 +139,7 @@ entries-told text fuel zero S from = inl (refl, refl)
 entries-told text fuel (suc most) S from =
     next-told fuel S (entries text fuel most) (entry_from S text from) (λ T to. entries-told text fuel most T to)
 
-head-told : (fuel : ℕ) (text : List ℕ) (r : Result (Bool × ℕ) CoreTextStop) → IsToldBy (behind_head fuel text r)
+head-told : (fuel : ℕ) (text : List ℕ) (r : Result (Bool × ℕ) CoreTextStop) → IsToldBy (after_head fuel text r)
 unfolding IsToldBy
 head-told fuel text (Ok p) = entries-told text fuel (suc (length text)) (prelude p.0) p.1
 head-told fuel text (Err e) = inr (stop-told (stop_text (unread e)))
@@ -148,11 +148,11 @@ refused-whole : (text : List ℕ) → IsToldBy (block ((codes "# refused " ++ te
 unfolding IsToldBy
 refused-whole text = inr (stop-told text)
 
-worked-told : (n fuel : ℕ) (S : Signature) (ds : List Decl) (c : Tally) → Ends (worked_block n (worked fuel S ds c)).lines (worked_block n (worked fuel S ds c)).refused
+worked-told : (n fuel : ℕ) (S : Signature) (ds : List Decl) (c : Counts) → Ends (worked_block n (worked fuel S ds c)).lines (worked_block n (worked fuel S ds c)).refused
 worked-told n fuel S [] c = one (summary_line n c) false (refl, refl)
 worked-told n fuel S (d ∷ ds) c = by (λ T more. worked-told n fuel T ds more) (elaborate_of S fuel d)
   where
-    by : ((T : Signature) (more : Tally) → Ends (worked_block n (worked fuel T ds more)).lines (worked_block n (worked fuel T ds more)).refused) → (r : Result Elaborated Refused)
+    by : ((T : Signature) (more : Counts) → Ends (worked_block n (worked fuel T ds more)).lines (worked_block n (worked fuel T ds more)).refused) → (r : Result Elaborated Refused)
         → Ends (worked_block n (on_worked d r (λ a. worked fuel a.signature ds (with_accepted c a)))).lines (worked_block n (on_worked d r (λ a. worked fuel a.signature ds (with_accepted c a)))).refused
     by rec (Ok a) = rec a.signature (with_accepted c a)
     by rec (Err e) = refused-told (declared_name d) e

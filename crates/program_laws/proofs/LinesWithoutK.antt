@@ -7,7 +7,7 @@ use Rattle.theory.specs.Signatures.{Entry, FamilyOf, EliminatorAt, AxiomKAt, Def
 use Rattle.theory.proofs.Widening.{prefix_keeps}
 use Rattle.core_text.specs.EntryText.{entry_text}
 use Rattle.elim_program.specs.Headline.{is_core, core_lines, Shows, none, more, IsShown}
-use Rattle.elim_program.specs.Outputs.{line_of, entry_lines, lines_behind, head_lines}
+use Rattle.elim_program.specs.Outputs.{line_of, entry_lines, lines_after, head_lines}
 use Rattle.program_laws.specs.Laws.{WithoutK, VerifiedWithoutK}
 use Rattle.program_laws.specs.WithoutK.{LacksK, HasNoK, IsOtherLine, AreWithoutK}
 use Rattle.program_laws.proofs.EntriesWithoutK.{well_formed_without_k}
@@ -33,7 +33,7 @@ no-k-before S T longer h n e at = h n e ((prefix_keeps longer).entry n e at)
 shown-other : {P S : Signature} {lines : List (List ℕ)} → Shows P S lines → HasNoK S → All IsOtherLine lines
 shown-other none h = All-nil IsOtherLine
 shown-other (more S T lines shown longer) h =
-    All-append IsOtherLine lines (lines_behind S T) (shown-other shown (no-k-before S T longer h))
+    All-append IsOtherLine lines (lines_after S T) (shown-other shown (no-k-before S T longer h))
     (entries-other T h (length S.entries) (length T.entries - length S.entries))
 
 -- what is shown has K where the signature before it has it

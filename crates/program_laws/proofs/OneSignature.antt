@@ -33,9 +33,9 @@ first-in : (xs ys : List (List ℕ)) → AreInLine (xs ++ ys) → AreInLine xs
 first-in [] ys h = tt
 first-in (x ∷ xs) ys h = (h.0, first-in xs ys h.1)
 
-behind-heads : (k : Bool) (lines : List (List ℕ)) → AreInLine (head_lines k ++ lines) → AreInLine lines
-behind-heads true lines h = h.1.1
-behind-heads false lines h = h.1.1
+after-heads : (k : Bool) (lines : List (List ℕ)) → AreInLine (head_lines k ++ lines) → AreInLine lines
+after-heads true lines h = h.1.1
+after-heads false lines h = h.1.1
 
 begun : {P S : Signature} {lines : List (List ℕ)} → Shows P S lines → IsPrefix P S
 begun {P} none = prefix_reflexive P
@@ -48,4 +48,4 @@ from_laws back follow passed ends words bytes text above below name whole shown 
     let in_line : AreInLine above = first-in above below (subst AreInLine whole (lines-in text)) in
     subst (λ ls. IsCoreFile k (text_of ls) W) (sym shown.heads)
     (core-file back follow passed ends W shown.whole.well_formed (in-turn W shown.whole.well_formed writable) k (shown-k shown.shown) (begun shown.shown) shown.lines
-    (behind-heads k shown.lines (subst AreInLine shown.heads in_line)) shown.shown)
+    (after-heads k shown.lines (subst AreInLine shown.heads in_line)) shown.shown)

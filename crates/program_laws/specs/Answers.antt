@@ -22,15 +22,14 @@ pub record IsRead (bytes : List ℕ) (decls : List Decl) : Type 0 where
   pub built : unbuilt bytes tokens ≡ None
   pub file : grammar.File grammar.limit (lexemes_of bytes tokens) decls
 
--- the tokens before the offset begin a text of the language, and none goes on with the next one; nothing stands inside 2,000
--- others
+-- the tokens before the offset begin a text of the language, and none goes on with the next one; nothing is inside 2,000 others
 pub record IsWrongAt (bytes : List ℕ) (tokens : List Token) (offset : ℕ) : Type 0 where
   pub left : ℕ
   pub wrong : GoesWrong (lexemes_of bytes tokens) left
   pub flat : NotNested (lexemes_of bytes tokens)
   pub place : offset ≡ offset_of bytes tokens left
 
--- at the offset begins the first that stands inside 2,000 others
+-- at the offset begins the first that is inside 2,000 others
 pub record IsNestedAt (bytes : List ℕ) (tokens : List Token) (offset : ℕ) : Type 0 where
   pub left : ℕ
   pub nested : IsNested (lexemes_of bytes tokens) left

@@ -5,7 +5,7 @@ use Rattle.theory.specs.Signatures.{Entry, FamilyOf, EliminatorAt, AxiomKAt, Def
 use Rattle.core_text.specs.EntryText.{type_shown, constructor_type_shown}
 use Rattle.program_laws.specs.LastLines.{begins}
 
--- entry number n is no instance of K, and no symbol of K stands in the terms that its line shows
+-- entry number n is no instance of K, and no symbol of K is in the terms that its line shows
 abbrev pub LacksK : ℕ → Entry → Type 0
 LacksK n (FamilyOf f) =
     All LacksAxiomK f.parameters × LacksAxiomK (type_shown f) × All (λ c. LacksAxiomK (constructor_type_shown n f c)) f.constructors

@@ -31,7 +31,7 @@ pub fn verified_without_k()
     ensures { VerifiedWithoutK }
 {}
 
-/// What stands above a line that accepts a declaration is a core file of the signature that has it.
+/// The lines above one that accepts a declaration are a core file of the signature that has it.
 pub fn one_signature()
     ensures { OneSignature }
 {}

@@ -22,11 +22,11 @@ use Rattle.accepted_laws.specs.Checked.{LetsIn, Checked}
 use Rattle.accepted_laws.proofs.Families.{family-is}
 use Rattle.elim_program.specs.DefinedOutputs.{IsOutput, verifies}
 use Rattle.elim_program.specs.Outputs.{Block, block, compiled, followed}
-use Rattle.elim_program.specs.Verifies.{behind, behind_head, file_block, enter_read, entries, entry_block, next_block, read_name, verified_line}
+use Rattle.elim_program.specs.Verifies.{after_entry, after_head, file_block, enter_read, entries, entry_block, next_block, read_name, verified_line}
 use Rattle.elim_program.specs.VerifyHeadline.{Adds, family, eliminator, axiom_k, definition, Holds, head, entry}
 use Rattle.elim_program.specs.Texts.{limited}
 use Rattle.elim_program.specs.Words.{verify_asked}
-use Rattle.elim_program.proofs.Entries.{all_are_told}
+use Rattle.elim_program.proofs.Entries.{bound_is_enough}
 use Rattle.verified_laws.specs.Laws.{AcceptedIsVerified, CoreFileIsVerified, EachIsNamed, IsFileOf, OutputVerifies, signature_after}
 use Rattle.verified_laws.proofs.LetIn.{each-in, same-k}
 use Rattle.verified_laws.proofs.Texts.{text-checked}
@@ -142,18 +142,18 @@ module _ (fuel : ℕ) (W : Signature) (checked : Checked fuel (prelude W.has_k) 
             ap (λ n. entries text fuel n (prelude before.has_k) before.start) (more-names names (read_name S raw) most)
             ∙ before.told (suc most)
             ∙ ap (λ r. followed (block (map verified_line names) false) (next_block fuel S (entries text fuel most) r)) reads
-            ∙ ap (λ r. followed (block (map verified_line names) false) (followed (entry_block (read_name S raw) r) (entries text fuel most (behind S r) to))) is
+            ∙ ap (λ r. followed (block (map verified_line names) false) (followed (entry_block (read_name S raw) r) (entries text fuel most (after_entry S r) to))) is
             ∙ one-name names (read_name S raw) (entries text fuel most T to);
       }
 
   pub file-verified : (k : Bool) (text : List ℕ) (names : List (List ℕ)) → IsFileOf k text W names
-      → behind_head fuel text (head_of k text) ≡ block (map verified_line names) false
+      → after_head fuel text (head_of k text) ≡ block (map verified_line names) false
   file-verified k text names file =
       let all = all-told k text W file.offset names file.held (prefix_reflexive W) in
       let most = suc (length text) in
       let within : all.start ≤ length text = transport (λ r. IfOk r (IsWithin text)) all.at_head (head-within k text) in
-      ap (behind_head fuel text) all.at_head
-      ∙ all_are_told text fuel (prelude all.has_k) all.start most (length names + most) within (omega arith) (omega arith)
+      ap (after_head fuel text) all.at_head
+      ∙ bound_is_enough text fuel (prelude all.has_k) all.start most (length names + most) within (omega arith) (omega arith)
       ∙ all.told most
       ∙ ap (λ r. followed (block (map verified_line names) false) (next_block fuel W (entries text fuel (length text)) r)) file.ended
       ∙ ap (λ ls. block ls false) (append-nil (map verified_line names))
@@ -202,5 +202,5 @@ pub output-verifies : OutputVerifies
 output-verifies fuel k ds text names words accepted short =
     if-some (verify_asked words) _ (λ asked is same file.
     transport (λ b. IsOutput words text (compiled asked.k b))
-    (ap (file_block asked) (whole-text text short) ∙ ap (λ n. behind_head n text (head_of asked.k text)) same ∙ accepted-verified fuel k asked.k ds text names accepted file)
+    (ap (file_block asked) (whole-text text short) ∙ ap (λ n. after_head n text (head_of asked.k text)) same ∙ accepted-verified fuel k asked.k ds text names accepted file)
     (verifies asked is))

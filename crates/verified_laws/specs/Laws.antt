@@ -9,7 +9,7 @@ use Rattle.function_session.specs.Elaborating.{elaborate_of}
 use Rattle.accepted_laws.specs.Checked.{Checked}
 use Rattle.elim_program.specs.DefinedOutputs.{IsOutput}
 use Rattle.elim_program.specs.Outputs.{after, block, compiled, declarations}
-use Rattle.elim_program.specs.Verifies.{behind_head, verified_line}
+use Rattle.elim_program.specs.Verifies.{after_head, verified_line}
 use Rattle.elim_program.specs.VerifyHeadline.{Holds}
 use Rattle.elim_program.specs.Words.{verify_asked}
 
@@ -39,13 +39,13 @@ EachIsNamed =
 abbrev pub CoreFileIsVerified : Type 0
 CoreFileIsVerified =
     (fuel : ℕ) (k : Bool) (text : List ℕ) (W : Signature) (names : List (List ℕ)) → IsFileOf k text W names → Checked fuel (prelude W.has_k) W
-    → behind_head fuel text (head_of k text) ≡ block (map verified_line names) false
+    → after_head fuel text (head_of k text) ≡ block (map verified_line names) false
 
 -- A text is accepted whole. Each entry of a core file of the signature that it gives is verified with as much fuel.
 abbrev pub AcceptedIsVerified : Type 0
 AcceptedIsVerified =
     (fuel : ℕ) (k verify_k : Bool) (ds : List Decl) (text : List ℕ) (names : List (List ℕ)) → (declarations fuel (prelude k) ds).refused ≡ false
-    → IsFileOf verify_k text (signature_after fuel (prelude k) ds) names → behind_head fuel text (head_of verify_k text) ≡ block (map verified_line names) false
+    → IsFileOf verify_k text (signature_after fuel (prelude k) ds) names → after_head fuel text (head_of verify_k text) ≡ block (map verified_line names) false
 
 -- The output that is defined where such a file is to be verified: it refuses nothing, and after its head lines has one line for each entry.
 abbrev pub OutputVerifies : Type 0

@@ -7,11 +7,11 @@ use Rattle.elim_program.proofs.running.run.Goals as goal
 
 pub returns-in-Some-clause-runs : goal.returns-in-Some-clause-runs
 returns-in-Some-clause-runs g c =
-    unread_runs _ _ _ _ _ (λ bytes. c.tell_work.ensures.wrote (map string_bytes c.args.words.now) bytes (sym c.work_asked.ensures.asked ∙ c.in-Some.is))
+    unread_runs _ _ _ _ _ (λ bytes. c.write_work.ensures.wrote (map string_bytes c.args.words.now) bytes (sym c.work_asked.ensures.asked ∙ c.in-Some.is))
 
 pub returns-in-Some-clause-complete : goal.returns-in-Some-clause-complete
 returns-in-Some-clause-complete g c = λ source sink memory.
-    complete _ _ _ _ _ (returns-in-Some-clause-runs g c) c.tell_work.ensures.read (λ e. sink (c.tell_work.ensures.fault e)) memory
+    complete _ _ _ _ _ (returns-in-Some-clause-runs g c) c.write_work.ensures.read (λ e. sink (c.write_work.ensures.fault e)) memory
 
 pub returns-then-not-asks_for_source-clause-runs : goal.returns-then-not-asks_for_source-clause-runs
 returns-then-not-asks_for_source-clause-runs g c =
@@ -25,7 +25,7 @@ returns-then-not-asks_for_source-clause-complete g c = λ source sink memory.
 pub returns-in-Ok-clause-runs : goal.returns-in-Ok-clause-runs
 returns-in-Ok-clause-runs g c = record {
   bytes = c.in-Ok.ensures.bytes.0;
-  told = c.in-Ok.ensures.bytes.1;
+  written = c.in-Ok.ensures.bytes.1;
   wrote = c.answer.ensures.wrote _ c.in-Ok.ensures.bytes.2;
 }
 

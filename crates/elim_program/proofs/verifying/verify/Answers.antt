@@ -10,6 +10,6 @@ use Rattle.elim_program.proofs.verifying.verify.Goals as goal
 pub returns-clause-wrote : goal.returns-clause-wrote
 returns-clause-wrote g c = λ words bytes asks is.
     let before = g.K.Sink.written c.args.sink.now in
-    let after = g.K.Sink.written c.tell.new.sink in
-    follow words bytes before after c.tell.result (compiled c.args.command.k (file_block c.args.command (limited bytes))) (verifies c.args.command asks)
-    (subst (λ text. Follows (compiled c.args.command.k (file_block c.args.command text)) before after c.tell.result) is c.tell.ensures.follows)
+    let after = g.K.Sink.written c.write_output.new.sink in
+    follow words bytes before after c.write_output.result (compiled c.args.command.k (file_block c.args.command (limited bytes))) (verifies c.args.command asks)
+    (subst (λ text. Follows (compiled c.args.command.k (file_block c.args.command text)) before after c.write_output.result) is c.write_output.ensures.follows)

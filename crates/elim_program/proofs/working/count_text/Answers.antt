@@ -8,10 +8,10 @@ use Rattle.elim_program.proofs.working.count_text.Goals as goal
 
 pub returns-in-Ok-clause-wrote : goal.returns-in-Ok-clause-wrote
 returns-in-Ok-clause-wrote g c = λ words bytes asks is.
-    follow words bytes _ _ _ _ (works c.args.work (answer_of (Success c.in-Ok.decls)) asks (c.in-Ok.ensures (work_text c.args.work.count) is)) c.tell.ensures.follows
+    follow words bytes _ _ _ _ (works c.args.work (answer_of (Success c.in-Ok.decls)) asks (c.in-Ok.ensures (work_text c.args.work.count) is)) c.write_output.ensures.follows
 
 pub returns-else-is_memory-clause-wrote : goal.returns-else-is_memory-clause-wrote
 returns-else-is_memory-clause-wrote g c = λ words bytes asks is.
     follow words bytes _ _ _ _
     (works c.args.work (answer_of (Failure c.in-Err.stop)) asks
-    (c.in-Err.ensures (work_text c.args.work.count) is (not_memory c.in-Err.stop (sym c.is_memory.ensures ∙ c.if-is_memory.false)))) c.tell-in-Err.ensures.follows
+    (c.in-Err.ensures (work_text c.args.work.count) is (not_memory c.in-Err.stop (sym c.is_memory.ensures ∙ c.if-is_memory.false)))) c.write_output-in-Err.ensures.follows

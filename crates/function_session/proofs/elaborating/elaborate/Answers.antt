@@ -5,7 +5,7 @@ use Rattle.surface_syntax.specs.TreeMeanings.{decl_of}
 use Rattle.clause_reports.proofs.Keeping.{weaker}
 use Rattle.elab_session.specs.Sessions.{IsReady, Session}
 use Rattle.function_session.specs.Elaborating.{elaborate_of}
-use Rattle.function_session.specs.Laws.{GoesOn, IsAsWritten}
+use Rattle.function_session.specs.Laws.{KeepsReady, IsAsWritten}
 use Rattle.function_session.specs.Meanings.{elaborated_in}
 use Rattle.function_session.proofs.Answering.{says, stays}
 use Rattle.function_session.proofs.Keeping.{elaborate-ready}
@@ -15,14 +15,14 @@ use Rattle.function_session.proofs.elaborating.elaborate.Goals as goal
 pub invariant_of-session : goal.invariant_of-session
 invariant_of-session c =
     stays IsReady _ _ _ _ c.elaborate_over.ensures.answer c.elaborate_over.ensures.err
-    (weaker (GoesOn c.session.inside.sig) (λ a. IsReady a.signature) (elaborate_of c.session.inside.sig c.session.inside.fuel (decl_of c.args.d.now))
+    (weaker (KeepsReady c.session.inside.sig) (λ a. IsReady a.signature) (elaborate_of c.session.inside.sig c.session.inside.fuel (decl_of c.args.d.now))
     (λ a h. h.ready) (elaborate-ready c.session.inside.sig c.session.inside.fuel (decl_of c.args.d.now) c.session.invariant))
     c.session.invariant
 
 pub returns-clause-ready : goal.returns-clause-ready
 returns-clause-ready c =
     stays IsReady _ _ _ _ c.elaborate_over.ensures.answer c.elaborate_over.ensures.err
-    (weaker (GoesOn c.session.inside.sig) (λ a. IsReady a.signature) (elaborate_of c.session.inside.sig c.session.inside.fuel (decl_of c.args.d.now))
+    (weaker (KeepsReady c.session.inside.sig) (λ a. IsReady a.signature) (elaborate_of c.session.inside.sig c.session.inside.fuel (decl_of c.args.d.now))
     (λ a h. h.ready) (elaborate-ready c.session.inside.sig c.session.inside.fuel (decl_of c.args.d.now) c.session.invariant))
     c.session.invariant
 
@@ -30,7 +30,7 @@ pub returns-clause-longer : goal.returns-clause-longer
 returns-clause-longer c =
     transport (λ (s : Session). IsPrefix s.signature c.elaborate_over.new.sig) c.session.view_is
     (stays (IsPrefix c.session.inside.sig) _ _ _ _ c.elaborate_over.ensures.answer c.elaborate_over.ensures.err
-    (weaker (GoesOn c.session.inside.sig) (λ a. IsPrefix c.session.inside.sig a.signature) (elaborate_of c.session.inside.sig c.session.inside.fuel (decl_of c.args.d.now))
+    (weaker (KeepsReady c.session.inside.sig) (λ a. IsPrefix c.session.inside.sig a.signature) (elaborate_of c.session.inside.sig c.session.inside.fuel (decl_of c.args.d.now))
     (λ a h. h.longer) (elaborate-ready c.session.inside.sig c.session.inside.fuel (decl_of c.args.d.now) c.session.invariant))
     (prefix_reflexive c.session.inside.sig))
 

@@ -1,7 +1,7 @@
 use Rattle.std.proofs.Common.{◌≤◌, ◌-◌, length, suc}
 use Rattle.elim_program.specs.Verifies.{entries}
 use Rattle.elim_program.proofs.Entries.{IsGoing}
-use Rattle.elim_program.proofs.verifying.tell_entries.Given as goal
+use Rattle.elim_program.proofs.verifying.write_entry_lines.Given as goal
 
 abbrev pub invariant-entries : goal.invariant-entries
 invariant-entries g l = record {

@@ -4,10 +4,10 @@ use Rattle.core_text.specs.RawEntries.{entry_shown}
 use Rattle.elim_program.specs.Verifies.{read_block}
 use Rattle.elim_program.specs.declared.status.Status.TheVariants.{NoMemory}
 use Rattle.elim_program.proofs.Following.{no_block}
-use Rattle.elim_program.proofs.verifying.tell_entry.Goals as goal
+use Rattle.elim_program.proofs.verifying.write_entry_line.Goals as goal
 
-pub returns-in-Err-clause-told : goal.returns-in-Err-clause-told
-returns-in-Err-clause-told g c =
+pub returns-in-Err-clause-written : goal.returns-in-Err-clause-written
+returns-in-Err-clause-written g c =
     let h = c.in-Err.ensures.memory in
     let lost : c.in-Err.status ≡ NoMemory = cc in
     no_block _ c.in-Err.status (read_block c.args.session.now.signature c.args.session.now.fuel (entry_shown (length c.args.session.now.signature.entries) (entry_of c.args.entry))) lost

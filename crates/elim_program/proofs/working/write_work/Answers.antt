@@ -2,7 +2,7 @@ use Rattle.std.proofs.Common.{◌≡◌, inr}
 use Rattle.elim_program.specs.Runs.{nothing}
 use Rattle.elim_program.specs.declared.status.Status.TheVariants.{NoMemory}
 use Rattle.elim_program.proofs.Following.{appends-nothing}
-use Rattle.elim_program.proofs.working.tell_work.Goals as goal
+use Rattle.elim_program.proofs.working.write_work.Goals as goal
 
 pub returns-in-Ok-clause-wrote : goal.returns-in-Ok-clause-wrote
 returns-in-Ok-clause-wrote g c = λ words bytes asks. c.count_text.ensures.wrote words bytes asks c.in-Ok.ensures.ok
