@@ -1,4 +1,4 @@
--- Where a line says that a declaration is accepted, the lines above show it.
+-- Where a line says that a declaration is accepted, it is.
 use Rattle.std.proofs.Common.{◌≡◌, ℕ, false, List, [], ◌∷◌, ◌++◌, ◌-◌, ◌≢◌, length, map, codes, Some, Result, Ok, Err, refl, sym, ap, subst, ◌∙◌, arith, append_assoc, append-nil}
 use Rattle.theory.specs.Terms.{Term}
 use Rattle.theory.specs.Telescopes.{Telescope}
@@ -19,7 +19,8 @@ use Rattle.elim_program.specs.FunctionRefusals.{refusal_text, candidate_lines}
 use Rattle.elim_program.specs.declared.counts.Counts.{Counts}
 use Rattle.elim_program.specs.declared.words.Command.{Command}
 use Rattle.elim_program.specs.declared.words.Work.{Work}
-use Rattle.elim_program.specs.Headline.{core_lines, own_lines, Shows, none, more, IsShown}
+use Rattle.elim_program.specs.Acceptance.{Accepts, end, next, own_lines, IsAccepted}
+use Rattle.elim_program.specs.Headline.{core_lines, Shows, none, more}
 use Rattle.elim_program.specs.DefinedOutputs.{IsOutput, refused_words, compiles, verifies, works}
 use Rattle.elim_program.specs.Outputs.{Output, accepted_line, accepted_lines, lines_after, declared_name, declared_block, refused_lines, after, followed, declarations, text_block, head_lines}
 use Rattle.elim_program.specs.Refusals.{stop_line, refusal_line}
@@ -34,25 +35,30 @@ use Rattle.elim_program.proofs.FileLines.{accepts-none}
 record IsBefore (command : Command) (all ds : List surf.Decl) (earlier : List (List ℕ)) (S : Signature) : Type 0 where
   done : List surf.Decl
   parts : all ≡ done ++ ds
+  reached : Accepts command.fuel (prelude command.k) done S
   ready : IsReady S
   has_k : S.has_k ≡ command.k
   shown : Shows (prelude command.k) S (core_lines earlier)
 
--- a declaration of the text that is shown
+-- a declaration of the text that is accepted
 record IsFound (command : Command) (all : List surf.Decl) (lines : List (List ℕ)) (name : List ℕ) : Type 0 where
   front : List surf.Decl
   declaration : surf.Decl
   back : List surf.Decl
   in_text : all ≡ front ++ declaration ∷ back
   before : Signature
+  reached : Accepts command.fuel (prelude command.k) front before
   ready : IsReady before
   has_k : before.has_k ≡ command.k
   accepted : Elaborated
+  elaborated : elaborate_of before command.fuel declaration ≡ Ok accepted
   written : IsAsWritten before declaration accepted
   named : accepted.accepted.name ≡ name
+  longer : IsPrefix before accepted.signature
   whole : IsReady accepted.signature
   earlier : List (List ℕ)
   ends : lines ≡ earlier ++ own_lines before accepted
+  so_far : Shows (prelude command.k) before (core_lines earlier)
   shown : Shows (prelude command.k) accepted.signature (core_lines lines)
 
 -- ---- the lines of a declaration
@@ -109,11 +115,15 @@ own-other S a =
     (core-other (lines_after S a.signature) (entries-core a.signature (length S.entries) (length a.signature.entries - length S.entries)))
     (clauses-other a.signature a.lines)
 
+-- the core lines of entries with the lines of clauses
+pub entries-and-clauses-core : (S T : Signature) (clauses : List ClauseLine) → core_lines (lines_after S T ++ clause_lines T clauses) ≡ lines_after S T
+entries-and-clauses-core S T clauses =
+    core-lines-core (lines_after S T) (clause_lines T clauses) (entries-core T (length S.entries) (length T.entries - length S.entries))
+    ∙ ap (λ ls. lines_after S T ++ ls) (core-lines-notes (clause_lines T clauses) (clauses-notes T clauses))
+    ∙ append-nil (lines_after S T)
+
 pub own-core : (S : Signature) (a : Elaborated) → core_lines (own_lines S a) ≡ lines_after S a.signature
-own-core S a =
-    core-lines-core (lines_after S a.signature) (clause_lines a.signature a.lines) (entries-core a.signature (length S.entries) (length a.signature.entries - length S.entries))
-    ∙ ap (λ ls. lines_after S a.signature ++ ls) (core-lines-notes (clause_lines a.signature a.lines) (clauses-notes a.signature a.lines))
-    ∙ append-nil (lines_after S a.signature)
+own-core S a = entries-and-clauses-core S a.signature a.lines
 
 candidates-other : (e : function.Refusal) → AreOther (candidate_lines e)
 unfolding AreOther third
@@ -154,47 +164,60 @@ work-other w (Err e) = (third-other (stop_line e) (λ k. omega (arith, k)), tt)
 
 -- ---- declarations one by one
 
--- the lines so far, and those of the declaration, show the signature with it
-shown_with : (command : Command) (all ds : List surf.Decl) (earlier : List (List ℕ)) (S : Signature) (a : Elaborated) → IsBefore command all ds earlier S → IsPrefix S a.signature →
-    Shows (prelude command.k) a.signature (core_lines (earlier ++ own_lines S a))
-shown_with command all ds earlier S a b longer =
-    let P : List (List ℕ) → Type 0 = λ ls. Shows (prelude command.k) a.signature ls in
-    let core : core_lines (earlier ++ own_lines S a) ≡ core_lines earlier ++ lines_after S a.signature =
-    core-lines-append earlier (own_lines S a) ∙ ap (λ ls. core_lines earlier ++ ls) (own-core S a) in
-    subst P (sym core) (more S a.signature (core_lines earlier) b.shown longer)
+-- a declaration that is accepted after others
+accepts-more : (fuel : ℕ) {P S : Signature} {ds : List surf.Decl} (d : surf.Decl) (a : Elaborated) → Accepts fuel P ds S → elaborate_of S fuel d ≡ Ok a
+    → Accepts fuel P (ds ++ d ∷ []) a.signature
+accepts-more fuel d a (end S) is = next S a.signature d [] a is (end a.signature)
+accepts-more fuel d a (next P S first ds b same rest) is = next P a.signature first (ds ++ d ∷ []) b same (accepts-more fuel d a rest is)
+
+-- lines that show a signature, and those of the entries after it, show the one that has them
+pub shows-more : (P S T : Signature) (clauses : List ClauseLine) (earlier : List (List ℕ)) → Shows P S (core_lines earlier) → IsPrefix S T
+    → Shows P T (core_lines (earlier ++ lines_after S T ++ clause_lines T clauses))
+shows-more P S T clauses earlier shows longer =
+    let Q : List (List ℕ) → Type 0 = λ ls. Shows P T ls in
+    let core : core_lines (earlier ++ lines_after S T ++ clause_lines T clauses) ≡ core_lines earlier ++ lines_after S T =
+    core-lines-append earlier (lines_after S T ++ clause_lines T clauses) ∙ ap (λ ls. core_lines earlier ++ ls) (entries-and-clauses-core S T clauses) in
+    subst Q (sym core) (more S T (core_lines earlier) shows longer)
 
 -- what is known after a declaration that is accepted
 onward : (command : Command) (all : List surf.Decl) (d : surf.Decl) (ds : List surf.Decl) (earlier : List (List ℕ)) (S : Signature) (a : Elaborated) →
-    IsBefore command all (d ∷ ds) earlier S → KeepsReady S a → IsBefore command all ds ((earlier ++ own_lines S a) ++ accepted_line a.accepted.name ∷ []) a.signature
-onward command all d ds earlier S a b on =
+    IsBefore command all (d ∷ ds) earlier S → elaborate_of S command.fuel d ≡ Ok a → KeepsReady S a
+    → IsBefore command all ds ((earlier ++ own_lines S a) ++ accepted_line a.accepted.name ∷ []) a.signature
+onward command all d ds earlier S a b is on =
     let P : List (List ℕ) → Type 0 = λ ls. Shows (prelude command.k) a.signature ls in
     let core : core_lines ((earlier ++ own_lines S a) ++ accepted_line a.accepted.name ∷ []) ≡ core_lines (earlier ++ own_lines S a) =
     core-lines-append (earlier ++ own_lines S a) (accepted_line a.accepted.name ∷ []) ∙ append-nil (core_lines (earlier ++ own_lines S a)) in
     record {
       done = b.done ++ d ∷ [];
       parts = b.parts ∙ sym (append_assoc b.done (d ∷ []) ds);
+      reached = accepts-more command.fuel d a b.reached is;
       ready = on.ready;
       has_k = on.longer.has_k ∙ b.has_k;
-      shown = subst P (sym core) (shown_with command all (d ∷ ds) earlier S a b on.longer);
+      shown = subst P (sym core) (shows-more (prelude command.k) S a.signature a.lines earlier b.shown on.longer);
     }
 
 shown_here : (command : Command) (all : List surf.Decl) (d : surf.Decl) (ds : List surf.Decl) (earlier : List (List ℕ)) (S : Signature) (a : Elaborated) (name : List ℕ) →
-    IsBefore command all (d ∷ ds) earlier S → KeepsReady S a → IsAsWritten S d a → a.accepted.name ≡ name → IsFound command all (earlier ++ own_lines S a) name
-shown_here command all d ds earlier S a name b on written named = record {
+    IsBefore command all (d ∷ ds) earlier S → elaborate_of S command.fuel d ≡ Ok a → KeepsReady S a → IsAsWritten S d a → a.accepted.name ≡ name
+    → IsFound command all (earlier ++ own_lines S a) name
+shown_here command all d ds earlier S a name b is on written named = record {
   front = b.done;
   declaration = d;
   back = ds;
   in_text = b.parts;
   before = S;
+  reached = b.reached;
   ready = b.ready;
   has_k = b.has_k;
   accepted = a;
+  elaborated = is;
   written = written;
   named = named;
+  longer = on.longer;
   whole = on.ready;
   earlier = earlier;
+  so_far = b.shown;
   ends = refl;
-  shown = shown_with command all (d ∷ ds) earlier S a b on.longer;
+  shown = shows-more (prelude command.k) S a.signature a.lines earlier b.shown on.longer;
 }
 
 -- the lines of an accepted declaration and those that follow
@@ -225,18 +248,18 @@ found command all S (d ∷ ds) earlier above below name b e =
         which : KeepsReady S a → IsAsWritten S d a → Found (own_lines S a) (declarations command.fuel a.signature ds).lines above below a.accepted.name name → IsFound command all (earlier ++ above) name
         which on written (here f m r) =
             let P : List (List ℕ) → Type 0 = λ ls. IsFound command all (earlier ++ ls) name in
-            subst P (sym f) (shown_here command all d ds earlier S a name b on written m)
+            subst P (sym f) (shown_here command all d ds earlier S a name b er on written m)
         which on written (later_on later f r) =
             let P : List (List ℕ) → Type 0 = λ ls. IsFound command all ls name in
             let place : ((earlier ++ own_lines S a) ++ accepted_line a.accepted.name ∷ []) ++ later ≡ earlier ++ above =
             append_assoc (earlier ++ own_lines S a) (accepted_line a.accepted.name ∷ []) later ∙ append_assoc earlier (own_lines S a) (accepted_line a.accepted.name ∷ later)
             ∙ ap (λ ls. earlier ++ ls) (sym f) in
-            subst P place (rec a.signature later ((earlier ++ own_lines S a) ++ accepted_line a.accepted.name ∷ []) (onward command all d ds earlier S a b on) r)
+            subst P place (rec a.signature later ((earlier ++ own_lines S a) ++ accepted_line a.accepted.name ∷ []) (onward command all d ds earlier S a b er on) r)
 
--- what is found in a text is shown
-as_shown : (words : List (List ℕ)) (bytes : List ℕ) (command : Command) (decls : List surf.Decl) (lines : List (List ℕ)) (name : List ℕ) →
-    asked words ≡ Some command → Gives bytes (Ok decls) → IsFound command decls lines name → IsShown words bytes (head_lines command.k ++ lines) name
-as_shown words bytes command decls lines name asks gives f = record {
+-- what is found in a text is accepted
+as_accepted : (words : List (List ℕ)) (bytes : List ℕ) (command : Command) (decls : List surf.Decl) (lines : List (List ℕ)) (name : List ℕ) →
+    asked words ≡ Some command → Gives bytes (Ok decls) → IsFound command decls lines name → IsAccepted words bytes (head_lines command.k ++ lines) name
+as_accepted words bytes command decls lines name asks gives f = record {
   command = command;
   asked_for = asks;
   decls = decls;
@@ -246,40 +269,45 @@ as_shown words bytes command decls lines name asks gives f = record {
   back = f.back;
   in_text = f.in_text;
   before = f.before;
+  reached = f.reached;
   ready = f.ready;
   has_k = f.has_k;
   accepted = f.accepted;
+  elaborated = f.elaborated;
   written = f.written;
   named = f.named;
+  longer = f.longer;
   whole = f.whole;
   lines = lines;
   heads = refl;
   earlier = f.earlier;
   ends = f.ends;
+  so_far = f.so_far;
   shown = f.shown;
 }
 
-pub shown : (words : List (List ℕ)) (bytes : List ℕ) (out : Output) (above below : List (List ℕ)) (name : List ℕ) → IsOutput words bytes out → out.lines ≡ above ++ accepted_line name ∷ below →
-    IsShown words bytes above name
+pub accepted : (words : List (List ℕ)) (bytes : List ℕ) (out : Output) (above below : List (List ℕ)) (name : List ℕ) → IsOutput words bytes out → out.lines ≡ above ++ accepted_line name ∷ below →
+    IsAccepted words bytes above name
 unfolding third
-shown words bytes out above below name (refused_words asks nothing other) e = absurd (not_one (codes "# usage elim (compile [--k] | verify [--k] | work N) [--fuel N]") (accepted_line name) above below (λ k. omega (arith, k)) e)
-shown words bytes out above below name (compiles command answer asks gives) e =
+accepted words bytes out above below name (refused_words asks nothing other) e = absurd (not_one (codes "# usage elim (compile [--k] | verify [--k] | work N) [--fuel N]") (accepted_line name) above below (λ k. omega (arith, k)) e)
+accepted words bytes out above below name (compiles command answer asks gives) e =
     let b = after_heads command.k (text_block command answer).lines above below (accepted_line name) (λ k. omega (arith, k)) (λ k. omega (arith, k)) e in
-    let P : List (List ℕ) → Type 0 = λ ls. IsShown words bytes ls name in
+    let P : List (List ℕ) → Type 0 = λ ls. IsAccepted words bytes ls name in
     subst P (sym b.1) (go answer gives b.0 b.2)
   where
     go : (answer : Answer) → Gives bytes answer → (later : List (List ℕ)) → (text_block command answer).lines ≡ later ++ accepted_line name ∷ below
-        → IsShown words bytes (head_lines command.k ++ later) name
+        → IsAccepted words bytes (head_lines command.k ++ later) name
     go (Err stop) gives later e = absurd (not_one (stop_line stop) (accepted_line name) later below (λ k. omega (arith, k)) e)
     go (Ok decls) gives later e =
-        as_shown words bytes command decls later name asks gives (found command decls (prelude command.k) decls [] later below name (record {
+        as_accepted words bytes command decls later name asks gives (found command decls (prelude command.k) decls [] later below name (record {
           done = [];
           parts = refl;
+          reached = end (prelude command.k);
           ready = prelude-ready (prelude command.k) command.k refl;
           has_k = refl;
           shown = none;
         }) e)
-shown words bytes out above below name (verifies command asks) e = absurd (accepts-none command (limited bytes) above below name e)
-shown words bytes out above below name (works work answer asks gives) e =
+accepted words bytes out above below name (verifies command asks) e = absurd (accepts-none command (limited bytes) above below name e)
+accepted words bytes out above below name (works work answer asks gives) e =
     let b = after_heads false (work_block work answer).lines above below (accepted_line name) (λ k. omega (arith, k)) (λ k. omega (arith, k)) e in
     absurd (none_accepted (work_block work answer).lines b.0 below name (work-other work answer) b.2)

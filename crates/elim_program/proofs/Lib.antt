@@ -15,14 +15,16 @@ mod FunctionTexts
 mod FunctionWords
 mod GrammarInLine
 pub mod Lines
-mod OneOutput
+pub mod OneOutput
 pub mod OutputInLine
 mod QuietWalks
 mod ReadInLine
+pub mod Reading
 mod RefusalsInLine
 pub mod RefusedBlocks
 mod ReportsInLine
 mod SessionInLine
+pub mod Shown
 pub mod TextLines
 mod TokensInLine
 mod Verified

@@ -21,6 +21,7 @@ use Rattle.elim_program.specs.declared.counts.Counts.{Counts}
 use Rattle.elim_program.specs.declared.words.Command.{Command}
 use Rattle.elim_program.specs.declared.words.Work.{Work}
 use Rattle.elim_program.specs.ClauseTexts.{clause_lines}
+use Rattle.elim_program.specs.Acceptance.{Acceptance, SaysAccepted}
 use Rattle.elim_program.specs.Headline.{IsHeadline, Headline}
 use Rattle.elim_program.specs.Lines.{lines_of, text_of}
 use Rattle.elim_program.specs.DefinedOutputs.{IsOutput, refused_words, compiles, verifies, works}
@@ -33,7 +34,8 @@ use Rattle.elim_program.specs.Verifies.{file_block, verified_line}
 use Rattle.elim_program.specs.VerifyHeadline.{IsVerifyHeadline, VerifyHeadline}
 use Rattle.elim_program.specs.WorkTexts.{summary_line, work_text}
 use Rattle.elim_program.specs.Works.{none_counted, on_worked, with_accepted, work_block, worked, worked_block}
-use Rattle.elim_program.proofs.Accepted.{shown}
+use Rattle.elim_program.proofs.Accepted.{accepted}
+use Rattle.elim_program.proofs.Shown.{shown}
 use Rattle.elim_program.proofs.ElaboratedInLine.{ElaboratedIn, WrittenIn, refused-lines-in, elaborated-in}
 use Rattle.elim_program.proofs.FunctionTexts.{clauses-in}
 use Rattle.elim_program.proofs.GrammarInLine.{DeclInLine, file-in, lexemes-good}
@@ -144,12 +146,15 @@ output-in words bytes out (works work answer asks gives) =
     join (head_lines false) (work_block work answer).lines (heads-in false) (work-in work answer (given-in (work_text work.count) answer gives))
 
 -- the first lines of a text of lines are lines of the output
-pub headline_of_front : (words : List (List ℕ)) (bytes text : List ℕ) (out : Output) → IsOutput words bytes out → IsFront text (text_of out.lines) → IsHeadline words bytes text
-headline_of_front words bytes text out is front above below name line =
+pub acceptance_of_front : (words : List (List ℕ)) (bytes text : List ℕ) (out : Output) → IsOutput words bytes out → IsFront text (text_of out.lines) → SaysAccepted words bytes text
+acceptance_of_front words bytes text out is front above below name line =
     let more = lines-front text front.0 in
     let whole : out.lines ≡ above ++ accepted_line name ∷ (below ++ more.0) =
     sym (lines-text out.lines (output-in words bytes out is)) ∙ ap lines_of front.1 ∙ more.1 ∙ ap (λ ls. ls ++ more.0) line ∙ append_assoc above (accepted_line name ∷ below) more.0 in
-    shown words bytes out above (below ++ more.0) name is whole
+    accepted words bytes out above (below ++ more.0) name is whole
+
+pub headline_of_front : (words : List (List ℕ)) (bytes text : List ℕ) (out : Output) → IsOutput words bytes out → IsFront text (text_of out.lines) → IsHeadline words bytes text
+headline_of_front words bytes text out is front above below name line = shown words bytes above name (acceptance_of_front words bytes text out is front above below name line)
 
 pub verify_headline_of_front : (words : List (List ℕ)) (bytes text : List ℕ) (out : Output) → IsOutput words bytes out → IsFront text (text_of out.lines) → IsVerifyHeadline words bytes text
 verify_headline_of_front words bytes text out is front command asks above below name line =
@@ -160,6 +165,9 @@ verify_headline_of_front words bytes text out is front command asks above below 
 
 pub verify_headline : VerifyHeadline
 verify_headline words bytes out is = verify_headline_of_front words bytes (text_of out.lines) out is ([], sym (append-nil (text_of out.lines)))
+
+pub acceptance : Acceptance
+acceptance words bytes out is text rest whole = acceptance_of_front words bytes text out is (rest, whole)
 
 pub headline : Headline
 headline words bytes out is = headline_of_front words bytes (text_of out.lines) out is ([], sym (append-nil (text_of out.lines)))

@@ -1,3 +1,4 @@
+pub mod Acceptance
 pub mod Blocks
 pub mod ClauseTexts
 pub mod CommandLine
@@ -7,6 +8,7 @@ pub mod FunctionRefusals
 pub mod Headline
 pub mod Lines
 pub mod Outputs
+pub mod Reading
 pub mod Refusals
 pub mod Runs
 pub mod Statuses
@@ -18,3 +20,4 @@ pub mod Words
 pub mod WorkLaws
 pub mod WorkTexts
 pub mod Works
+pub mod Written

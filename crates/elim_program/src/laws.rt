@@ -1,9 +1,20 @@
 //! The laws of the defined output.
+ghost use Rattle.elim_program.specs.Acceptance.{Acceptance, AcceptedIsShown};
 ghost use Rattle.elim_program.specs.DefinedOutputs.{HasOneOutput};
 ghost use Rattle.elim_program.specs.Headline.{Headline};
 ghost use Rattle.elim_program.specs.Verifies.{BoundIsEnough};
 ghost use Rattle.elim_program.specs.VerifyHeadline.{VerifyHeadline};
 ghost use Rattle.elim_program.specs.WorkLaws.{WorkCountsOutput};
+
+/// Where a line says that a declaration is accepted, the elaborator accepts it over what the declarations before it came to.
+pub fn acceptance()
+    ensures { Acceptance }
+{}
+
+/// The headline says of what is accepted that it is shown.
+pub fn accepted_is_shown()
+    ensures { AcceptedIsShown }
+{}
 
 /// Where a line says that a declaration is accepted, the lines above it show that it has its written type.
 pub fn headline()

@@ -3,11 +3,14 @@ use Rattle.std.proofs.Common.{◌≡◌, ◌==◌, ℕ, zero, suc, ◌+◌, ◌-
 use Rattle.std.specs.Prelude.{slice_get, if◌then◌else◌, IsTrue}
 use Rattle.std.proofs.lemmas.Bool.{eqb-true}
 use Rattle.std.proofs.lemmas.List.Elements.{All-cons, All-nil, All-append, All-head, All-tail}
+use Rattle.theory.specs.Prelude.{prelude}
 use Rattle.theory.specs.Signatures.{Entry, FamilyOf, EliminatorAt, AxiomKAt, Definition, Signature, IsPrefix}
 use Rattle.theory.proofs.Widening.{prefix_keeps}
 use Rattle.core_text.specs.EntryText.{entry_text}
+use Rattle.elim_program.specs.ClauseTexts.{clause_lines}
 use Rattle.elim_program.specs.Headline.{is_core, core_lines, Shows, none, more, IsShown}
 use Rattle.elim_program.specs.Outputs.{line_of, entry_lines, lines_after, head_lines}
+use Rattle.elim_program.proofs.Accepted.{shows-more}
 use Rattle.program_laws.specs.Laws.{WithoutK, VerifiedWithoutK}
 use Rattle.program_laws.specs.WithoutK.{LacksK, HasNoK, IsOtherLine, AreWithoutK}
 use Rattle.program_laws.proofs.EntriesWithoutK.{well_formed_without_k}
@@ -67,16 +70,29 @@ heads-other : All IsOtherLine (head_lines false)
 heads-other =
     All-cons IsOtherLine (codes "elim 1") (codes "prelude" ∷ []) refl (All-cons IsOtherLine (codes "prelude") [] refl (All-nil IsOtherLine))
 
-module _ (words : List (List ℕ)) (bytes : List ℕ) (above : List (List ℕ)) (name : List ℕ) (shown : IsShown words bytes above name) (off : shown.command.k ≡ false) where
-  entries : HasNoK shown.accepted.signature
-  entries = well_formed_without_k shown.accepted.signature shown.whole.well_formed (shown-k shown.shown ∙ off)
+module _ (words : List (List ℕ)) (bytes : List ℕ) (above : List (List ℕ)) (name : List ℕ) (shown : IsShown words bytes above name) where
+  -- the lines above without the head lines
+  pub later : List (List ℕ)
+  later = shown.earlier ++ lines_after shown.before shown.after ++ clause_lines shown.after shown.clauses
 
-  pub without : AreWithoutK above shown.accepted.signature
-  without = record {
-    lines = subst (λ ls. All IsOtherLine ls) (sym (shown.heads ∙ ap (λ k. head_lines k ++ shown.lines) off))
-        (All-append IsOtherLine (head_lines false) shown.lines heads-other (all-other shown.lines (shown-other shown.shown entries)));
-    entries = entries;
-  }
+  pub shows-later : Shows (prelude shown.k) shown.after (core_lines later)
+  unfolding later
+  shows-later = shows-more (prelude shown.k) shown.before shown.after shown.clauses shown.earlier shown.shown shown.longer
+
+  pub above-later : above ≡ head_lines shown.k ++ later
+  unfolding later
+  above-later = shown.lines
+
+  module _ (off : shown.k ≡ false) where
+    entries : HasNoK shown.after
+    entries = well_formed_without_k shown.after shown.formed (shown-k shows-later ∙ off)
+
+    pub without : AreWithoutK above shown.after
+    without = record {
+      lines = subst (λ ls. All IsOtherLine ls) (sym (above-later ∙ ap (λ k. head_lines k ++ later) off))
+          (All-append IsOtherLine (head_lines false) later heads-other (all-other later (shown-other shows-later entries)));
+      entries = entries;
+    }
 
 pub without_k : WithoutK
 without_k words bytes above name shown off = without words bytes above name shown off

@@ -14,7 +14,7 @@ use Rattle.program_laws.specs.CoreFiles.{IsCoreFile}
 use Rattle.program_laws.specs.Laws.{OneSignature}
 use Rattle.program_laws.proofs.CoreFiles.{core-file}
 use Rattle.program_laws.proofs.Writable.{in-turn}
-use Rattle.program_laws.proofs.LinesWithoutK.{shown-k}
+use Rattle.program_laws.proofs.LinesWithoutK.{above-later, later, shown-k, shows-later}
 
 -- whole lines hold no line feed
 longer-in : (c : ℕ) (lines : List (List ℕ)) → (c == 10) ≡ false → AreInLine lines → AreInLine (longer c lines)
@@ -43,9 +43,12 @@ begun {P} (more S T lines shows grown) = prefix_transitive P S T (begun shows) g
 
 pub from_laws : EntriesAreReadBack → EntriesThatFollow → NotesArePassedOver → EndsAreRead → OneSignature
 from_laws back follow passed ends words bytes text above below name whole shown writable =
-    let k = shown.command.k in
-    let W = shown.accepted.signature in
+    let k = shown.k in
+    let W = shown.after in
+    let lines = later words bytes above name shown in
+    let heads : above ≡ head_lines k ++ lines = above-later words bytes above name shown in
+    let shows = shows-later words bytes above name shown in
     let in_line : AreInLine above = first-in above below (subst AreInLine whole (lines-in text)) in
-    subst (λ ls. IsCoreFile k (text_of ls) W) (sym shown.heads)
-    (core-file back follow passed ends W shown.whole.well_formed (in-turn W shown.whole.well_formed writable) k (shown-k shown.shown) (begun shown.shown) shown.lines
-    (after-heads k shown.lines (subst AreInLine shown.heads in_line)) shown.shown)
+    subst (λ ls. IsCoreFile k (text_of ls) W) (sym heads)
+    (core-file back follow passed ends W shown.formed (in-turn W shown.formed writable) k (shown-k shows) (begun shows) lines
+    (behind-heads k lines (subst AreInLine heads in_line)) shows)

@@ -1,26 +1,14 @@
 -- What the grammar has for the tokens of a text.
-use Rattle.std.specs.Prelude.{◌≡◌, ◌≤◌, ℕ, List, length, None, Result, Ok, Err}
+use Rattle.std.specs.Prelude.{◌≡◌, ℕ, List, Result, Ok, Err}
 use Rattle.surface_syntax.specs.Grammar as grammar
 use Rattle.surface_syntax.specs.Lexemes.{lexemes_of}
 use Rattle.surface_syntax.specs.Nesting.{IsNested}
 use Rattle.surface_syntax.specs.Parses.{NotNested, offset_of}
-use Rattle.surface_syntax.specs.Splitting.{AreTokens}
 use Rattle.surface_syntax.specs.Trees.{Decl}
 use Rattle.surface_syntax.specs.Viable.{GoesWrong}
 use Rattle.surface_syntax.specs.declared.stop.SyntaxStop.{SyntaxStop}
 use Rattle.surface_syntax.specs.declared.stop.SyntaxStop.TheVariants.{Nested, Syntax}
 use Rattle.surface_syntax.specs.declared.token.Token.{Token}
-use Rattle.elim_program.specs.Texts.{limit}
-use Rattle.elim_program.specs.Unbuilt.{unbuilt}
-
--- the bytes are no more than a text may have, they split into tokens, all of what these declare is built, and the grammar has
--- these declarations for them
-pub record IsRead (bytes : List ℕ) (decls : List Decl) : Type 0 where
-  pub few : length bytes ≤ limit
-  pub tokens : List Token
-  pub split : AreTokens bytes tokens
-  pub built : unbuilt bytes tokens ≡ None
-  pub file : grammar.File grammar.limit (lexemes_of bytes tokens) decls
 
 -- the tokens before the offset begin a text of the language, and none goes on with the next one; nothing is inside 2,000 others
 pub record IsWrongAt (bytes : List ℕ) (tokens : List Token) (offset : ℕ) : Type 0 where

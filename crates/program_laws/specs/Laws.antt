@@ -1,5 +1,5 @@
 -- Laws above the headline of the program.
-use Rattle.std.specs.Prelude.{◌≡◌, ◌++◌, ℕ, false, List, Ok}
+use Rattle.std.specs.Prelude.{◌≡◌, ◌++◌, ℕ, false, List, None, Ok}
 use Rattle.surface_syntax.specs.Parses.{parsed}
 use Rattle.surface_syntax.specs.Trees.{Decl}
 use Rattle.surface_syntax.specs.declared.token.Token.{Token}
@@ -7,9 +7,11 @@ use Rattle.elim_program.specs.DefinedOutputs.{IsOutput}
 use Rattle.elim_program.specs.Headline.{IsShown}
 use Rattle.elim_program.specs.Lines.{lines_of, text_of}
 use Rattle.elim_program.specs.Outputs.{Output}
+use Rattle.elim_program.specs.Reading.{IsRead}
 use Rattle.elim_program.specs.Texts.{Gives}
+use Rattle.elim_program.specs.Unbuilt.{unbuilt}
 use Rattle.elim_program.specs.VerifyHeadline.{IsVerified}
-use Rattle.program_laws.specs.Answers.{IsRead, SaysOf}
+use Rattle.program_laws.specs.Answers.{SaysOf}
 use Rattle.program_laws.specs.CoreFiles.{IsCoreFile, IsWritable}
 use Rattle.program_laws.specs.LastLines.{last_line, status_by}
 use Rattle.program_laws.specs.WithoutK.{HasNoK, AreWithoutK}
@@ -22,9 +24,9 @@ HasOutput = (words : List (List ℕ)) (bytes : List ℕ) → (out : Output) × I
 abbrev pub ReadsByTheGrammar : Type 0
 ReadsByTheGrammar = (bytes : List ℕ) (tokens : List Token) → SaysOf bytes tokens (parsed bytes tokens)
 
--- The declarations that a text gives are those that the grammar has for its tokens.
+-- The declarations that a text gives are those that the grammar has for its tokens, and all of them are built.
 abbrev pub GivesByTheGrammar : Type 0
-GivesByTheGrammar = (bytes : List ℕ) (decls : List Decl) → Gives bytes (Ok decls) → IsRead bytes decls
+GivesByTheGrammar = (bytes : List ℕ) (decls : List Decl) → Gives bytes (Ok decls) → (is : IsRead bytes decls) × (unbuilt bytes is.tokens ≡ None)
 
 -- The status is the one that the last line shows: `Refused` exactly where it begins with `# refused `, `Usage` exactly where
 -- it begins with `# usage `, and else `Done`.
@@ -36,7 +38,7 @@ StatusFollows = (words : List (List ℕ)) (bytes : List ℕ) (out : Output) → 
 abbrev pub WithoutK : Type 0
 WithoutK =
     (words : List (List ℕ)) (bytes : List ℕ) (above : List (List ℕ)) (name : List ℕ) (shown : IsShown words bytes above name)
-    → shown.command.k ≡ false → AreWithoutK above shown.accepted.signature
+    → shown.k ≡ false → AreWithoutK above shown.after
 
 -- the same of the entries of a core file that are verified
 abbrev pub VerifiedWithoutK : Type 0
@@ -48,4 +50,4 @@ VerifiedWithoutK =
 abbrev pub OneSignature : Type 0
 OneSignature =
     (words : List (List ℕ)) (bytes text : List ℕ) (above below : List (List ℕ)) (name : List ℕ) → lines_of text ≡ above ++ below
-    → (shown : IsShown words bytes above name) → IsWritable shown.accepted.signature → IsCoreFile shown.command.k (text_of above) shown.accepted.signature
+    → (shown : IsShown words bytes above name) → IsWritable shown.after → IsCoreFile shown.k (text_of above) shown.after

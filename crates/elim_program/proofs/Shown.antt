@@ -1,0 +1,130 @@
+-- What is accepted is what the headline says.
+use Rattle.std.proofs.Common.{◌≡◌, ℕ, Bool, true, false, List, [], ◌∷◌, ◌++◌, codes, Option, Some, None, Ok, refl, sym, ap, subst, ◌∙◌, arith}
+use Rattle.std.specs.Prelude.{Contains, IsTrue, bytes_eq, ◌&&◌, if◌then◌else◌}
+use Rattle.std.proofs.lemmas.Bool.{true≢false}
+use Rattle.std.proofs.lemmas.List.Elements.{Contains-append_right}
+use Rattle.std.proofs.lemmas.Slice.Eq.{bytes_eq-Decides}
+use Rattle.theory.specs.Signatures.{Signature}
+use Rattle.surface_syntax.specs.Trees as surf
+use Rattle.elab_session.specs.Declaring.{Declared}
+use Rattle.function_session.specs.Elaborating.{Elaborated}
+use Rattle.function_session.specs.Laws.{IsAsWritten}
+use Rattle.elim_program.specs.declared.words.Command.{Command}
+use Rattle.elim_program.specs.Acceptance.{AcceptedIsShown}
+use Rattle.elim_program.specs.Outputs.{head_lines}
+use Rattle.elim_program.specs.Words.{asked, command, flags, fuel_of, is_fuel, is_k, with_fuel}
+use Rattle.elim_program.specs.Written.{IsWritten}
+use Rattle.elim_program.proofs.Reading.{is-read}
+
+-- ---- elements
+
+first-of : {A : Type 0} (xs : List A) (x y : A) → y ≡ x → Contains (y ∷ xs) x
+first-of xs x y e = (0, omega arith, e)
+
+later-in : {A : Type 0} (xs : List A) (x y : A) → Contains xs x → Contains (y ∷ xs) x
+later-in xs x y h = Contains-append_right (y ∷ []) xs x h
+
+contains-middle : {A : Type 0} (front back : List A) (x : A) → Contains (front ++ x ∷ back) x
+contains-middle front back x = Contains-append_right front (x ∷ back) x (first-of back x x refl)
+
+-- ---- words that ask for axiom K
+
+k-of : Option Command → Bool
+k-of (Some c) = c.k
+k-of None = false
+
+none-k : (o : Option ℕ) → k-of (with_fuel false o) ≡ true → ⊥
+unfolding k-of
+none-k (Some n) e = true≢false (sym e)
+none-k None e = true≢false (sym e)
+
+is-word : (word : List ℕ) → is_k word ≡ true → word ≡ codes "--k"
+is-word word e = (bytes_eq-Decides word (codes "--k")).0 e
+
+flags-k : (words : List (List ℕ)) → k-of (flags words) ≡ true → Contains words (codes "--k")
+unfolding k-of
+flags-k [] e = absurd (true≢false (sym e))
+flags-k (a ∷ []) e = by (is_k a) refl e
+  where
+    by : (b : Bool) → is_k a ≡ b → k-of (if b then Some (command true 100000000) else None) ≡ true → Contains (a ∷ []) (codes "--k")
+    by true h e = first-of [] (codes "--k") a (is-word a h)
+    by false h e = absurd (true≢false (sym e))
+flags-k (a ∷ b ∷ []) e = by (is_fuel a) e
+  where
+    by : (is : Bool) → k-of (if is then with_fuel false (fuel_of b) else None) ≡ true → Contains (a ∷ b ∷ []) (codes "--k")
+    by true e = absurd (none-k (fuel_of b) e)
+    by false e = absurd (true≢false (sym e))
+flags-k (a ∷ b ∷ c ∷ []) e = by (is_k a) refl (is_fuel b) (is_fuel a) (is_k c) refl e
+  where
+    by : (p : Bool) → is_k a ≡ p → (q r s : Bool) → is_k c ≡ s
+        → k-of (if p && q then with_fuel true (fuel_of c) else (if r && s then with_fuel true (fuel_of b) else None)) ≡ true → Contains (a ∷ b ∷ c ∷ []) (codes "--k")
+    by true h q r s g e = first-of (b ∷ c ∷ []) (codes "--k") a (is-word a h)
+    by false h q true true g e = later-in (b ∷ c ∷ []) (codes "--k") a (later-in (c ∷ []) (codes "--k") b (first-of [] (codes "--k") c (is-word c g)))
+    by false h q true false g e = absurd (true≢false (sym e))
+    by false h q false s g e = absurd (true≢false (sym e))
+flags-k (a ∷ b ∷ c ∷ d ∷ words) e = absurd (true≢false (sym e))
+
+asked-k : (words : List (List ℕ)) → k-of (asked words) ≡ true → Contains words (codes "--k")
+unfolding k-of
+asked-k [] e = absurd (true≢false (sym e))
+asked-k (mode ∷ words) e = by (bytes_eq mode (codes "compile")) e
+  where
+    by : (b : Bool) → k-of (if b then flags words else None) ≡ true → Contains (mode ∷ words) (codes "--k")
+    by true e = later-in words (codes "--k") mode (flags-k words e)
+    by false e = absurd (true≢false (sym e))
+
+asks-k : (words : List (List ℕ)) (c : Command) → asked words ≡ Some c → IsTrue c.k → Contains words (codes "--k")
+unfolding k-of
+asks-k words c asks k = asked-k words (ap k-of asks ∙ k)
+
+-- ---- each form of declaration
+
+written-as : (S : Signature) (d : surf.Decl) (a : Elaborated) (name : List ℕ) → IsAsWritten S d a → a.accepted.name ≡ name → IsWritten S d name a.signature a.lines
+written-as S (surf.Def x ty body) a name is named =
+    let w = is.written in (
+      sym (ap (λ (d : Declared). d.accepted.name) w.accepted) ∙ named,
+      is.lines,
+      record {
+        type = w.type;
+        term = w.term;
+        type_resolved = w.type_resolved;
+        body_resolved = w.body_resolved;
+        typed = w.typed;
+        added = ap (λ (d : Declared). d.signature) w.accepted;
+      },
+    )
+written-as S (surf.Data x params ty cons) a name is named =
+    let w = is.written in (
+      sym (ap (λ (d : Declared). d.accepted.name) w.accepted) ∙ named,
+      is.lines,
+      record {
+        raw = w.raw;
+        entry = w.entry;
+        resolved = w.resolved;
+        given = w.given;
+        formed = w.formed;
+        added = ap (λ (d : Declared). d.signature) w.accepted;
+      },
+    )
+written-as S (surf.Fun x ty clauses) a name is named = (sym (ap (λ (d : Declared). d.accepted.name) is.accepted) ∙ named, (a, refl, refl, is))
+written-as S (surf.Decide x family decision) a name is named = absurd is.written
+written-as S (surf.Mutual params members family tag tags) a name is named = absurd is.written
+
+pub shown : AcceptedIsShown
+shown words bytes above name a = record {
+  k = a.command.k;
+  asked_for = asks-k words a.command a.asked_for;
+  decls = a.decls;
+  text = (is-read bytes a.decls a.text).0;
+  declaration = a.declaration;
+  in_text = subst (λ ds. Contains ds a.declaration) (sym a.in_text) (contains-middle a.front a.back a.declaration);
+  before = a.before;
+  after = a.accepted.signature;
+  clauses = a.accepted.lines;
+  written = written-as a.before a.declaration a.accepted name a.written a.named;
+  longer = a.longer;
+  formed = a.whole.well_formed;
+  earlier = a.earlier;
+  shown = a.so_far;
+  lines = a.heads ∙ ap (λ ls. head_lines a.command.k ++ ls) a.ends;
+}
