@@ -26,10 +26,10 @@ use Rattle.function_session.specs.Evidence.{references, references_from}
 use Rattle.resolve.specs.Functions.{Function}
 use Rattle.refusal_laws.specs.Parts.{with_own}
 use Rattle.line_laws.specs.Lines.{AreReported, IsProof, IsReported}
-use Rattle.line_laws.proofs.Numbers.{all-under, scoped-under, telescope-under}
+use Rattle.written_functions.proofs.Numbers.{all-under, scoped-under, telescope-under}
 use Rattle.line_laws.proofs.PlanWalks.{AreScopedWalks, IsPlanScoped}
-use Rattle.line_laws.proofs.Proofs.{IsClosedUnder, IsProvedBy, SaysProved, report-says}
-use Rattle.line_laws.proofs.Sides.{IsWalkUnder, type-under}
+use Rattle.written_functions.proofs.Proofs.{IsClosedUnder, IsProvedBy, SaysProved, report-says}
+use Rattle.written_functions.proofs.Sides.{IsWalkUnder, type-under}
 
 -- ---- signatures on the way
 

@@ -39,7 +39,8 @@ use Rattle.refusal_laws.specs.Causes.{Caused, IsPartAt, another_type, no_sort, n
 use Rattle.refusal_laws.specs.Parts.{clause_lists, helper, with_own}
 use Rattle.refusal_laws.proofs.Chains.{Refuses, granted-caused, halts-caused, next-refuses, splits-is, walking-caused}
 use Rattle.refusal_laws.proofs.Ends.{end-caused}
-use Rattle.refusal_laws.proofs.PartScopes.{clause-resolved, part-walkable}
+use Rattle.refusal_laws.proofs.PartScopes.{part-walkable}
+use Rattle.written_functions.proofs.PartScopes.{clause-resolved}
 
 -- ---- numbers
 

@@ -25,7 +25,7 @@ use Rattle.clause_reports.specs.Equations.{Equation, Site, all_shown, equation_o
 use Rattle.clause_reports.specs.Generated.{all_name}
 use Rattle.clause_reports.specs.Reports.{Reference}
 use Rattle.equation_laws.proofs.LeftShowing.{IsAt, equation-is}
-use Rattle.line_laws.proofs.Numbers.{AreUnder, applied-under, inst-under, number-under, products-under, renumbered-under, spine-under}
+use Rattle.written_functions.proofs.Numbers.{AreUnder, applied-under, inst-under, number-under, products-under, renumbered-under, spine-under}
 
 -- ---- what patterns show
 

@@ -29,7 +29,7 @@ use Rattle.clause_reports.specs.ProofWalks.{Place, Proof, leaves_in, walk_of}
 use Rattle.clause_reports.specs.Reports.{Absurd, Line, Proved, Reference, Reported, at_leaf, at_vector, equation_report, if_shadowed, on_candidate, order_in, report_of, reported, shadowed, some_absurd, unless_converts}
 use Rattle.clause_reports.specs.Shadows.{TreeLeaf, convert_at_all, earlier_leaf, leaves_of, vector_of}
 use Rattle.clause_reports.specs.Stops.{Halts, Rejected, Rejection, ReportStop, Reporting, Stuck, answers, halting, or_halts, or_rejected}
-use Rattle.line_laws.proofs.Numbers.{AreUnder, under-stays}
+use Rattle.written_functions.proofs.Numbers.{AreUnder, under-stays}
 
 -- ---- the entry
 

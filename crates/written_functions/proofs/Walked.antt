@@ -1,0 +1,246 @@
+-- What the walks of a function's clauses give: for each clause its own walk and its right side, and for each `with` a helper.
+use Rattle.std.proofs.Common.{◌≡◌, ℕ, zero, suc, ◌+◌, ◌<◌, Some, List, [], ◌∷◌, ◌++◌, length, map, reverse, slice_get, Result, Ok, Err, IfOk, refl, sym, ap, ap₂, ◌∙◌, subst as transport, arith}
+use Rattle.std.specs.List.{All}
+use Rattle.std.proofs.lemmas.List.{map-append}
+use Rattle.std.proofs.lemmas.List.Elements.{All-nil, All-cons, All-append}
+use Rattle.theory.specs.Terms.{Term, Sort, Const}
+use Rattle.theory.specs.Telescopes.{Telescope, applied}
+use Rattle.theory.specs.Signatures.{Signature}
+use Rattle.theory.specs.WellFormed.{provisional}
+use Rattle.core_terms.proofs.Answers.{Answers, and_next-has}
+use Rattle.core_terms.specs.Answers.{bounded}
+use Rattle.core_terms.specs.CaseTrees.{Walk}
+use Rattle.core_terms.specs.Clauses as clause
+use Rattle.core_terms.specs.Clauses.{Clause, Clauses, Right, Is}
+use Rattle.core_terms.specs.Patterns.{Pats}
+use Rattle.core_terms.specs.declared.stop.Stop.{Stop}
+use Rattle.case_trees.specs.OwnWalks.{own_walk_of}
+use Rattle.case_trees.specs.Points.{under_solution}
+use Rattle.case_trees.specs.Stops.{TreeStop}
+use Rattle.clause_reports.specs.Equations.{part_named}
+use Rattle.elaboration.specs.Refusals.{Elaborating, OfSide, Owner, answers, granted, or_ends, or_halts, owner_of, walking}
+use Rattle.elaboration.specs.Walking.{Given, Opened, Opening, Walked, after_dots, check_dot, helper_arguments, joined, open_over, opened, walk_clause, walk_clauses, walk_right}
+use Rattle.function_lines.specs.FunctionMade.{session_at}
+use Rattle.function_session.specs.Laws.{inner, inner_of, inner_right}
+use Rattle.kernel_check.specs.Checking.{check_of}
+use Rattle.kernel_reduce.specs.Reduction.{nesting}
+use Rattle.resolve.specs.Functions.{Function}
+use Rattle.resolve.specs.Scoping.{AreClauses, IsClause}
+use Rattle.tree_translation.proofs.Drafting.{bounded-ok}
+use Rattle.unification.specs.ScopedStates.{IsReady}
+use Rattle.with_abstraction.specs.Laws.{IsScopedAbstraction}
+use Rattle.case_trees.specs.Laws.{IsGiven}
+use Rattle.written_functions.proofs.PartScopes.{IsFit, IsWalkable, helper-opens, walk-fits}
+
+-- ---- answers
+
+pub is-ok : {A E : Type 0} (r : Result A E) → IfOk r (λ a. r ≡ Ok a)
+is-ok (Ok a) = refl
+is-ok (Err e) = tt
+
+pub halts-ok : {A : Type 0} (r : Result A Stop) → IfOk (or_halts r) (λ a. r ≡ Ok a)
+halts-ok (Ok a) = refl
+halts-ok (Err e) = tt
+
+ends-ok : {A : Type 0} (S : Signature) (name : List ℕ) (r : Result A TreeStop) → IfOk (or_ends S name r) (λ a. r ≡ Ok a)
+ends-ok S name (Ok a) = refl
+ends-ok S name (Err e) = tt
+
+anything : {A E : Type 0} (r : Result A E) → IfOk r (λ a. Unit {0})
+anything (Ok a) = tt
+anything (Err e) = tt
+
+after_dots-has : {A : Type 0} (P : A → Type 0) (S : Signature) (owner : Owner) (context : Telescope) (dots : List (Term × Term)) (next : ℕ → Elaborating A) (left : ℕ)
+    → ((rest : ℕ) → Answers P (next rest)) → Answers P (after_dots S owner context dots next left)
+after_dots-has P S owner context [] next left h = h left
+after_dots-has P S owner context (d ∷ dots) next left h =
+    and_next-has (λ u. Unit {0}) P (check_dot S owner context d left) _ (anything (check_dot S owner context d left).0) (λ written rest u.
+    after_dots-has P S owner context dots next rest h)
+
+-- ---- lists of parts
+
+-- the parts have these numbers among all
+abbrev pub AreAt : (all : List Walked) → (n : ℕ) → List Walked → Type 0
+AreAt all n [] = Unit {0}
+AreAt all n (w ∷ helpers) = (slice_get all n ≡ Some w) × AreAt all (n + 1) helpers
+
+at-parts : (all : List Walked) (n : ℕ) (first rest : List Walked) → AreAt all n (first ++ rest) → AreAt all n first × AreAt all (n + length first) rest
+at-parts all n [] rest h = (tt, transport (λ k. AreAt all k rest) (let e : n ≡ n + 0 = omega arith in e) h)
+at-parts all n (w ∷ first) rest h =
+    let parts = at-parts all (n + 1) first rest h.1 in
+    ((h.0, parts.0), transport (λ k. AreAt all k rest) (let e : n + 1 + length first ≡ n + suc (length first) = omega arith in e) parts.1)
+
+abbrev pub clauses_of : List Walked → List Clauses
+clauses_of helpers = map (λ (w : Walked). w.clauses) helpers
+
+-- ---- what is given
+
+-- the right side of a clause: for a scrutinee the call of a helper among all parts, which is opened over the walk and has the clauses inside
+pub data IsSideOf (S : Signature) (f : Function) (all : List Walked) (w : Walk) : Clause → Term → Type 0 where
+  term : (pats : Pats) (binds : ℕ) (t : Term) → IsSideOf S f all w (Is pats binds (clause.Side t)) t
+  scrutinee : (pats : Pats) (binds : ℕ) (t : Term) (inside : Clauses) (k : ℕ) (o : Opening) (h : Walked) → 0 < k → slice_get all k ≡ Some h
+      → h.part ≡ opened o w → h.clauses ≡ inside → IsScopedAbstraction (provisional S f.name f.type) (length w.ctx) o.abstraction
+      → IsSideOf S f all w (Is pats binds (clause.With t inside))
+      (applied (Const (length S.entries + k)) (helper_arguments o.abstraction (under_solution w.binds t)))
+  nothing : (pats : Pats) (binds : ℕ) → IsSideOf S f all w (Is pats binds clause.Absurd) (Sort 0)
+
+-- a clause of a part, with its own walk
+pub record IsOneGiven (S : Signature) (f : Function) (all : List Walked) (part : Opened) (number : ℕ) (c : Clause) (w : Walk) (side : Term) : Type 0 where
+  pub units : ℕ
+  pub walks : (own_walk_of (provisional S f.name f.type) part.tele part.goal part.terms c number units).0 ≡ Ok w
+  pub fit : IsFit (provisional S f.name f.type) part w
+  pub resolved : IsClause (provisional S f.name f.type) (length part.terms) c
+  pub is_side : IsSideOf S f all w c side
+
+-- the clauses of a part from a number on
+pub data AreGiven (S : Signature) (f : Function) (all : List Walked) (part : Opened) : (number : ℕ) → Clauses → List Walk → List Term → Type 0 where
+  none : (number : ℕ) → AreGiven S f all part number clause.nil [] []
+  more : (number : ℕ) (c : Clause) (clauses : Clauses) (w : Walk) (walks : List Walk) (side : Term) (sides : List Term)
+      → IsOneGiven S f all part number c w side → AreGiven S f all part (number + 1) clauses walks sides
+      → AreGiven S f all part number (clause.cons c clauses) (w ∷ walks) (side ∷ sides)
+
+-- a part that is walked
+pub record IsPartGiven (S : Signature) (f : Function) (all : List Walked) (w : Walked) : Type 0 where
+  pub walkable : IsWalkable (provisional S f.name f.type) w.part w.clauses
+  pub given : AreGiven S f all w.part 0 w.clauses w.walks w.sides
+
+-- the walk and the right side of one clause
+record IsSingle (S : Signature) (f : Function) (all : List Walked) (part : Opened) (number : ℕ) (c : Clause) (given : Given) : Type 0 where
+  walk : Walk
+  side : Term
+  walks : given.walks ≡ walk ∷ []
+  sides : given.sides ≡ side ∷ []
+  one : IsOneGiven S f all part number c walk side
+
+-- what is given, wherever its helpers stand among all parts
+record GivesOne (S : Signature) (f : Function) (part : Opened) (number next : ℕ) (c : Clause) (given : Given) : Type 0 where
+  lists : clauses_of given.helpers ≡ inner_of c
+  one : (all : List Walked) → AreAt all next given.helpers → IsSingle S f all part number c given
+  helpers : (all : List Walked) → AreAt all next given.helpers → All (IsPartGiven S f all) given.helpers
+
+pub record Gives (S : Signature) (f : Function) (part : Opened) (number next : ℕ) (clauses : Clauses) (given : Given) : Type 0 where
+  pub lists : clauses_of given.helpers ≡ inner clauses
+  pub each : (all : List Walked) → AreAt all next given.helpers → AreGiven S f all part number clauses given.walks given.sides
+  pub helpers : (all : List Walked) → AreAt all next given.helpers → All (IsPartGiven S f all) given.helpers
+
+one-more : (S : Signature) (f : Function) (all : List Walked) (part : Opened) (number : ℕ) (c : Clause) (clauses : Clauses) (given others : Given)
+    → IsSingle S f all part number c given → AreGiven S f all part (number + 1) clauses others.walks others.sides
+    → AreGiven S f all part number (clause.cons c clauses) (given.walks ++ others.walks) (given.sides ++ others.sides)
+one-more S f all part number c clauses given others h rest =
+    transport (λ ws. AreGiven S f all part number (clause.cons c clauses) (ws ++ others.walks) (given.sides ++ others.sides)) (sym h.walks)
+    (transport (λ ts. AreGiven S f all part number (clause.cons c clauses) (h.walk ∷ others.walks) (ts ++ others.sides)) (sym h.sides)
+    (more number c clauses h.walk others.walks h.side others.sides h.one rest))
+
+both-given : (S : Signature) (f : Function) (part : Opened) (number next : ℕ) (c : Clause) (clauses : Clauses) (given others : Given)
+    → GivesOne S f part number next c given → Gives S f part (number + 1) (next + length given.helpers) clauses others
+    → Gives S f part number next (clause.cons c clauses) (joined given others)
+both-given S f part number next c clauses given others h rest = record {
+  lists = map-append (λ (w : Walked). w.clauses) given.helpers others.helpers ∙ ap₂ (λ xs ys. xs ++ ys) h.lists rest.lists;
+  each = λ all at.
+      let places = at-parts all next given.helpers others.helpers at in
+      one-more S f all part number c clauses given others (h.one all places.0) (rest.each all places.1);
+  helpers = λ all at.
+      let places = at-parts all next given.helpers others.helpers at in
+      All-append (IsPartGiven S f all) given.helpers others.helpers (h.helpers all places.0) (rest.helpers all places.1);
+}
+
+-- ---- the walks
+
+-- a clause without helpers
+alone : (S : Signature) (f : Function) (part : Opened) (number next units : ℕ) (pats : Pats) (binds : ℕ) (right : Right) (w : Walk) (side : Term) (given : Given)
+    → given.walks ≡ w ∷ [] → given.sides ≡ side ∷ [] → given.helpers ≡ [] → inner_right right ≡ []
+    → (own_walk_of (provisional S f.name f.type) part.tele part.goal part.terms (Is pats binds right) number units).0 ≡ Ok w
+    → IsFit (provisional S f.name f.type) part w → IsClause (provisional S f.name f.type) (length part.terms) (Is pats binds right)
+    → ((all : List Walked) → IsSideOf S f all w (Is pats binds right) side) → GivesOne S f part number next (Is pats binds right) given
+alone S f part number next units pats binds right w side given ws ts no none_inside walked fit resolved is = record {
+  lists = ap clauses_of no ∙ sym none_inside;
+  one = λ all at. record {
+    walk = w;
+    side = side;
+    walks = ws;
+    sides = ts;
+    one = record { units = units; walks = walked; fit = fit; resolved = resolved; is_side = is all };
+  };
+  helpers = λ all at. transport (All (IsPartGiven S f all)) (sym no) (All-nil (IsPartGiven S f all));
+}
+
+module _ (S : Signature) (f : Function) where
+  mutual
+    clause-gives : (k : ℕ) (part : Opened) (number next : ℕ) (c : Clause) (left : ℕ) → 0 < next → IsGiven (provisional S f.name f.type) part.tele part.goal part.terms
+        → IsClause (provisional S f.name f.type) (length part.terms) c
+        → Answers (GivesOne S f part number next c) (walk_clause (session_at S f) k part number next c left)
+    clause-gives k part number next (Is pats binds right) left low given resolved =
+        let T = provisional S f.name f.type in
+        let P = GivesOne S f part number next (Is pats binds right) in
+        let owner = owner_of (part_named f.name k) number in
+        let own_walk = own_walk_of T part.tele part.goal part.terms (Is pats binds right) number left in
+        and_next-has (λ w. own_walk.0 ≡ Ok w) P (walking T (part_named f.name k) own_walk) _ (ends-ok T (part_named f.name k) own_walk.0) (λ w rest is.
+        after_dots-has P T owner w.ctx w.dots (walk_right (session_at S f) k number next owner w right) rest (λ more.
+        right-gives k part number next owner w pats binds right left more low given is resolved
+        (walk-fits T part number binds left pats right w given resolved is)))
+
+    right-gives : (k : ℕ) (part : Opened) (number next : ℕ) (owner : Owner) (w : Walk) (pats : Pats) (binds : ℕ) (right : Right) (units left : ℕ)
+        → 0 < next → IsGiven (provisional S f.name f.type) part.tele part.goal part.terms
+        → (own_walk_of (provisional S f.name f.type) part.tele part.goal part.terms (Is pats binds right) number units).0 ≡ Ok w
+        → IsClause (provisional S f.name f.type) (length part.terms) (Is pats binds right) → IsFit (provisional S f.name f.type) part w
+        → Answers (GivesOne S f part number next (Is pats binds right)) (walk_right (session_at S f) k number next owner w right left)
+    right-gives k part number next owner w pats binds (clause.Side side) units left low given walked resolved fit =
+        let T = provisional S f.name f.type in
+        let P = GivesOne S f part number next (Is pats binds (clause.Side side)) in
+        let made = bounded (under_solution w.binds side) in
+        and_next-has (λ u. Unit {0}) P (answers (or_halts made) left) _ (anything (or_halts made)) (λ body rest u.
+        let checked = granted T (OfSide owner) (check_of T nesting (reverse w.ctx) body w.goal rest) in
+        and_next-has (λ u. Unit {0}) P checked _ (anything checked.0) (λ type end v.
+        alone S f part number next units pats binds (clause.Side side) w side _ refl refl refl refl walked fit resolved (λ all. term pats binds side)))
+    right-gives k part number next owner w pats binds (clause.With written inside) units left low given walked resolved fit =
+        let T = provisional S f.name f.type in
+        let s = session_at S f in
+        let c = Is pats binds (clause.With written inside) in
+        let P = GivesOne S f part number next c in
+        let made = bounded (under_solution w.binds written) in
+        and_next-has (λ t. made ≡ Ok t) P (answers (or_halts made) left) _ (halts-ok made) (λ t rest t_is.
+        let same : under_solution w.binds written ≡ t = sym (bounded-ok (under_solution w.binds written) t t_is) in
+        let opening = open_over s owner w t rest in
+        and_next-has (λ o. opening.0 ≡ Ok o) P opening _ (is-ok opening.0) (λ o more o_is.
+        let opened_is = helper-opens s binds rest part inside pats written owner w o given.ready resolved fit
+        (transport (λ u. (open_over s owner w u rest).0 ≡ Ok o) (sym same) o_is) in
+        let inner_walks = walk_clauses s next (opened o w) 0 (next + 1) inside more in
+        and_next-has (Gives S f (opened o w) 0 (next + 1) inside) P inner_walks _
+        (clauses-gives next (opened o w) 0 (next + 1) inside more (omega arith) opened_is.walkable.given opened_is.walkable.fitting) (λ others end h.
+        record {
+          lists = ap (λ lists. inside ∷ lists) h.lists;
+          one = λ all at. record {
+            walk = w;
+            side = applied (Const (length S.entries + next)) (helper_arguments o.abstraction t);
+            walks = refl;
+            sides = refl;
+            one = record {
+              units = units;
+              walks = walked;
+              fit = fit;
+              resolved = resolved;
+              is_side =
+                  transport (λ u. IsSideOf S f all w c (applied (Const (length S.entries + next)) (helper_arguments o.abstraction u))) same
+                  (scrutinee pats binds written inside next o _ low at.0 refl refl opened_is.abstraction);
+            };
+          };
+          helpers = λ all at.
+              All-cons (IsPartGiven S f all) _ others.helpers (record { walkable = opened_is.walkable; given = h.each all at.1 }) (h.helpers all at.1);
+        })))
+    right-gives k part number next owner w pats binds clause.Absurd units left low given walked resolved fit =
+        alone S f part number next units pats binds clause.Absurd w (Sort 0) _ refl refl refl refl walked fit resolved (λ all. nothing pats binds)
+
+    pub clauses-gives : (k : ℕ) (part : Opened) (number next : ℕ) (clauses : Clauses) (left : ℕ) → 0 < next
+        → IsGiven (provisional S f.name f.type) part.tele part.goal part.terms → AreClauses (provisional S f.name f.type) (length part.terms) clauses
+        → Answers (Gives S f part number next clauses) (walk_clauses (session_at S f) k part number next clauses left)
+    clauses-gives k part number next clause.nil left low given resolved =
+        record { lists = refl; each = λ all at. none number; helpers = λ all at. All-nil (IsPartGiven S f all) }
+    clauses-gives k part number next (clause.cons c clauses) left low given resolved =
+        let s = session_at S f in
+        let P = Gives S f part number next (clause.cons c clauses) in
+        and_next-has (GivesOne S f part number next c) P (walk_clause s k part number next c left) _
+        (clause-gives k part number next c left low given resolved.0) (λ first rest h.
+        let behind = next + length first.helpers in
+        and_next-has (Gives S f part (number + 1) behind clauses) P (walk_clauses s k part (number + 1) behind clauses rest) _
+        (clauses-gives k part (number + 1) behind clauses rest (omega (arith, low)) given resolved.1) (λ others end i.
+        both-given S f part number next c clauses first others h i))

@@ -1,0 +1,4 @@
+pub mod Clauses
+pub mod Fitting
+pub mod Functions
+pub mod Laws
