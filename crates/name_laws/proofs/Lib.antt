@@ -1,5 +1,6 @@
 mod CycleSides
 mod FirstPlaces
+pub mod LastSides
 mod RunsGo
 mod SplitOrders
 mod ToldCycles

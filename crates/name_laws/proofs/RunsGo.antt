@@ -54,7 +54,8 @@ use Rattle.tree_translation.proofs.SeenSteps.{step-seen, variable-seen}
 use Rattle.tree_translation.proofs.SeenOrders.{whole-below}
 use Rattle.tree_translation.proofs.SeenTerms.{widened-is, widened-variable}
 use Rattle.replay_laws.proofs.SeenComparisons.{alone-seen, group-seen}
-use Rattle.name_laws.proofs.CycleSides.{CycleSide, IsPartOf, LastSide, turn-side}
+use Rattle.name_laws.proofs.CycleSides.{IsPartOf, SideIs, turn-side}
+use Rattle.name_laws.proofs.LastSides.{CycleSide, LastSide}
 use Rattle.name_laws.proofs.ToldRuns.{GoesBy, RunGoes, StandsBelow}
 
 -- ---- terms that are moved
@@ -272,7 +273,7 @@ step-goes S s t _ w steps (inject_group _ k f ps type b d left right same number
 step-goes S s t _ w steps (inject _ e A b d left right same number level indices first) h = (_, alone-seen S w (Inject b.n b.number) A b d left right)
 step-goes S s t _ w steps (delete _ e A u v k first converts) h = tt
 
-last-goes : (S : Signature) (s : State) (step : Step) (w : Standing) → IsAbsurd S s step → IsScopedStep S (length s.context) step → CycleSide S step step.rule → Widens w s
+last-goes : (S : Signature) (s : State) (step : Step) (w : Standing) → IsAbsurd S s step → IsScopedStep S (length s.context) step → CycleSide (SideIs S) step step.rule → Widens w s
     → StandsApart w → GoesBy S w (step_in w step) (step_in w step).rule []
 last-goes S s _ w (conflict_group _ k f ps type b d left right family number group) scoped side h apart = refl
 last-goes S s _ w (conflict _ e A b d left right family number level first) scoped side h apart = refl
@@ -301,7 +302,7 @@ last-goes S s _ w (cycle_right _ e n x A u first below) scoped side h apart =
 abbrev Holds : Signature → Standing → Outcome → Type 0
 Holds S w outcome = RunGoes S (steps_in outcome) w
 
-end-goes : (S : Signature) (s : State) (turn : Turn) (w : Standing) → IsRight S s turn → LastSide S turn → Widens w s → StandsApart w → IfSome (end_of s turn) (Holds S w)
+end-goes : (S : Signature) (s : State) (turn : Turn) (w : Standing) → IsRight S s turn → LastSide (SideIs S) turn → Widens w s → StandsApart w → IfSome (end_of s turn) (Holds S w)
 end-goes S s Done w right side h apart = tt
 end-goes S s (Goes step t) w right side h apart = tt
 end-goes S s (Fails step u v) w right side h apart = (last-goes S s step w right.follows.0 right.good.0.0 side h apart, tt)
