@@ -49,7 +49,7 @@ mutual
     nil : Proofs
     cons : Proof → Proofs → Proofs
 
--- the term of a variable, which is told by its number
+-- the term of a variable, which is given by its number
 abbrev pub value_at : List Term → (x : ℕ) → Term
 value_at values x = term_at values (length values - (x + 1))
 

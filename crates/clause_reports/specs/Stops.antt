@@ -13,7 +13,7 @@ use Rattle.family_check.specs.Outcomes as family
 use Rattle.unification.specs.declared.why.Why.{Why}
 use Rattle.clause_reports.specs.Texts.{context_text, reason_text}
 
--- the name by which an entry is told: instances have the names by which core text writes them
+-- the name by which an entry is shown: instances have the names by which core text writes them
 abbrev pub entry_name : Signature → Entry → List ℕ
 entry_name S (FamilyOf f) = f.name
 entry_name S (EliminatorAt n m) = eliminator_name (name_at S n) m

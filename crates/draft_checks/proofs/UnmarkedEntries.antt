@@ -36,7 +36,7 @@ next-entry n entries lt is = from-entry n entries lt ∙ ap (λ b. b && all_unma
 pub last-entry : (n : ℕ) (entries : List Entry) → length entries ≤ n → all_unmarked (drop n entries) ≡ true
 last-entry n entries le = ap all_unmarked (drop_all n entries le)
 
--- ---- what is told
+-- ---- what is known
 
 constructors-tell : (cs : List Constructor) → are_unmarked cs ≡ true → All (λ c. is_marked c.name ≡ false) cs
 constructors-tell [] h = All-nil (λ c. is_marked c.name ≡ false)

@@ -105,7 +105,7 @@ pushed-longer S T name type body is =
 pub same-longer : (S T : Signature) → T ≡ S → Extends S T
 same-longer S T is = transport (Extends S) (sym is) (extends-same S)
 
--- ---- how an outcome is told
+-- ---- how an outcome is described
 
 pub told : (S T : Signature) (e : Entry) (k rest : ℕ) (outcome : Outcome Entered) → (Ok (entered_at T k), rest) ≡ outcome
     → (Ok (entered_at T k), rest) ≡ entering S e outcome

@@ -73,7 +73,7 @@ pub agrees-if : {A E : Type 0} (b : Bool) (made : SpentOr E A) (e : E) (n : ℕ)
 agrees-if true made e n meant h = h
 agrees-if false made e n meant h = refused e n meant
 
--- what ends the reports is told in the same way
+-- what ends the reports is said in the same way
 pub reporting-agrees : {A : Type 0} (S : Signature) (owner : Owner) (made meant : Reporting A) → Agrees made meant
     → Agrees (reporting S owner made) (reporting S owner meant)
 reporting-agrees {A} S owner made meant h = by made.0 made.1 h

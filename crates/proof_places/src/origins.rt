@@ -18,7 +18,7 @@ fn copied_at(alloc: Global, terms: &[Term], position: u32) -> Result<Term, Stop>
     }
 }
 
-/// The term of a variable of the tree's node, which is told by its number.
+/// The term of a variable of the tree's node, which is given by its number.
 pub fn value_at(alloc: Global, values: &[Term], x: u32) -> Result<Term, Stop>
     ensures { Gives tree_of result (Ok (spec.value_at (tele_of values.now) x)) }
 {

@@ -94,7 +94,7 @@ module _ (fuel : ℕ) (W : Signature) (checked : Checked fuel (prelude W.has_k) 
   added-longer S _ _ (axiom_k i m) = push_is_longer S (AxiomKAt i m)
   added-longer S _ _ (definition name type body) = push_is_longer S (Definition name type body)
 
-  -- The entries from the head on are verified up to an offset, and then those that follow are told.
+  -- The entries from the head on are verified up to an offset, and then those that follow are written.
   record IsTold (k : Bool) (text : List ℕ) (T : Signature) (to : ℕ) (names : List (List ℕ)) : Type 0 where
     has_k : Bool
     start : ℕ
