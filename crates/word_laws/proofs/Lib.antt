@@ -1,0 +1,4 @@
+pub mod Counted
+pub mod Declared
+pub mod Lexed
+pub mod Spelled
