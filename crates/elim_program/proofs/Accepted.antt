@@ -165,7 +165,7 @@ work-other w (Err e) = (third-other (stop_line e) (λ k. omega (arith, k)), tt)
 -- ---- declarations one by one
 
 -- a declaration that is accepted after others
-accepts-more : (fuel : ℕ) {P S : Signature} {ds : List surf.Decl} (d : surf.Decl) (a : Elaborated) → Accepts fuel P ds S → elaborate_of S fuel d ≡ Ok a
+pub accepts-more : (fuel : ℕ) {P S : Signature} {ds : List surf.Decl} (d : surf.Decl) (a : Elaborated) → Accepts fuel P ds S → elaborate_of S fuel d ≡ Ok a
     → Accepts fuel P (ds ++ d ∷ []) a.signature
 accepts-more fuel d a (end S) is = next S a.signature d [] a is (end a.signature)
 accepts-more fuel d a (next P S first ds b same rest) is = next P a.signature first (ds ++ d ∷ []) b same (accepts-more fuel d a rest is)
