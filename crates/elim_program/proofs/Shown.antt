@@ -4,17 +4,22 @@ use Rattle.std.specs.Prelude.{Contains, IsTrue, bytes_eq, ◌&&◌, if◌then◌
 use Rattle.std.proofs.lemmas.Bool.{true≢false}
 use Rattle.std.proofs.lemmas.List.Elements.{Contains-append_right}
 use Rattle.std.proofs.lemmas.Slice.Eq.{bytes_eq-Decides}
-use Rattle.theory.specs.Signatures.{Signature}
+use Rattle.theory.specs.Signatures.{Definition, FamilyOf, Signature}
+use Rattle.theory.specs.WellFormed.{pushed}
 use Rattle.surface_syntax.specs.Trees as surf
-use Rattle.elab_session.specs.Declaring.{Declared}
-use Rattle.function_session.specs.Elaborating.{Elaborated}
+use Rattle.elab_session.specs.Declaring.{Declared, accepted_as}
+use Rattle.elab_session.specs.Sessions.{IsReady}
+use Rattle.function_session.specs.Elaborating.{Elaborated, declared_of, elaborate_of}
 use Rattle.function_session.specs.Laws.{IsAsWritten}
 use Rattle.elim_program.specs.declared.words.Command.{Command}
 use Rattle.elim_program.specs.Acceptance.{AcceptedIsShown}
 use Rattle.elim_program.specs.Outputs.{head_lines}
 use Rattle.elim_program.specs.Words.{asked, command, flags, fuel_of, is_fuel, is_k, with_fuel}
 use Rattle.elim_program.specs.Written.{IsWritten}
+use Rattle.elim_program.proofs.Lines.{if_ok}
 use Rattle.elim_program.proofs.Reading.{is-read}
+use Rattle.written_functions.specs.Functions.{IsByClauses}
+use Rattle.written_functions.proofs.Functions.{by-clauses}
 
 -- ---- elements
 
@@ -79,36 +84,41 @@ asks-k words c asks k = asked-k words (ap k-of asks ∙ k)
 
 -- ---- each form of declaration
 
-written-as : (S : Signature) (d : surf.Decl) (a : Elaborated) (name : List ℕ) → IsAsWritten S d a → a.accepted.name ≡ name → IsWritten S d name a.signature a.lines
-written-as S (surf.Def x ty body) a name is named =
-    let w = is.written in (
-      sym (ap (λ (d : Declared). d.accepted.name) w.accepted) ∙ named,
-      is.lines,
-      record {
-        type = w.type;
-        term = w.term;
-        type_resolved = w.type_resolved;
-        body_resolved = w.body_resolved;
-        typed = w.typed;
-        added = ap (λ (d : Declared). d.signature) w.accepted;
-      },
-    )
-written-as S (surf.Data x params ty cons) a name is named =
-    let w = is.written in (
-      sym (ap (λ (d : Declared). d.accepted.name) w.accepted) ∙ named,
-      is.lines,
-      record {
-        raw = w.raw;
-        entry = w.entry;
-        resolved = w.resolved;
-        given = w.given;
-        formed = w.formed;
-        added = ap (λ (d : Declared). d.signature) w.accepted;
-      },
-    )
-written-as S (surf.Fun x ty clauses) a name is named = (sym (ap (λ (d : Declared). d.accepted.name) is.accepted) ∙ named, (a, refl, refl, is))
-written-as S (surf.Decide x family decision) a name is named = absurd is.written
-written-as S (surf.Mutual params members family tag tags) a name is named = absurd is.written
+plain-name : (S : Signature) (x : List ℕ) (T : Signature) (a : Elaborated) (name : List ℕ) → declared_of a ≡ accepted_as x S T → a.accepted.name ≡ name → x ≡ name
+plain-name S x T a name is named = sym (ap (λ (d : Declared). d.accepted.name) is) ∙ named
+
+plain-signature : (S : Signature) (x : List ℕ) (T : Signature) (a : Elaborated) → declared_of a ≡ accepted_as x S T → a.signature ≡ T
+plain-signature S x T a is = ap (λ (d : Declared). d.signature) is
+
+written-as : (S : Signature) (fuel : ℕ) (d : surf.Decl) (a : Elaborated) (name : List ℕ) → IsReady S → elaborate_of S fuel d ≡ Ok a → IsAsWritten S d a → a.accepted.name ≡ name
+    → IsWritten S d name a.signature a.lines
+written-as S fuel (surf.Def x ty body) a name ready same is named =
+    let w = is.written in
+    let T = pushed S (Definition x.text w.type w.term) in
+    (plain-name S x.text T a name w.accepted named, is.lines, record {
+      type = w.type;
+      term = w.term;
+      type_resolved = w.type_resolved;
+      body_resolved = w.body_resolved;
+      typed = w.typed;
+      added = plain-signature S x.text T a w.accepted;
+    })
+written-as S fuel (surf.Data x params ty cons) a name ready same is named =
+    let w = is.written in
+    let T = pushed S (FamilyOf w.entry) in
+    (plain-name S x.text T a name w.accepted named, is.lines, record {
+      raw = w.raw;
+      entry = w.entry;
+      resolved = w.resolved;
+      given = w.given;
+      formed = w.formed;
+      added = plain-signature S x.text T a w.accepted;
+    })
+written-as S fuel (surf.Fun x ty clauses) a name ready same is named =
+    (plain-name S x.text a.signature a name is.accepted named,
+    if_ok (λ (b : Elaborated). IsByClauses S x ty clauses b.signature b.lines) (elaborate_of S fuel (surf.Fun x ty clauses)) a same (by-clauses S fuel x ty clauses ready))
+written-as S fuel (surf.Decide x family decision) a name ready same is named = absurd is.written
+written-as S fuel (surf.Mutual params members family tag tags) a name ready same is named = absurd is.written
 
 pub shown : AcceptedIsShown
 shown words bytes above name a = record {
@@ -121,7 +131,7 @@ shown words bytes above name a = record {
   before = a.before;
   after = a.accepted.signature;
   clauses = a.accepted.lines;
-  written = written-as a.before a.declaration a.accepted name a.written a.named;
+  written = written-as a.before a.command.fuel a.declaration a.accepted name a.ready a.elaborated a.written a.named;
   longer = a.longer;
   formed = a.whole.well_formed;
   earlier = a.earlier;

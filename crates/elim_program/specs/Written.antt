@@ -11,8 +11,7 @@ use Rattle.resolve.specs.Families.{family}
 use Rattle.resolve.specs.Resolving.{resolve_term}
 use Rattle.family_check.specs.Laws.{IsAsDeclared}
 use Rattle.elaboration.specs.Functions.{ClauseLine}
-use Rattle.function_session.specs.Elaborating.{Elaborated}
-use Rattle.function_session.specs.Laws.{IsWrittenFunction}
+use Rattle.written_functions.specs.Functions.{IsByClauses}
 
 -- T is S with one entry more, the definition that is written: its type and its body are the core terms that the written ones
 -- stand for, by the typing rules the type has a sort, and the body has the type.
@@ -34,13 +33,9 @@ pub record IsFamilyWritten (S : Signature) (x : Word) (params : List surf.Typed)
   pub formed : IsFamily S entry
   pub added : T ≡ pushed S (FamilyOf entry)
 
--- a function that is written was added, with the lines of its clauses
-abbrev pub IsFunctionWritten : Signature → Word → surf.Surf → surf.Clauses → Signature → List ClauseLine → Type 0
-IsFunctionWritten S x ty clauses T lines = (a : Elaborated) × (a.signature ≡ T) × (a.lines ≡ lines) × IsWrittenFunction S x ty clauses a
-
 -- A declaration over the entries of S has the name and comes to T, with the lines of its clauses. Only a function has clauses.
 abbrev pub IsWritten : Signature → surf.Decl → (name : List ℕ) → (T : Signature) → List ClauseLine → Type 0
 IsWritten S (surf.Def x ty body) name T lines = (x.text ≡ name) × (lines ≡ []) × IsDefinitionWritten S x ty body T
 IsWritten S (surf.Data x params ty cons) name T lines = (x.text ≡ name) × (lines ≡ []) × IsFamilyWritten S x params ty cons T
-IsWritten S (surf.Fun x ty clauses) name T lines = (x.text ≡ name) × IsFunctionWritten S x ty clauses T lines
+IsWritten S (surf.Fun x ty clauses) name T lines = (x.text ≡ name) × IsByClauses S x ty clauses T lines
 IsWritten S _ name T lines = ⊥
