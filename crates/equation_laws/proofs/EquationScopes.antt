@@ -1,5 +1,5 @@
 -- The equation of a clause is over the signature that has the plan's entries.
-use Rattle.std.proofs.Common.{◌≡◌, ℕ, zero, suc, ◌+◌, ◌<◌, inl, inr, Bool, true, false, cond, Option, Some, None, Ok, List, [], ◌∷◌, ◌++◌, length, take, All, refl, sym, ◌∙◌, subst as transport, subst₂, arith}
+use Rattle.std.proofs.Common.{◌≡◌, ℕ, zero, suc, ◌+◌, ◌<◌, inl, inr, Bool, true, false, cond, Option, Some, None, Ok, List, [], ◌∷◌, ◌++◌, length, take, slice_get, All, refl, sym, ◌∙◌, subst as transport, subst₂, arith}
 use Rattle.std.proofs.lemmas.Bool.{true≢false}
 use Rattle.std.proofs.lemmas.Bool.Decides.{nat_tests}
 use Rattle.std.proofs.lemmas.List.Elements.{All-nil, All-cons, All-head, All-tail, All-append, All-take, All-drop, All-weaker}
@@ -30,7 +30,7 @@ use Rattle.tree_translation.specs.Plans.{Plan, own_part}
 use Rattle.tree_translation.specs.Recursion.{Recursion, recursion_of, parameters_at, scrutinee_at, terms_at}
 use Rattle.tree_translation.specs.RightSides.{is_helper}
 use Rattle.clause_reports.specs.Conditions.{IsDefined, HasRecursion, IsEntered, IsReference}
-use Rattle.clause_reports.specs.Equations.{Equation, Site, number_of, part_name, in_signature, shown_built, shown, all_shown, values_of_recursion, last_argument, left_side, walk_site, equation_of, part_at, pats_of, side_of}
+use Rattle.clause_reports.specs.Equations.{Equation, Site, number_of, part_name, in_signature, shown_built, shown, all_shown, values_of_recursion, last_argument, left_side, walk_site, equation_at, equation_of, part_at, pats_of, side_of}
 use Rattle.clause_reports.specs.Generated.{all_name}
 use Rattle.clause_reports.specs.Laws.{IsOver}
 use Rattle.clause_reports.specs.Reports.{Reference}
@@ -178,12 +178,23 @@ side-scoped before plan base some at w _ _ (planned.absurd pats binds) =
 
 -- ---- the law
 
-over-all : (before S : Signature) (plan : Plan) (c : Reference) (e : Equation) → IsEntered before S plan → IsReference plan c → IsScopedWalk before c.walk
-    → equation_of S plan c.part c.clause c.walk ≡ Ok e → IsOver S e
-over-all before S plan c e entered ref walk made = record {
-  context = transport (IsScopedTelescope S 0) (sym is.context) (telescope-wider later 0 c.walk.ctx walk.context);
-  type = subst₂ (λ G t. IsScoped S (length G) t) (sym is.context) (sym is.type) (scoped-wider later walk.goal);
-  left = subst₂ (λ G t. IsScoped S (length G) t) (sym is.context) (sym is.left) (left c.part ref.part pats patterns);
+-- where a clause stands, what is there is over the context
+pub record IsScopedSite (S : Signature) (site : Site) : Type 0 where
+  pub context : IsScopedTelescope S 0 site.context
+  pub goal : IsScoped S (length site.context) site.goal
+  pub substitution : All (IsScoped S (length site.context)) site.substitution
+  pub terms : All (IsScoped S (length site.context)) site.terms
+  pub binds : All (IsScoped S (length site.context)) site.binds
+  pub walked : All (IsScoped S (length site.context)) site.walked
+
+-- the equation of a clause of part k, with its own walk, at such a site
+pub site-over : (before S : Signature) (plan : Plan) (k clause : ℕ) (w : Walk) (site : Site) (e : Equation) → IsEntered before S plan → k < length plan.parts
+    → slice_get (part_at plan k).walks clause ≡ Some w → IsScopedSite before site
+    → equation_at S plan k (pats_of (part_at plan k) clause) (side_of (part_at plan k) clause) site ≡ Ok e → IsOver S e
+site-over before S plan k clause w site e entered inside own scoped made = record {
+  context = transport (IsScopedTelescope S 0) (sym is.context) (telescope-wider later 0 site.context scoped.context);
+  type = subst₂ (λ G t. IsScoped S (length G) t) (sym is.context) (sym is.type) (scoped-wider later scoped.goal);
+  left = subst₂ (λ G t. IsScoped S (length G) t) (sym is.context) (sym is.left) (left k inside pats patterns);
   right = subst₂ (λ G t. IsScoped S (length G) t) (sym is.context) (sym is.right) (right (is_helper plan.base (head_of side)) refl);
 }
   where
@@ -194,25 +205,22 @@ over-all before S plan c e entered ref walk made = record {
     W = with_function before plan
 
     n : ℕ
-    n = length c.walk.ctx
+    n = length site.context
 
     pats : Pats
-    pats = pats_of (part_at plan c.part) c.clause
+    pats = pats_of (part_at plan k) clause
 
     side : Term
-    side = side_of (part_at plan c.part) c.clause
+    side = side_of (part_at plan k) clause
 
-    site : Site
-    site = walk_site c.walk
+    is : IsAt S plan k pats side site e
+    is = equation-is S plan k pats side site e made
 
-    is : IsAt S plan c.part pats side site e
-    is = equation-is S plan c.part pats side site e made
-
-    at : IsClauseThere before plan c.part (part_at plan c.part) c.clause c.walk
-    at = clause-there before plan entered.planned c.part ref.part c.clause c.walk ref.walk
+    at : IsClauseThere before plan k (part_at plan k) clause w
+    at = clause-there before plan entered.planned k inside clause w own
 
     some : 0 < length plan.parts
-    some = omega (arith, ref.part)
+    some = omega (arith, inside)
 
     later : HasNumbers before S
     later = keeps-numbers (prefix_keeps entered.prefix)
@@ -229,42 +237,58 @@ over-all before S plan c e entered ref walk made = record {
     recursion : HasRecursion S plan (recursion_of S plan)
     recursion = transport (HasRecursion S plan) (recursion-same before S entered.prefix plan tele) entered.recursion
 
-    last : 1 < length plan.parts → All (IsScoped S n) (last_argument S plan (recursion_of S plan) c.walk.terms)
-    last more = last-scoped S n plan (recursion_of S plan) c.walk.terms (telescope-wider later 0 (own_part plan).tele tele) recursion more (wider c.walk.terms walk.terms)
+    last : 1 < length plan.parts → All (IsScoped S n) (last_argument S plan (recursion_of S plan) site.terms)
+    last more = last-scoped S n plan (recursion_of S plan) site.terms (telescope-wider later 0 (own_part plan).tele tele) recursion more (wider site.terms scoped.terms)
 
     -- under a solution, with numbers of S
     put : (solution : List Term) (m : ℕ) (t : Term) → All (IsScoped T n) solution → IsScoped T m t → IsScoped S n (in_signature S plan (under_solution solution t))
     put solution m t all h = in_signature-scoped before S plan entered n (under_solution solution t) (under-scoped T m n solution t all h)
 
     same : at.pats ≡ pats
-    same = sym (get_or_from_slice_get (part_at plan c.part).pats c.clause at.pats pattern.nil at.pats_there)
+    same = sym (get_or_from_slice_get (part_at plan k).pats clause at.pats pattern.nil at.pats_there)
 
     patterns : AreScopedPatterns W at.binds pats
     patterns = transport (AreScopedPatterns W at.binds) same at.fits.scoped
 
     left : (k : ℕ) → k < length plan.parts → (ps : Pats) → AreScopedPatterns W at.binds ps → IsScoped S n (left_side S plan k ps site)
     left zero low ps h =
-        defined-scoped S n plan.name (all_shown S (λ t. in_signature S plan (under_solution c.walk.binds t)) ps c.walk.terms) (entered.parts 0 low)
-        (all-shown-scoped W S n at.binds (λ t. in_signature S plan (under_solution c.walk.binds t))
-        (λ t k. put c.walk.binds at.binds t (to-parts c.walk.binds walk.binds) (scoped-wider (function-numbers before plan (length plan.parts) some) k))
-        ps c.walk.terms h (wider c.walk.terms walk.terms))
+        defined-scoped S n plan.name (all_shown S (λ t. in_signature S plan (under_solution site.binds t)) ps site.terms) (entered.parts 0 low)
+        (all-shown-scoped W S n at.binds (λ t. in_signature S plan (under_solution site.binds t))
+        (λ t k. put site.binds at.binds t (to-parts site.binds scoped.binds) (scoped-wider (function-numbers before plan (length plan.parts) some) k))
+        ps site.terms h (wider site.terms scoped.terms))
     left (suc k) low ps h =
-        defined-scoped S n (part_name plan (suc k)) (c.walk.subst ++ last_argument S plan (recursion_of S plan) c.walk.terms) (entered.parts (suc k) low)
-        (All-append (IsScoped S n) c.walk.subst (last_argument S plan (recursion_of S plan) c.walk.terms) (wider c.walk.subst walk.substitution) (last (omega arith)))
+        defined-scoped S n (part_name plan (suc k)) (site.substitution ++ last_argument S plan (recursion_of S plan) site.terms) (entered.parts (suc k) low)
+        (All-append (IsScoped S n) site.substitution (last_argument S plan (recursion_of S plan) site.terms) (wider site.substitution scoped.substitution) (last (omega arith)))
 
     there : at.side ≡ side
-    there = sym (get_or_from_slice_get (part_at plan c.part).sides c.clause at.side (Sort 0) at.side_there)
+    there = sym (get_or_from_slice_get (part_at plan k).sides clause at.side (Sort 0) at.side_there)
 
     over : IsScopedSide T plan side
-    over = transport (IsScopedSide T plan) there (side-scoped before plan entered.planned.base some c.part c.walk (Is at.pats at.binds at.right) at.side at.is_side)
+    over = transport (IsScopedSide T plan) there (side-scoped before plan entered.planned.base some k w (Is at.pats at.binds at.right) at.side at.is_side)
 
     right : (b : Bool) → is_helper plan.base (head_of side) ≡ b
         → IsScoped S n (cond b (applied (in_signature S plan (under_solution site.walked side)) (last_argument S plan (recursion_of S plan) site.terms))
         (in_signature S plan (under_solution site.binds side)))
     right true calls =
-        applied-scoped S n (in_signature S plan (under_solution (variables n) side)) (last_argument S plan (recursion_of S plan) c.walk.terms)
-        (put (variables n) over.count side (variables-scoped T n n (omega arith)) over.scoped) (last (over.helpers calls))
-    right false calls = put c.walk.binds over.count side (to-parts c.walk.binds walk.binds) over.scoped
+        applied-scoped S n (in_signature S plan (under_solution site.walked side)) (last_argument S plan (recursion_of S plan) site.terms)
+        (put site.walked over.count side (to-parts site.walked scoped.walked) over.scoped) (last (over.helpers calls))
+    right false calls = put site.binds over.count side (to-parts site.binds scoped.binds) over.scoped
+
+-- at its own walk
+pub walk-over : (before S : Signature) (plan : Plan) (c : Reference) (e : Equation) → IsEntered before S plan → c.part < length plan.parts
+    → slice_get (part_at plan c.part).walks c.clause ≡ Some c.walk → IsScopedSite before (walk_site c.walk)
+    → equation_of S plan c.part c.clause c.walk ≡ Ok e → IsOver S e
+walk-over before S plan c e entered inside own scoped made = site-over before S plan c.part c.clause c.walk (walk_site c.walk) e entered inside own scoped made
 
 pub equation-is_over : EquationIsOver
-equation-is_over = over-all
+equation-is_over before S plan c e entered ref walk made =
+    walk-over before S plan c e entered ref.part ref.walk
+    (record {
+      context = walk.context;
+      goal = walk.goal;
+      substitution = walk.substitution;
+      terms = walk.terms;
+      binds = walk.binds;
+      walked = variables-scoped before (length c.walk.ctx) (length c.walk.ctx) (omega arith);
+    })
+    made
