@@ -43,21 +43,20 @@ use Rattle.run_laws.proofs.AnsweredNames.{run_names-answer}
 use Rattle.run_laws.proofs.AnsweredSplits.{IsSplitOver, branch-run, branch-there, method-low, split-low, type-low, whole-member, whole_of}
 use Rattle.run_laws.proofs.MadeSplits.{split_names-are_these}
 use Rattle.function_entries.specs.CodeTrees.{branches_names_made, names_at_split, next_made, node_after, tree_names_made}
-use Rattle.entry_laws.proofs.SameNames.{IsLikeNode}
+use Rattle.entry_laws.proofs.SameNames.{IsLikeNode, like-long, next-like}
 use Rattle.translation_laws.proofs.AnsweredTrees.{AreFrom, at_signature, ends_from, from-first, from-next, low-after, methods_from, node_from, run-ends, run-goes, solved-branch, split-over}
-use Rattle.deep_laws.proofs.AlikeContexts.{alike-long, next-alike}
 
 -- ---- what such nodes have in common
 
 whole-same : (a b : Node) (m : Member) → IsLikeNode a b → whole_of b m ≡ whole_of a m
 whole-same a b m h =
-    ap₂ (λ n hidden. member_under (widening n hidden) m) (sym (alike-long a.context b.context h.context)) (sym h.hidden)
+    ap₂ (λ n hidden. member_under (widening n hidden) m) (sym (like-long a.context b.context h.context)) (sym h.hidden)
 
 variable-same : (a b : Node) (x : ℕ) → IsLikeNode a b → variable_in b x ≡ variable_in a x
-variable-same a b x h = ap₂ (λ n hidden. widened_number n hidden x) (sym (alike-long a.context b.context h.context)) (sym h.hidden)
+variable-same a b x h = ap₂ (λ n hidden. widened_number n hidden x) (sym (like-long a.context b.context h.context)) (sym h.hidden)
 
 type-same : (a b : Node) (type : Term) → IsLikeNode a b → type_in b type ≡ type_in a type
-type-same a b type h = ap₂ (λ n hidden. widened n hidden type) (sym (alike-long a.context b.context h.context)) (sym h.hidden)
+type-same a b type h = ap₂ (λ n hidden. widened n hidden type) (sym (like-long a.context b.context h.context)) (sym h.hidden)
 
 member-alike : (S : Signature) (a b : Node) (type : Term) (m : Member) → IsLikeNode a b → member_made S (type_in b type) ≡ Ok (Some (whole_of b m))
     → member_made S (type_in a type) ≡ Ok (Some (whole_of a m))
@@ -188,7 +187,7 @@ next-like : (w : Translation) (a b : Node) (x : ℕ) (m : Member) (number : ℕ)
 next-like w a b x m number steps h =
     transport (λ n. IsLikeNode (next_node w.signature a (variable_in a x) number steps (Some n)) (node_from w b x m number steps)) (whole-same a b m h)
     (transport (λ y. IsLikeNode (next_node w.signature a y number steps (Some (whole_of b m))) (node_from w b x m number steps)) (variable-same a b x h)
-    (next-alike w.signature a b (variable_in b x) number steps (Some (whole_of b m)) h))
+    (next-like w.signature a b (variable_in b x) number steps (Some (whole_of b m)) h))
 
 -- the standing of a branch whose method is not too high at the other node
 standing-low : (w : Translation) (p : Point) (a b : Node) (x : ℕ) (type : Term) (m : Member) (number : ℕ) (c : Constructor) (cs : List Constructor)

@@ -1,4 +1,3 @@
-pub mod AlikeContexts
 pub mod AlikeNames
 pub mod ExactEntries
 pub mod MadeParts

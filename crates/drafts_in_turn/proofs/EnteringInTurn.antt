@@ -1,5 +1,5 @@
 -- The drafts enter in turn, where each name of a draft can be generated or is that of a draft before it.
-use Rattle.std.proofs.Common.{◌≡◌, inl, inr, ℕ, zero, suc, Bool, true, false, ◌&&◌, ◌||◌, List, [], ◌∷◌, ◌++◌, Result, Ok, Err, IfOk, refl, ap, ap₂, ◌∙◌, subst as transport, arith}
+use Rattle.std.proofs.Common.{◌≡◌, inl, inr, ℕ, Bool, true, false, ◌&&◌, ◌||◌, List, [], ◌∷◌, ◌++◌, Result, Ok, Err, IfOk, refl, ap, ap₂, ◌∙◌, arith}
 use Rattle.std.specs.Option.{is_some}
 use Rattle.theory.specs.Signatures.{Signature}
 use Rattle.core_sig.specs.Drafts.{Draft}
@@ -12,12 +12,12 @@ use Rattle.clause_reports.specs.Stops.{ReportStop}
 use Rattle.draft_checks.specs.Checks.{is_definition_found, name_enters, names_enter}
 use Rattle.draft_entering.specs.Conditions.{Extends, IsDefined, IsGeneratedName}
 use Rattle.draft_entering.proofs.Longer.{defined-longer, extends-on, generated-longer}
-use Rattle.tree_translation.specs.Laws.{IsAmong, name_of}
+use Rattle.tree_translation.specs.Laws.{name_of}
 use Rattle.entering_laws.proofs.EnteredOpen.{entering-extends}
 use Rattle.entry_laws.proofs.OnlyConstants.{Each, each-append, each-weaker}
 use Rattle.made_functions.specs.Entering.{NamesInTurn}
 use Rattle.drafts_in_turn.proofs.EnteredDraft.{draft-defined}
-use Rattle.drafts_in_turn.proofs.GrowingDrafts.{Grows, IsKnown}
+use Rattle.entry_laws.proofs.GrowingDrafts.{Grows, IsKnown, among-each}
 
 -- ---- a name
 
@@ -37,13 +37,8 @@ defined-enters T name (n, at, (own, type, body, there)) =
 generated-enters : (T : Signature) (name : List ℕ) → IsGeneratedName T name → name_enters T name ≡ true
 generated-enters T name (g, is) = or-right (is_definition_found T (find T name)) (is_some (generated_by T name)) (ap is_some is)
 
-among-each : (P : List ℕ → Type 0) (names : List (List ℕ)) (name : List ℕ) → Each P names → IsAmong name names → P name
-among-each P [] name Each.none (k, x, within, at, e) = absurd (omega arith)
-among-each P (y ∷ names) name (Each.more h rest) (zero, x, within, at, e) = transport P (at ∙ e) h
-among-each P (y ∷ names) name (Each.more h rest) (suc k, x, within, at, e) = among-each P names name rest (k, x, omega arith, at, e)
-
 -- a name that is known over S may enter what S has become, where the names before are defined
-known-enters : (S T : Signature) → Extends S T → (known : List (List ℕ)) → Each (IsDefined T) known → (name : List ℕ) → IsKnown S known name
+known-enters : (S T : Signature) → Extends S T → (known : List (List ℕ)) → Each (IsDefined T) known → (name : List ℕ) → IsKnown (IsGeneratedName S) known name
     → name_enters T name ≡ true
 known-enters S T longer known defined name (inl (g, is)) = generated-enters T name (g, generated-longer S T longer name ∙ is)
 known-enters S T longer known defined name (inr among) = defined-enters T name (among-each (IsDefined T) known name defined among)
@@ -58,10 +53,10 @@ after-entering : (r : Result Entered ReportStop) (P Q R : Entered → Type 0) �
 after-entering (Ok e) P Q R h k go = go e h k
 after-entering (Err s) P Q R h k go = tt
 
-pub grown-in_turn : (S T : Signature) (known : List (List ℕ)) (drafts : List Draft) → Extends S T → Each (IsDefined T) known → Grows S known drafts
+pub grown-in_turn : (S T : Signature) (known : List (List ℕ)) (drafts : List Draft) → Extends S T → Each (IsDefined T) known → Grows (IsGeneratedName S) known drafts
     → NamesInTurn T drafts
 grown-in_turn S T known [] longer defined Grows.none = tt
-grown-in_turn S T known (d ∷ drafts) longer defined (Grows.more h rest) = (
+grown-in_turn S T known (d ∷ drafts) longer defined (Grows.more h differ rest) = (
   all-enter T d.names (each-weaker d.names (λ name is. known-enters S T longer known defined name is) h),
   λ left.
       after-entering (enter_draft_of T d left).0 (λ e. Extends T e.signature) (λ e. IsDefined e.signature (name_of d)) (λ e. NamesInTurn e.signature drafts)

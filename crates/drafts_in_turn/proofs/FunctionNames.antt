@@ -2,6 +2,7 @@
 use Rattle.std.proofs.Common.{◌≡◌, List, [], Result, Ok, Err, IfOk, refl}
 use Rattle.core_terms.specs.declared.stop.Stop.{Stop}
 use Rattle.core_sig.specs.Drafts.{Draft}
+use Rattle.draft_entering.specs.Conditions.{IsGeneratedName}
 use Rattle.draft_entering.proofs.Longer.{extends-same}
 use Rattle.tree_translation.specs.Entries.{translate}
 use Rattle.entry_laws.proofs.OnlyConstants.{Each}
@@ -9,7 +10,7 @@ use Rattle.plan_laws.specs.Laws.{PlanIsOfFunction, PlanIsPlanned}
 use Rattle.made_functions.specs.Entering.{FunctionEnters, NamesInTurn}
 use Rattle.drafts_in_turn.specs.Laws.{FunctionEntersInTurn, FunctionNamesEnter}
 use Rattle.drafts_in_turn.proofs.EnteringInTurn.{grown-in_turn}
-use Rattle.drafts_in_turn.proofs.GrowingDrafts.{drafts-grow}
+use Rattle.entry_laws.proofs.GrowingDrafts.{drafts-grow}
 use Rattle.drafts_in_turn.proofs.PlanNames.{function-names}
 
 answer-has : (r : Result (List Draft) Stop) (P : List Draft → Type 0) → ((drafts : List Draft) → r ≡ Ok drafts → P drafts) → IfOk r P
@@ -20,7 +21,7 @@ pub names-enter : PlanIsOfFunction → PlanIsPlanned → FunctionNamesEnter
 names-enter of plans S f plan h level =
     let made = function-names of plans S f plan h level in
     answer-has (translate S plan) (NamesInTurn S) (λ drafts e.
-    grown-in_turn S S [] drafts (extends-same S) Each.none (drafts-grow S plan made.0 made.1 drafts e))
+    grown-in_turn S S [] drafts (extends-same S) Each.none (drafts-grow (IsGeneratedName S) S plan made.0 made.1 drafts e))
 
 pub enters-in_turn : FunctionNamesEnter → FunctionEnters → FunctionEntersInTurn
 enters-in_turn names enters S f plan left h level formed first marks drops = enters S f plan left h formed first marks drops (names S f plan h level)

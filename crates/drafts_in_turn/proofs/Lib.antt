@@ -1,7 +1,6 @@
 pub mod CycleSides
 pub mod RunNames
 pub mod TreeNames
-pub mod GrowingDrafts
 pub mod EnteredDraft
 pub mod EnteringInTurn
 pub mod PartLevels

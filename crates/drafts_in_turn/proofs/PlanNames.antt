@@ -41,7 +41,7 @@ use Rattle.plan_laws.proofs.Answering.{if-ok}
 use Rattle.plan_drafts.specs.Laws.{IsPlanFor}
 use Rattle.drafts_in_turn.specs.Laws.{HasLevel}
 use Rattle.drafts_in_turn.proofs.FamilyLevels.{family-level, level-low}
-use Rattle.drafts_in_turn.proofs.GrowingDrafts.{CanBeMade}
+use Rattle.entry_laws.proofs.GrowingDrafts.{CanBeMade}
 use Rattle.drafts_in_turn.proofs.PartLevels.{ArePartsLow, part-low, plan-low}
 use Rattle.drafts_in_turn.proofs.RunNames.{IsFitting, can-recur}
 use Rattle.drafts_in_turn.proofs.TreeNames.{tree-fits}
@@ -140,7 +140,7 @@ module _ (S : Signature) (plan : Plan) (planned : IsPlanned S plan) (ready : IsR
       is.goal_scoped is.terms_scoped (record { is_seen = root.is_seen; hidden = root.hidden }) (low-fits part.level (helpers_low k part at))
 
   pub names-made : ((r : Recursion) → recursion_of S plan ≡ Some r → IsGeneratedName S (below_name r.family plan.level) × IsGeneratedName S (rec_name r.family plan.level))
-      → CanBeMade S plan
+      → CanBeMade (IsGeneratedName S) S plan
   names-made recursion = record {
     own = own-names;
     step = step-names;
@@ -150,7 +150,7 @@ module _ (S : Signature) (plan : Plan) (planned : IsPlanned S plan) (ready : IsR
 
 -- of a function
 pub function-names : PlanIsOfFunction → PlanIsPlanned → (S : Signature) (f : Function) (plan : Plan) (h : IsPlanFor S f plan) → HasLevel S f h.level
-    → IsPlanned S plan × CanBeMade S plan
+    → IsPlanned S plan × CanBeMade (IsGeneratedName S) S plan
 function-names of plans S f plan h level =
     let is = if-ok (IsPlanOf S f h.level) (plan_of S f h.level h.left).0 plan h.is (of S f h.level h.left) in
     let planned = plans S f h.level h.left plan h.function h.low h.is h.closed in

@@ -1,5 +1,5 @@
 -- The names that the term of a run may mention can be generated, where the level of its goal is low enough.
-use Rattle.std.proofs.Common.{◌≡◌, inl, inr, ℕ, ◌+◌, ◌-◌, ◌<◌, ◌≤◌, ◌&&◌, nat_le, nat_lt, max, Bool, true, Option, Some, None, IfSome, Result, Ok, Err, IfOk, List, [], ◌∷◌, length, refl, sym, ap, ap₂, ◌∙◌, subst as transport, arith}
+use Rattle.std.proofs.Common.{◌≡◌, inl, inr, ℕ, ◌+◌, ◌<◌, ◌≤◌, ◌&&◌, nat_le, nat_lt, max, Bool, true, Option, Some, None, IfSome, Result, Ok, Err, IfOk, List, [], ◌∷◌, length, refl, sym, ap, ap₂, ◌∙◌, subst as transport, arith}
 use Rattle.std.proofs.lemmas.Bool.Decides.{nat_tests}
 use Rattle.std.proofs.lemmas.Option.{slice_get_within}
 use Rattle.std.proofs.lemmas.Result.{IfOk-at_ok}
@@ -44,7 +44,8 @@ use Rattle.tree_translation.proofs.SeenSteps.{step-seen}
 use Rattle.tree_translation.proofs.SeenTerms.{widened-is, widened-variable, widening}
 use Rattle.replay_laws.proofs.SeenComparisons.{alone-seen, group-seen}
 use Rattle.entry_laws.proofs.OnlyConstants.{Each, each-append}
-use Rattle.drafts_in_turn.proofs.CycleSides.{CycleSide, LastSide, SideIs, turn-side}
+use Rattle.name_laws.proofs.LastSides.{CycleSide, LastSide}
+use Rattle.drafts_in_turn.proofs.CycleSides.{SideIs, SidesAre, turn-side}
 
 -- the level of a goal, at which no confusion is made
 abbrev pub IsFitting : (L : ℕ) → Type 0
@@ -176,7 +177,7 @@ module _ (S : Signature) (L : ℕ) (fits : IsFitting L) where
   var-low : (n v : ℕ) → IsScoped S n (Var v) → v < n
   var-low n v h = omega (arith, h.variables)
 
-  last-names : (s : State) (step : Step) (w : Standing) → IsAbsurd S s step → IsScopedStep S (length s.context) step → CycleSide S step step.rule → Widens w s
+  last-names : (s : State) (step : Step) (w : Standing) → IsAbsurd S s step → IsScopedStep S (length s.context) step → CycleSide (SidesAre S) step step.rule → Widens w s
       → Each (IsGeneratedName S) (rule_names S L w (step_in w step) (step_in w step).rule)
   last-names s _ w (conflict_group _ k f ps type b d left right family number group) scoped side h =
       compared-fit S L _ _ (group-seen S s w (Conflict b.n b.number d.number) k f ps type b d left right group)
@@ -199,7 +200,7 @@ module _ (S : Signature) (L : ℕ) (fits : IsFitting L) where
   abbrev Holds : Standing → Outcome → Type 0
   Holds w outcome = Each (IsGeneratedName S) (run_names S L (steps_in outcome) w)
 
-  end-names : (s : State) (turn : Turn) (w : Standing) → IsRight S s turn → LastSide S turn → Widens w s → IfSome (end_of s turn) (Holds w)
+  end-names : (s : State) (turn : Turn) (w : Standing) → IsRight S s turn → LastSide (SidesAre S) turn → Widens w s → IfSome (end_of s turn) (Holds w)
   end-names s Done w right side h = Each.none
   end-names s (Goes step t) w right side h = tt
   end-names s (Fails step u v) w right side h = each-append _ [] (last-names s step w right.follows.0 right.good.0.0 side h) Each.none

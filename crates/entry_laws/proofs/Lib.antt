@@ -1,3 +1,4 @@
+pub mod GrowingDrafts
 pub mod NameLaws
 pub mod OnlyConstants
 pub mod OnlyCycles

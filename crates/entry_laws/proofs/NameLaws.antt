@@ -1,30 +1,21 @@
 -- The names of each draft differ, and each is generated or that of an entry before it.
-use Rattle.std.proofs.Common.{◌≡◌, ◌≢◌, ◌⊎◌, inl, inr, ℕ, zero, suc, ◌+◌, ◌-◌, ◌<◌, ◌≤◌, ◌==◌, Bool, true, false, Option, Some, None, List, [], ◌∷◌, ◌++◌, map, length, drop, slice_get, AllPairs, refl, sym, ap, subst, ◌∙◌, arith, append_assoc}
-use Rattle.std.proofs.lemmas.Bool.Decides.{nat_tests}
-use Rattle.std.proofs.lemmas.List.{map-append, append-nil}
-use Rattle.std.proofs.lemmas.Option.{none-some}
+use Rattle.std.proofs.Common.{◌≡◌, ◌≢◌, ◌⊎◌, inl, inr, ℕ, zero, suc, ◌+◌, Option, List, [], ◌∷◌, map, AllPairs, refl, subst, ◌∙◌, arith}
 use Rattle.std.specs.List.{Any}
 use Rattle.theory.specs.Signatures.{Signature}
 use Rattle.core_terms.specs.CaseTrees as tree
 use Rattle.core_terms.specs.CaseTrees.{Tree, Branch, Branches}
 use Rattle.core_sig.specs.Drafts.{Draft}
 use Rattle.case_trees.specs.Problems.{Member, member_of}
-use Rattle.tele_eq.specs.Items.{each_position}
-use Rattle.tree_translation.specs.Naming.{motive_name, step_name, helper_name}
-use Rattle.tree_translation.specs.Plans.{Plan, Part, own_part}
-use Rattle.tree_translation.specs.Recursion.{Recursion, recursion_of}
-use Rattle.tree_translation.specs.Entries.{helper_count, side_names, step_node, helper_node}
-use Rattle.tree_translation.specs.Conditions.{IsPlanned}
+use Rattle.tree_translation.specs.Plans.{Plan, own_part}
+use Rattle.tree_translation.specs.Entries.{step_node, helper_node}
 use Rattle.tree_translation.specs.Splits.{Node, split_names}
 use Rattle.tree_translation.specs.TreeTerms.{type_in, variable_in, next_node, runs_of, tree_names, branches_names, branch_names}
 use Rattle.tree_translation.specs.Laws.{name_of, IsGenerated, below as generated_below, rec as generated_rec, IsAmong, NamesDiffer, EarlierAlone}
-use Rattle.tree_translation.proofs.Drafting.{AreHelpers, AreEntries, entries-are}
-use Rattle.tree_translation.proofs.EntryNames.{made-name, motive-made, step-made, helper-made}
 use Rattle.tree_translation.proofs.GeneratedNames.{split-generated}
-use Rattle.tree_translation.proofs.NewNames.{named-among}
 use Rattle.entry_laws.proofs.OnlyConstants.{Each, each-all, each-append, each-weaker}
-use Rattle.entry_laws.proofs.OnlyEntries.{recursion-entry, own_node, step_candidates, helper_candidates, function_candidates, motive-names, step-names, helper-names, function-names, helper-is}
-use Rattle.entry_laws.proofs.TableNames.{HasNames, all-each}
+use Rattle.entry_laws.proofs.OnlyEntries.{recursion-entry, own_node}
+use Rattle.entry_laws.proofs.TableNames.{all-each}
+use Rattle.entry_laws.proofs.GrowingDrafts.{CanBeMade, Grows, IsKnown, drafts-grow, grows-at, grows-differ}
 
 -- ---- generated names
 
@@ -48,193 +39,23 @@ mutual
   branch-generated S L (tree.Absurd steps context u v) node x o number = Each.none
   branch-generated S L (tree.Solved steps origins subtree) node x o number = tree-generated S L subtree (next_node S node x number steps o)
 
--- ---- names that are known
-
--- a name that is generated, or among those before
-abbrev IsKnown : Signature → (known : List (List ℕ)) → List ℕ → Type 0
-IsKnown S known name = IsGenerated S name ⊎ IsAmong name known
-
-known-generated : (S : Signature) (known names : List (List ℕ)) → Each (IsGenerated S) names → Each (IsKnown S known) names
-known-generated S known names all = each-weaker names (λ name h. inl h) all
-
-among-here : (name : List ℕ) (names : List (List ℕ)) → IsAmong name (name ∷ names)
-among-here name names = (0, name, omega arith, refl, refl)
-
-among-later : (other name : List ℕ) (names : List (List ℕ)) → IsAmong name names → IsAmong name (other ∷ names)
-among-later other name names (k, x, within, at, e) = (suc k, x, omega arith, at, e)
-
-among-right : (xs ys : List (List ℕ)) (name : List ℕ) → IsAmong name ys → IsAmong name (xs ++ ys)
-among-right [] ys name h = h
-among-right (x ∷ xs) ys name h = among-later x name (xs ++ ys) (among-right xs ys name h)
-
-among-left : (xs ys : List (List ℕ)) (name : List ℕ) → IsAmong name xs → IsAmong name (xs ++ ys)
-among-left [] ys name (k, x, within, at, e) = absurd (omega arith)
-among-left (x ∷ xs) ys name (zero, y, within, at, e) = (0, y, omega arith, at, e)
-among-left (x ∷ xs) ys name (suc k, y, within, at, e) = among-later x name (xs ++ ys) (among-left xs ys name (k, y, omega arith, at, e))
-
--- the helpers from number k on have the names of their numbers
-among-helpers : (S : Signature) (plan : Plan) (o : Option Recursion) (k : ℕ) (parts : List Part) (helpers : List Draft) → AreHelpers S plan o k parts helpers
-    → (j : ℕ) → k ≤ j → j < k + length parts → IsAmong (helper_name plan.name j) (map name_of helpers)
-among-helpers S plan o k [] [] AreHelpers.none j low high = absurd (omega arith)
-among-helpers S plan o k [] (d ∷ others) are j low high = absurd (omega arith)
-among-helpers S plan o k (part ∷ parts) all (AreHelpers.more {helpers = helpers} {d = d} e are) j low high =
-    subst (IsAmong (helper_name plan.name j)) (sym (map-append name_of helpers (d ∷ [])))
-    (by (j == k) refl (λ lt. among-helpers S plan o (k + 1) parts helpers are j lt (omega arith)))
-  where
-    by : (b : Bool) → (j == k) ≡ b → (k + 1 ≤ j → IsAmong (helper_name plan.name j) (map name_of helpers))
-        → IsAmong (helper_name plan.name j) (map name_of helpers ++ name_of d ∷ [])
-    by true same go =
-        let is : j ≡ k = grind (arith, nat_tests) in
-        among-right (map name_of helpers) (name_of d ∷ []) (helper_name plan.name j)
-        (0, name_of d, omega arith, refl, made-name (helper_name plan.name k) plan.base d (helper-made S plan o k part d e) ∙ ap (helper_name plan.name) (sym is))
-    by false other go = among-left (map name_of helpers) (name_of d ∷ []) (helper_name plan.name j) (go (grind (arith, nat_tests)))
-
-helpers-known : (S : Signature) (function : List ℕ) (known : List (List ℕ)) (at count : ℕ) → ((j : ℕ) → at ≤ j → j < at + count → IsAmong (helper_name function j) known)
-    → Each (IsKnown S known) (each_position (helper_name function) at count)
-helpers-known S function known at zero h = Each.none
-helpers-known S function known at (suc count) h =
-    Each.more (inr (h at (omega arith) (omega arith))) (helpers-known S function known (at + 1) count (λ j low high. h j (omega arith) (omega arith)))
-
--- the names of a draft are known, where its candidates are
-names-known : (S : Signature) (known candidates : List (List ℕ)) (d : Draft) → HasNames candidates d → Each (IsKnown S known) candidates → Each (IsKnown S known) d.names
-names-known S known candidates d h all =
-    each-weaker d.names (λ name is. found candidates name all (named-among candidates name is)) h.among
-  where
-    found : (names : List (List ℕ)) (name : List ℕ) → Each (IsKnown S known) names → IsAmong name names → IsKnown S known name
-    found [] name Each.none (k, x, within, at, e) = absurd (omega arith)
-    found (y ∷ names) name (Each.more h rest) (zero, x, within, at, e) = subst (IsKnown S known) (at ∙ e) h
-    found (y ∷ names) name (Each.more h rest) (suc k, x, within, at, e) = found names name rest (k, x, omega arith, at, e)
-
--- ---- lists of drafts
-
--- each draft's names differ, and are known after the drafts before it
-data Grows (S : Signature) : (known : List (List ℕ)) → List Draft → Type 0 where
-  none : {known : List (List ℕ)} → Grows S known []
-  more : {known : List (List ℕ)} {d : Draft} {ds : List Draft} → Each (IsKnown S known) d.names → AllPairs (λ one other. one ≢ other) d.names
-      → Grows S (known ++ name_of d ∷ []) ds → Grows S known (d ∷ ds)
-
-grows-append : (S : Signature) (known : List (List ℕ)) (xs ys : List Draft) → Grows S known xs → Grows S (known ++ map name_of xs) ys → Grows S known (xs ++ ys)
-grows-append S known [] ys Grows.none k = subst (λ known. Grows S known ys) (append-nil known) k
-grows-append S known (x ∷ xs) ys (Grows.more h differ rest) k =
-    Grows.more h differ
-    (grows-append S (known ++ name_of x ∷ []) xs ys rest (subst (λ known. Grows S known ys) (sym (append_assoc known (name_of x ∷ []) (map name_of xs))) k))
-
-grows-differ : (S : Signature) (known : List (List ℕ)) (ds : List Draft) → Grows S known ds → Each (λ d. AllPairs (λ one other. one ≢ other) d.names) ds
-grows-differ S known [] Grows.none = Each.none
-grows-differ S known (d ∷ ds) (Grows.more h differ rest) = Each.more differ (grows-differ S (known ++ name_of d ∷ []) ds rest)
-
-grows-at : (S : Signature) (known : List (List ℕ)) (before after : List Draft) (d : Draft) → Grows S known (before ++ d ∷ after) → Each (IsKnown S (known ++ map name_of before)) d.names
-grows-at S known [] after d (Grows.more h differ rest) = subst (λ known. Each (IsKnown S known) d.names) (sym (append-nil known)) h
-grows-at S known (x ∷ before) after d (Grows.more h differ rest) =
-    subst (λ known. Each (IsKnown S known) d.names) (append_assoc known (name_of x ∷ []) (map name_of before)) (grows-at S (known ++ name_of x ∷ []) before after d rest)
-
--- ---- the entries
-
-module _ (S : Signature) (plan : Plan) (planned : IsPlanned S plan) where
-  -- what is known before the helpers: the motive, with recursion
-  before_helpers : Option Recursion → List (List ℕ)
-  before_helpers None = []
-  before_helpers (Some r) = motive_name plan.name ∷ []
-
-  sides-known : (o : Option Recursion) (at : ℕ) (known : List (List ℕ)) → recursion_of S plan ≡ o
-      → ((j : ℕ) → at + 1 ≤ j → j < at + 1 + (helper_count plan - at) → IsAmong (helper_name plan.name j) known)
-      → ((r : Recursion) → o ≡ Some r → IsAmong (motive_name plan.name) known)
-      → Each (IsKnown S known) (side_names plan o at)
-  sides-known None at known is helpers motive = helpers-known S plan.name known (at + 1) (helper_count plan - at) helpers
-  sides-known (Some r) at known is helpers motive =
-      Each.more (inl (generated_below r.admission.number plan.level r.family (recursion-entry S plan r is) refl))
-      (Each.more (inr (motive r refl)) (helpers-known S plan.name known (at + 1) (helper_count plan - at) helpers))
-
-  motive-before : (o : Option Recursion) (r : Recursion) (names : List (List ℕ)) → o ≡ Some r → IsAmong (motive_name plan.name) (before_helpers o ++ names)
-  unfolding before_helpers
-  motive-before None r names e = absurd (none-some r e)
-  motive-before (Some q) r names e = among-here (motive_name plan.name) names
-
-  helpers-grow : (o : Option Recursion) (k : ℕ) (parts : List Part) (helpers : List Draft) → recursion_of S plan ≡ o → k + length parts ≡ helper_count plan
-      → ((j : ℕ) (part : Part) → slice_get parts j ≡ Some part → slice_get plan.parts (k + 1 + j) ≡ Some part)
-      → AreHelpers S plan o (k + 1) parts helpers → Grows S (before_helpers o) helpers
-  helpers-grow o k [] [] is count there AreHelpers.none = Grows.none
-  helpers-grow o k [] (d ∷ others) is count there are = elim are [ ]
-  helpers-grow o k (part ∷ parts) all is count there (AreHelpers.more {helpers = helpers} {d = d} e are) =
-      let place : k + 1 + 0 ≡ k + 1 = omega arith in
-      let p = helper-is S plan k part planned (ap (slice_get plan.parts) (sym place) ∙ there 0 part refl) in
-      let made = helper-names S plan planned o (k + 1) part d is p e in
-      let known = before_helpers o ++ map name_of helpers in
-      grows-append S (before_helpers o) helpers (d ∷ [])
-      (helpers-grow o (k + 1) parts helpers is (omega (arith, count))
-      (λ j part at. let next : k + 1 + suc j ≡ k + 1 + 1 + j = omega arith in ap (slice_get plan.parts) (sym next) ∙ there (suc j) part at) are)
-      (Grows.more
-      (names-known S known (helper_candidates S plan o (k + 1) part) d made
-      (each-append (side_names plan o (k + 1)) _
-      (sides-known o (k + 1) known is
-      (λ j low high.
-      among-right (before_helpers o) (map name_of helpers) (helper_name plan.name j)
-      (among-helpers S plan o (k + 1 + 1) parts helpers are j low (omega (arith, count))))
-      (λ r same. motive-before o r (map name_of helpers) same))
-      (known-generated S known _ (tree-generated S part.level part.tree (helper_node plan o part (λ name. plan.base))))))
-      made.differ Grows.none)
-
-  -- the parts after the first one
-  pub later-parts : (parts : List Part) (j : ℕ) (part : Part) → slice_get (drop 1 parts) j ≡ Some part → slice_get parts (0 + 1 + j) ≡ Some part
-  later-parts [] j part at = absurd (none-some part at)
-  later-parts (first ∷ parts) j part at = let place : suc j ≡ 0 + 1 + j = omega arith in ap (slice_get (first ∷ parts)) (sym place) ∙ at
-
-  all-helpers : (o : Option Recursion) (helpers : List Draft) → recursion_of S plan ≡ o → AreHelpers S plan o 1 (drop 1 plan.parts) helpers → Grows S (before_helpers o) helpers
-  all-helpers o helpers is are =
-      let one : 1 ≡ 0 + 1 = refl in
-      helpers-grow o 0 (drop 1 plan.parts) helpers is (omega arith) (later-parts plan.parts) are
-
-  helper-among : (o : Option Recursion) (helpers : List Draft) (j : ℕ) → AreHelpers S plan o 1 (drop 1 plan.parts) helpers → 1 ≤ j → j < 1 + helper_count plan
-      → IsAmong (helper_name plan.name j) (map name_of helpers)
-  helper-among o helpers j are low high =
-      among-helpers S plan o 1 (drop 1 plan.parts) helpers are j low high
-
-  entries-grow : (o : Option Recursion) (all : List Draft) → recursion_of S plan ≡ o → AreEntries S plan o all → Grows S [] all
-  unfolding before_helpers
-  entries-grow None all is (AreEntries.alone {helpers = helpers} {f = d} are e) =
-      let made = function-names S plan planned None d is e in
-      let known = map name_of helpers in
-      grows-append S [] helpers (d ∷ []) (all-helpers None helpers is are)
-      (Grows.more
-      (names-known S known (function_candidates S plan None) d made
-      (each-append (side_names plan None 0) _
-      (sides-known None 0 known is (λ j low high. helper-among None helpers j are (omega arith) (omega arith)) (λ r same. absurd (none-some r same)))
-      (known-generated S known _ (tree-generated S (own_part plan).level (own_part plan).tree (own_node plan)))))
-      made.differ Grows.none)
-  entries-grow (Some r) all is (AreEntries.recursive {motive = motive} {step = step} {f = d} {helpers = helpers} first are second third) =
-      let made_motive = motive-names S plan r motive planned first in
-      let made_step = step-names S plan planned r step is second in
-      let made = function-names S plan planned (Some r) d is third in
-      let motive_is = made-name (motive_name plan.name) plan.base motive (motive-made plan r motive first) in
-      let step_is = made-name (step_name plan.name) plan.base step (step-made S plan r step second) in
+-- the names that trees may mention, and those of recursion, are generated
+all-generated : (S : Signature) (plan : Plan) → CanBeMade (IsGenerated S) S plan
+all-generated S plan = record {
+  own = λ is. tree-generated S (own_part plan).level (own_part plan).tree (own_node plan);
+  step = λ r is. tree-generated S (own_part plan).level (own_part plan).tree (step_node plan r (λ name. plan.base));
+  helpers = λ o k part is at. tree-generated S part.level part.tree (helper_node plan o part (λ name. plan.base));
+  recursion = λ r is.
       let entry = recursion-entry S plan r is in
-      let known = motive_name plan.name ∷ map name_of helpers in
-      Grows.more (names-known S [] [] motive made_motive Each.none) made_motive.differ
-      (subst (λ name. Grows S (name ∷ []) (helpers ++ step ∷ d ∷ [])) (sym motive_is)
-      (grows-append S (motive_name plan.name ∷ []) helpers (step ∷ d ∷ []) (all-helpers (Some r) helpers is are)
-      (Grows.more
-      (names-known S known (step_candidates S plan r) step made_step
-      (each-append (side_names plan (Some r) 0) _
-      (sides-known (Some r) 0 known is
-      (λ j low high. among-later (motive_name plan.name) (helper_name plan.name j) (map name_of helpers) (helper-among (Some r) helpers j are (omega arith) (omega arith)))
-      (λ q same. among-here (motive_name plan.name) (map name_of helpers)))
-      (known-generated S known _ (tree-generated S (own_part plan).level (own_part plan).tree (step_node plan r (λ name. plan.base))))))
-      made_step.differ
-      (Grows.more
-      (names-known S (known ++ name_of step ∷ []) (function_candidates S plan (Some r)) d made
-      (Each.more (inl (generated_rec r.admission.number plan.level r.family entry refl))
-      (Each.more (inr (among-here (motive_name plan.name) (map name_of helpers ++ name_of step ∷ [])))
-      (Each.more
-      (inr (subst (λ name. IsAmong (step_name plan.name) (known ++ name ∷ [])) (sym step_is) (among-right known (step_name plan.name ∷ []) (step_name plan.name) (among-here (step_name plan.name) []))))
-      Each.none))))
-      made.differ Grows.none))))
+      (generated_below r.admission.number plan.level r.family entry refl, generated_rec r.admission.number plan.level r.family entry refl);
+}
 
 -- ---- the laws
 
 pub names_differ : NamesDiffer
 names_differ S plan drafts planned e =
     all-each (λ d. AllPairs (λ one other. one ≢ other) d.names) drafts
-    (grows-differ S [] drafts (entries-grow S plan planned (recursion_of S plan) drafts refl (entries-are S plan (recursion_of S plan) drafts e)))
+    (grows-differ (IsGenerated S) [] drafts (drafts-grow (IsGenerated S) S plan planned (all-generated S plan) drafts e))
 
 among-any : (name : List ℕ) (before : List Draft) → IsAmong name (map name_of before) → Any (λ e. name_of e ≡ name) before
 among-any name [] (k, x, within, at, e) = absurd (omega arith)
@@ -244,10 +65,10 @@ among-any name (d ∷ before) (suc k, x, within, at, e) =
 
 pub earlier_alone : EarlierAlone
 earlier_alone S plan drafts planned e before behind d whole =
-    let grows = entries-grow S plan planned (recursion_of S plan) drafts refl (entries-are S plan (recursion_of S plan) drafts e) in
-    let names = grows-at S [] before behind d (subst (Grows S []) whole grows) in
+    let grows = drafts-grow (IsGenerated S) S plan planned (all-generated S plan) drafts e in
+    let names = grows-at (IsGenerated S) [] before behind d (subst (Grows (IsGenerated S) []) whole grows) in
     all-each (λ name. IsGenerated S name ⊎ Any (λ e. name_of e ≡ name) before) d.names (each-weaker d.names (λ name is. known name is) names)
   where
-    known : (name : List ℕ) → IsKnown S (map name_of before) name → IsGenerated S name ⊎ Any (λ e. name_of e ≡ name) before
+    known : (name : List ℕ) → IsKnown (IsGenerated S) (map name_of before) name → IsGenerated S name ⊎ Any (λ e. name_of e ≡ name) before
     known name (inl h) = inl h
     known name (inr h) = inr (among-any name before h)

@@ -141,7 +141,7 @@ pub record IsLike (s t : Standing) : Type 0 where
   pub levels : equation_levels s.state.equations ≡ equation_levels t.state.equations
   pub hidden : s.hidden ≡ t.hidden
 
-like-long : (xs ys : List Term) → blanks xs ≡ blanks ys → length xs ≡ length ys
+pub like-long : (xs ys : List Term) → blanks xs ≡ blanks ys → length xs ≡ length ys
 like-long xs ys e = sym (length-blank xs) ∙ (ap length e ∙ length-blank ys)
 
 levels-moved : (items types : Environment) (side : Term → Term) (size depth : ℕ) (es : List Equation)
@@ -348,7 +348,7 @@ behind-like S a b m x number steps (Some c) h =
     let is = run-like S steps (branch_standing a m x number c) (branch_standing b m x number c) (branch-like a b m x number c h) in
     record { context = is.context; hidden = is.hidden }
 
-next-like : (S : Signature) (a b : Node) (x number : ℕ) (steps : List Step) (o : Option Member) → IsLikeNode a b
+pub next-like : (S : Signature) (a b : Node) (x number : ℕ) (steps : List Step) (o : Option Member) → IsLikeNode a b
     → IsLikeNode (next_node S a x number steps o) (next_node S b x number steps o)
 next-like S a b x number steps None h = h
 next-like S a b x number steps (Some m) h = behind-like S a b m x number steps (slice_get m.family.constructors number) h

@@ -16,7 +16,7 @@ use Rattle.tree_translation.specs.Plans.{Plan, Part, own_part}
 use Rattle.tree_translation.specs.Recursion.{Recursion, below_type, first_positions, order_of, ordered_telescope, ordered_term, recursion_of}
 use Rattle.tree_translation.proofs.Drafting.{AreHelpers, AreEntries, entries-are}
 use Rattle.node_roots.proofs.RootNodes.{helper_node-over, step_node-over, length-below, first-within}
-use Rattle.entry_laws.proofs.NameLaws.{later-parts}
+use Rattle.entry_laws.proofs.GrowingDrafts.{later-parts}
 use Rattle.entry_laws.proofs.OnlyConstants.{Each, each-all, each-append, each-weaker}
 use Rattle.entry_laws.proofs.OnlyEntries.{step-like, helper-like}
 use Rattle.entry_laws.proofs.TableNames.{all-each}
@@ -157,7 +157,7 @@ module _ (S : Signature) (plan : Plan) (given : IsReadyFor S plan) where
   all-helpers : (o : Option Recursion) (helpers : List Draft) → recursion_of S plan ≡ o → AreHelpers S plan o 1 (drop 1 plan.parts) helpers → Each (IsOverPlan S plan) helpers
   all-helpers o helpers is are =
       let one : 1 ≡ 0 + 1 = refl in
-      helpers-scoped o 0 (drop 1 plan.parts) helpers is (later-parts S plan given.planned plan.parts) are
+      helpers-scoped o 0 (drop 1 plan.parts) helpers is (later-parts plan.parts) are
 
   entries-scoped : (o : Option Recursion) (all : List Draft) → recursion_of S plan ≡ o → BeginsClosed S plan → AreEntries S plan o all → Each (IsOverPlan S plan) all
   entries-scoped None all is closed (AreEntries.alone {helpers = helpers} {f = d} are e) =

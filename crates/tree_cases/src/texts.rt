@@ -146,6 +146,48 @@ fn add_pattern(alloc: Global, sig: &Signature, out: &mut Vec<u8>, pat: &Pat) -> 
     }
 }
 
+/// Adds a name, the number of a clause, and a context.
+fn add_place(
+    alloc: Global,
+    sig: &Signature,
+    out: &mut Vec<u8>,
+    name: &str,
+    clause: u32,
+    ctx: &[Term],
+) -> Result<(), Stop> {
+    add_name(alloc, out, name, clause)?;
+    add_context(alloc, sig, out, ctx)?;
+    out.extend_from_slice(b" ")?;
+    Ok(())
+}
+
+/// Adds a refusal that shows two sides.
+fn add_sides(alloc: Global, sig: &Signature, out: &mut Vec<u8>, e: &TreeStop) -> Result<(), Stop> {
+    match e {
+        TreeStop::Stuck {
+            clause,
+            ctx,
+            left,
+            right,
+            why,
+        } => {
+            add_place(alloc, sig, out, "Stuck ", *clause, ctx.as_slice())?;
+            add_two(alloc, sig, out, left, b" = ", right)?;
+            Ok(out.extend_from_slice(why_name(why))?)
+        }
+        TreeStop::Impossible {
+            clause,
+            ctx,
+            left,
+            right,
+        } => {
+            add_place(alloc, sig, out, "Impossible ", *clause, ctx.as_slice())?;
+            add_two(alloc, sig, out, left, b" = ", right)
+        }
+        _ => Ok(()),
+    }
+}
+
 /// Adds a refusal.
 pub fn add_stop(
     alloc: Global,
@@ -155,19 +197,6 @@ pub fn add_stop(
 ) -> Result<(), Stop> {
     match e {
         TreeStop::Stop(e) => Ok(out.extend_from_slice(stop_name(e))?),
-        TreeStop::Stuck {
-            clause,
-            ctx,
-            left,
-            right,
-            why,
-        } => {
-            add_name(alloc, out, "Stuck ", *clause)?;
-            add_context(alloc, sig, out, ctx.as_slice())?;
-            out.extend_from_slice(b" ")?;
-            add_two(alloc, sig, out, left, b" = ", right)?;
-            Ok(out.extend_from_slice(why_name(why))?)
-        }
         TreeStop::Uncovered { ctx, terms } => {
             out.extend_from_slice(b"Uncovered ")?;
             add_context(alloc, sig, out, ctx.as_slice())?;
@@ -181,21 +210,15 @@ pub fn add_stop(
             add_name(alloc, out, "NotAbsurd ", *clause)?;
             add_term(alloc, sig, out, &Term::Con(*family, *con))
         }
-        TreeStop::Impossible {
-            clause,
-            ctx,
-            left,
-            right,
-        } => {
-            add_name(alloc, out, "Impossible ", *clause)?;
-            add_context(alloc, sig, out, ctx.as_slice())?;
-            out.extend_from_slice(b" ")?;
-            add_two(alloc, sig, out, left, b" = ", right)
-        }
         TreeStop::WrongConstructor { clause, ctx, ty } => {
-            add_name(alloc, out, "WrongConstructor ", *clause)?;
-            add_context(alloc, sig, out, ctx.as_slice())?;
-            out.extend_from_slice(b" ")?;
+            add_place(
+                alloc,
+                sig,
+                out,
+                "WrongConstructor ",
+                *clause,
+                ctx.as_slice(),
+            )?;
             add_term(alloc, sig, out, ty)
         }
         TreeStop::Forced {
@@ -204,12 +227,11 @@ pub fn add_stop(
             pat,
             term,
         } => {
-            add_name(alloc, out, "Forced ", *clause)?;
-            add_context(alloc, sig, out, ctx.as_slice())?;
-            out.extend_from_slice(b" ")?;
+            add_place(alloc, sig, out, "Forced ", *clause, ctx.as_slice())?;
             add_pattern(alloc, sig, out, pat)?;
             out.extend_from_slice(b" forced ")?;
             add_term(alloc, sig, out, term)
         }
+        sides => add_sides(alloc, sig, out, sides),
     }
 }
