@@ -1,5 +1,11 @@
+pub mod Equations
+pub mod Fitted
+pub mod HelperColumns
 pub mod Numbers
 pub mod PartScopes
+pub mod PlanClauses
+pub mod PlanGiven
 pub mod Proofs
 pub mod Sides
+pub mod Tellings
 pub mod Walked

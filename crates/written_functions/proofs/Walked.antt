@@ -42,11 +42,11 @@ pub halts-ok : {A : Type 0} (r : Result A Stop) → IfOk (or_halts r) (λ a. r �
 halts-ok (Ok a) = refl
 halts-ok (Err e) = tt
 
-ends-ok : {A : Type 0} (S : Signature) (name : List ℕ) (r : Result A TreeStop) → IfOk (or_ends S name r) (λ a. r ≡ Ok a)
+pub ends-ok : {A : Type 0} (S : Signature) (name : List ℕ) (r : Result A TreeStop) → IfOk (or_ends S name r) (λ a. r ≡ Ok a)
 ends-ok S name (Ok a) = refl
 ends-ok S name (Err e) = tt
 
-anything : {A E : Type 0} (r : Result A E) → IfOk r (λ a. Unit {0})
+pub anything : {A E : Type 0} (r : Result A E) → IfOk r (λ a. Unit {0})
 anything (Ok a) = tt
 anything (Err e) = tt
 
@@ -88,6 +88,7 @@ pub data IsSideOf (S : Signature) (f : Function) (all : List Walked) (w : Walk) 
 pub record IsOneGiven (S : Signature) (f : Function) (all : List Walked) (part : Opened) (number : ℕ) (c : Clause) (w : Walk) (side : Term) : Type 0 where
   pub units : ℕ
   pub walks : (own_walk_of (provisional S f.name f.type) part.tele part.goal part.terms c number units).0 ≡ Ok w
+  pub given : IsGiven (provisional S f.name f.type) part.tele part.goal part.terms
   pub fit : IsFit (provisional S f.name f.type) part w
   pub resolved : IsClause (provisional S f.name f.type) (length part.terms) c
   pub is_side : IsSideOf S f all w c side
@@ -150,18 +151,19 @@ both-given S f part number next c clauses given others h rest = record {
 alone : (S : Signature) (f : Function) (part : Opened) (number next units : ℕ) (pats : Pats) (binds : ℕ) (right : Right) (w : Walk) (side : Term) (given : Given)
     → given.walks ≡ w ∷ [] → given.sides ≡ side ∷ [] → given.helpers ≡ [] → inner_right right ≡ []
     → (own_walk_of (provisional S f.name f.type) part.tele part.goal part.terms (Is pats binds right) number units).0 ≡ Ok w
+    → IsGiven (provisional S f.name f.type) part.tele part.goal part.terms
     → IsFit (provisional S f.name f.type) part w → IsClause (provisional S f.name f.type) (length part.terms) (Is pats binds right)
     → ((all : List Walked) → IsSideOf S f all w (Is pats binds right) side) → GivesOne S f part number next (Is pats binds right) given
-alone S f part number next units pats binds right w side given ws ts no none_inside walked fit resolved is = record {
-  lists = ap clauses_of no ∙ sym none_inside;
+alone S f part number next units pats binds right w side given ws ts empty none_inside walked part_given fit resolved is = record {
+  lists = ap clauses_of empty ∙ sym none_inside;
   one = λ all at. record {
     walk = w;
     side = side;
     walks = ws;
     sides = ts;
-    one = record { units = units; walks = walked; fit = fit; resolved = resolved; is_side = is all };
+    one = record { units = units; walks = walked; given = part_given; fit = fit; resolved = resolved; is_side = is all };
   };
-  helpers = λ all at. transport (All (IsPartGiven S f all)) (sym no) (All-nil (IsPartGiven S f all));
+  helpers = λ all at. transport (All (IsPartGiven S f all)) (sym empty) (All-nil (IsPartGiven S f all));
 }
 
 module _ (S : Signature) (f : Function) where
@@ -191,7 +193,7 @@ module _ (S : Signature) (f : Function) where
         and_next-has (λ u. Unit {0}) P (answers (or_halts made) left) _ (anything (or_halts made)) (λ body rest u.
         let checked = granted T (OfSide owner) (check_of T nesting (reverse w.ctx) body w.goal rest) in
         and_next-has (λ u. Unit {0}) P checked _ (anything checked.0) (λ type end v.
-        alone S f part number next units pats binds (clause.Side side) w side _ refl refl refl refl walked fit resolved (λ all. term pats binds side)))
+        alone S f part number next units pats binds (clause.Side side) w side _ refl refl refl refl walked given fit resolved (λ all. term pats binds side)))
     right-gives k part number next owner w pats binds (clause.With written inside) units left low given walked resolved fit =
         let T = provisional S f.name f.type in
         let s = session_at S f in
@@ -217,6 +219,7 @@ module _ (S : Signature) (f : Function) where
             one = record {
               units = units;
               walks = walked;
+              given = given;
               fit = fit;
               resolved = resolved;
               is_side =
@@ -228,7 +231,7 @@ module _ (S : Signature) (f : Function) where
               All-cons (IsPartGiven S f all) _ others.helpers (record { walkable = opened_is.walkable; given = h.each all at.1 }) (h.helpers all at.1);
         })))
     right-gives k part number next owner w pats binds clause.Absurd units left low given walked resolved fit =
-        alone S f part number next units pats binds clause.Absurd w (Sort 0) _ refl refl refl refl walked fit resolved (λ all. nothing pats binds)
+        alone S f part number next units pats binds clause.Absurd w (Sort 0) _ refl refl refl refl walked given fit resolved (λ all. nothing pats binds)
 
     pub clauses-gives : (k : ℕ) (part : Opened) (number next : ℕ) (clauses : Clauses) (left : ℕ) → 0 < next
         → IsGiven (provisional S f.name f.type) part.tele part.goal part.terms → AreClauses (provisional S f.name f.type) (length part.terms) clauses

@@ -18,7 +18,7 @@ use Rattle.clause_reports.specs.Reports.{Line, Definitional, Proved, Shadowed, A
 use Rattle.elaboration.specs.Functions.{ClauseLine}
 use Rattle.function_session.specs.Laws.{inner}
 use Rattle.resolve.specs.Functions.{Function}
-use Rattle.written_functions.specs.Fitting.{AllFit}
+use Rattle.written_functions.specs.Fitting.{AllFit, AnyDot, IsTaken}
 
 -- ---- the clauses
 
@@ -96,7 +96,7 @@ IsRight S f clause.Absurd terms called right = right ≡ Sort 0
 -- An equation of a clause at terms that fit its patterns and have `found` at its variables. On the left the same is shown, with each dot
 -- as it is written. In the dots and on the right the variables are `terms`. A helper is called where its columns are `called`.
 pub record IsEquation (S : Signature) (f : FunctionAt) (c : Placed) (fitting found terms called : List Term) (e : Equation) : Type 0 where
-  pub fit : AllFit S (λ written t. Unit {0}) c.pats fitting found
+  pub fit : AllFit S AnyDot c.pats fitting found
   pub shown : List Term
   pub shows : AllFit S (λ written t. t ≡ written_in S f terms written) c.pats shown found
   pub left : IsLeft S f c.part fitting shown e.left
@@ -145,10 +145,6 @@ pub record ConvertsAt (S : Signature) (f : FunctionAt) (c : Placed) (leaf : Tele
   pub called : List Term
   pub is : IsEquation S f c leaf.1 found terms called equation
   pub converts : Converts S equation.left equation.right
-
--- a vector fits patterns
-abbrev pub IsTaken : Signature → Pats → (vector : List Term) → Type 0
-IsTaken S pats vector = (found : List Term) × AllFit S (λ written t. Unit {0}) pats vector found
 
 -- shadowed: an earlier clause of the part takes a vector that the clause itself takes too; at each leaf its equation converts
 pub record IsShadowed (S : Signature) (f : FunctionAt) (c : Placed) (earlier : ℕ) (vector : List Term) (leaves : List (Telescope × List Term)) : Type 0 where

@@ -22,3 +22,11 @@ mutual
     none : AllFit S Dot pattern.nil [] []
     more : (pat : Pat) (pats : Pats) (t : Term) (us first rest : List Term) → Fits S Dot pat t first → AllFit S Dot pats us rest
         → AllFit S Dot (pattern.cons pat pats) (t ∷ us) (first ++ rest)
+
+-- any term is one of a dot
+abbrev pub AnyDot : (written t : Term) → Type 0
+AnyDot written t = Unit {0}
+
+-- a vector of terms fits patterns
+abbrev pub IsTaken : Signature → Pats → (vector : List Term) → Type 0
+IsTaken S pats vector = (terms : List Term) × AllFit S AnyDot pats vector terms
