@@ -27,10 +27,10 @@ pub data Shows (P : Signature) : Signature → List (List ℕ) → Type 0 where
   none : Shows P P []
   more : (S T : Signature) (lines : List (List ℕ)) → Shows P S lines → IsPrefix S T → Shows P T (lines ++ lines_after S T)
 
--- The declaration is in the text, and is accepted as what is written: over the entries `before` it, it comes to `after`, by the
--- typing rules, with one line for each clause of a function. This signature is well formed, and so is each front of it. It begins with the
--- prelude, which has axiom K only where the words ask for it. The lines `above` are the head lines, those that show the
--- entries `before` the declaration, then its entries and the lines of its clauses.
+-- The declaration is in the text, and over the entries `before` it comes to what is written: the signature `after` it, which is well
+-- formed, with one line for each clause of a function. The lines `above` are the head lines, then those that show the entries
+-- `before` from the prelude on, and last those of the declaration: its entries and its clauses. The prelude has axiom K only where
+-- the words ask for it.
 pub record IsShown (words : List (List ℕ)) (bytes : List ℕ) (above : List (List ℕ)) (name : List ℕ) : Type 0 where
   pub k : Bool
   pub asked_for : IsTrue k → Contains words (codes "--k")
