@@ -172,10 +172,10 @@ accepts-more fuel d a (next P S first ds b same rest) is = next P a.signature fi
 
 -- lines that show a signature, and those of the entries after it, show the one that has them
 pub shows-more : (P S T : Signature) (clauses : List ClauseLine) (earlier : List (List ℕ)) → Shows P S (core_lines earlier) → IsPrefix S T
-    → Shows P T (core_lines (earlier ++ lines_after S T ++ clause_lines T clauses))
+    → Shows P T (core_lines (earlier ++ (lines_after S T ++ clause_lines T clauses)))
 shows-more P S T clauses earlier shows longer =
     let Q : List (List ℕ) → Type 0 = λ ls. Shows P T ls in
-    let core : core_lines (earlier ++ lines_after S T ++ clause_lines T clauses) ≡ core_lines earlier ++ lines_after S T =
+    let core : core_lines (earlier ++ (lines_after S T ++ clause_lines T clauses)) ≡ core_lines earlier ++ lines_after S T =
     core-lines-append earlier (lines_after S T ++ clause_lines T clauses) ∙ ap (λ ls. core_lines earlier ++ ls) (entries-and-clauses-core S T clauses) in
     subst Q (sym core) (more S T (core_lines earlier) shows longer)
 

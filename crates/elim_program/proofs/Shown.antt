@@ -94,29 +94,36 @@ written-as : (S : Signature) (fuel : ℕ) (d : surf.Decl) (a : Elaborated) (name
     → IsWritten S d name a.signature a.lines
 written-as S fuel (surf.Def x ty body) a name ready same is named =
     let w = is.written in
-    let T = pushed S (Definition x.text w.type w.term) in
-    (plain-name S x.text T a name w.accepted named, is.lines, record {
-      type = w.type;
-      term = w.term;
-      type_resolved = w.type_resolved;
-      body_resolved = w.body_resolved;
-      typed = w.typed;
-      added = plain-signature S x.text T a w.accepted;
-    })
+    let T = pushed S (Definition x.text w.type w.term) in (
+      plain-name S x.text T a name w.accepted named,
+      is.lines,
+      record {
+        type = w.type;
+        term = w.term;
+        type_resolved = w.type_resolved;
+        body_resolved = w.body_resolved;
+        typed = w.typed;
+        added = plain-signature S x.text T a w.accepted;
+      },
+    )
 written-as S fuel (surf.Data x params ty cons) a name ready same is named =
     let w = is.written in
-    let T = pushed S (FamilyOf w.entry) in
-    (plain-name S x.text T a name w.accepted named, is.lines, record {
-      raw = w.raw;
-      entry = w.entry;
-      resolved = w.resolved;
-      given = w.given;
-      formed = w.formed;
-      added = plain-signature S x.text T a w.accepted;
-    })
-written-as S fuel (surf.Fun x ty clauses) a name ready same is named =
-    (plain-name S x.text a.signature a name is.accepted named,
-    if_ok (λ (b : Elaborated). IsByClauses S x ty clauses b.signature b.lines) (elaborate_of S fuel (surf.Fun x ty clauses)) a same (by-clauses S fuel x ty clauses ready))
+    let T = pushed S (FamilyOf w.entry) in (
+      plain-name S x.text T a name w.accepted named,
+      is.lines,
+      record {
+        raw = w.raw;
+        entry = w.entry;
+        resolved = w.resolved;
+        given = w.given;
+        formed = w.formed;
+        added = plain-signature S x.text T a w.accepted;
+      },
+    )
+written-as S fuel (surf.Fun x ty clauses) a name ready same is named = (
+  plain-name S x.text a.signature a name is.accepted named,
+  if_ok (λ (b : Elaborated). IsByClauses S x ty clauses b.signature b.lines) (elaborate_of S fuel (surf.Fun x ty clauses)) a same (by-clauses S fuel x ty clauses ready),
+)
 written-as S fuel (surf.Decide x family decision) a name ready same is named = absurd is.written
 written-as S fuel (surf.Mutual params members family tag tags) a name ready same is named = absurd is.written
 

@@ -46,7 +46,7 @@ pub record IsShown (words : List (List ℕ)) (bytes : List ℕ) (above : List (L
   pub formed : IsWellFormed after
   pub earlier : List (List ℕ)
   pub shown : Shows (prelude k) before (core_lines earlier)
-  pub lines : above ≡ head_lines k ++ earlier ++ lines_after before after ++ clause_lines after clauses
+  pub lines : above ≡ head_lines k ++ (earlier ++ (lines_after before after ++ clause_lines after clauses))
 
 -- where a whole line of the text says that a declaration is accepted, the lines above it show it
 abbrev pub IsHeadline : List (List ℕ) → List ℕ → List ℕ → Type 0

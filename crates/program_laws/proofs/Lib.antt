@@ -6,7 +6,7 @@ mod FirstInvalid
 mod InstancesLeft
 mod LastLines
 mod LinesWithoutK
-mod OneSignature
+pub mod OneSignature
 mod Outputs
 mod RecordsShown
 mod Splitting

@@ -73,7 +73,7 @@ heads-other =
 module _ (words : List (List ℕ)) (bytes : List ℕ) (above : List (List ℕ)) (name : List ℕ) (shown : IsShown words bytes above name) where
   -- the lines above without the head lines
   pub later : List (List ℕ)
-  later = shown.earlier ++ lines_after shown.before shown.after ++ clause_lines shown.after shown.clauses
+  later = shown.earlier ++ (lines_after shown.before shown.after ++ clause_lines shown.after shown.clauses)
 
   pub shows-later : Shows (prelude shown.k) shown.after (core_lines later)
   unfolding later

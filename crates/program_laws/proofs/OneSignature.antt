@@ -1,16 +1,18 @@
 -- The lines above one that accepts a declaration are a core file of the signature that has it.
 use Rattle.std.proofs.Common.{◌≡◌, ◌==◌, ℕ, Bool, true, false, not, List, [], ◌∷◌, ◌++◌, refl, sym, ap₂, subst}
 use Rattle.std.specs.Prelude.{◌&&◌, if◌then◌else◌}
+use Rattle.theory.specs.Prelude.{prelude}
 use Rattle.theory.specs.Signatures.{Signature, IsPrefix}
+use Rattle.theory.specs.WellFormed.{IsWellFormed}
 use Rattle.theory.proofs.Pushing.{prefix_reflexive, prefix_transitive}
 use Rattle.core_text.specs.LineLaws.{NotesArePassedOver, EndsAreRead}
 use Rattle.core_text.specs.Lines.{AreInLine}
 use Rattle.core_text.specs.ReadBack.{EntriesAreReadBack}
 use Rattle.core_text.specs.WrittenEntries.{EntriesThatFollow}
-use Rattle.elim_program.specs.Headline.{Shows, none, more}
+use Rattle.elim_program.specs.Headline.{core_lines, Shows, none, more}
 use Rattle.elim_program.specs.Lines.{longer, lines_of, text_of}
 use Rattle.elim_program.specs.Outputs.{head_lines}
-use Rattle.program_laws.specs.CoreFiles.{IsCoreFile}
+use Rattle.program_laws.specs.CoreFiles.{IsCoreFile, IsWritable}
 use Rattle.program_laws.specs.Laws.{OneSignature}
 use Rattle.program_laws.proofs.CoreFiles.{core-file}
 use Rattle.program_laws.proofs.Writable.{in-turn}
@@ -41,14 +43,15 @@ begun : {P S : Signature} {lines : List (List ℕ)} → Shows P S lines → IsPr
 begun {P} none = prefix_reflexive P
 begun {P} (more S T lines shows grown) = prefix_transitive P S T (begun shows) grown
 
-pub from_laws : EntriesAreReadBack → EntriesThatFollow → NotesArePassedOver → EndsAreRead → OneSignature
-from_laws back follow passed ends words bytes text above below name whole shown writable =
-    let k = shown.k in
-    let W = shown.after in
-    let lines = later words bytes above name shown in
-    let heads : above ≡ head_lines k ++ lines = above-later words bytes above name shown in
-    let shows = shows-later words bytes above name shown in
+-- lines that show the entries of a signature are a core file of it
+pub core-of-lines : EntriesAreReadBack → EntriesThatFollow → NotesArePassedOver → EndsAreRead → (text : List ℕ) (above below lines : List (List ℕ)) (k : Bool) (W : Signature)
+    → lines_of text ≡ above ++ below → above ≡ head_lines k ++ lines → Shows (prelude k) W (core_lines lines) → IsWellFormed W → IsWritable W → IsCoreFile k (text_of above) W
+core-of-lines back follow passed ends text above below lines k W whole heads shows formed writable =
     let in_line : AreInLine above = first-in above below (subst AreInLine whole (lines-in text)) in
     subst (λ ls. IsCoreFile k (text_of ls) W) (sym heads)
-    (core-file back follow passed ends W shown.formed (in-turn W shown.formed writable) k (shown-k shows) (begun shows) lines
-    (behind-heads k lines (subst AreInLine heads in_line)) shows)
+    (core-file back follow passed ends W formed (in-turn W formed writable) k (shown-k shows) (begun shows) lines (after-heads k lines (subst AreInLine heads in_line)) shows)
+
+pub from_laws : EntriesAreReadBack → EntriesThatFollow → NotesArePassedOver → EndsAreRead → OneSignature
+from_laws back follow passed ends words bytes text above below name whole shown writable =
+    core-of-lines back follow passed ends text above below (later words bytes above name shown) shown.k shown.after whole (above-later words bytes above name shown)
+    (shows-later words bytes above name shown) shown.formed writable

@@ -1,7 +1,17 @@
 //! The laws.
-ghost use Rattle.reader_laws.specs.Laws.{LinesAreReports};
+ghost use Rattle.reader_laws.specs.Laws.{LinesAreCoreFiles, LinesAreReports, LinesAreWritable};
 
 /// Where a line says that a function is accepted, the lines of its clauses are the reports of the clauses.
 pub fn lines_are_reports()
     ensures { LinesAreReports }
+{}
+
+/// What a line accepts may stand in a core file.
+pub fn lines_are_writable()
+    ensures { LinesAreWritable }
+{}
+
+/// The lines above a line that accepts a declaration are a core file of the signature that has it.
+pub fn lines_are_core_files()
+    ensures { LinesAreCoreFiles }
 {}
