@@ -1,5 +1,5 @@
 -- What is compared and what is reduced has entries, and few variables.
-use Rattle.std.proofs.Common.{◌≡◌, Bool, true, false, ◌&&◌, [], ◌∷◌, length, refl, arith}
+use Rattle.std.proofs.Common.{◌≡◌, ℕ, ◌≤◌, Bool, true, false, ◌&&◌, [], ◌∷◌, length, refl, arith}
 use Rattle.theory.specs.Terms.{Term}
 use Rattle.theory.specs.Signatures.{Signature}
 use Rattle.theory.specs.SignatureScopes.{IsScopedSignature}
@@ -7,6 +7,7 @@ use Rattle.kernel_reduce.specs.Reduction.{most_variables}
 use Rattle.kernel_reduce.specs.WellScoped.{CanReduce}
 use Rattle.kernel_reduce.proofs.WellScoped.{scoped-more}
 use Rattle.unification.specs.ScopedStates.{IsReady}
+use Rattle.unifier.specs.Conditions.{most_levels}
 use Rattle.clause_reports.specs.ProofWalks.{Place}
 use Rattle.proof_walks.specs.PlaceScopes.{IsKeptPlace, is_scoped}
 use Rattle.proof_walks.proofs.ScopeTests.{term-tells}
@@ -16,10 +17,13 @@ both : (a b : Bool) → (a && b) ≡ true → (a ≡ true) × (b ≡ true)
 both true b h = (refl, h)
 both false b h = absurd (grind arith)
 
-pub compared-reduce : (S : Signature) (u v : Term) → IsScopedSignature S → can_be_compared S u v ≡ true → CanReduce S (u ∷ v ∷ [])
-compared-reduce S u v scoped h =
-    let p = both (is_scoped S most_variables u) (is_scoped S most_variables v) h in
-    record { signature = scoped; terms = (term-tells S most_variables u p.0, (term-tells S most_variables v p.1, tt)) }
+pub compared-reduce : (S : Signature) (n : ℕ) (u v : Term) → IsScopedSignature S → n ≤ most_levels → can_be_compared S n u v ≡ true → CanReduce S (u ∷ v ∷ [])
+compared-reduce S n u v scoped few h =
+    let p = both (is_scoped S n u) (is_scoped S n v) h in
+    record {
+      signature = scoped;
+      terms = scoped-more S n most_variables (u ∷ v ∷ []) (omega (arith, few)) (term-tells S n u p.0, (term-tells S n v p.1, tt));
+    }
 
 -- the sides at a place of a proof
 pub sides-reduce : (S : Signature) (p : Place) → IsReady S → IsKeptPlace S p → CanReduce S (p.left ∷ p.right ∷ [])

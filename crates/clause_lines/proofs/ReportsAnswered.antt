@@ -33,12 +33,12 @@ use Rattle.proof_terms.specs.CodeProofs.{name_made}
 use Rattle.proof_terms.specs.Laws.{CandidateIsThis}
 use Rattle.proof_walks.specs.Laws.{WalkAnswers}
 use Rattle.proof_walks.specs.Starts.{walk_made}
-use Rattle.clause_lines.specs.CodeReports.{Known, Candidate, in_plan, sides_compared, shadowed_made, on_entered, entering_made, candidate_of, with_candidate, proof_judged, unless_converts, sides_judged, equation_judged, on_judged, report_made}
+use Rattle.clause_lines.specs.CodeReports.{Known, Candidate, in_plan, equation_converts, shadowed_made, on_entered, entering_made, candidate_of, with_candidate, proof_judged, unless_converts, sides_judged, equation_judged, on_judged, report_made}
 use Rattle.clause_lines.specs.Laws.{ReportAnswers, ReportMadeKeepsWellFormed}
 use Rattle.clause_lines.proofs.Following.{Follows, spent, follows-has, follows-if, follows-same, follows-twice, halts-follow, refused}
 use Rattle.clause_lines.proofs.NameMarks.{IsOther, clause-marked, mark_after}
 use Rattle.clause_lines.proofs.OtherDenials.{DeniesOthers, needed-denies}
-use Rattle.clause_lines.proofs.ShadowsAnswered.{shadowed-follows, sides-follow}
+use Rattle.clause_lines.proofs.ShadowsAnswered.{converting-follows, shadowed-follows}
 
 -- ---- the candidate
 
@@ -66,7 +66,7 @@ ordered-own name base candidates type term d is =
     drafted-own name base (map (λ i. get_or table i []) places)
     (renumbered (number_among base places) t) (renumbered (number_among base places) u) d is
 
-candidate-own : (S : Signature) (plan : Plan) (c : Reference) (e : Equation) (proof : Proof) (d : Draft) → candidate S plan c.part c.clause e proof ≡ Ok d
+pub candidate-own : (S : Signature) (plan : Plan) (c : Reference) (e : Equation) (proof : Proof) (d : Draft) → candidate S plan c.part c.clause e proof ≡ Ok d
     → own_name d ≡ name_made (part_name plan c.part) c.clause
 candidate-own S plan c e proof d is =
     let L = (part_at plan c.part).level in
@@ -164,9 +164,9 @@ module _ (laws : ArePartsAnswered) where
       → Follows (and_next (sides_judged S (in_plan plan c) e left) (on_judged S (in_plan plan c)))
       (and_next (halting (convertible_of S nesting e.left e.right left)) (λ holds end. pure.unless_converts S plan c e holds end))
   sides-judged-follow S plan c e left =
-      follows-twice (sides_compared S e.left e.right left) (halting (convertible_of S nesting e.left e.right left))
+      follows-twice (equation_converts S e left) (halting (convertible_of S nesting e.left e.right left))
       (unless_converts S (in_plan plan c) e) (on_judged S (in_plan plan c)) (λ holds end. pure.unless_converts S plan c e holds end)
-      (sides-follow S e.left e.right left) (holds-follow S plan c e)
+      (converting-follows S e left) (holds-follow S plan c e)
 
   equation-follows : (S : Signature) (plan : Plan) (c : Reference) (left : ℕ)
       → Follows (and_next (equation_judged S (in_plan plan c) left) (on_judged S (in_plan plan c))) (pure.equation_report S plan c left)

@@ -1,5 +1,5 @@
 -- What is answered of a clause whose candidate is denied is what is meant.
-use Rattle.std.proofs.Common.{◌≡◌, ℕ, zero, suc, Bool, true, false, ◌&&◌, not, nat_lt, cond, Option, Some, List, [], ◌∷◌, Result, Ok, Err, refl, sym, ap, ◌∙◌, subst as transport}
+use Rattle.std.proofs.Common.{◌≡◌, ℕ, zero, suc, Bool, true, false, ◌&&◌, not, nat_lt, cond, Option, Some, List, [], ◌∷◌, length, Result, Ok, Err, refl, sym, ap, ◌∙◌, subst as transport}
 use Rattle.theory.specs.Terms.{Term}
 use Rattle.theory.specs.Telescopes.{Telescope}
 use Rattle.theory.specs.Signatures.{Signature}
@@ -11,22 +11,22 @@ use Rattle.kernel_reduce.specs.Reduction.{nesting}
 use Rattle.tree_translation.specs.Plans.{Plan}
 use Rattle.tree_translation.specs.Recursion.{Recursion, recursion_of}
 use Rattle.leaf_terms.specs.RecursionMade.{RecursionIsFound, recursion_made}
-use Rattle.clause_reports.specs.Equations.{leaf_site, part_at, pats_of, side_of}
+use Rattle.clause_reports.specs.Equations.{Equation, leaf_site, part_at, pats_of, side_of}
 use Rattle.clause_reports.specs.ProofWalks.{Place, Proof, leaves_in}
 use Rattle.clause_reports.specs.Reports as pure
 use Rattle.clause_reports.specs.Reports.{Reference, order_in, at_leaf, at_vector, shadowed}
 use Rattle.clause_reports.specs.Shadows.{TreeLeaf, convert_at_all, earlier_leaf, equation_at_leaf, leaves_of, vector_of}
 use Rattle.clause_reports.specs.Stops.{Rejection, Reporting, Halts, Rejected, answers, or_halts, halting}
-use Rattle.clause_lines.specs.CodeReports.{in_plan, can_be_compared, sides_compared, order_at, equation_there, converts_at_all, converts_with, converts_at_leaves, if_shadowed, both_match, at_matched, at_vector_made, at_place, place_converts, shadowed_among, shadowed_made}
+use Rattle.clause_lines.specs.CodeReports.{in_plan, can_be_compared, equation_converts, order_at, equation_there, converts_at_all, converts_with, converts_at_leaves, if_shadowed, both_match, at_matched, at_vector_made, at_place, place_converts, shadowed_among, shadowed_made}
 use Rattle.clause_lines.proofs.Following.{Follows, spent, follows-as, follows-if, follows-next, follows-same, follows-twice, halts-follow, refused}
 use Rattle.clause_lines.proofs.SameEquations.{equation-same}
 
 -- ---- sides
 
-pub sides-follow : (S : Signature) (u v : Term) (left : ℕ) → Follows (sides_compared S u v left) (halting (convertible_of S nesting u v left))
-sides-follow S u v left =
-    follows-if (can_be_compared S u v) (halting (convertible_of S nesting u v left)) (Halts Deep) left (halting (convertible_of S nesting u v left))
-    (follows-same (halting (convertible_of S nesting u v left)))
+pub converting-follows : (S : Signature) (e : Equation) (left : ℕ) → Follows (equation_converts S e left) (halting (convertible_of S nesting e.left e.right left))
+converting-follows S e left =
+    follows-if (can_be_compared S (length e.context) e.left e.right) (halting (convertible_of S nesting e.left e.right left)) (Halts Deep) left
+    (halting (convertible_of S nesting e.left e.right left)) (follows-same (halting (convertible_of S nesting e.left e.right left)))
 
 -- ---- leaves
 
@@ -49,15 +49,15 @@ all-follow S plan c order [] left = follows-same (spent (Ok true) left)
 all-follow S plan c order (l ∷ leaves) left =
     follows-twice (answers (or_halts (equation_there S (in_plan plan c) (recursion_of S plan) order l)) left)
     (answers (or_halts (equation_at_leaf S plan c.part c.clause order c.walk l)) left)
-    (λ e rest. sides_compared S e.left e.right rest)
+    (λ e rest. equation_converts S e rest)
     (λ holds rest. cond holds (converts_at_all S (in_plan plan c) (recursion_of S plan) order leaves rest) (answers (Ok false) rest))
     (λ e rest. and_next (halting (convertible_of S nesting e.left e.right rest)) (λ holds end.
     cond holds (convert_at_all S plan c.part c.clause order c.walk leaves end) (answers (Ok false) end)))
     (there-follows S plan c order l left)
-    (λ e rest. follows-next (sides_compared S e.left e.right rest) (halting (convertible_of S nesting e.left e.right rest))
+    (λ e rest. follows-next (equation_converts S e rest) (halting (convertible_of S nesting e.left e.right rest))
     (λ holds end. cond holds (converts_at_all S (in_plan plan c) (recursion_of S plan) order leaves end) (answers (Ok false) end))
     (λ holds end. cond holds (convert_at_all S plan c.part c.clause order c.walk leaves end) (answers (Ok false) end))
-    (sides-follow S e.left e.right rest) (λ holds end. by holds end (all-follow S plan c order leaves end)))
+    (converting-follows S e rest) (λ holds end. by holds end (all-follow S plan c order leaves end)))
   where
     by : (holds : Bool) (end : ℕ)
         → Follows (converts_at_all S (in_plan plan c) (recursion_of S plan) order leaves end) (convert_at_all S plan c.part c.clause order c.walk leaves end)

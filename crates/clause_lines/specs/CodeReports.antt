@@ -1,5 +1,5 @@
 -- The line of a clause as the code finds it. It is the clause's own, or Deep: where the equation, its walk or its proof is Deep; where a
--- side of an equation names what is no entry, or has a variable that no context has; and where a proof names something that is neither
+-- side of an equation names what is no entry, or has a variable that its context has not; and where a proof names something that is neither
 -- an entry nor generated.
 use Rattle.std.specs.Prelude.{ℕ, zero, suc, Bool, true, false, ◌&&◌, not, nat_lt, cond, bytes_eq, Option, None, List, [], ◌∷◌, length, map, Result, Ok, Err}
 use Rattle.theory.specs.Terms.{Term}
@@ -12,7 +12,7 @@ use Rattle.core_terms.specs.declared.stop.Stop.TheVariants.{Deep}
 use Rattle.core_sig.specs.Drafts.{Draft}
 use Rattle.family_check.specs.Entering.{Entered}
 use Rattle.kernel_reduce.specs.Comparison.{convertible_of}
-use Rattle.kernel_reduce.specs.Reduction.{most_variables, nesting}
+use Rattle.kernel_reduce.specs.Reduction.{nesting}
 use Rattle.pattern_vectors.specs.Matching.{matches_all}
 use Rattle.tree_translation.specs.Plans.{Plan, Part, own_part}
 use Rattle.tree_translation.specs.Recursion.{Recursion, order_of}
@@ -43,13 +43,16 @@ in_plan plan c = record { plan = plan; part = part_at plan c.part; number = c.pa
 
 -- ---- sides
 
--- both terms name entries of S, and have variables that numbers of 32 bits leave room for
-abbrev pub can_be_compared : Signature → (u v : Term) → Bool
-can_be_compared S u v = is_scoped S most_variables u && is_scoped S most_variables v
+-- both terms are over n variables, and name entries of S
+abbrev pub can_be_compared : Signature → (n : ℕ) → (u v : Term) → Bool
+can_be_compared S n u v = is_scoped S n u && is_scoped S n v
 
-abbrev pub sides_compared : Signature → (u v : Term) → ℕ → Reporting Bool
-sides_compared S u v left =
-    cond (can_be_compared S u v) (halting (convertible_of S nesting u v left)) (answers (Err (Halts Deep)) left)
+abbrev pub sides_compared : Signature → (n : ℕ) → (u v : Term) → ℕ → Reporting Bool
+sides_compared S n u v left =
+    cond (can_be_compared S n u v) (halting (convertible_of S nesting u v left)) (answers (Err (Halts Deep)) left)
+
+abbrev pub equation_converts : Signature → Equation → ℕ → Reporting Bool
+equation_converts S e left = sides_compared S (length e.context) e.left e.right left
 
 -- ---- leaves of the tree
 
@@ -72,7 +75,7 @@ equation_there S c r order l = equation_in S c r (leaf_site order c.walk l.conte
 -- whether it converts there
 abbrev pub converts_there : Signature → PlannedClause → Option Recursion → (order : List ℕ) → TreeLeaf → ℕ → Reporting Bool
 converts_there S c r order l left =
-    and_next (answers (or_halts (equation_there S c r order l)) left) (λ e rest. sides_compared S e.left e.right rest)
+    and_next (answers (or_halts (equation_there S c r order l)) left) (λ e rest. equation_converts S e rest)
 
 abbrev pub converts_at_all : Signature → PlannedClause → Option Recursion → (order : List ℕ) → List TreeLeaf → ℕ → Reporting Bool
 converts_at_all S c r order [] left = answers (Ok true) left
@@ -174,7 +177,7 @@ unless_converts S c e true left = answers (Ok (Known Definitional)) left
 unless_converts S c e false left = walk_judged S c e left
 
 abbrev pub sides_judged : Signature → PlannedClause → Equation → ℕ → Reporting Judgement
-sides_judged S c e left = and_next (sides_compared S e.left e.right left) (unless_converts S c e)
+sides_judged S c e left = and_next (equation_converts S e left) (unless_converts S c e)
 
 abbrev pub equation_judged : Signature → PlannedClause → ℕ → Reporting Judgement
 equation_judged S c left =

@@ -15,7 +15,7 @@ ghost use Rattle.proof_walks.specs.Starts.{walk_made};
 use crate::Line;
 use crate::clause::{PlannedClause, pats_at};
 use crate::names::proof_name;
-use crate::sides::sides_compared;
+use crate::sides::equation_converts;
 use clause_equations::{Equation, equation};
 use core_sig::{Draft, Signature};
 use core_terms::{Stop, Units};
@@ -146,7 +146,7 @@ fn sides_judged(
     ensures spends { units.new.left ≤ units.old.left }
     ensures judged { IfOk result (IsJudged sig.now) }
 {
-    if sides_compared(alloc, sig, &e.left, &e.right, units)? {
+    if equation_converts(alloc, sig, e, units)? {
         return Ok(Judgement::Known(Line::Definitional));
     }
     walk_judged(alloc, sig, c, e, units)

@@ -11,7 +11,7 @@ ghost use Rattle.shadow_vectors.specs.LeafMeanings.{all_leaves_of, leaf_of};
 ghost use Rattle.theory.specs.SignatureScopes.{IsScopedSignature};
 
 use crate::clause::{PlannedClause, pats_at, side_or};
-use crate::sides::sides_compared;
+use crate::sides::equation_converts;
 use clause_equations::{Equation, Site, equation_at};
 use core_sig::Signature;
 use core_terms::{Items, Stop, Term, Units, number_of};
@@ -89,7 +89,7 @@ fn converts_there(
     ensures spends { units.new.left ≤ units.old.left }
 {
     let e = equation_there(alloc, sig, c, r, order, leaf)?;
-    sides_compared(alloc, sig, &e.left, &e.right, units)
+    equation_converts(alloc, sig, &e, units)
 }
 
 /// Whether the equation of a clause converts at all of these leaves.

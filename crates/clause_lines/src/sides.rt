@@ -1,51 +1,83 @@
 //! Whether the sides of an equation convert.
-ghost use Rattle.std.specs.Prelude.{◌≡◌, ◌≤◌, ◌+◌};
+ghost use Rattle.std.specs.Prelude.{◌≡◌, ◌≤◌, ◌+◌, IfOk, Ok, length};
+ghost use Rattle.clause_equations.specs.EquationMeanings.{equation_of};
 ghost use Rattle.clause_lines.specs.CodeReports as spec;
+ghost use Rattle.core_terms.specs.Answers.{Gives};
 ghost use Rattle.core_terms.specs.Meanings.{tree_of};
 ghost use Rattle.draft_entering.specs.Stops.{Reports};
-ghost use Rattle.kernel_reduce.specs.Reduction.{most_variables};
 ghost use Rattle.proof_walks.specs.PlaceScopes as scopes;
 ghost use Rattle.theory.specs.SignatureScopes.{IsScopedSignature};
+ghost use Rattle.unifier.specs.Conditions.{most_levels};
 
+use clause_equations::Equation;
 use core_sig::{Signature, is_scoped};
 use core_terms::{Stop, Term, Units};
 use draft_entering::ReportStop;
 use kernel_reduce::convertible;
 use std::alloc::Global;
 
-/// How many variables may be free in terms that are compared.
-const MOST_VARIABLES: u32 = 3221223472;
+/// How many variables a context may have; with more, memory is short.
+const MOST_LEVELS: usize = 2147400000;
 
-/// Whether a term names entries, and its variables are so few that numbers of 32 bits leave room for those of a comparison.
-fn is_few(sig: &Signature, t: &Term) -> bool
-    ensures { result ≡ scopes.is_scoped sig.now most_variables (tree_of t.now) }
+/// How many variables a context has.
+fn variables_of(ctx: &[Term]) -> Result<u32, Stop>
+    ensures answer { Gives (λ n. n) result (Ok (length ctx.now)) }
+    ensures few { IfOk result (λ n. n ≤ most_levels) }
 {
-    is_scoped(sig, MOST_VARIABLES, t)
+    if ctx.len() > MOST_LEVELS {
+        return Err(Stop::Memory);
+    }
+    Ok(ctx.len() as u32)
 }
 
-/// Whether two terms can be compared.
-fn can_be_compared(sig: &Signature, u: &Term, v: &Term) -> bool
-    ensures { result ≡ spec.can_be_compared sig.now (tree_of u.now) (tree_of v.now) }
+/// Whether a term is over `n` variables and names entries.
+fn is_over(sig: &Signature, n: u32, t: &Term) -> bool
+    ensures { result ≡ scopes.is_scoped sig.now n (tree_of t.now) }
 {
-    is_few(sig, u) && is_few(sig, v)
+    is_scoped(sig, n, t)
 }
 
-/// Whether two terms convert, or Deep where they can't be compared.
-pub(crate) fn sides_compared(
+/// Whether two terms over `n` variables can be compared.
+fn can_be_compared(sig: &Signature, n: u32, u: &Term, v: &Term) -> bool
+    ensures { result ≡ spec.can_be_compared sig.now n (tree_of u.now) (tree_of v.now) }
+{
+    is_over(sig, n, u) && is_over(sig, n, v)
+}
+
+/// Whether two terms over `n` variables convert, or Deep where they can't be compared.
+fn sides_compared(
     alloc: Global,
     sig: &Signature,
+    n: u32,
     u: &Term,
     v: &Term,
     units: &mut Units,
 ) -> Result<bool, ReportStop>
-    requires { IsScopedSignature sig.now }
-    ensures answer { Reports (λ holds. holds) result units.new.left (spec.sides_compared sig.now (tree_of u.now) (tree_of v.now) units.old.left) }
+    requires signature { IsScopedSignature sig.now }
+    requires few { n ≤ most_levels }
+    ensures answer { Reports (λ holds. holds) result units.new.left (spec.sides_compared sig.now n (tree_of u.now) (tree_of v.now) units.old.left) }
     ensures sum { units.new.left + units.new.spent ≡ units.old.left + units.old.spent }
     ensures spends { units.new.left ≤ units.old.left }
 {
-    if can_be_compared(sig, u, v) {
+    if can_be_compared(sig, n, u, v) {
         Ok(convertible(alloc, sig, u, v, units)?)
     } else {
         Err(ReportStop::Stop(Stop::Deep))
     }
+}
+
+/// Whether the sides of an equation convert, or Deep where one of them is not over the equation's context or names what is no entry.
+pub(crate) fn equation_converts(
+    alloc: Global,
+    sig: &Signature,
+    e: &Equation,
+    units: &mut Units,
+) -> Result<bool, ReportStop>
+    requires { IsScopedSignature sig.now }
+    ensures answer { Reports (λ holds. holds) result units.new.left (spec.equation_converts sig.now (equation_of e.now) units.old.left) }
+    ensures sum { units.new.left + units.new.spent ≡ units.old.left + units.old.spent }
+    ensures spends { units.new.left ≤ units.old.left }
+{
+    let n = variables_of(e.ctx.as_slice())?;
+    sides_compared(alloc, sig, n, &e.left, &e.right, units)
 }

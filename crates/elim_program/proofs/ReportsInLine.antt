@@ -33,7 +33,7 @@ use Rattle.draft_checks.specs.Checks.{enterable}
 use Rattle.draft_entering.specs.Depths.{own_name}
 use Rattle.proof_terms.specs.CodeProofs.{body_made, goal_type, name_made, table_made}
 use Rattle.proof_walks.specs.Starts.{start_made, walk_made}
-use Rattle.clause_lines.specs.CodeReports.{PlannedClause, Judgement, Known, Candidate, in_plan, can_be_compared, sides_compared, first_order, equation_there, converts_there, converts_at_all, converts_at_leaves, if_shadowed, both_match, at_matched, at_vector_made, at_place, place_converts, is_earlier, shadowed_among, shadowed_made, denies, on_entered, entering_made, candidate_of, proof_judged, unless_converts, equation_judged, judged, on_judged, report_made}
+use Rattle.clause_lines.specs.CodeReports.{PlannedClause, Judgement, Known, Candidate, in_plan, can_be_compared, equation_converts, first_order, equation_there, converts_there, converts_at_all, converts_at_leaves, if_shadowed, both_match, at_matched, at_vector_made, at_place, place_converts, is_earlier, shadowed_among, shadowed_made, denies, on_entered, entering_made, candidate_of, proof_judged, unless_converts, equation_judged, judged, on_judged, report_made}
 use Rattle.elim_program.proofs.EnteredNames.{IsIn, ReportIn, NamesAfter, DraftIn, enter_draft-in}
 use Rattle.elim_program.proofs.QuietWalks.{Any, Quiet, quietly, halts-quiet, walk_tree-quiet}
 use Rattle.elim_program.proofs.SessionInLine.{NamesIn}
@@ -95,16 +95,16 @@ halts-in P (Err e) h = tt
 
 -- ---- shadowed clauses
 
-compared-quiet : (S : Signature) (u v : Term) (left : ℕ) → Quiet (sides_compared S u v left)
-compared-quiet S u v left = by (can_be_compared S u v)
+compared-quiet : (S : Signature) (e : Equation) (left : ℕ) → Quiet (equation_converts S e left)
+compared-quiet S e left = by (can_be_compared S (length e.context) e.left e.right)
   where
-    by : (there : Bool) → Quiet (cond there (halting (convertible_of S nesting u v left)) (answers (Err (Halts Deep)) left))
-    by true = halts-quiet (convertible_of S nesting u v left).0
+    by : (there : Bool) → Quiet (cond there (halting (convertible_of S nesting e.left e.right left)) (answers (Err (Halts Deep)) left))
+    by true = halts-quiet (convertible_of S nesting e.left e.right left).0
     by false = tt
 
 there-quiet : (S : Signature) (c : PlannedClause) (r : Option Recursion) (order : List ℕ) (l : TreeLeaf) (left : ℕ) → Quiet (converts_there S c r order l left)
 there-quiet S c r order l left =
-    quietly (or_halts (equation_there S c r order l), left) _ (halts-quiet (equation_there S c r order l)) (λ e rest. compared-quiet S e.left e.right rest)
+    quietly (or_halts (equation_there S c r order l), left) _ (halts-quiet (equation_there S c r order l)) (λ e rest. compared-quiet S e rest)
 
 all-quiet : (S : Signature) (c : PlannedClause) (r : Option Recursion) (order : List ℕ) (leaves : List TreeLeaf) (left : ℕ) → Quiet (converts_at_all S c r order leaves left)
 all-quiet S c r order [] left = tt
@@ -217,7 +217,7 @@ unless_converts-in S c own e false left =
 equation-in : (S : Signature) (c : PlannedClause) → IsIn c.plan.name → (left : ℕ) → Judges (equation_judged S c left)
 equation-in S c own left =
     judged_after (or_halts (equation_made S c.plan c.number c.clause c.walk), left) _ (halts-quiet (equation_made S c.plan c.number c.clause c.walk)) (λ e rest.
-    judged_after (sides_compared S e.left e.right rest) _ (compared-quiet S e.left e.right rest) (λ holds end. unless_converts-in S c own e holds end))
+    judged_after (equation_converts S e rest) _ (compared-quiet S e rest) (λ holds end. unless_converts-in S c own e holds end))
 
 judged-in : (S : Signature) (c : PlannedClause) → IsIn c.plan.name → (left : ℕ) → Judges (judged S c left)
 judged-in S c own left = by (some_absurd (pats_of c.part c.clause))

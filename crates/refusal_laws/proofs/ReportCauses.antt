@@ -1,5 +1,5 @@
 -- What the report of a clause rejects is what the checker denies: as it is meant, and as it is made.
-use Rattle.std.proofs.Common.{ℕ, ◌&&◌, nat_lt, Bool, true, false, cond, Option, Some, None, Result, Ok, Err, IfErr, List, [], ◌∷◌}
+use Rattle.std.proofs.Common.{ℕ, ◌&&◌, nat_lt, Bool, true, false, cond, Option, Some, None, Result, Ok, Err, IfErr, List, [], ◌∷◌, length}
 use Rattle.theory.specs.Terms.{Term}
 use Rattle.theory.specs.Telescopes.{Telescope}
 use Rattle.theory.specs.Signatures.{Signature}
@@ -18,7 +18,7 @@ use Rattle.leaf_terms.specs.RecursionMade.{recursion_made}
 use Rattle.proof_walks.specs.Starts.{start_made, walk_made}
 use Rattle.clause_equations.specs.CodeEquations.{equation_made}
 use Rattle.clause_lines.specs.CodeReports as made
-use Rattle.clause_lines.specs.CodeReports.{Candidate, Judgement, Known, PlannedClause, at_matched, at_place, at_vector_made, both_match, can_be_compared, candidate_of, clause_report, converts_at_all, converts_at_leaves, converts_there, denied_made, denies, entering_made, equation_judged, equation_there, first_order, in_plan, is_earlier, judged, on_entered, on_judged, place_converts, proof_judged, report_made, shadowed_among, shadowed_made, sides_compared, walk_judged}
+use Rattle.clause_lines.specs.CodeReports.{Candidate, Judgement, Known, PlannedClause, at_matched, at_place, at_vector_made, both_match, can_be_compared, candidate_of, clause_report, converts_at_all, converts_at_leaves, converts_there, denied_made, denies, entering_made, equation_converts, equation_judged, equation_there, first_order, in_plan, is_earlier, judged, on_entered, on_judged, place_converts, proof_judged, report_made, shadowed_among, shadowed_made, walk_judged}
 use Rattle.tree_translation.specs.Plans.{Plan}
 use Rattle.tree_translation.specs.Recursion.{Recursion}
 use Rattle.clause_reports.specs.DraftEntering.{enter_all, enter_draft_of, enter_entry, enter_needed, mentioned}
@@ -131,18 +131,18 @@ report-rejects S plan c left = by (some_absurd (pats_of (part_at plan c.part) c.
 
 -- ---- as it is made
 
-sides-reject : (S : Signature) (u v : Term) (left : ℕ) → Refuses IfRejected (sides_compared S u v left)
-sides-reject S u v left = by (can_be_compared S u v)
+sides-reject : (S : Signature) (e : Equation) (left : ℕ) → Refuses IfRejected (equation_converts S e left)
+sides-reject S e left = by (can_be_compared S (length e.context) e.left e.right)
   where
-    by : (b : Bool) → Refuses IfRejected (cond b (halting (convertible_of S nesting u v left)) (answers (Err (Halts Deep)) left))
-    by true = halting-rejects (convertible_of S nesting u v left).0
+    by : (b : Bool) → Refuses IfRejected (cond b (halting (convertible_of S nesting e.left e.right left)) (answers (Err (Halts Deep)) left))
+    by true = halting-rejects (convertible_of S nesting e.left e.right left).0
     by false = tt
 
 module _ (S : Signature) (c : PlannedClause) where
   there-rejects : (r : Option Recursion) (order : List ℕ) (l : TreeLeaf) (left : ℕ) → Refuses IfRejected (converts_there S c r order l left)
   there-rejects r order l left =
       let there = equation_there S c r order l in
-      on-rejects (answers (or_halts there) left) _ (halting-rejects there) (λ e rest. sides-reject S e.left e.right rest)
+      on-rejects (answers (or_halts there) left) _ (halting-rejects there) (λ e rest. sides-reject S e rest)
 
   all-convert : (r : Option Recursion) (order : List ℕ) (leaves : List TreeLeaf) (left : ℕ) → Refuses IfRejected (converts_at_all S c r order leaves left)
   all-convert r order [] left = tt
@@ -248,7 +248,7 @@ module _ (S : Signature) (c : PlannedClause) where
   equation-rejects left =
       let there = equation_made S c.plan c.number c.clause c.walk in
       on-rejects (answers (or_halts there) left) _ (halting-rejects there) (λ e rest.
-      on-rejects (sides_compared S e.left e.right rest) _ (sides-reject S e.left e.right rest) (λ holds end. converted-rejects e holds end))
+      on-rejects (equation_converts S e rest) _ (sides-reject S e rest) (λ holds end. converted-rejects e holds end))
 
   clause-rejects : (left : ℕ) → Refuses IfRejected (clause_report S c left)
   clause-rejects left = on-rejects (judged S c left) _ (by (some_absurd (pats_of c.part c.clause))) (λ j rest. judged-rejects j rest)

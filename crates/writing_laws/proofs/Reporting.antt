@@ -25,7 +25,7 @@ use Rattle.draft_checks.specs.Checks.{enterable}
 use Rattle.draft_entering.specs.Depths.{own_name}
 use Rattle.proof_terms.specs.CodeProofs.{body_made, goal_type, name_made, table_made}
 use Rattle.proof_walks.specs.Starts.{walk_made}
-use Rattle.clause_lines.specs.CodeReports.{PlannedClause, Judgement, Known, Candidate, in_plan, sides_compared, converts_at_leaves, if_shadowed, both_match, at_matched, at_vector_made, at_place, is_earlier, shadowed_among, shadowed_made, denies, on_entered, entering_made, candidate_of, proof_judged, unless_converts, equation_judged, judged, on_judged, report_made}
+use Rattle.clause_lines.specs.CodeReports.{PlannedClause, Judgement, Known, Candidate, in_plan, equation_converts, converts_at_leaves, if_shadowed, both_match, at_matched, at_vector_made, at_place, is_earlier, shadowed_among, shadowed_made, denies, on_entered, entering_made, candidate_of, proof_judged, unless_converts, equation_judged, judged, on_judged, report_made}
 use Rattle.writing_laws.proofs.Carrying.{Any, any, skip, halts-has, EntryIs, DraftIs, After, Keeps, enter_draft-is}
 
 -- ---- drafts with a name
@@ -133,7 +133,7 @@ module _ (D Own : List ℕ → Type 0) (Few : ℕ → Type 0) (P : Signature →
   equation-is : (S : Signature) (c : PlannedClause) → Own c.plan.name × Few c.number → (left : ℕ) → Answers (JudgedIs D) (equation_judged S c left)
   equation-is S c own left =
       skip (JudgedIs D) (or_halts (equation_made S c.plan c.number c.clause c.walk), left) _ (λ e rest.
-      skip (JudgedIs D) (sides_compared S e.left e.right rest) _ (λ holds end. unless_converts-is S c own e holds end))
+      skip (JudgedIs D) (equation_converts S e rest) _ (λ holds end. unless_converts-is S c own e holds end))
 
   judged-is : (S : Signature) (c : PlannedClause) → Own c.plan.name × Few c.number → (left : ℕ) → Answers (JudgedIs D) (judged S c left)
   judged-is S c own left = by (some_absurd (pats_of c.part c.clause))
