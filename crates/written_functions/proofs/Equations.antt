@@ -1,13 +1,12 @@
 -- The equation of a clause of a plan is one of the clause as it is written.
 use Rattle.std.proofs.Common.{◌≡◌, ℕ, zero, suc, ◌+◌, ◌-◌, ◌<◌, Bool, true, false, cond, nat_lt, Some, List, [], ◌∷◌, ◌++◌, length, map, slice_get, Result, Ok, IfOk, refl, sym, ap, ap₂, ◌∙◌, subst as transport, arith}
-use Rattle.std.specs.List.{All}
 use Rattle.std.proofs.lemmas.Bool.Decides.{nat_tests}
 use Rattle.std.proofs.lemmas.List.{length-append}
 use Rattle.theory.specs.Terms.{Term, Var, Sort, Pi, Lam, App, Let, Const, Fam, Con, Elim, AxiomK, free_of}
-use Rattle.theory.specs.Substitutions.{inst, fill}
+use Rattle.theory.specs.Substitutions.{fill}
 use Rattle.theory.specs.Telescopes.{applied, variables}
 use Rattle.theory.specs.Eliminators.{no_variable}
-use Rattle.theory.specs.Signatures.{Signature, Definition, IsPrefix}
+use Rattle.theory.specs.Signatures.{Signature, IsPrefix}
 use Rattle.theory.specs.SignatureScopes.{IsScoped}
 use Rattle.theory.specs.Spines.{head_of}
 use Rattle.theory.specs.WellFormed.{provisional}
@@ -20,15 +19,12 @@ use Rattle.core_terms.specs.Clauses.{Clauses, Is, Right}
 use Rattle.core_terms.specs.Patterns.{Pats}
 use Rattle.tele_eq.specs.ReflexivityLaws.{EachConverts}
 use Rattle.unification.proofs.UnderInstances.{each-same}
-use Rattle.pattern_vectors.specs.Matching.{matches_all}
 use Rattle.case_trees.proofs.Answered.{Holds}
 use Rattle.case_trees.proofs.Arguments.{head-applied}
 use Rattle.case_trees.proofs.ScopedPoints.{under-scoped}
 use Rattle.case_trees.proofs.WalkLeading.{walk_leads}
 use Rattle.case_trees.specs.Laws.{LeadsTo}
 use Rattle.case_trees.specs.Scoped.{IsScopedWalk}
-use Rattle.case_trees.specs.OwnWalks.{own_walk_of}
-use Rattle.case_trees.specs.Places.{all_variable_places}
 use Rattle.case_trees.specs.Points.{start_at, under_solution}
 use Rattle.case_trees.specs.Stops.{TreeStop}
 use Rattle.tree_translation.specs.Plans.{Plan}
@@ -37,7 +33,7 @@ use Rattle.tree_translation.specs.RightSides.{is_helper}
 use Rattle.clause_reports.specs.Equations.{Equation, all_shown, equation_of, in_signature, last_argument, left_side, number_of, own_number, part_at, part_named, pats_of, right_side, side_of, walk_site}
 use Rattle.clause_reports.specs.Reports.{some_absurd}
 use Rattle.clause_reports.specs.Showing.{AllShow}
-use Rattle.elaboration.specs.Walking.{Opened, Opening, Walked, helper_arguments, helper_terms, opened}
+use Rattle.elaboration.specs.Walking.{Opened, Opening, Walked, helper_arguments, opened}
 use Rattle.equation_laws.proofs.LeftShowing.{IsAt, equation-is, families-stay}
 use Rattle.equation_laws.proofs.OwnMatches.{IsMatched, walk-matched}
 use Rattle.equation_laws.proofs.ShownTerms.{FamiliesStay, all-show}
@@ -45,7 +41,7 @@ use Rattle.function_clauses.proofs.Fitting.{clause-for}
 use Rattle.resolve.specs.Functions.{Function}
 use Rattle.resolve.specs.Scoping.{IsClause}
 use Rattle.with_abstraction.specs.Laws.{IsScopedAbstraction}
-use Rattle.written_functions.specs.Clauses.{FunctionAt, HasEquation, IsCall, IsEquation, IsHelperCall, IsLeft, IsRight, Placed, parts_of, scrutinee_in, with_constant, written_in}
+use Rattle.written_functions.specs.Clauses.{FunctionAt, HasEquation, IsHelperCall, IsLeft, IsRight, Placed, scrutinee_in, written_in}
 use Rattle.written_functions.specs.Fitting.{AllFit, AnyDot}
 use Rattle.written_functions.proofs.Fitted.{all-fit, all-shown-fit}
 use Rattle.written_functions.proofs.HelperColumns.{columns-told, itself, variable-itself}
@@ -86,7 +82,7 @@ no-helper base (Elim i l) h = refl
 no-helper base (AxiomK i l) h = refl
 
 -- the signature with the function's constant has one entry more
-with-count : (S : Signature) (name : List ℕ) (type : Term) → length (provisional S name type).entries ≡ length S.entries + 1
+pub with-count : (S : Signature) (name : List ℕ) (type : Term) → length (provisional S name type).entries ≡ length S.entries + 1
 with-count S name type = length-append S.entries _
 
 -- ---- equations
@@ -119,11 +115,10 @@ module _ (S : Signature) (f : Function) (plan : Plan) (h : IsPlanGiven S f plan)
       by true is = absurd (let no : length S.entries + j < length S.entries = grind (arith, nat_tests) in omega (arith, no))
       by false is = ap (λ k. number_of U (part_named f.name k)) (let e : length S.entries + j - length S.entries ≡ j = omega arith in e)
 
-  call-is : (n j : ℕ) (args : List Term)
-      → in_signature U plan (under_solution (variables n) (applied (Const (length S.entries + j)) args))
-      ≡ applied (Const (number_of U (part_named f.name j))) (map (λ t. in_signature U plan (under_solution (variables n) t)) args)
-  call-is n j args =
-      let vs = variables n in
+  pub call-is : (vs : List Term) (j : ℕ) (args : List Term)
+      → in_signature U plan (under_solution vs (applied (Const (length S.entries + j)) args))
+      ≡ applied (Const (number_of U (part_named f.name j))) (map (λ t. in_signature U plan (under_solution vs t)) args)
+  call-is vs j args =
       let r = own_number U plan in
       ap (renumbered r) (inst-applied (fill no_variable vs) (Const (length S.entries + j)) args)
       ∙ (renumbered-applied r (Const (length S.entries + j)) (map (under_solution vs) args)
@@ -171,7 +166,7 @@ module _ (S : Signature) (f : Function) (plan : Plan) (h : IsPlanGiven S f plan)
           more = more;
           is =
               e
-              ∙ (ap (λ c. applied c more) (call-is (length w.ctx) (suc k) (helper_arguments o.abstraction (under_solution w.binds t)))
+              ∙ (ap (λ c. applied c more) (call-is (variables (length w.ctx)) (suc k) (helper_arguments o.abstraction (under_solution w.binds t)))
               ∙ sym (applied-append (Const (number_of U (part_named f.name (suc k)))) args more));
           at =
               transport (λ xs. EachConverts (provisional S f.name f.type) xs us) (sym (columns-at w (suc k) v o t at is scoped abstraction bound))
@@ -179,28 +174,35 @@ module _ (S : Signature) (f : Function) (plan : Plan) (h : IsPlanGiven S f plan)
         };
       }
 
+  -- a written side is no helper's call
+  pub no-call : (n binds : ℕ) (pats : Pats) (t : Term) → IsClause (provisional S f.name f.type) n (Is pats binds (clause.Side t))
+      → is_helper plan.base (head_of t) ≡ false
+  no-call n binds pats t resolved =
+      let under : AreUnder (length S.entries + 1) t =
+      transport (λ m. AreUnder m t) (with-count S f.name f.type)
+      (scoped-under (provisional S f.name f.type) binds (length (provisional S f.name f.type).entries) t (omega arith) resolved.3.scoped) in
+      ap (λ base. is_helper base (head_of t)) h.base ∙ no-helper (length S.entries) (head_of t) (head-under (length S.entries + 1) t under)
+
+  -- that of a clause with a scrutinee is one
+  pub is-call : (k : ℕ) (args : List Term) → 0 < k → is_helper plan.base (head_of (applied (Const (length S.entries + k)) args)) ≡ true
+  is-call k args low =
+      ap₂ is_helper h.base (head-applied (Const (length S.entries + k)) args)
+      ∙ (let b : nat_lt (length S.entries) (length S.entries + k) ≡ true = grind (arith, nat_tests) in b)
+
   right-is : (w : Walk) (n : ℕ) (pats : Pats) (binds : ℕ) (right : Right) (side v : Term) → IsSideOf S f (h.own ∷ h.helpers) w (Is pats binds right) side
       → IsClause (provisional S f.name f.type) n (Is pats binds right) → IsScopedWalk (provisional S f.name f.type) w
       → v ≡ right_side U plan side (walk_site w)
       → IsRight U (placed_at S f plan) right w.binds (w.terms ++ scrutinee_in U (placed_at S f plan) w.binds right) v
   right-is w n _ _ _ _ v (walked.term pats binds t) resolved scoped e =
-      let under : AreUnder (length S.entries + 1) t =
-      transport (λ m. AreUnder m t) (with-count S f.name f.type)
-      (scoped-under (provisional S f.name f.type) binds (length (provisional S f.name f.type).entries) t (omega arith) resolved.3.scoped) in
-      let no : is_helper plan.base (head_of t) ≡ false =
-      ap (λ base. is_helper base (head_of t)) h.base ∙ no-helper (length S.entries) (head_of t) (head-under (length S.entries + 1) t under) in
       let vs = variables (length w.ctx) in
       e
       ∙ (ap
       (λ b. cond b (applied (in_signature U plan (under_solution vs t)) (last_argument U plan (recursion_of U plan) w.terms))
-      (in_signature U plan (under_solution w.binds t))) no
+      (in_signature U plan (under_solution w.binds t))) (no-call n binds pats t resolved)
       ∙ written-is w.binds t)
   right-is w n _ _ _ _ v (walked.scrutinee pats binds t inside k o part low at is same abstraction) resolved scoped e =
       let vs = variables (length w.ctx) in
       let side = applied (Const (length S.entries + k)) (helper_arguments o.abstraction (under_solution w.binds t)) in
-      let yes : is_helper plan.base (head_of side) ≡ true =
-      ap₂ is_helper h.base (head-applied (Const (length S.entries + k)) (helper_arguments o.abstraction (under_solution w.binds t)))
-      ∙ (let b : nat_lt (length S.entries) (length S.entries + k) ≡ true = grind (arith, nat_tests) in b) in
       let bound =
       under-scoped (provisional S f.name f.type) (free_of t) (length w.ctx) w.binds t scoped.binds
       (record { variables = omega arith; entries = resolved.3.0.scoped.entries }) in
@@ -208,7 +210,8 @@ module _ (S : Signature) (f : Function) (plan : Plan) (h : IsPlanGiven S f plan)
       (e
       ∙ ap
       (λ b. cond b (applied (in_signature U plan (under_solution vs side)) (last_argument U plan (recursion_of U plan) w.terms))
-      (in_signature U plan (under_solution w.binds side))) yes)
+      (in_signature U plan (under_solution w.binds side)))
+      (is-call k (helper_arguments o.abstraction (under_solution w.binds t)) low))
   right-is w n _ _ _ _ v (walked.nothing pats binds) resolved scoped e = e
 
   -- ---- left sides

@@ -1,6 +1,9 @@
 pub mod Equations
 pub mod Fitted
+pub mod Functions
 pub mod HelperColumns
+pub mod Leaves
+pub mod MadeClosed
 pub mod Numbers
 pub mod PartScopes
 pub mod PlanClauses

@@ -1,5 +1,5 @@
 -- The clauses of a plan beside those that are written.
-use Rattle.std.proofs.Common.{◌≡◌, ℕ, zero, suc, ◌+◌, ◌<◌, Some, List, [], ◌∷◌, ◌++◌, length, slice_get, get_or, refl, sym, ap, ◌∙◌, subst as transport, arith}
+use Rattle.std.proofs.Common.{◌≡◌, ℕ, zero, suc, ◌+◌, ◌<◌, Some, List, [], ◌∷◌, slice_get, get_or, refl, sym, ap, ◌∙◌, subst as transport, arith}
 use Rattle.std.specs.List.{All}
 use Rattle.std.specs.Prelude.{option_and_then}
 use Rattle.std.proofs.lemmas.List.Elements.{All-head, All-tail}
@@ -16,11 +16,11 @@ use Rattle.case_trees.specs.Places.{clause_at}
 use Rattle.tree_translation.specs.Conditions.{patterns_of}
 use Rattle.tree_translation.specs.Plans.{Part, Plan}
 use Rattle.clause_reports.specs.Equations.{part_at, pats_of, side_of}
-use Rattle.elaboration.specs.Functions.{finished, patterns_in}
+use Rattle.elaboration.specs.Functions.{patterns_in}
 use Rattle.elaboration.specs.Walking.{Walked}
 use Rattle.resolve.specs.Functions.{Function}
-use Rattle.written_functions.specs.Clauses.{Placed, clause_in, parts_of, placed_from, placed_in}
-use Rattle.written_functions.proofs.PlanGiven.{AreFinished, IsFinished, IsPartMade, IsPlanGiven, clauses-listed, part-made, start_plain}
+use Rattle.written_functions.specs.Clauses.{Placed, clause_in, parts_of, placed_in}
+use Rattle.written_functions.proofs.PlanGiven.{AreFinished, IsPlanGiven, clauses-listed, part-made}
 use Rattle.written_functions.proofs.Walked as walked
 use Rattle.written_functions.proofs.Walked.{AreGiven, IsOneGiven, IsPartGiven, clauses_of}
 

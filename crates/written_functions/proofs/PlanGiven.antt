@@ -1,5 +1,5 @@
 -- The plan of a function has, part by part, what the walks of its clauses give.
-use Rattle.std.proofs.Common.{◌≡◌, ℕ, zero, suc, ◌+◌, ◌<◌, Option, Some, List, [], ◌∷◌, length, map, slice_get, get_or, Ok, refl, sym, ap, ap₂, ◌∙◌, subst as transport, arith}
+use Rattle.std.proofs.Common.{◌≡◌, ℕ, zero, suc, ◌+◌, Option, Some, List, [], ◌∷◌, length, slice_get, get_or, Result, Ok, Err, IfOk, refl, sym, ap, ◌∙◌, subst as transport, arith}
 use Rattle.std.specs.List.{All}
 use Rattle.std.proofs.lemmas.List.Elements.{All-cons}
 use Rattle.theory.specs.Terms.{Term}
@@ -9,9 +9,7 @@ use Rattle.theory.specs.SignatureScopes.{IsScopedTelescope}
 use Rattle.theory.specs.WellFormed.{provisional}
 use Rattle.core_terms.proofs.Answers.{Answers, and_next-has}
 use Rattle.core_terms.specs.CaseTrees.{Tree}
-use Rattle.core_terms.specs.Clauses.{Clauses}
 use Rattle.structural_rec.specs.Choices.{choose}
-use Rattle.case_trees.specs.Stops.{TreeStop}
 use Rattle.case_trees.specs.Trees.{split_of}
 use Rattle.tree_translation.specs.Entries.{ordered_variables}
 use Rattle.tree_translation.specs.Plans as plans
@@ -19,16 +17,23 @@ use Rattle.tree_translation.specs.Plans.{Part, Plan, no_part}
 use Rattle.tree_translation.specs.Recursion.{Recursion, order_of, ordered_telescope, ordered_term}
 use Rattle.clause_reports.specs.Equations.{part_at, part_named}
 use Rattle.elaboration.specs.Functions.{finished, helpers_finished, own_finished, own_part, plan_of, position_chosen, recursion_in}
-use Rattle.elaboration.specs.Refusals.{or_ends, walking}
-use Rattle.elaboration.specs.Walking.{Opened, Session, Walked, walk_clauses}
-use Rattle.function_clauses.proofs.OwnParts.{own-part-for}
+use Rattle.elaboration.specs.Refusals.{walking}
+use Rattle.elaboration.specs.Walking.{Opened, Walked, walk_clauses}
+use Rattle.function_clauses.proofs.OwnParts.{own-columns, own-part-for, part-walked}
+use Rattle.function_lines.proofs.SameChoices.{provisional-same, recursion-same}
+use Rattle.function_plans.proofs.Starts.{start-clauses, start-given, starts}
+use Rattle.function_plans.specs.CodePlans.{IsOwnWalked}
+use Rattle.order_scopes.proofs.RecursionOrders.{recursion-ordered}
+use Rattle.structural_rec.specs.Laws.{IsOrder}
+use Rattle.case_trees.specs.Laws.{IsGiven}
+use Rattle.case_trees.specs.Scoped.{AreClausesFor}
+use Rattle.written_functions.proofs.MadeClosed.{ClosedAt, in-is}
 use Rattle.function_lines.proofs.SamePlans.{walked_of}
 use Rattle.function_lines.specs.Conditions.{IsFunctionOver}
 use Rattle.function_lines.specs.FunctionMade.{session_at}
-use Rattle.function_session.specs.Laws.{inner}
 use Rattle.resolve.specs.Functions.{Function}
 use Rattle.written_functions.specs.Clauses.{parts_of}
-use Rattle.written_functions.proofs.Walked.{AreAt, Gives, IsPartGiven, anything, clauses-gives, clauses_of, ends-ok}
+use Rattle.written_functions.proofs.Walked.{AreAt, Gives, IsPartGiven, clauses-gives, clauses_of, ends-ok, is-ok}
 
 -- ---- parts that are finished
 
@@ -104,6 +109,8 @@ pub record IsPlanGiven (S : Signature) (f : Function) (plan : Plan) : Type 0 whe
   pub helpers_are : AreFinished (provisional S f.name f.type) helpers helper_parts
   pub lists : clauses_of (own ∷ helpers) ≡ parts_of f
   pub given : All (IsPartGiven S f (own ∷ helpers)) (own ∷ helpers)
+  pub own_start : IsGiven (provisional S f.name f.type) (start_ordered order own.part).context (start_ordered order own.part).goal (start_ordered order own.part).terms
+  pub own_clauses : AreClausesFor (provisional S f.name f.type) (start_ordered order own.part).terms own.clauses
   pub own_scoped : IsScopedTelescope (provisional S f.name f.type) 0 (plans.own_part plan).tele
 
 at-places : (all : List Walked) (n : ℕ) (helpers : List Walked) → ((i : ℕ) (w : Walked) → slice_get helpers i ≡ Some w → slice_get all (n + i) ≡ Some w)
@@ -114,27 +121,39 @@ at-places all n (w ∷ helpers) h = (
   at-places all (n + 1) helpers (λ i v at. transport (λ m. slice_get all m ≡ Some v) (let e : n + suc i ≡ n + 1 + i = omega arith in e) (h (suc i) v at)),
 )
 
-pub plan-given : (S : Signature) (f : Function) (level left : ℕ) → IsFunctionOver (provisional S f.name f.type) f
+with-ok : {A E : Type 0} (P : A → Type 0) (r : Result A E) → IfOk r P → IfOk r (λ a. (r ≡ Ok a) × P a)
+with-ok P (Ok a) h = (refl, h)
+with-ok P (Err e) h = tt
+
+pub plan-given : (S : Signature) (f : Function) (level left : ℕ) → IsFunctionOver (provisional S f.name f.type) f → ClosedAt S f level left
     → Answers (IsPlanGiven S f) (plan_of S f level left)
-plan-given S f level left over =
+plan-given S f level left over closed =
     let T = provisional S f.name f.type in
     let s = session_at S f in
     let part = own_part f level in
+    let count = length part.tele in
     let P = IsPlanGiven S f in
     let fits = own-part-for over.before T f level over.prefix over.ready over.resolved in
     let walked = walk_clauses s 0 part 0 1 f.clauses left in
-    and_next-has (Gives S f part 0 1 f.clauses) P walked _
-    (clauses-gives S f 0 part 0 1 f.clauses left (omega arith) fits.part.given fits.clauses) (λ given rest h.
+    let H = Gives S f part 0 1 f.clauses in
+    and_next-has (λ given. (walked.0 ≡ Ok given) × H given) P walked _
+    (with-ok H walked.0 (clauses-gives S f 0 part 0 1 f.clauses left (omega arith) fits.part.given fits.clauses)) (λ given rest gives.
+    let h = gives.1 in
     let w = walked_of f level given in
     let all = w ∷ given.helpers in
     let at : AreAt all 1 given.helpers =
     at-places all 1 given.helpers (λ i v e. transport (λ m. slice_get all m ≡ Some v) (let s : suc i ≡ 1 + i = omega arith in s) e) in
     let chosen = position_chosen s (choose S part.tele s.own given.uses) in
-    and_next-has (λ u. Unit {0}) P (chosen, rest) _ (anything chosen) (λ position more u.
+    and_next-has (λ position. chosen ≡ Ok position) P (chosen, rest) _ (is-ok chosen) (λ position more is.
     let r = recursion_in S part.tele position in
-    and_next-has (IsFinished T (start_ordered (order_of (length part.tele) r)) w) P (own_finished s r w more) _ (own-is S f r w more) (λ own_there end o.
+    let order = order_of count r in
+    and_next-has (IsFinished T (start_ordered order) w) P (own_finished s r w more) _ (own-is S f r w more) (λ own_there end o.
     and_next-has (AreFinished T given.helpers) P (helpers_finished s r level 1 given.helpers end) _ (helpers-are S f r level 1 given.helpers end)
     (λ helpers last all_finished.
+    let own_walked : IsOwnWalked T w = record { walked = part-walked T w fits; columns = own-columns over.before T f level over.resolved } in
+    let same = in-is T part.tele position ∙ sym (recursion-same S T (provisional-same S f.name f.type) part.tele position) in
+    let ordered : IsOrder count order = transport (IsOrder count) (ap (order_of count) same) (recursion-ordered T part.tele position) in
+    let start = starts T w (ordered_telescope part.tele order) count order own_walked refl ordered refl (closed given position gives.0 is) in
     record {
       base = refl;
       name = refl;
@@ -144,13 +163,16 @@ plan-given S f level left over =
       own_part = own_there;
       helper_parts = helpers;
       parts = refl;
-      order = order_of (length part.tele) r;
+      order = order;
       own_is = o;
       helpers_are = all_finished;
       lists = ap (λ lists. f.clauses ∷ lists) h.lists;
       given =
           All-cons (IsPartGiven S f all) w given.helpers
           (record { walkable = record { given = fits.part.given; fitting = fits.clauses }; given = h.each all at }) (h.helpers all at);
+      own_start =
+          start-given T w (ordered_telescope part.tele order) count order start (ordered_term count order part.goal) (ordered_variables order count) refl refl;
+      own_clauses = start-clauses T w (ordered_telescope part.tele order) count order start (ordered_variables order count) refl;
       own_scoped = transport (IsScopedTelescope T 0) (sym (ap (λ (p : Part). p.tele) o.is)) fits.part.given.scoped.context;
     }))))
 

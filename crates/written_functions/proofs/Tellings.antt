@@ -1,18 +1,17 @@
 -- What the lines of a plan's clauses say of the clauses as they are written.
-use Rattle.std.proofs.Common.{◌≡◌, ℕ, ◌+◌, ◌<◌, ◌≤◌, Bool, true, false, cond, List, [], ◌∷◌, ◌++◌, length, length-append, map, codes, Result, Ok, Err, IfOk, refl, sym, ap, ap₂, ◌∙◌, subst as transport, arith}
+use Rattle.std.proofs.Common.{◌≡◌, ℕ, ◌+◌, ◌<◌, ◌≤◌, Bool, true, false, cond, Some, List, [], ◌∷◌, ◌++◌, length, length-append, codes, Result, Ok, Err, IfOk, refl, sym, ap, ◌∙◌, subst as transport, arith}
 use Rattle.std.specs.List.{All}
 use Rattle.theory.specs.Terms.{Term}
-use Rattle.theory.specs.Telescopes.{Telescope}
 use Rattle.theory.specs.Signatures.{Definition, IsEntryAt, IsPrefix, Signature}
 use Rattle.theory.specs.WellFormed.{IsDefinition, IsEntry, IsWellFormed, definition, provisional}
-use Rattle.theory.proofs.Pushing.{prefix_reflexive, prefix_transitive}
+use Rattle.theory.proofs.Pushing.{prefix_transitive}
 use Rattle.theory.proofs.Widening.{prefix_keeps}
 use Rattle.core_terms.proofs.Answers.{Answers, and_next-has}
 use Rattle.core_terms.specs.CaseTrees.{Walk}
-use Rattle.core_terms.specs.Clauses.{Clauses}
+use Rattle.core_terms.specs.Clauses.{Clauses, Is}
 use Rattle.case_trees.specs.Scoped.{IsScopedWalk}
 use Rattle.pattern_vectors.specs.Matching.{matches_all}
-use Rattle.tree_translation.specs.Naming.{decimal}
+use Rattle.std.specs.Prelude.{decimal}
 use Rattle.tree_translation.specs.Plans as plans
 use Rattle.tree_translation.specs.Plans.{Part, Plan}
 use Rattle.elab_session.proofs.Resolved.{prelude-stays}
@@ -20,8 +19,7 @@ use Rattle.clause_reports.proofs.Keeping.{Grows, grows_on, grows_same}
 use Rattle.clause_reports.proofs.Lines as found
 use Rattle.clause_reports.proofs.ReportKeeping.{GrowsBy, report-grows}
 use Rattle.clause_reports.specs.Equations.{part_at, part_named, pats_of}
-use Rattle.clause_reports.specs.Reports.{Absurd, Definitional, Line, Proved, Reference, Reported, Shadowed, equation_report, order_in, report_of, reported, shown_leaf, some_absurd}
-use Rattle.clause_reports.specs.Shadows.{leaves_of}
+use Rattle.clause_reports.specs.Reports.{Absurd, Definitional, Line, Proved, Reference, Reported, Shadowed, equation_report, report_of, reported, some_absurd}
 use Rattle.clause_reports.specs.Stops.{ReportStop, answers}
 use Rattle.elaboration.specs.Functions.{ClauseLine, Following, Lines, report_parts, report_walks, with_line}
 use Rattle.elaboration.specs.Refusals.{Owner, or_no_report, owner_of, reporting}
@@ -32,6 +30,7 @@ use Rattle.written_functions.specs.Clauses as written
 use Rattle.written_functions.specs.Clauses.{AreLinesOf, ConvertsAt, IsLineOf, Placed, placed_from, placed_in}
 use Rattle.written_functions.proofs.Equations.{has-equation, placed_at, with-count}
 use Rattle.written_functions.proofs.Fitted.{all-fit}
+use Rattle.written_functions.proofs.Leaves.{leaves-convert}
 use Rattle.written_functions.proofs.Numbers.{all-under, scoped-under, telescope-under}
 use Rattle.written_functions.proofs.PlanClauses.{ArePartsPlaced, ArePlaced, IsPlaced, earlier-there, placed-pats}
 use Rattle.written_functions.proofs.PlanGiven.{IsPlanGiven}
@@ -105,13 +104,10 @@ reference k number w = record { part = k; clause = number; walk = w }
 -- ---- a line of a clause
 
 not-absurd : (b : Bool) (line : Line) → (b ≡ true → line ≡ Absurd) → ((line ≡ Absurd) → ⊥) → b ≡ false
-not-absurd true line h no = absurd (no (h refl))
-not-absurd false line h no = refl
+not-absurd true line h never = absurd (never (h refl))
+not-absurd false line h never = refl
 
-module _ (S Own : Signature) (f : Function) (plan : Plan) (h : IsPlanGiven S f plan)
-    (leaves : (U : Signature) (k number : ℕ) (w : Walk) (c : Placed) → IsBase S Own plan U → IsPlaced S f plan h k number w c → some_absurd c.pats ≡ false
-    → All (found.ConvertsAt U plan k number (order_in U plan k) w) (leaves_of number (part_at plan k).tree)
-    → All (ConvertsAt U (placed_at S f plan) c) (map shown_leaf (leaves_of number (part_at plan k).tree))) where
+module _ (S Own : Signature) (f : Function) (plan : Plan) (h : IsPlanGiven S f plan) where
   proof-named : (k number : ℕ) (c : Placed) → c.part ≡ k → c.number ≡ number
       → part_named plan.name k ++ codes "!c" ++ decimal (number + 1) ≡ part_named f.name c.part ++ codes "!c" ++ decimal (c.number + 1)
   proof-named k number c part number_is =
@@ -162,12 +158,12 @@ module _ (S Own : Signature) (f : Function) (plan : Plan) (h : IsPlanGiven S f p
         pats = other.pats;
         binds = other.binds;
         right = other.right;
-        other = transport (λ i. written.clause_in f i earlier ≡ _) (sym p.part) other.there;
+        other = transport (λ i. written.clause_in f i earlier ≡ Some (Is other.pats other.binds other.right)) (sym p.part) other.there;
         other_takes = (_, all-fit U U stay other.pats vector (ap (λ ps. matches_all U ps vector) (sym other.are) ∙ said.other));
         takes = (_, all-fit U U stay c.pats vector (ap (λ ps. matches_all U ps vector) (sym same) ∙ said.own));
         converts =
             transport (All (ConvertsAt U (placed_at S f plan) c)) (sym said.shown)
-            (leaves U k number w c b p none said.converts);
+            (leaves-convert S f plan h U b.before k number w c p said.converts);
       }
   line-says U k number w c p b V T Absurd said proved clean more well = ap some_absurd (sym (placed-pats S f plan h k number w c p)) ∙ said
 

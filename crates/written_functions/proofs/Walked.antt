@@ -1,5 +1,5 @@
 -- What the walks of a function's clauses give: for each clause its own walk and its right side, and for each `with` a helper.
-use Rattle.std.proofs.Common.{◌≡◌, ℕ, zero, suc, ◌+◌, ◌<◌, Some, List, [], ◌∷◌, ◌++◌, length, map, reverse, slice_get, Result, Ok, Err, IfOk, refl, sym, ap, ap₂, ◌∙◌, subst as transport, arith}
+use Rattle.std.proofs.Common.{◌≡◌, ℕ, suc, ◌+◌, ◌<◌, Some, List, [], ◌∷◌, ◌++◌, length, map, reverse, slice_get, Result, Ok, Err, IfOk, refl, sym, ap, ap₂, ◌∙◌, subst as transport, arith}
 use Rattle.std.specs.List.{All}
 use Rattle.std.proofs.lemmas.List.{map-append}
 use Rattle.std.proofs.lemmas.List.Elements.{All-nil, All-cons, All-append}
@@ -27,7 +27,6 @@ use Rattle.kernel_reduce.specs.Reduction.{nesting}
 use Rattle.resolve.specs.Functions.{Function}
 use Rattle.resolve.specs.Scoping.{AreClauses, IsClause}
 use Rattle.tree_translation.proofs.Drafting.{bounded-ok}
-use Rattle.unification.specs.ScopedStates.{IsReady}
 use Rattle.with_abstraction.specs.Laws.{IsScopedAbstraction}
 use Rattle.case_trees.specs.Laws.{IsGiven}
 use Rattle.written_functions.proofs.PartScopes.{IsFit, IsWalkable, helper-opens, walk-fits}

@@ -1,5 +1,5 @@
 -- What is said of the clauses of a function, in words of the function as it is written and of the theory.
-use Rattle.std.specs.Prelude.{◌≡◌, ◌<◌, ◌-◌, ℕ, zero, suc, ◌+◌, nat_lt, cond, true, Option, Some, option_and_then, List, [], ◌∷◌, ◌++◌, All, codes, length, map, slice_get}
+use Rattle.std.specs.Prelude.{◌≡◌, ◌<◌, ◌-◌, ℕ, zero, suc, ◌+◌, nat_lt, cond, true, Option, Some, option_and_then, List, [], ◌∷◌, ◌++◌, All, codes, decimal, length, map, slice_get}
 use Rattle.theory.specs.Terms.{Term, Sort, Const}
 use Rattle.theory.specs.Telescopes.{Telescope, applied, products}
 use Rattle.theory.specs.Conversion.{Converts}
@@ -12,7 +12,6 @@ use Rattle.core_sig.specs.Settling.{renumbered}
 use Rattle.tele_eq.specs.ReflexivityLaws.{EachConverts}
 use Rattle.case_trees.specs.Places.{clause_at}
 use Rattle.case_trees.specs.Points.{under_solution}
-use Rattle.tree_translation.specs.Naming.{decimal}
 use Rattle.clause_reports.specs.Equations.{Equation, number_of, part_named}
 use Rattle.clause_reports.specs.Reports.{Line, Definitional, Proved, Shadowed, Absurd, some_absurd}
 use Rattle.elaboration.specs.Functions.{ClauseLine}
