@@ -2,5 +2,8 @@ pub mod Digits
 pub mod FoundFamilies
 pub mod LeafTerms
 pub mod Lengths
+pub mod PartHeights
 pub mod RecursionFound
+pub mod SeenAlike
+pub mod TowerHeights
 pub mod Turning

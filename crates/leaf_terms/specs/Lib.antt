@@ -1,3 +1,4 @@
+pub mod CallsApart
 pub mod CodeRightSides
 pub mod Laws
 pub mod PlaceMeanings

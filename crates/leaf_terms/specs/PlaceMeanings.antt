@@ -1,7 +1,8 @@
 -- What places of leaves, descents and what leaves are made of stand for.
-use Rattle.std.specs.Prelude.{option_map, IfSome, Option}
+use Rattle.std.specs.Prelude.{option_map, map, IfSome, List, Option}
 use Rattle.std.specs.Option.{option_copied}
 use Rattle.core_terms.specs.Meanings.{tree_of, tele_of}
+use Rattle.core_terms.specs.declared.term.Term as code
 use Rattle.core_sig.specs.FamilyShapes.{family_shape}
 use Rattle.core_sig.specs.Meanings.{family_of}
 use Rattle.case_below_gen.specs.Paths as paths
@@ -52,3 +53,7 @@ descent_of d = record {
   motive = tree_of d.motive.now;
   part = tree_of d.part.now;
 }
+
+-- arguments that are made, and none in the place of those that are too high
+abbrev pub arguments_of : List (Option code.Term) → List (Option Term)
+arguments_of arguments = map (option_map tree_of) arguments

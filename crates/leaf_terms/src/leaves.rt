@@ -1,6 +1,6 @@
-ghost use Rattle.std.specs.Prelude.{◌≡◌, IfOk, Ok, get_or, map, option_and_then, option_map};
+ghost use Rattle.std.specs.Prelude.{◌≡◌, [], IfOk, Ok, get_or, map, option_and_then, option_map};
 ghost use Rattle.std.specs.Option.{option_copied};
-ghost use Rattle.core_terms.specs.Answers.{Gives};
+ghost use Rattle.core_terms.specs.Answers.{Gives, and_then};
 ghost use Rattle.core_terms.specs.Meanings.{tree_of, tele_of};
 ghost use Rattle.core_terms.specs.TreeMeanings.{walk_of};
 ghost use Rattle.tree_translation.specs.Mappings as mappings;
@@ -16,6 +16,7 @@ use crate::mappings::{in_old_order, mapping};
 use crate::plan::{Part, Plan};
 use crate::recursion::Recursion;
 use crate::right_sides::{BelowValue, Place, term_or, with_calls};
+use crate::towers::low_or_deep;
 use core_sig::Signature;
 use core_terms::{Items, Stop, Tele, Term, Walk, head, variable};
 use run_terms::{Naming, all_placed, instance, visible};
@@ -171,6 +172,15 @@ fn place_at<'a>(
     })
 }
 
+/// A right side at a leaf with all calls in it, or Deep where it is too high.
+fn made_in(alloc: Global, w: &Translation, place: &Place, side: &Term) -> Result<Term, Stop>
+    requires { HasPlaceFamily w.now.sig.now place.now }
+    ensures { Gives tree_of result (and_then (spec.calls_made (naming_of w.now.naming) (plan_of w.now.plan.now) (leaf_of place.now) 0 [] (tree_of side.now)) spec.low_or_deep) }
+{
+    let made = with_calls(alloc, w, place, 0, Vec::new(alloc), side)?;
+    low_or_deep(made)
+}
+
 /// The term of a leaf over its whole context of `n` variables, where it has such visible ones.
 fn leaf_with(
     alloc: Global,
@@ -188,12 +198,13 @@ fn leaf_with(
 {
     let side = side_at(alloc, w, levels, n, clause, substitution, terms, binds)?;
     let place = place_at(alloc, w, levels, n, hidden, terms)?;
-    with_calls(alloc, w, &place, 0, Vec::new(alloc), &side)
+    made_in(alloc, w, &place, &side)
 }
 
 /// The term of a leaf over its whole context of `n` variables, of which some are hidden: the right side of its clause, with the
-/// leaf's terms for the clause's variables, where each call of the function is a path in the below value. Deep where the term that a
-/// path starts from, the part that it leads to or the path is too high.
+/// leaf's terms for the clause's variables, where each call of the function is a path in the below value. Deep where it is too high,
+/// where a call is there and the leaf's term at the position of recursion is too high, or where the argument of a call at that position
+/// is itself the call of a path that is too high.
 pub fn leaf_term(
     alloc: Global,
     w: &Translation,

@@ -11,6 +11,7 @@ mod paths;
 mod plan;
 mod recursion;
 mod right_sides;
+mod towers;
 
 pub use below_types::{below_type, copied_at, motive_at, parameters_at, scrutinee_at, terms_at};
 pub use entry_names::{helper_name, motive_name, step_name};

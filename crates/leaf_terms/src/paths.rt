@@ -1,4 +1,4 @@
-ghost use Rattle.std.specs.Prelude.{◌≡◌, ◌≤◌, Err, OnOk, OnErr, option_map};
+ghost use Rattle.std.specs.Prelude.{◌≡◌, ◌≤◌, Ok, Err, OnOk, OnErr, option_map};
 ghost use Rattle.core_terms.specs.Answers.{Gives};
 ghost use Rattle.core_terms.specs.Bounds.{most_inner_variables};
 ghost use Rattle.core_terms.specs.Meanings.{tree_of};
@@ -12,7 +12,7 @@ ghost use Rattle.leaf_terms.specs.PlaceMeanings.{descent_of};
 
 use case_below_gen::below_path;
 use core_sig::{Family, Signature};
-use core_terms::{Stop, Term};
+use core_terms::{MAX_HEIGHT, Stop, Term};
 use run_terms::free_of;
 use std::alloc::Global;
 
@@ -63,19 +63,39 @@ fn path_to(
     )
 }
 
-/// The path to a strict part of a term in a below value for the term, or the below value itself where it is no strict part.
+/// The path to a strict part of a term in a below value for the term, or the below value itself where it is no strict part. None where
+/// the path is too high.
+fn found_or_below(
+    alloc: Global,
+    sig: &Signature,
+    d: &Descent,
+    whole: &Term,
+    below: Term,
+) -> Result<Option<Term>, Stop>
+    requires { IsEntryAt sig.now d.now.fam (FamilyOf (family_of d.now.family.now)) }
+    ensures { Gives (option_map tree_of) result (Ok (spec.or_below (tree_of below) (paths.path_to (descent_of d.now) (tree_of whole.now) (tree_of below)))) }
+{
+    match path_to(alloc, sig, d, whole, &below) {
+        Ok(Some(path)) => Ok(Some(path)),
+        Ok(None) => Ok(Some(below)),
+        Err(Stop::Memory) => Err(Stop::Memory),
+        Err(_) => Ok(None),
+    }
+}
+
+/// The same, and Deep where the term is too high.
 pub fn path_or_below(
     alloc: Global,
     sig: &Signature,
     d: &Descent,
     whole: &Term,
     below: Term,
-) -> Result<Term, Stop>
+) -> Result<Option<Term>, Stop>
     requires { IsEntryAt sig.now d.now.fam (FamilyOf (family_of d.now.family.now)) }
-    ensures { Gives tree_of result (spec.path_made (descent_of d.now) (tree_of whole.now) (tree_of below)) }
+    ensures { Gives (option_map tree_of) result (spec.path_made (descent_of d.now) (tree_of whole.now) (tree_of below)) }
 {
-    match path_to(alloc, sig, d, whole, &below)? {
-        Some(path) => Ok(path),
-        None => Ok(below),
+    if whole.height() > MAX_HEIGHT {
+        return Err(Stop::Deep);
     }
+    found_or_below(alloc, sig, d, whole, below)
 }

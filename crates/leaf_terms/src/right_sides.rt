@@ -1,16 +1,18 @@
-ghost use Rattle.std.specs.Prelude.{◌≡◌, ◌∷◌, [], Ok, drop, get_or, reverse};
+ghost use Rattle.std.specs.Prelude.{◌≡◌, ◌∷◌, [], Ok, Some, drop, get_or, option_map, reverse};
+ghost use Rattle.std.specs.Option.{option_copied};
 ghost use Rattle.core_terms.specs.Answers.{Gives};
 ghost use Rattle.core_terms.specs.Meanings.{tree_of, tele_of};
 ghost use Rattle.theory.specs.Signatures.{FamilyOf, IsEntryAt};
 ghost use Rattle.theory.specs.Telescopes as telescopes;
 ghost use Rattle.theory.specs.Terms as tree;
+ghost use Rattle.tele_eq.specs.Items as items;
 ghost use Rattle.unification.specs.Injecting.{lifted};
 ghost use Rattle.tree_translation.specs.Naming as names;
 ghost use Rattle.tree_translation.specs.Recursion as recursions;
 ghost use Rattle.tree_translation.specs.RightSides as sides;
 ghost use Rattle.run_terms.specs.CodeNaming.{naming_of};
 ghost use Rattle.leaf_terms.specs.CodeRightSides as spec;
-ghost use Rattle.leaf_terms.specs.PlaceMeanings.{HasPlaceFamily, below_of, leaf_of};
+ghost use Rattle.leaf_terms.specs.PlaceMeanings.{HasPlaceFamily, arguments_of, below_of, leaf_of};
 ghost use Rattle.leaf_terms.specs.PlanMeanings.{plan_of};
 ghost use Rattle.leaf_terms.specs.RecursionMeanings.{recursion_of};
 
@@ -20,6 +22,7 @@ use crate::leaves::Translation;
 use crate::orders::remaining_positions;
 use crate::paths::{Descent, path_or_below};
 use crate::recursion::Recursion;
+use crate::towers::{or_tower, or_towers};
 use core_terms::{Stop, Tele, Term, applied, copy_whole, number_of};
 use run_terms::{all_raised, below_name, constant, next, place_of, raised};
 use std::alloc::Global;
@@ -114,17 +117,33 @@ fn below_number(alloc: Global, w: &Translation, r: &Recursion) -> Result<u32, St
     number_of(w.naming.base as usize + place as usize)
 }
 
-/// The path for the argument at the position, or the below value.
-fn path_at(
+/// An argument at a position, or another term after the last.
+fn part_or<'a>(arguments: &'a [Option<Term>], position: u32, other: &'a Term) -> Option<&'a Term>
+    ensures { option_map tree_of (option_copied result) ≡ get_or (arguments_of arguments.now) position (Some (tree_of other.now)) }
+{
+    match arguments {
+        [] => Some(other),
+        [t, rest @ ..] => {
+            if position == 0 {
+                t.as_ref()
+            } else {
+                part_or(rest, position - 1, other)
+            }
+        }
+    }
+}
+
+/// The path to a part, or the below value. None where the path is too high.
+fn path_to_part(
     alloc: Global,
     w: &Translation,
     r: &Recursion,
     terms: &[Term],
     below: Term,
-    arguments: &[Term],
-) -> Result<Term, Stop>
+    part: &Term,
+) -> Result<Option<Term>, Stop>
     requires { IsEntryAt w.now.sig.now r.now.admission.number (FamilyOf (recursion_of r.now).family) }
-    ensures { Gives tree_of result (spec.path_at (naming_of w.now.naming) (plan_of w.now.plan.now) (recursion_of r.now) (tele_of terms.now) (tree_of below) (tele_of arguments.now)) }
+    ensures { Gives (option_map tree_of) result (spec.path_made (sides.descent_at (naming_of w.now.naming) (plan_of w.now.plan.now) (recursion_of r.now) (tele_of terms.now) (tree_of part.now)) (items.term_at (tele_of terms.now) r.now.position) (tree_of below)) }
 {
     let none = Term::Sort(0);
     let number = below_number(alloc, w, r)?;
@@ -135,9 +154,58 @@ fn path_at(
         level: w.plan.level,
         below: number,
         motive: &motive,
-        part: term_or(arguments, r.position, &none),
+        part,
     };
     path_or_below(alloc, w.sig, &d, term_or(terms, r.position, &none), below)
+}
+
+/// The same, and Deep without a part.
+fn path_for(
+    alloc: Global,
+    w: &Translation,
+    r: &Recursion,
+    terms: &[Term],
+    below: Term,
+    part: Option<&Term>,
+) -> Result<Option<Term>, Stop>
+    requires { IsEntryAt w.now.sig.now r.now.admission.number (FamilyOf (recursion_of r.now).family) }
+    ensures { Gives (option_map tree_of) result (spec.path_for (naming_of w.now.naming) (plan_of w.now.plan.now) (recursion_of r.now) (tele_of terms.now) (tree_of below) (option_map tree_of (option_copied part.entry))) }
+{
+    match part {
+        None => Err(Stop::Deep),
+        Some(part) => path_to_part(alloc, w, r, terms, below, part),
+    }
+}
+
+/// The path for the argument at the position, or the below value. None where the path is too high.
+fn path_at(
+    alloc: Global,
+    w: &Translation,
+    r: &Recursion,
+    terms: &[Term],
+    below: Term,
+    arguments: &[Option<Term>],
+) -> Result<Option<Term>, Stop>
+    requires { IsEntryAt w.now.sig.now r.now.admission.number (FamilyOf (recursion_of r.now).family) }
+    ensures { Gives (option_map tree_of) result (spec.path_at (naming_of w.now.naming) (plan_of w.now.plan.now) (recursion_of r.now) (tele_of terms.now) (tree_of below) (arguments_of arguments.now)) }
+{
+    let none = Term::Sort(0);
+    let part = part_or(arguments, r.position, &none);
+    path_for(alloc, w, r, terms, below, part)
+}
+
+/// A path applied to the arguments of a call, where those that are too high have a tower in their place.
+fn path_applied(
+    alloc: Global,
+    w: &Translation,
+    r: &Recursion,
+    arguments: Vec<Option<Term>>,
+    path: Term,
+) -> Result<Term, Stop>
+    ensures { Gives tree_of result (Ok (spec.applied_path (plan_of w.now.plan.now) (recursion_of r.now) (spec.or_towers (arguments_of arguments.items)) (tree_of path))) }
+{
+    let arguments = or_towers(alloc, arguments)?;
+    applied_path(alloc, w, r, arguments.as_slice(), path)
 }
 
 /// The call of the function with these arguments, at the terms of the leaf and a below value.
@@ -147,13 +215,15 @@ fn call_by_path(
     r: &Recursion,
     terms: &[Term],
     below: Term,
-    arguments: &[Term],
-) -> Result<Term, Stop>
+    arguments: Vec<Option<Term>>,
+) -> Result<Option<Term>, Stop>
     requires { IsEntryAt w.now.sig.now r.now.admission.number (FamilyOf (recursion_of r.now).family) }
-    ensures { Gives tree_of result (spec.call_by_path (naming_of w.now.naming) (plan_of w.now.plan.now) (recursion_of r.now) (tele_of terms.now) (tree_of below) (tele_of arguments.now)) }
+    ensures { Gives (option_map tree_of) result (spec.call_by_path (naming_of w.now.naming) (plan_of w.now.plan.now) (recursion_of r.now) (tele_of terms.now) (tree_of below) (arguments_of arguments.items)) }
 {
-    let path = path_at(alloc, w, r, terms, below, arguments)?;
-    applied_path(alloc, w, r, arguments, path)
+    match path_at(alloc, w, r, terms, below, arguments.as_slice())? {
+        None => Ok(None),
+        Some(path) => Ok(Some(path_applied(alloc, w, r, arguments, path)?)),
+    }
 }
 
 /// The same under so many binders.
@@ -163,10 +233,10 @@ fn call_with(
     terms: &[Term],
     b: &BelowValue,
     under: u32,
-    arguments: &[Term],
-) -> Result<Term, Stop>
+    arguments: Vec<Option<Term>>,
+) -> Result<Option<Term>, Stop>
     requires { IsEntryAt w.now.sig.now b.now.recursion.now.admission.number (FamilyOf (recursion_of b.now.recursion.now).family) }
-    ensures { Gives tree_of result (spec.call_by_path (naming_of w.now.naming) (plan_of w.now.plan.now) (below_of b.now).0 (lifted under (tele_of terms.now)) (tree.lift (below_of b.now).1 under 0) (tele_of arguments.now)) }
+    ensures { Gives (option_map tree_of) result (spec.call_by_path (naming_of w.now.naming) (plan_of w.now.plan.now) (below_of b.now).0 (lifted under (tele_of terms.now)) (tree.lift (below_of b.now).1 under 0) (arguments_of arguments.items)) }
 {
     let terms = all_raised(alloc, under, terms)?;
     let below = raised(alloc, under, 0, &b.term)?;
@@ -179,13 +249,13 @@ fn call_in(
     w: &Translation,
     l: &Place,
     under: u32,
-    arguments: &[Term],
-) -> Result<Term, Stop>
+    arguments: Vec<Option<Term>>,
+) -> Result<Option<Term>, Stop>
     requires { HasPlaceFamily w.now.sig.now l.now }
-    ensures { Gives tree_of result (spec.call_made (naming_of w.now.naming) (plan_of w.now.plan.now) (leaf_of l.now) under (tele_of arguments.now) (leaf_of l.now).recursion) }
+    ensures { Gives (option_map tree_of) result (spec.call_made (naming_of w.now.naming) (plan_of w.now.plan.now) (leaf_of l.now) under (arguments_of arguments.items) (leaf_of l.now).recursion) }
 {
     match &l.below {
-        None => Ok(Term::Sort(0)),
+        None => Ok(Some(Term::Sort(0))),
         Some(b) => call_with(alloc, w, l.terms.as_slice(), b, under, arguments),
     }
 }
@@ -221,6 +291,33 @@ fn helper_call(
     applied_to_below(alloc, head, l, under)
 }
 
+/// A head applied to arguments, where those that are too high have a tower in their place.
+fn head_applied(
+    alloc: Global,
+    head: Term,
+    arguments: Vec<Option<Term>>,
+) -> Result<Option<Term>, Stop>
+    ensures { Gives (option_map tree_of) result (Ok (Some (telescopes.applied (tree_of head) (spec.or_towers (arguments_of arguments.items))))) }
+{
+    let arguments = or_towers(alloc, arguments)?;
+    Ok(Some(applied(alloc, head, arguments)?))
+}
+
+/// The call of helper k, with such arguments.
+fn helper_applied(
+    alloc: Global,
+    w: &Translation,
+    l: &Place,
+    under: u32,
+    k: u32,
+    arguments: Vec<Option<Term>>,
+) -> Result<Option<Term>, Stop>
+    ensures { Gives (option_map tree_of) result (Ok (Some (sides.helper_call (naming_of w.now.naming) (plan_of w.now.plan.now) (leaf_of l.now) under k (spec.or_towers (arguments_of arguments.items))))) }
+{
+    let arguments = or_towers(alloc, arguments)?;
+    Ok(Some(helper_call(alloc, w, l, under, k, arguments)?))
+}
+
 /// A constant with its arguments.
 fn constant_at(
     alloc: Global,
@@ -228,24 +325,24 @@ fn constant_at(
     l: &Place,
     under: u32,
     c: u32,
-    arguments: Vec<Term>,
-) -> Result<Term, Stop>
+    arguments: Vec<Option<Term>>,
+) -> Result<Option<Term>, Stop>
     requires { HasPlaceFamily w.now.sig.now l.now }
-    ensures { Gives tree_of result (spec.constant_made (naming_of w.now.naming) (plan_of w.now.plan.now) (leaf_of l.now) under c (tele_of arguments.items)) }
+    ensures { Gives (option_map tree_of) result (spec.constant_made (naming_of w.now.naming) (plan_of w.now.plan.now) (leaf_of l.now) under c (arguments_of arguments.items)) }
 {
     if c < w.plan.base {
-        return applied(alloc, Term::Const(c), arguments);
+        return head_applied(alloc, Term::Const(c), arguments);
     }
     if c == w.plan.base {
-        return call_in(alloc, w, l, under, arguments.as_slice());
+        return call_in(alloc, w, l, under, arguments);
     }
-    helper_call(alloc, w, l, under, c - w.plan.base, arguments)
+    helper_applied(alloc, w, l, under, c - w.plan.base, arguments)
 }
 
 /// Arguments, the first of which comes last, in their order.
 #[tactic(auto, using(crate::proofs::Turning::turning))]
-fn in_order(mut arguments: Vec<Term>) -> Vec<Term>
-    ensures { tele_of result.items ≡ reverse (tele_of arguments.items) }
+fn in_order(mut arguments: Vec<Option<Term>>) -> Vec<Option<Term>>
+    ensures { arguments_of result.items ≡ reverse (arguments_of arguments.items) }
 {
     arguments.reverse();
     arguments
@@ -253,11 +350,27 @@ fn in_order(mut arguments: Vec<Term>) -> Vec<Term>
 
 /// Arguments, the first of which comes last, with one before them.
 #[tactic(auto, using(crate::proofs::Turning::turning))]
-fn with_first(mut arguments: Vec<Term>, a: Term) -> Result<Vec<Term>, Stop>
-    ensures { Gives (λ v. reverse (tele_of v.items)) result (Ok (tree_of a ∷ reverse (tele_of arguments.items))) }
+fn with_first(mut arguments: Vec<Option<Term>>, a: Option<Term>) -> Result<Vec<Option<Term>>, Stop>
+    ensures { Gives (λ v. reverse (arguments_of v.items)) result (Ok (option_map tree_of a ∷ reverse (arguments_of arguments.items))) }
 {
     arguments.push(a)?;
     Ok(arguments)
+}
+
+/// A part of a term, with all calls in it.
+#[cycle(calls)]
+fn part_with_calls(
+    alloc: Global,
+    w: &Translation,
+    l: &Place,
+    under: u32,
+    t: &Term,
+) -> Result<Term, Stop>
+    requires { HasPlaceFamily w.now.sig.now l.now }
+    ensures { Gives tree_of result (spec.part_made (spec.calls_made (naming_of w.now.naming) (plan_of w.now.plan.now) (leaf_of l.now) under [] (tree_of t.now))) }
+{
+    let made = with_calls(alloc, w, l, under, Vec::new(alloc), t)?;
+    or_tower(alloc, made)
 }
 
 /// A term that is no application and no constant, under so many binders, with all calls in it.
@@ -270,32 +383,32 @@ fn head_with_calls(
     t: &Term,
 ) -> Result<Term, Stop>
     requires { HasPlaceFamily w.now.sig.now l.now }
-    ensures { Gives tree_of result (spec.head_made (λ under t. spec.calls_made (naming_of w.now.naming) (plan_of w.now.plan.now) (leaf_of l.now) under [] t) under (tree_of t.now)) }
+    ensures { Gives tree_of result (spec.head_made (λ under t. spec.part_made (spec.calls_made (naming_of w.now.naming) (plan_of w.now.plan.now) (leaf_of l.now) under [] t)) under (tree_of t.now)) }
 {
     match t {
         Term::Pi(domain, codomain) => {
             let inner = next(under)?;
             Term::new_pi(
                 alloc,
-                with_calls(alloc, w, l, under, Vec::new(alloc), domain)?,
-                with_calls(alloc, w, l, inner, Vec::new(alloc), codomain)?,
+                part_with_calls(alloc, w, l, under, domain)?,
+                part_with_calls(alloc, w, l, inner, codomain)?,
             )
         }
         Term::Lam(domain, body) => {
             let inner = next(under)?;
             Term::new_lam(
                 alloc,
-                with_calls(alloc, w, l, under, Vec::new(alloc), domain)?,
-                with_calls(alloc, w, l, inner, Vec::new(alloc), body)?,
+                part_with_calls(alloc, w, l, under, domain)?,
+                part_with_calls(alloc, w, l, inner, body)?,
             )
         }
         Term::Let(ty, value, rest) => {
             let inner = next(under)?;
             Term::new_let(
                 alloc,
-                with_calls(alloc, w, l, under, Vec::new(alloc), ty)?,
-                with_calls(alloc, w, l, under, Vec::new(alloc), value)?,
-                with_calls(alloc, w, l, inner, Vec::new(alloc), rest)?,
+                part_with_calls(alloc, w, l, under, ty)?,
+                part_with_calls(alloc, w, l, under, value)?,
+                part_with_calls(alloc, w, l, inner, rest)?,
             )
         }
         Term::Var(_)
@@ -309,18 +422,19 @@ fn head_with_calls(
     }
 }
 
-/// A term under so many binders, applied to arguments, the first of which comes last, with all calls in it.
+/// A term under so many binders, applied to arguments, the first of which comes last, with all calls in it. None where it is the call
+/// of a path that is too high.
 #[cycle(calls)]
 pub fn with_calls(
     alloc: Global,
     w: &Translation,
     l: &Place,
     under: u32,
-    arguments: Vec<Term>,
+    arguments: Vec<Option<Term>>,
     t: &Term,
-) -> Result<Term, Stop>
+) -> Result<Option<Term>, Stop>
     requires { HasPlaceFamily w.now.sig.now l.now }
-    ensures { Gives tree_of result (spec.calls_made (naming_of w.now.naming) (plan_of w.now.plan.now) (leaf_of l.now) under (reverse (tele_of arguments.items)) (tree_of t.now)) }
+    ensures { Gives (option_map tree_of) result (spec.calls_made (naming_of w.now.naming) (plan_of w.now.plan.now) (leaf_of l.now) under (reverse (arguments_of arguments.items)) (tree_of t.now)) }
 {
     match t {
         Term::App(f, a) => {
@@ -339,7 +453,7 @@ pub fn with_calls(
         | Term::Elim(_, _)
         | Term::AxiomK(_, _) => {
             let head = head_with_calls(alloc, w, l, under, t)?;
-            applied(alloc, head, in_order(arguments))
+            head_applied(alloc, head, in_order(arguments))
         }
     }
 }
