@@ -17,7 +17,7 @@ use Rattle.tree_translation.specs.Recursion.{Recursion, order_of, ordered_telesc
 use Rattle.plan_laws.specs.Laws.{BeginsClosed}
 use Rattle.plan_laws.specs.MadePlans.{BeginsAlwaysClosed}
 use Rattle.plan_laws.proofs.Answering.{if-ok, next-has}
-use Rattle.plan_laws.proofs.SameChoices.{recursion-same}
+use Rattle.function_plans.proofs.SameChoices.{recursion-same}
 use Rattle.plan_laws.proofs.SameReduction.{not-read}
 
 abbrev HasTelescope : Telescope → Part → Type 0
@@ -59,7 +59,7 @@ plan-closed S f level left closed = by (plan_of S f level left).0 (plan-there S 
         let F = provisional S f.name f.type in
         transport (λ tele. begins_closed (ordered_telescope tele (order_of (length tele) (option_and_then (recursion_at S tele) plan.position))) ≡ true) (sym is)
         (transport (λ r. begins_closed (ordered_telescope own.tele (order_of (length own.tele) r)) ≡ true)
-        (sym (recursion-same S F (not-read S f.name f.type) own.tele plan.position) ∙ recursion-is S own.tele plan.position) (closed plan.position))
+        (sym (recursion-same S F (not-read S f.name f.type).families own.tele plan.position) ∙ recursion-is S own.tele plan.position) (closed plan.position))
 
     by : (r : Result Plan Refusal) → IfOk r (λ plan. HasTelescope (function.own_part f level).tele (own_part plan)) → IfOk r (BeginsClosed S)
     by (Ok plan) is = at plan is

@@ -1,6 +1,5 @@
 -- The names of the trees of a plan can be generated, and those of recursion.
 use Rattle.std.proofs.Common.{◌≡◌, ℕ, ◌+◌, ◌≤◌, Option, Some, None, List, length, slice_get, All, refl, sym, ◌∙◌, subst as transport, arith}
-use Rattle.std.proofs.lemmas.Option.{none-some}
 use Rattle.theory.specs.Terms.{Const, Term}
 use Rattle.theory.specs.Telescopes.{Telescope}
 use Rattle.theory.specs.Signatures.{Signature}
@@ -18,7 +17,7 @@ use Rattle.order_scopes.proofs.OrderedScopes.{length-ordered, variables-scoped}
 use Rattle.resolve.specs.Functions.{Function}
 use Rattle.structural_rec.specs.Uses.{Use}
 use Rattle.structural_rec.proofs.AdmittingPositions.{admission-decides}
-use Rattle.tree_translation.specs.Conditions.{IsOwnPart, IsPartOf, IsPlanned, with_function}
+use Rattle.tree_translation.specs.Conditions.{IsPartOf, IsPlanned, with_function}
 use Rattle.tree_translation.specs.Entries.{helper_node, ordered_variables, step_node}
 use Rattle.tree_translation.specs.Naming.{below_name, rec_name}
 use Rattle.tree_translation.specs.Plans.{Part, Plan, own_part}
@@ -34,7 +33,6 @@ use Rattle.entry_laws.proofs.OnlyConstants.{Each, each-weaker}
 use Rattle.entry_laws.proofs.OnlyEntries.{own_node, recursion-entry}
 use Rattle.draft_scopes.specs.Laws.{IsOrdered}
 use Rattle.draft_scopes.proofs.FunctionSignatures.{part-tree}
-use Rattle.own_scopes.proofs.OwnOrders.{goal-stays, telescope-stays}
 use Rattle.step_scopes.proofs.PlanOrders.{order-there, plan-ordered}
 use Rattle.plan_laws.specs.Laws.{BeginsClosed, IsPlanOf, PlanIsOfFunction, PlanIsPlanned}
 use Rattle.plan_laws.proofs.Answering.{if-ok}
@@ -42,6 +40,8 @@ use Rattle.plan_drafts.specs.Laws.{IsPlanFor}
 use Rattle.drafts_in_turn.specs.Laws.{HasLevel}
 use Rattle.drafts_in_turn.proofs.FamilyLevels.{family-level, level-low}
 use Rattle.entry_laws.proofs.GrowingDrafts.{CanBeMade}
+use Rattle.own_scopes.proofs.PlainFunctions.{own-plain}
+use Rattle.step_scopes.proofs.AllDrafts.{step-own}
 use Rattle.drafts_in_turn.proofs.PartLevels.{ArePartsLow, part-low, plan-low}
 use Rattle.drafts_in_turn.proofs.RunNames.{IsFitting, can-recur}
 use Rattle.drafts_in_turn.proofs.TreeNames.{tree-fits}
@@ -64,36 +64,6 @@ part-names S plan uses at part context goal terms node ready is hc hg ht over fi
     (tree-fits F ready part.level fits part.tree (start_at context goal terms) node stands.stands stands.scoped over))
 
 -- ---- the function's own part
-
--- the tree starts from the telescope as it is written
-own-plain : (S : Signature) (plan : Plan) (uses : List Use) → recursion_of S plan ≡ None → IsOwnPart S plan uses
-    → IsPartOf S plan uses 0 (own_part plan) (own_part plan).tele (own_part plan).goal (ordered_variables (order_of (length (own_part plan).tele) None) (length (own_part plan).tele))
-own-plain S plan uses none is = by (recursion_of S plan) none is
-  where
-    by : (o : Option Recursion) → o ≡ None
-        → IsPartOf S plan uses 0 (own_part plan) (ordered_telescope (own_part plan).tele (order_of (length (own_part plan).tele) o))
-        (ordered_term (length (own_part plan).tele) (order_of (length (own_part plan).tele) o) (own_part plan).goal)
-        (ordered_variables (order_of (length (own_part plan).tele) o) (length (own_part plan).tele))
-        → IsPartOf S plan uses 0 (own_part plan) (own_part plan).tele (own_part plan).goal (ordered_variables (order_of (length (own_part plan).tele) None) (length (own_part plan).tele))
-    by None e is =
-        let terms = ordered_variables (order_of (length (own_part plan).tele) None) (length (own_part plan).tele) in
-        transport (λ tele. IsPartOf S plan uses 0 (own_part plan) tele (own_part plan).goal terms) (telescope-stays (own_part plan).tele)
-        (transport
-        (λ goal. IsPartOf S plan uses 0 (own_part plan) (ordered_telescope (own_part plan).tele (order_of (length (own_part plan).tele) None)) goal terms)
-        (goal-stays (length (own_part plan).tele) (own_part plan).goal) is)
-    by (Some r) e is = absurd (none-some r (sym e))
-
--- with recursion, from the order of recursion
-own-ordered : (S : Signature) (plan : Plan) (r : Recursion) (planned : IsPlanned S plan) → recursion_of S plan ≡ Some r
-    → IsPartOf S plan planned.uses 0 (own_part plan) (ordered_telescope (own_part plan).tele (order_of (length (own_part plan).tele) (Some r)))
-    (ordered_term (length (own_part plan).tele) (order_of (length (own_part plan).tele) (Some r)) (own_part plan).goal)
-    (ordered_variables (order_of (length (own_part plan).tele) (Some r)) (length (own_part plan).tele))
-own-ordered S plan r planned is =
-    transport
-    (λ o. IsPartOf S plan planned.uses 0 (own_part plan) (ordered_telescope (own_part plan).tele (order_of (length (own_part plan).tele) o))
-    (ordered_term (length (own_part plan).tele) (order_of (length (own_part plan).tele) o) (own_part plan).goal)
-    (ordered_variables (order_of (length (own_part plan).tele) o) (length (own_part plan).tele)))
-    is planned.own
 
 -- ---- all of them
 
@@ -127,7 +97,7 @@ module _ (S : Signature) (plan : Plan) (planned : IsPlanned S plan) (ready : IsR
       let ordered : IsOrdered S plan r = plan-ordered S plan r planned is closed in
       let root = step_node-over plan r (λ name. plan.base) in
       part-names S plan planned.uses 0 part tele (ordered_term count order part.goal) (ordered_variables order count) (step_node plan r (λ name. plan.base)) ready
-      (own-ordered S plan r planned is) ordered.telescope ordered.goal
+      (step-own S plan r planned is) ordered.telescope ordered.goal
       (transport (λ n. All (IsScoped S n) (ordered_variables order count)) (sym long) (variables-scoped S order count (omega (arith, counted))))
       (record { is_seen = root.is_seen; hidden = root.hidden }) (low-fits part.level own_low)
 

@@ -5,5 +5,4 @@ pub mod FunctionAnswers
 pub mod Provisional
 pub mod ReportedParts
 pub mod Results
-pub mod SameChoices
 pub mod SamePlans

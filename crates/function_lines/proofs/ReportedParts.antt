@@ -16,17 +16,17 @@ use Rattle.function_lines.specs.Laws.{Agrees}
 use Rattle.function_lines.proofs.Agreeing.{agrees-as, agrees-from, agrees-next, agrees-same, next-assoc, reporting-agrees, spent}
 
 -- lines before those that follow
-abbrev Made : Type 0
+abbrev pub Made : Type 0
 Made = (made : List ClauseLine) → Signature → ℕ → Elaborating Lines
 
-abbrev before : List ClauseLine → Lines → ℕ → Elaborating Lines
+abbrev pub before : List ClauseLine → Lines → ℕ → Elaborating Lines
 before made lines end = spent (Ok (lines_with lines.signature (made ++ lines.lines))) end
 
-abbrev prefixed : (made : List ClauseLine) → Elaborating Lines → Elaborating Lines
+abbrev pub prefixed : (made : List ClauseLine) → Elaborating Lines → Elaborating Lines
 prefixed made outcome = and_next outcome (before made)
 
 -- one of them is made first
-shifted : (made : List ClauseLine) (line : ClauseLine) (outcome : Elaborating Lines)
+pub shifted : (made : List ClauseLine) (line : ClauseLine) (outcome : Elaborating Lines)
     → prefixed (made ++ line ∷ []) outcome ≡ prefixed made (and_next outcome (λ lines end. spent (Ok (with_line line lines)) end))
 shifted made line outcome = by outcome.0 outcome.1
   where

@@ -12,7 +12,7 @@ use Rattle.tree_translation.specs.Plans.{Plan}
 use Rattle.tree_translation.specs.Recursion.{Recursion}
 use Rattle.function_plans.specs.CodePlans.{plan_after, planned}
 use Rattle.function_lines.specs.FunctionMade.{session_at}
-use Rattle.function_lines.proofs.SameChoices.{choice-same, provisional-same, recursion-same}
+use Rattle.function_plans.proofs.SameChoices.{choice-same, provisional-same, recursion-same}
 
 abbrev pub walked_of : Function → (level : ℕ) → Given → Walked
 walked_of f level given = record { part = own_part f level; clauses = f.clauses; walks = given.walks; sides = given.sides }

@@ -6,4 +6,5 @@ pub mod Orders
 pub mod PlansMade
 pub mod Refining
 pub mod Removed
+pub mod SameChoices
 pub mod Starts

@@ -3,7 +3,6 @@ use Rattle.std.proofs.Common.{◌≡◌, ℕ, ◌+◌, List, [], ◌∷◌, ◌+
 use Rattle.theory.specs.Signatures.{Signature}
 use Rattle.core_terms.specs.Answers.{and_next, on_answer}
 use Rattle.core_terms.specs.CaseTrees.{Walk}
-use Rattle.tele_eq.proofs.Growing.{snoc-append}
 use Rattle.tree_translation.specs.Plans.{Part, Plan}
 use Rattle.clause_reports.specs.Equations.{part_named}
 use Rattle.clause_reports.specs.Reports.{Reported, report_of}
@@ -11,33 +10,11 @@ use Rattle.clause_reports.specs.Stops.{ReportStop, Reporting}
 use Rattle.elaboration.specs.Functions.{ClauseLine, Following, Lines, report_parts, report_walks, with_line}
 use Rattle.elaboration.specs.Refusals.{Elaborating, Owner, Refusal, or_no_report, owner_of, reporting}
 use Rattle.function_lines.specs.FunctionMade.{clause_line, clause_reported, lines_with, parts_reported, reference_of, walks_reported}
+use Rattle.function_lines.proofs.Agreeing.{spent}
+use Rattle.function_lines.proofs.ReportedParts.{Made, before, prefixed, shifted}
 use Rattle.plan_laws.proofs.Answering.{if-ok}
 use Rattle.made_functions.specs.Laws.{LinesAreReported, PartsInTurn, WalksInTurn}
 use Rattle.made_functions.proofs.Sequences.{next-after, next-same}
-
-abbrev spent : {A : Type 0} → Result A Refusal → ℕ → Elaborating A
-spent r n = (r, n)
-
--- lines before those that follow
-abbrev Made : Type 0
-Made = (made : List ClauseLine) → Signature → ℕ → Elaborating Lines
-
-abbrev before : List ClauseLine → Lines → ℕ → Elaborating Lines
-before made lines end = spent (Ok (lines_with lines.signature (made ++ lines.lines))) end
-
-abbrev prefixed : (made : List ClauseLine) → Elaborating Lines → Elaborating Lines
-prefixed made outcome = and_next outcome (before made)
-
--- one of them is made first
-shifted : (made : List ClauseLine) (line : ClauseLine) (outcome : Elaborating Lines)
-    → prefixed (made ++ line ∷ []) outcome ≡ prefixed made (and_next outcome (λ lines end. spent (Ok (with_line line lines)) end))
-shifted made line outcome = by outcome.0 outcome.1
-  where
-    by : (r : Result Lines Refusal) (n : ℕ)
-        → on_answer r n (before (made ++ line ∷ []))
-        ≡ and_next (on_answer r n (λ lines end. spent (Ok (with_line line lines)) end)) (before made)
-    by (Ok lines) n = ap (λ ls. spent (Ok (lines_with lines.signature ls)) n) (snoc-append made line lines.lines)
-    by (Err e) n = refl
 
 -- an answer of a report is one of the call
 report-ok : (S : Signature) (owner : Owner) (r : Result Reported ReportStop) (e : Reported) → or_no_report S owner r ≡ Ok e → r ≡ Ok e

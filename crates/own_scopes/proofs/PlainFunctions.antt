@@ -37,7 +37,8 @@ use Rattle.order_scopes.proofs.OrderedScopes.{variables-scoped}
 -- ---- the own part
 
 -- the tree starts from the telescope as it is written
-own-plain : (S : Signature) (plan : Plan) (uses : List Use) → recursion_of S plan ≡ None → IsOwnPart S plan uses
+-- where the function does not call itself, the tree starts from the telescope as it is written
+pub own-plain : (S : Signature) (plan : Plan) (uses : List Use) → recursion_of S plan ≡ None → IsOwnPart S plan uses
     → IsPartOf S plan uses 0 (own_part plan) (own_part plan).tele (own_part plan).goal (ordered_variables (order_of (length (own_part plan).tele) None) (length (own_part plan).tele))
 own-plain S plan uses none is = by (recursion_of S plan) none is
   where

@@ -19,7 +19,7 @@ use Rattle.plan_laws.specs.MadePlans.{BeginsAlwaysClosed, PlanIsMade, plan_by_co
 use Rattle.plan_laws.proofs.Answering.{if-ok}
 use Rattle.plan_laws.proofs.LowWalks.{IsLowGiven, clauses-low}
 use Rattle.plan_laws.proofs.OpenedScopes.{session}
-use Rattle.plan_laws.proofs.SameChoices.{choice-same, recursion-same}
+use Rattle.function_plans.proofs.SameChoices.{choice-same, recursion-same}
 use Rattle.plan_laws.proofs.SameReduction.{not-read}
 
 -- what follows an answer is the same, where it is the same for that answer
@@ -60,8 +60,8 @@ module _ (S : Signature) (f : Function) (level : ℕ) (low : height f.type ≤ 2
   after-is given left =
       let alike = not-read S f.name f.type in
       ap₂ (λ (at : Option ℕ → Option Recursion) (choice : Choice). plan_by given at choice left)
-      (sym (fun_ext (λ position. recursion-same S (session S f.name f.type).signature alike tele position)))
-      (sym (choice-same S (session S f.name f.type).signature alike tele (length S.entries) given.uses))
+      (sym (fun_ext (λ position. recursion-same S (session S f.name f.type).signature alike.families tele position)))
+      (sym (choice-same S (session S f.name f.type).signature alike.families tele (length S.entries) given.uses))
 
   made-is : (given : Given) (left : ℕ) → are_low_uses given.uses ≡ true
       → plan_made (session S f.name f.type) f.type f.arity level (walked given) given.helpers given.uses left

@@ -5,7 +5,6 @@ pub mod SameWorking
 pub mod SameWalks
 pub mod SameTrees
 pub mod SameAbstractions
-pub mod SameChoices
 pub mod KeptScopes
 pub mod WalkScopes
 pub mod TreeScopes

@@ -35,7 +35,7 @@ use Rattle.plan_laws.proofs.GivenClauses.{AreAt, AreHelpersGiven, AreUsed, Gives
 use Rattle.plan_laws.proofs.OpenedScopes.{session}
 use Rattle.plan_laws.proofs.PlannedClauses.{plan_with}
 use Rattle.plan_laws.proofs.PlannedParts.{AreFinished, IsOwnFinished, all-paired, helpers-finished, helpers-planned, own-finished, part-planned}
-use Rattle.plan_laws.proofs.SameChoices.{choice-same}
+use Rattle.function_plans.proofs.SameChoices.{choice-same}
 use Rattle.plan_laws.proofs.SameReduction.{not-read}
 use Rattle.plan_laws.proofs.WalksOver.{IsPartOver}
 
@@ -182,7 +182,7 @@ module _ (S : Signature) (f : Function) (is : IsFunctionFor S f) (level : ℕ) (
           level = refl;
           there = λ e. absurd (cc);
           uses = given.uses;
-          position = sym (choice-same S T (not-read S f.name f.type) tele (length S.entries) given.uses) ∙ chosen;
+          position = sym (choice-same S T (not-read S f.name f.type).families tele (length S.entries) given.uses) ∙ chosen;
           own =
               part-planned S f level position parts all given.uses is.ready paired 0 level (walked given) tree (ordered_telescope tele order)
               (ordered_term (length tele) order (own_part f level).goal) (ordered_variables order (length tele)) units own.0 low start-for start-over.scoped

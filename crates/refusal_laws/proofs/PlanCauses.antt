@@ -26,7 +26,7 @@ use Rattle.elaboration.specs.Refusals.{Halts, Refusal, answers, or_ends, or_halt
 use Rattle.elaboration.specs.Walking.{Given, Opened, Walked, walk_clauses}
 use Rattle.function_clauses.proofs.Fitting.{clauses-for}
 use Rattle.function_clauses.proofs.OwnParts.{own-columns, own-part-for, part-walked}
-use Rattle.function_lines.proofs.SameChoices.{choice-same, provisional-same, recursion-same}
+use Rattle.function_plans.proofs.SameChoices.{choice-same, provisional-same, recursion-same}
 use Rattle.function_lines.proofs.SamePlans.{walked_of}
 use Rattle.function_lines.specs.Conditions.{IsFunctionOver}
 use Rattle.function_lines.specs.FunctionMade.{plan_given, plan_over, session_at}

@@ -38,7 +38,8 @@ first-some r =
     let b = length-append r.admission.indices (r.position ∷ []) in
     omega (arith, a, b)
 
-step-own : (S : Signature) (plan : Plan) (r : Recursion) (planned : IsPlanned S plan) → recursion_of S plan ≡ Some r
+-- with recursion, the tree starts from the order of recursion
+pub step-own : (S : Signature) (plan : Plan) (r : Recursion) (planned : IsPlanned S plan) → recursion_of S plan ≡ Some r
     → IsPartOf S plan planned.uses 0 (own_part plan) (ordered_telescope (own_part plan).tele (order_of (length (own_part plan).tele) (Some r)))
     (ordered_term (length (own_part plan).tele) (order_of (length (own_part plan).tele) (Some r)) (own_part plan).goal)
     (ordered_variables (order_of (length (own_part plan).tele) (Some r)) (length (own_part plan).tele))
