@@ -13,7 +13,7 @@ use Rattle.tree_translation.specs.Recursion.{Recursion, order_of, ordered_telesc
 use Rattle.elaboration.specs.Functions.{Lines, own_part, position_chosen, recursion_in}
 use Rattle.elaboration.specs.Refusals.{Elaborating, Halts, Refusal, answers, or_halts}
 use Rattle.elaboration.specs.Walking.{Given, Walked, walk_clauses}
-use Rattle.function_lines.proofs.SameChoices.{choice-same, provisional-same, recursion-same}
+use Rattle.function_plans.proofs.SameChoices.{choice-same, provisional-same, recursion-same}
 use Rattle.function_lines.proofs.SamePlans.{walked_of}
 use Rattle.function_lines.specs.FunctionMade.{function_made, level_of, plan_over, session_at}
 use Rattle.function_plans.proofs.Orders.{found-is}

@@ -20,7 +20,7 @@ use Rattle.elaboration.specs.Functions.{finished, helpers_finished, own_finished
 use Rattle.elaboration.specs.Refusals.{walking}
 use Rattle.elaboration.specs.Walking.{Opened, Walked, walk_clauses}
 use Rattle.function_clauses.proofs.OwnParts.{own-columns, own-part-for, part-walked}
-use Rattle.function_lines.proofs.SameChoices.{provisional-same, recursion-same}
+use Rattle.function_plans.proofs.SameChoices.{provisional-same, recursion-same}
 use Rattle.function_plans.proofs.Starts.{start-clauses, start-given, starts}
 use Rattle.function_plans.specs.CodePlans.{IsOwnWalked}
 use Rattle.order_scopes.proofs.RecursionOrders.{recursion-ordered}
