@@ -6,6 +6,7 @@ mod Examples
 pub mod KnownNames
 pub mod LawProofs
 pub mod Nearest
+pub mod NewNames
 pub mod ScopedFamilies
 pub mod ScopedFunctions
 pub mod ScopedPatterns

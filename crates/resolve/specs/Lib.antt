@@ -1,5 +1,6 @@
 pub mod Answers
 pub mod Binding
+pub mod DeclaredNames
 pub mod Families
 pub mod Forms
 pub mod Functions

@@ -5,6 +5,7 @@ ghost use Rattle.core_terms.specs.Meanings.{tele_of};
 ghost use Rattle.core_sig.specs.Raw.{raw_of, raw_constructor_of};
 ghost use Rattle.surface_syntax.specs.TreeMeanings.{surf_of, param_of, con_of, decl_of};
 ghost use Rattle.resolve.specs.Answers.{Gives};
+ghost use Rattle.resolve.specs.DeclaredNames.{IsNewName, declared_word};
 ghost use Rattle.resolve.specs.Families as spec;
 ghost use Rattle.resolve.specs.Scoping.{IsResolvedFamily};
 ghost use Rattle.resolve.specs.Scopes.{names_of, known_of};
@@ -25,6 +26,7 @@ use surface_syntax::{Decl, Surf, SurfCon, SurfParam, Word};
 pub fn resolve_data(alloc: Global, sig: &Signature, d: &Decl) -> Result<RawFamily, ResolveStop>
     requires { spec.IsData (decl_of d.now) }
     ensures answer { Gives raw_of result (spec.resolve_data sig.now (decl_of d.now)) }
+    ensures named { IfOk result (λ raw. IsNewName sig.now (declared_word (decl_of d.now)) raw.name) }
     ensures scoped { (T : Signature) → IsPrefix sig.now T → IsFamilyNumber T (length sig.now.entries) → IfOk result (λ raw. IsResolvedFamily sig.now T (raw_of raw)) }
 {
     match d {

@@ -10,6 +10,7 @@ ghost use Rattle.surface_syntax.specs.Trees as surf;
 ghost use Rattle.surface_syntax.specs.TreeMeanings as written;
 ghost use Rattle.surface_syntax.specs.TreeMeanings.{surf_of, decl_of};
 ghost use Rattle.resolve.specs.Answers.{Gives};
+ghost use Rattle.resolve.specs.DeclaredNames.{IsNewName, declared_word};
 ghost use Rattle.resolve.specs.Functions as spec;
 ghost use Rattle.resolve.specs.Names.{scope_of};
 ghost use Rattle.resolve.specs.Patterns as pattern;
@@ -33,6 +34,7 @@ use surface_syntax::{Decl, Surf, SurfClause, SurfPat, SurfRight, Word};
 pub fn resolve_fun(alloc: Global, sig: &Signature, d: &Decl) -> Result<FunCore, ResolveStop>
     requires { spec.IsFun (decl_of d.now) }
     ensures answer { Gives fun_of result (spec.resolve_fun sig.now (decl_of d.now)) }
+    ensures named { IfOk result (λ f. IsNewName sig.now (declared_word (decl_of d.now)) f.name) }
     ensures scoped { (T : Signature) → IsPrefix sig.now T → IsConstantNumber T (length sig.now.entries) → IfOk result (λ f. IsResolvedFunction sig.now T (fun_of f)) }
 {
     match d {

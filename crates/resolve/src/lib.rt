@@ -3,6 +3,7 @@
 
 mod binders;
 mod constructors;
+mod declared_names;
 mod families;
 mod forming;
 mod fun_core;
@@ -16,6 +17,7 @@ mod symbols;
 mod terms;
 mod variables;
 
+pub use declared_names::declared_word;
 pub use families::resolve_data;
 pub use fun_core::FunCore;
 pub use functions::resolve_fun;

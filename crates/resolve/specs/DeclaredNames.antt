@@ -1,0 +1,24 @@
+-- The names that declarations bring.
+use Rattle.std.specs.Prelude.{◌≡◌, ℕ, List, [], ◌∷◌, None}
+use Rattle.theory.specs.Signatures.{Signature}
+use Rattle.core_sig.specs.Names.{find}
+use Rattle.surface_syntax.specs.Trees as surf
+use Rattle.surface_syntax.specs.declared.tree.Word.{Word}
+
+-- the first of the names that families which refer to each other declare
+abbrev pub first_name : List surf.Member → Word → Word
+first_name [] family = family
+first_name (member ∷ members) family = member.name
+
+-- the name of a declaration; of families that refer to each other it is the first one's
+abbrev pub declared_word : surf.Decl → Word
+declared_word (surf.Def x ty body) = x
+declared_word (surf.Decide x family decision) = x
+declared_word (surf.Data x params ty cons) = x
+declared_word (surf.Mutual params members family tag tags) = first_name members family
+declared_word (surf.Fun x ty clauses) = x
+
+-- what is declared has the name that is written, and the signature knows no such name
+pub record IsNewName (S : Signature) (x : Word) (name : List ℕ) : Type 0 where
+  pub is : name ≡ x.text
+  pub new : find S name ≡ None
