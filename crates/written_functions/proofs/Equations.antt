@@ -15,7 +15,7 @@ use Rattle.theory.proofs.Spines.{applied-append}
 use Rattle.core_sig.specs.Settling.{renumbered}
 use Rattle.core_terms.specs.CaseTrees.{Walk}
 use Rattle.core_terms.specs.Clauses as clause
-use Rattle.core_terms.specs.Clauses.{Clauses, Is, Right}
+use Rattle.core_terms.specs.Clauses.{Clause, Clauses, Is, Right}
 use Rattle.core_terms.specs.Patterns.{Pats}
 use Rattle.tele_eq.specs.ReflexivityLaws.{EachConverts}
 use Rattle.unification.proofs.UnderInstances.{each-same}
@@ -24,10 +24,11 @@ use Rattle.case_trees.proofs.Arguments.{head-applied}
 use Rattle.case_trees.proofs.ScopedPoints.{under-scoped}
 use Rattle.case_trees.proofs.WalkLeading.{walk_leads}
 use Rattle.case_trees.specs.Laws.{LeadsTo}
+use Rattle.case_trees.specs.OwnWalks.{own_walk_of}
 use Rattle.case_trees.specs.Scoped.{IsScopedWalk}
 use Rattle.case_trees.specs.Points.{start_at, under_solution}
 use Rattle.case_trees.specs.Stops.{TreeStop}
-use Rattle.tree_translation.specs.Plans.{Plan}
+use Rattle.tree_translation.specs.Plans.{Part, Plan}
 use Rattle.tree_translation.specs.Recursion.{recursion_of}
 use Rattle.tree_translation.specs.RightSides.{is_helper}
 use Rattle.clause_reports.specs.Equations.{Equation, all_shown, equation_of, in_signature, last_argument, left_side, number_of, own_number, part_at, part_named, pats_of, right_side, side_of, walk_site}
@@ -41,13 +42,13 @@ use Rattle.function_clauses.proofs.Fitting.{clause-for}
 use Rattle.resolve.specs.Functions.{Function}
 use Rattle.resolve.specs.Scoping.{IsClause}
 use Rattle.with_abstraction.specs.Laws.{IsScopedAbstraction}
-use Rattle.written_functions.specs.Clauses.{FunctionAt, HasEquation, IsHelperCall, IsLeft, IsRight, Placed, scrutinee_in, written_in}
+use Rattle.written_functions.specs.Clauses.{FunctionAt, HasEquation, IsHelperCall, IsLeft, IsOwnWalk, IsRight, Placed, Start, scrutinee_in, start_of, written_in}
 use Rattle.written_functions.specs.Fitting.{AllFit, AnyDot}
 use Rattle.written_functions.proofs.Fitted.{all-fit, all-shown-fit}
 use Rattle.written_functions.proofs.HelperColumns.{columns-told, itself, variable-itself}
 use Rattle.written_functions.proofs.Numbers.{AreUnder, scoped-under}
 use Rattle.written_functions.proofs.PlanClauses.{IsPlaced, columns-are, placed-pats, placed-side}
-use Rattle.written_functions.proofs.PlanGiven.{IsPlanGiven, clauses-listed}
+use Rattle.written_functions.proofs.PlanGiven.{IsPlanGiven, clauses-listed, helper-made}
 use Rattle.written_functions.proofs.Walked as walked
 use Rattle.written_functions.proofs.Walked.{IsOneGiven, IsSideOf}
 
@@ -87,9 +88,46 @@ with-count S name type = length-append S.entries _
 
 -- ---- equations
 
--- the function with the columns of its helpers in a plan
+-- the start of a part
+abbrev pub start_in : Part → Start
+start_in p = record { telescope = p.tele; goal = p.goal; columns = p.terms }
+
+-- the function with the starts of its helpers, and with the trees of its parts, in a plan
 abbrev pub placed_at : Signature → Function → Plan → FunctionAt
-placed_at S f plan = record { before = S; function = f; columns = λ k. (part_at plan k).terms }
+placed_at S f plan = record {
+  before = S;
+  function = f;
+  helpers = λ k. start_in (part_at plan k);
+  trees = λ k. (part_at plan k).tree;
+}
+
+-- the walk of a clause, where its part is one that the plan is made of
+walk-of : (S : Signature) (f : Function) (plan : Plan) (h : IsPlanGiven S f plan) (k : ℕ) (v : Walked) (c : Clause) (number units : ℕ) (w : Walk)
+    → slice_get (h.own ∷ h.helpers) k ≡ Some v
+    → (own_walk_of (provisional S f.name f.type) v.part.tele v.part.goal v.part.terms c number units).0 ≡ Ok w
+    → (let start = start_of (placed_at S f plan) k in own_walk_of (provisional S f.name f.type) start.telescope start.goal start.columns c number units).0 ≡ Ok w
+walk-of S f plan h zero v c number units w at is =
+    transport (λ (part : Opened). (own_walk_of (provisional S f.name f.type) part.tele part.goal part.terms c number units).0 ≡ Ok w)
+    (ap (λ (x : Walked). x.part) (let same : v ≡ h.own = cc in same) ∙ h.own_opened) is
+walk-of S f plan h (suc k) v c number units w at is =
+    let made = (helper-made S f plan h k v at).is in
+    transport (λ (p : Part). (own_walk_of (provisional S f.name f.type) p.tele p.goal p.terms c number units).0 ≡ Ok w) (sym made) is
+
+pub own-walk : (S : Signature) (f : Function) (plan : Plan) (h : IsPlanGiven S f plan) (k number : ℕ) (w : Walk) (c : Placed)
+    → IsPlaced S f plan h k number w c → IsOwnWalk (placed_at S f plan) c w
+own-walk S f plan h k number w c p =
+    let one = Is c.pats c.binds c.right in
+    let X = provisional S f.name f.type in
+    record {
+      units = p.one.units;
+      walked =
+          transport
+          (λ i. (let start = start_of (placed_at S f plan) i in own_walk_of X start.telescope start.goal start.columns one c.number p.one.units).0 ≡ Ok w)
+          (sym p.part)
+          (transport
+          (λ n. (let start = start_of (placed_at S f plan) k in own_walk_of X start.telescope start.goal start.columns one n p.one.units).0 ≡ Ok w)
+          (sym p.own_number) (walk-of S f plan h k p.made_of one number p.one.units w p.at p.one.walks));
+    }
 
 module _ (S : Signature) (f : Function) (plan : Plan) (h : IsPlanGiven S f plan) (U : Signature) (prefix : IsPrefix S U) where
   -- a written term in the plan is the written one
@@ -236,8 +274,8 @@ module _ (S : Signature) (f : Function) (plan : Plan) (h : IsPlanGiven S f plan)
           let part = p.made_of.part in
           transport (λ (r : Result Walk TreeStop). IfOk r (λ v. LeadsTo (provisional S f.name f.type) (start_at part.tele part.goal part.terms) v.goal v.subst v.terms))
           p.one.walks
-          (walk_leads (provisional S f.name f.type) part.tele part.goal part.terms c.pats p.binds c.right number p.one.units p.one.given
-          (clause-for (provisional S f.name f.type) part.terms (Is c.pats p.binds c.right) p.one.resolved))
+          (walk_leads (provisional S f.name f.type) part.tele part.goal part.terms c.pats c.binds c.right number p.one.units p.one.given
+          (clause-for (provisional S f.name f.type) part.terms (Is c.pats c.binds c.right) p.one.resolved))
 
   -- ---- equations
 
@@ -245,8 +283,8 @@ module _ (S : Signature) (f : Function) (plan : Plan) (h : IsPlanGiven S f plan)
   matched k number w c p =
       let part = p.made_of.part in
       transport (λ (r : Result Walk TreeStop). Holds (IsMatched (provisional S f.name f.type) c.pats) (λ e. Unit {0}) r) p.one.walks
-      (walk-matched (provisional S f.name f.type) part.tele part.goal part.terms c.pats p.binds c.right number p.one.units
-      (clause-for (provisional S f.name f.type) part.terms (Is c.pats p.binds c.right) p.one.resolved))
+      (walk-matched (provisional S f.name f.type) part.tele part.goal part.terms c.pats c.binds c.right number p.one.units
+      (clause-for (provisional S f.name f.type) part.terms (Is c.pats c.binds c.right) p.one.resolved))
 
   pub has-equation : (k number : ℕ) (w : Walk) (c : Placed) → IsPlaced S f plan h k number w c → some_absurd c.pats ≡ false → (e : Equation)
       → equation_of U plan k number w ≡ Ok e → HasEquation U (placed_at S f plan) c e
@@ -259,11 +297,13 @@ module _ (S : Signature) (f : Function) (plan : Plan) (h : IsPlanGiven S f plan)
       let m = matched k number w c p in
       let left = left-is k number w c p e.left (is.left ∙ ap (λ ps. left_side U plan k ps (walk_site w)) (placed-pats S f plan h k number w c p)) in
       let right =
-      right-is w (length p.made_of.part.terms) c.pats p.binds c.right p.side e.right p.one.is_side p.one.resolved p.one.fit.scoped
+      right-is w (length p.made_of.part.terms) c.pats c.binds c.right p.side e.right p.one.is_side p.one.resolved p.one.fit.scoped
       (is.right ∙ ap (λ side. right_side U plan side (walk_site w)) (placed-side S f plan h k number w c p)) in
       record {
-        fitting = w.terms;
-        terms = w.binds;
+        walk = w;
+        own = own-walk S f plan h k number w c p;
+        context = is.context;
+        type = is.type;
         is = record {
           fit = transport (AllFit U AnyDot c.pats w.terms) m.binds (all-fit X U families c.pats w.terms (m.matches clean));
           shown = all_shown U wr c.pats w.terms;

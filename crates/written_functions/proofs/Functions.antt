@@ -7,6 +7,7 @@ use Rattle.theory.specs.Typing.{HasSort}
 use Rattle.theory.specs.WellFormed.{IsWellFormed, provisional, pushed}
 use Rattle.core_terms.proofs.Answers.{Answers, and_next-has}
 use Rattle.core_terms.specs.Answers.{on_answer}
+use Rattle.core_terms.specs.CaseTrees.{Tree}
 use Rattle.kernel_check.specs.Checking.{infer_sort_of}
 use Rattle.kernel_reduce.specs.Reduction.{nesting}
 use Rattle.surface_syntax.specs.Trees as surf
@@ -29,7 +30,7 @@ use Rattle.function_session.specs.Laws.{IsWrittenFunction}
 use Rattle.elab_session.specs.Declaring.{accepted_as}
 use Rattle.resolve.specs.Functions.{Function, function}
 use Rattle.resolve.specs.declared.stop.ResolveStop.{ResolveStop}
-use Rattle.written_functions.specs.Clauses.{AreLinesOf, parts_of, placed_from}
+use Rattle.written_functions.specs.Clauses.{AreLinesOf, Start, parts_of, placed_from}
 use Rattle.written_functions.specs.Functions.{IsByClauses}
 use Rattle.written_functions.specs.Laws.{FunctionsAreByClauses}
 use Rattle.written_functions.proofs.Equations.{placed_at}
@@ -45,8 +46,9 @@ record IsTold (S : Signature) (f : Function) (l : Lines) : Type 0 where
   with_plan : Signature
   own : HasOwn S f.name f.type with_plan
   grown : Grows with_plan l.signature
-  columns : (helper : ℕ) → List Term
-  told : AreLinesOf (pushed own.before (Definition f.name f.type own.body)) l.signature (record { before = S; function = f; columns = columns })
+  helpers : (k : ℕ) → Start
+  trees : (part : ℕ) → Tree
+  told : AreLinesOf (pushed own.before (Definition f.name f.type own.body)) l.signature (record { before = S; function = f; helpers = helpers; trees = trees })
       (placed_from 0 (parts_of f)) l.lines
 
 named : (S : Signature) (f : Function) (plan : Plan) (T : Signature) → IsPlanGiven S f plan → HasOwn S plan.name plan.type T → HasOwn S f.name f.type T
@@ -80,7 +82,7 @@ plan-told S f plan T left well first h entered =
       low = omega (arith, h.base, pushed-longer S own.before T f.name f.type own.body own.longer own.entered);
     } in
     weaker (Tells S Own f plan h T (placed_from 0 (parts_of f))) (IsTold S f) (report_parts plan 0 plan.parts T left).0
-    (λ l r. record { with_plan = T; own = own; grown = r.grows; columns = (placed_at S f plan).columns; told = r.told })
+    (λ l r. record { with_plan = T; own = own; grown = r.grows; helpers = (placed_at S f plan).helpers; trees = (placed_at S f plan).trees; told = r.told })
     (parts-tell S Own f plan h 0 plan.parts (parts_of f) (parts-placed S f plan h) T left base)
 
 function-told : (S : Signature) (f : Function) (fuel : ℕ) → IsWellFormed S → HasPrelude S → HasEntries S f.type → IsFunctionOver (provisional S f.name f.type) f
@@ -164,12 +166,13 @@ written S x ty cs a ready w l =
       entered =
           transport (λ name. IsPrefix (pushed t.own.before (Definition name f.type t.own.body)) l.lines.signature) new.name
           (grows_on Own t.with_plan l.lines.signature t.own.entered t.grown).prefix;
-      columns = t.columns;
+      helpers = t.helpers;
+      trees = t.trees;
       told =
           transport
           (λ name.
           AreLinesOf (pushed t.own.before (Definition name f.type t.own.body)) l.lines.signature
-          (record { before = S; function = f; columns = t.columns }) (placed_from 0 (parts_of f)) l.lines.lines)
+          (record { before = S; function = f; helpers = t.helpers; trees = t.trees }) (placed_from 0 (parts_of f)) l.lines.lines)
           new.name t.told;
     })
 

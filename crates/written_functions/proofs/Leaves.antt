@@ -276,7 +276,7 @@ module _ (S : Signature) (f : Function) (plan : Plan) (h : IsPlanGiven S f plan)
         let left =
         leaf-left k number w c p leaf e.left led (is.left ∙ ap (λ ps. left_side U plan k ps site) (placed-pats S f plan h k number w c p)) in
         let right =
-        leaf-right w site (length p.made_of.part.terms) c.pats p.binds c.right p.side e.right p.one.is_side p.one.resolved
+        leaf-right w site (length p.made_of.part.terms) c.pats c.binds c.right p.side e.right p.one.is_side p.one.resolved
         (is.right ∙ ap (λ side. right_side U plan side site) (placed-side S f plan h k number w c p)) in
         let stay = families S f plan h U prefix in
         record {

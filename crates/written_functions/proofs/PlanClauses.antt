@@ -56,11 +56,10 @@ pub record IsPlaced (S : Signature) (f : Function) (plan : Plan) (h : IsPlanGive
   pub own_number : c.number ≡ number
   pub made_of : Walked
   pub at : slice_get (h.own ∷ h.helpers) k ≡ Some made_of
-  pub binds : ℕ
-  pub there : clause_at made_of.clauses number ≡ Some (Is c.pats binds c.right)
+  pub there : clause_at made_of.clauses number ≡ Some (Is c.pats c.binds c.right)
   pub side : Term
   pub side_there : get_or made_of.sides number (Sort 0) ≡ side
-  pub one : IsOneGiven S f (h.own ∷ h.helpers) made_of.part number (Is c.pats binds c.right) w side
+  pub one : IsOneGiven S f (h.own ∷ h.helpers) made_of.part number (Is c.pats c.binds c.right) w side
 
 abbrev pub ArePlaced : (S : Signature) (f : Function) (plan : Plan) (h : IsPlanGiven S f plan) → (k number : ℕ) → List Walk → List Placed → Type 0
 ArePlaced S f plan h k number [] [] = Unit {0}
@@ -82,7 +81,7 @@ module _ (S : Signature) (f : Function) (plan : Plan) (h : IsPlanGiven S f plan)
       ap (λ (p : Part). get_or p.pats number pattern.nil) made.is ∙ clause-pats v.clauses number binds pats right there
 
   pub placed-pats : (k number : ℕ) (w : Walk) (c : Placed) → IsPlaced S f plan h k number w c → pats_of (part_at plan k) number ≡ c.pats
-  placed-pats k number w c p = pats-are k number p.made_of p.at c.pats p.binds c.right p.there
+  placed-pats k number w c p = pats-are k number p.made_of p.at c.pats c.binds c.right p.there
 
   pub placed-side : (k number : ℕ) (w : Walk) (c : Placed) (p : IsPlaced S f plan h k number w c) → side_of (part_at plan k) number ≡ p.side
   placed-side k number w c p =
@@ -104,7 +103,6 @@ module _ (S : Signature) (f : Function) (plan : Plan) (h : IsPlanGiven S f plan)
           own_number = refl;
           made_of = v;
           at = at;
-          binds = binds;
           there = ap (clause_at v.clauses) (sym stays) ∙ sym (same 0);
           side = side;
           side_there = ap (λ n. get_or v.sides n (Sort 0)) (sym stays) ∙ sym (same_sides 0);
@@ -157,7 +155,7 @@ module _ (S : Signature) (f : Function) (plan : Plan) (h : IsPlanGiven S f plan)
 
   pub earlier-there : (k number j : ℕ) (w : Walk) (c : Placed) → IsPlaced S f plan h k number w c → j < number → IsEarlier k j
   earlier-there k number j w c p low =
-      let e = clause-before p.made_of.clauses number j (record { pats = c.pats; binds = p.binds; right = c.right; there = p.there }) low in
+      let e = clause-before p.made_of.clauses number j (record { pats = c.pats; binds = c.binds; right = c.right; there = p.there }) low in
       record {
         pats = e.pats;
         binds = e.binds;

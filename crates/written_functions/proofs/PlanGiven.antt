@@ -38,24 +38,24 @@ use Rattle.written_functions.proofs.Walked.{AreAt, Gives, IsPartGiven, clauses-g
 -- ---- parts that are finished
 
 -- where the tree of a part starts
-pub record Start : Type 0 where
+pub record TreeStart : Type 0 where
   pub context : Telescope
   pub goal : Term
   pub terms : List Term
 
 -- the function's own part from an order of its variables, a helper from its columns
-abbrev pub start_ordered : (order : List ℕ) → Opened → Start
+abbrev pub start_ordered : (order : List ℕ) → Opened → TreeStart
 start_ordered order part = record {
   context = ordered_telescope part.tele order;
   goal = ordered_term (length part.tele) order part.goal;
   terms = ordered_variables order (length part.tele);
 }
 
-abbrev pub start_plain : Opened → Start
+abbrev pub start_plain : Opened → TreeStart
 start_plain part = record { context = part.tele; goal = part.goal; terms = part.terms }
 
 -- a part of a plan is a walked one, with the tree of its clauses from a start on
-pub record IsFinished (T : Signature) (start : Opened → Start) (w : Walked) (p : Part) : Type 0 where
+pub record IsFinished (T : Signature) (start : Opened → TreeStart) (w : Walked) (p : Part) : Type 0 where
   pub level : ℕ
   pub tree : Tree
   pub is : p ≡ finished level w tree
@@ -94,6 +94,10 @@ helpers-are S f r level number (w ∷ helpers) left =
 
 -- ---- the plan
 
+-- the function before its clauses are walked
+abbrev pub opened_own : Function → (level : ℕ) → Opened
+opened_own f level = own_part f level
+
 -- the parts of a plan are those that are walked
 pub record IsPlanGiven (S : Signature) (f : Function) (plan : Plan) : Type 0 where
   pub base : plan.base ≡ length S.entries
@@ -101,6 +105,8 @@ pub record IsPlanGiven (S : Signature) (f : Function) (plan : Plan) : Type 0 whe
   pub type : plan.type ≡ f.type
   pub own : Walked
   pub helpers : List Walked
+  pub level : ℕ
+  pub own_opened : own.part ≡ opened_own f level
   pub own_part : Part
   pub helper_parts : List Part
   pub parts : plan.parts ≡ own_part ∷ helper_parts
@@ -160,6 +166,8 @@ plan-given S f level left over closed =
       type = refl;
       own = w;
       helpers = given.helpers;
+      level = level;
+      own_opened = refl;
       own_part = own_there;
       helper_parts = helpers;
       parts = refl;
@@ -180,7 +188,7 @@ plan-given S f level left over closed =
 
 -- part k of a plan is made of walked part k
 pub record IsPartMade (T : Signature) (w : Walked) (p : Part) : Type 0 where
-  pub start : Opened → Start
+  pub start : Opened → TreeStart
   pub finished : IsFinished T start w p
 
 pub own-made : (S : Signature) (f : Function) (plan : Plan) (h : IsPlanGiven S f plan) → IsFinished (provisional S f.name f.type) (start_ordered h.order) h.own (part_at plan 0)

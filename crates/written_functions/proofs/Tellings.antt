@@ -1,5 +1,5 @@
 -- What the lines of a plan's clauses say of the clauses as they are written.
-use Rattle.std.proofs.Common.{◌≡◌, ℕ, ◌+◌, ◌<◌, ◌≤◌, Bool, true, false, cond, Some, List, [], ◌∷◌, ◌++◌, length, length-append, codes, Result, Ok, Err, IfOk, refl, sym, ap, ◌∙◌, subst as transport, arith}
+use Rattle.std.proofs.Common.{◌≡◌, ℕ, ◌+◌, ◌<◌, ◌≤◌, Bool, true, false, cond, Some, List, [], ◌∷◌, ◌++◌, length, length-append, map, codes, Result, Ok, Err, IfOk, refl, sym, ap, ap₂, ◌∙◌, subst as transport, arith}
 use Rattle.std.specs.List.{All}
 use Rattle.theory.specs.Terms.{Term}
 use Rattle.theory.specs.Signatures.{Definition, IsEntryAt, IsPrefix, Signature}
@@ -19,7 +19,8 @@ use Rattle.clause_reports.proofs.Keeping.{Grows, grows_on, grows_same}
 use Rattle.clause_reports.proofs.Lines as found
 use Rattle.clause_reports.proofs.ReportKeeping.{GrowsBy, report-grows}
 use Rattle.clause_reports.specs.Equations.{part_at, part_named, pats_of}
-use Rattle.clause_reports.specs.Reports.{Absurd, Definitional, Line, Proved, Reference, Reported, Shadowed, equation_report, report_of, reported, some_absurd}
+use Rattle.clause_reports.specs.Reports.{Absurd, Definitional, Line, Proved, Reference, Reported, Shadowed, equation_report, report_of, reported, shown_leaf, some_absurd}
+use Rattle.clause_reports.specs.Shadows.{leaves_of}
 use Rattle.clause_reports.specs.Stops.{ReportStop, answers}
 use Rattle.elaboration.specs.Functions.{ClauseLine, Following, Lines, report_parts, report_walks, with_line}
 use Rattle.elaboration.specs.Refusals.{Owner, or_no_report, owner_of, reporting}
@@ -161,6 +162,7 @@ module _ (S Own : Signature) (f : Function) (plan : Plan) (h : IsPlanGiven S f p
         other = transport (λ i. written.clause_in f i earlier ≡ Some (Is other.pats other.binds other.right)) (sym p.part) other.there;
         other_takes = (_, all-fit U U stay other.pats vector (ap (λ ps. matches_all U ps vector) (sym other.are) ∙ said.other));
         takes = (_, all-fit U U stay c.pats vector (ap (λ ps. matches_all U ps vector) (sym same) ∙ said.own));
+        all = said.shown ∙ ap₂ (λ n i. map shown_leaf (leaves_of n (part_at plan i).tree)) (sym p.own_number) (sym p.part);
         converts =
             transport (All (ConvertsAt U (placed_at S f plan) c)) (sym said.shown)
             (leaves-convert S f plan h U b.before k number w c p said.converts);

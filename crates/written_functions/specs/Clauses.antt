@@ -1,20 +1,23 @@
 -- What is said of the clauses of a function, in words of the function as it is written and of the theory.
-use Rattle.std.specs.Prelude.{◌≡◌, ◌<◌, ◌-◌, ℕ, zero, suc, ◌+◌, nat_lt, cond, true, Option, Some, option_and_then, List, [], ◌∷◌, ◌++◌, All, codes, decimal, length, map, slice_get}
+use Rattle.std.specs.Prelude.{◌≡◌, ◌<◌, ◌-◌, ℕ, zero, suc, ◌+◌, nat_lt, cond, true, Option, Some, option_and_then, List, [], ◌∷◌, ◌++◌, All, codes, decimal, length, map, slice_get, Ok}
 use Rattle.theory.specs.Terms.{Term, Sort, Const}
-use Rattle.theory.specs.Telescopes.{Telescope, applied, products}
+use Rattle.theory.specs.Telescopes.{Telescope, applied, products, variables}
 use Rattle.theory.specs.Conversion.{Converts}
 use Rattle.theory.specs.Signatures.{Signature, Definition, IsEntryAt, IsPrefix, equation}
 use Rattle.theory.specs.WellFormed.{IsDefinition, first_entries, provisional}
+use Rattle.core_terms.specs.CaseTrees.{Tree, Walk}
 use Rattle.core_terms.specs.Clauses as clause
 use Rattle.core_terms.specs.Clauses.{Clause, Clauses, Right, Is}
 use Rattle.core_terms.specs.Patterns.{Pats}
 use Rattle.core_sig.specs.Settling.{renumbered}
 use Rattle.tele_eq.specs.ReflexivityLaws.{EachConverts}
+use Rattle.case_trees.specs.OwnWalks.{own_walk_of}
 use Rattle.case_trees.specs.Places.{clause_at}
 use Rattle.case_trees.specs.Points.{under_solution}
 use Rattle.clause_reports.specs.Equations.{Equation, number_of, part_named}
-use Rattle.clause_reports.specs.Reports.{Line, Definitional, Proved, Shadowed, Absurd, some_absurd}
-use Rattle.elaboration.specs.Functions.{ClauseLine}
+use Rattle.clause_reports.specs.Reports.{Line, Definitional, Proved, Shadowed, Absurd, shown_leaf, some_absurd}
+use Rattle.clause_reports.specs.Shadows.{leaves_of}
+use Rattle.elaboration.specs.Functions.{ClauseLine, after_domains, first_domains}
 use Rattle.function_session.specs.Laws.{inner}
 use Rattle.resolve.specs.Functions.{Function}
 use Rattle.written_functions.specs.Fitting.{AllFit, AnyDot, IsTaken}
@@ -34,12 +37,13 @@ pub record Placed : Type 0 where
   pub part : ℕ
   pub number : ℕ
   pub pats : Pats
+  pub binds : ℕ
   pub right : Right
 
 abbrev pub placed_in : (part number : ℕ) → Clauses → List Placed
 placed_in part number clause.nil = []
 placed_in part number (clause.cons (Is pats binds right) clauses) =
-    record { part = part; number = number; pats = pats; right = right } ∷ placed_in part (number + 1) clauses
+    record { part = part; number = number; pats = pats; binds = binds; right = right } ∷ placed_in part (number + 1) clauses
 
 abbrev pub placed_from : (part : ℕ) → List Clauses → List Placed
 placed_from part [] = []
@@ -47,11 +51,27 @@ placed_from part (clauses ∷ parts) = placed_in part 0 clauses ++ placed_from (
 
 -- ---- the equation of a clause
 
--- A function after some entries. Each helper has columns: terms over its arguments, one for each pattern of its clauses.
+-- From where the clauses of a part are walked: a telescope, a goal over it, and terms of it, one for each pattern of a clause.
+pub record Start : Type 0 where
+  pub telescope : Telescope
+  pub goal : Term
+  pub columns : List Term
+
+-- A function after some entries, with the start of each helper, whose arguments its telescope has, and a case tree for each part.
 pub record FunctionAt : Type 0 where
   pub before : Signature
   pub function : Function
-  pub columns : (helper : ℕ) → List Term
+  pub helpers : (k : ℕ) → Start
+  pub trees : (part : ℕ) → Tree
+
+-- that of the function itself: the domains of its type, one for each pattern, and what the type ends in
+abbrev pub start_of : FunctionAt → (part : ℕ) → Start
+start_of f zero = record {
+  telescope = first_domains f.function.arity f.function.type;
+  goal = after_domains f.function.arity f.function.type;
+  columns = variables f.function.arity;
+}
+start_of f (suc k) = f.helpers (suc k)
 
 -- the entries before the function, and the function as a constant
 abbrev pub with_constant : FunctionAt → Signature
@@ -73,7 +93,7 @@ pub record IsCall (S : Signature) (f : FunctionAt) (k : ℕ) (us : List Term) (c
   pub arguments : List Term
   pub more : List Term
   pub is : call ≡ applied (Const (part_number S f k)) (arguments ++ more)
-  pub at : EachConverts (with_constant f) (map (under_solution arguments) (f.columns k)) us
+  pub at : EachConverts (with_constant f) (map (under_solution arguments) (f.helpers k).columns) us
 
 -- The left side: the function at terms that show the patterns, or a helper where its columns are terms that fit them.
 abbrev pub IsLeft : Signature → FunctionAt → (part : ℕ) → (fitting shown : List Term) → Term → Type 0
@@ -106,11 +126,20 @@ abbrev pub scrutinee_in : Signature → FunctionAt → (terms : List Term) → R
 scrutinee_in S f terms (clause.With t inside) = written_in S f terms t ∷ []
 scrutinee_in S f terms right = []
 
--- The equation of a clause: the variables are what they are on the left, and the helper is called for the same terms and the scrutinee.
+-- the clause's own walk, from the start of its part on, with some units
+pub record IsOwnWalk (f : FunctionAt) (c : Placed) (w : Walk) : Type 0 where
+  pub units : ℕ
+  pub walked : let start = start_of f c.part in
+      (own_walk_of (with_constant f) start.telescope start.goal start.columns (Is c.pats c.binds c.right) c.number units).0 ≡ Ok w
+
+-- The equation of a clause: that of its own walk. The variables are what they are on the left, and the helper is called for the same
+-- terms and the scrutinee.
 pub record HasEquation (S : Signature) (f : FunctionAt) (c : Placed) (e : Equation) : Type 0 where
-  pub fitting : List Term
-  pub terms : List Term
-  pub is : IsEquation S f c fitting terms terms (fitting ++ scrutinee_in S f terms c.right) e
+  pub walk : Walk
+  pub own : IsOwnWalk f c walk
+  pub context : e.context ≡ walk.ctx
+  pub type : e.type ≡ walk.goal
+  pub is : IsEquation S f c walk.terms walk.binds walk.binds (walk.terms ++ scrutinee_in S f walk.binds c.right) e
 
 -- ---- the lines
 
@@ -145,7 +174,8 @@ pub record ConvertsAt (S : Signature) (f : FunctionAt) (c : Placed) (leaf : Tele
   pub is : IsEquation S f c leaf.1 found terms called equation
   pub converts : Converts S equation.left equation.right
 
--- shadowed: an earlier clause of the part takes a vector that the clause itself takes too; at each leaf its equation converts
+-- shadowed: an earlier clause of the part takes a vector that the clause itself takes too; the leaves are all of the clause in the tree of
+-- the part, and at each its equation converts
 pub record IsShadowed (S : Signature) (f : FunctionAt) (c : Placed) (earlier : ℕ) (vector : List Term) (leaves : List (Telescope × List Term)) : Type 0 where
   pub before : earlier < c.number
   pub pats : Pats
@@ -154,6 +184,7 @@ pub record IsShadowed (S : Signature) (f : FunctionAt) (c : Placed) (earlier : �
   pub other : clause_in f.function c.part earlier ≡ Some (Is pats binds right)
   pub other_takes : IsTaken S pats vector
   pub takes : IsTaken S c.pats vector
+  pub all : leaves ≡ map shown_leaf (leaves_of c.number (f.trees c.part))
   pub converts : All (ConvertsAt S f c) leaves
 
 -- What a line says of a clause, over the signature S before it and T at the end.

@@ -4,12 +4,13 @@ use Rattle.theory.specs.Terms.{Term}
 use Rattle.theory.specs.Signatures.{Definition, Signature, IsPrefix}
 use Rattle.theory.specs.Typing.{HasSort}
 use Rattle.theory.specs.WellFormed.{IsDefinition, pushed}
+use Rattle.core_terms.specs.CaseTrees.{Tree}
 use Rattle.surface_syntax.specs.Trees as surf
 use Rattle.surface_syntax.specs.declared.tree.Word.{Word}
 use Rattle.elaboration.specs.Functions.{ClauseLine}
 use Rattle.resolve.specs.Functions.{Function, function}
 use Rattle.resolve.specs.Resolving.{resolve_term}
-use Rattle.written_functions.specs.Clauses.{AreLinesOf, parts_of, placed_from}
+use Rattle.written_functions.specs.Clauses.{AreLinesOf, Start, parts_of, placed_from}
 
 -- T has a function that is written by clauses, after the entries of S. Its type is the core term that the written one stands for, and by
 -- the typing rules over the entries of S has a sort. One of the entries is the function, a definition with the declared name and exactly
@@ -25,6 +26,7 @@ pub record IsByClauses (S : Signature) (x : Word) (ty : surf.Surf) (clauses : su
   pub longer : IsPrefix S before
   pub typed : IsDefinition before given.type body
   pub entered : IsPrefix (pushed before (Definition x.text given.type body)) T
-  pub columns : (helper : ℕ) → List Term
-  pub told : AreLinesOf (pushed before (Definition x.text given.type body)) T (record { before = S; function = given; columns = columns })
+  pub helpers : (k : ℕ) → Start
+  pub trees : (part : ℕ) → Tree
+  pub told : AreLinesOf (pushed before (Definition x.text given.type body)) T (record { before = S; function = given; helpers = helpers; trees = trees })
       (placed_from 0 (parts_of given)) lines
