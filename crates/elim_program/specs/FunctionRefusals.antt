@@ -2,7 +2,7 @@
 use Rattle.std.specs.Prelude.{ℕ, List, [], ◌∷◌, ◌++◌, codes, decimal}
 use Rattle.unification.specs.declared.why.Why.{Why}
 use Rattle.unification.specs.declared.why.Why.TheVariants.{NeedsK, NotRigid, OccursNotRigid, Depends, NeedsIndexEquations}
-use Rattle.elaboration.specs.Refusals.{Owner, Part, OfType, OfDot, OfSide, OfWith, OfGoal, FailingCall, Refusal, Halts, IllTyped, WrongConstructor, Stuck, Uncovered, NotAbsurd, Impossible, DotMismatch, SelfInType, NotSmaller, Rejected}
+use Rattle.elaboration.specs.Refusals.{Owner, Part, OfType, OfDot, OfSide, OfWith, OfGoal, FailingCall, Refusal, IllTyped, WrongConstructor, Stuck, Uncovered, NotAbsurd, Impossible, DotMismatch, SelfInType, NotSmaller, Rejected}
 use Rattle.elim_program.specs.Refusals.{place_text}
 
 -- a function or helper, and the number of its clause
@@ -40,25 +40,28 @@ sides_text context left right = context ++ codes " " ++ left ++ codes " = " ++ r
 abbrev pub denial_text : (place context reason : List ℕ) → List ℕ
 denial_text place context reason = place_text place ++ codes " " ++ context ++ codes " " ++ reason
 
--- Why a function is refused. In a vector a space precedes each term. `Halts` has no text here: its line is that of any
--- declaration (`Refusals`).
+-- Why a walk or a case tree of a function ends; other refusals have no such text. In a vector a space precedes each term.
+abbrev pub ended_text : Refusal → List ℕ
+ended_text (WrongConstructor owner context type) =
+    codes "WrongConstructor " ++ owner_text owner ++ codes " " ++ context ++ codes " " ++ type
+ended_text (Stuck owner context left right why) =
+    codes "Stuck " ++ owner_text owner ++ codes " " ++ sides_text context left right ++ codes " " ++ why_text why
+ended_text (Uncovered function context vector) = codes "Uncovered " ++ function ++ codes " " ++ context ++ vector
+ended_text (NotAbsurd owner constructor) = codes "NotAbsurd " ++ owner_text owner ++ codes " " ++ constructor
+ended_text (Impossible owner context left right) =
+    codes "Impossible " ++ owner_text owner ++ codes " " ++ sides_text context left right
+ended_text (DotMismatch owner context written forced) =
+    codes "DotMismatch " ++ owner_text owner ++ codes " " ++ context ++ codes " " ++ written ++ codes " forced " ++ forced
+ended_text e = []
+
+-- Why a function is refused. `Halts` has no text here: its line is that of any declaration (`Refusals`).
 abbrev pub refusal_text : Refusal → List ℕ
-refusal_text (Halts e) = []
 refusal_text (IllTyped part place context reason) =
     codes "IllTyped " ++ part_text part ++ codes " " ++ denial_text place context reason
-refusal_text (WrongConstructor owner context type) =
-    codes "WrongConstructor " ++ owner_text owner ++ codes " " ++ context ++ codes " " ++ type
-refusal_text (Stuck owner context left right why) =
-    codes "Stuck " ++ owner_text owner ++ codes " " ++ sides_text context left right ++ codes " " ++ why_text why
-refusal_text (Uncovered function context vector) = codes "Uncovered " ++ function ++ codes " " ++ context ++ vector
-refusal_text (NotAbsurd owner constructor) = codes "NotAbsurd " ++ owner_text owner ++ codes " " ++ constructor
-refusal_text (Impossible owner context left right) =
-    codes "Impossible " ++ owner_text owner ++ codes " " ++ sides_text context left right
-refusal_text (DotMismatch owner context written forced) =
-    codes "DotMismatch " ++ owner_text owner ++ codes " " ++ context ++ codes " " ++ written ++ codes " forced " ++ forced
 refusal_text (SelfInType owner) = codes "SelfInType " ++ owner_text owner
 refusal_text (NotSmaller calls) = codes "NotSmaller" ++ failing_calls_text calls
 refusal_text (Rejected r) = codes "Rejected " ++ r.entry ++ codes " " ++ denial_text r.place r.context r.reason
+refusal_text e = ended_text e
 
 -- the core line of an entry that the checker denies
 abbrev pub candidate_lines : Refusal → List (List ℕ)

@@ -6,7 +6,7 @@ ghost use Rattle.function_refusals.specs.RefusalMeanings.{failing_of, owner_mean
 
 use crate::refusals::{write_number, write_place};
 use core_terms::Name;
-use function_refusals::{FailingCall, Owner, Refusal, WrittenPart};
+use function_refusals::{FailingCall, Owner, Refusal, Text, WrittenPart};
 use std::alloc::AllocError;
 use unification::Why;
 
@@ -142,16 +142,16 @@ fn write_wrong_constructor(
 fn write_stuck(
     out: &mut Vec<u8>,
     owner: &Owner,
-    ctx: &[u8],
-    left: &[u8],
-    right: &[u8],
+    ctx: &Text,
+    left: &Text,
+    right: &Text,
     why: Why,
 ) -> Result<(), AllocError>
     ensures { OnOk result (out.new.items ≡ out.old.items ++ spec.refusal_text (pure.Stuck (owner_meant owner.now) ctx.now left.now right.now why)) }
 {
     write_at(out, b"Stuck ", owner)?;
     out.extend_from_slice(b" ")?;
-    write_sides(out, ctx, left, right)?;
+    write_sides(out, ctx.as_slice(), left.as_slice(), right.as_slice())?;
     write_after(out, b" ", why_text(why))
 }
 
@@ -178,15 +178,15 @@ fn write_not_absurd(out: &mut Vec<u8>, owner: &Owner, con: &[u8]) -> Result<(), 
 fn write_impossible(
     out: &mut Vec<u8>,
     owner: &Owner,
-    ctx: &[u8],
-    left: &[u8],
-    right: &[u8],
+    ctx: &Text,
+    left: &Text,
+    right: &Text,
 ) -> Result<(), AllocError>
     ensures { OnOk result (out.new.items ≡ out.old.items ++ spec.refusal_text (pure.Impossible (owner_meant owner.now) ctx.now left.now right.now)) }
 {
     write_at(out, b"Impossible ", owner)?;
     out.extend_from_slice(b" ")?;
-    write_sides(out, ctx, left, right)
+    write_sides(out, ctx.as_slice(), left.as_slice(), right.as_slice())
 }
 
 /// Writes a written term that is not the forced one.
@@ -237,24 +237,11 @@ fn write_rejected(
     write_denial(out, place, ctx, reason)
 }
 
-/// Writes why a function is refused.
-fn write_refusal(out: &mut Vec<u8>, refusal: &Refusal) -> Result<(), AllocError>
-    ensures { OnOk result (out.new.items ≡ out.old.items ++ spec.refusal_text (refusal_of refusal.now)) }
+/// Writes why a walk or a case tree of a function ends, where that is why the function is refused.
+fn write_ended(out: &mut Vec<u8>, refusal: &Refusal) -> Result<(), AllocError>
+    ensures { OnOk result (out.new.items ≡ out.old.items ++ spec.ended_text (refusal_of refusal.now)) }
 {
     match refusal {
-        Refusal::Stop(_) => Ok(()),
-        Refusal::IllTyped {
-            part,
-            place,
-            ctx,
-            reason,
-        } => write_ill_typed(
-            out,
-            part,
-            place.as_slice(),
-            ctx.as_slice(),
-            reason.as_slice(),
-        ),
         Refusal::WrongConstructor { owner, ctx, ty } => {
             write_wrong_constructor(out, owner, ctx.as_slice(), ty.as_slice())
         }
@@ -264,14 +251,7 @@ fn write_refusal(out: &mut Vec<u8>, refusal: &Refusal) -> Result<(), AllocError>
             left,
             right,
             why,
-        } => write_stuck(
-            out,
-            owner,
-            ctx.as_slice(),
-            left.as_slice(),
-            right.as_slice(),
-            *why,
-        ),
+        } => write_stuck(out, owner, ctx, left, right, *why),
         Refusal::Uncovered {
             function,
             ctx,
@@ -283,13 +263,7 @@ fn write_refusal(out: &mut Vec<u8>, refusal: &Refusal) -> Result<(), AllocError>
             ctx,
             left,
             right,
-        } => write_impossible(
-            out,
-            owner,
-            ctx.as_slice(),
-            left.as_slice(),
-            right.as_slice(),
-        ),
+        } => write_impossible(out, owner, ctx, left, right),
         Refusal::DotMismatch {
             owner,
             ctx,
@@ -301,6 +275,27 @@ fn write_refusal(out: &mut Vec<u8>, refusal: &Refusal) -> Result<(), AllocError>
             ctx.as_slice(),
             written.as_slice(),
             forced.as_slice(),
+        ),
+        _ => Ok(()),
+    }
+}
+
+/// Writes why a function is refused.
+fn write_refusal(out: &mut Vec<u8>, refusal: &Refusal) -> Result<(), AllocError>
+    ensures { OnOk result (out.new.items ≡ out.old.items ++ spec.refusal_text (refusal_of refusal.now)) }
+{
+    match refusal {
+        Refusal::IllTyped {
+            part,
+            place,
+            ctx,
+            reason,
+        } => write_ill_typed(
+            out,
+            part,
+            place.as_slice(),
+            ctx.as_slice(),
+            reason.as_slice(),
         ),
         Refusal::SelfInType(owner) => write_at(out, b"SelfInType ", owner),
         Refusal::NotSmaller(calls) => write_not_smaller(out, calls.as_slice()),
@@ -317,6 +312,7 @@ fn write_refusal(out: &mut Vec<u8>, refusal: &Refusal) -> Result<(), AllocError>
             ctx.as_slice(),
             reason.as_slice(),
         ),
+        ended => write_ended(out, ended),
     }
 }
 
