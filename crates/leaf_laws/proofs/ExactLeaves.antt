@@ -1,10 +1,11 @@
 -- The terms of leaves, and of the trees of parts, are made where they are no higher than a term may be.
-use Rattle.std.proofs.Common.{◌≡◌, ℕ, ◌+◌, ◌-◌, Option, Some, None, IfSome, Ok, List, [], ◌∷◌, length, get_or, refl}
+use Rattle.std.proofs.Common.{◌≡◌, ℕ, ◌+◌, ◌-◌, Option, Some, None, IfSome, Ok, List, [], ◌∷◌, length, get_or, refl, ◌∙◌}
 use Rattle.std.proofs.lemmas.Result.{IfOk-at_ok}
 use Rattle.theory.specs.Terms.{Term, Var, Sort}
 use Rattle.theory.specs.Telescopes.{Telescope}
 use Rattle.theory.specs.Signatures.{Signature}
 use Rattle.theory.specs.SignatureScopes.{IsScoped}
+use Rattle.core_terms.specs.Answers.{and_then}
 use Rattle.core_terms.specs.CaseTrees as tree
 use Rattle.core_terms.specs.CaseTrees.{Branch, Branches, Tree}
 use Rattle.core_terms.specs.Clauses.{clauses}
@@ -12,21 +13,23 @@ use Rattle.case_trees.specs.Scoped.{AreScopedBranches, IsScopedBranch, IsScopedL
 use Rattle.case_trees.specs.Standing.{EachLeaf, EachLeafIn, EachLeafOf, LeafProperty}
 use Rattle.tree_translation.specs.Conditions.{with_function}
 use Rattle.tree_translation.specs.Hidden.{visible}
-use Rattle.tree_translation.specs.Recursion.{Recursion, first_positions}
-use Rattle.tree_translation.specs.RightSides.{place_with, with_calls}
+use Rattle.tree_translation.specs.Recursion.{Recursion}
+use Rattle.tree_translation.specs.RightSides.{Place, place_with, with_calls}
 use Rattle.tree_translation.specs.Standings.{all_placed, placed}
-use Rattle.leaf_terms.specs.CodeRightSides.{calls_made, side_with}
+use Rattle.leaf_terms.specs.CallsApart.{CallsStandApart}
+use Rattle.leaf_terms.specs.CodeRightSides.{calls_made, low_or_deep, side_with}
+use Rattle.leaf_terms.proofs.LeafTerms.{calls-bounded}
 use Rattle.replay_laws.proofs.AnsweredRuns.{widened-low}
 use Rattle.entry_laws.proofs.OnlyConstants.{Each, each-all, each-map}
 use Rattle.translation_laws.specs.Laws.{LeafMade}
 use Rattle.part_laws.proofs.AnsweredParts.{part-answers}
-use Rattle.leaf_laws.specs.Laws.{DropsNoCall, IsLowLeaf, LeafAnswers, PartIsExact}
-use Rattle.leaf_laws.proofs.DroppedCalls.{side-drops}
+use Rattle.leaf_laws.specs.Laws.{IsLowLeaf, LeafAnswers, PartIsExact}
 use Rattle.leaf_laws.proofs.LowLeaves.{split-low}
-use Rattle.leaf_laws.proofs.MadeCalls.{IsLow, calm, low-all, low-made}
+use Rattle.leaf_laws.proofs.MadeCalls.{Any, IsAnswered, IsLow, IsMadeOf, answer-there, any-answered, bounded-made, calls-answered, calm, low-all}
+use Rattle.leaf_laws.proofs.SideCalls.{side-apart}
 
 pub leaf-answers : LeafAnswers
-leaf-answers w clause context goal substitution terms binds low drops n hidden h = by w.recursion (drops n hidden) h
+leaf-answers w clause context goal substitution terms binds low apart n hidden h = by w.recursion (apart n hidden) h
   where
     here : List Term
     here = all_placed (visible n hidden) n terms
@@ -37,15 +40,22 @@ leaf-answers w clause context goal substitution terms binds low drops n hidden h
     here-low : Each IsLow (all_placed (visible n hidden) n terms)
     here-low = each-map (placed (visible n hidden) n) terms (λ t is. widened-low n hidden t is) (low-all terms low)
 
-    some : (r : Recursion) (levels : List ℕ) → DropsNoCall w.plan.base (first_positions r) side → IsLow (with_calls w.number w.plan (place_with n levels (Some r) here) 0 [] side)
-        → calls_made w.number w.plan (place_with n levels (Some r) here) 0 [] side ≡ Ok (with_calls w.number w.plan (place_with n levels (Some r) here) 0 [] side)
-    some r [] d k = calm w.number w.plan (place_with n [] (Some r) here) 0 [] side (λ e. refl)
-    some r (p ∷ levels) d k = low-made w.number w.plan (place_with n (p ∷ levels) (Some r) here) r (Var (n - (p + 1))) refl here-low 0 [] side d k
+    made : (place : Place) → IsAnswered Any (calls_made w.number w.plan place 0 [] side) → IsLow (with_calls w.number w.plan place 0 [] side)
+        → and_then (calls_made w.number w.plan place 0 [] side) low_or_deep ≡ Ok (with_calls w.number w.plan place 0 [] side)
+    made place answered k =
+        let is = answer-there Any (calls_made w.number w.plan place 0 [] side) answered in
+        calls-bounded w.number w.plan place side is.answer is.is ∙ bounded-made (with_calls w.number w.plan place 0 [] side) k
 
-    by : (o : Option Recursion) → IfSome o (λ r. DropsNoCall w.plan.base (first_positions r) side) → IsLow (with_calls w.number w.plan (place_with n hidden o here) 0 [] side)
-        → calls_made w.number w.plan (place_with n hidden o here) 0 [] side ≡ Ok (with_calls w.number w.plan (place_with n hidden o here) 0 [] side)
-    by None d k = calm w.number w.plan (place_with n hidden None here) 0 [] side (λ e. refl)
-    by (Some r) d k = some r hidden d k
+    some : (r : Recursion) (levels : List ℕ) → CallsStandApart w.plan.base r.position side → IsAnswered Any (calls_made w.number w.plan (place_with n levels (Some r) here) 0 [] side)
+    some r [] d = calm w.number w.plan (place_with n [] (Some r) here) refl 0 [] side
+    some r (p ∷ levels) d =
+        any-answered (IsMadeOf w.plan.base side) (calls_made w.number w.plan (place_with n (p ∷ levels) (Some r) here) 0 [] side)
+        (calls-answered w.number w.plan (place_with n (p ∷ levels) (Some r) here) r (Var (n - (p + 1))) refl here-low 0 [] side d (λ called i place. tt))
+
+    by : (o : Option Recursion) → IfSome o (λ r. CallsStandApart w.plan.base r.position side) → IsLow (with_calls w.number w.plan (place_with n hidden o here) 0 [] side)
+        → and_then (calls_made w.number w.plan (place_with n hidden o here) 0 [] side) low_or_deep ≡ Ok (with_calls w.number w.plan (place_with n hidden o here) 0 [] side)
+    by None d k = made (place_with n hidden None here) (calm w.number w.plan (place_with n hidden None here) refl 0 [] side) k
+    by (Some r) d k = made (place_with n hidden (Some r) here) (some r hidden d) k
 
 -- ---- trees
 
@@ -70,18 +80,18 @@ mutual
   branch-has S P Q each n (tree.Solved steps origins subtree) scoped h = leaves-have S P Q each subtree scoped.1 h
 
 pub part-exact : PartIsExact
-part-exact w uses at context goal terms node is same drops low =
+part-exact w uses at context goal terms node is same apart low =
     part-answers w uses at context goal terms node is
     (leaves-have w.signature IsLowLeaf (LeafMade w) leaf w.part.tree is.part.tree_scoped
     (IfOk-at_ok (EachLeaf IsLowLeaf) is.part.splits (split-low (with_function w.signature w.plan) context goal terms (clauses is.part.clauses) is.part.units)))
     low
   where
     side : (r : Option Recursion) (n : ℕ) (hidden : List ℕ) (m clause : ℕ) (substitution terms binds : List Term) → Each (IsScoped w.signature m) substitution → Each (IsScoped w.signature m) terms → Each (IsScoped w.signature m) binds
-        → IfSome r (λ r. DropsNoCall w.plan.base (first_positions r) (get_or w.part.sides clause (Sort 0)))
-        → IfSome r (λ r. DropsNoCall w.plan.base (first_positions r) (side_with w.plan w.part w.order (visible n hidden) n clause substitution terms binds))
+        → IfSome r (λ r. CallsStandApart w.plan.base r.position (get_or w.part.sides clause (Sort 0)))
+        → IfSome r (λ r. CallsStandApart w.plan.base r.position (side_with w.plan w.part w.order (visible n hidden) n clause substitution terms binds))
     side None n hidden m clause substitution terms binds hs ht hb d = tt
     side (Some r) n hidden m clause substitution terms binds hs ht hb d =
-        side-drops w.signature w.plan w.part w.order (first_positions r) n hidden m clause substitution terms binds same hs ht hb d
+        side-apart w.signature w.plan w.part w.order r.position n hidden m clause substitution terms binds same hs ht hb d
 
     leaf : (clause : ℕ) (context : Telescope) (goal : Term) (substitution terms binds : List Term) → IsScopedLeaf w.signature context goal substitution terms binds
         → IsLowLeaf clause context goal substitution terms binds → LeafMade w clause context goal substitution terms binds
@@ -89,4 +99,4 @@ part-exact w uses at context goal terms node is same drops low =
         leaf-answers w clause context goal substitution terms binds h
         (λ n hidden.
         side w.recursion n hidden (length context) clause substitution terms binds (each-all (IsScoped w.signature (length context)) substitution scoped.substitution) (each-all (IsScoped w.signature (length context)) terms scoped.terms) (each-all (IsScoped w.signature (length context)) binds scoped.binds)
-        (drops clause))
+        (apart clause))

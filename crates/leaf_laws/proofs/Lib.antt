@@ -1,5 +1,4 @@
-mod DroppedCalls
 mod ExactLeaves
 mod LowLeaves
 mod MadeCalls
-mod PartHeights
+mod SideCalls

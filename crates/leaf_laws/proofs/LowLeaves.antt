@@ -4,7 +4,6 @@ use Rattle.theory.specs.Telescopes.{Telescope}
 use Rattle.theory.specs.Terms.{Term}
 use Rattle.theory.specs.Signatures.{Signature}
 use Rattle.core_terms.specs.Answers.{and_then, are_low, is_low}
-use Rattle.core_terms.specs.CaseTrees as tree
 use Rattle.core_terms.specs.Clauses.{Clauses}
 use Rattle.core_terms.specs.Patterns.{Pat}
 use Rattle.core_terms.specs.declared.stop.Stop.{Stop}

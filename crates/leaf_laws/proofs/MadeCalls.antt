@@ -1,7 +1,6 @@
--- Calls are made where the whole term is no higher than a term may be: what a call keeps stands in the term that is made.
-use Rattle.std.proofs.Common.{◌≡◌, inl, inr, ℕ, zero, suc, ◌+◌, ◌-◌, ◌<◌, ◌≤◌, ◌==◌, ◌&&◌, ◌||◌, nat_lt, Bool, true, false, cond, if◌then◌else◌, Some, None, Result, Ok, Err, List, [], ◌∷◌, ◌++◌, length, drop, get_or, flat_map, refl, sym, ap, ap₂, ◌∙◌, subst as transport, arith, append_assoc}
-use Rattle.std.specs.List.{range_with_len}
-use Rattle.std.proofs.lemmas.Bool.{true≢false, eqb-true}
+-- The calls of a right side are made where the leaf's terms are low and no call is the argument of another one at the position of recursion.
+use Rattle.std.proofs.Common.{◌≡◌, ℕ, zero, suc, ◌+◌, ◌-◌, ◌≤◌, ◌==◌, ◌&&◌, nat_lt, Bool, true, false, cond, if◌then◌else◌, Option, Some, None, option_map, Result, Ok, Err, List, [], ◌∷◌, length, get_or, refl, sym, ap, ◌∙◌, subst as transport, arith}
+use Rattle.std.proofs.lemmas.Bool.{true≢false}
 use Rattle.std.proofs.lemmas.Bool.Decides.{nat_tests}
 use Rattle.std.proofs.lemmas.List.{length-append}
 use Rattle.theory.specs.Terms.{Term, Var, Sort, Pi, Lam, App, Let, Const, Fam, Con, Elim, AxiomK, height, lift}
@@ -11,23 +10,17 @@ use Rattle.theory.proofs.Heights.{height-lift}
 use Rattle.core_terms.specs.Answers.{and_then, are_low, bounded, is_low}
 use Rattle.core_terms.specs.declared.stop.Stop.{Stop}
 use Rattle.core_terms.specs.declared.stop.Stop.TheVariants.{Deep}
-use Rattle.core_terms.proofs.Answers.{low-is}
-use Rattle.case_below_gen.specs.PartTests.{has_part}
-use Rattle.case_below_gen.specs.Paths.{Descent, path_of, some_bounded}
+use Rattle.core_terms.proofs.Answers.{Splits, and_then-splits, low-is}
+use Rattle.case_below_gen.specs.Paths.{path_to}
 use Rattle.tele_eq.specs.Items.{term_at}
-use Rattle.tele_eq.specs.Levels.{is_among}
 use Rattle.unification.specs.Injecting.{lifted}
-use Rattle.unification.proofs.Cases.{below-or_from}
-use Rattle.structural_rec.specs.Calls.{has_constant}
-use Rattle.structural_rec.specs.Orders.{unless_among}
-use Rattle.tree_translation.specs.Naming.{Naming, helper_name}
+use Rattle.tree_translation.specs.Naming.{Naming}
 use Rattle.tree_translation.specs.Plans.{Plan}
-use Rattle.tree_translation.specs.Recursion.{Recursion, first_positions, remaining_positions, terms_at}
-use Rattle.tree_translation.specs.RightSides.{Place, below_behind, call_in, descent_at, helper_call, path_or_below, with_calls}
-use Rattle.leaf_terms.specs.CodeRightSides.{applied_made, applied_path, both_made, call_made, calls_made, let_made, or_below, path_made}
-use Rattle.entry_laws.proofs.OnlyConstants.{Each, each-left, each-right, each-get}
-use Rattle.leaf_laws.specs.Laws.{DropsNoCall, is_function}
-use Rattle.leaf_laws.proofs.PartHeights.{path-part}
+use Rattle.tree_translation.specs.Recursion.{Recursion}
+use Rattle.tree_translation.specs.RightSides.{Place, descent_at, helper_call}
+use Rattle.leaf_terms.specs.CallsApart.{CallsStandApart, is_function}
+use Rattle.leaf_terms.specs.CodeRightSides.{applied_made, applied_path, both_made, call_made, calls_made, let_made, or_below, or_tower, or_towers, part_made, path_for}
+use Rattle.entry_laws.proofs.OnlyConstants.{Each, each-get}
 
 -- ---- heights
 
@@ -36,21 +29,6 @@ IsLow t = height t ≤ 2000
 
 low-test : (t : Term) → IsLow t → is_low t ≡ true
 low-test t h = grind (arith, nat_tests)
-
--- the parts of a low application
-pub record AreLowParts (h : Term) (us : List Term) : Type 0 where
-  pub head : IsLow h
-  pub arguments : Each IsLow us
-
-pub low-applied : (h : Term) (us : List Term) → IsLow (applied h us) → AreLowParts h us
-low-applied h [] low = record { head = low; arguments = Each.none }
-low-applied h (u ∷ us) low = by (low-applied (App h u) us low)
-  where
-    by : AreLowParts (App h u) us → AreLowParts h (u ∷ us)
-    by is =
-        let whole : height (App h u) ≤ 2000 = is.head in
-        let one : IsLow u = omega arith in
-        record { head = omega arith; arguments = Each.more one is.arguments }
 
 pub low-all : (terms : List Term) → are_low terms ≡ true → Each IsLow terms
 low-all [] h = Each.none
@@ -64,299 +42,172 @@ lifted-low : (under : ℕ) (terms : List Term) → Each IsLow terms → Each IsL
 lifted-low under [] Each.none = Each.none
 lifted-low under (t ∷ terms) (Each.more h all) = Each.more (let same = height-lift t under 0 in omega arith) (lifted-low under terms all)
 
--- ---- answers
-
-bounded-made : (t : Term) → IsLow t → bounded t ≡ Ok t
+pub bounded-made : (t : Term) → IsLow t → bounded t ≡ Ok t
 bounded-made t h = ap (λ b. let answer : Result Term Stop = if b then Ok t else Err Deep in answer) (low-test t h)
 
--- the path, where it is no higher than a term may be
-path-made : (d : Descent) (whole below : Term) → IsLow whole → IsLow (path_or_below d whole below) → path_made d whole below ≡ Ok (path_or_below d whole below)
-path-made d whole below low h = by (has_part d.family d.shape d.part whole) refl h
-  where
-    by : (b : Bool) → has_part d.family d.shape d.part whole ≡ b → IsLow (cond b (path_of d whole below) below)
-        → and_then (if b then (if is_low whole && is_low d.part then some_bounded (path_of d whole below) else Err Deep) else Ok None) (λ path. Ok (or_below below path))
-        ≡ Ok (cond b (path_of d whole below) below)
-    by true e k =
-        let kept = path-part d whole below e in
-        let high : height (path_of d whole below) ≤ 2000 = k in
-        let part : height d.part ≤ 2000 = omega arith in
-        ap₂ (λ a b. and_then (if a && b then some_bounded (path_of d whole below) else Err Deep) (λ path. Ok (or_below below path))) (low-test whole low) (low-test d.part part)
-        ∙ ap (λ (r : Result Term Stop). and_then (and_then r (λ u. Ok (Some u))) (λ path. Ok (or_below below path))) (bounded-made (path_of d whole below) k)
-    by false e k = refl
+-- ---- answers
 
--- ---- terms without calls
+-- there is an answer, of which P holds
+abbrev pub IsAnswered : {A : Type 0} → (A → Type 0) → Result A Stop → Type 0
+IsAnswered P r = Splits P (λ e. ⊥) r
 
-or-first : (a b : Bool) → a ≡ true → (a || b) ≡ true
-or-first true b h = refl
-or-first false b h = absurd (true≢false (sym h))
+abbrev pub Any : {A : Type 0} → A → Type 0
+Any a = Unit {0}
 
-or-second : (a b : Bool) → b ≡ true → (a || b) ≡ true
-or-second true b h = refl
-or-second false b h = h
+then-answered : {A B : Type 0} (P : A → Type 0) (Q : B → Type 0) (r : Result A Stop) (go : A → Result B Stop) → IsAnswered P r
+    → ((a : A) → P a → IsAnswered Q (go a)) → IsAnswered Q (and_then r go)
+then-answered P Q r go h k = and_then-splits P Q (λ e. ⊥) r go h k
 
-pub record AreFalse (a b : Bool) : Type 0 where
-  pub first : a ≡ false
-  pub second : b ≡ false
+pub record IsThere {A : Type 0} (r : Result A Stop) : Type 0 where
+  pub answer : A
+  pub is : r ≡ Ok answer
 
-pub or-false : (a b : Bool) → (a || b) ≡ false → AreFalse a b
-or-false false b h = record { first = refl; second = h }
-or-false true b h = absurd (true≢false h)
+pub answer-there : {A : Type 0} (P : A → Type 0) (r : Result A Stop) → IsAnswered P r → IsThere r
+answer-there P (Ok a) h = record { answer = a; is = refl }
+answer-there P (Err e) h = elim h [ ]
+
+-- an argument is made
+abbrev pub IsMade : Option Term → Type 0
+IsMade None = ⊥
+IsMade (Some t) = Unit {0}
+
+part-answered : (r : Result (Option Term) Stop) → IsAnswered Any r → IsAnswered Any (part_made r)
+part-answered r h = then-answered Any Any r (λ t. Ok (or_tower t)) h (λ t any. tt)
+
+both-answered : (form : Term → Term → Term) (r s : Result Term Stop) → IsAnswered Any r → IsAnswered Any s → IsAnswered Any (both_made form r s)
+both-answered form r s h k =
+    then-answered Any Any r (λ a. and_then s (λ b. Ok (form a b))) h (λ a any. then-answered Any Any s (λ b. Ok (form a b)) k (λ b any. tt))
+
+let-answered : (r s q : Result Term Stop) → IsAnswered Any r → IsAnswered Any s → IsAnswered Any q → IsAnswered Any (let_made r s q)
+let-answered r s q h k l = then-answered Any Any r (λ a. both_made (Let a) s q) h (λ a any. both-answered (Let a) s q k l)
+
+applied-answered : (os : List (Option Term)) (r : Result Term Stop) → IsAnswered Any r → IsAnswered IsMade (applied_made os r)
+applied-answered os r h = then-answered Any IsMade r (λ s. Ok (Some (applied s (or_towers os)))) h (λ s any. tt)
+
+pub any-answered : {A : Type 0} (P : A → Type 0) (r : Result A Stop) → IsAnswered P r → IsAnswered Any r
+any-answered P (Ok a) h = tt
+any-answered P (Err e) h = h
+
+-- ---- calls
+
+-- what is made of a term is there, unless the term is a call
+abbrev pub IsMadeOf : (base : ℕ) → Term → Option Term → Type 0
+IsMadeOf base t o = is_function base (head_of t) ≡ false → IsMade o
 
 module _ (number : Naming) (plan : Plan) (l : Place) where
-  -- two parts of a term that are made
-  pi-made : (under : ℕ) (arguments : List Term) (a b : Term) → calls_made number plan l under [] a ≡ Ok (with_calls number plan l under [] a)
-      → calls_made number plan l (under + 1) [] b ≡ Ok (with_calls number plan l (under + 1) [] b)
-      → calls_made number plan l under arguments (Pi a b) ≡ Ok (with_calls number plan l under arguments (Pi a b))
-  pi-made under arguments a b ha hb = ap₂ (λ (x y : Result Term Stop). applied_made arguments (both_made Pi x y)) ha hb
+  abbrev HasParts : ℕ → Term → Type 0
+  HasParts under t = IsAnswered Any (calls_made number plan l under [] t)
 
-  lam-made : (under : ℕ) (arguments : List Term) (a b : Term) → calls_made number plan l under [] a ≡ Ok (with_calls number plan l under [] a)
-      → calls_made number plan l (under + 1) [] b ≡ Ok (with_calls number plan l (under + 1) [] b)
-      → calls_made number plan l under arguments (Lam a b) ≡ Ok (with_calls number plan l under arguments (Lam a b))
-  lam-made under arguments a b ha hb = ap₂ (λ (x y : Result Term Stop). applied_made arguments (both_made Lam x y)) ha hb
+  pi-answered : (under : ℕ) (os : List (Option Term)) (a b : Term) → HasParts under a → HasParts (under + 1) b → IsAnswered IsMade (calls_made number plan l under os (Pi a b))
+  pi-answered under os a b h k =
+      applied-answered os (both_made Pi (part_made (calls_made number plan l under [] a)) (part_made (calls_made number plan l (under + 1) [] b)))
+      (both-answered Pi (part_made (calls_made number plan l under [] a)) (part_made (calls_made number plan l (under + 1) [] b))
+      (part-answered (calls_made number plan l under [] a) h) (part-answered (calls_made number plan l (under + 1) [] b) k))
 
-  let-made : (under : ℕ) (arguments : List Term) (a t b : Term) → calls_made number plan l under [] a ≡ Ok (with_calls number plan l under [] a)
-      → calls_made number plan l under [] t ≡ Ok (with_calls number plan l under [] t)
-      → calls_made number plan l (under + 1) [] b ≡ Ok (with_calls number plan l (under + 1) [] b)
-      → calls_made number plan l under arguments (Let a t b) ≡ Ok (with_calls number plan l under arguments (Let a t b))
-  let-made under arguments a t b ha ht hb =
-      ap (λ (x : Result Term Stop). applied_made arguments (let_made x (calls_made number plan l under [] t) (calls_made number plan l (under + 1) [] b))) ha
-      ∙ ap₂ (λ (x y : Result Term Stop). applied_made arguments (let_made (Ok (with_calls number plan l under [] a)) x y)) ht hb
+  lam-answered : (under : ℕ) (os : List (Option Term)) (a b : Term) → HasParts under a → HasParts (under + 1) b → IsAnswered IsMade (calls_made number plan l under os (Lam a b))
+  lam-answered under os a b h k =
+      applied-answered os (both_made Lam (part_made (calls_made number plan l under [] a)) (part_made (calls_made number plan l (under + 1) [] b)))
+      (both-answered Lam (part_made (calls_made number plan l under [] a)) (part_made (calls_made number plan l (under + 1) [] b))
+      (part-answered (calls_made number plan l under [] a) h) (part-answered (calls_made number plan l (under + 1) [] b) k))
 
-  -- a term in which the function does not stand, or no recursion is there
-  pub calm : (under : ℕ) (arguments : List Term) (t : Term) → (has_constant plan.base t ≡ true → l.recursion ≡ None)
-      → calls_made number plan l under arguments t ≡ Ok (with_calls number plan l under arguments t)
-  calm under arguments (App f a) h =
-      ap (λ (x : Result Term Stop). and_then x (λ u. calls_made number plan l under (u ∷ arguments) f))
-      (calm under [] a (λ e. h (or-second (has_constant plan.base f) (has_constant plan.base a) e)))
-      ∙ calm under (with_calls number plan l under [] a ∷ arguments) f (λ e. h (or-first (has_constant plan.base f) (has_constant plan.base a) e))
-  calm under arguments (Pi a b) h =
-      pi-made under arguments a b (calm under [] a (λ e. h (or-first (has_constant plan.base a) (has_constant plan.base b) e)))
-      (calm (under + 1) [] b (λ e. h (or-second (has_constant plan.base a) (has_constant plan.base b) e)))
-  calm under arguments (Lam a b) h =
-      lam-made under arguments a b (calm under [] a (λ e. h (or-first (has_constant plan.base a) (has_constant plan.base b) e)))
-      (calm (under + 1) [] b (λ e. h (or-second (has_constant plan.base a) (has_constant plan.base b) e)))
-  calm under arguments (Let a t b) h =
-      let-made under arguments a t b (calm under [] a (λ e. h (or-first (has_constant plan.base a) (has_constant plan.base t || has_constant plan.base b) e)))
-      (calm under [] t
-      (λ e. h (or-second (has_constant plan.base a) (has_constant plan.base t || has_constant plan.base b) (or-first (has_constant plan.base t) (has_constant plan.base b) e))))
-      (calm (under + 1) [] b
-      (λ e. h (or-second (has_constant plan.base a) (has_constant plan.base t || has_constant plan.base b) (or-second (has_constant plan.base t) (has_constant plan.base b) e))))
-  calm under arguments (Const c) h = by (nat_lt c plan.base) (c == plan.base) refl
-    where
-      by : (b d : Bool) → (c == plan.base) ≡ d
-          → cond b (Ok (applied (Const c) arguments))
-          (cond d (call_made number plan l under arguments l.recursion) (Ok (helper_call number plan l under (c - plan.base) arguments)))
-          ≡ Ok (cond b (applied (Const c) arguments) (cond d (call_in number plan l under arguments l.recursion) (helper_call number plan l under (c - plan.base) arguments)))
-      by true d e = refl
-      by false true e =
-          let none = h e in
-          ap (call_made number plan l under arguments) none ∙ sym (ap (λ o. Ok (call_in number plan l under arguments o)) none)
-      by false false e = refl
-  calm under arguments (Var n) h = refl
-  calm under arguments (Sort i) h = refl
-  calm under arguments (Fam n) h = refl
-  calm under arguments (Con n c) h = refl
-  calm under arguments (Elim n m) h = refl
-  calm under arguments (AxiomK i m) h = refl
+  let-term-answered : (under : ℕ) (os : List (Option Term)) (a t b : Term) → HasParts under a → HasParts under t → HasParts (under + 1) b
+      → IsAnswered IsMade (calls_made number plan l under os (Let a t b))
+  let-term-answered under os a t b h m k =
+      applied-answered os (let_made (part_made (calls_made number plan l under [] a)) (part_made (calls_made number plan l under [] t)) (part_made (calls_made number plan l (under + 1) [] b)))
+      (let-answered (part_made (calls_made number plan l under [] a)) (part_made (calls_made number plan l under [] t)) (part_made (calls_made number plan l (under + 1) [] b))
+      (part-answered (calls_made number plan l under [] a) h) (part-answered (calls_made number plan l under [] t) m) (part-answered (calls_made number plan l (under + 1) [] b) k))
 
-  -- ---- what heads keep
+  made-of : (t : Term) (r : Result (Option Term) Stop) → IsAnswered IsMade r → IsAnswered (IsMadeOf plan.base t) r
+  made-of t (Ok o) h = λ e. h
+  made-of t (Err e) h = h
 
-  -- arguments of what is no call of the function stand in the term
-  others-low : (under : ℕ) (arguments : List Term) (f : Term) → is_function plan.base (head_of f) ≡ false → IsLow (with_calls number plan l under arguments f) → Each IsLow arguments
-  others-low under arguments (App g b) e h = rest (others-low under (with_calls number plan l under [] b ∷ arguments) g e h)
-    where
-      rest : Each IsLow (with_calls number plan l under [] b ∷ arguments) → Each IsLow arguments
-      rest (Each.more low all) = all
-  others-low under arguments (Const c) e h = by (nat_lt c plan.base) (c == plan.base) e h
-    where
-      by : (b d : Bool) → d ≡ false
-          → IsLow (cond b (applied (Const c) arguments) (cond d (call_in number plan l under arguments l.recursion) (helper_call number plan l under (c - plan.base) arguments)))
-          → Each IsLow arguments
-      by true d e k = (low-applied (Const c) arguments k).arguments
-      by false false e k = each-left arguments (below_behind under l.recursion) (low-applied (Const (number (helper_name plan.name (c - plan.base)))) (arguments ++ below_behind under l.recursion) k).arguments
-      by false true e k = absurd (true≢false e)
-  others-low under arguments (Pi a b) e h = (low-applied (Pi (with_calls number plan l under [] a) (with_calls number plan l (under + 1) [] b)) arguments h).arguments
-  others-low under arguments (Lam a b) e h = (low-applied (Lam (with_calls number plan l under [] a) (with_calls number plan l (under + 1) [] b)) arguments h).arguments
-  others-low under arguments (Let a t b) e h =
-      (low-applied (Let (with_calls number plan l under [] a) (with_calls number plan l under [] t) (with_calls number plan l (under + 1) [] b)) arguments h).arguments
-  others-low under arguments (Var n) e h = (low-applied (Var n) arguments h).arguments
-  others-low under arguments (Sort i) e h = (low-applied (Sort i) arguments h).arguments
-  others-low under arguments (Fam n) e h = (low-applied (Fam n) arguments h).arguments
-  others-low under arguments (Con n c) e h = (low-applied (Con n c) arguments h).arguments
-  others-low under arguments (Elim n m) e h = (low-applied (Elim n m) arguments h).arguments
-  others-low under arguments (AxiomK i m) e h = (low-applied (AxiomK i m) arguments h).arguments
-
-  -- a call with all its arguments, of which those in f come first
-  pub record IsCallOf (under : ℕ) (arguments : List Term) (f : Term) : Type 0 where
-    pub first : List Term
-    pub count : length first ≡ length (spine_of f)
-    pub is : with_calls number plan l under arguments f ≡ call_in number plan l under (first ++ arguments) l.recursion
-
-  call-of : (under : ℕ) (arguments : List Term) (f : Term) → is_function plan.base (head_of f) ≡ true → IsCallOf under arguments f
-  call-of under arguments (App g b) e =
-      let v = with_calls number plan l under [] b in
-      let inner = call-of under (v ∷ arguments) g e in
-      record {
-        first = inner.first ++ v ∷ [];
-        count = (let one = length-append inner.first (v ∷ []) in let other = length-append (spine_of g) (b ∷ []) in let same = inner.count in omega arith);
-        is = inner.is ∙ ap (λ all. call_in number plan l under all l.recursion) (sym (append_assoc inner.first (v ∷ []) arguments));
-      }
-  call-of under arguments (Const c) e = record {
-    first = [];
-    count = refl;
-    is =
-        (let same : c ≡ plan.base = eqb-true c plan.base e in
-        ap (λ b. cond b (applied (Const c) arguments) (cond (c == plan.base) (call_in number plan l under arguments l.recursion) (helper_call number plan l under (c - plan.base) arguments))) (not-less c plan.base same)
-        ∙ ap (λ b. cond b (call_in number plan l under arguments l.recursion) (helper_call number plan l under (c - plan.base) arguments)) e);
-  }
-    where
-      not-less : (a b : ℕ) → a ≡ b → nat_lt a b ≡ false
-      not-less a b same = grind (arith, nat_tests)
-  call-of under arguments (Var n) e = absurd (true≢false (sym e))
-  call-of under arguments (Sort i) e = absurd (true≢false (sym e))
-  call-of under arguments (Pi a b) e = absurd (true≢false (sym e))
-  call-of under arguments (Lam a b) e = absurd (true≢false (sym e))
-  call-of under arguments (Let a t b) e = absurd (true≢false (sym e))
-  call-of under arguments (Fam n) e = absurd (true≢false (sym e))
-  call-of under arguments (Con n c) e = absurd (true≢false (sym e))
-  call-of under arguments (Elim n m) e = absurd (true≢false (sym e))
-  call-of under arguments (AxiomK i m) e = absurd (true≢false (sym e))
-
--- ---- what a call keeps
-
-get-middle : (first : List Term) (u : Term) (rest : List Term) → get_or (first ++ u ∷ rest) (length first) (Sort 0) ≡ u
-get-middle [] u rest = refl
-get-middle (x ∷ first) u rest = get-middle first u rest
-
-drop-middle : (k : ℕ) (first : List Term) (u : Term) (rest : List Term) → k ≤ length first → drop k (first ++ u ∷ rest) ≡ drop k first ++ u ∷ rest
-drop-middle zero first u rest le = refl
-drop-middle (suc k) [] u rest le = absurd (omega arith)
-drop-middle (suc k) (x ∷ first) u rest le = drop-middle k first u rest (omega arith)
-
-each-at : (positions : List ℕ) (terms : List Term) (i : ℕ) → is_among i positions ≡ true → Each IsLow (terms_at positions terms) → IsLow (term_at terms i)
-each-at [] terms i e h = absurd (true≢false (sym e))
-each-at (p ∷ positions) terms i e (Each.more h all) = by (p == i) refl e (λ k. each-at positions terms i k all)
-  where
-    by : (b : Bool) → (p == i) ≡ b → (b || is_among i positions) ≡ true → (is_among i positions ≡ true → IsLow (term_at terms i)) → IsLow (term_at terms i)
-    by true same k rest = transport (λ j. IsLow (term_at terms j)) (eqb-true p i same) h
-    by false other k rest = rest k
-
--- a position that is none of the first ones, among those that are left
-left-among : (first : List ℕ) (i from count : ℕ) → is_among i first ≡ false → from ≤ i → i < from + count → is_among i (flat_map (unless_among first) (range_with_len from count)) ≡ true
-left-among first i from zero not le lt = absurd (omega arith)
-left-among first i from (suc count) not le lt = by (from == i) refl (λ more. left-among first i (from + 1) count not more (omega arith))
-  where
-    by : (b : Bool) → (from == i) ≡ b → (from + 1 ≤ i → is_among i (flat_map (unless_among first) (range_with_len (from + 1) count)) ≡ true)
-        → is_among i (unless_among first from ++ flat_map (unless_among first) (range_with_len (from + 1) count)) ≡ true
-    by true e rest =
-        let same : from ≡ i = eqb-true from i e in
-        ap (λ b. is_among i (cond b [] (from ∷ []) ++ flat_map (unless_among first) (range_with_len (from + 1) count))) (ap (λ j. is_among j first) same ∙ not)
-        ∙ ap (λ b. b || is_among i (flat_map (unless_among first) (range_with_len (from + 1) count))) e
-    by false e rest = later (is_among from first) (rest (grind (arith, nat_tests)))
-      where
-        later : (b : Bool) → is_among i (flat_map (unless_among first) (range_with_len (from + 1) count)) ≡ true
-            → is_among i (cond b [] (from ∷ []) ++ flat_map (unless_among first) (range_with_len (from + 1) count)) ≡ true
-        later true k = k
-        later false k = or-second (from == i) _ k
-
-drop-own : (xs ys : List ℕ) → drop (length xs) (xs ++ ys) ≡ ys
-drop-own [] ys = refl
-drop-own (x ∷ xs) ys = drop-own xs ys
-
-remaining-among : (count : ℕ) (r : Recursion) (i : ℕ) → is_among i (first_positions r) ≡ false → i < count → is_among i (remaining_positions count r) ≡ true
-remaining-among count r i not lt =
-    ap (is_among i) (drop-own (first_positions r) (flat_map (unless_among (first_positions r)) (range_with_len 0 count)))
-    ∙ left-among (first_positions r) i 0 count not (omega arith) (omega arith)
-
-module _ (number : Naming) (plan : Plan) (l : Place) (r : Recursion) (below : Term) (there : l.recursion ≡ Some (r, below)) (low : Each IsLow l.terms) where
-  -- an argument that a call keeps stands in the term
-  kept-low : (under : ℕ) (first : List Term) (u : Term) (rest : List Term) → is_among (length first) (first_positions r) ≡ false
-      → IsLow (call_in number plan l under (first ++ u ∷ rest) l.recursion) → IsLow u
-  kept-low under first u rest not h = elim (below-or_from (length first) plan.arity) [
-    | inl lt ↦
-        transport IsLow (get-middle first u rest)
-        (each-at (remaining_positions plan.arity r) all (length first) (remaining-among plan.arity r (length first) not lt)
-        (each-left (terms_at (remaining_positions plan.arity r) all) (drop plan.arity all) parts))
-    | inr le ↦
-        middle (drop plan.arity first)
-        (transport (Each IsLow) (drop-middle plan.arity first u rest le)
-        (each-right (terms_at (remaining_positions plan.arity r) all) (drop plan.arity all) parts))
-  ]
-    where
-      all : List Term
-      all = first ++ u ∷ rest
-
-      parts : Each IsLow (terms_at (remaining_positions plan.arity r) (first ++ u ∷ rest) ++ drop plan.arity (first ++ u ∷ rest))
-      parts =
-          (low-applied
-          (path_or_below (descent_at number plan r (lifted under l.terms) (term_at (first ++ u ∷ rest) r.position)) (term_at (lifted under l.terms) r.position) (lift below under 0))
-          (terms_at (remaining_positions plan.arity r) (first ++ u ∷ rest) ++ drop plan.arity (first ++ u ∷ rest))
-          (transport (λ o. IsLow (call_in number plan l under (first ++ u ∷ rest) o)) there h)).arguments
-
-      middle : (before : List Term) → Each IsLow (before ++ u ∷ rest) → IsLow u
-      middle before each = first-of (each-right before (u ∷ rest) each)
-        where
-          first-of : Each IsLow (u ∷ rest) → IsLow u
-          first-of (Each.more k others) = k
-
-  -- a call is made, where it is low
-  call-made : (under : ℕ) (arguments : List Term) → IsLow (call_in number plan l under arguments l.recursion)
-      → call_made number plan l under arguments l.recursion ≡ Ok (call_in number plan l under arguments l.recursion)
-  call-made under arguments h =
-      transport (λ o. IsLow (call_in number plan l under arguments o) → call_made number plan l under arguments o ≡ Ok (call_in number plan l under arguments o)) (sym there) by h
-    where
-      by : IsLow (call_in number plan l under arguments (Some (r, below))) → call_made number plan l under arguments (Some (r, below)) ≡ Ok (call_in number plan l under arguments (Some (r, below)))
-      by k =
-          let terms = lifted under l.terms in
-          let d = descent_at number plan r terms (term_at arguments r.position) in
-          let path =
-          (low-applied (path_or_below d (term_at terms r.position) (lift below under 0))
-          (terms_at (remaining_positions plan.arity r) arguments ++ drop plan.arity arguments) k).head in
-          ap (λ (x : Result Term Stop). and_then x (λ path. Ok (applied_path plan r arguments path)))
-          (path-made d (term_at terms r.position) (lift below under 0) (each-get {P = IsLow} terms r.position (Sort 0) (omega arith) (lifted-low under l.terms low)) path)
-
-  -- all calls in a low term are made
-  pub low-made : (under : ℕ) (arguments : List Term) (t : Term) → DropsNoCall plan.base (first_positions r) t → IsLow (with_calls number plan l under arguments t)
-      → calls_made number plan l under arguments t ≡ Ok (with_calls number plan l under arguments t)
-  low-made under arguments (App f a) keeps h =
-      ap (λ (x : Result Term Stop). and_then x (λ u. calls_made number plan l under (u ∷ arguments) f))
-      (argument (is_function plan.base (head_of f)) refl (is_among (length (spine_of f)) (first_positions r)) refl (low-made under [] a keeps.1))
-      ∙ low-made under (with_calls number plan l under [] a ∷ arguments) f keeps.0 h
-    where
-      argument : (b : Bool) → is_function plan.base (head_of f) ≡ b → (d : Bool) → is_among (length (spine_of f)) (first_positions r) ≡ d
-          → (IsLow (with_calls number plan l under [] a) → calls_made number plan l under [] a ≡ Ok (with_calls number plan l under [] a))
-          → calls_made number plan l under [] a ≡ Ok (with_calls number plan l under [] a)
-      argument false e d f_there go = go (first-of (others-low number plan l under (with_calls number plan l under [] a ∷ arguments) f e h))
-        where
-          first-of : Each IsLow (with_calls number plan l under [] a ∷ arguments) → IsLow (with_calls number plan l under [] a)
-          first-of (Each.more k others) = k
-      argument true e true dropped go = calm number plan l under [] a (λ called. absurd (true≢false (sym called ∙ keeps.2 e dropped)))
-      argument true e false kept go =
-          let u = with_calls number plan l under [] a in
-          let call = call-of number plan l under (u ∷ arguments) f e in
-          go (kept-low under call.first u arguments (ap (λ k. is_among k (first_positions r)) call.count ∙ kept) (transport IsLow call.is h))
-  low-made under arguments (Pi a b) keeps h =
-      let parts : height (Pi (with_calls number plan l under [] a) (with_calls number plan l (under + 1) [] b)) ≤ 2000 = (low-applied (Pi (with_calls number plan l under [] a) (with_calls number plan l (under + 1) [] b)) arguments h).head in
-      pi-made number plan l under arguments a b (low-made under [] a keeps.0 (omega arith)) (low-made (under + 1) [] b keeps.1 (omega arith))
-  low-made under arguments (Lam a b) keeps h =
-      let parts : height (Lam (with_calls number plan l under [] a) (with_calls number plan l (under + 1) [] b)) ≤ 2000 = (low-applied (Lam (with_calls number plan l under [] a) (with_calls number plan l (under + 1) [] b)) arguments h).head in
-      lam-made number plan l under arguments a b (low-made under [] a keeps.0 (omega arith)) (low-made (under + 1) [] b keeps.1 (omega arith))
-  low-made under arguments (Let a t b) keeps h =
-      let parts : height (Let (with_calls number plan l under [] a) (with_calls number plan l under [] t) (with_calls number plan l (under + 1) [] b)) ≤ 2000 = (low-applied (Let (with_calls number plan l under [] a) (with_calls number plan l under [] t) (with_calls number plan l (under + 1) [] b)) arguments h).head in
-      let-made number plan l under arguments a t b (low-made under [] a keeps.0 (omega arith)) (low-made under [] t keeps.1 (omega arith)) (low-made (under + 1) [] b keeps.2 (omega arith))
-  low-made under arguments (Const c) keeps h = by (nat_lt c plan.base) (c == plan.base) h
+  -- without recursion
+  pub calm : l.recursion ≡ None → (under : ℕ) (os : List (Option Term)) (t : Term) → IsAnswered Any (calls_made number plan l under os t)
+  calm none under os (App f a) =
+      then-answered Any Any (calls_made number plan l under [] a) (λ u. calls_made number plan l under (u ∷ os) f) (calm none under [] a) (λ u any. calm none under (u ∷ os) f)
+  calm none under os (Const c) = by (nat_lt c plan.base) (c == plan.base)
     where
       by : (b d : Bool)
-          → IsLow (cond b (applied (Const c) arguments) (cond d (call_in number plan l under arguments l.recursion) (helper_call number plan l under (c - plan.base) arguments)))
-          → cond b (Ok (applied (Const c) arguments))
-          (cond d (call_made number plan l under arguments l.recursion) (Ok (helper_call number plan l under (c - plan.base) arguments)))
-          ≡ Ok (cond b (applied (Const c) arguments) (cond d (call_in number plan l under arguments l.recursion) (helper_call number plan l under (c - plan.base) arguments)))
-      by true d k = refl
-      by false true k = call-made under arguments k
-      by false false k = refl
-  low-made under arguments (Var n) keeps h = refl
-  low-made under arguments (Sort i) keeps h = refl
-  low-made under arguments (Fam n) keeps h = refl
-  low-made under arguments (Con n c) keeps h = refl
-  low-made under arguments (Elim n m) keeps h = refl
-  low-made under arguments (AxiomK i m) keeps h = refl
+          → IsAnswered Any (cond b (Ok (Some (applied (Const c) (or_towers os)))) (cond d (call_made number plan l under os l.recursion) (Ok (Some (helper_call number plan l under (c - plan.base) (or_towers os))))))
+      by true d = tt
+      by false true = transport (λ o. IsAnswered Any (call_made number plan l under os o)) (sym none) tt
+      by false false = tt
+  calm none under os (Pi a b) = any-answered IsMade _ (pi-answered under os a b (calm none under [] a) (calm none (under + 1) [] b))
+  calm none under os (Lam a b) = any-answered IsMade _ (lam-answered under os a b (calm none under [] a) (calm none (under + 1) [] b))
+  calm none under os (Let a t b) =
+      any-answered IsMade _ (let-term-answered under os a t b (calm none under [] a) (calm none under [] t) (calm none (under + 1) [] b))
+  calm none under os (Var n) = tt
+  calm none under os (Sort i) = tt
+  calm none under os (Fam n) = tt
+  calm none under os (Con n c) = tt
+  calm none under os (Elim n m) = tt
+  calm none under os (AxiomK i m) = tt
+
+module _ (number : Naming) (plan : Plan) (l : Place) (r : Recursion) (below : Term) (there : l.recursion ≡ Some (r, below)) (low : Each IsLow l.terms) where
+  call-answered : (under : ℕ) (os : List (Option Term)) → IsMade (get_or os r.position (Some (Sort 0))) → IsAnswered Any (call_made number plan l under os l.recursion)
+  call-answered under os made = transport (λ o. IsAnswered Any (call_made number plan l under os o)) (sym there) (by (get_or os r.position (Some (Sort 0))) made)
+    where
+      whole_low : IsLow (term_at (lifted under l.terms) r.position)
+      whole_low = each-get {P = IsLow} (lifted under l.terms) r.position (Sort 0) (omega arith) (lifted-low under l.terms low)
+
+      path : (part : Term) → IsAnswered Any (path_for number plan r (lifted under l.terms) (lift below under 0) (Some part))
+      path part =
+          transport
+          (λ b.
+          IsAnswered Any
+          (cond b (Ok (or_below (lift below under 0) (path_to (descent_at number plan r (lifted under l.terms) part) (term_at (lifted under l.terms) r.position) (lift below under 0)))) (Err Deep)))
+          (sym (low-test (term_at (lifted under l.terms) r.position) whole_low)) tt
+
+      by : (o : Option Term) → IsMade o
+          → IsAnswered Any
+          (and_then (path_for number plan r (lifted under l.terms) (lift below under 0) o) (λ path. Ok (option_map (applied_path plan r (or_towers os)) path)))
+      by None h = elim h [ ]
+      by (Some part) h =
+          then-answered Any Any (path_for number plan r (lifted under l.terms) (lift below under 0) (Some part)) (λ path. Ok (option_map (applied_path plan r (or_towers os)) path))
+          (path part) (λ p any. tt)
+
+  -- where a term is a call, the argument at the position of recursion is made
+  abbrev IsReadyFor : Term → List (Option Term) → Type 0
+  IsReadyFor t os = is_function plan.base (head_of t) ≡ true → (i : ℕ) → length (spine_of t) + i ≡ r.position → IsMade (get_or os i (Some (Sort 0)))
+
+  pub calls-answered : (under : ℕ) (os : List (Option Term)) (t : Term) → CallsStandApart plan.base r.position t → IsReadyFor t os
+      → IsAnswered (IsMadeOf plan.base t) (calls_made number plan l under os t)
+  calls-answered under os (App f a) apart ready =
+      then-answered (IsMadeOf plan.base a) (IsMadeOf plan.base (App f a)) (calls_made number plan l under [] a) (λ u. calls_made number plan l under (u ∷ os) f)
+      (calls-answered under [] a apart.1 (λ called i place. tt))
+      (λ u made. calls-answered under (u ∷ os) f apart.0 (next u made))
+    where
+      next : (u : Option Term) → IsMadeOf plan.base a u → IsReadyFor f (u ∷ os)
+      next u made called zero place = made (apart.2 called (omega arith))
+      next u made called (suc i) place = ready called i (let long = length-append (spine_of f) (a ∷ []) in omega arith)
+  calls-answered under os (Const c) apart ready = by (nat_lt c plan.base) (c == plan.base) refl
+    where
+      by : (b d : Bool) → (c == plan.base) ≡ d
+          → IsAnswered (IsMadeOf plan.base (Const c))
+          (cond b (Ok (Some (applied (Const c) (or_towers os)))) (cond d (call_made number plan l under os l.recursion) (Ok (Some (helper_call number plan l under (c - plan.base) (or_towers os))))))
+      by true d e = λ other. tt
+      by false true e = called (call_made number plan l under os l.recursion) (call-answered under os (ready e r.position (omega arith)))
+        where
+          called : (q : Result (Option Term) Stop) → IsAnswered Any q → IsAnswered (IsMadeOf plan.base (Const c)) q
+          called (Ok o) h = λ other. absurd (true≢false (sym e ∙ other))
+          called (Err z) h = h
+      by false false e = λ other. tt
+  calls-answered under os (Pi a b) apart ready =
+      made-of number plan l (Pi a b) _
+      (pi-answered number plan l under os a b (any-answered (IsMadeOf plan.base a) _ (calls-answered under [] a apart.0 (λ called i place. tt)))
+      (any-answered (IsMadeOf plan.base b) _ (calls-answered (under + 1) [] b apart.1 (λ called i place. tt))))
+  calls-answered under os (Lam a b) apart ready =
+      made-of number plan l (Lam a b) _
+      (lam-answered number plan l under os a b (any-answered (IsMadeOf plan.base a) _ (calls-answered under [] a apart.0 (λ called i place. tt)))
+      (any-answered (IsMadeOf plan.base b) _ (calls-answered (under + 1) [] b apart.1 (λ called i place. tt))))
+  calls-answered under os (Let a t b) apart ready =
+      made-of number plan l (Let a t b) _
+      (let-term-answered number plan l under os a t b (any-answered (IsMadeOf plan.base a) _ (calls-answered under [] a apart.0 (λ called i place. tt)))
+      (any-answered (IsMadeOf plan.base t) _ (calls-answered under [] t apart.1 (λ called i place. tt)))
+      (any-answered (IsMadeOf plan.base b) _ (calls-answered (under + 1) [] b apart.2 (λ called i place. tt))))
+  calls-answered under os (Var n) apart ready = λ other. tt
+  calls-answered under os (Sort i) apart ready = λ other. tt
+  calls-answered under os (Fam n) apart ready = λ other. tt
+  calls-answered under os (Con n c) apart ready = λ other. tt
+  calls-answered under os (Elim n m) apart ready = λ other. tt
+  calls-answered under os (AxiomK i m) apart ready = λ other. tt

@@ -1,12 +1,13 @@
 //! The terms of leaves, and of the trees of a plan, are refused only where they are too high.
 ghost use Rattle.leaf_laws.specs.Laws.{LeafAnswers, PartIsExact};
 
-/// The term of a leaf is made, unless it is too high, where the leaf's terms are low and no call is dropped.
+/// The term of a leaf is made, unless it is too high, where the leaf's terms are low and no call is the argument of another one at the
+/// position of recursion.
 pub fn leaf_answers()
     ensures { LeafAnswers }
 {}
 
-/// The term of the tree of a part is made, unless it is too high, where no right side drops a call.
+/// The term of the tree of a part is made, unless it is too high, where that holds of its right sides.
 pub fn part_is_exact()
     ensures { PartIsExact }
 {}

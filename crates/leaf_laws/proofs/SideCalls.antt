@@ -1,4 +1,4 @@
--- Terms in which the function does not stand are put into a right side that drops no call: still none is dropped.
+-- Terms in which the function does not stand are put into a right side in which no call is the argument of another: still none is.
 use Rattle.std.proofs.Common.{◌≡◌, ℕ, zero, suc, ◌<◌, ◌==◌, ◌||◌, Bool, true, false, cond, List, [], ◌∷◌, length, get_or, refl, sym, ap, ap₂, ◌∙◌, arith}
 use Rattle.std.proofs.lemmas.Bool.{true≢false}
 use Rattle.std.proofs.lemmas.Bool.Decides.{nat_tests}
@@ -10,22 +10,28 @@ use Rattle.theory.specs.SignatureScopes.{IsScoped}
 use Rattle.theory.specs.Spines.{head_of, spine_of}
 use Rattle.theory.specs.Substitutions.{fill, inst, ren, up, ups}
 use Rattle.theory.specs.Eliminators.{no_variable}
-use Rattle.tele_eq.specs.Levels.{is_among}
 use Rattle.structural_rec.specs.Calls.{has_constant}
 use Rattle.tree_translation.specs.Hidden.{visible}
 use Rattle.tree_translation.specs.Plans.{Part, Plan}
 use Rattle.tree_translation.specs.RightSides.{is_helper, no_walk, values_at}
 use Rattle.tree_translation.specs.Mappings.{in_old_order, mapping}
 use Rattle.tree_translation.specs.Standings.{all_placed}
+use Rattle.leaf_terms.specs.CallsApart.{CallsStandApart, is_function}
 use Rattle.leaf_terms.specs.CodeRightSides.{side_with}
 use Rattle.entry_laws.proofs.OnlyConstants.{Each, HasOnly, only-filled, each-weaker}
 use Rattle.entry_laws.proofs.OnlyFamilies.{only-scoped}
 use Rattle.entry_laws.proofs.OnlyStates.{only-all_placed}
 use Rattle.entry_scopes.proofs.WholeLeaves.{mapping-there, order-there}
-use Rattle.leaf_laws.specs.Laws.{DropsNoCall, is_function}
-use Rattle.leaf_laws.proofs.MadeCalls.{or-false}
 
 -- ---- terms without the constant
+
+record AreFalse (a b : Bool) : Type 0 where
+  first : a ≡ false
+  second : b ≡ false
+
+or-false : (a b : Bool) → (a || b) ≡ false → AreFalse a b
+or-false false b h = record { first = refl; second = h }
+or-false true b h = absurd (true≢false h)
 
 both-false : (a b : Bool) → a ≡ false → b ≡ false → (a || b) ≡ false
 both-false false b h k = k
@@ -51,50 +57,6 @@ IsFree base s = (v : ℕ) → has_constant base (s v) ≡ false
 free-under : (base : ℕ) (s : ℕ → Term) → IsFree base s → IsFree base (ups s)
 free-under base s h zero = refl
 free-under base s h (suc v) = constant-ren base suc (s v) ∙ h v
-
-constant-inst : (base : ℕ) (s : ℕ → Term) (t : Term) → IsFree base s → has_constant base t ≡ false → has_constant base (inst s t) ≡ false
-constant-inst base s (Pi a b) h e =
-    let parts = or-false (has_constant base a) (has_constant base b) e in
-    both-false _ _ (constant-inst base s a h parts.first) (constant-inst base (ups s) b (free-under base s h) parts.second)
-constant-inst base s (Lam a b) h e =
-    let parts = or-false (has_constant base a) (has_constant base b) e in
-    both-false _ _ (constant-inst base s a h parts.first) (constant-inst base (ups s) b (free-under base s h) parts.second)
-constant-inst base s (App f a) h e =
-    let parts = or-false (has_constant base f) (has_constant base a) e in
-    both-false _ _ (constant-inst base s f h parts.first) (constant-inst base s a h parts.second)
-constant-inst base s (Let a t b) h e =
-    let parts = or-false (has_constant base a) (has_constant base t || has_constant base b) e in
-    let rest = or-false (has_constant base t) (has_constant base b) parts.second in
-    both-false _ _ (constant-inst base s a h parts.first)
-    (both-false _ _ (constant-inst base s t h rest.first) (constant-inst base (ups s) b (free-under base s h) rest.second))
-constant-inst base s (Const c) h e = e
-constant-inst base s (Var v) h e = h v
-constant-inst base s (Sort i) h e = refl
-constant-inst base s (Fam n) h e = refl
-constant-inst base s (Con n c) h e = refl
-constant-inst base s (Elim n m) h e = refl
-constant-inst base s (AxiomK i m) h e = refl
-
--- such a term drops no call
-free-drops : (base : ℕ) (dropped : List ℕ) (t : Term) → has_constant base t ≡ false → DropsNoCall base dropped t
-free-drops base dropped (Pi a b) e =
-    let parts = or-false (has_constant base a) (has_constant base b) e in (free-drops base dropped a parts.first, free-drops base dropped b parts.second)
-free-drops base dropped (Lam a b) e =
-    let parts = or-false (has_constant base a) (has_constant base b) e in (free-drops base dropped a parts.first, free-drops base dropped b parts.second)
-free-drops base dropped (App f a) e =
-    let parts = or-false (has_constant base f) (has_constant base a) e in
-    (free-drops base dropped f parts.first, free-drops base dropped a parts.second, λ called among. parts.second)
-free-drops base dropped (Let a t b) e =
-    let parts = or-false (has_constant base a) (has_constant base t || has_constant base b) e in
-    let rest = or-false (has_constant base t) (has_constant base b) parts.second in
-    (free-drops base dropped a parts.first, free-drops base dropped t rest.first, free-drops base dropped b rest.second)
-free-drops base dropped (Const c) e = tt
-free-drops base dropped (Var v) e = tt
-free-drops base dropped (Sort i) e = tt
-free-drops base dropped (Fam n) e = tt
-free-drops base dropped (Con n c) e = tt
-free-drops base dropped (Elim n m) e = tt
-free-drops base dropped (AxiomK i m) e = tt
 
 -- ---- heads
 
@@ -134,24 +96,52 @@ call-in base s (Con n c) h e = absurd (true≢false (sym e))
 call-in base s (Elim n m) h e = absurd (true≢false (sym e))
 call-in base s (AxiomK i m) h e = absurd (true≢false (sym e))
 
-drops-inst : (base : ℕ) (dropped : List ℕ) (s : ℕ → Term) (t : Term) → IsFree base s → DropsNoCall base dropped t → DropsNoCall base dropped (inst s t)
-drops-inst base dropped s (Pi a b) h d = (drops-inst base dropped s a h d.0, drops-inst base dropped (ups s) b (free-under base s h) d.1)
-drops-inst base dropped s (Lam a b) h d = (drops-inst base dropped s a h d.0, drops-inst base dropped (ups s) b (free-under base s h) d.1)
-drops-inst base dropped s (App f a) h d = (
-  drops-inst base dropped s f h d.0,
-  drops-inst base dropped s a h d.1,
-  λ called among.
-      let is = call-in base s f h called in constant-inst base s a h (d.2 is.head (ap (λ k. is_among k dropped) (sym is.count) ∙ among)),
+-- in such a term calls stand apart
+free-apart : (base position : ℕ) (t : Term) → has_constant base t ≡ false → CallsStandApart base position t
+free-apart base position (Pi a b) e =
+    let parts = or-false (has_constant base a) (has_constant base b) e in (free-apart base position a parts.first, free-apart base position b parts.second)
+free-apart base position (Lam a b) e =
+    let parts = or-false (has_constant base a) (has_constant base b) e in (free-apart base position a parts.first, free-apart base position b parts.second)
+free-apart base position (App f a) e =
+    let parts = or-false (has_constant base f) (has_constant base a) e in
+    (free-apart base position f parts.first, free-apart base position a parts.second, λ called place. absurd (true≢false (sym (head-constant base f called) ∙ parts.first)))
+free-apart base position (Let a t b) e =
+    let parts = or-false (has_constant base a) (has_constant base t || has_constant base b) e in
+    let rest = or-false (has_constant base t) (has_constant base b) parts.second in
+    (free-apart base position a parts.first, free-apart base position t rest.first, free-apart base position b rest.second)
+free-apart base position (Const c) e = tt
+free-apart base position (Var v) e = tt
+free-apart base position (Sort i) e = tt
+free-apart base position (Fam n) e = tt
+free-apart base position (Con n c) e = tt
+free-apart base position (Elim n m) e = tt
+free-apart base position (AxiomK i m) e = tt
+
+-- what is no call in a term is none in its instance
+no-call-in : (base : ℕ) (s : ℕ → Term) (a : Term) → IsFree base s → is_function base (head_of a) ≡ false → is_function base (head_of (inst s a)) ≡ false
+no-call-in base s a h none = by (is_function base (head_of (inst s a))) refl
+  where
+    by : (b : Bool) → is_function base (head_of (inst s a)) ≡ b → b ≡ false
+    by false e = refl
+    by true e = absurd (true≢false (sym (call-in base s a h e).head ∙ none))
+
+apart-inst : (base position : ℕ) (s : ℕ → Term) (t : Term) → IsFree base s → CallsStandApart base position t → CallsStandApart base position (inst s t)
+apart-inst base position s (Pi a b) h d = (apart-inst base position s a h d.0, apart-inst base position (ups s) b (free-under base s h) d.1)
+apart-inst base position s (Lam a b) h d = (apart-inst base position s a h d.0, apart-inst base position (ups s) b (free-under base s h) d.1)
+apart-inst base position s (App f a) h d = (
+  apart-inst base position s f h d.0,
+  apart-inst base position s a h d.1,
+  λ called place. let is = call-in base s f h called in no-call-in base s a h (d.2 is.head (sym is.count ∙ place)),
 )
-drops-inst base dropped s (Let a t b) h d =
-    (drops-inst base dropped s a h d.0, drops-inst base dropped s t h d.1, drops-inst base dropped (ups s) b (free-under base s h) d.2)
-drops-inst base dropped s (Const c) h d = tt
-drops-inst base dropped s (Var v) h d = free-drops base dropped (s v) (h v)
-drops-inst base dropped s (Sort i) h d = tt
-drops-inst base dropped s (Fam n) h d = tt
-drops-inst base dropped s (Con n c) h d = tt
-drops-inst base dropped s (Elim n m) h d = tt
-drops-inst base dropped s (AxiomK i m) h d = tt
+apart-inst base position s (Let a t b) h d =
+    (apart-inst base position s a h d.0, apart-inst base position s t h d.1, apart-inst base position (ups s) b (free-under base s h) d.2)
+apart-inst base position s (Const c) h d = tt
+apart-inst base position s (Var v) h d = free-apart base position (s v) (h v)
+apart-inst base position s (Sort i) h d = tt
+apart-inst base position s (Fam n) h d = tt
+apart-inst base position s (Con n c) h d = tt
+apart-inst base position s (Elim n m) h d = tt
+apart-inst base position s (AxiomK i m) h d = tt
 
 -- ---- the values of a leaf
 
@@ -172,12 +162,12 @@ only-free base (Elim n m) h = refl
 only-free base (AxiomK i m) h = refl
 
 -- the right side at a leaf of a tree over the signature, in which the function is the next constant
-pub side-drops : (S : Signature) (plan : Plan) (part : Part) (order dropped : List ℕ) (n : ℕ) (hidden : List ℕ) (m clause : ℕ) (substitution terms binds : List Term)
+pub side-apart : (S : Signature) (plan : Plan) (part : Part) (order : List ℕ) (position n : ℕ) (hidden : List ℕ) (m clause : ℕ) (substitution terms binds : List Term)
     → plan.base ≡ length S.entries → Each (IsScoped S m) substitution → Each (IsScoped S m) terms → Each (IsScoped S m) binds
-    → DropsNoCall plan.base dropped (get_or part.sides clause (Sort 0))
-    → DropsNoCall plan.base dropped (side_with plan part order (visible n hidden) n clause substitution terms binds)
-side-drops S plan part order dropped n hidden m clause substitution terms binds same hs ht hb d =
-    drops-inst plan.base dropped (fill no_variable (all_placed (visible n hidden) n values)) side free d
+    → CallsStandApart plan.base position (get_or part.sides clause (Sort 0))
+    → CallsStandApart plan.base position (side_with plan part order (visible n hidden) n clause substitution terms binds)
+side-apart S plan part order position n hidden m clause substitution terms binds same hs ht hb d =
+    apart-inst plan.base position (fill no_variable (all_placed (visible n hidden) n values)) side free d
   where
     side : Term
     side = get_or part.sides clause (Sort 0)
