@@ -7,9 +7,10 @@ use Rattle.elab_session.specs.declared.refusal.Refusal.TheVariants as refusal
 use Rattle.elim_program.specs.declared.text_stop.TextStop.{TextStop}
 use Rattle.elim_program.specs.declared.text_stop.TextStop.TheVariants as stop
 
--- why a text is refused at one of its bytes, or whole
+-- Why a text is refused at one of its bytes, or whole. Want of memory has a text here and below, so that no reason is empty; a run that
+-- comes to it ends with the status `NoMemory` and does not write it.
 abbrev pub stop_text : TextStop → List ℕ
-stop_text stop.Memory = []
+stop_text stop.Memory = codes "Memory"
 stop_text stop.TooLong = codes "TooLong 1048576"
 stop_text (stop.NotUtf8 offset) = codes "NotUtf8 " ++ decimal offset
 stop_text (stop.BadToken offset) = codes "BadToken " ++ decimal offset
@@ -41,7 +42,7 @@ owner_text None = codes "-"
 
 -- why a declaration is refused
 abbrev pub refusal_text : Refusal → List ℕ
-refusal_text refusal.Memory = []
+refusal_text refusal.Memory = codes "Memory"
 refusal_text (refusal.NotYet offset) = codes "NotYet " ++ decimal offset
 refusal_text (refusal.Fuel units) = codes "Fuel " ++ decimal units
 refusal_text refusal.Deep = codes "Deep"

@@ -94,7 +94,7 @@ pub(crate) fn write_refusal(out: &mut Vec<u8>, refusal: &Refusal) -> Result<(), 
     ensures { OnOk result (out.new.items ≡ out.old.items ++ spec.refusal_text refusal.now) }
 {
     match refusal {
-        Refusal::Memory => Ok(()),
+        Refusal::Memory => out.extend_from_slice(b"Memory"),
         Refusal::NotYet(offset) => write_at(out, b"NotYet ", *offset),
         Refusal::Fuel(units) => {
             out.extend_from_slice(b"Fuel ")?;
@@ -133,7 +133,7 @@ pub(crate) fn write_stop(out: &mut Vec<u8>, stop: TextStop) -> Result<(), AllocE
     ensures { OnOk result (out.new.items ≡ out.old.items ++ spec.stop_text stop) }
 {
     match stop {
-        TextStop::Memory => Ok(()),
+        TextStop::Memory => out.extend_from_slice(b"Memory"),
         TextStop::TooLong => out.extend_from_slice(b"TooLong 1048576"),
         TextStop::NotUtf8(offset) => write_at(out, b"NotUtf8 ", offset),
         TextStop::BadToken(offset) => write_at(out, b"BadToken ", offset),

@@ -180,8 +180,7 @@ fn answer<K: Sink>(
 /// words ask for, and writes the lines to `sink`.
 ///
 /// `words` are those after the program's name. The source is read whole before the first write; for `work`, or where the words
-/// are not accepted, it is not read. The first write holds the two head lines, each further one the lines of one declaration,
-/// the line of one verified entry or the last line.
+/// are not accepted, it is not read.
 pub fn run<S: Source, K: Sink>(
     alloc: Global,
     words: &[String],

@@ -1,5 +1,5 @@
 mod AnswersRead
-mod CoreFiles
+pub mod CoreFiles
 mod CoreLaws
 mod EntriesWithoutK
 mod FirstInvalid
@@ -8,6 +8,7 @@ mod LastLines
 mod LinesWithoutK
 pub mod OneSignature
 mod Outputs
+mod Reasons
 mod RecordsShown
 mod Splitting
-mod Writable
+pub mod Writable

@@ -1,5 +1,5 @@
 //! The laws.
-ghost use Rattle.program_laws.specs.Laws.{GivesByTheGrammar, HasOutput, OneSignature, ReadsByTheGrammar, StatusFollows, VerifiedWithoutK, WithoutK};
+ghost use Rattle.program_laws.specs.Laws.{GivesByTheGrammar, HasOutput, OneSignature, ReadsByTheGrammar, ReasonsAreGiven, StatusFollows, VerifiedWithoutK, WithoutK};
 
 /// For all words and bytes an output is defined.
 pub fn has_output()
@@ -19,6 +19,11 @@ pub fn gives_by_the_grammar()
 /// The last line of an output shows its status.
 pub fn status_follows()
     ensures { StatusFollows }
+{}
+
+/// Each line that is defined for a refusal has a reason.
+pub fn reasons_are_given()
+    ensures { ReasonsAreGiven }
 {}
 
 /// Where the words do not ask for axiom K, nothing of an accepted text holds it.

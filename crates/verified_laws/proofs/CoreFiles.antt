@@ -1,6 +1,6 @@
 -- A core file is verified entry by entry.
 use Rattle.std.proofs.Common.{◌≡◌, ◌==◌, ℕ, suc, ◌+◌, ◌-◌, ◌≤◌, Bool, true, false, cond, List, [], ◌∷◌, ◌++◌, map, length, Option, Some, None, Ok, Err, IfOk, IfSome, nat_lt, refl, sym, ap, ◌∙◌, subst as transport, arith, append_assoc, append-nil, length-append}
-use Rattle.std.specs.Prelude.{if◌then◌else◌}
+use Rattle.std.specs.Prelude.{get_or, if◌then◌else◌}
 use Rattle.std.proofs.lemmas.Bool.{eqb-true}
 use Rattle.std.proofs.lemmas.Bool.Decides.{nat_tests}
 use Rattle.std.proofs.lemmas.List.{map-append}
@@ -27,7 +27,7 @@ use Rattle.elim_program.specs.VerifyHeadline.{Adds, family, eliminator, axiom_k,
 use Rattle.elim_program.specs.Texts.{limited}
 use Rattle.elim_program.specs.Words.{verify_asked}
 use Rattle.elim_program.proofs.Entries.{bound_is_enough}
-use Rattle.verified_laws.specs.Laws.{AcceptedIsVerified, CoreFileIsVerified, EachIsNamed, IsFileOf, OutputVerifies, signature_after}
+use Rattle.verified_laws.specs.Laws.{AcceptedIsVerified, AreNames, CoreFileIsVerified, EachIsNamed, entry_name, entry_names, IsFileOf, OutputVerifies, signature_after}
 use Rattle.verified_laws.proofs.LetIn.{each-in, same-k}
 use Rattle.verified_laws.proofs.Texts.{text-checked}
 
@@ -158,22 +158,53 @@ module _ (fuel : ℕ) (W : Signature) (checked : Checked fuel (prelude W.has_k) 
       ∙ ap (λ r. followed (block (map verified_line names) false) (next_block fuel W (entries text fuel (length text)) r)) file.ended
       ∙ ap (λ ls. block ls false) (append-nil (map verified_line names))
 
-added-one : (S T : Signature) (raw : RawEntry) → Adds S raw T → (length T.entries ≡ suc (length S.entries)) × (T.has_k ≡ S.has_k)
-added-one S _ _ (family raw f given) = (let e = length-append S.entries (FamilyOf f ∷ []) in omega (arith, e), refl)
-added-one S _ _ (eliminator n m) = (let e = length-append S.entries (EliminatorAt n m ∷ []) in omega (arith, e), refl)
-added-one S _ _ (axiom_k i m) = (let e = length-append S.entries (AxiomKAt i m ∷ []) in omega (arith, e), refl)
-added-one S _ _ (definition name type body) = (let e = length-append S.entries (Definition name type body ∷ []) in omega (arith, e), refl)
+-- ---- names
 
-named : (k : Bool) (text : List ℕ) (T : Signature) (to : ℕ) (names : List (List ℕ)) → Holds k text T to names
-    → length T.entries ≡ length (prelude T.has_k).entries + length names
-named k text _ _ _ (head has_k from is) = omega arith
+-- what is added has the name that is read
+record IsAdded (S T : Signature) (raw : RawEntry) : Type 0 where
+  e : Entry
+  is : T ≡ pushed S e
+  name : read_name S raw ≡ entry_name S e
+
+first-of : List (List ℕ) → List ℕ
+first-of names = get_or names 0 []
+
+added-one : (S T : Signature) (raw : RawEntry) → Adds S raw T → IsAdded S T raw
+unfolding first-of
+added-one S _ _ (family raw f given) = record { e = FamilyOf f; is = refl; name = sym (ap first-of given.names) }
+added-one S _ _ (eliminator n m) = record { e = EliminatorAt n m; is = refl; name = refl }
+added-one S _ _ (axiom_k i m) = record { e = AxiomKAt i m; is = refl; name = refl }
+added-one S _ _ (definition name type body) = record { e = Definition name type body; is = refl; name = refl }
+
+-- the entries of S and others after them
+abbrev with_more : Signature → List Entry → Signature
+with_more S more = record { entries = S.entries ++ more; has_k = S.has_k }
+
+last-name : (S : Signature) (more : List Entry) (e : Entry) → entry_names S (more ++ e ∷ []) ≡ entry_names S more ++ entry_name (with_more S more) e ∷ []
+last-name S [] e = ap (λ es. entry_name (record { entries = es; has_k = S.has_k }) e ∷ []) (sym (append-nil S.entries))
+last-name S (x ∷ more) e =
+    ap (λ ns. entry_name S x ∷ ns)
+    (last-name (pushed S x) more e
+    ∙ ap (λ es. entry_names (pushed S x) more ++ entry_name (record { entries = es; has_k = S.has_k }) e ∷ []) (append_assoc S.entries (x ∷ []) more))
+
+name-after : (S : Signature) (names : List (List ℕ)) (e : Entry) → AreNames S names → AreNames (pushed S e) (names ++ entry_name S e ∷ [])
+name-after S names e before =
+    let P = prelude S.has_k in
+    let whole : S ≡ with_more P before.more = ap (λ es. record { entries = es; has_k = S.has_k }) before.entries in
+    record {
+      more = before.more ++ e ∷ [];
+      entries = ap (λ es. es ++ e ∷ []) before.entries ∙ append_assoc P.entries before.more (e ∷ []);
+      are =
+          ap (λ ns. ns ++ entry_name S e ∷ []) before.are ∙ ap (λ U. entry_names P before.more ++ entry_name U e ∷ []) whole
+          ∙ sym (last-name P before.more e);
+    }
+
+named : (k : Bool) (text : List ℕ) (T : Signature) (to : ℕ) (names : List (List ℕ)) → Holds k text T to names → AreNames T names
+named k text _ _ _ (head has_k from is) = record { more = []; entries = sym (append-nil (prelude has_k).entries); are = refl }
 named k text _ _ _ (entry S T from to names raw h reads adds) =
-    let before = named k text S from names h in
     let one = added-one S T raw adds in
-    let grown = one.0 in
-    let same = ap (λ b. length (prelude b).entries) one.1 in
-    let e = length-append names (read_name S raw ∷ []) in
-    omega (arith, before, grown, same, e)
+    transport (λ U. AreNames U (names ++ read_name S raw ∷ [])) (sym one.is)
+    (transport (λ n. AreNames (pushed S one.e) (names ++ n ∷ [])) (sym one.name) (name-after S names one.e (named k text S from names h)))
 
 pub each-named : EachIsNamed
 each-named k text W names file = named k text W file.offset names file.held

@@ -1,3 +1,4 @@
+mod Compiled
 pub mod CoreFiles
 pub mod LetIn
 pub mod Texts

@@ -1,17 +1,24 @@
 -- Core files of what was accepted are verified.
-use Rattle.std.specs.Prelude.{◌≡◌, ℕ, ◌+◌, ◌≤◌, Bool, false, List, [], ◌∷◌, length, map, None, Ok, IfSome}
+use Rattle.std.specs.Prelude.{◌≡◌, ℕ, ◌≤◌, ◌++◌, Bool, false, List, [], ◌∷◌, length, map, Some, None, Ok, IfSome}
 use Rattle.theory.specs.Prelude.{prelude}
-use Rattle.theory.specs.Signatures.{Signature}
+use Rattle.theory.specs.Signatures.{AxiomKAt, Definition, EliminatorAt, Entry, FamilyOf, Signature}
+use Rattle.theory.specs.Terms.{AxiomK, Elim}
+use Rattle.theory.specs.WellFormed.{pushed}
 use Rattle.core_text.specs.EntryReading.{entry_from}
 use Rattle.core_text.specs.Heads.{head_of}
+use Rattle.core_text.specs.TermText.{term_text}
 use Rattle.surface_syntax.specs.Trees.{Decl}
 use Rattle.function_session.specs.Elaborating.{elaborate_of}
 use Rattle.accepted_laws.specs.Checked.{Checked}
 use Rattle.elim_program.specs.DefinedOutputs.{IsOutput}
-use Rattle.elim_program.specs.Outputs.{after, block, compiled, declarations}
+use Rattle.elim_program.specs.Lines.{text_of}
+use Rattle.elim_program.specs.Outputs.{Output, after, block, compiled, declarations}
+use Rattle.elim_program.specs.Texts.{Gives, limit}
 use Rattle.elim_program.specs.Verifies.{after_head, verified_line}
 use Rattle.elim_program.specs.VerifyHeadline.{Holds}
-use Rattle.elim_program.specs.Words.{verify_asked}
+use Rattle.elim_program.specs.Words.{asked, verify_asked}
+use Rattle.elim_program.specs.declared.status.Status.TheVariants.{Done}
+use Rattle.elim_program.specs.declared.words.Command.{Command}
 
 -- the signature after declarations, each of which may spend `fuel` units
 abbrev pub signature_after : (fuel : ℕ) → Signature → List Decl → Signature
@@ -29,11 +36,27 @@ pub record IsFileOf (k : Bool) (text : List ℕ) (W : Signature) (names : List (
   pub held : Holds k text W offset names
   pub ended : entry_from W text offset ≡ Ok None
 
--- There is a name for each entry after the prelude.
+-- the name of an entry that comes after those of S; that of an instance is how its symbol is spelled
+abbrev pub entry_name : Signature → Entry → List ℕ
+entry_name S (FamilyOf f) = f.name
+entry_name S (EliminatorAt n m) = term_text S (Elim n m)
+entry_name S (AxiomKAt i m) = term_text S (AxiomK i m)
+entry_name S (Definition name type body) = name
+
+-- the names of entries that come one after the other after those of S
+abbrev pub entry_names : Signature → List Entry → List (List ℕ)
+entry_names S [] = []
+entry_names S (e ∷ entries) = entry_name S e ∷ entry_names (pushed S e) entries
+
+-- The names are those of the entries of W after the prelude, in their order.
+pub record AreNames (W : Signature) (names : List (List ℕ)) : Type 0 where
+  pub more : List Entry
+  pub entries : W.entries ≡ (prelude W.has_k).entries ++ more
+  pub are : names ≡ entry_names (prelude W.has_k) more
+
+-- The names of a core file are those of the entries after the prelude.
 abbrev pub EachIsNamed : Type 0
-EachIsNamed =
-    (k : Bool) (text : List ℕ) (W : Signature) (names : List (List ℕ)) → IsFileOf k text W names
-    → length W.entries ≡ length (prelude W.has_k).entries + length names
+EachIsNamed = (k : Bool) (text : List ℕ) (W : Signature) (names : List (List ℕ)) → IsFileOf k text W names → AreNames W names
 
 -- Each entry of such a text is verified, where the checker lets it in by itself.
 abbrev pub CoreFileIsVerified : Type 0
@@ -55,3 +78,19 @@ OutputVerifies =
     → IfSome (verify_asked words) (λ asked.
     asked.fuel ≡ fuel → IsFileOf asked.k text (signature_after fuel (prelude k) ds) names
     → IsOutput words text (compiled asked.k (block (map verified_line names) false)))
+
+-- The output that is defined for the words on a text: status `Done`, the head lines, and one line for each entry that the declarations of
+-- `bytes` gave, in order.
+pub record IsVerifiedWhole (words : List (List ℕ)) (text : List ℕ) (command : Command) (bytes : List ℕ) : Type 0 where
+  pub decls : List Decl
+  pub gives : Gives bytes (Ok decls)
+  pub names : List (List ℕ)
+  pub are : AreNames (signature_after command.fuel (prelude command.k) decls) names
+  pub output : IsOutput words text (compiled command.k (block (map verified_line names) false))
+
+-- The output that is defined for `compile` has status `Done`, and is no longer than a text may be. Then `verify` on it, asked with as
+-- much fuel and as much of K, verifies each entry.
+abbrev pub CompiledIsVerified : Type 0
+CompiledIsVerified =
+    (words verifying : List (List ℕ)) (bytes : List ℕ) (command : Command) (out : Output) → asked words ≡ Some command → verify_asked verifying ≡ Some command
+    → IsOutput words bytes out → out.status ≡ Done → length (text_of out.lines) ≤ limit → IsVerifiedWhole verifying (text_of out.lines) command bytes

@@ -1,12 +1,12 @@
 //! What is accepted is verified.
-ghost use Rattle.verified_laws.specs.Laws.{AcceptedIsVerified, CoreFileIsVerified, EachIsNamed, OutputVerifies, TextIsChecked};
+ghost use Rattle.verified_laws.specs.Laws.{AcceptedIsVerified, CompiledIsVerified, CoreFileIsVerified, EachIsNamed, OutputVerifies, TextIsChecked};
 
 /// Where no declaration of a text is refused, each entry of the signature that they give is let in by itself.
 pub fn text_is_checked()
     ensures { TextIsChecked }
 {}
 
-/// A core file has a name for each entry after the prelude.
+/// The names of a core file are those of its entries after the prelude, in order.
 pub fn each_is_named()
     ensures { EachIsNamed }
 {}
@@ -24,4 +24,9 @@ pub fn accepted_is_verified()
 /// So the output that is defined for `verify` on such a file has one line for each entry, and refuses nothing.
 pub fn output_verifies()
     ensures { OutputVerifies }
+{}
+
+/// What `compile` writes, where no declaration is refused, is verified entry by entry with as much fuel.
+pub fn compiled_is_verified()
+    ensures { CompiledIsVerified }
 {}

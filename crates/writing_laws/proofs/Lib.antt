@@ -3,8 +3,10 @@ mod Functions
 mod Heights
 mod Marks
 mod Names
+pub mod Ordinary
+mod Parts
 mod Reporting
 mod Sessions
 mod StaysLow
 mod Stems
-mod Writables
+pub mod Writables

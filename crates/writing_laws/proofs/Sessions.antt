@@ -29,7 +29,7 @@ use Rattle.elab_session.specs.Refusals as refusals
 use Rattle.family_check.specs.Scopes.{site_signature}
 use Rattle.elab_session.specs.declared.refusal.Refusal.{Refusal}
 use Rattle.function_session.specs.Elaborating.{Elaborated, Refused, without_lines, on_lines, on_function, enter_function, elaborate_of}
-use Rattle.writing_laws.specs.Writing.{Each}
+use Rattle.word_laws.specs.Words.{Each}
 use Rattle.writing_laws.proofs.Carrying.{Any, any, After, Keeps}
 use Rattle.writing_laws.proofs.Functions.{FunctionFew, function-keeps}
 

@@ -10,7 +10,8 @@ use Rattle.tree_translation.specs.Plans.{Plan}
 use Rattle.elaboration.specs.Refusals.{Refusal}
 use Rattle.function_lines.specs.FunctionMade.{plan_over}
 use Rattle.function_session.specs.Elaborating.{Elaborated, Refused, elaborate_of}
-use Rattle.writing_laws.specs.Writing.{AreLow, HasFewParameters, Each, EntriesStayLow}
+use Rattle.word_laws.specs.Words.{Each}
+use Rattle.writing_laws.specs.Writing.{AreLow, HasFewParameters, EntriesStayLow}
 use Rattle.writing_laws.proofs.Carrying.{Any, Keeps}
 use Rattle.writing_laws.proofs.Functions.{PartsAre, FunctionFew}
 use Rattle.writing_laws.proofs.Heights.{define-low, eliminator-low, axiom_k-low, declare-low}

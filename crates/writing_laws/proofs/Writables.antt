@@ -23,11 +23,13 @@ use Rattle.family_check.specs.Entering as entering
 use Rattle.family_check.specs.Laws.{IsAsDeclared, EntersAsDeclared}
 use Rattle.family_check.proofs.AsDeclared.{declare-gives}
 use Rattle.function_session.specs.Elaborating.{Elaborated, Refused, elaborate_of}
-use Rattle.program_laws.specs.CoreFiles.{IsWritable}
-use Rattle.writing_laws.specs.Writing.{AreLow, HasFewParameters, EntriesStayLow, IsSurfaceName, Each, IsOrdinary, Leads, none, more, AcceptedIsWritable}
+use Rattle.elim_program.specs.Acceptance.{Accepts, end, next}
+use Rattle.word_laws.specs.Words.{Each}
+use Rattle.writing_laws.specs.Writing.{AreLow, HasFewParameters, EntriesStayLow, IsSurfaceName, IsOrdinary, AcceptedIsWritable}
 use Rattle.writing_laws.proofs.Carrying.{After, if-ok}
 use Rattle.writing_laws.proofs.Marks.{holds_mark, unmarked-join, IsStem}
 use Rattle.writing_laws.proofs.Names.{IsPart, AreParts, HasStems, AreNamed, motive-named, step-named, helper-named, proof-named, generated-named, named-pushed, define-named, eliminator-named, axiom_k-named}
+use Rattle.writing_laws.proofs.Ordinary.{text-ordinary}
 use Rattle.writing_laws.proofs.Sessions.{DeclIs, RawIs, KeepsAll, elaborated-keeps}
 use Rattle.writing_laws.proofs.StaysLow.{entries-stay-low}
 use Rattle.writing_laws.proofs.Stems.{level-is, equality-stem, unit-stem, pair-stem, empty-stem, words-chars}
@@ -145,12 +147,18 @@ module _ (stay : NamesStayPlain) (begins : PreludeHasPlainNames) (surface : Surf
       let Is : Result Elaborated Refused → Type 0 = λ r. IfOk r (λ b. AreNamed b.signature) in
       subst Is is (elaborated-keeps IsDeclarableName IsSurfaceName (λ k. k < 10000000000) (2 ^ 32) AreNamed names-are-kept S named fuel d (ordinary-is S d h))
 
-  led : (fuel : ℕ) (S : Signature) (ds : List surf.Decl) (T : Signature) → Leads fuel S ds T → AreNamed S → AreLow S → AreNamed T × AreLow T
-  led fuel _ _ _ (none S) named low = (named, low)
-  led fuel _ _ _ (more S T d ds a h is rest) named low =
-      led fuel a.signature ds T rest (named-after S fuel d a named h is) (entries-stay-low.1 S fuel d a low (few-in S d h) is)
+  led : (fuel : ℕ) (S : Signature) (ds : List surf.Decl) (T : Signature) → Each (λ d. (U : Signature) → IsOrdinary U d) ds → Accepts fuel S ds T → AreNamed S → AreLow S
+      → AreNamed T × AreLow T
+  led fuel _ _ _ ordinary (end S) named low = (named, low)
+  led fuel _ _ _ ordinary (next S T d ds a is rest) named low =
+      led fuel a.signature ds T ordinary.1 rest (named-after S fuel d a named (ordinary.0 S) is) (entries-stay-low.1 S fuel d a low (few-in S d (ordinary.0 S)) is)
+
+  front-ordinary : (front back : List surf.Decl) → Each (λ d. (U : Signature) → IsOrdinary U d) (front ++ back) → Each (λ d. (U : Signature) → IsOrdinary U d) front
+  front-ordinary [] back h = tt
+  front-ordinary (d ∷ front) back h = (h.0, front-ordinary front back h.1)
 
   pub accepted-writable : AcceptedIsWritable
-  accepted-writable k fuel ds T leads =
-      let r = led fuel (prelude k) ds T leads (prelude-named begins k) (entries-stay-low.0 k) in
+  accepted-writable bytes decls front back k fuel T gives parts accepts =
+      let all = subst (λ ds. Each (λ d. (U : Signature) → IsOrdinary U d) ds) parts (text-ordinary bytes decls gives) in
+      let r = led fuel (prelude k) front T (front-ordinary front back all) accepts (prelude-named begins k) (entries-stay-low.0 k) in
       record { plain = r.0.plain; names = r.0.names; low = r.1 }

@@ -1,5 +1,5 @@
 -- What a core file asks of the entries after the prelude, and that the declarations of a text keep it.
-use Rattle.std.specs.Prelude.{◌≡◌, ◌<◌, ◌≤◌, ◌^◌, ℕ, Bool, true, List, [], ◌∷◌, length, Ok, IfOk}
+use Rattle.std.specs.Prelude.{◌≡◌, ◌<◌, ◌≤◌, ◌^◌, ℕ, Bool, true, List, ◌++◌, length, Ok, IfOk}
 use Rattle.std.specs.Str.{is_utf8, chars}
 use Rattle.theory.specs.Prelude.{prelude}
 use Rattle.theory.specs.Signatures.{Entry, Signature, IsEntryAt}
@@ -9,7 +9,10 @@ use Rattle.surface_syntax.specs.declared.token.TokenKind.TheVariants.{Plain}
 use Rattle.resolve.specs.Functions.{Function, function}
 use Rattle.function_lines.specs.FunctionMade.{plan_over}
 use Rattle.function_session.specs.Elaborating.{Elaborated, elaborate_of}
+use Rattle.elim_program.specs.Acceptance.{Accepts}
+use Rattle.elim_program.specs.Texts.{Gives}
 use Rattle.program_laws.specs.CoreFiles.{IsLowEntry, IsWritable}
+use Rattle.word_laws.specs.Words.{Each}
 
 -- no entry after the prelude shows a term that is higher than 2,000
 abbrev pub AreLow : Signature → Type 0
@@ -33,11 +36,6 @@ EntriesStayLow =
 abbrev pub IsSurfaceName : List ℕ → Type 0
 IsSurfaceName name = (is_utf8 name ≡ true) × Spells Plain (chars name) true
 
--- each of a list
-abbrev pub Each : {A : Type 0} → (A → Type 0) → List A → Type 0
-Each P [] = Unit {0}
-Each P (x ∷ xs) = P x × Each P xs
-
 -- the function has fewer parts, itself and its helpers, than have a name
 abbrev pub HasFewParts : Signature → Function → Type 0
 HasFewParts S f = (level left : ℕ) → IfOk (plan_over S f level left).0 (λ plan. (k : ℕ) → k < length plan.parts → k < 10000000000)
@@ -49,11 +47,13 @@ IsOrdinary S (surf.Data x params ty cons) = IsSurfaceName x.text × (length para
 IsOrdinary S (surf.Fun x ty clauses) = IsSurfaceName x.text × IfOk (function S x ty clauses) (HasFewParts S)
 IsOrdinary S _ = Unit {0}
 
--- Declarations that are accepted one by one, and the signature with them.
-pub data Leads (fuel : ℕ) : Signature → List surf.Decl → Signature → Type 0 where
-  none : (S : Signature) → Leads fuel S [] S
-  more : (S T : Signature) (d : surf.Decl) (ds : List surf.Decl) (a : Elaborated) → IsOrdinary S d → elaborate_of S fuel d ≡ Ok a → Leads fuel a.signature ds T → Leads fuel S (d ∷ ds) T
+-- Each declaration of a text is ordinary, over whatever signature it comes.
+abbrev pub TextIsOrdinary : Type 0
+TextIsOrdinary = (bytes : List ℕ) (ds : List surf.Decl) → Gives bytes (Ok ds) → Each (λ d. (S : Signature) → IsOrdinary S d) ds
 
--- What the declarations of a text give may stand in a core file: names are plain and may be declared, and no shown term is too high.
+-- What the declarations at the front of a text give, which are accepted one by one from the prelude on, may stand in a core file: names
+-- are plain and may be declared, and no shown term is too high.
 abbrev pub AcceptedIsWritable : Type 0
-AcceptedIsWritable = (k : Bool) (fuel : ℕ) (ds : List surf.Decl) (T : Signature) → Leads fuel (prelude k) ds T → IsWritable T
+AcceptedIsWritable =
+    (bytes : List ℕ) (decls front back : List surf.Decl) (k : Bool) (fuel : ℕ) (T : Signature) → Gives bytes (Ok decls) → decls ≡ front ++ back
+    → Accepts fuel (prelude k) front T → IsWritable T

@@ -1,12 +1,17 @@
 //! The laws.
-ghost use Rattle.writing_laws.specs.Writing.{AcceptedIsWritable, EntriesStayLow};
+ghost use Rattle.writing_laws.specs.Writing.{AcceptedIsWritable, EntriesStayLow, TextIsOrdinary};
 
 /// Whatever is accepted is low enough for a core file.
 pub fn entries_stay_low()
     ensures { EntriesStayLow }
 {}
 
-/// What the declarations of a text give may stand in a core file.
+/// What is accepted of a text may stand in a core file.
 pub fn accepted_is_writable()
     ensures { AcceptedIsWritable }
+{}
+
+/// Each declaration of a text is one of those.
+pub fn text_is_ordinary()
+    ensures { TextIsOrdinary }
 {}
