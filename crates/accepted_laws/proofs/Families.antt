@@ -5,8 +5,7 @@ use Rattle.theory.specs.Telescopes.{Telescope, products}
 use Rattle.theory.specs.Families.{Constructor, Family, constructor_type}
 use Rattle.theory.specs.Signatures.{Signature, FamilyOf}
 use Rattle.core_sig.specs.Raw.{RawConstructor, RawFamily}
-use Rattle.core_text.specs.EntryText.{constructor_type_shown, type_shown}
-use Rattle.core_text.specs.RawEntries.{family_shown}
+use Rattle.core_text.specs.RawEntries.{family_shown, type_shown, constructor_type_shown}
 use Rattle.family_check.specs.Entering.{Entered, entered, declare_of}
 use Rattle.family_check.specs.Laws.{IsAsDeclared, EntersAsDeclared}
 use Rattle.family_check.specs.Outcomes.{FamilyStop}

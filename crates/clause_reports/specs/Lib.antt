@@ -10,4 +10,3 @@ pub mod Reports
 pub mod Shadows
 pub mod Showing
 pub mod Stops
-pub mod Texts

@@ -11,7 +11,7 @@ use Rattle.core_text.specs.EntryText.{entry_text}
 use Rattle.core_text.specs.SymbolNames.{name_at, eliminator_name, axiom_k_name}
 use Rattle.family_check.specs.Outcomes as family
 use Rattle.unification.specs.declared.why.Why.{Why}
-use Rattle.clause_reports.specs.Texts.{context_text, reason_text}
+use Rattle.core_text.specs.ContextText.{context_text, reason_text}
 
 -- the name by which an entry is shown: instances have the names by which core text writes them
 abbrev pub entry_name : Signature → Entry → List ℕ

@@ -14,7 +14,8 @@ use Rattle.core_sig.specs.declared.family.Constructor.{Constructor}
 use Rattle.core_sig.specs.declared.family.Family.{Family}
 use Rattle.core_sig.proofs.Arguments.{argument_types-of}
 use Rattle.core_sig.proofs.ConstructorTypes.{ren-applied}
-use Rattle.core_text.specs.EntryText.{constructor_type_shown, constructors_text}
+use Rattle.core_text.specs.EntryText.{constructors_text}
+use Rattle.core_text.specs.RawEntries.{constructor_line, constructor_type_shown}
 use Rattle.core_text.specs.Records.{type_of_constructor as shown}
 use Rattle.core_text.specs.TermText.{term_text}
 
@@ -30,14 +31,14 @@ shown-is n f con kinds =
     counted = length-map f.params tree_of
 
 -- one constructor less to write
-pub constructors_less : (S : Signature) (n : ℕ) (f : Family) (before out whole : List ℕ) (cons : List Constructor) (at : ℕ) (con : Constructor) → HaveKinds n (family_of f) 0 con.args → at < length cons → con ≡ get_or cons at con → out ++ constructors_text S n (family_of f) before (map (constructor_of (length f.params)) (drop at cons)) ≡ whole → out ++ before ++ con.name ++ codes " : " ++ term_text S (shown n (length f.params) con) ++ constructors_text S n (family_of f) (codes " ; ") (map (constructor_of (length f.params)) (drop (at + 1) cons)) ≡ whole
+pub constructors_less : (S : Signature) (n : ℕ) (f : Family) (before out whole : List ℕ) (cons : List Constructor) (at : ℕ) (con : Constructor) → HaveKinds n (family_of f) 0 con.args → at < length cons → con ≡ get_or cons at con → out ++ constructors_text S before (map (constructor_line n (family_of f)) (map (constructor_of (length f.params)) (drop at cons))) ≡ whole → out ++ before ++ con.name ++ codes " : " ++ term_text S (shown n (length f.params) con) ++ constructors_text S (codes " ; ") (map (constructor_line n (family_of f)) (map (constructor_of (length f.params)) (drop (at + 1) cons))) ≡ whole
 constructors_less S n f before out whole cons at con kinds lt is left =
     simp append_assoc
     (ap (λ t. out ++ (before ++ (con.name ++ (codes " : " ++ (term_text S t ++ rest))))) (sym (shown-is n f con kinds))
-    ∙ (simp append_assoc at (sym (ap (λ cs. out ++ constructors_text S n (family_of f) before (map (constructor_of (length f.params)) cs)) dropped)) ∙ left))
+    ∙ (simp append_assoc at (sym (ap (λ cs. out ++ constructors_text S before (map (constructor_line n (family_of f)) (map (constructor_of (length f.params)) cs))) dropped)) ∙ left))
   where
     rest : List ℕ
-    rest = constructors_text S n (family_of f) (codes " ; ") (map (constructor_of (length f.params)) (drop (at + 1) cons))
+    rest = constructors_text S (codes " ; ") (map (constructor_line n (family_of f)) (map (constructor_of (length f.params)) (drop (at + 1) cons)))
 
     dropped : drop at cons ≡ con ∷ drop (at + 1) cons
     dropped = drop-cons cons at con lt ∙ ap₂ ◌∷◌ (sym is) (ap (λ k. drop k cons) (sym (add-one at)))

@@ -19,9 +19,9 @@ use Rattle.core_sig.specs.declared.entry.Found.{Found}
 use Rattle.core_sig.specs.declared.entry.Found.TheVariants.{Entry as FoundEntry, Con as FoundCon}
 use Rattle.core_sig.proofs.NameLists.{differs}
 use Rattle.core_text.specs.DeclaredNames.{is_eliminator_name, is_axiom_k_name, is_new, may_declare, by_shape, shape_of}
-use Rattle.core_text.specs.EntryText.{type_shown, constructor_type_shown}
 use Rattle.core_text.specs.PlainNames.{IsPlainName, HasPlainFamily, HasPlainNames, HasSpelledNames}
-use Rattle.core_text.specs.ReadBack.{IsSpelled, AreSpelled, MayDeclare, IsReadBack, AreReadBack, ConstructorsReadBack, FamilyReadsBack, IsFoundFamily, constructor_line}
+use Rattle.core_text.specs.RawEntries.{type_shown, constructor_type_shown, constructor_line}
+use Rattle.core_text.specs.ReadBack.{IsSpelled, AreSpelled, MayDeclare, IsReadBack, AreReadBack, ConstructorsReadBack, FamilyReadsBack, IsFoundFamily}
 use Rattle.core_text.specs.ReadLaws.{AreFresh}
 use Rattle.core_text.specs.Reading.{wrong}
 use Rattle.core_text.specs.SymbolLookup.{number_at_end, before_end, entry_symbol, found_symbol, eliminator_into, eliminator_symbol, axiom_k_at, axiom_k_symbol, or_else, symbol}

@@ -10,13 +10,14 @@ use Rattle.theory.proofs.Lists.{slice_get-last, slice_get-longer}
 use Rattle.core_sig.specs.Names.{find}
 use Rattle.core_sig.specs.Raw.{RawFamily}
 use Rattle.core_text.specs.EntryReading.{behind_notes, shows_entry, shown_by, entry_at, next_entry, with_offset, entry_from}
+use Rattle.core_text.specs.EntryText.{line_text}
 use Rattle.core_text.specs.LineReading.{nested, line_at}
 use Rattle.core_text.specs.PlainNames.{IsPlainName, HasPlainNames}
 use Rattle.core_text.specs.RawEntries.{RawEntry, RawFamilyOf, RawEliminator, RawAxiomK, RawDefinition}
 use Rattle.core_text.specs.ReadBack.{IsSpelled, IsFoundFamily}
 use Rattle.core_text.specs.Reading.{Reading, wrong, after}
 use Rattle.core_text.specs.SpelledLines.{IsSpelledOutcome, SpelledLinesAreRead}
-use Rattle.core_text.specs.Spellings.{raw_text, raw_line, with_name, IsFamilyOver, IsEntryOver}
+use Rattle.core_text.specs.Spellings.{raw_line, with_name, IsFamilyOver, IsEntryOver}
 use Rattle.core_text.specs.SymbolLookup.{entry_symbol, found_symbol, symbol}
 use Rattle.core_text.specs.SymbolNames.{own_name, name_at}
 use Rattle.core_text.specs.TermText.{spelled, term_text}
@@ -24,8 +25,9 @@ use Rattle.core_text.specs.declared.stop.CoreTextStop.{CoreTextStop}
 use Rattle.core_text.specs.declared.stop.CoreTextStop.TheVariants.{NotCoreText}
 use Rattle.core_text.proofs.Depths.{OrNested, is_read, is_nested, or-same}
 use Rattle.core_text.proofs.EntriesFollow.{own-unknown, still-spelled, own-found, term-spelled}
+use Rattle.core_text.proofs.LineForms.{family-text, eliminator-text, axiom_k-text, definition-text, grouped-is}
 use Rattle.core_text.proofs.LinesBack.{Starts, eliminator-back, axiom_k-back, def-line, elim-line, axiom_k-line, data-line, offset-is}
-use Rattle.core_text.proofs.LinesSpelled.{ReadsWhole, definition-spelled, family-line-text, family-spelled}
+use Rattle.core_text.proofs.LinesSpelled.{ReadsWhole, definition-spelled, family-spelled}
 use Rattle.core_text.proofs.NamesFound.{family-found}
 use Rattle.core_text.proofs.NamesSpelled.{names-are-spelled, spelled-by}
 use Rattle.core_text.proofs.NewNames.{new-plain, new-unknown, new-read}
@@ -70,15 +72,6 @@ found-family S distinct plain g is = record {
   run = ((names-are-spelled S distinct plain).families g is.0 is.1).run;
 }
 
-definition-text : (S : Signature) (name : List ℕ) (type body : Term) (rest : List ℕ) → raw_text S (RawDefinition name type body) ++ rest ≡ codes "def " ++ (name ++ (codes " : " ++ (term_text S type ++ (codes " = " ++ (term_text S body ++ 10 ∷ rest)))))
-definition-text S name type body rest = simp append_assoc
-
-eliminator-text : (S : Signature) (g m : ℕ) (rest : List ℕ) → raw_text S (RawEliminator g m) ++ rest ≡ codes "elim " ++ (name_at S g ++ (codes " " ++ (decimal m ++ 10 ∷ rest)))
-eliminator-text S g m rest = simp append_assoc
-
-axiom_k-text : (S : Signature) (i m : ℕ) (rest : List ℕ) → raw_text S (RawAxiomK i m) ++ rest ≡ codes "axiomk " ++ (decimal i ++ (codes " " ++ (decimal m ++ 10 ∷ rest)))
-axiom_k-text S i m rest = simp append_assoc
-
 -- a line and what is read of it
 record Line (S : Signature) (raw : RawEntry) (rest : List ℕ) : Type 0 where
   starts : Starts (raw_line S raw ++ rest)
@@ -87,9 +80,9 @@ record Line (S : Signature) (raw : RawEntry) (rest : List ℕ) : Type 0 where
 module _ (S : Signature) (distinct : AllPairs (λ x y. x ≢ y) (names S)) (plain : HasPlainNames S) where
   family-line : (raw : RawFamily) (rest : List ℕ) → IsFamilyOver S raw → length (raw_line S (RawFamilyOf raw)) < 2 ^ 32 → Line S (RawFamilyOf raw) rest
   family-line raw rest is short = record {
-    starts = record { one = 100; others = _; is = family-line-text W raw rest; no_note = refl };
+    starts = record { one = 100; others = _; is = family-text W raw rest; no_note = refl };
     reads =
-        or-same (line_at S [] (raw_text W (RawFamilyOf raw) ++ rest)) _ (ap (line_at S []) (family-line-text W raw rest) ∙ data-line S _)
+        or-same (line_at S [] (line_text W (RawFamilyOf raw) ++ rest)) _ (ap (line_at S []) (family-text W raw rest) ∙ data-line S _)
         (family-spelled S W raw rest
         (whole-spelled S W distinct plain has [] false (λ name t so. so) (λ e. absurd (false≢true e)))
         (whole-spelled S W distinct plain has raw.name true (λ x t so. still-spelled S raw.name x t none so) (λ e. own)) is short);
@@ -122,14 +115,15 @@ module _ (S : Signature) (distinct : AllPairs (λ x y. x ≢ y) (names S)) (plai
   definition-line name type body rest is short =
       let first = term_text S type in
       let second = term_text S body in
+      let whole = ap length (grouped-is S (RawDefinition name type body)) in
       let one = length-append name (codes " : " ++ (first ++ (codes " = " ++ (second ++ codes "\n")))) in
       let two = length-append first (codes " = " ++ (second ++ codes "\n")) in
       let three = length-append second (codes "\n") in
       record {
         starts = record { one = 100; others = _; is = definition-text S name type body rest; no_note = refl };
         reads =
-            or-same (line_at S [] (raw_text S (RawDefinition name type body) ++ rest)) _ (ap (line_at S []) (definition-text S name type body rest) ∙ def-line S _)
-            (definition-spelled S S plain-terms name type body rest (new-read S [] [] name is.0) is.1 is.2 (omega (arith, short, one, two, three)) (omega (arith, short, one, two, three)));
+            or-same (line_at S [] (line_text S (RawDefinition name type body) ++ rest)) _ (ap (line_at S []) (definition-text S name type body rest) ∙ def-line S _)
+            (definition-spelled S S plain-terms name type body rest (new-read S [] [] name is.0) is.1 is.2 (omega (arith, short, whole, one, two, three)) (omega (arith, short, whole, one, two, three)));
       }
 
   line-spelled : (raw : RawEntry) (rest : List ℕ) → IsEntryOver S raw → length (raw_line S raw) < 2 ^ 32 → Line S raw rest

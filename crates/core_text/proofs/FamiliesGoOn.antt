@@ -7,11 +7,11 @@ use Rattle.theory.specs.Signatures.{Signature, Definition}
 use Rattle.theory.proofs.Lists.{slice_get-last, slice_get-longer}
 use Rattle.core_sig.specs.Raw.{RawConstructor, RawFamily}
 use Rattle.core_text.specs.DeclaredNames.{new_name}
-use Rattle.core_text.specs.EntryText.{parameters_text}
+use Rattle.core_text.specs.EntryText.{parameters_text, constructors_text}
 use Rattle.core_text.specs.LineReading.{nested, whole_term, behind_item, collected, parameter_at, no_parameter, next_parameter, parameters_at, constructor_at, separated, next_constructor, constructors_at, family_behind, family_at}
 use Rattle.core_text.specs.RawEntries.{RawFamilyOf}
 use Rattle.core_text.specs.Reading.{Reading, first, and_then, after, behind}
-use Rattle.core_text.specs.Spellings.{raw_constructors, with_name, IsTermOver, AreTypesOver, IsNewName, AreConstructorsOver, IsFamilyOver}
+use Rattle.core_text.specs.Spellings.{with_name, IsTermOver, AreTypesOver, IsNewName, AreConstructorsOver, IsFamilyOver}
 use Rattle.core_text.specs.SymbolLookup.{symbol}
 use Rattle.core_text.specs.SymbolNames.{own_name, name_at}
 use Rattle.core_text.specs.TermText.{term_text}
@@ -80,21 +80,15 @@ parameters-append T (x ∷ xs) a = ap (λ r. codes " (" ++ term_text T x ++ code
 abbrev constructor_text : Signature → RawConstructor → List ℕ
 constructor_text T c = c.name ++ (codes " : " ++ term_text T c.type)
 
-last : (a b c d : List ℕ) → a ++ (b ++ (c ++ (d ++ []))) ≡ a ++ (b ++ (c ++ d))
-last a b c d = simp append-nil
-
-constructors-append : (T : Signature) (found : List RawConstructor) (c : RawConstructor) → raw_constructors T (codes " ") (found ++ c ∷ []) ≡ raw_constructors T (codes " ") found ++ (separator found ++ constructor_text T c)
-constructors-append T [] c = last (codes " ") c.name (codes " : ") (term_text T c.type)
+constructors-append : (T : Signature) (found : List RawConstructor) (c : RawConstructor) → constructors_text T (codes " ") (found ++ c ∷ []) ≡ constructors_text T (codes " ") found ++ (separator found ++ constructor_text T c)
+constructors-append T [] c = simp (append_assoc, append-nil)
 constructors-append T (d ∷ found) c = by (codes " ") d found
   where
-    shifted : (a b c d e f : List ℕ) → a ++ (b ++ (c ++ (d ++ (e ++ f)))) ≡ (a ++ (b ++ (c ++ (d ++ e)))) ++ f
-    shifted a b c d e f = simp append_assoc
-
-    by : (before : List ℕ) (d : RawConstructor) (found : List RawConstructor) → raw_constructors T before (d ∷ (found ++ c ∷ [])) ≡ raw_constructors T before (d ∷ found) ++ (codes " ; " ++ constructor_text T c)
-    by before d [] = ap (λ r. before ++ (d.name ++ (codes " : " ++ (term_text T d.type ++ r)))) (last (codes " ; ") c.name (codes " : ") (term_text T c.type)) ∙ shifted before d.name (codes " : ") (term_text T d.type) [] (codes " ; " ++ constructor_text T c)
+    by : (before : List ℕ) (d : RawConstructor) (found : List RawConstructor) → constructors_text T before (d ∷ (found ++ c ∷ [])) ≡ constructors_text T before (d ∷ found) ++ (codes " ; " ++ constructor_text T c)
+    by before d [] = simp (append_assoc, append-nil)
     by before d (e ∷ found) =
-        ap (λ r. before ++ (d.name ++ (codes " : " ++ (term_text T d.type ++ r)))) (by (codes " ; ") e found)
-        ∙ shifted before d.name (codes " : ") (term_text T d.type) (raw_constructors T (codes " ; ") (e ∷ found)) (codes " ; " ++ constructor_text T c)
+        ap (λ r. before ++ d.name ++ codes " : " ++ term_text T d.type ++ r) (by (codes " ; ") e found)
+        ∙ sym (append_assoc (before ++ d.name ++ codes " : " ++ term_text T d.type) (constructors_text T (codes " ; ") (e ∷ found)) (codes " ; " ++ constructor_text T c))
 
 -- ---- the line of the family with that name
 
@@ -204,7 +198,7 @@ module _ (S : Signature) (name : List ℕ) (new : IsNewName S [] [] name) where
       p = length parameters
 
       abbrev body : List RawConstructor → List ℕ
-      body cs = (((head parameters ++ codes " : ") ++ term_text T type) ++ codes " {") ++ raw_constructors T (codes " ") cs
+      body cs = (((head parameters ++ codes " : ") ++ term_text T type) ++ codes " {") ++ constructors_text T (codes " ") cs
 
       abbrev Constructors : List RawConstructor → Type 0
       Constructors cs = AreConstructorsOver S name p [] cs
@@ -212,8 +206,8 @@ module _ (S : Signature) (name : List ℕ) (new : IsNewName S [] [] name) where
       family-over : (cs : List RawConstructor) → Constructors cs → IsFamilyOver S (raw_family name parameters type cs)
       family-over cs good = record { name = new; parameters = are; type = over; constructors = good }
 
-      body-text : (cs : List RawConstructor) (more : List ℕ) → body cs ++ more ≡ codes "data " ++ (name ++ (parameters_text T parameters ++ (codes " : " ++ (term_text T type ++ (codes " {" ++ (raw_constructors T (codes " ") cs ++ more))))))
-      body-text cs more = eight (codes "data ") name (parameters_text T parameters) (codes " : ") (term_text T type) (codes " {") (raw_constructors T (codes " ") cs) more
+      body-text : (cs : List RawConstructor) (more : List ℕ) → body cs ++ more ≡ codes "data " ++ (name ++ (parameters_text T parameters ++ (codes " : " ++ (term_text T type ++ (codes " {" ++ (constructors_text T (codes " ") cs ++ more))))))
+      body-text cs more = eight (codes "data ") name (parameters_text T parameters) (codes " : ") (term_text T type) (codes " {") (constructors_text T (codes " ") cs) more
         where
           eight : (a b c d e f g h : List ℕ) → ((((((a ++ b) ++ c) ++ d) ++ e) ++ f) ++ g) ++ h ≡ a ++ (b ++ (c ++ (d ++ (e ++ (f ++ (g ++ h))))))
           eight a b c d e f g h = simp append_assoc
@@ -228,7 +222,7 @@ module _ (S : Signature) (name : List ℕ) (new : IsNewName S [] [] name) where
       body-more : (found : List RawConstructor) (c : RawConstructor) → body (found ++ c ∷ []) ≡ (body found ++ separator found) ++ constructor_text T c
       body-more found c =
           ap (λ x. (((head parameters ++ codes " : ") ++ term_text T type) ++ codes " {") ++ x) (constructors-append T found c)
-          ∙ four (((head parameters ++ codes " : ") ++ term_text T type) ++ codes " {") (raw_constructors T (codes " ") found) (separator found) (constructor_text T c)
+          ∙ four (((head parameters ++ codes " : ") ++ term_text T type) ++ codes " {") (constructors_text T (codes " ") found) (separator found) (constructor_text T c)
         where
           four : (a b c d : List ℕ) → a ++ (b ++ (c ++ d)) ≡ ((a ++ b) ++ c) ++ d
           four a b c d = simp append_assoc

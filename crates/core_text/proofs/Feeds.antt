@@ -8,8 +8,9 @@ use Rattle.theory.specs.Terms.{Term, Var, Sort, Pi, Lam, App, Let, Const, Fam, C
 use Rattle.theory.specs.Families.{Constructor, Family}
 use Rattle.theory.specs.Telescopes.{Telescope}
 use Rattle.theory.specs.Signatures.{Entry, FamilyOf, EliminatorAt, AxiomKAt, Definition, Signature, names_of}
-use Rattle.core_text.specs.EntryText.{entry_text, parameters_text, constructors_text, constructor_type_shown, type_shown}
+use Rattle.core_text.specs.EntryText.{entry_text, parameters_text, constructors_text}
 use Rattle.core_text.specs.Lines.{is_in_line, AreInLine, HasNamesInLine, LinesAreApart}
+use Rattle.core_text.specs.RawEntries.{constructor_line, constructor_type_shown, type_shown}
 use Rattle.core_text.specs.SymbolNames.{name_at}
 use Rattle.core_text.specs.TermText.{spelled, term_text}
 
@@ -77,11 +78,11 @@ parameters-in S names [] = refl
 parameters-in S names (a ∷ tele) =
     both (term_text S a ++ codes ")") (parameters_text S tele) (both (term_text S a) (codes ")") (spelled-in S names false a) refl) (parameters-in S names tele)
 
-constructors-in : (S : Signature) → HasNamesInLine S → (n : ℕ) (f : Family) (before : List ℕ) (cons : List Constructor) → is_in_line before ≡ true → AreInLine (map (λ c. c.name) cons) → is_in_line (constructors_text S n f before cons) ≡ true
+constructors-in : (S : Signature) → HasNamesInLine S → (n : ℕ) (f : Family) (before : List ℕ) (cons : List Constructor) → is_in_line before ≡ true → AreInLine (map (λ c. c.name) cons) → is_in_line (constructors_text S before (map (constructor_line n f) cons)) ≡ true
 constructors-in S names n f before [] p own = refl
 constructors-in S names n f before (c ∷ cons) p own =
     let ty = term_text S (constructor_type_shown n f c) in
-    both (before ++ c.name ++ codes " : " ++ ty) (constructors_text S n f (codes " ; ") cons)
+    both (before ++ c.name ++ codes " : " ++ ty) (constructors_text S (codes " ; ") (map (constructor_line n f) cons))
     (both (before ++ c.name ++ codes " : ") ty (both (before ++ c.name) (codes " : ") (both before c.name p own.0) refl) (spelled-in S names false (constructor_type_shown n f c)))
     (constructors-in S names n f (codes " ; ") cons refl own.1)
 
@@ -89,7 +90,7 @@ pub text-in : (S : Signature) → HasNamesInLine S → (n : ℕ) (e : Entry) →
 text-in S names n (FamilyOf f) own =
     let ps = parameters_text S f.parameters in
     let ty = term_text S (type_shown f) in
-    let cs = constructors_text S n f (codes " ") f.constructors in
+    let cs = constructors_text S (codes " ") (map (constructor_line n f) f.constructors) in
     both (f.name ++ ps ++ codes " : " ++ ty ++ codes " {" ++ cs) (codes " }")
     (both (f.name ++ ps ++ codes " : " ++ ty ++ codes " {") cs
     (both (f.name ++ ps ++ codes " : " ++ ty) (codes " {")

@@ -14,6 +14,7 @@ pub mod FamiliesGoOn
 pub mod Feeds
 pub mod FreshNames
 pub mod LevelsGoOn
+pub mod LineForms
 pub mod LineOutcomes
 pub mod LinesAgree
 pub mod LinesBack
@@ -34,7 +35,6 @@ pub mod Outcomes
 mod PlaceExamples
 pub mod PlacesBefore
 pub mod PlacesFirst
-pub mod PlacesPassed
 pub mod PlacesTold
 pub mod PreludePlain
 pub mod ProductTexts

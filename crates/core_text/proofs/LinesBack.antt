@@ -1,7 +1,7 @@
 -- An entry that is written is read back.
 use Rattle.std.proofs.Common.{◌≡◌, ℕ, zero, suc, ◌+◌, ◌-◌, ◌<◌, ◌≤◌, Bool, true, false, List, [], ◌∷◌, ◌++◌, map, length, drop, take, refl, sym, ap, ap₂, ◌∙◌, subst, append_assoc, append-nil, arith}
 use Rattle.std.specs.Prelude.{◌==◌, ◌&&◌, if◌then◌else◌, Ok, Err, Option, Some, None, codes, decimal}
-use Rattle.std.proofs.lemmas.List.{length-append}
+use Rattle.std.proofs.lemmas.List.{length-append, length-map}
 use Rattle.theory.specs.Terms.{Term}
 use Rattle.theory.specs.Telescopes.{Telescope}
 use Rattle.theory.specs.Families.{Constructor, Family}
@@ -9,10 +9,10 @@ use Rattle.theory.specs.Signatures.{Signature, Entry, FamilyOf, EliminatorAt, Ax
 use Rattle.core_sig.specs.Names.{find}
 use Rattle.core_sig.specs.Raw.{RawConstructor, RawFamily}
 use Rattle.core_text.specs.EntryReading.{behind_notes, shows_entry, shown_by, entry_at, next_entry, with_offset}
-use Rattle.core_text.specs.EntryText.{parameters_text, constructors_text, type_shown, constructor_type_shown, family_text, entry_line}
+use Rattle.core_text.specs.EntryText.{parameters_text, constructors_text, line_text, entry_line}
 use Rattle.core_text.specs.LineReading.{nested, whole_term, ended, definition_at, family_found, levels_left, identities_left, eliminator_at, axiom_k_line, behind_item, collected, parameter_at, no_parameter, next_parameter, parameters_at, constructor_at, separated, next_constructor, family_behind, family_at, line_at}
-use Rattle.core_text.specs.RawEntries.{RawEntry, RawFamilyOf, RawEliminator, RawAxiomK, RawDefinition, entry_shown, family_shown}
-use Rattle.core_text.specs.ReadBack.{Stops, MayDeclare, IsReadBack, AreReadBack, ConstructorsReadBack, FamilyReadsBack, IsFoundFamily, EntryReadsBack, EntriesAreReadBack, constructor_line}
+use Rattle.core_text.specs.RawEntries.{RawEntry, RawFamilyOf, RawEliminator, RawAxiomK, RawDefinition, type_shown, constructor_type_shown, constructor_line, entry_shown, family_shown}
+use Rattle.core_text.specs.ReadBack.{Stops, MayDeclare, IsReadBack, AreReadBack, ConstructorsReadBack, FamilyReadsBack, IsFoundFamily, EntryReadsBack, EntriesAreReadBack}
 use Rattle.core_text.specs.Reading.{Reading, first, and_then, after, behind, begins, read_level, is_left}
 use Rattle.core_text.specs.SymbolLookup.{symbol, found_symbol}
 use Rattle.core_text.specs.SymbolNames.{name_at}
@@ -20,6 +20,7 @@ use Rattle.core_text.specs.TermReading.{term_after}
 use Rattle.core_text.specs.TermText.{term_text}
 use Rattle.core_text.specs.declared.halt.Halt.TheVariants.{Wrong}
 use Rattle.core_text.specs.declared.instances.Series.TheVariants.{Elim, AxiomK}
+use Rattle.core_text.proofs.LineForms.{constructor-text, constructors-long, family-text, eliminator-text, axiom_k-text, definition-text}
 use Rattle.core_text.proofs.NumbersBack.{begins-word, behind-word, drop-word, level-back}
 use Rattle.core_text.proofs.TermsBack.{stops-space, stops-close, stops-line, take-word, terms-are-read-back}
 use Rattle.core_text.proofs.LineOutcomes.{levels-below, identities-below}
@@ -127,9 +128,6 @@ abbrev pub separator : List RawConstructor → List ℕ
 separator [] = codes " "
 separator (c ∷ found) = codes " ; "
 
-constructor-text : (S : Signature) (n : ℕ) (f : Family) (before : List ℕ) (c : Constructor) (cs : List Constructor) (rest : List ℕ) → constructors_text S n f before (c ∷ cs) ++ rest ≡ before ++ (c.name ++ (codes " : " ++ (term_text S (constructor_type_shown n f c) ++ (constructors_text S n f (codes " ; ") cs ++ rest))))
-constructor-text S n f before c cs rest = simp append_assoc
-
 constructor-back : (T S : Signature) (own : List ℕ) (p : ℕ) (found : List RawConstructor) (name : List ℕ) (type : Term) (rest : List ℕ) → MayDeclare T own found name → IsReadBack T S own p type → Stops rest → constructor_at T own p found (name ++ (codes " : " ++ (term_text S type ++ rest))) ≡ Ok (Some (raw_of_parts name type), rest)
 constructor-back T S own p found name type rest may is stops =
     ap (λ m. and_then m (λ name r. and_then (term_after (whole_term T own) (codes " : ") p r) (λ type end. Ok (Some (raw_of_parts name type), end))))
@@ -157,52 +155,42 @@ pub separator-more : (found : List RawConstructor) (c : RawConstructor) → code
 separator-more [] c = refl
 separator-more (d ∷ found) c = refl
 
-stops-next : (S : Signature) (n : ℕ) (f : Family) (cs : List Constructor) (rest : List ℕ) → Stops (constructors_text S n f (codes " ; ") cs ++ (codes " }" ++ rest))
-stops-next S n f [] rest = stops-space (125 ∷ rest)
-stops-next S n f (c ∷ cs) rest = subst Stops (sym (constructor-text S n f (codes " ; ") c cs (codes " }" ++ rest))) (stops-space _)
+pub stops-next : (S : Signature) (cs : List RawConstructor) (rest : List ℕ) → Stops (constructors_text S (codes " ; ") cs ++ (codes " }" ++ rest))
+stops-next S [] rest = stops-space (125 ∷ rest)
+stops-next S (c ∷ cs) rest = subst Stops (sym (constructor-text S (codes " ; ") c cs (codes " }" ++ rest))) (stops-space _)
 
-constructors-back : (T S : Signature) (n : ℕ) (f : Family) (cs : List Constructor) (found : List RawConstructor) (before : List ℕ) (k : ℕ) (rest : List ℕ) → before ≡ separator found → ConstructorsReadBack T S n f found cs → length cs < k → collected (next_constructor T f.name (length f.parameters)) k found (constructors_text S n f before cs ++ (codes " }" ++ rest)) ≡ Ok (found ++ map (constructor_line n f) cs, rest)
+constructors-back : (T S : Signature) (n : ℕ) (f : Family) (cs : List Constructor) (found : List RawConstructor) (before : List ℕ) (k : ℕ) (rest : List ℕ) → before ≡ separator found → ConstructorsReadBack T S n f found cs → length cs < k → collected (next_constructor T f.name (length f.parameters)) k found (constructors_text S before (map (constructor_line n f) cs) ++ (codes " }" ++ rest)) ≡ Ok (found ++ map (constructor_line n f) cs, rest)
 constructors-back T S n f cs found before zero rest is are few = absurd (omega arith)
 constructors-back T S n f [] found before (suc k) rest is are few =
     ap (λ m. and_then m (behind_item (collected (next_constructor T f.name (length f.parameters)) k) found)) (no-more T f.name (length f.parameters) found rest)
     ∙ ap (λ xs. Ok (xs, rest)) (sym (append-nil found))
 constructors-back T S n f (c ∷ cs) found before (suc k) rest is are few =
-    let more = constructors_text S n f (codes " ; ") cs ++ (codes " }" ++ rest) in
+    let more = constructors_text S (codes " ; ") (map (constructor_line n f) cs) ++ (codes " }" ++ rest) in
     ap (collected (next_constructor T f.name (length f.parameters)) (suc k) found)
-    (constructor-text S n f before c cs (codes " }" ++ rest) ∙ ap (λ b. b ++ (c.name ++ (codes " : " ++ (term_text S (constructor_type_shown n f c) ++ more)))) is)
+    (constructor-text S before (constructor_line n f c) (map (constructor_line n f) cs) (codes " }" ++ rest) ∙ ap (λ b. b ++ (c.name ++ (codes " : " ++ (term_text S (constructor_type_shown n f c) ++ more)))) is)
     ∙ (ap (λ m. and_then m (behind_item (collected (next_constructor T f.name (length f.parameters)) k) found))
-    (next-constructor-back T S f.name (length f.parameters) found c.name (constructor_type_shown n f c) more are.0 are.1 (stops-next S n f cs rest))
+    (next-constructor-back T S f.name (length f.parameters) found c.name (constructor_type_shown n f c) more are.0 are.1 (stops-next S (map (constructor_line n f) cs) rest))
     ∙ (constructors-back T S n f cs (found ++ constructor_line n f c ∷ []) (codes " ; ") k rest (separator-more found (constructor_line n f c)) are.2 (omega arith)
     ∙ ap (λ xs. Ok (xs, rest)) (append_assoc found (constructor_line n f c ∷ []) (map (constructor_line n f) cs))))
 
-constructors-long : (S : Signature) (n : ℕ) (f : Family) (before : List ℕ) (cs : List Constructor) → length cs ≤ length (constructors_text S n f before cs)
-constructors-long S n f before [] = omega arith
-constructors-long S n f before (c ∷ cs) =
-    let inner = constructors-long S n f (codes " ; ") cs in
-    let type = term_text S (constructor_type_shown n f c) in
-    let others = constructors_text S n f (codes " ; ") cs in
-    omega (arith, ap length (constructor-text S n f before c cs []), ap length (append-nil (constructors_text S n f before (c ∷ cs))), length-append before (c.name ++ (codes " : " ++ (type ++ (others ++ [])))), length-append c.name (codes " : " ++ (type ++ (others ++ []))), length-append type (others ++ []), length-append others [])
-
 -- ---- families
-
-family-line-text : (S : Signature) (n : ℕ) (f : Family) (rest : List ℕ) → (family_text S n f ++ codes "\n") ++ rest ≡ codes "data " ++ (f.name ++ (parameters_text S f.parameters ++ (codes " : " ++ (term_text S (type_shown f) ++ (codes " {" ++ (constructors_text S n f (codes " ") f.constructors ++ (codes " }" ++ 10 ∷ rest)))))))
-family-line-text S n f rest = simp append_assoc
 
 -- a parameter or the colon stands after the name
 pub stops-name : (S : Signature) (tele : Telescope) (rest : List ℕ) → Stops (parameters_text S tele ++ (codes " : " ++ rest))
 stops-name S [] rest = stops-space _
 stops-name S (a ∷ tele) rest = subst Stops (sym (parameter-text S a tele (codes " : " ++ rest))) (stops-space _)
 
-family-back : (T S : Signature) (n : ℕ) (f : Family) (rest : List ℕ) → FamilyReadsBack T S n f → family_at T [] (f.name ++ (parameters_text S f.parameters ++ (codes " : " ++ (term_text S (type_shown f) ++ (codes " {" ++ (constructors_text S n f (codes " ") f.constructors ++ (codes " }" ++ 10 ∷ rest))))))) ≡ Ok (RawFamilyOf (family_shown n f), rest)
+family-back : (T S : Signature) (n : ℕ) (f : Family) (rest : List ℕ) → FamilyReadsBack T S n f → family_at T [] (f.name ++ (parameters_text S f.parameters ++ (codes " : " ++ (term_text S (type_shown f) ++ (codes " {" ++ (constructors_text S (codes " ") (map (constructor_line n f) f.constructors) ++ (codes " }" ++ 10 ∷ rest))))))) ≡ Ok (RawFamilyOf (family_shown n f), rest)
 family-back T S n f rest is =
     let ending = codes " }" ++ 10 ∷ rest in
-    let braces = constructors_text S n f (codes " ") f.constructors ++ ending in
+    let braces = constructors_text S (codes " ") (map (constructor_line n f) f.constructors) ++ ending in
     let typed = term_text S (type_shown f) ++ (codes " {" ++ braces) in
     let whole = parameters_text S f.parameters ++ (codes " : " ++ typed) in
     let few = parameters-long S f.parameters in
-    let less = constructors-long S n f (codes " ") f.constructors in
+    let less = constructors-long S (codes " ") (map (constructor_line n f) f.constructors) in
+    let count = length-map f.constructors (constructor_line n f) in
     let long = length-append (parameters_text S f.parameters) (codes " : " ++ typed) in
-    let wide = length-append (constructors_text S n f (codes " ") f.constructors) ending in
+    let wide = length-append (constructors_text S (codes " ") (map (constructor_line n f) f.constructors)) ending in
     ap (λ m. and_then m (λ name r1. and_then (parameters_at T [] r1) (λ parameters r2. and_then (whole_term T [] (length parameters) r2) (λ type r3. after (behind (codes " {") r3) (family_behind T name parameters type)))))
     (is.name.reads whole (stops-name S f.parameters typed))
     ∙ (ap (λ m. and_then m (λ parameters r2. and_then (whole_term T [] (length parameters) r2) (λ type r3. after (behind (codes " {") r3) (family_behind T f.name parameters type))))
@@ -242,15 +230,6 @@ data-line T rest =
 
 -- ---- a whole entry
 
-definition-text : (S : Signature) (n : ℕ) (name : List ℕ) (type body : Term) (rest : List ℕ) → entry_line S n (Definition name type body) ++ rest ≡ codes "def " ++ (name ++ (codes " : " ++ (term_text S type ++ (codes " = " ++ (term_text S body ++ 10 ∷ rest)))))
-definition-text S n name type body rest = simp append_assoc
-
-eliminator-text : (S : Signature) (n g m : ℕ) (rest : List ℕ) → entry_line S n (EliminatorAt g m) ++ rest ≡ codes "elim " ++ (name_at S g ++ (codes " " ++ (decimal m ++ 10 ∷ rest)))
-eliminator-text S n g m rest = simp append_assoc
-
-axiom_k-text : (S : Signature) (n i m : ℕ) (rest : List ℕ) → entry_line S n (AxiomKAt i m) ++ rest ≡ codes "axiomk " ++ (decimal i ++ (codes " " ++ (decimal m ++ 10 ∷ rest)))
-axiom_k-text S n i m rest = simp append_assoc
-
 pub record Starts (text : List ℕ) : Type 0 where
   pub one : ℕ
   pub others : List ℕ
@@ -265,23 +244,23 @@ record Line (T S : Signature) (e : Entry) (rest : List ℕ) : Type 0 where
 
 line-back : (T S : Signature) (e : Entry) (rest : List ℕ) → EntryReadsBack T S e → Line T S e rest
 line-back T S (FamilyOf f) rest is = record {
-  starts = record { one = 100; others = _; is = family-line-text S (length T.entries) f rest; no_note = refl };
-  reads = ap (line_at T []) (family-line-text S (length T.entries) f rest) ∙ (data-line T _ ∙ family-back T S (length T.entries) f rest is);
+  starts = record { one = 100; others = _; is = family-text S (family_shown (length T.entries) f) rest; no_note = refl };
+  reads = ap (line_at T []) (family-text S (family_shown (length T.entries) f) rest) ∙ (data-line T _ ∙ family-back T S (length T.entries) f rest is);
   shows = is.record_shown;
 }
 line-back T S (EliminatorAt g m) rest is = record {
-  starts = record { one = 101; others = _; is = eliminator-text S (length T.entries) g m rest; no_note = refl };
-  reads = ap (line_at T []) (eliminator-text S (length T.entries) g m rest) ∙ (elim-line T _ ∙ eliminator-back T (name_at S g) g m rest is.0 is.1);
+  starts = record { one = 101; others = _; is = eliminator-text S g m rest; no_note = refl };
+  reads = ap (line_at T []) (eliminator-text S g m rest) ∙ (elim-line T _ ∙ eliminator-back T (name_at S g) g m rest is.0 is.1);
   shows = refl;
 }
 line-back T S (AxiomKAt i m) rest is = record {
-  starts = record { one = 97; others = _; is = axiom_k-text S (length T.entries) i m rest; no_note = refl };
-  reads = ap (line_at T []) (axiom_k-text S (length T.entries) i m rest) ∙ (axiom_k-line T (decimal i ++ (codes " " ++ (decimal m ++ 10 ∷ rest))) is.0 ∙ axiom_k-back T i m rest is.1 is.2);
+  starts = record { one = 97; others = _; is = axiom_k-text S i m rest; no_note = refl };
+  reads = ap (line_at T []) (axiom_k-text S i m rest) ∙ (axiom_k-line T (decimal i ++ (codes " " ++ (decimal m ++ 10 ∷ rest))) is.0 ∙ axiom_k-back T i m rest is.1 is.2);
   shows = refl;
 }
 line-back T S (Definition name type body) rest is = record {
-  starts = record { one = 100; others = _; is = definition-text S (length T.entries) name type body rest; no_note = refl };
-  reads = ap (line_at T []) (definition-text S (length T.entries) name type body rest) ∙ (def-line T _ ∙ definition-back T S name type body rest is.0 is.1 is.2);
+  starts = record { one = 100; others = _; is = definition-text S name type body rest; no_note = refl };
+  reads = ap (line_at T []) (definition-text S name type body rest) ∙ (def-line T _ ∙ definition-back T S name type body rest is.0 is.1 is.2);
   shows = refl;
 }
 

@@ -20,6 +20,7 @@ use Rattle.core_text.specs.TermText.{term_text}
 use Rattle.core_text.specs.declared.instances.Series.TheVariants.{Elim, AxiomK}
 use Rattle.core_text.proofs.Completions.{Meets, IsFront, front-of, front-less, meets-wrong, meets-then, meets-on, meets-word, meets-after}
 use Rattle.core_text.proofs.LevelsGoOn.{SomeLeft, NoneLeft, some-or-none, level-of-axiom, SomeEliminator, NoEliminator, eliminator-or-none, Levelled, level-meets}
+use Rattle.core_text.proofs.LineForms.{grouped_line, grouped_line-is}
 use Rattle.core_text.proofs.LinesBack.{nested-is}
 use Rattle.core_text.proofs.NamesGoOn.{Named, name-meets}
 use Rattle.core_text.proofs.SymbolOutcomes.{Has, found_symbol-is}
@@ -48,14 +49,14 @@ abbrev pub Read : Signature → List ℕ → RawEntry → List ℕ → Type 0
 Read S whole raw r = (whole ≡ raw_line S raw ++ r) × IsEntryOver S raw
 
 -- a front of a line
-pub line-front : (S : Signature) (front more : List ℕ) (raw : RawEntry) → front ++ more ≡ raw_line S raw → IsEntryOver S raw → IsFront (Goes S) front
-line-front S front more raw is over = front-of (Goes S) front more (raw_line S raw) is (inl (raw, refl, over))
+pub line-front : (S : Signature) (front more : List ℕ) (raw : RawEntry) → front ++ more ≡ grouped_line S raw → IsEntryOver S raw → IsFront (Goes S) front
+line-front S front more raw is over = front-of (Goes S) front more (raw_line S raw) (is ∙ grouped_line-is S raw) (inl (raw, refl, over))
 
-pub ended-meets : (S : Signature) (whole front : List ℕ) (raw : RawEntry) (rest : List ℕ) → whole ≡ front ++ rest → front ++ codes "\n" ≡ raw_line S raw → IsEntryOver S raw → Meets (Read S whole) (Goes S) whole (ended raw rest)
+pub ended-meets : (S : Signature) (whole front : List ℕ) (raw : RawEntry) (rest : List ℕ) → whole ≡ front ++ rest → front ++ codes "\n" ≡ grouped_line S raw → IsEntryOver S raw → Meets (Read S whole) (Goes S) whole (ended raw rest)
 ended-meets S whole front raw rest at text over =
     meets-word (Read S whole) (Goes S) front (codes "\n") rest whole (λ end. Ok (raw, end)) at
     (line-front S (front ++ codes "\n") [] raw (append-nil (front ++ codes "\n") ∙ text) over)
-    (λ r so. (at ∙ (ap (λ s. front ++ s) so ∙ (sym (append_assoc front (codes "\n") r) ∙ ap (λ s. s ++ r) text)), over))
+    (λ r so. (at ∙ (ap (λ s. front ++ s) so ∙ (sym (append_assoc front (codes "\n") r) ∙ ap (λ s. s ++ r) (text ∙ grouped_line-is S raw))), over))
 
 -- ---- whole terms
 

@@ -5,7 +5,6 @@ use Rattle.std.proofs.lemmas.Bool.{false≢true, and_from}
 use Rattle.std.proofs.lemmas.Bool.Decides.{nat_tests}
 use Rattle.std.proofs.lemmas.List.{length-append, length-drop, take-append-drop}
 use Rattle.theory.specs.Terms.{Term, Fam}
-use Rattle.theory.specs.Families.{Constructor, Family}
 use Rattle.theory.specs.Signatures.{Signature, Entry, FamilyOf, EliminatorAt, AxiomKAt, Definition}
 use Rattle.theory.specs.WellFormed.{pushed}
 use Rattle.theory.proofs.Lists.{slice_get-last, slice_get-longer}
@@ -13,15 +12,13 @@ use Rattle.core_sig.specs.Names.{find}
 use Rattle.core_sig.specs.Raw.{RawConstructor, RawFamily}
 use Rattle.core_text.specs.DeclaredNames.{may_declare, by_shape, new_name, shape_of}
 use Rattle.core_text.specs.EntryReading.{behind_notes, shows_entry, shown_by, entry_at, with_offset, entry_from}
-use Rattle.core_text.specs.EntryText.{parameters_text, constructors_text, constructor_type_shown, type_shown, entry_line}
-use Rattle.core_text.specs.LineLaws.{AreNotes, no_note, note, Stands, LinesAreRead, LinesShowOneEntry}
+use Rattle.core_text.specs.EntryText.{parameters_text, constructors_text, line_text, entry_line}
+use Rattle.core_text.specs.LineLaws.{AreNotes, no_note, note, Stands, LinesAreRead}
 use Rattle.core_text.specs.LineReading.{nested, whole_term, ended, definition_at, family_found, family_name, levels_left, identities_left, eliminator_at, axiom_k_line, behind_item, collected, parameter_at, no_parameter, next_parameter, parameters_at, constructor_at, separated, next_constructor, constructors_at, family_behind, family_at, line_at}
 use Rattle.core_text.specs.Lines.{is_in_line}
 use Rattle.core_text.specs.NameRuns.{run_len}
 use Rattle.core_text.specs.RawEntries.{RawEntry, RawFamilyOf, RawEliminator, RawAxiomK, RawDefinition, entry_shown}
-use Rattle.core_text.specs.ReadBack.{constructor_line}
 use Rattle.core_text.specs.Reading.{Reading, wrong, first, and_then, after, behind, begins, read_level}
-use Rattle.core_text.specs.Spellings.{raw_constructors, raw_text}
 use Rattle.core_text.specs.SymbolLookup.{symbol, found_symbol}
 use Rattle.core_text.specs.SymbolNames.{own_name, name_at}
 use Rattle.core_text.specs.TermReading.{term_after}
@@ -31,28 +28,14 @@ use Rattle.core_text.specs.declared.declared_names.Shape.TheVariants.{Declarable
 use Rattle.core_text.specs.declared.halt.Halt.{Halt}
 use Rattle.core_text.specs.declared.instances.Series.TheVariants.{Elim, AxiomK}
 use Rattle.core_text.specs.declared.stop.CoreTextStop.{CoreTextStop}
-use Rattle.core_text.proofs.LinesBack.{nested-is, separator, separator-more, entries-are-read-back}
+use Rattle.core_text.proofs.LineForms.{line-shown}
+use Rattle.core_text.proofs.LinesBack.{nested-is, separator, separator-more}
 use Rattle.core_text.proofs.Outcomes.{Ensures, ensures-then, ensures-if}
 use Rattle.core_text.proofs.RunSteps.{taken-front}
 use Rattle.core_text.proofs.SymbolOutcomes.{Has}
 use Rattle.core_text.proofs.SymbolsRead.{found_symbol-written, symbol-written}
 use Rattle.core_text.proofs.TermsRead.{Writes, term-writes}
 use Rattle.core_text.proofs.WordsRead.{ensures-word, first-is, level-read}
-
--- ---- the text of what a line shows
-
-constructors-shown : (S : Signature) (n : ℕ) (f : Family) (before : List ℕ) (cs : List Constructor) → raw_constructors S before (map (constructor_line n f) cs) ≡ constructors_text S n f before cs
-constructors-shown S n f before [] = refl
-constructors-shown S n f before (c ∷ cs) =
-    ap (λ r. before ++ (c.name ++ (codes " : " ++ (term_text S (constructor_type_shown n f c) ++ r)))) (constructors-shown S n f (codes " ; ") cs) ∙ simp append_assoc
-
-text-shown : (S : Signature) (n : ℕ) (e : Entry) → raw_text S (entry_shown n e) ≡ entry_line S n e
-text-shown S n (FamilyOf f) =
-    ap (λ r. codes "data " ++ (f.name ++ (parameters_text S f.parameters ++ (codes " : " ++ (term_text S (type_shown f) ++ (codes " {" ++ (r ++ codes " }\n"))))))) (constructors-shown S n f (codes " ") f.constructors)
-    ∙ simp append_assoc
-text-shown S n (EliminatorAt g m) = simp append_assoc
-text-shown S n (AxiomKAt i m) = simp append_assoc
-text-shown S n (Definition name type body) = simp append_assoc
 
 -- ---- what is read where something is known of T
 
@@ -94,16 +77,16 @@ module _ (T S : Signature) (has : Has T S) where
 
   -- ---- lines, by what stands before their end
 
-  ended-writes : (whole front : List ℕ) (e : RawEntry) (rest : List ℕ) → whole ≡ front ++ rest → front ++ codes "\n" ≡ raw_text T e → Ensures (λ x r. whole ≡ raw_text T x ++ r) (ended e rest)
+  ended-writes : (whole front : List ℕ) (e : RawEntry) (rest : List ℕ) → whole ≡ front ++ rest → front ++ codes "\n" ≡ line_text T e → Ensures (λ x r. whole ≡ line_text T x ++ r) (ended e rest)
   ended-writes whole front e rest is text =
-      ensures-word (λ x r. whole ≡ raw_text T x ++ r) (codes "\n") rest (λ end. Ok (e, end))
+      ensures-word (λ x r. whole ≡ line_text T x ++ r) (codes "\n") rest (λ end. Ok (e, end))
       (λ r so. is ∙ (ap (λ s. front ++ s) so ∙ (sym (append_assoc front (codes "\n") r) ∙ ap (λ s. s ++ r) text)))
 
-  definition-writes : (rest : List ℕ) → Ensures (λ x r. codes "def " ++ rest ≡ raw_text T x ++ r) (definition_at S [] rest)
+  definition-writes : (rest : List ℕ) → Ensures (λ x r. codes "def " ++ rest ≡ line_text T x ++ r) (definition_at S [] rest)
   definition-writes rest =
-      ensures-then (λ name r. rest ≡ name ++ r) (λ x r. codes "def " ++ rest ≡ raw_text T x ++ r) (new_name S [] [] rest) _ (name-reads S [] [] rest)
-      (λ name r1 fn. after-writes (λ x r. codes "def " ++ rest ≡ raw_text T x ++ r) [] (codes " : ") 0 r1 _ no-own (omega arith)
-      (λ type r2 ft. after-writes (λ x r. codes "def " ++ rest ≡ raw_text T x ++ r) [] (codes " = ") 0 r2 _ no-own (omega arith)
+      ensures-then (λ name r. rest ≡ name ++ r) (λ x r. codes "def " ++ rest ≡ line_text T x ++ r) (new_name S [] [] rest) _ (name-reads S [] [] rest)
+      (λ name r1 fn. after-writes (λ x r. codes "def " ++ rest ≡ line_text T x ++ r) [] (codes " : ") 0 r1 _ no-own (omega arith)
+      (λ type r2 ft. after-writes (λ x r. codes "def " ++ rest ≡ line_text T x ++ r) [] (codes " = ") 0 r2 _ no-own (omega arith)
       (λ body r3 fb. ended-writes (codes "def " ++ rest) (codes "def " ++ (name ++ (codes " : " ++ (term_text T type ++ (codes " = " ++ term_text T body))))) (RawDefinition name type body) r3
       (ap (λ s. codes "def " ++ s) (fn ∙ ap (λ s. name ++ s) (ft ∙ ap (λ s. codes " : " ++ (term_text T type ++ s)) fb)) ∙ simp append_assoc) (simp append_assoc))))
 
@@ -121,19 +104,19 @@ module _ (T S : Signature) (has : Has T S) where
       (λ n r is. sym (take-append-drop k rest) ∙ ap₂ (λ a b. a ++ b) (sym is.0) (sym is.1))
       (family-found-writes (found_symbol S (find S name)) name rest (drop k rest) (λ t e. found_symbol-written T S has name t e false))
 
-  eliminator-writes : (rest : List ℕ) → Ensures (λ x r. codes "elim " ++ rest ≡ raw_text T x ++ r) (eliminator_at S rest)
+  eliminator-writes : (rest : List ℕ) → Ensures (λ x r. codes "elim " ++ rest ≡ line_text T x ++ r) (eliminator_at S rest)
   eliminator-writes rest =
-      ensures-then (λ n r. rest ≡ name_at T n ++ r) (λ x r. codes "elim " ++ rest ≡ raw_text T x ++ r) (family_name S rest) _ (family-name-writes rest)
-      (λ n r1 fn. ensures-word (λ x r. codes "elim " ++ rest ≡ raw_text T x ++ r) (codes " ") r1 _
-      (λ r2 fs. ensures-then (λ v r. r2 ≡ decimal v ++ r) (λ x r. codes "elim " ++ rest ≡ raw_text T x ++ r) (read_level (levels_left S (Elim n)) r2) _ (level-read (levels_left S (Elim n)) r2)
+      ensures-then (λ n r. rest ≡ name_at T n ++ r) (λ x r. codes "elim " ++ rest ≡ line_text T x ++ r) (family_name S rest) _ (family-name-writes rest)
+      (λ n r1 fn. ensures-word (λ x r. codes "elim " ++ rest ≡ line_text T x ++ r) (codes " ") r1 _
+      (λ r2 fs. ensures-then (λ v r. r2 ≡ decimal v ++ r) (λ x r. codes "elim " ++ rest ≡ line_text T x ++ r) (read_level (levels_left S (Elim n)) r2) _ (level-read (levels_left S (Elim n)) r2)
       (λ m r3 fm. ended-writes (codes "elim " ++ rest) (codes "elim " ++ (name_at T n ++ (codes " " ++ decimal m))) (RawEliminator n m) r3
       (ap (λ s. codes "elim " ++ s) (fn ∙ ap (λ s. name_at T n ++ s) (fs ∙ ap (λ s. codes " " ++ s) fm)) ∙ simp append_assoc) (simp append_assoc))))
 
-  axiom_k-writes : (rest : List ℕ) → Ensures (λ x r. codes "axiomk " ++ rest ≡ raw_text T x ++ r) (axiom_k_line S rest)
+  axiom_k-writes : (rest : List ℕ) → Ensures (λ x r. codes "axiomk " ++ rest ≡ line_text T x ++ r) (axiom_k_line S rest)
   axiom_k-writes rest =
-      ensures-then (λ v r. rest ≡ decimal v ++ r) (λ x r. codes "axiomk " ++ rest ≡ raw_text T x ++ r) (read_level (identities_left S) rest) _ (level-read (identities_left S) rest)
-      (λ i r1 fi. ensures-word (λ x r. codes "axiomk " ++ rest ≡ raw_text T x ++ r) (codes " ") r1 _
-      (λ r2 fs. ensures-then (λ v r. r2 ≡ decimal v ++ r) (λ x r. codes "axiomk " ++ rest ≡ raw_text T x ++ r) (read_level (levels_left S (AxiomK i)) r2) _ (level-read (levels_left S (AxiomK i)) r2)
+      ensures-then (λ v r. rest ≡ decimal v ++ r) (λ x r. codes "axiomk " ++ rest ≡ line_text T x ++ r) (read_level (identities_left S) rest) _ (level-read (identities_left S) rest)
+      (λ i r1 fi. ensures-word (λ x r. codes "axiomk " ++ rest ≡ line_text T x ++ r) (codes " ") r1 _
+      (λ r2 fs. ensures-then (λ v r. r2 ≡ decimal v ++ r) (λ x r. codes "axiomk " ++ rest ≡ line_text T x ++ r) (read_level (levels_left S (AxiomK i)) r2) _ (level-read (levels_left S (AxiomK i)) r2)
       (λ m r3 fm. ended-writes (codes "axiomk " ++ rest) (codes "axiomk " ++ (decimal i ++ (codes " " ++ decimal m))) (RawAxiomK i m) r3
       (ap (λ s. codes "axiomk " ++ s) (fi ∙ ap (λ s. decimal i ++ s) (fs ∙ ap (λ s. codes " " ++ s) fm)) ∙ simp append_assoc) (simp append_assoc))))
 
@@ -195,10 +178,10 @@ module _ (T S : Signature) (has : Has T S) where
   abbrev constructor_text : List RawConstructor → RawConstructor → List ℕ
   constructor_text found c = separator found ++ (c.name ++ (codes " : " ++ term_text T c.type))
 
-  constructors-listed : (found new : List RawConstructor) → listed constructor_text found new ≡ raw_constructors T (separator found) new
+  constructors-listed : (found new : List RawConstructor) → listed constructor_text found new ≡ constructors_text T (separator found) new
   constructors-listed found [] = refl
   constructors-listed found (c ∷ new) =
-      ap (λ r. (separator found ++ (c.name ++ (codes " : " ++ term_text T c.type))) ++ r) (constructors-listed (found ++ c ∷ []) new ∙ ap (λ b. raw_constructors T b new) (sym (separator-more found c)))
+      ap (λ r. (separator found ++ (c.name ++ (codes " : " ++ term_text T c.type))) ++ r) (constructors-listed (found ++ c ∷ []) new ∙ ap (λ b. constructors_text T b new) (sym (separator-more found c)))
       ∙ simp append_assoc
 
   module _ (own : List ℕ) (p : ℕ) (is_own : nat_lt 0 (length own) ≡ true → name_at T (length S.entries) ≡ own) (few : p < 2 ^ 33) where
@@ -221,10 +204,10 @@ module _ (T S : Signature) (has : Has T S) where
             ensures-word (Item constructor_text (codes " }") (c ∷ found) rest) (codes "; ") r (constructor_at S own p (c ∷ found))
             (λ r2 so. constructor-writes (c ∷ found) rest (codes " ; ") r2 refl (is ∙ ap (λ s. codes " " ++ s) so))
 
-    constructors-write : (rest : List ℕ) → Ensures (λ cs r. rest ≡ raw_constructors T (codes " ") cs ++ (codes " }" ++ r)) (constructors_at S own p rest)
+    constructors-write : (rest : List ℕ) → Ensures (λ cs r. rest ≡ constructors_text T (codes " ") cs ++ (codes " }" ++ r)) (constructors_at S own p rest)
     constructors-write rest =
-        ensures-weaker (Listed constructor_text (codes " }") (length rest) [] rest) (λ cs r. rest ≡ raw_constructors T (codes " ") cs ++ (codes " }" ++ r)) (constructors_at S own p rest)
-        (λ cs r all. all.2 ∙ ap (λ s. s ++ (codes " }" ++ r)) (constructors-listed [] all.0 ∙ ap (raw_constructors T (codes " ")) (sym all.1)))
+        ensures-weaker (Listed constructor_text (codes " }") (length rest) [] rest) (λ cs r. rest ≡ constructors_text T (codes " ") cs ++ (codes " }" ++ r)) (constructors_at S own p rest)
+        (λ cs r all. all.2 ∙ ap (λ s. s ++ (codes " }" ++ r)) (constructors-listed [] all.0 ∙ ap (constructors_text T (codes " ")) (sym all.1)))
         (collected-writes constructor_text (codes " }") (length rest) (next_constructor S own p) (λ found r less. next-writes found r) (length rest) [] rest (omega arith))
 
   -- ---- families, and a whole line
@@ -235,19 +218,19 @@ module _ (T S : Signature) (has : Has T S) where
   HasOwn _ = Unit {0}
 
   abbrev Line : List ℕ → RawEntry → List ℕ → Type 0
-  Line whole x r = HasOwn x → whole ≡ raw_text T x ++ r
+  Line whole x r = HasOwn x → whole ≡ line_text T x ++ r
 
-  family-ended : (whole front : List ℕ) (raw : RawFamily) (rest : List ℕ) → (name_at T (length S.entries) ≡ raw.name → whole ≡ front ++ rest) → front ++ codes "\n" ≡ raw_text T (RawFamilyOf raw) → Ensures (Line whole) (ended (RawFamilyOf raw) rest)
+  family-ended : (whole front : List ℕ) (raw : RawFamily) (rest : List ℕ) → (name_at T (length S.entries) ≡ raw.name → whole ≡ front ++ rest) → front ++ codes "\n" ≡ line_text T (RawFamilyOf raw) → Ensures (Line whole) (ended (RawFamilyOf raw) rest)
   family-ended whole front raw rest is text =
       ensures-word (Line whole) (codes "\n") rest (λ end. Ok (RawFamilyOf raw, end))
       (λ r so own. is own ∙ (ap (λ s. front ++ s) so ∙ (sym (append_assoc front (codes "\n") r) ∙ ap (λ s. s ++ r) text)))
 
   behind-writes : (whole name : List ℕ) (parameters : List Term) (type : Term) (rest : List ℕ) → length parameters < 2 ^ 33 → whole ≡ codes "data " ++ (name ++ (parameters_text T parameters ++ (codes " : " ++ (term_text T type ++ (codes " {" ++ rest))))) → Ensures (Line whole) (family_behind S name parameters type rest)
   behind-writes whole name parameters type rest few is =
-      ensures-then (λ cs r. name_at T (length S.entries) ≡ name → rest ≡ raw_constructors T (codes " ") cs ++ (codes " }" ++ r)) (Line whole) (constructors_at S name (length parameters) rest) _
-      (ensures-later (name_at T (length S.entries) ≡ name) (λ cs r. rest ≡ raw_constructors T (codes " ") cs ++ (codes " }" ++ r)) (constructors_at S name (length parameters) rest)
+      ensures-then (λ cs r. name_at T (length S.entries) ≡ name → rest ≡ constructors_text T (codes " ") cs ++ (codes " }" ++ r)) (Line whole) (constructors_at S name (length parameters) rest) _
+      (ensures-later (name_at T (length S.entries) ≡ name) (λ cs r. rest ≡ constructors_text T (codes " ") cs ++ (codes " }" ++ r)) (constructors_at S name (length parameters) rest)
       (λ own. constructors-write name (length parameters) (λ some. own) few rest))
-      (λ cs end fc. family-ended whole (codes "data " ++ (name ++ (parameters_text T parameters ++ (codes " : " ++ (term_text T type ++ (codes " {" ++ (raw_constructors T (codes " ") cs ++ codes " }")))))))
+      (λ cs end fc. family-ended whole (codes "data " ++ (name ++ (parameters_text T parameters ++ (codes " : " ++ (term_text T type ++ (codes " {" ++ (constructors_text T (codes " ") cs ++ codes " }")))))))
       (record { name = name; parameters = parameters; type = type; constructors = cs }) end
       (λ own. is ∙ (ap (λ s. codes "data " ++ (name ++ (parameters_text T parameters ++ (codes " : " ++ (term_text T type ++ (codes " {" ++ s)))))) (fc own) ∙ simp append_assoc)) (simp append_assoc))
 
@@ -273,7 +256,7 @@ module _ (T S : Signature) (has : Has T S) where
       (λ e. ensures-word (Line rest) (codes "axiomk ") rest (axiom_k_line S) (λ r is. moved (codes "axiomk ") r is (axiom_k_line S r) (axiom_k-writes T S has r)))
       (λ e. ensures-word (Line rest) (codes "data ") rest (family_at S []) (λ r is. families r is))))
     where
-      moved : (word r : List ℕ) → rest ≡ word ++ r → (m : Reading RawEntry) → Ensures (λ x s. word ++ r ≡ raw_text T x ++ s) m → Ensures (Line rest) m
+      moved : (word r : List ℕ) → rest ≡ word ++ r → (m : Reading RawEntry) → Ensures (λ x s. word ++ r ≡ line_text T x ++ s) m → Ensures (Line rest) m
       moved word r is (Ok p) so = λ own. is ∙ so
       moved word r is (Err e) so = tt
 
@@ -353,7 +336,7 @@ line-read S e rest short =
     let T = pushed S e in
     let n = length S.entries in
     ensures-weaker (Line T S (longer) rest) (λ x r. x ≡ entry_shown n e → rest ≡ entry_line T n e ++ r) (line_at S [] rest)
-    (λ x r so is. so (subst (HasOwn T S longer) (sym is) (own-is S e)) ∙ ap (λ s. s ++ r) (ap (raw_text T) is ∙ text-shown T n e))
+    (λ x r so is. so (subst (HasOwn T S longer) (sym is) (own-is S e)) ∙ ap (λ s. s ++ r) (ap (line_text T) is ∙ line-shown T n e))
     (line-writes T S longer rest short)
   where
     longer : Has (pushed S e) S
@@ -424,15 +407,3 @@ lines-are-read S text from e to small within is = by (behind_notes false (drop f
         let short : length rest < 2 ^ 33 = omega (arith, small, length-drop from text, ap length before.is, length-append before.notes rest) in
         entry rest before (entry_at S rest) (entry-read S e rest short) same
     by (Err h) notes same = absurd (cc)
-
--- ---- one entry
-
-shown-is : {a b : RawEntry × ℕ} → ◌≡◌ {A = Result (Option (RawEntry × ℕ)) CoreTextStop} (Ok (Some a)) (Ok (Some b)) → a.0 ≡ b.0
-shown-is e = ap (λ p. p.0) (inner e)
-  where
-    inner : {a b : RawEntry × ℕ} → ◌≡◌ {A = Result (Option (RawEntry × ℕ)) CoreTextStop} (Ok (Some a)) (Ok (Some b)) → a ≡ b
-    inner e = cc
-
-pub lines-show-one-entry : LinesShowOneEntry
-lines-show-one-entry T R S e f r s fe ff is =
-    shown-is (sym (entries-are-read-back T R e [] r fe) ∙ (ap (λ text. entry_from T text 0) is ∙ entries-are-read-back T S f [] s ff))

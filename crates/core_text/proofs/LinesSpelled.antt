@@ -6,16 +6,17 @@ use Rattle.theory.specs.Terms.{Term}
 use Rattle.theory.specs.Telescopes.{Telescope}
 use Rattle.theory.specs.Signatures.{Signature}
 use Rattle.core_sig.specs.Raw.{RawConstructor, RawFamily}
-use Rattle.core_text.specs.EntryText.{parameters_text}
+use Rattle.core_text.specs.EntryText.{parameters_text, constructors_text, line_text}
 use Rattle.core_text.specs.LineReading.{whole_term, ended, definition_at, behind_item, collected, parameter_at, parameters_at, constructor_at, next_parameter, next_constructor, family_behind, family_at}
 use Rattle.core_text.specs.RawEntries.{RawFamilyOf, RawDefinition}
 use Rattle.core_text.specs.ReadBack.{Stops, MayDeclare}
 use Rattle.core_text.specs.Reading.{first, and_then, after, behind}
-use Rattle.core_text.specs.Spellings.{raw_constructors, raw_text, IsTermOver, AreTypesOver, AreConstructorsOver, IsFamilyOver}
+use Rattle.core_text.specs.Spellings.{IsTermOver, AreTypesOver, AreConstructorsOver, IsFamilyOver}
 use Rattle.core_text.specs.TermReading.{term_after}
 use Rattle.core_text.specs.TermText.{term_text}
 use Rattle.core_text.proofs.Depths.{OrNested, is_read, or-same, or-then, or-other}
-use Rattle.core_text.proofs.LinesBack.{raw_of_parts, raw_family_of_parts, ended-back, Parameters, parameter-text, next-space, next-none, parameters-long, separator, no-more, separator-more, stops-name}
+use Rattle.core_text.proofs.LineForms.{constructor-text, constructors-size, constructors-long, grouped-is}
+use Rattle.core_text.proofs.LinesBack.{raw_of_parts, raw_family_of_parts, ended-back, Parameters, parameter-text, next-space, next-none, parameters-long, separator, no-more, separator-more, stops-next, stops-name}
 use Rattle.core_text.proofs.NewNames.{new-read}
 use Rattle.core_text.proofs.NumbersBack.{behind-word}
 use Rattle.core_text.proofs.TermsBack.{stops-space, stops-close, stops-line}
@@ -72,23 +73,6 @@ module _ (S W : Signature) (reads : ReadsWhole S W [] false) where
 
 -- ---- constructors
 
-constructor-text : (W : Signature) (before : List ℕ) (c : RawConstructor) (cs : List RawConstructor) (rest : List ℕ) → raw_constructors W before (c ∷ cs) ++ rest ≡ before ++ (c.name ++ (codes " : " ++ (term_text W c.type ++ (raw_constructors W (codes " ; ") cs ++ rest))))
-constructor-text W before c cs rest = simp append_assoc
-
-constructors-size : (W : Signature) (before : List ℕ) (c : RawConstructor) (cs : List RawConstructor) → length (raw_constructors W before (c ∷ cs)) ≡ length before + (length c.name + (3 + (length (term_text W c.type) + length (raw_constructors W (codes " ; ") cs))))
-constructors-size W before c cs =
-    let type = term_text W c.type in
-    let others = raw_constructors W (codes " ; ") cs in
-    omega (arith, length-append before (c.name ++ (codes " : " ++ (type ++ others))), length-append c.name (codes " : " ++ (type ++ others)), length-append type others)
-
-constructors-long : (W : Signature) (before : List ℕ) (cs : List RawConstructor) → length cs ≤ length (raw_constructors W before cs)
-constructors-long W before [] = omega arith
-constructors-long W before (c ∷ cs) = omega (arith, constructors-long W (codes " ; ") cs, constructors-size W before c cs)
-
-stops-next : (W : Signature) (cs : List RawConstructor) (rest : List ℕ) → Stops (raw_constructors W (codes " ; ") cs ++ (codes " }" ++ rest))
-stops-next W [] rest = stops-space (125 ∷ rest)
-stops-next W (c ∷ cs) rest = subst Stops (sym (constructor-text W (codes " ; ") c cs (codes " }" ++ rest))) (stops-space _)
-
 module _ (S W : Signature) (own : List ℕ) (p : ℕ) (few : p < 2 ^ 32) (reads : ReadsWhole S W own true) where
   constructor-spelled : (found : List RawConstructor) (name : List ℕ) (type : Term) (rest : List ℕ) → MayDeclare S own found name → IsTermOver S true p type → length (term_text W type) < 2 ^ 32 → Stops rest → OrNested (constructor_at S own p found (name ++ (codes " : " ++ (term_text W type ++ rest)))) (Some (raw_of_parts name type)) rest
   constructor-spelled found name type rest may is short stops =
@@ -114,16 +98,16 @@ module _ (S W : Signature) (own : List ℕ) (p : ℕ) (few : p < 2 ^ 32) (reads 
       ∙ ap (λ m. after m (constructor_at S own p (c ∷ found))) (behind-word (codes "; ") text))
       (constructor-spelled (c ∷ found) name type rest may is short stops)
 
-  constructors-spelled : (cs found : List RawConstructor) (before : List ℕ) (k : ℕ) (rest : List ℕ) → before ≡ separator found → AreConstructorsOver S own p found cs → length (raw_constructors W before cs) < 2 ^ 32 → length cs < k → OrNested (collected (next_constructor S own p) k found (raw_constructors W before cs ++ (codes " }" ++ rest))) (found ++ cs) rest
+  constructors-spelled : (cs found : List RawConstructor) (before : List ℕ) (k : ℕ) (rest : List ℕ) → before ≡ separator found → AreConstructorsOver S own p found cs → length (constructors_text W before cs) < 2 ^ 32 → length cs < k → OrNested (collected (next_constructor S own p) k found (constructors_text W before cs ++ (codes " }" ++ rest))) (found ++ cs) rest
   constructors-spelled cs found before zero rest is are short less = absurd (omega arith)
   constructors-spelled [] found before (suc k) rest is are short less =
       or-other (collected (next_constructor S own p) (suc k) found (codes " }" ++ rest)) (sym (append-nil found))
       (or-then (behind_item (collected (next_constructor S own p) k) found) (is_read (no-more S own p found rest)) (is_read refl))
   constructors-spelled (c ∷ cs) found before (suc k) rest is are short less =
       let size = constructors-size W before c cs in
-      let more = raw_constructors W (codes " ; ") cs ++ (codes " }" ++ rest) in
+      let more = constructors_text W (codes " ; ") cs ++ (codes " }" ++ rest) in
       let text = c.name ++ (codes " : " ++ (term_text W c.type ++ more)) in
-      or-same (collected (next_constructor S own p) (suc k) found (raw_constructors W before (c ∷ cs) ++ (codes " }" ++ rest))) (collected (next_constructor S own p) (suc k) found (separator found ++ text))
+      or-same (collected (next_constructor S own p) (suc k) found (constructors_text W before (c ∷ cs) ++ (codes " }" ++ rest))) (collected (next_constructor S own p) (suc k) found (separator found ++ text))
       (ap (collected (next_constructor S own p) (suc k) found) (constructor-text W before c cs (codes " }" ++ rest) ∙ ap (λ b. b ++ text) is))
       (or-then (behind_item (collected (next_constructor S own p) k) found)
       (next-constructor-spelled found c.name c.type more (new-read S own found c.name are.0) are.1 (omega (arith, short, size)) (stops-next W cs rest))
@@ -132,14 +116,11 @@ module _ (S W : Signature) (own : List ℕ) (p : ℕ) (few : p < 2 ^ 32) (reads 
 
 -- ---- families
 
-pub family-line-text : (W : Signature) (raw : RawFamily) (rest : List ℕ) → raw_text W (RawFamilyOf raw) ++ rest ≡ codes "data " ++ (raw.name ++ (parameters_text W raw.parameters ++ (codes " : " ++ (term_text W raw.type ++ (codes " {" ++ (raw_constructors W (codes " ") raw.constructors ++ (codes " }" ++ 10 ∷ rest)))))))
-family-line-text W raw rest = simp append_assoc
-
-pub family-spelled : (S W : Signature) (raw : RawFamily) (rest : List ℕ) → ReadsWhole S W [] false → ReadsWhole S W raw.name true → IsFamilyOver S raw → length (raw_text W (RawFamilyOf raw)) < 2 ^ 32 → OrNested (family_at S [] (raw.name ++ (parameters_text W raw.parameters ++ (codes " : " ++ (term_text W raw.type ++ (codes " {" ++ (raw_constructors W (codes " ") raw.constructors ++ (codes " }" ++ 10 ∷ rest)))))))) (RawFamilyOf raw) rest
+pub family-spelled : (S W : Signature) (raw : RawFamily) (rest : List ℕ) → ReadsWhole S W [] false → ReadsWhole S W raw.name true → IsFamilyOver S raw → length (line_text W (RawFamilyOf raw)) < 2 ^ 32 → OrNested (family_at S [] (raw.name ++ (parameters_text W raw.parameters ++ (codes " : " ++ (term_text W raw.type ++ (codes " {" ++ (constructors_text W (codes " ") raw.constructors ++ (codes " }" ++ 10 ∷ rest)))))))) (RawFamilyOf raw) rest
 family-spelled S W raw rest reads inside is short =
     let tele = parameters_text W raw.parameters in
     let type = term_text W raw.type in
-    let cs = raw_constructors W (codes " ") raw.constructors in
+    let cs = constructors_text W (codes " ") raw.constructors in
     let ending = codes " }" ++ 10 ∷ rest in
     let braces = cs ++ ending in
     let typed = type ++ (codes " {" ++ braces) in
@@ -153,7 +134,7 @@ family-spelled S W raw rest reads inside is short =
     let second = length-append type end in
     let next = length-append tele (codes " : " ++ (type ++ end)) in
     let size = length-append raw.name (tele ++ (codes " : " ++ (type ++ end))) in
-    let sum : length tele + (length type + length cs) < 2 ^ 32 = omega (arith, short, size, next, second, third) in
+    let sum : length tele + (length type + length cs) < 2 ^ 32 = omega (arith, short, ap length (grouped-is W (RawFamilyOf raw)), size, next, second, third) in
     or-then (λ name r1. and_then (parameters_at S [] r1) (λ parameters r2. and_then (whole_term S [] (length parameters) r2) (λ type r3. after (behind (codes " {") r3) (family_behind S name parameters type))))
     (is_read ((new-read S [] [] raw.name is.name).reads whole (stops-name W raw.parameters typed)))
     (or-then (λ parameters r2. and_then (whole_term S [] (length parameters) r2) (λ type r3. after (behind (codes " {") r3) (family_behind S raw.name parameters type)))

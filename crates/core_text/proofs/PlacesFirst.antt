@@ -4,7 +4,7 @@ use Rattle.std.specs.Prelude.{Ok}
 use Rattle.std.proofs.lemmas.List.{length-drop}
 use Rattle.theory.specs.Signatures.{Signature}
 use Rattle.core_text.specs.LineReading.{line_at}
-use Rattle.core_text.specs.Places.{IsWrongCharacter, IsWrongName, IsNoRecord, PlacesAreFirst, DeepPlacesAreReached}
+use Rattle.core_text.specs.Places.{IsWrongCharacter, IsWrongName, IsNoRecord, PlacesAreFirst, NestedPlacesAreReached}
 use Rattle.core_text.specs.RawEntries.{RawFamilyOf, shows_record}
 use Rattle.core_text.specs.Reading.{Reading}
 use Rattle.core_text.specs.RawEntries.{RawEntry}
@@ -33,5 +33,5 @@ places-are-first S text from p short le e =
     by (inr (inl name)) = inr (inl name)
     by (inr (inr none)) = inr (inr (no-record S (drop p text) (omega (arith, short, length-drop p text)) none))
 
-pub deep-places-are-reached : DeepPlacesAreReached
-deep-places-are-reached S text from p short le e = deep-place-reached S text from le p short e
+pub nested-places-are-reached : NestedPlacesAreReached
+nested-places-are-reached S text from p short le e = deep-place-reached S text from le p short e

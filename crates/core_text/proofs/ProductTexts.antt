@@ -10,7 +10,7 @@ use Rattle.core_sig.specs.Meanings.{family_of}
 use Rattle.core_sig.specs.declared.family.Arg.{Arg}
 use Rattle.core_sig.specs.declared.family.Family.{Family}
 use Rattle.core_sig.proofs.Arguments.{index_types-of}
-use Rattle.core_text.specs.EntryText.{type_shown}
+use Rattle.core_text.specs.RawEntries.{type_shown}
 use Rattle.core_text.specs.ProductParts.{opened, closed}
 use Rattle.core_text.specs.TermText.{term_text}
 

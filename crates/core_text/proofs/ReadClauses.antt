@@ -11,15 +11,14 @@ use Rattle.core_sig.specs.Meanings.{entry_of}
 use Rattle.core_sig.specs.Raw.{RawConstructor, raw_names}
 use Rattle.core_sig.specs.declared.entry.Entry.{Entry}
 use Rattle.core_text.specs.EntryReading.{ReadsEntry, entry_from}
-use Rattle.core_text.specs.EntryText.{constructor_type_shown}
-use Rattle.core_text.specs.RawEntries.{entry_shown, family_shown}
+use Rattle.core_text.specs.RawEntries.{constructor_line, entry_shown, family_shown}
 use Rattle.core_text.specs.ReadLaws.{AreFresh, IsReadEntry}
 use Rattle.core_text.specs.declared.stop.CoreTextStop.{CoreTextStop}
 use Rattle.core_text.proofs.EntryOutcomes.{what-is-read}
 
 names-shown : (n : ℕ) (f : pure.Family) → raw_names (family_shown n f) ≡ names_of (signature.FamilyOf f)
 names-shown n f =
-    ap (λ ns. f.name ∷ ns) (map-map (λ (c : RawConstructor). c.name) (λ (c : pure.Constructor). record { name = c.name; type = constructor_type_shown n f c }) f.constructors)
+    ap (λ ns. f.name ∷ ns) (map-map (λ (c : RawConstructor). c.name) (constructor_line n f) f.constructors)
 
 none-fresh : (S : Signature) → AreFresh S []
 none-fresh S = record { unknown = All-nil (λ name. find S name ≡ None); distinct = λ i j d lt within. absurd (omega arith) }

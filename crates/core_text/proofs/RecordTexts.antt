@@ -29,10 +29,9 @@ use Rattle.core_sig.proofs.Arguments.{index_types-of}
 use Rattle.core_sig.proofs.KindLists.{kinds-push, kinds-moved}
 use Rattle.core_sig.proofs.RecursiveForms.{kind-found, head-is}
 use Rattle.core_terms.proofs.Builders.{applied-push}
-use Rattle.core_text.specs.EntryText.{constructor_type_shown}
 use Rattle.core_terms.specs.Telescopes.{domains_of, end_of}
 use Rattle.core_terms.proofs.LeadingProducts.{products-of_parts}
-use Rattle.core_text.specs.RawEntries.{end_level, is_at_targets, ends_in_family, shows_record, family_shown}
+use Rattle.core_text.specs.RawEntries.{constructor_line, end_level, is_at_targets, ends_in_family, shows_record, family_shown}
 use Rattle.core_text.specs.Records.{HasLevelsZero, typed, with_level_zero, type_of_constructor, constructor_shown}
 use Rattle.core_text.proofs.ConstructorTexts.{shown-is}
 
@@ -157,7 +156,7 @@ constructors-more n p test raws raw cons c before last tests =
     map-append (constructor_shown n p) cons (c ∷ [])
     ∙ (ap₂ ◌++◌ (before parts.0) (ap (λ k. k ∷ []) (last (both _ _ parts.1).0)) ∙ sym (map-append raw_constructor_of raws (raw ∷ [])))
 
-constructors-shown : (n : ℕ) (f : Family) (cons : List Constructor) → All (λ c. HaveKinds n (family_of f) 0 c.args) cons → map (λ c. raw_with c.name (constructor_type_shown n (family_of f) c)) (map (constructor_of (length f.params)) cons) ≡ map (constructor_shown n (length f.params)) cons
+constructors-shown : (n : ℕ) (f : Family) (cons : List Constructor) → All (λ c. HaveKinds n (family_of f) 0 c.args) cons → map (constructor_line n (family_of f)) (map (constructor_of (length f.params)) cons) ≡ map (constructor_shown n (length f.params)) cons
 constructors-shown n f [] kinds = refl
 constructors-shown n f (c ∷ cons) kinds =
     ap₂ ◌∷◌ (ap (raw_with c.name) (shown-is n f c (All-head Kinds c cons kinds))) (constructors-shown n f cons (All-tail Kinds c cons kinds))

@@ -1,5 +1,4 @@
--- An entry and its line determine each other: what is read is the line of its entry, and no text begins with the lines of
--- two entries.
+-- What is read is the line of its entry, after lines that begin with `#`.
 use Rattle.std.specs.Prelude.{◌≡◌, ◌↔◌, ℕ, ◌≤◌, ◌<◌, ◌^◌, true, List, [], ◌++◌, length, drop, codes, Some, None, Ok}
 use Rattle.theory.specs.Signatures.{Entry, Signature}
 use Rattle.theory.specs.WellFormed.{pushed}
@@ -7,7 +6,6 @@ use Rattle.core_text.specs.EntryReading.{entry_from}
 use Rattle.core_text.specs.EntryText.{entry_line}
 use Rattle.core_text.specs.Lines.{is_in_line}
 use Rattle.core_text.specs.RawEntries.{entry_shown}
-use Rattle.core_text.specs.ReadBack.{EntryReadsBack}
 
 -- lines that begin with `#`
 pub data AreNotes : List ℕ → Type 0 where
@@ -28,13 +26,6 @@ abbrev pub LinesAreRead : Type 0
 LinesAreRead =
     (S : Signature) (text : List ℕ) (from : ℕ) (e : Entry) (to : ℕ) → length text < 2 ^ 32 → from ≤ length text →
     entry_from S text from ≡ Ok (Some (entry_shown (length S.entries) e, to)) → Stands S text from e to
-
--- A text that begins with the lines of two entries, each of which may stand there, shows one entry.
-abbrev pub LinesShowOneEntry : Type 0
-LinesShowOneEntry =
-    (T R S : Signature) (e f : Entry) (r s : List ℕ) → EntryReadsBack T R e → EntryReadsBack T S f
-    → entry_line R (length T.entries) e ++ r ≡ entry_line S (length T.entries) f ++ s
-    → entry_shown (length T.entries) e ≡ entry_shown (length T.entries) f
 
 -- Lines that begin with `#` are passed over.
 abbrev pub NotesArePassedOver : Type 0

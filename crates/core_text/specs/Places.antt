@@ -91,7 +91,7 @@ PlacesAreFirst =
     entry_from S text from ≡ Err (NotCoreText p) → IsPlace S text from p
 
 -- Also where a term is too deep or too high, a core file goes on with the bytes before that place.
-abbrev pub DeepPlacesAreReached : Type 0
-DeepPlacesAreReached =
+abbrev pub NestedPlacesAreReached : Type 0
+NestedPlacesAreReached =
     (S : Signature) (text : List ℕ) (from p : ℕ) → length text < 2 ^ 32 → from ≤ length text →
     entry_from S text from ≡ Err (Nested p) → IsReached S text from p

@@ -3,12 +3,12 @@ use Rattle.std.specs.Prelude.{ℕ, ◌+◌, nat_lt, zero, suc, Bool, false, ◌&
 use Rattle.std.specs.List.{list_all}
 use Rattle.std.specs.Option.{is_some}
 use Rattle.theory.specs.Terms.{Term, Sort, Pi, App, top}
-use Rattle.theory.specs.Families.{Family}
+use Rattle.theory.specs.Telescopes.{products, applied, weaken_by}
+use Rattle.theory.specs.Families.{Constructor, Family, index_types, family_head, constructor_telescope}
 use Rattle.theory.specs.Signatures.{Entry, FamilyOf, EliminatorAt, AxiomKAt, Definition}
 use Rattle.core_terms.specs.Telescopes.{domains_of}
 use Rattle.core_sig.specs.KindTests.{is_at_parameters}
-use Rattle.core_sig.specs.Raw.{RawFamily}
-use Rattle.core_text.specs.EntryText.{type_shown, constructor_type_shown}
+use Rattle.core_sig.specs.Raw.{RawConstructor, RawFamily}
 
 pub data RawEntry : Type 0 where
   RawFamilyOf : RawFamily → RawEntry
@@ -16,14 +16,23 @@ pub data RawEntry : Type 0 where
   RawAxiomK : (i level : ℕ) → RawEntry
   RawDefinition : List ℕ → Term → Term → RawEntry
 
+-- (I) -> Type l, in the context of the parameters
+abbrev pub type_shown : Family → Term
+type_shown f = products (index_types f) (Sort f.level)
+
+-- (Ac) -> D p us_c, in the context of the parameters, for a constructor of family number n
+abbrev pub constructor_type_shown : ℕ → Family → Constructor → Term
+constructor_type_shown n f c =
+    products (constructor_telescope n f c) (applied (weaken_by (length c.arguments) (family_head n f)) c.targets)
+
+-- a constructor of family number n as its line shows it
+abbrev pub constructor_line : ℕ → Family → Constructor → RawConstructor
+constructor_line n f c = record { name = c.name; type = constructor_type_shown n f c }
+
 -- family number n as its line shows it
 abbrev pub family_shown : ℕ → Family → RawFamily
-family_shown n f = record {
-  name = f.name;
-  parameters = f.parameters;
-  type = type_shown f;
-  constructors = map (λ c. record { name = c.name; type = constructor_type_shown n f c }) f.constructors;
-}
+family_shown n f =
+    record { name = f.name; parameters = f.parameters; type = type_shown f; constructors = map (constructor_line n f) f.constructors }
 
 -- entry number n as its line shows it
 abbrev pub entry_shown : ℕ → Entry → RawEntry

@@ -8,10 +8,10 @@ use Rattle.core_sig.specs.Names.{find}
 use Rattle.core_sig.specs.Raw.{RawConstructor}
 use Rattle.core_text.specs.DeclaredNames.{new_name}
 use Rattle.core_text.specs.EntryReading.{entry_from}
-use Rattle.core_text.specs.EntryText.{type_shown, constructor_type_shown, entry_line}
+use Rattle.core_text.specs.EntryText.{entry_line}
 use Rattle.core_text.specs.LineReading.{levels_left, identities_left}
 use Rattle.core_text.specs.NameRuns.{run_len}
-use Rattle.core_text.specs.RawEntries.{entry_shown, family_shown, shows_record}
+use Rattle.core_text.specs.RawEntries.{type_shown, constructor_type_shown, constructor_line, entry_shown, family_shown, shows_record}
 use Rattle.core_text.specs.Reading.{first, begins, is_digit, is_left}
 use Rattle.core_text.specs.SymbolLookup.{symbol, found_symbol}
 use Rattle.core_text.specs.SymbolNames.{name_at, constructor_name_at, eliminator_name, axiom_k_name}
@@ -74,10 +74,6 @@ pub record IsReadBack (T S : Signature) (own : List ℕ) (n : ℕ) (t : Term) : 
 abbrev pub AreReadBack : Signature → Signature → Telescope → Telescope → Type 0
 AreReadBack T S found [] = Unit {0}
 AreReadBack T S found (a ∷ tele) = IsReadBack T S [] (length found) a × AreReadBack T S (found ++ a ∷ []) tele
-
--- a constructor of family number n as its line shows it
-abbrev pub constructor_line : ℕ → Family → Constructor → RawConstructor
-constructor_line n f c = record { name = c.name; type = constructor_type_shown n f c }
 
 -- the same of constructors of family number n after those found
 abbrev pub ConstructorsReadBack : Signature → Signature → ℕ → Family → List RawConstructor → List Constructor → Type 0

@@ -17,11 +17,13 @@ typed a = (tree_of a.ty, a.level)
 abbrev pub with_level_zero : Term → Term × ℕ
 with_level_zero t = (t, 0)
 
+-- the end of a constructor's type: family number n at its p parameters and the targets
+abbrev pub end_of_constructor : ℕ → ℕ → Constructor → Term
+end_of_constructor n p c = applied (applied (Fam n) (map (weaken_by (length c.args)) (variables p))) (tele_of c.targets)
+
 -- the type of a constructor of family number n with p parameters, under the parameters
 abbrev pub type_of_constructor : ℕ → ℕ → Constructor → Term
-type_of_constructor n p c =
-    products (map (λ a. tree_of a.ty) c.args)
-    (applied (applied (Fam n) (map (weaken_by (length c.args)) (variables p))) (tele_of c.targets))
+type_of_constructor n p c = products (map (λ a. tree_of a.ty) c.args) (end_of_constructor n p c)
 
 -- the constructor as the line shows it
 abbrev pub constructor_shown : ℕ → ℕ → Constructor → RawConstructor

@@ -1,5 +1,5 @@
--- A line that is spelled right is refused at no byte of it: it is read, unless a term in it is too deep or the line shows no
--- record.
+-- A line that is spelled right is refused at no byte of it: it is read, unless a term in it is too deep or too high, or the
+-- line shows no record.
 use Rattle.std.specs.Prelude.{◌≡◌, ◌≢◌, ◌⊎◌, ℕ, ◌+◌, ◌<◌, ◌^◌, false, List, ◌++◌, length, Option, Some, Result, Ok, Err, AllPairs}
 use Rattle.theory.specs.Signatures.{Signature, names}
 use Rattle.core_text.specs.EntryReading.{shows_entry, entry_from}

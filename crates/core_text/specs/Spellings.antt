@@ -1,6 +1,6 @@
 -- What a line says by its spelling: its names and numbers may stand there. Neither the height of its terms nor the question
 -- whether a family shows a record belongs to the spelling.
-use Rattle.std.specs.Prelude.{◌≡◌, ℕ, ◌+◌, ◌≤◌, Bool, true, false, List, [], ◌∷◌, ◌++◌, length, codes, decimal}
+use Rattle.std.specs.Prelude.{◌≡◌, ℕ, ◌+◌, ◌≤◌, Bool, true, false, List, [], ◌∷◌, ◌++◌, length}
 use Rattle.theory.specs.Terms.{Term, Sort, free_of}
 use Rattle.theory.specs.Telescopes.{Telescope}
 use Rattle.theory.specs.Signatures.{Signature, Definition}
@@ -8,40 +8,25 @@ use Rattle.theory.specs.SignatureScopes.{IsFamilyNumber}
 use Rattle.theory.specs.WellFormed.{pushed}
 use Rattle.core_sig.specs.Raw.{RawConstructor, RawFamily}
 use Rattle.core_text.specs.DeclaredNames.{shape_of, may_declare}
-use Rattle.core_text.specs.EntryText.{parameters_text}
+use Rattle.core_text.specs.EntryText.{line_text}
 use Rattle.core_text.specs.LineReading.{levels_left, identities_left}
 use Rattle.core_text.specs.NameRuns.{are_name_chars}
 use Rattle.core_text.specs.RawEntries.{RawEntry, RawFamilyOf, RawEliminator, RawAxiomK, RawDefinition}
 use Rattle.core_text.specs.Reading.{is_left}
-use Rattle.core_text.specs.SymbolNames.{name_at}
-use Rattle.core_text.specs.TermText.{term_text}
 use Rattle.core_text.specs.WrittenEntries.{HasSymbols}
 use Rattle.core_text.specs.declared.declared_names.Shape.TheVariants.{Declarable}
 use Rattle.core_text.specs.declared.instances.Series.TheVariants.{Elim, AxiomK}
 
--- ---- the text of what a line says
-
--- constructors as they are written, the first one after the text `before`
-abbrev pub raw_constructors : Signature → List ℕ → List RawConstructor → List ℕ
-raw_constructors S before [] = []
-raw_constructors S before (c ∷ cs) = before ++ (c.name ++ (codes " : " ++ (term_text S c.type ++ raw_constructors S (codes " ; ") cs)))
-
--- the line that says it, over a signature in which each number of its terms has a name
-abbrev pub raw_text : Signature → RawEntry → List ℕ
-raw_text S (RawFamilyOf raw) =
-    codes "data " ++ (raw.name ++ (parameters_text S raw.parameters ++ (codes " : " ++ (term_text S raw.type ++ (codes " {" ++ (raw_constructors S (codes " ") raw.constructors ++ codes " }\n"))))))
-raw_text S (RawEliminator g m) = codes "elim " ++ (name_at S g ++ (codes " " ++ (decimal m ++ codes "\n")))
-raw_text S (RawAxiomK i m) = codes "axiomk " ++ (decimal i ++ (codes " " ++ (decimal m ++ codes "\n")))
-raw_text S (RawDefinition name type body) = codes "def " ++ (name ++ (codes " : " ++ (term_text S type ++ (codes " = " ++ (term_text S body ++ codes "\n")))))
+-- ---- the line that says it after other entries
 
 -- The entries, with one more after them that has the name: in the line of a family, the family itself.
 abbrev pub with_name : Signature → List ℕ → Signature
 with_name S name = pushed S (Definition name (Sort 0) (Sort 0))
 
--- the line that says it after the entries S
+-- the line that says `raw` after the entries S
 abbrev pub raw_line : Signature → RawEntry → List ℕ
-raw_line S (RawFamilyOf raw) = raw_text (with_name S raw.name) (RawFamilyOf raw)
-raw_line S raw = raw_text S raw
+raw_line S (RawFamilyOf raw) = line_text (with_name S raw.name) (RawFamilyOf raw)
+raw_line S raw = line_text S raw
 
 -- ---- what may stand in it
 

@@ -6,10 +6,9 @@ use Rattle.theory.specs.Families.{Family}
 use Rattle.theory.specs.Signatures.{Signature, Entry, FamilyOf, EliminatorAt, AxiomKAt, Definition, IsEntryAt, names_of, names}
 use Rattle.theory.specs.SignatureScopes.{IsConstantNumber, IsFamilyNumber, IsConstructorNumber}
 use Rattle.core_text.specs.DeclaredNames.{shape_of}
-use Rattle.core_text.specs.EntryText.{type_shown, constructor_type_shown}
 use Rattle.core_text.specs.LineReading.{levels_left, identities_left}
 use Rattle.core_text.specs.PlainNames.{IsPlainName, HasPlainNames}
-use Rattle.core_text.specs.RawEntries.{family_shown, shows_record}
+use Rattle.core_text.specs.RawEntries.{type_shown, constructor_type_shown, family_shown, shows_record}
 use Rattle.core_text.specs.ReadBack.{EntryReadsBack}
 use Rattle.core_text.specs.ReadLaws.{AreFresh}
 use Rattle.core_text.specs.Reading.{is_left}

@@ -3,11 +3,11 @@ ghost use Rattle.core_terms.specs.Answers.{Gives};
 ghost use Rattle.core_terms.specs.Meanings.{tree_of, tele_of};
 ghost use Rattle.core_terms.specs.declared.stop.Stop.TheVariants.{Memory};
 ghost use Rattle.theory.specs.Signatures as pure;
-ghost use Rattle.theory.specs.Telescopes.{applied, products, variables, weaken_by};
-ghost use Rattle.theory.specs.Terms as tree;
 ghost use Rattle.core_sig.specs.Kinds.{HasEntryKinds, HasKinds, HaveKinds};
 ghost use Rattle.core_sig.specs.Meanings.{constructor_of, entry_of, family_of};
-ghost use Rattle.core_text.specs.EntryText.{constructor_type_shown, constructors_text, entry_line, entry_text, family_text, type_shown};
+ghost use Rattle.core_text.specs.EntryText.{constructors_text, entry_line, entry_text, family_text};
+ghost use Rattle.core_text.specs.RawEntries.{constructor_line, family_shown, type_shown};
+ghost use Rattle.core_text.specs.Records.{end_of_constructor, type_of_constructor};
 ghost use Rattle.core_text.specs.TermText.{term_text};
 
 use crate::bytes::{write, write_numbered};
@@ -66,7 +66,7 @@ fn write_family(
     family: &Family,
 ) -> Result<(), Stop>
     requires { HasKinds number family.now }
-    ensures ok { OnOk result (out.new.items ≡ out.old.items ++ family_text sig.now number (family_of family.now)) }
+    ensures ok { OnOk result (out.new.items ≡ out.old.items ++ family_text sig.now (family_shown number (family_of family.now))) }
     ensures memory { OnErr result (result ≡ Err Memory) }
 {
     write(out, b"data ")?;
@@ -98,7 +98,7 @@ fn write_constructors(
     family: &Family,
 ) -> Result<(), Stop>
     requires { HasKinds number family.now }
-    ensures ok { OnOk result (out.new.items ≡ out.old.items ++ constructors_text sig.now number (family_of family.now) (codes " ") (family_of family.now).constructors) }
+    ensures ok { OnOk result (out.new.items ≡ out.old.items ++ constructors_text sig.now (codes " ") (map (constructor_line number (family_of family.now)) (family_of family.now).constructors)) }
     ensures memory { OnErr result (result ≡ Err Memory) }
 {
     let params = family.params.as_slice().len();
@@ -121,7 +121,7 @@ fn write_constructor_type(
     params: usize,
     con: &Constructor,
 ) -> Result<(), Stop>
-    ensures ok { OnOk result (out.new.items ≡ out.old.items ++ term_text sig.now (products (map (λ a. tree_of a.ty) con.now.args) (applied (applied (tree.Fam family) (map (weaken_by (length con.now.args)) (variables params))) (tele_of con.now.targets)))) }
+    ensures ok { OnOk result (out.new.items ≡ out.old.items ++ term_text sig.now (type_of_constructor family params con.now)) }
     ensures memory { OnErr result (result ≡ Err Memory) }
 {
     let args = con.args.as_slice();
@@ -138,7 +138,7 @@ fn write_target(
     params: usize,
     con: &Constructor,
 ) -> Result<(), Stop>
-    ensures ok { OnOk result (out.new.items ≡ out.old.items ++ term_text sig.now (applied (applied (tree.Fam family) (map (weaken_by (length con.now.args)) (variables params))) (tele_of con.now.targets))) }
+    ensures ok { OnOk result (out.new.items ≡ out.old.items ++ term_text sig.now (end_of_constructor family params con.now)) }
     ensures memory { OnErr result (result ≡ Err Memory) }
 {
     let targets = con.targets.as_slice();

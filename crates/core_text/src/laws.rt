@@ -1,7 +1,6 @@
-ghost use Rattle.core_text.specs.LineLaws.{EndsAreRead, LinesAreRead, LinesShowOneEntry, NotesArePassedOver};
+ghost use Rattle.core_text.specs.LineLaws.{EndsAreRead, LinesAreRead, NotesArePassedOver};
 ghost use Rattle.core_text.specs.Lines.{LinesAreApart};
-ghost use Rattle.core_text.specs.Places.{DeepPlacesAreReached, PlacesAreFirst};
-ghost use Rattle.core_text.specs.PlacesPassed.{NothingGoesOn};
+ghost use Rattle.core_text.specs.Places.{NestedPlacesAreReached, PlacesAreFirst};
 ghost use Rattle.core_text.specs.PlainNames.{NamesAreSpelled, NamesStayPlain, PreludeHasPlainNames};
 ghost use Rattle.core_text.specs.ReadBack.{EntriesAreReadBack, TermsAreReadBack};
 ghost use Rattle.core_text.specs.ReadLaws.{WhatIsRead};
@@ -32,11 +31,6 @@ pub fn entries_are_read_back()
 /// What is read as an entry is the line of the entry, after lines that begin with `#`.
 pub fn lines_are_read()
     ensures { LinesAreRead }
-{}
-
-/// A text begins with the line of one entry at most.
-pub fn lines_show_one_entry()
-    ensures { LinesShowOneEntry }
 {}
 
 /// Where names are plain, each symbol is looked up by its name, which is told from what follows it.
@@ -79,17 +73,12 @@ pub fn places_are_first()
     ensures { PlacesAreFirst }
 {}
 
-/// A line that is spelled right is read, unless a term in it is too deep or it shows no record.
+/// A line that is spelled right is read, unless a term in it is too deep or too high, or it shows no record.
 pub fn spelled_lines_are_read()
     ensures { SpelledLinesAreRead }
 {}
 
-/// No core file goes on with the bytes before the place of a refusal and what is wrong there.
-pub fn nothing_goes_on()
-    ensures { NothingGoesOn }
-{}
-
 /// A core file goes on with the bytes before the place at which a term is too deep or too high.
-pub fn deep_places_are_reached()
-    ensures { DeepPlacesAreReached }
+pub fn nested_places_are_reached()
+    ensures { NestedPlacesAreReached }
 {}

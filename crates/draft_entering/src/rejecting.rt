@@ -1,6 +1,6 @@
 ghost use Rattle.std.specs.Prelude.{◌≡◌, ℕ, List, Ok};
 ghost use Rattle.clause_reports.specs.Stops as spec;
-ghost use Rattle.clause_reports.specs.Texts as texts;
+ghost use Rattle.core_text.specs.ContextText as texts;
 ghost use Rattle.core_sig.specs.Drafts.{draft_of};
 ghost use Rattle.core_terms.specs.Answers.{Gives, Unless};
 ghost use Rattle.core_terms.specs.Meanings.{denial_of, reason_of, tele_of};
@@ -11,10 +11,10 @@ ghost use Rattle.theory.specs.Signatures.{AxiomKAt, Definition, EliminatorAt};
 ghost use Rattle.theory.specs.Terms as tree;
 
 use crate::ReportStop;
-use crate::texts::{axiom_k_text, context_text, definition_text, eliminator_text, reason_text};
+use crate::texts::{axiom_k_text, definition_text, eliminator_text};
 use core_sig::{Draft, Entry, Signature, settle};
 use core_terms::{Denial, Items, Name, Stop, Term};
-use core_text::print_term;
+use core_text::{context_text, print_term, reason_text};
 use family_check::FamilyStop;
 use std::alloc::Global;
 

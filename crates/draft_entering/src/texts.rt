@@ -1,14 +1,13 @@
-ghost use Rattle.std.specs.Prelude.{◌≡◌, ◌++◌, [], Ok, length, OnOk, OnErr};
-ghost use Rattle.clause_reports.specs.Texts as spec;
+ghost use Rattle.std.specs.Prelude.{◌≡◌, ◌++◌, Ok, length, OnOk, OnErr};
 ghost use Rattle.core_terms.specs.Answers.{Gives};
-ghost use Rattle.core_terms.specs.Meanings.{tree_of, tele_of, reason_of};
+ghost use Rattle.core_terms.specs.Meanings.{tree_of};
 ghost use Rattle.core_terms.specs.declared.stop.Stop.TheVariants.{Memory};
 ghost use Rattle.core_text.specs.EntryText.{entry_text};
 ghost use Rattle.core_text.specs.TermText.{term_text};
 ghost use Rattle.theory.specs.Signatures.{AxiomKAt, Definition, EliminatorAt};
 
 use core_sig::Signature;
-use core_terms::{Items, Reason, Stop, Term};
+use core_terms::{Items, Stop, Term};
 use core_text::{print_term, write_number};
 use std::alloc::Global;
 
@@ -19,70 +18,6 @@ fn write_term(alloc: Global, out: &mut Vec<u8>, sig: &Signature, t: &Term) -> Re
     let text = print_term(alloc, sig, t)?;
     out.extend_from_slice(text.as_slice())?;
     Ok(())
-}
-
-/// Writes types, each but the first one after a comma.
-fn write_types(
-    alloc: Global,
-    out: &mut Vec<u8>,
-    sig: &Signature,
-    types: &[Term],
-) -> Result<(), Stop>
-    ensures ok { OnOk result (out.new.items ≡ out.old.items ++ spec.types_text sig.now [] (tele_of types.now)) }
-    ensures memory { OnErr result (result ≡ Err Memory) }
-{
-    let mut before: &[u8] = b"";
-    for t in types {
-        out.extend_from_slice(before)?;
-        write_term(alloc, out, sig, t)?;
-        before = b", ";
-    }
-    Ok(())
-}
-
-/// The text of a context.
-pub(crate) fn context_text(
-    alloc: Global,
-    sig: &Signature,
-    types: &[Term],
-) -> Result<Items<u8>, Stop>
-    ensures { Gives (λ text. text) result (Ok (spec.context_text sig.now (tele_of types.now))) }
-{
-    let mut out = Vec::new(alloc);
-    out.extend_from_slice(b"[")?;
-    write_types(alloc, &mut out, sig, types)?;
-    out.extend_from_slice(b"]")?;
-    Ok(Items::from_vec(out))
-}
-
-/// The text of a reason.
-pub(crate) fn reason_text(
-    alloc: Global,
-    sig: &Signature,
-    reason: &Reason,
-) -> Result<Items<u8>, Stop>
-    ensures { Gives (λ text. text) result (Ok (spec.reason_text sig.now (reason_of reason.now))) }
-{
-    let mut out = Vec::new(alloc);
-    match reason {
-        Reason::Mismatch { found, wanted } => {
-            out.extend_from_slice(b"found ")?;
-            write_term(alloc, &mut out, sig, found)?;
-            out.extend_from_slice(b" wanted ")?;
-            write_term(alloc, &mut out, sig, wanted)?;
-        }
-        Reason::NotAProduct { found } => {
-            out.extend_from_slice(b"NotAProduct ")?;
-            write_term(alloc, &mut out, sig, found)?;
-        }
-        Reason::NotASort { found } => {
-            out.extend_from_slice(b"NotASort ")?;
-            write_term(alloc, &mut out, sig, found)?;
-        }
-        Reason::NoSuchInstance => out.extend_from_slice(b"NoSuchInstance")?,
-        Reason::LevelTooHigh => out.extend_from_slice(b"LevelTooHigh")?,
-    }
-    Ok(Items::from_vec(out))
 }
 
 /// The line of an eliminator.

@@ -13,7 +13,7 @@ use Rattle.core_sig.specs.declared.family.Family as code
 use Rattle.core_text.specs.SymbolNames.{constructor_name_at, constructor_name_in, eliminator_name, name_at, own_constructor_name, own_name}
 use Rattle.core_text.specs.TermText.{enclosed, spelled}
 use Rattle.elab_session.specs.Refusals.{ill_typed}
-use Rattle.elab_session.specs.Texts.{reason_text, types_text}
+use Rattle.core_text.specs.ContextText.{reason_text, types_text}
 use Rattle.elab_session.specs.declared.refusal.PartName.{PartName}
 use Rattle.elab_session.specs.declared.refusal.Refusal.TheVariants.{IllTyped}
 

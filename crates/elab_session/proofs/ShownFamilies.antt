@@ -13,9 +13,8 @@ use Rattle.core_sig.specs.Raw.{RawConstructor, RawFamily}
 use Rattle.core_sig.specs.declared.family.Constructor.{Constructor}
 use Rattle.core_sig.specs.declared.family.Family.{Family}
 use Rattle.core_sig.proofs.Arguments.{index_types-of}
-use Rattle.core_text.specs.EntryText.{constructor_type_shown}
 use Rattle.core_text.proofs.ConstructorTexts.{shown-is}
-use Rattle.core_text.specs.RawEntries.{family_shown}
+use Rattle.core_text.specs.RawEntries.{family_shown, constructor_type_shown}
 use Rattle.elab_session.specs.Shown.{shown_constructor}
 
 abbrev by-line : ℕ → Family → pure.Constructor → RawConstructor

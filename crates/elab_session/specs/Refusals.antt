@@ -9,7 +9,7 @@ use Rattle.resolve.specs.declared.stop.ResolveStop.{ResolveStop}
 use Rattle.resolve.specs.declared.stop.ResolveStop.TheVariants as resolving
 use Rattle.family_check.specs.Outcomes.{Site, OfType, OfBody, OfParameter, OfConstructor, FamilyStop, Stopped, Denied}
 use Rattle.family_check.specs.Outcomes as family
-use Rattle.elab_session.specs.Texts.{context_text, reason_text}
+use Rattle.core_text.specs.ContextText.{context_text, reason_text}
 use Rattle.elab_session.specs.declared.refusal.PartName.{PartName}
 use Rattle.elab_session.specs.declared.refusal.PartName.TheVariants.{Ty, Body, Param, Con}
 use Rattle.elab_session.specs.declared.refusal.Refusal.{Refusal}

@@ -15,7 +15,6 @@ mod refusal;
 mod refusing;
 mod session;
 mod shown;
-mod texts;
 
 pub use accepted::Accepted;
 pub use refusal::{PartName, Refusal, Text};

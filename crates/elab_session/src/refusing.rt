@@ -4,10 +4,10 @@ ghost use Rattle.core_terms.specs.Meanings.{denial_of};
 ghost use Rattle.family_check.specs.Meanings.{site_of, stop_of};
 ghost use Rattle.elab_session.specs.Refusals as spec;
 
-use crate::texts::{context_text, reason_text};
 use crate::{PartName, Refusal};
 use core_sig::Signature;
 use core_terms::{Denial, Name, Stop, copy_name};
+use core_text::{context_text, reason_text};
 use family_check::{FamilyStop, Site};
 use std::alloc::Global;
 use surface_syntax::Word;

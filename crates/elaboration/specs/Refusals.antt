@@ -14,7 +14,7 @@ use Rattle.case_trees.specs.Stops as tree
 use Rattle.case_trees.specs.Stops.{TreeStop}
 use Rattle.clause_reports.specs.Stops as report
 use Rattle.clause_reports.specs.Stops.{Rejection, ReportStop}
-use Rattle.clause_reports.specs.Texts.{context_text, reason_text}
+use Rattle.core_text.specs.ContextText.{context_text, reason_text}
 
 -- A clause: the function or helper that it belongs to, by name, and its number, counted from 1.
 pub record Owner : Type 0 where

@@ -7,7 +7,7 @@ use Rattle.theory.specs.Eliminators.{eliminator_type}
 use Rattle.theory.specs.PreludeFamilies.{level_text}
 use Rattle.theory.specs.Signatures.{Entry, FamilyOf, EliminatorAt, AxiomKAt, Definition, Signature, IsEntryAt, names_of, axiom_k_type}
 use Rattle.theory.proofs.Lists.{some_is}
-use Rattle.core_terms.specs.Verdicts.{Denial, Reason, Mismatch, NotAProduct, NotASort, NoSuchInstance, LevelTooHigh}
+use Rattle.core_terms.specs.Verdicts.{Denial}
 use Rattle.core_terms.specs.declared.stop.Stop.{Stop}
 use Rattle.core_terms.specs.declared.stop.Stop.TheVariants.{Deep}
 use Rattle.core_terms.proofs.Answers.{Splits, and_next-splits}
@@ -17,7 +17,6 @@ use Rattle.core_sig.specs.Names.{find}
 use Rattle.core_sig.specs.Settling.{renumbered_entry, settled_number}
 use Rattle.core_text.specs.Lines.{is_in_line, AreInLine}
 use Rattle.core_text.specs.SymbolNames.{name_at}
-use Rattle.core_text.specs.TermText.{term_text}
 use Rattle.core_text.proofs.Feeds.{both, decimal-in, text-in}
 use Rattle.family_check.specs.Entering.{Entered, enter_instance, unless_there, instance_of, axiom_k_of, define_of, entered}
 use Rattle.family_check.specs.Outcomes.{FamilyStop, Outcome}
@@ -29,13 +28,12 @@ use Rattle.clause_reports.specs.DraftEntering.{Mention, Eliminates, AssumesK, Na
 use Rattle.clause_reports.specs.Generated as gen
 use Rattle.clause_reports.specs.Generated.{Generated, name_of, generated_by, generated_draft}
 use Rattle.clause_reports.specs.Stops.{entry_name, Rejection, ReportStop, Halts, Stuck, Rejected, Reporting, answers, or_halts, rejection, not_entered, or_rejected, entering}
-use Rattle.clause_reports.specs.Texts.{types_text, context_text, reason_text}
 use Rattle.draft_entering.specs.Conditions.{IsDefinition}
 use Rattle.draft_entering.specs.Depths.{entry_own_name}
 use Rattle.draft_entering.specs.Tables.{IsListed, names_by, IsMadeOf}
 use Rattle.draft_entering.proofs.TableLookups.{found-listed, generated-made}
 use Rattle.elim_program.proofs.Adding.{define-enters, instance-enters}
-use Rattle.elim_program.proofs.SessionInLine.{NamesIn, has-names, each-last, term-in, level-in}
+use Rattle.elim_program.proofs.SessionInLine.{NamesIn, has-names, each-last, context-in, reason-in, level-in}
 use Rattle.elim_program.proofs.TokensInLine.{Each}
 
 abbrev pub EntryIn : Entry → Type 0
@@ -43,25 +41,6 @@ EntryIn e = AreInLine (names_of e)
 
 abbrev pub IsIn : List ℕ → Type 0
 IsIn text = is_in_line text ≡ true
-
--- ---- texts of denials
-
-types-in : (S : Signature) → NamesIn S → (before : List ℕ) (types : List Term) → IsIn before → IsIn (types_text S before types)
-types-in S names before [] h = refl
-types-in S names before (t ∷ types) h =
-    both (before ++ term_text S t) (types_text S (codes ", ") types) (both before (term_text S t) h (term-in S names t)) (types-in S names (codes ", ") types refl)
-
-pub context-in : (S : Signature) → NamesIn S → (types : List Term) → IsIn (context_text S types)
-context-in S names types = both (codes "[" ++ types_text S [] types) (codes "]") (both (codes "[") (types_text S [] types) refl (types-in S names [] types refl)) refl
-
-pub reason-in : (S : Signature) → NamesIn S → (r : Reason) → IsIn (reason_text S r)
-reason-in S names (Mismatch found wanted) =
-    both (codes "found " ++ term_text S found ++ codes " wanted ") (term_text S wanted)
-    (both (codes "found " ++ term_text S found) (codes " wanted ") (both (codes "found ") (term_text S found) refl (term-in S names found)) refl) (term-in S names wanted)
-reason-in S names (NotAProduct found) = both (codes "NotAProduct ") (term_text S found) refl (term-in S names found)
-reason-in S names (NotASort found) = both (codes "NotASort ") (term_text S found) refl (term-in S names found)
-reason-in S names NoSuchInstance = refl
-reason-in S names LevelTooHigh = refl
 
 -- ---- what the checker denies
 

@@ -12,8 +12,7 @@ use Rattle.core_sig.specs.Raw.{RawConstructor, RawFamily}
 use Rattle.core_sig.specs.Meanings.{entry_of}
 use Rattle.core_sig.specs.declared.entry.Entry as code
 use Rattle.core_text.specs.EntryReading.{ReadsEntry, entry_from}
-use Rattle.core_text.specs.EntryText.{constructor_type_shown}
-use Rattle.core_text.specs.RawEntries.{RawEntry, entry_shown, family_shown}
+use Rattle.core_text.specs.RawEntries.{RawEntry, entry_shown, family_shown, constructor_type_shown}
 use Rattle.core_text.specs.ReadLaws.{AreReadTypes, IsReadEntry, IsReadFamily}
 use Rattle.core_text.specs.declared.stop.CoreTextStop.{CoreTextStop}
 use Rattle.core_text.specs.declared.stop.CoreTextStop.TheVariants as core

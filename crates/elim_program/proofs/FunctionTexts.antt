@@ -20,15 +20,15 @@ use Rattle.case_trees.specs.Stops.{TreeStop}
 use Rattle.clause_reports.specs.Reports.{Line, Definitional, Proved, Shadowed, Absurd}
 use Rattle.clause_reports.specs.Stops as report
 use Rattle.clause_reports.specs.Stops.{Rejection, ReportStop}
-use Rattle.clause_reports.specs.Texts.{context_text, reason_text}
+use Rattle.core_text.specs.ContextText.{context_text, reason_text}
 use Rattle.elaboration.specs.Functions.{ClauseLine}
 use Rattle.elaboration.specs.Refusals.{Owner, Part, FailingCall, Refusal, Halts, Stuck, DotMismatch, SelfInType, NotSmaller, ill_typed, or_ill_typed, level_too_high, pattern_text, of_tree, or_ends, of_report, or_no_report, or_halts, owner_of}
 use Rattle.elim_program.specs.ClauseTexts.{vector_text, line_text, clause_line, leaf_line, leaf_lines, with_leaves, clause_lines}
 use Rattle.elim_program.specs.FunctionRefusals.{owner_text, part_text, why_text, failing_call_text, failing_calls_text, sides_text, denial_text, refusal_text, candidate_lines, refusal_lines}
 use Rattle.elim_program.specs.Refusals.{place_text}
-use Rattle.elim_program.proofs.EnteredNames.{IsIn, ReportIn, context-in, reason-in}
+use Rattle.elim_program.proofs.EnteredNames.{IsIn, ReportIn}
 use Rattle.elim_program.proofs.QuietWalks.{Any}
-use Rattle.elim_program.proofs.SessionInLine.{NamesIn, has-names, term-in, place-in}
+use Rattle.elim_program.proofs.SessionInLine.{context-in, reason-in, NamesIn, has-names, term-in, place-in}
 use Rattle.elim_program.proofs.TokensInLine.{Each}
 
 -- ---- parts of lines

@@ -34,7 +34,7 @@ use Rattle.family_check.specs.Outcomes as family
 use Rattle.elab_session.specs.Declaring as session
 use Rattle.elab_session.specs.Laws.{IsAsWritten}
 use Rattle.elab_session.specs.Refusals as refusals
-use Rattle.elab_session.specs.Texts.{types_text, context_text, reason_text}
+use Rattle.core_text.specs.ContextText.{types_text, context_text, reason_text}
 use Rattle.elab_session.specs.declared.refusal.Refusal.{Refusal}
 use Rattle.elim_program.specs.Refusals.{refusal_text, part_text, place_text}
 use Rattle.elim_program.proofs.GrammarInLine.{WordIn, UsesInLine, AllInLine, BindersInLine, TypedIn, DeclInLine}
@@ -232,10 +232,10 @@ types-in S names before [] h = refl
 types-in S names before (t ∷ types) h =
     both (before ++ term_text S t) (types_text S (codes ", ") types) (both before (term_text S t) h (term-in S names t)) (types-in S names (codes ", ") types refl)
 
-context-in : (S : Signature) → NamesIn S → (types : List tree.Term) → is_in_line (context_text S types) ≡ true
+pub context-in : (S : Signature) → NamesIn S → (types : List tree.Term) → is_in_line (context_text S types) ≡ true
 context-in S names types = both (codes "[" ++ types_text S [] types) (codes "]") (both (codes "[") (types_text S [] types) refl (types-in S names [] types refl)) refl
 
-reason-in : (S : Signature) → NamesIn S → (r : Reason) → is_in_line (reason_text S r) ≡ true
+pub reason-in : (S : Signature) → NamesIn S → (r : Reason) → is_in_line (reason_text S r) ≡ true
 reason-in S names (Mismatch found wanted) =
     both (codes "found " ++ term_text S found ++ codes " wanted ") (term_text S wanted)
     (both (codes "found " ++ term_text S found) (codes " wanted ") (both (codes "found ") (term_text S found) refl (term-in S names found)) refl) (term-in S names wanted)

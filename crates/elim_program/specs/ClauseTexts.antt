@@ -6,7 +6,7 @@ use Rattle.theory.specs.Signatures.{Signature}
 use Rattle.core_text.specs.SymbolNames.{name_at}
 use Rattle.core_text.specs.TermText.{spaced}
 use Rattle.clause_reports.specs.Reports.{Line, Definitional, Proved, Shadowed, Absurd}
-use Rattle.clause_reports.specs.Texts.{context_text}
+use Rattle.core_text.specs.ContextText.{context_text}
 use Rattle.elaboration.specs.Functions.{ClauseLine}
 use Rattle.elim_program.specs.Lines.{text_of}
 

@@ -13,9 +13,8 @@ use crate::refusals::write_number;
 use clause_lines::Line;
 use core_sig::Signature;
 use core_terms::{Tele, Term};
-use core_text::print_term;
+use core_text::{context_text, print_term};
 use function_lines::ClauseLine;
-use function_refusals::context_text;
 use std::alloc::Global;
 
 fn write_terms(

@@ -8,9 +8,9 @@ ghost use Rattle.function_refusals.specs.RefusalMeanings.{IsUnforeseen, refusal_
 
 use core_sig::Signature;
 use core_terms::{Stop, Term};
-use core_text::print_term;
+use core_text::{context_text, print_term};
 use draft_entering::ReportStop;
-use function_refusals::{Refusal, context_text, or_memory, owner_of};
+use function_refusals::{Refusal, or_memory, owner_of};
 use std::alloc::Global;
 use unification::Why;
 

@@ -6,9 +6,9 @@ ghost use Rattle.elaboration.specs.Refusals as spec;
 ghost use Rattle.function_refusals.specs.RefusalMeanings.{Elaborates, IsUnforeseen, part_of, refusal_of};
 
 use crate::refusal::{Refusal, WrittenPart, or_memory};
-use crate::texts::{context_text, reason_text};
 use core_sig::Signature;
 use core_terms::{Denial, Items, Reason, Stop, Term, Verdict};
+use core_text::{context_text, reason_text};
 use std::alloc::Global;
 
 /// What is shown of a part that the checker denies.

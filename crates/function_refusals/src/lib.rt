@@ -3,10 +3,8 @@
 
 mod denials;
 mod refusal;
-mod texts;
 mod trees;
 
 pub use denials::{granted, ill_typed, level_too_high};
 pub use refusal::{FailingCall, Owner, Refusal, Text, WrittenPart, or_memory, owner_of};
-pub use texts::context_text;
 pub use trees::ended;

@@ -9,11 +9,10 @@ ghost use Rattle.elaboration.specs.Refusals as spec;
 ghost use Rattle.function_refusals.specs.RefusalMeanings.{IsUnforeseen, refusal_of};
 
 use crate::refusal::{Refusal, or_memory, owner_of};
-use crate::texts::{context_text, spaced_text};
 use clause_walks::TreeStop;
 use core_sig::Signature;
 use core_terms::{Items, Name, Pat, Stop, Term};
-use core_text::print_term;
+use core_text::{context_text, print_term, spaced_text};
 use std::alloc::Global;
 use unification::Why;
 

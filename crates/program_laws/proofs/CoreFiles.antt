@@ -25,8 +25,8 @@ use Rattle.core_text.specs.Heads as heads
 use Rattle.core_text.specs.LineLaws.{AreNotes, no_note, note, NotesArePassedOver, EndsAreRead}
 use Rattle.core_text.specs.Lines.{is_in_line, AreInLine}
 use Rattle.core_text.specs.PlainNames.{HasPlainNames, IsPlainName, HasPlainFamily}
-use Rattle.core_text.specs.RawEntries.{entry_shown, family_shown}
-use Rattle.core_text.specs.ReadBack.{EntryReadsBack, EntriesAreReadBack, constructor_line}
+use Rattle.core_text.specs.RawEntries.{entry_shown, family_shown, constructor_line}
+use Rattle.core_text.specs.ReadBack.{EntryReadsBack, EntriesAreReadBack}
 use Rattle.core_text.specs.WrittenEntries.{MayFollow, EntriesThatFollow}
 use Rattle.elim_program.specs.Headline.{is_core, core_lines, Shows, none, more}
 use Rattle.elim_program.specs.Lines.{text_of}

@@ -10,7 +10,7 @@ use Rattle.theory.specs.Typing.{HasSort, Has}
 use Rattle.theory.specs.WellFormed.{IsWellFormed, IsTyped, whole}
 use Rattle.theory.proofs.WellFormedness.{well_formed_typed}
 use Rattle.theory.proofs.WithoutAxiomK.{no_axiom_k_entry, no_axiom_k_in_derivations}
-use Rattle.core_text.specs.EntryText.{type_shown}
+use Rattle.core_text.specs.RawEntries.{type_shown}
 use Rattle.program_laws.specs.WithoutK.{LacksK, HasNoK}
 
 lacks-types : (tele : Telescope) (end : Term) → LacksAxiomK (products tele end) → All LacksAxiomK tele

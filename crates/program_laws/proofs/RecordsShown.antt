@@ -14,9 +14,7 @@ use Rattle.core_sig.specs.KindTests.{is_at_parameters}
 use Rattle.core_sig.specs.Raw.{RawConstructor}
 use Rattle.core_sig.proofs.ConstructorTypes.{ren-applied}
 use Rattle.core_terms.specs.Telescopes.{domains_of}
-use Rattle.core_text.specs.EntryText.{type_shown, constructor_type_shown}
-use Rattle.core_text.specs.RawEntries.{end_level, is_at_targets, ends_in_family, shows_record, family_shown}
-use Rattle.core_text.specs.ReadBack.{constructor_line}
+use Rattle.core_text.specs.RawEntries.{end_level, is_at_targets, ends_in_family, shows_record, family_shown, type_shown, constructor_type_shown, constructor_line}
 
 -- ---- the type
 

@@ -19,9 +19,9 @@ use Rattle.theory.proofs.Scopes.{free_of-products}
 use Rattle.theory.proofs.Scoping.{term_scoped}
 use Rattle.theory.proofs.WellFormedness.{axiom_k_of, first_is_prefix}
 use Rattle.theory.proofs.Widening.{prefix_keeps}
-use Rattle.core_text.specs.EntryText.{type_shown, constructor_type_shown}
 use Rattle.core_text.specs.LineReading.{levels_left, some_level_left, identities_left}
 use Rattle.core_text.specs.WrittenEntries.{HasSymbols, IsWrittenTerm, AreWrittenTypes, IsDeclarableName, IsWrittenFamily, MayFollow}
+use Rattle.core_text.specs.RawEntries.{type_shown, constructor_type_shown}
 use Rattle.program_laws.specs.CoreFiles.{IsLowEntry, IsWritable}
 use Rattle.program_laws.proofs.CoreFiles.{MayFollowInTurn}
 use Rattle.program_laws.proofs.InstancesLeft.{eliminator-left, axiom_k-left, identity-left}

@@ -4,9 +4,9 @@ use Rattle.theory.specs.Prelude.{prelude}
 use Rattle.theory.specs.Signatures.{Entry, FamilyOf, EliminatorAt, AxiomKAt, Definition, Signature, IsEntryAt, names_of}
 use Rattle.theory.specs.Terms.{height}
 use Rattle.core_text.specs.EntryReading.{entry_from}
-use Rattle.core_text.specs.EntryText.{type_shown, constructor_type_shown}
 use Rattle.core_text.specs.PlainNames.{HasPlainNames}
 use Rattle.core_text.specs.WrittenEntries.{IsDeclarableName}
+use Rattle.core_text.specs.RawEntries.{type_shown, constructor_type_shown}
 use Rattle.elim_program.specs.VerifyHeadline.{Holds}
 
 -- The text has a head, after it the entries of the signature, which are read one by one, and no entry more. The levels that a

@@ -2,7 +2,7 @@
 use Rattle.std.specs.Prelude.{◌≡◌, ℕ, false, List, codes, All}
 use Rattle.theory.specs.AxiomKLaws.{LacksAxiomK}
 use Rattle.theory.specs.Signatures.{Entry, FamilyOf, EliminatorAt, AxiomKAt, Definition, Signature, IsEntryAt}
-use Rattle.core_text.specs.EntryText.{type_shown, constructor_type_shown}
+use Rattle.core_text.specs.RawEntries.{type_shown, constructor_type_shown}
 use Rattle.program_laws.specs.LastLines.{begins}
 
 -- entry number n is no instance of K, and no symbol of K is in the terms that its line shows

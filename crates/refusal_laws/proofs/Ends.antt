@@ -20,7 +20,7 @@ use Rattle.case_trees.specs.Standing.{IsNode}
 use Rattle.case_trees.specs.Stops as stop
 use Rattle.case_trees.specs.Stops.{TreeStop}
 use Rattle.clause_reports.specs.Equations.{part_named}
-use Rattle.clause_reports.specs.Texts.{context_text}
+use Rattle.core_text.specs.ContextText.{context_text}
 use Rattle.elaboration.specs.Refusals.{of_tree}
 use Rattle.elaboration.specs.Walking.{Opened}
 use Rattle.resolve.specs.Functions.{Function}

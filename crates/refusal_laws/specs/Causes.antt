@@ -33,7 +33,7 @@ use Rattle.structural_rec.specs.Laws.{AreRows}
 use Rattle.structural_rec.specs.Uses.{is_recursive}
 use Rattle.clause_reports.specs.Equations.{part_named}
 use Rattle.clause_reports.specs.Stops.{Rejection, rejection}
-use Rattle.clause_reports.specs.Texts.{context_text}
+use Rattle.core_text.specs.ContextText.{context_text}
 use Rattle.elaboration.specs.Functions.{failing_call, own_part}
 use Rattle.elaboration.specs.Refusals as refusal
 use Rattle.elaboration.specs.Refusals.{FailingCall, Part, Refusal, ill_typed, level_too_high, of_tree, owner_of}

@@ -8,14 +8,14 @@ ghost use Rattle.walk_checks.specs.CheckMeanings.{site_of};
 ghost use Rattle.kernel_reduce.specs.WellScoped.{AreWellScoped};
 ghost use Rattle.elaboration.specs.Refusals as refusals;
 ghost use Rattle.core_text.specs.TermText.{term_text};
-ghost use Rattle.clause_reports.specs.Texts.{context_text};
+ghost use Rattle.core_text.specs.ContextText.{context_text};
 
 use crate::asking::{checked_as, inferred};
 use crate::parts::{Asked, Site};
 use core_sig::Signature;
 use core_terms::{Stop, Tele, Term, Units};
-use core_text::print_term;
-use function_refusals::{Refusal, context_text, or_memory, owner_of};
+use core_text::{context_text, print_term};
+use function_refusals::{Refusal, or_memory, owner_of};
 use kernel_reduce::convertible;
 use std::alloc::Global;
 

@@ -18,7 +18,7 @@ use Rattle.core_terms.proofs.Answers.{Answers, and_next-has, low-is}
 use Rattle.core_terms.proofs.LeadingProducts.{products-of_parts}
 use Rattle.core_sig.specs.Instances.{is_eliminator, is_axiom_k}
 use Rattle.core_sig.specs.Raw.{RawConstructor, RawFamily, raw_names}
-use Rattle.core_text.specs.EntryText.{type_shown, constructor_type_shown}
+use Rattle.core_text.specs.RawEntries.{type_shown, constructor_type_shown}
 use Rattle.kernel_reduce.specs.Reduction.{charge, nesting, whnf_of}
 use Rattle.kernel_reduce.proofs.Answers.{if_low-has}
 use Rattle.kernel_check.specs.Checking.{infer_form, infer_of, infer_sort_of, check_of, compared}

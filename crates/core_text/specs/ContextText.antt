@@ -1,4 +1,4 @@
--- The texts of what a refusal shows, over the signature in which it arose.
+-- The texts of a context and of the checker's reason, which refusals and reports show.
 use Rattle.std.specs.Prelude.{ℕ, List, [], ◌∷◌, ◌++◌, codes}
 use Rattle.theory.specs.Terms.{Term}
 use Rattle.theory.specs.Signatures.{Signature}

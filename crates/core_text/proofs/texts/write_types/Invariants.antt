@@ -1,7 +1,7 @@
 use Rattle.std.proofs.Common.{◌≡◌, ◌++◌, [], drop}
 use Rattle.core_terms.specs.Meanings.{tele_of}
-use Rattle.clause_reports.specs.Texts.{types_text}
-use Rattle.draft_entering.proofs.texts.write_types.Given as goal
+use Rattle.core_text.specs.ContextText.{types_text}
+use Rattle.core_text.proofs.texts.write_types.Given as goal
 
 abbrev pub invariant-loop-t : goal.invariant-loop-t
 invariant-loop-t l =

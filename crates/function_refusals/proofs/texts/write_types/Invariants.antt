@@ -1,8 +1,0 @@
-use Rattle.std.proofs.Common.{◌≡◌, ◌++◌, [], drop}
-use Rattle.core_terms.specs.Meanings.{tele_of}
-use Rattle.clause_reports.specs.Texts.{types_text}
-use Rattle.function_refusals.proofs.texts.write_types.Given as goal
-
-abbrev pub invariant-loop-t : goal.invariant-loop-t
-invariant-loop-t l =
-    l.out.items ++ types_text l.sig l.before (tele_of (drop l.t-index l.types)) ≡ l.fn.out.items ++ types_text l.sig [] (tele_of l.types)
