@@ -1,7 +1,8 @@
--- A line that is spelled right is read, unless a term in it is too deep or it shows no record.
-use Rattle.std.proofs.Common.{◌≡◌, ◌≢◌, inl, inr, ℕ, ◌+◌, ◌-◌, ◌<◌, ◌≤◌, ◌^◌, Bool, true, false, List, [], ◌∷◌, ◌++◌, length, refl, sym, ap, ◌∙◌, subst, append_assoc, arith}
-use Rattle.std.specs.Prelude.{if◌then◌else◌, Option, Some, None, Result, Ok, Err, AllPairs, codes, decimal}
+-- A line that is spelled right is read, unless a term in it is too deep or too high, or it shows no record.
+use Rattle.std.proofs.Common.{◌≡◌, ◌≢◌, inl, inr, ℕ, ◌+◌, ◌-◌, ◌<◌, ◌≤◌, ◌^◌, Bool, true, false, List, [], ◌∷◌, ◌++◌, map, length, refl, sym, ap, ◌∙◌, subst, append_assoc, arith}
+use Rattle.std.specs.Prelude.{if◌then◌else◌, nat_le, Option, Some, None, Result, Ok, Err, AllPairs, codes, decimal}
 use Rattle.std.proofs.lemmas.Bool.{false≢true}
+use Rattle.std.proofs.lemmas.Bool.Decides.{nat_tests}
 use Rattle.std.proofs.lemmas.List.{length-append}
 use Rattle.theory.specs.Terms.{Term, Var, Sort, Pi, Lam, App, Let, Const, Fam, Con, Elim, AxiomK, height}
 use Rattle.theory.specs.Signatures.{Signature, Definition, names}
@@ -11,28 +12,29 @@ use Rattle.core_sig.specs.Names.{find}
 use Rattle.core_sig.specs.Raw.{RawFamily}
 use Rattle.core_text.specs.EntryReading.{behind_notes, shows_entry, shown_by, entry_at, next_entry, with_offset, entry_from}
 use Rattle.core_text.specs.EntryText.{line_text}
-use Rattle.core_text.specs.LineReading.{nested, line_at}
+use Rattle.core_text.specs.LineReading.{nested, whole_term, line_at}
 use Rattle.core_text.specs.PlainNames.{IsPlainName, HasPlainNames}
 use Rattle.core_text.specs.RawEntries.{RawEntry, RawFamilyOf, RawEliminator, RawAxiomK, RawDefinition}
-use Rattle.core_text.specs.ReadBack.{IsSpelled, IsFoundFamily}
+use Rattle.core_text.specs.ReadBack.{IsSpelled, AreSpelled, IsFoundFamily}
 use Rattle.core_text.specs.Reading.{Reading, wrong, after}
-use Rattle.core_text.specs.SpelledLines.{IsSpelledOutcome, SpelledLinesAreRead}
+use Rattle.core_text.specs.SpelledLines.{IsLow, HasLowTerms, IsSpelledOutcome, SpelledLinesAreRead}
 use Rattle.core_text.specs.Spellings.{raw_line, with_name, IsFamilyOver, IsEntryOver}
 use Rattle.core_text.specs.SymbolLookup.{entry_symbol, found_symbol, symbol}
 use Rattle.core_text.specs.SymbolNames.{own_name, name_at}
 use Rattle.core_text.specs.TermText.{spelled, term_text}
 use Rattle.core_text.specs.declared.stop.CoreTextStop.{CoreTextStop}
 use Rattle.core_text.specs.declared.stop.CoreTextStop.TheVariants.{NotCoreText}
-use Rattle.core_text.proofs.Depths.{OrNested, is_read, is_nested, or-same}
+use Rattle.core_text.proofs.Depths.{OrNested, is_read, is_nested, or-weaker, or-same}
 use Rattle.core_text.proofs.EntriesFollow.{own-unknown, still-spelled, own-found, term-spelled}
 use Rattle.core_text.proofs.LineForms.{family-text, eliminator-text, axiom_k-text, definition-text, grouped-is}
-use Rattle.core_text.proofs.LinesBack.{Starts, eliminator-back, axiom_k-back, def-line, elim-line, axiom_k-line, data-line, offset-is}
-use Rattle.core_text.proofs.LinesSpelled.{ReadsWhole, definition-spelled, family-spelled}
+use Rattle.core_text.proofs.LinesBack.{Starts, nested-is, eliminator-back, axiom_k-back, def-line, elim-line, axiom_k-line, data-line, offset-is}
+use Rattle.core_text.proofs.LinesSpelled.{ReadsWhole, high-in, definition-spelled, family-spelled}
 use Rattle.core_text.proofs.NamesFound.{family-found}
 use Rattle.core_text.proofs.NamesSpelled.{names-are-spelled, spelled-by}
 use Rattle.core_text.proofs.NewNames.{new-plain, new-unknown, new-read}
 use Rattle.core_text.proofs.NumbersBack.{drop-word}
 use Rattle.core_text.proofs.SymbolOutcomes.{Has}
+use Rattle.core_text.proofs.TermsBack.{terms-are-read-back}
 use Rattle.core_text.proofs.TermsSpelled.{terms-spelled}
 
 -- ---- whole terms
@@ -55,13 +57,18 @@ height-short W b (AxiomK i m) = omega arith
 module _ (S W : Signature) (distinct : AllPairs (λ x y. x ≢ y) (names S)) (plain : HasPlainNames S) (has : Has W S) (look : List ℕ) (flag : Bool) (keep : (name : List ℕ) (t : Term) → IsSpelled (symbol S []) name t → IsSpelled (symbol S look) name t) (own : flag ≡ true → IsSpelled (symbol S look) (name_at W (length S.entries)) (Fam (length S.entries))) where
   -- a term over the symbols of S, which W has too, is read as W writes it
   whole-spelled : ReadsWhole S W look flag
-  whole-spelled n t rest is few short stops =
-      terms-spelled W (symbol S look) nested t n rest
-      (record {
-        spelled = term-spelled S W has (names-are-spelled S distinct plain) (symbol S look) flag keep own t n is.symbols is.free (omega (arith, few, short, height-short W false t));
-        free = is.free;
-      })
-      stops
+  whole-spelled n t rest is few short stops = by (nat_le (height t) 2000) refl
+    where
+      spelled : AreSpelled W (symbol S look) t
+      spelled = term-spelled S W has (names-are-spelled S distinct plain) (symbol S look) flag keep own t n is.symbols is.free (omega (arith, few, short, height-short W false t))
+
+      by : (b : Bool) → nat_le (height t) 2000 ≡ b → OrNested (IsLow t → ⊥) (whole_term S look n (term_text W t ++ rest)) t rest
+      by true low =
+          let le : height t ≤ 2000 = grind (arith, nat_tests) in
+          is_read (terms-are-read-back W (symbol S look) t nested n rest spelled is.free (omega (arith, nested-is, le)) le stops)
+      by false high =
+          or-weaker (λ one low. let no : nat_le (height t) 2000 ≡ true = grind (arith, nat_tests) in false≢true (sym high ∙ no))
+          (terms-spelled W (symbol S look) nested t n rest (record { spelled = spelled; free = is.free }) stops)
 
 -- ---- lines
 
@@ -75,7 +82,7 @@ found-family S distinct plain g is = record {
 -- a line and what is read of it
 record Line (S : Signature) (raw : RawEntry) (rest : List ℕ) : Type 0 where
   starts : Starts (raw_line S raw ++ rest)
-  reads : OrNested (line_at S [] (raw_line S raw ++ rest)) raw rest
+  reads : OrNested (HasLowTerms raw → ⊥) (line_at S [] (raw_line S raw ++ rest)) raw rest
 
 module _ (S : Signature) (distinct : AllPairs (λ x y. x ≢ y) (names S)) (plain : HasPlainNames S) where
   family-line : (raw : RawFamily) (rest : List ℕ) → IsFamilyOver S raw → length (raw_line S (RawFamilyOf raw)) < 2 ^ 32 → Line S (RawFamilyOf raw) rest
@@ -83,7 +90,9 @@ module _ (S : Signature) (distinct : AllPairs (λ x y. x ≢ y) (names S)) (plai
     starts = record { one = 100; others = _; is = family-text W raw rest; no_note = refl };
     reads =
         or-same (line_at S [] (line_text W (RawFamilyOf raw) ++ rest)) _ (ap (line_at S []) (family-text W raw rest) ∙ data-line S _)
-        (family-spelled S W raw rest
+        (family-spelled S W raw rest (HasLowTerms (RawFamilyOf raw) → ⊥)
+        (high-in (HasLowTerms (RawFamilyOf raw) → ⊥) raw.parameters (λ high low. high low.0)) (λ high low. high low.1)
+        (high-in (HasLowTerms (RawFamilyOf raw) → ⊥) (map (λ c. c.type) raw.constructors) (λ high low. high low.2))
         (whole-spelled S W distinct plain has [] false (λ name t so. so) (λ e. absurd (false≢true e)))
         (whole-spelled S W distinct plain has raw.name true (λ x t so. still-spelled S raw.name x t none so) (λ e. own)) is short);
   }
@@ -123,7 +132,7 @@ module _ (S : Signature) (distinct : AllPairs (λ x y. x ≢ y) (names S)) (plai
         starts = record { one = 100; others = _; is = definition-text S name type body rest; no_note = refl };
         reads =
             or-same (line_at S [] (line_text S (RawDefinition name type body) ++ rest)) _ (ap (line_at S []) (definition-text S name type body rest) ∙ def-line S _)
-            (definition-spelled S S plain-terms name type body rest (new-read S [] [] name is.0) is.1 is.2 (omega (arith, short, whole, one, two, three)) (omega (arith, short, whole, one, two, three)));
+            (definition-spelled S S plain-terms (HasLowTerms (RawDefinition name type body) → ⊥) name type body rest (λ high low. high low.0) (λ high low. high low.1) (new-read S [] [] name is.0) is.1 is.2 (omega (arith, short, whole, one, two, three)) (omega (arith, short, whole, one, two, three)));
       }
 
   line-spelled : (raw : RawEntry) (rest : List ℕ) → IsEntryOver S raw → length (raw_line S raw) < 2 ^ 32 → Line S raw rest
@@ -175,5 +184,5 @@ spelled-lines-are-read S raw before others distinct plain is short =
     by : Line S raw others → IsSpelledOutcome S raw (length before) (length before + length line) (entry_from S text (length before))
     by l = elim l.reads [
       | is_read e ↦ shown (shows_entry (length S.entries) raw) refl (entry_from S text (length before)) (reading l.starts ∙ ap outcome e)
-      | is_nested left e ↦ inr (inl (length text - left, reading l.starts ∙ ap outcome e))
+      | is_nested left high e ↦ inr (inl (high, length text - left, reading l.starts ∙ ap outcome e))
     ]

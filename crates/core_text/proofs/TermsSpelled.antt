@@ -1,4 +1,4 @@
--- A term that is spelled is read back, whatever its height, unless it is too deep.
+-- A term that is spelled is read back, whatever its height, unless it is too deep or too high.
 use Rattle.std.proofs.Common.{◌≡◌, ℕ, zero, suc, ◌+◌, ◌≤◌, false, List, [], ◌∷◌, ◌++◌, length, drop, refl, sym, ap, ap₂, ◌∙◌, subst, append_assoc, arith}
 use Rattle.std.specs.Prelude.{◌==◌, if◌then◌else◌, Option, codes, All}
 use Rattle.std.proofs.lemmas.List.Elements.{All-head, All-tail, All-push}
@@ -17,7 +17,7 @@ use Rattle.core_text.proofs.Depths.{OrNested, is_read, is_nested, or-same, or-th
 use Rattle.core_text.proofs.NumbersBack.{behind-word}
 use Rattle.core_text.proofs.TermsBack.{stops-space, stops-close, text-begins, symbol-back, variable-form, sort-form, paren, backslash, let-word, head-no-application, Split, split-push, application-whole, application-text, product-text, function-text, let-text}
 
--- ---- compound terms, where `inner` reads what stands inside unless it is too deep
+-- ---- compound terms, where `inner` reads what stands inside unless it is too deep or too high
 
 -- a term over n variables that is spelled
 pub record IsSpelledTerm (S : Signature) (look : List ℕ → Option Term) (n : ℕ) (t : Term) : Type 0 where
@@ -27,21 +27,21 @@ pub record IsSpelledTerm (S : Signature) (look : List ℕ → Option Term) (n : 
 -- a reading of such terms, each before what stops names and numbers
 abbrev pub ReadsSpelled : Signature → (List ℕ → Option Term) → (ℕ → List ℕ → Reading Term) → Type 0
 ReadsSpelled S look inner =
-    (t : Term) (n : ℕ) (rest : List ℕ) → IsSpelledTerm S look n t → Stops rest → OrNested (inner n (term_text S t ++ rest)) t rest
+    (t : Term) (n : ℕ) (rest : List ℕ) → IsSpelledTerm S look n t → Stops rest → OrNested (Unit {0}) (inner n (term_text S t ++ rest)) t rest
 
 module _ (S : Signature) (look : List ℕ → Option Term) (inner : ℕ → List ℕ → Reading Term) (back : ReadsSpelled S look inner) where
   -- a term after a word
-  after-spelled : (word : List ℕ) (t : Term) (n : ℕ) (rest : List ℕ) → IsSpelledTerm S look n t → Stops rest → OrNested (term_after inner word n (word ++ (term_text S t ++ rest))) t rest
+  after-spelled : (word : List ℕ) (t : Term) (n : ℕ) (rest : List ℕ) → IsSpelledTerm S look n t → Stops rest → OrNested (Unit {0}) (term_after inner word n (word ++ (term_text S t ++ rest))) t rest
   after-spelled word t n rest fit stops =
       or-same (term_after inner word n (word ++ (term_text S t ++ rest))) (inner n (term_text S t ++ rest)) (ap (λ m. after m (inner n)) (behind-word word (term_text S t ++ rest))) (back t n rest fit stops)
 
-  function-spelled : (a b : Term) (n : ℕ) (rest : List ℕ) → IsSpelledTerm S look n a → IsSpelledTerm S look (n + 1) b → OrNested (function_at inner n (term_text S a ++ (codes " . " ++ (term_text S b ++ 41 ∷ rest)))) (Lam a b) rest
+  function-spelled : (a b : Term) (n : ℕ) (rest : List ℕ) → IsSpelledTerm S look n a → IsSpelledTerm S look (n + 1) b → OrNested (Unit {0}) (function_at inner n (term_text S a ++ (codes " . " ++ (term_text S b ++ 41 ∷ rest)))) (Lam a b) rest
   function-spelled a b n rest fa fb =
       or-then (λ a r. and_then (term_after inner (codes " . ") (n + 1) r) (λ b end. closed_by (Lam a b) end))
       (back a n (codes " . " ++ (term_text S b ++ 41 ∷ rest)) fa (stops-space _))
       (or-then (λ b end. closed_by (Lam a b) end) (after-spelled (codes " . ") b (n + 1) (41 ∷ rest) fb (stops-close rest)) (or-closed (Lam a b) rest))
 
-  let-spelled : (a t b : Term) (n : ℕ) (rest : List ℕ) → IsSpelledTerm S look n a → IsSpelledTerm S look n t → IsSpelledTerm S look (n + 1) b → OrNested (let_at inner n (term_text S a ++ (codes " = " ++ (term_text S t ++ (codes " . " ++ (term_text S b ++ 41 ∷ rest)))))) (Let a t b) rest
+  let-spelled : (a t b : Term) (n : ℕ) (rest : List ℕ) → IsSpelledTerm S look n a → IsSpelledTerm S look n t → IsSpelledTerm S look (n + 1) b → OrNested (Unit {0}) (let_at inner n (term_text S a ++ (codes " = " ++ (term_text S t ++ (codes " . " ++ (term_text S b ++ 41 ∷ rest)))))) (Let a t b) rest
   let-spelled a t b n rest fa ft fb =
       or-then (λ a r1. and_then (term_after inner (codes " = ") n r1) (λ t r2. and_then (term_after inner (codes " . ") (n + 1) r2) (λ b end. closed_by (Let a t b) end)))
       (back a n (codes " = " ++ (term_text S t ++ (codes " . " ++ (term_text S b ++ 41 ∷ rest)))) fa (stops-space _))
@@ -50,7 +50,7 @@ module _ (S : Signature) (look : List ℕ → Option Term) (inner : ℕ → List
       (or-then (λ b end. closed_by (Let a t b) end) (after-spelled (codes " . ") b (n + 1) (41 ∷ rest) fb (stops-close rest)) (or-closed (Let a t b) rest)))
 
   -- after the parenthesis of a product or an application
-  open-spelled : (a : Term) (n : ℕ) (rest : List ℕ) (t : Term) (end : List ℕ) → IsSpelledTerm S look n a → OrNested (behind_first inner a n (32 ∷ rest)) t end → OrNested (enclosed_at inner n (term_text S a ++ 32 ∷ rest)) t end
+  open-spelled : (a : Term) (n : ℕ) (rest : List ℕ) (t : Term) (end : List ℕ) → IsSpelledTerm S look n a → OrNested (Unit {0}) (behind_first inner a n (32 ∷ rest)) t end → OrNested (Unit {0}) (enclosed_at inner n (term_text S a ++ 32 ∷ rest)) t end
   open-spelled a n rest t end fa h =
       let starts = text-begins S look a fa.spelled in
       let bytes = term_text S a ++ 32 ∷ rest in
@@ -58,15 +58,15 @@ module _ (S : Signature) (look : List ℕ → Option Term) (inner : ℕ → List
       (ap₂ (λ c d. if c then function_at inner n (drop 1 bytes) else (if d then let_at inner n (drop 4 bytes) else and_then (inner n bytes) (λ a r. behind_first inner a n r))) (starts.no_function (32 ∷ rest)) (starts.no_let (32 ∷ rest) (stops-space rest)))
       (or-then (λ a r. behind_first inner a n r) (back a n (32 ∷ rest) fa (stops-space rest)) h)
 
-  product-spelled : (a b : Term) (n : ℕ) (rest : List ℕ) → IsSpelledTerm S look n a → IsSpelledTerm S look (n + 1) b → OrNested (enclosed_at inner n (term_text S a ++ (codes " -> " ++ (term_text S b ++ 41 ∷ rest)))) (Pi a b) rest
+  product-spelled : (a b : Term) (n : ℕ) (rest : List ℕ) → IsSpelledTerm S look n a → IsSpelledTerm S look (n + 1) b → OrNested (Unit {0}) (enclosed_at inner n (term_text S a ++ (codes " -> " ++ (term_text S b ++ 41 ∷ rest)))) (Pi a b) rest
   product-spelled a b n rest fa fb =
       let more = codes "-> " ++ (term_text S b ++ 41 ∷ rest) in
       open-spelled a n more (Pi a b) rest fa
       (or-same (behind_first inner a n (32 ∷ more)) (product_from inner a n more) (ap (λ m. after m (λ r. if first r == 45 then product_from inner a n r else spine_from inner a n r)) (behind-word (codes " ") more))
       (or-then (λ b end. closed_by (Pi a b) end) (after-spelled (codes "-> ") b (n + 1) (41 ∷ rest) fb (stops-close rest)) (or-closed (Pi a b) rest)))
 
-  arguments-spelled : (f a : Term) (spine : List Term) (k n : ℕ) (rest : List ℕ) → IsSpelledTerm S look n a → All (IsSpelledTerm S look n) spine → OrNested (arguments_from inner k f n (term_text S a ++ (spaced S spine ++ 41 ∷ rest))) (applied (App f a) spine) rest
-  arguments-spelled f a spine zero n rest fit all = is_nested (length (term_text S a ++ (spaced S spine ++ 41 ∷ rest))) refl
+  arguments-spelled : (f a : Term) (spine : List Term) (k n : ℕ) (rest : List ℕ) → IsSpelledTerm S look n a → All (IsSpelledTerm S look n) spine → OrNested (Unit {0}) (arguments_from inner k f n (term_text S a ++ (spaced S spine ++ 41 ∷ rest))) (applied (App f a) spine) rest
+  arguments-spelled f a spine zero n rest fit all = is_nested (length (term_text S a ++ (spaced S spine ++ 41 ∷ rest))) tt refl
   arguments-spelled f a [] (suc k) n rest fit all =
       or-then (behind_argument inner (λ t end. arguments_from inner k t n end))
       (or-then (λ a r. limited (App f a) r) (back a n (41 ∷ rest) fit (stops-close rest)) (or-limited (App f a) (41 ∷ rest)))
@@ -79,7 +79,7 @@ module _ (S : Signature) (look : List ℕ → Option Term) (inner : ℕ → List
       (or-then (λ a r. limited (App f a) r) (back a n (32 ∷ tail) fit (stops-space tail)) (or-limited (App f a) (32 ∷ tail)))
       (arguments-spelled (App f a) c spine k n rest (All-head (IsSpelledTerm S look n) c spine all) (All-tail (IsSpelledTerm S look n) c spine all)))
 
-  application-spelled : (h a : Term) (spine : List Term) (n : ℕ) (rest : List ℕ) → is_application h ≡ false → IsSpelledTerm S look n h → IsSpelledTerm S look n a → All (IsSpelledTerm S look n) spine → OrNested (enclosed_at inner n (term_text S h ++ (spaced S (a ∷ spine) ++ 41 ∷ rest))) (applied (App h a) spine) rest
+  application-spelled : (h a : Term) (spine : List Term) (n : ℕ) (rest : List ℕ) → is_application h ≡ false → IsSpelledTerm S look n h → IsSpelledTerm S look n a → All (IsSpelledTerm S look n) spine → OrNested (Unit {0}) (enclosed_at inner n (term_text S h ++ (spaced S (a ∷ spine) ++ 41 ∷ rest))) (applied (App h a) spine) rest
   application-spelled h a spine n rest head fh fa all =
       let tail = term_text S a ++ (spaced S spine ++ 41 ∷ rest) in
       let starts = text-begins S look a fa.spelled in
@@ -94,7 +94,7 @@ module _ (S : Signature) (look : List ℕ → Option Term) (inner : ℕ → List
 
 -- ---- one form, by its first bytes
 
-enclosed-spelled : (look : List ℕ → Option Term) (room n : ℕ) (text rest : List ℕ) (t : Term) (end : List ℕ) → text ≡ 40 ∷ rest → OrNested (enclosed_at (read_term look room) n rest) t end → OrNested (read_term look (suc room) n text) t end
+enclosed-spelled : (look : List ℕ → Option Term) (room n : ℕ) (text rest : List ℕ) (t : Term) (end : List ℕ) → text ≡ 40 ∷ rest → OrNested (Unit {0}) (enclosed_at (read_term look room) n rest) t end → OrNested (Unit {0}) (read_term look (suc room) n text) t end
 enclosed-spelled look room n text rest t end is h =
     or-same (read_term look (suc room) n text) (enclosed_at (read_term look room) n rest) (ap (read_term look (suc room) n) is ∙ paren look room n rest) h
 
@@ -104,7 +104,7 @@ parts-spelled S look n f a fit = (
   record { spelled = fit.spelled.1; free = omega (arith, fit.free) },
 )
 
-application-form : (S : Signature) (look : List ℕ → Option Term) (room : ℕ) → ReadsSpelled S look (read_term look room) → (f a : Term) (n : ℕ) (rest : List ℕ) → IsSpelledTerm S look n (App f a) → OrNested (read_term look (suc room) n (term_text S (App f a) ++ rest)) (App f a) rest
+application-form : (S : Signature) (look : List ℕ → Option Term) (room : ℕ) → ReadsSpelled S look (read_term look room) → (f a : Term) (n : ℕ) (rest : List ℕ) → IsSpelledTerm S look n (App f a) → OrNested (Unit {0}) (read_term look (suc room) n (term_text S (App f a) ++ rest)) (App f a) rest
 application-form S look room back f a n rest fit =
     enclosed-spelled look room n (term_text S (App f a) ++ rest) (term_text S h ++ (spaced S (split.one ∷ split.others) ++ 41 ∷ rest)) (App f a) rest (application-text S f a split rest)
     (or-other (enclosed_at (read_term look room) n (term_text S h ++ (spaced S (split.one ∷ split.others) ++ 41 ∷ rest))) (application-whole f a split)
@@ -128,7 +128,7 @@ application-form S look room back f a n rest fit =
     all : All Fit (split.one ∷ split.others)
     all = subst (All Fit) split.is (All-push Fit (spine_of f) a parts.1 inside.1)
 
-form-spelled : (S : Signature) (look : List ℕ → Option Term) (room : ℕ) → ReadsSpelled S look (read_term look room) → (t : Term) (n : ℕ) (rest : List ℕ) → IsSpelledTerm S look n t → Stops rest → OrNested (read_term look (suc room) n (term_text S t ++ rest)) t rest
+form-spelled : (S : Signature) (look : List ℕ → Option Term) (room : ℕ) → ReadsSpelled S look (read_term look room) → (t : Term) (n : ℕ) (rest : List ℕ) → IsSpelledTerm S look n t → Stops rest → OrNested (Unit {0}) (read_term look (suc room) n (term_text S t ++ rest)) t rest
 form-spelled S look room back (Var v) n rest fit stops =
     is_read (variable-form look room n v (term_text S (Var v) ++ rest) rest refl (omega (arith, fit.free)) fit.spelled stops)
 form-spelled S look room back (Sort i) n rest fit stops =
@@ -160,5 +160,5 @@ form-spelled S look room back (AxiomK i m) n rest fit stops = is_read (symbol-ba
 
 -- whatever room there is for terms inside
 pub terms-spelled : (S : Signature) (look : List ℕ → Option Term) (room : ℕ) → ReadsSpelled S look (read_term look room)
-terms-spelled S look zero t n rest fit stops = is_nested (length (term_text S t ++ rest)) refl
+terms-spelled S look zero t n rest fit stops = is_nested (length (term_text S t ++ rest)) tt refl
 terms-spelled S look (suc room) t n rest fit stops = form-spelled S look room (terms-spelled S look room) t n rest fit stops

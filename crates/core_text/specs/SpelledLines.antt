@@ -1,18 +1,33 @@
 -- A line that is spelled right is refused at no byte of it: it is read, unless a term in it is too deep or too high, or the
 -- line shows no record.
-use Rattle.std.specs.Prelude.{◌≡◌, ◌≢◌, ◌⊎◌, ℕ, ◌+◌, ◌<◌, ◌^◌, false, List, ◌++◌, length, Option, Some, Result, Ok, Err, AllPairs}
+use Rattle.std.specs.Prelude.{◌≡◌, ◌≢◌, ◌⊎◌, ℕ, ◌+◌, ◌<◌, ◌≤◌, ◌^◌, false, List, ◌++◌, map, length, Option, Some, Result, Ok, Err, All, AllPairs}
+use Rattle.theory.specs.Terms.{Term, height}
 use Rattle.theory.specs.Signatures.{Signature, names}
 use Rattle.core_text.specs.EntryReading.{shows_entry, entry_from}
 use Rattle.core_text.specs.PlainNames.{HasPlainNames}
-use Rattle.core_text.specs.RawEntries.{RawEntry}
+use Rattle.core_text.specs.RawEntries.{RawEntry, RawFamilyOf, RawEliminator, RawAxiomK, RawDefinition}
 use Rattle.core_text.specs.Spellings.{raw_line, IsEntryOver}
 use Rattle.core_text.specs.declared.stop.CoreTextStop.{CoreTextStop}
 use Rattle.core_text.specs.declared.stop.CoreTextStop.TheVariants.{Nested, NotCoreText}
 
+abbrev pub IsLow : Term → Type 0
+IsLow t = height t ≤ 2000
+
+-- no term of what a line says is higher than 2,000
+abbrev pub HasLowTerms : RawEntry → Type 0
+HasLowTerms (RawFamilyOf raw) = All IsLow raw.parameters × IsLow raw.type × All IsLow (map (λ c. c.type) raw.constructors)
+HasLowTerms (RawEliminator g m) = Unit {0}
+HasLowTerms (RawAxiomK i m) = Unit {0}
+HasLowTerms (RawDefinition name type body) = IsLow type × IsLow body
+
+-- A term is too high, or one inside it is too deep, which is so only where the former is higher than 2,000.
+abbrev pub IsTooDeepOrHigh : RawEntry → Result (Option (RawEntry × ℕ)) CoreTextStop → Type 0
+IsTooDeepOrHigh raw r = (HasLowTerms raw → ⊥) × (at : ℕ) × (r ≡ Err (Nested at))
+
 -- what comes of reading the line that says `raw` after the entries S and stands from one offset to the other
 abbrev pub IsSpelledOutcome : Signature → RawEntry → ℕ → ℕ → Result (Option (RawEntry × ℕ)) CoreTextStop → Type 0
 IsSpelledOutcome S raw from to r =
-    (r ≡ Ok (Some (raw, to))) ⊎ ((at : ℕ) × (r ≡ Err (Nested at)))
+    (r ≡ Ok (Some (raw, to))) ⊎ IsTooDeepOrHigh raw r
     ⊎ ((shows_entry (length S.entries) raw ≡ false) × (r ≡ Err (NotCoreText from)))
 
 abbrev pub SpelledLinesAreRead : Type 0
