@@ -193,9 +193,9 @@ run-again-by (suc fuel) z y le same = by (λ r short same. run-again-by fuel r y
         let w = width (first z) in
         let others = drop w z in
         let k = run_len others in
-        let behind : drop (run_len z) z ≡ drop k others = ap (λ m. drop m z) run.more ∙ sym (drop-drop k w z) in
+        let past : drop (run_len z) z ≡ drop k others = ap (λ m. drop m z) run.more ∙ sym (drop-drop k w z) in
         let name : take (run_len z) z ≡ first_character z ++ take k others = ap (λ m. take m z) run.more ∙ take-add w k z in
-        let again = more others (omega (arith, length-drop w z, run.char.within)) (ap first_character (sym behind) ∙ same) in
+        let again = more others (omega (arith, length-drop w z, run.char.within)) (ap first_character (sym past) ∙ same) in
         let text : take (run_len z) z ++ y ≡ first_character z ++ (take k others ++ y) = ap (λ r. r ++ y) name ∙ append_assoc (first_character z) (take k others) y in
         let size : length (first_character z) ≡ w = length-take-le w z run.char.within in
         let front = char-front z (take k others ++ y) some in
@@ -213,7 +213,7 @@ run-again z y same = run-again-by (length z) z y (omega arith) same
 pub record IsNamed (z y : List ℕ) : Type 0 where
   pub size : run_len y ≡ run_len z
   pub name : take (run_len y) y ≡ take (run_len z) z
-  pub behind : Same (drop (run_len z) z) (drop (run_len y) y)
+  pub past : Same (drop (run_len z) z) (drop (run_len y) y)
   pub character : Same z y
 
 pub same-named : (z y : List ℕ) → 0 < run_len z → SameName z y → IsNamed z y
@@ -223,7 +223,7 @@ same-named z y some same =
     record {
       size = size;
       name = name;
-      behind = ap (λ (p : List ℕ × List ℕ). p.1) same;
+      past = ap (λ (p : List ℕ × List ℕ). p.1) same;
       character = by some (is-run z (some-run z some)) (is-run y (some-run y (omega arith)));
     }
   where

@@ -4,7 +4,7 @@ use Rattle.std.specs.Prelude.{◌==◌, if◌then◌else◌, Ok, Err}
 use Rattle.std.proofs.lemmas.Bool.Decides.{nat_tests}
 use Rattle.std.proofs.lemmas.List.{length-drop, take-append-drop}
 use Rattle.core_text.specs.Heads.{shared}
-use Rattle.core_text.specs.Reading.{Reading, wrong, and_then, after, behind}
+use Rattle.core_text.specs.Reading.{Reading, wrong, and_then, after, past}
 use Rattle.core_text.specs.declared.halt.Halt.TheVariants.{Memory, Nested, Wrong}
 use Rattle.core_text.proofs.Outcomes.{Ensures}
 use Rattle.core_text.proofs.WordsRead.{word-is}
@@ -59,8 +59,8 @@ regrouped : (text front more last : List ℕ) → (text ++ (front ++ more)) ++ l
 regrouped text front more last = simp append_assoc
 
 -- with a text before them, where that text and any with the property U are the front of one with the property V
-pub begun-behind : (U V : List ℕ → Type 0) (text rest whole : List ℕ) (left : ℕ) → whole ≡ text ++ rest → ((x : List ℕ) → U x → IsFront V (text ++ x)) → Begun U rest left → Begun V whole left
-begun-behind U V text rest whole left at over b = by (over (b.front ++ b.more) b.whole)
+pub begun-past : (U V : List ℕ → Type 0) (text rest whole : List ℕ) (left : ℕ) → whole ≡ text ++ rest → ((x : List ℕ) → U x → IsFront V (text ++ x)) → Begun U rest left → Begun V whole left
+begun-past U V text rest whole left at over b = by (over (b.front ++ b.more) b.whole)
   where
     by : IsFront V (text ++ (b.front ++ b.more)) → Begun V whole left
     by f = record {
@@ -119,9 +119,9 @@ meets-ensures P Q V whole (Err (Nested left)) so h = h
 -- that is the front of one with the property V.
 pub meets-then : {A B : Type 0} (P : A → List ℕ → Type 0) (Q : B → List ℕ → Type 0) (U V : List ℕ → Type 0) (text rest whole : List ℕ) (m : Reading A) (next : A → List ℕ → Reading B) → whole ≡ text ++ rest → ((x : List ℕ) → U x → IsFront V (text ++ x)) → Meets P U rest m → ((a : A) (r : List ℕ) → P a r → Meets Q V whole (next a r)) → Meets Q V whole (and_then m next)
 meets-then P Q U V text rest whole (Ok p) next at over h k = k p.0 p.1 h
-meets-then P Q U V text rest whole (Err (Wrong left)) next at over h k = begun-behind U V text rest whole left at over h
+meets-then P Q U V text rest whole (Err (Wrong left)) next at over h k = begun-past U V text rest whole left at over h
 meets-then P Q U V text rest whole (Err Memory) next at over h k = tt
-meets-then P Q U V text rest whole (Err (Nested left)) next at over h k = begun-behind U V text rest whole left at over h
+meets-then P Q U V text rest whole (Err (Nested left)) next at over h k = begun-past U V text rest whole left at over h
 
 -- the same where what is read first and what follows are parts of one whole
 pub meets-on : {A B : Type 0} (P : A → List ℕ → Type 0) (Q : B → List ℕ → Type 0) (V : List ℕ → Type 0) (whole : List ℕ) (m : Reading A) (next : A → List ℕ → Reading B) → Meets P V whole m → ((a : A) (r : List ℕ) → P a r → Meets Q V whole (next a r)) → Meets Q V whole (and_then m next)
@@ -131,7 +131,7 @@ meets-on P Q V whole (Err Memory) next h k = tt
 meets-on P Q V whole (Err (Nested left)) next h k = h
 
 -- A word stands after a text, and then more is read.
-pub meets-word : {B : Type 0} (Q : B → List ℕ → Type 0) (V : List ℕ → Type 0) (text word rest whole : List ℕ) (next : List ℕ → Reading B) → whole ≡ text ++ rest → IsFront V (text ++ word) → ((r : List ℕ) → rest ≡ word ++ r → Meets Q V whole (next r)) → Meets Q V whole (after (behind word rest) next)
+pub meets-word : {B : Type 0} (Q : B → List ℕ → Type 0) (V : List ℕ → Type 0) (text word rest whole : List ℕ) (next : List ℕ → Reading B) → whole ≡ text ++ rest → IsFront V (text ++ word) → ((r : List ℕ) → rest ≡ word ++ r → Meets Q V whole (next r)) → Meets Q V whole (after (past word rest) next)
 meets-word Q V text word rest whole next at f k = by (shared rest word == length word) refl
   where
     by : (b : Bool) → (shared rest word == length word) ≡ b → Meets Q V whole (after (if b then Ok (drop (length word) rest) else Err (Wrong (length rest - shared rest word))) next)
@@ -139,7 +139,7 @@ meets-word Q V text word rest whole next at f k = by (shared rest word == length
     by false e = begun-word V text word rest whole at f
 
 -- A part is read after a word that stands after a text, and then more.
-pub meets-after : {A B : Type 0} (P : List ℕ → A → List ℕ → Type 0) (Q : B → List ℕ → Type 0) (U V : List ℕ → Type 0) (text word rest whole : List ℕ) (inner : List ℕ → Reading A) (next : A → List ℕ → Reading B) → whole ≡ text ++ rest → IsFront V (text ++ word) → ((x : List ℕ) → U x → IsFront V (text ++ (word ++ x))) → ((r : List ℕ) → Meets (P r) U r (inner r)) → ((a : A) (r s : List ℕ) → rest ≡ word ++ r → P r a s → Meets Q V whole (next a s)) → Meets Q V whole (and_then (after (behind word rest) inner) next)
+pub meets-after : {A B : Type 0} (P : List ℕ → A → List ℕ → Type 0) (Q : B → List ℕ → Type 0) (U V : List ℕ → Type 0) (text word rest whole : List ℕ) (inner : List ℕ → Reading A) (next : A → List ℕ → Reading B) → whole ≡ text ++ rest → IsFront V (text ++ word) → ((x : List ℕ) → U x → IsFront V (text ++ (word ++ x))) → ((r : List ℕ) → Meets (P r) U r (inner r)) → ((a : A) (r s : List ℕ) → rest ≡ word ++ r → P r a s → Meets Q V whole (next a s)) → Meets Q V whole (and_then (after (past word rest) inner) next)
 meets-after P Q U V text word rest whole inner next at f over reads k = by (shared rest word == length word) refl
   where
     by : (b : Bool) → (shared rest word == length word) ≡ b → Meets Q V whole (and_then (after (if b then Ok (drop (length word) rest) else Err (Wrong (length rest - shared rest word))) inner) next)

@@ -5,7 +5,7 @@ use Rattle.theory.specs.Terms.{Term, height}
 use Rattle.core_text.specs.Reading.{Reading, and_then, after}
 use Rattle.core_text.specs.TermReading.{most, limited, closed_by}
 use Rattle.core_text.specs.declared.halt.Halt.TheVariants.{Nested}
-use Rattle.core_text.proofs.NumbersBack.{behind-word}
+use Rattle.core_text.proofs.NumbersBack.{past-word}
 
 -- The reading gives a and leaves the bytes r, or a term in it is too deep or too high, of which H is known.
 pub data OrNested (H : Type 0) {A : Type 0} (m : Reading A) (a : A) (r : List ℕ) : Type 0 where
@@ -43,4 +43,4 @@ or-limited t rest = by (nat_le (height t) most)
 
 pub or-closed : (t : Term) (rest : List ℕ) → OrNested (Unit {0}) (closed_by t (41 ∷ rest)) t rest
 or-closed t rest =
-    or-same (closed_by t (41 ∷ rest)) (limited t rest) (ap (λ m. after m (limited t)) (behind-word (codes ")") rest)) (or-limited t rest)
+    or-same (closed_by t (41 ∷ rest)) (limited t rest) (ap (λ m. after m (limited t)) (past-word (codes ")") rest)) (or-limited t rest)

@@ -10,7 +10,7 @@ use Rattle.theory.specs.SignatureScopes.{IsFamilyNumber}
 use Rattle.theory.proofs.Lists.{slice_get-last, slice_get-longer}
 use Rattle.core_sig.specs.Names.{find}
 use Rattle.core_sig.specs.Raw.{RawFamily}
-use Rattle.core_text.specs.EntryReading.{behind_notes, shows_entry, shown_by, entry_at, next_entry, with_offset, entry_from}
+use Rattle.core_text.specs.EntryReading.{after_notes, shows_entry, shown_by, entry_at, next_entry, with_offset, entry_from}
 use Rattle.core_text.specs.EntryText.{line_text}
 use Rattle.core_text.specs.LineReading.{nested, whole_term, line_at}
 use Rattle.core_text.specs.PlainNames.{IsPlainName, HasPlainNames}
@@ -153,7 +153,7 @@ module _ (S : Signature) (distinct : AllPairs (λ x y. x ≢ y) (names S)) (plai
 next-is : (S : Signature) (text : List ℕ) → Starts text → next_entry S text ≡ shown_by (length S.entries) text (line_at S [] text)
 next-is S text starts =
     ap (next_entry S) starts.is
-    ∙ (ap (λ b. after (if b then behind_notes true starts.others else Ok (starts.one ∷ starts.others)) (entry_at S)) starts.no_note
+    ∙ (ap (λ b. after (if b then after_notes true starts.others else Ok (starts.one ∷ starts.others)) (entry_at S)) starts.no_note
     ∙ ap (λ x. shown_by (length S.entries) x (line_at S [] x)) (sym starts.is))
 
 start-is : (before text : List ℕ) → length (before ++ text) - length text ≡ length before

@@ -3,7 +3,7 @@ use Rattle.std.proofs.Common.{◌≡◌, ℕ, ◌-◌, ◌<◌, ◌≤◌, Bool,
 use Rattle.std.specs.Prelude.{◌==◌, not, if◌then◌else◌, Result, Ok, Err, Option, Some, None}
 use Rattle.std.proofs.lemmas.List.{length-drop}
 use Rattle.theory.specs.Signatures.{Signature}
-use Rattle.core_text.specs.EntryReading.{behind_notes, shows_entry, shown_by, entry_at, next_entry, with_offset}
+use Rattle.core_text.specs.EntryReading.{after_notes, shows_entry, shown_by, entry_at, next_entry, with_offset}
 use Rattle.core_text.specs.LineReading.{line_at}
 use Rattle.core_text.specs.RawEntries.{RawEntry}
 use Rattle.core_text.specs.ReadLaws.{IsReadEntry, WhatIsRead}
@@ -13,12 +13,12 @@ use Rattle.core_text.specs.declared.stop.CoreTextStop.{CoreTextStop}
 use Rattle.core_text.proofs.Outcomes.{Ensures, ensures-if}
 use Rattle.core_text.proofs.LineOutcomes.{Good, line-fits}
 
-notes-shorter : (inside : Bool) (rest r : List ℕ) → behind_notes inside rest ≡ Ok r → length r ≤ length rest
+notes-shorter : (inside : Bool) (rest r : List ℕ) → after_notes inside rest ≡ Ok r → length r ≤ length rest
 notes-shorter false [] r e = let is : r ≡ [] = cc in rw is (omega arith)
 notes-shorter true [] r e = absurd (cc)
 notes-shorter false (b ∷ rest) r e = by (notes-shorter true rest r) (b == 35) e
   where
-    by : (behind_notes true rest ≡ Ok r → length r ≤ length rest) → (c : Bool) → (if c then behind_notes true rest else Ok (b ∷ rest)) ≡ Ok r → length r ≤ length (b ∷ rest)
+    by : (after_notes true rest ≡ Ok r → length r ≤ length rest) → (c : Bool) → (if c then after_notes true rest else Ok (b ∷ rest)) ≡ Ok r → length r ≤ length (b ∷ rest)
     by others true is = let less = others is in omega arith
     by others false is = let same : r ≡ b ∷ rest = cc in rw same (omega arith)
 notes-shorter true (b ∷ rest) r e = let less = notes-shorter (not (b == 10)) rest r e in omega arith
@@ -44,9 +44,9 @@ more-bytes S m n (Ok (Some e, r)) le fits = (fits.0, omega (arith, fits.1))
 more-bytes S m n (Err e) le fits = tt
 
 next-fits : (S : Signature) (rest : List ℕ) → Ensures (Next S (length rest)) (next_entry S rest)
-next-fits S rest = by (behind_notes false rest) refl
+next-fits S rest = by (after_notes false rest) refl
   where
-    by : (m : Result (List ℕ) Halt) → behind_notes false rest ≡ m → Ensures (Next S (length rest)) (after m (entry_at S))
+    by : (m : Result (List ℕ) Halt) → after_notes false rest ≡ m → Ensures (Next S (length rest)) (after m (entry_at S))
     by (Ok r) e = more-bytes S (length r) (length rest) (entry_at S r) (notes-shorter false rest r e) (entry-fits S r)
     by (Err h) e = tt
 

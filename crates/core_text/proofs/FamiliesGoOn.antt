@@ -8,9 +8,9 @@ use Rattle.theory.proofs.Lists.{slice_get-last, slice_get-longer}
 use Rattle.core_sig.specs.Raw.{RawConstructor, RawFamily}
 use Rattle.core_text.specs.DeclaredNames.{new_name}
 use Rattle.core_text.specs.EntryText.{parameters_text, constructors_text}
-use Rattle.core_text.specs.LineReading.{nested, whole_term, behind_item, collected, parameter_at, no_parameter, next_parameter, parameters_at, constructor_at, separated, next_constructor, constructors_at, family_behind, family_at}
+use Rattle.core_text.specs.LineReading.{nested, whole_term, after_item, collected, parameter_at, no_parameter, next_parameter, parameters_at, constructor_at, separated, next_constructor, constructors_at, family_after, family_at}
 use Rattle.core_text.specs.RawEntries.{RawFamilyOf}
-use Rattle.core_text.specs.Reading.{Reading, first, and_then, after, behind}
+use Rattle.core_text.specs.Reading.{Reading, first, and_then, after, past}
 use Rattle.core_text.specs.Spellings.{with_name, IsTermOver, AreTypesOver, IsNewName, AreConstructorsOver, IsFamilyOver}
 use Rattle.core_text.specs.SymbolLookup.{symbol}
 use Rattle.core_text.specs.SymbolNames.{own_name, name_at}
@@ -42,10 +42,10 @@ module _ {A : Type 0} (so_far : List A → List ℕ) (end : List ℕ) (Good : Li
   collected-meets : (k : ℕ) (found : List A) (rest : List ℕ) → Good found → whole ≡ so_far found ++ rest → Meets (Items so_far end Good whole) V whole (collected next k found rest)
   collected-meets zero found rest good at = meets-wrong (Items so_far end Good whole) V (so_far found) rest whole at (fronts found good)
   collected-meets (suc k) found rest good at =
-      meets-on (Item so_far end Good whole found) (Items so_far end Good whole) V whole (next found rest) (behind_item (collected next k) found) (each found rest good at)
+      meets-on (Item so_far end Good whole found) (Items so_far end Good whole) V whole (next found rest) (after_item (collected next k) found) (each found rest good at)
       (λ o r is. by (λ a r g so. collected-meets k (found ++ a ∷ []) r g so) o r is)
     where
-      by : ((a : A) (r : List ℕ) → Good (found ++ a ∷ []) → whole ≡ so_far (found ++ a ∷ []) ++ r → Meets (Items so_far end Good whole) V whole (collected next k (found ++ a ∷ []) r)) → (o : Option A) (r : List ℕ) → Item so_far end Good whole found o r → Meets (Items so_far end Good whole) V whole (behind_item (collected next k) found o r)
+      by : ((a : A) (r : List ℕ) → Good (found ++ a ∷ []) → whole ≡ so_far (found ++ a ∷ []) ++ r → Meets (Items so_far end Good whole) V whole (collected next k (found ++ a ∷ []) r)) → (o : Option A) (r : List ℕ) → Item so_far end Good whole found o r → Meets (Items so_far end Good whole) V whole (after_item (collected next k) found o r)
       by others None r is = (good, is)
       by others (Some a) r is = others a r is.0 is.1
 
@@ -156,11 +156,11 @@ module _ (S : Signature) (name : List ℕ) (new : IsNewName S [] [] name) where
         meets-then (λ t r. (rest ≡ term_text T t ++ r) × IsTermOver S false (length found) t) (NextParameter found) (IsText T S false (length found)) (Goes S) (head found ++ codes " (") rest whole (whole_term S [] (length found) rest) _ at
         (λ x u. front-less (Goes S) ((head found ++ codes " (") ++ x) (codes ")") (closed u.0 x u.1 u.2))
         (whole-meets T S has (length found) rest small)
-        (λ a r fa. let behind = at ∙ (ap (λ s. (head found ++ codes " (") ++ s) fa.0 ∙ sym (append_assoc (head found ++ codes " (") (term_text T a) r)) in
-        meets-word (NextParameter found) (Goes S) ((head found ++ codes " (") ++ term_text T a) (codes ")") r whole (λ end. Ok (Some a, end)) behind (closed a (term_text T a) refl fa.1)
+        (λ a r fa. let past = at ∙ (ap (λ s. (head found ++ codes " (") ++ s) fa.0 ∙ sym (append_assoc (head found ++ codes " (") (term_text T a) r)) in
+        meets-word (NextParameter found) (Goes S) ((head found ++ codes " (") ++ term_text T a) (codes ")") r whole (λ end. Ok (Some a, end)) past (closed a (term_text T a) refl fa.1)
         (λ end so. (
           types-more S 0 found a are (subst (λ k. IsTermOver S false k a) (none (length found)) fa.1),
-          behind ∙ (ap (λ s. ((head found ++ codes " (") ++ term_text T a) ++ s) so ∙ (joined (head found) (codes " (") (term_text T a) (codes ")") end ∙ ap (λ h. h ++ end) (sym (head-more found a)))),
+          past ∙ (ap (λ s. ((head found ++ codes " (") ++ term_text T a) ++ s) so ∙ (joined (head found) (codes " (") (term_text T a) (codes ")") end ∙ ap (λ h. h ++ end) (sym (head-more found a)))),
         )))
       where
         none : (n : ℕ) → n ≡ 0 + n
@@ -181,11 +181,11 @@ module _ (S : Signature) (name : List ℕ) (new : IsNewName S [] [] name) where
     next-parameter-meets found rest are at =
         let start = front-less (Goes S) (head found ++ codes " ") (codes ": ") (subst (IsFront (Goes S)) (split-colon (head found)) (colon-front found are)) in
         meets-word (NextParameter found) (Goes S) (head found) (codes " ") rest whole _ at start
-        (λ r so. let behind = at ∙ (ap (λ s. head found ++ s) so ∙ sym (append_assoc (head found) (codes " ") r)) in
+        (λ r so. let past = at ∙ (ap (λ s. head found ++ s) so ∙ sym (append_assoc (head found) (codes " ") r)) in
         meets-if (NextParameter found) (Goes S) whole (first r == 40) (parameter_at S [] (length found) (drop 1 r)) (no_parameter r)
         (λ e. parameter-meets found (drop 1 r) are (few found rest at) (at ∙ (ap (λ s. head found ++ s) (so ∙ ap (λ s. codes " " ++ s) (first-is 40 r (omega arith) e)) ∙ sym (append_assoc (head found) (codes " (") (drop 1 r)))))
-        (λ e. meets-word (NextParameter found) (Goes S) (head found ++ codes " ") (codes ": ") r whole (λ end. Ok (None, end)) behind (subst (IsFront (Goes S)) (split-colon (head found)) (colon-front found are))
-        (λ end is. behind ∙ (ap (λ s. (head found ++ codes " ") ++ s) is ∙ (sym (append_assoc (head found ++ codes " ") (codes ": ") end) ∙ ap (λ h. h ++ end) (sym (split-colon (head found))))))))
+        (λ e. meets-word (NextParameter found) (Goes S) (head found ++ codes " ") (codes ": ") r whole (λ end. Ok (None, end)) past (subst (IsFront (Goes S)) (split-colon (head found)) (colon-front found are))
+        (λ end is. past ∙ (ap (λ s. (head found ++ codes " ") ++ s) is ∙ (sym (append_assoc (head found ++ codes " ") (codes ": ") end) ∙ ap (λ h. h ++ end) (sym (split-colon (head found))))))))
 
     parameters-meet : (rest : List ℕ) → whole ≡ head [] ++ rest → Meets (Items head (codes " : ") Parameters whole) (Goes S) whole (parameters_at S [] rest)
     parameters-meet rest at =
@@ -241,14 +241,14 @@ module _ (S : Signature) (name : List ℕ) (new : IsNewName S [] [] name) where
           meets-then (Named S name found rest) (NextConstructor found) (IsNewName S name found) (Goes S) front rest whole (new_name S name found rest) _ at
           (λ x u. front-less (Goes S) (front ++ x) (codes " : " ++ term_text T (Sort 0)) (more x (Sort 0) u (over-sort S true p)))
           (name-meets S name found rest)
-          (λ x r fx. let behind = at ∙ (ap (λ s. front ++ s) fx.0 ∙ sym (append_assoc front x r)) in
-          meets-after (λ s t end. (s ≡ term_text T t ++ end) × IsTermOver S true p t) (NextConstructor found) (IsText T S true p) (Goes S) (front ++ x) (codes " : ") r whole (whole_term S name p) _ behind
+          (λ x r fx. let past = at ∙ (ap (λ s. front ++ s) fx.0 ∙ sym (append_assoc front x r)) in
+          meets-after (λ s t end. (s ≡ term_text T t ++ end) × IsTermOver S true p t) (NextConstructor found) (IsText T S true p) (Goes S) (front ++ x) (codes " : ") r whole (whole_term S name p) _ past
           (front-less (Goes S) ((front ++ x) ++ codes " : ") (term_text T (Sort 0)) (subst (IsFront (Goes S)) (sym (append_assoc (front ++ x) (codes " : ") (term_text T (Sort 0)))) (more x (Sort 0) fx.1 (over-sort S true p))))
           (λ y u. subst (λ z. IsFront (Goes S) ((front ++ x) ++ (codes " : " ++ z))) (sym u.1) (more x u.0 fx.1 u.2))
           own-meets
           (λ t s end so ft. (
             constructors-more S name p [] found (raw_constructor x t) good fx.1 ft.1,
-            behind ∙ (ap (λ z. (front ++ x) ++ z) (so ∙ ap (λ z. codes " : " ++ z) ft.0) ∙ (joined front x (codes " : ") (term_text T t) end ∙ ap (λ b. b ++ end) (sym (body-more found (raw_constructor x t))))),
+            past ∙ (ap (λ z. (front ++ x) ++ z) (so ∙ ap (λ z. codes " : " ++ z) ft.0) ∙ (joined front x (codes " : ") (term_text T t) end ∙ ap (λ b. b ++ end) (sym (body-more found (raw_constructor x t))))),
           )))
         where
           joined : (a b c d e : List ℕ) → (a ++ b) ++ (c ++ (d ++ e)) ≡ (a ++ (b ++ (c ++ d))) ++ e
@@ -264,10 +264,10 @@ module _ (S : Signature) (name : List ℕ) (new : IsNewName S [] [] name) where
       next-constructor-meets found rest good at =
           meets-word (NextConstructor found) (Goes S) (body found) (codes " ") rest whole _ at
           (front-less (Goes S) (body found ++ codes " ") (codes "}") (subst (IsFront (Goes S)) (sym (append_assoc (body found) (codes " ") (codes "}"))) (end-front found good)))
-          (λ r so. let behind = at ∙ (ap (λ s. body found ++ s) so ∙ sym (append_assoc (body found) (codes " ") r)) in
+          (λ r so. let past = at ∙ (ap (λ s. body found ++ s) so ∙ sym (append_assoc (body found) (codes " ") r)) in
           meets-if (NextConstructor found) (Goes S) whole (first r == 125) (Ok (None, drop 1 r)) (after (separated found r) (constructor_at S name p found))
           (λ e. at ∙ (ap (λ s. body found ++ s) (so ∙ ap (λ s. codes " " ++ s) (first-is 125 r (omega arith) e)) ∙ sym (append_assoc (body found) (codes " }") (drop 1 r))))
-          (λ e. apart found good r behind))
+          (λ e. apart found good r past))
         where
           apart : (found : List RawConstructor) → Constructors found → (r : List ℕ) → whole ≡ (body found ++ codes " ") ++ r → Meets (NextConstructor found) (Goes S) whole (after (separated found r) (constructor_at S name p found))
           apart [] good r at = constructor-meets [] r good at
@@ -291,25 +291,25 @@ module _ (S : Signature) (name : List ℕ) (new : IsNewName S [] [] name) where
       constructors-meet rest at =
           collected-meets body (codes " }") Constructors (Goes S) whole (next_constructor S name p) body-front next-constructor-meets (length rest) [] rest tt at
 
-      behind-meets : (rest : List ℕ) → whole ≡ body [] ++ rest → Meets (Read S whole) (Goes S) whole (family_behind S name parameters type rest)
-      behind-meets rest at =
+      past-meets : (rest : List ℕ) → whole ≡ body [] ++ rest → Meets (Read S whole) (Goes S) whole (family_after S name parameters type rest)
+      past-meets rest at =
           meets-on (Items body (codes " }") Constructors whole) (Read S whole) (Goes S) whole (constructors_at S name p rest) _ (constructors-meet rest at)
           (λ cs end is. ended-meets S whole (body cs ++ codes " }") (RawFamilyOf (raw_family name parameters type cs)) end is.1
           (append_assoc (body cs) (codes " }") (codes "\n") ∙ body-text cs (codes " }\n")) (family-over cs is.0))
 
     -- ---- after the name
 
-    name-behind : (rest : List ℕ) → whole ≡ head [] ++ rest → Meets (Read S whole) (Goes S) whole (and_then (parameters_at S [] rest) (λ parameters r2. and_then (whole_term S [] (length parameters) r2) (λ type r3. after (behind (codes " {") r3) (family_behind S name parameters type))))
-    name-behind rest at =
+    name-past : (rest : List ℕ) → whole ≡ head [] ++ rest → Meets (Read S whole) (Goes S) whole (and_then (parameters_at S [] rest) (λ parameters r2. and_then (whole_term S [] (length parameters) r2) (λ type r3. after (past (codes " {") r3) (family_after S name parameters type))))
+    name-past rest at =
         meets-on (Items head (codes " : ") Parameters whole) (Read S whole) (Goes S) whole (parameters_at S [] rest) _ (parameters-meet rest at)
         (λ parameters r2 ps. let small = few parameters (codes " : " ++ r2) (ps.1 ∙ append_assoc (head parameters) (codes " : ") r2) in
         meets-then (λ t r. (r2 ≡ term_text T t ++ r) × IsTermOver S false (length parameters) t) (Read S whole) (IsText T S false (length parameters)) (Goes S) (head parameters ++ codes " : ") r2 whole (whole_term S [] (length parameters) r2) _ ps.1
         (λ x u. subst (λ y. IsFront (Goes S) ((head parameters ++ codes " : ") ++ y)) (sym u.1) (front-less (Goes S) ((head parameters ++ codes " : ") ++ term_text T u.0) (codes " {") (type-front parameters ps.0 u.0 u.2)))
         (whole-meets T S has (length parameters) r2 small)
-        (λ type r3 ft. let behind = ps.1 ∙ (ap (λ s. (head parameters ++ codes " : ") ++ s) ft.0 ∙ sym (append_assoc (head parameters ++ codes " : ") (term_text T type) r3)) in
-        meets-word (Read S whole) (Goes S) ((head parameters ++ codes " : ") ++ term_text T type) (codes " {") r3 whole (family_behind S name parameters type) behind (type-front parameters ps.0 type ft.1)
-        (λ r4 so. behind-meets parameters type ps.0 ft.1 small r4
-        (behind ∙ (ap (λ s. ((head parameters ++ codes " : ") ++ term_text T type) ++ s) so ∙ (sym (append_assoc ((head parameters ++ codes " : ") ++ term_text T type) (codes " {") r4) ∙ ap (λ b. b ++ r4) (sym (append-nil (((head parameters ++ codes " : ") ++ term_text T type) ++ codes " {")))))))))
+        (λ type r3 ft. let past = ps.1 ∙ (ap (λ s. (head parameters ++ codes " : ") ++ s) ft.0 ∙ sym (append_assoc (head parameters ++ codes " : ") (term_text T type) r3)) in
+        meets-word (Read S whole) (Goes S) ((head parameters ++ codes " : ") ++ term_text T type) (codes " {") r3 whole (family_after S name parameters type) past (type-front parameters ps.0 type ft.1)
+        (λ r4 so. past-meets parameters type ps.0 ft.1 small r4
+        (past ∙ (ap (λ s. ((head parameters ++ codes " : ") ++ term_text T type) ++ s) so ∙ (sym (append_assoc ((head parameters ++ codes " : ") ++ term_text T type) (codes " {") r4) ∙ ap (λ b. b ++ r4) (sym (append-nil (((head parameters ++ codes " : ") ++ term_text T type) ++ codes " {")))))))))
 
 pub family-meets : (S : Signature) (rest : List ℕ) → length rest < 2 ^ 32 → Meets (Read S (codes "data " ++ rest)) (Goes S) (codes "data " ++ rest) (family_at S [] rest)
 family-meets S rest short =
@@ -317,5 +317,5 @@ family-meets S rest short =
     meets-then (Named S [] [] rest) (Read S whole) (IsNewName S [] []) (Goes S) (codes "data ") rest whole (new_name S [] [] rest) _ refl
     (λ name new. subst (IsFront (Goes S)) (append-nil (codes "data " ++ name)) (head-front S name new [] tt))
     (name-meets S [] [] rest)
-    (λ name r fn. name-behind S name fn.1 whole (omega (arith, short, length-append (codes "data ") rest)) r
+    (λ name r fn. name-past S name fn.1 whole (omega (arith, short, length-append (codes "data ") rest)) r
     (ap (λ s. codes "data " ++ s) fn.0 ∙ (sym (append_assoc (codes "data ") name r) ∙ ap (λ h. h ++ r) (sym (append-nil (codes "data " ++ name))))))

@@ -20,16 +20,16 @@ use Rattle.core_sig.specs.Raw.{RawConstructor}
 use Rattle.core_text.specs.DeclaredNames.{may_declare, is_eliminator_name, is_axiom_k_name, by_shape, new_name, shape_of}
 use Rattle.core_text.specs.declared.declared_names.Shape.{Shape}
 use Rattle.core_text.specs.declared.declared_names.Shape.TheVariants.{Declarable, Underscore, Malformed}
-use Rattle.core_text.specs.LineReading.{nested, whole_term, is_instance, some_level_left, ended, definition_at, family_found, family_name, level_list, levels_left, identities_left, eliminator_at, axiom_k_line, behind_item, collected, parameter_at, no_parameter, next_parameter, parameters_at, constructor_at, separated, next_constructor, constructors_at, family_behind, family_at, line_at}
+use Rattle.core_text.specs.LineReading.{nested, whole_term, is_instance, some_level_left, ended, definition_at, family_found, family_name, level_list, levels_left, identities_left, eliminator_at, axiom_k_line, after_item, collected, parameter_at, no_parameter, next_parameter, parameters_at, constructor_at, separated, next_constructor, constructors_at, family_after, family_at, line_at}
 use Rattle.core_text.specs.NameRuns.{run_len}
 use Rattle.core_text.specs.RawEntries.{RawEntry, RawFamilyOf, RawEliminator, RawAxiomK, RawDefinition}
 use Rattle.core_text.specs.ReadLaws.{IsSymbol, IsReadTerm, AreReadTypes, AreFresh, IsReadEntry}
-use Rattle.core_text.specs.Reading.{Reading, wrong, first, after, behind, begins, read_level, is_left}
+use Rattle.core_text.specs.Reading.{Reading, wrong, first, after, past, begins, read_level, is_left}
 use Rattle.core_text.specs.SymbolLookup.{symbol, found_symbol}
 use Rattle.core_text.specs.TermReading.{term_after}
 use Rattle.core_text.specs.declared.instances.Series.{Series}
 use Rattle.core_text.specs.declared.instances.Series.TheVariants.{Elim, AxiomK}
-use Rattle.core_text.proofs.Outcomes.{Ensures, ensures-then, ensures-if, ensures-behind, ensures-after}
+use Rattle.core_text.proofs.Outcomes.{Ensures, ensures-then, ensures-if, ensures-past, ensures-after}
 use Rattle.core_text.proofs.SymbolOutcomes.{symbol-is, found_symbol-is}
 use Rattle.core_text.proofs.TermOutcomes.{Fits, IsLevel, drop-within, read_level-within, term-fits}
 
@@ -177,11 +177,11 @@ axiom_k-fits S bound rest has le =
 collected-fit : {A : Type 0} (P : List A → Type 0) (bound : ℕ) (next : List A → List ℕ → Reading (Option A)) (N : List A → Option A → Type 0) → ((found : List A) (rest : List ℕ) → P found → length rest ≤ bound → Ensures (λ o r. N found o × (length r ≤ bound)) (next found rest)) → ((found : List A) (a : A) → P found → N found (Some a) → P (found ++ a ∷ [])) → (k : ℕ) (found : List A) (rest : List ℕ) → P found → length rest ≤ bound → Ensures (λ xs r. P xs × (length r ≤ bound)) (collected next k found rest)
 collected-fit {A} P bound next N step grows zero found rest so le = tt
 collected-fit {A} P bound next N step grows (suc k) found rest so le =
-    ensures-then (λ o r. N found o × (length r ≤ bound)) (λ xs r. P xs × (length r ≤ bound)) (next found rest) (behind_item (collected next k) found) (step found rest so le)
+    ensures-then (λ o r. N found o × (length r ≤ bound)) (λ xs r. P xs × (length r ≤ bound)) (next found rest) (after_item (collected next k) found) (step found rest so le)
     (λ o r is. item (λ xs r. collected-fit P bound next N step grows k xs r) o r is.0 is.1)
   where
     item : ((xs : List A) (r : List ℕ) → P xs → length r ≤ bound → Ensures (λ ys r. P ys × (length r ≤ bound)) (collected next k xs r)) → (o : Option A) (r : List ℕ) → N found o → length r ≤ bound
-        → Ensures (λ xs r. P xs × (length r ≤ bound)) (behind_item (collected next k) found o r)
+        → Ensures (λ xs r. P xs × (length r ≤ bound)) (after_item (collected next k) found o r)
     item others None r new within = (so, within)
     item others (Some a) r new within = others (found ++ a ∷ []) r (grows found a so new) within
 
@@ -299,7 +299,7 @@ family-fits S bound rest le =
     ensures-then (IsNewName S [] [] bound) (Good S bound) (new_name S [] [] rest) _ (name-fits S [] [] bound rest le)
     (λ name r1 new. ensures-then (λ tele r. AreReadTypes S 0 tele × (length r ≤ bound)) (Good S bound) (parameters_at S [] r1) _ (parameters-fit S bound r1 new.within)
     (λ parameters r2 fp. ensures-then (Fits S (length parameters) bound) (Good S bound) (whole_term S [] (length parameters) r2) _ (whole-fits S (length parameters) bound r2 fp.1)
-    (λ type r3 ft. ensures-after (Good S bound) bound (codes " {") r3 (family_behind S name parameters type) ft.within
+    (λ type r3 ft. ensures-after (Good S bound) bound (codes " {") r3 (family_after S name parameters type) ft.within
     (λ r4 within. ensures-then (λ cs r. AreConstructors S name (length parameters) cs × (length r ≤ bound)) (Good S bound) (constructors_at S name (length parameters) r4) _ (constructors-fit S name (length parameters) bound r4 new.unknown within)
     (λ constructors end fc. ended-fits S bound (RawFamilyOf (record { name = name; parameters = parameters; type = type; constructors = constructors })) end
     (record { names = fc.0.names; parameters = fp.0; type = read-term S (length parameters) bound type r3 ft; constructors = fc.0.types }) fc.1)))))
@@ -307,10 +307,10 @@ family-fits S bound rest le =
 -- a line has one byte at least
 pub line-fits : (S : Signature) (bound : ℕ) (rest : List ℕ) → length rest ≤ bound + 1 → Ensures (Good S bound) (line_at S [] rest)
 line-fits S bound rest le =
-    ensures-if (Good S bound) (begins (codes "de") rest) (after (behind (codes "def ") rest) (definition_at S [])) _
-    (λ e. ensures-behind (Good S bound) (codes "def ") rest (definition_at S []) (λ r is. definition-fits S bound r (omega arith)))
-    (λ e. ensures-if (Good S bound) (first rest == 101) (after (behind (codes "elim ") rest) (eliminator_at S)) _
-    (λ e. ensures-behind (Good S bound) (codes "elim ") rest (eliminator_at S) (λ r is. eliminator-fits S bound r (omega arith)))
-    (λ e. ensures-if (Good S bound) (S.has_k && (first rest == 97)) (after (behind (codes "axiomk ") rest) (axiom_k_line S)) _
-    (λ e. ensures-behind (Good S bound) (codes "axiomk ") rest (axiom_k_line S) (λ r is. axiom_k-fits S bound r (both S.has_k _ e).0 (omega arith)))
-    (λ e. ensures-behind (Good S bound) (codes "data ") rest (family_at S []) (λ r is. family-fits S bound r (omega arith)))))
+    ensures-if (Good S bound) (begins (codes "de") rest) (after (past (codes "def ") rest) (definition_at S [])) _
+    (λ e. ensures-past (Good S bound) (codes "def ") rest (definition_at S []) (λ r is. definition-fits S bound r (omega arith)))
+    (λ e. ensures-if (Good S bound) (first rest == 101) (after (past (codes "elim ") rest) (eliminator_at S)) _
+    (λ e. ensures-past (Good S bound) (codes "elim ") rest (eliminator_at S) (λ r is. eliminator-fits S bound r (omega arith)))
+    (λ e. ensures-if (Good S bound) (S.has_k && (first rest == 97)) (after (past (codes "axiomk ") rest) (axiom_k_line S)) _
+    (λ e. ensures-past (Good S bound) (codes "axiomk ") rest (axiom_k_line S) (λ r is. axiom_k-fits S bound r (both S.has_k _ e).0 (omega arith)))
+    (λ e. ensures-past (Good S bound) (codes "data ") rest (family_at S []) (λ r is. family-fits S bound r (omega arith)))))

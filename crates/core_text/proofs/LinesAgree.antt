@@ -7,9 +7,9 @@ use Rattle.theory.specs.Signatures.{Signature}
 use Rattle.core_sig.specs.Raw.{RawConstructor}
 use Rattle.core_text.specs.DeclaredNames.{new_name}
 use Rattle.core_text.specs.Heads.{shared}
-use Rattle.core_text.specs.LineReading.{nested, whole_term, ended, definition_at, family_name, levels_left, identities_left, eliminator_at, axiom_k_line, behind_item, collected, parameter_at, no_parameter, next_parameter, parameters_at, constructor_at, separated, next_constructor, constructors_at, family_behind, family_at, line_at}
+use Rattle.core_text.specs.LineReading.{nested, whole_term, ended, definition_at, family_name, levels_left, identities_left, eliminator_at, axiom_k_line, after_item, collected, parameter_at, no_parameter, next_parameter, parameters_at, constructor_at, separated, next_constructor, constructors_at, family_after, family_at, line_at}
 use Rattle.core_text.specs.RawEntries.{RawEntry, RawFamilyOf, RawEliminator, RawAxiomK, RawDefinition}
-use Rattle.core_text.specs.Reading.{Reading, wrong, first, and_then, after, behind, begins, read_level}
+use Rattle.core_text.specs.Reading.{Reading, wrong, first, and_then, after, past, begins, read_level}
 use Rattle.core_text.specs.SymbolLookup.{symbol}
 use Rattle.core_text.specs.TermReading.{term_after}
 use Rattle.core_text.specs.declared.halt.Halt.TheVariants.{Memory, Nested, Wrong}
@@ -29,16 +29,16 @@ module _ {A : Type 0} (next : List A → List ℕ → Reading (Option A)) (none 
   -- each number of bytes that is not less than there are leaves room for all
   collected-room : (k m : ℕ) (found : List A) (rest : List ℕ) → length rest ≤ k → length rest ≤ m → collected next k found rest ≡ collected next m found rest
   collected-room zero zero found rest le more = refl
-  collected-room zero (suc m) found [] le more = sym (ap (λ r. and_then r (behind_item (collected next m) found)) (none found))
+  collected-room zero (suc m) found [] le more = sym (ap (λ r. and_then r (after_item (collected next m) found)) (none found))
   collected-room zero (suc m) found (b ∷ rest) le more = absurd (omega arith)
-  collected-room (suc k) zero found [] le more = ap (λ r. and_then r (behind_item (collected next k) found)) (none found)
+  collected-room (suc k) zero found [] le more = ap (λ r. and_then r (after_item (collected next k) found)) (none found)
   collected-room (suc k) zero found (b ∷ rest) le more = absurd (omega arith)
   collected-room (suc k) (suc m) found [] le more =
-      ap (λ r. and_then r (behind_item (collected next k) found)) (none found) ∙ sym (ap (λ r. and_then r (behind_item (collected next m) found)) (none found))
+      ap (λ r. and_then r (after_item (collected next k) found)) (none found) ∙ sym (ap (λ r. and_then r (after_item (collected next m) found)) (none found))
   collected-room (suc k) (suc m) found (b ∷ rest) le more =
       by (λ others r one two. collected-room k m others r one two) (next found (b ∷ rest)) (moves found (b ∷ rest))
     where
-      by : ((others : List A) (r : List ℕ) → length r ≤ k → length r ≤ m → collected next k others r ≡ collected next m others r) → (item : Reading (Option A)) → MovesAt (b ∷ rest) item → and_then item (behind_item (collected next k) found) ≡ and_then item (behind_item (collected next m) found)
+      by : ((others : List A) (r : List ℕ) → length r ≤ k → length r ≤ m → collected next k others r ≡ collected next m others r) → (item : Reading (Option A)) → MovesAt (b ∷ rest) item → and_then item (after_item (collected next k) found) ≡ and_then item (after_item (collected next m) found)
       by same (Ok (Some a, r)) moved = same (found ++ a ∷ []) r (omega arith) (omega arith)
       by same (Ok (None, r)) moved = refl
       by same (Err e) moved = refl
@@ -47,11 +47,11 @@ module _ {A : Type 0} (next : List A → List ℕ → Reading (Option A)) (none 
   abbrev all_of : List A → List ℕ → Reading (List A)
   all_of found rest = collected next (length rest) found rest
 
-  all-step : (found : List A) (rest : List ℕ) → and_then (next found rest) (behind_item all_of found) ≡ all_of found rest
-  all-step found [] = ap (λ r. and_then r (behind_item all_of found)) (none found)
+  all-step : (found : List A) (rest : List ℕ) → and_then (next found rest) (after_item all_of found) ≡ all_of found rest
+  all-step found [] = ap (λ r. and_then r (after_item all_of found)) (none found)
   all-step found (b ∷ rest) = by (next found (b ∷ rest)) (moves found (b ∷ rest))
     where
-      by : (item : Reading (Option A)) → MovesAt (b ∷ rest) item → and_then item (behind_item all_of found) ≡ and_then item (behind_item (collected next (length rest)) found)
+      by : (item : Reading (Option A)) → MovesAt (b ∷ rest) item → and_then item (after_item all_of found) ≡ and_then item (after_item (collected next (length rest)) found)
       by (Ok (Some a, r)) moved = collected-room (length r) (length rest) (found ++ a ∷ []) r (omega arith) (omega arith)
       by (Ok (None, r)) moved = refl
       by (Err e) moved = refl
@@ -63,10 +63,10 @@ module _ {A : Type 0} (next : List A → List ℕ → Reading (Option A)) (none 
   whole-step : ((found : List A) → Alike false (next found)) → (found : List A) (rest : List ℕ) → ((others : List A) (r : List ℕ) → length r < length rest → Told false (all_of others) r (all_of others r)) → Told false (all_of found) rest (all_of found rest)
   whole-step alike found rest shorter =
       subst (Told false (all_of found) rest) (all-step found rest)
-      (told-same false (λ x. and_then (next found x) (behind_item all_of found)) (all_of found) rest (and_then (next found rest) (behind_item all_of found)) (all-step found)
-      (told-next false (next found) (behind_item all_of found) rest ((alike found).told rest) (λ o r e. by o r (moved-from found rest o r e))))
+      (told-same false (λ x. and_then (next found x) (after_item all_of found)) (all_of found) rest (and_then (next found rest) (after_item all_of found)) (all-step found)
+      (told-next false (next found) (after_item all_of found) rest ((alike found).told rest) (λ o r e. by o r (moved-from found rest o r e))))
     where
-      by : (o : Option A) (r : List ℕ) → length r < length rest → Told false (behind_item all_of found o) r (behind_item all_of found o r)
+      by : (o : Option A) (r : List ℕ) → length r < length rest → Told false (after_item all_of found o) r (after_item all_of found o r)
       by None r less = (alike-here false found).told r
       by (Some a) r less = shorter (found ++ a ∷ []) r less
 
@@ -76,19 +76,19 @@ module _ {A : Type 0} (next : List A → List ℕ → Reading (Option A)) (none 
   whole-told alike (suc fuel) found rest le = whole-step alike found rest (λ others r less. whole-told alike fuel others r (omega arith))
 
   all-starts : ((found : List A) (h : Option A → List ℕ → Reading (List A)) (r : List ℕ) → StartsAt r (and_then (next found r) h)) → (found : List A) (r : List ℕ) → StartsAt r (all_of found r)
-  all-starts starts found r = subst (StartsAt r) (all-step found r) (starts found (behind_item all_of found) r)
+  all-starts starts found r = subst (StartsAt r) (all-step found r) (starts found (after_item all_of found) r)
 
   told-step : ((found : List A) → Alike true (next found)) → ((found : List A) (h : Option A → List ℕ → Reading (List A)) (r : List ℕ) → StartsAt r (and_then (next found r) h)) → (found : List A) (rest : List ℕ) → ((others : List A) (r : List ℕ) → length r < length rest → Told true (all_of others) r (all_of others r)) → Told true (all_of found) rest (all_of found rest)
   told-step alike starts found rest shorter =
       subst (Told true (all_of found) rest) (all-step found rest)
-      (told-same true (λ x. and_then (next found x) (behind_item all_of found)) (all_of found) rest (and_then (next found rest) (behind_item all_of found)) (all-step found)
-      (told-then true (next found) (behind_item all_of found) rest ((alike found).told rest) (λ o r e. (by o r (moved-from found rest o r e), begin o r, λ no. absurd (cc)))))
+      (told-same true (λ x. and_then (next found x) (after_item all_of found)) (all_of found) rest (and_then (next found rest) (after_item all_of found)) (all-step found)
+      (told-then true (next found) (after_item all_of found) rest ((alike found).told rest) (λ o r e. (by o r (moved-from found rest o r e), begin o r, λ no. absurd (cc)))))
     where
-      begin : (o : Option A) (r : List ℕ) → StartsAt r (behind_item all_of found o r)
+      begin : (o : Option A) (r : List ℕ) → StartsAt r (after_item all_of found o r)
       begin None r = inr refl
       begin (Some a) r = all-starts starts (found ++ a ∷ []) r
 
-      by : (o : Option A) (r : List ℕ) → length r < length rest → Told true (behind_item all_of found o) r (behind_item all_of found o r)
+      by : (o : Option A) (r : List ℕ) → length r < length rest → Told true (after_item all_of found o) r (after_item all_of found o r)
       by None r less = (alike-here true found).told r
       by (Some a) r less = shorter (found ++ a ∷ []) r less
 
@@ -130,7 +130,7 @@ module _ (S : Signature) (own : List ℕ) where
   -- ---- parameters
 
   abbrev closing : Term → List ℕ → Reading (Option Term)
-  closing a r = after (behind (codes ")") r) (λ end. Ok (Some a, end))
+  closing a r = after (past (codes ")") r) (λ end. Ok (Some a, end))
 
   alike-parameter : (n : ℕ) → Alike false (parameter_at S own n)
   alike-parameter n =
@@ -171,7 +171,7 @@ module _ (S : Signature) (own : List ℕ) where
   parameters-start : {B : Type 0} (h : List Term → List ℕ → Reading B) (r : List ℕ) → StartsAt r (and_then (parameters_at S own r) h)
   parameters-start h r =
       subst (λ m. StartsAt r (and_then m h)) (all-step next_of (λ found. refl) next_of-moves [] r)
-      (part-starts 32 [] (λ m. and_then (and_then (after m (parameter_or_end 0)) (behind_item (λ found x. collected next_of (length x) found x) [])) h) r (omega arith) (λ e. refl))
+      (part-starts 32 [] (λ m. and_then (and_then (after m (parameter_or_end 0)) (after_item (λ found x. collected next_of (length x) found x) [])) h) r (omega arith) (λ e. refl))
 
   -- ---- constructors
 
@@ -215,8 +215,8 @@ module _ (S : Signature) (own : List ℕ) where
 
 -- ---- families
 
-alike-family-behind : (S : Signature) (name : List ℕ) (parameters : List Term) (type : Term) → Alike true (family_behind S name parameters type)
-alike-family-behind S name parameters type =
+alike-family-past : (S : Signature) (name : List ℕ) (parameters : List Term) (type : Term) → Alike true (family_after S name parameters type)
+alike-family-past S name parameters type =
     alike-then true (constructors_at S name (length parameters)) (λ constructors end. ended (entry constructors) end) (alike-constructors S name (length parameters))
     (λ constructors. alike-ended (entry constructors)) (λ constructors r. ended-starts (entry constructors) r) (λ constructors r no. absurd (cc))
   where
@@ -227,13 +227,13 @@ module _ (S : Signature) (own : List ℕ) where
   -- after the name and the parameters
   abbrev type_and_more : List ℕ → List Term → List ℕ → Reading RawEntry
   type_and_more name parameters r2 =
-      and_then (whole_term S own (length parameters) r2) (λ type r3. after (behind (codes " {") r3) (family_behind S name parameters type))
+      and_then (whole_term S own (length parameters) r2) (λ type r3. after (past (codes " {") r3) (family_after S name parameters type))
 
   alike-type : (name : List ℕ) (parameters : List Term) → Alike true (type_and_more name parameters)
   alike-type name parameters =
-      alike-then true (whole_term S own (length parameters)) (λ type r3. after (behind (codes " {") r3) (family_behind S name parameters type)) (alike-whole S own (length parameters))
-      (λ type. alike-word true (codes " {") (family_behind S name parameters type) (alike-family-behind S name parameters type))
-      (λ type r. word-starts 32 (123 ∷ []) (family_behind S name parameters type) r (omega arith)) (λ type r no. absurd (cc))
+      alike-then true (whole_term S own (length parameters)) (λ type r3. after (past (codes " {") r3) (family_after S name parameters type)) (alike-whole S own (length parameters))
+      (λ type. alike-word true (codes " {") (family_after S name parameters type) (alike-family-past S name parameters type))
+      (λ type r. word-starts 32 (123 ∷ []) (family_after S name parameters type) r (omega arith)) (λ type r no. absurd (cc))
 
   alike-family-at : Alike true (family_at S own)
   alike-family-at =
@@ -245,7 +245,7 @@ module _ (S : Signature) (own : List ℕ) where
 
 alike-eliminator : (S : Signature) → Alike true (eliminator_at S)
 alike-eliminator S =
-    alike-then true (family_name S) (λ n r1. after (behind (codes " ") r1) (λ r2. and_then (read_level (levels_left S (Elim n)) r2) (λ m r3. ended (RawEliminator n m) r3))) (alike-family S)
+    alike-then true (family_name S) (λ n r1. after (past (codes " ") r1) (λ r2. and_then (read_level (levels_left S (Elim n)) r2) (λ m r3. ended (RawEliminator n m) r3))) (alike-family S)
     (λ n. alike-word true (codes " ") (λ r2. and_then (read_level (levels_left S (Elim n)) r2) (λ m r3. ended (RawEliminator n m) r3))
     (alike-then true (read_level (levels_left S (Elim n))) (λ m r3. ended (RawEliminator n m) r3) (alike-level (levels_left S (Elim n)))
     (λ m. alike-ended (RawEliminator n m)) (λ m r. ended-starts (RawEliminator n m) r) (λ m r no. absurd (cc))))
@@ -253,7 +253,7 @@ alike-eliminator S =
 
 alike-axiom-k : (S : Signature) → Alike true (axiom_k_line S)
 alike-axiom-k S =
-    alike-then true (read_level (identities_left S)) (λ i r1. after (behind (codes " ") r1) (λ r2. and_then (read_level (levels_left S (AxiomK i)) r2) (λ m r3. ended (RawAxiomK i m) r3))) (alike-level (identities_left S))
+    alike-then true (read_level (identities_left S)) (λ i r1. after (past (codes " ") r1) (λ r2. and_then (read_level (levels_left S (AxiomK i)) r2) (λ m r3. ended (RawAxiomK i m) r3))) (alike-level (identities_left S))
     (λ i. alike-word true (codes " ") (λ r2. and_then (read_level (levels_left S (AxiomK i)) r2) (λ m r3. ended (RawAxiomK i m) r3))
     (alike-then true (read_level (levels_left S (AxiomK i))) (λ m r3. ended (RawAxiomK i m) r3) (alike-level (levels_left S (AxiomK i)))
     (λ m. alike-ended (RawAxiomK i m)) (λ m r. ended-starts (RawAxiomK i m) r) (λ m r no. absurd (cc))))
@@ -269,7 +269,7 @@ two s = by (s == 2) refl
     by false e = grind (arith, nat_tests)
 
 -- after the letters that tell a definition
-definition-word : (y : List ℕ) → behind (codes "def ") (100 ∷ 101 ∷ y) ≡ behind (codes "f ") y
+definition-word : (y : List ℕ) → past (codes "def ") (100 ∷ 101 ∷ y) ≡ past (codes "f ") y
 definition-word y =
     let s = shared y (codes "f ") in
     let left : length (100 ∷ 101 ∷ y) - (1 + (1 + s)) ≡ length y - s = omega arith in
@@ -290,17 +290,17 @@ begins-two b y r same =
 
 module _ (S : Signature) (own : List ℕ) where
   abbrev data_line : List ℕ → Reading RawEntry
-  data_line x = after (behind (codes "data ") x) (family_at S own)
+  data_line x = after (past (codes "data ") x) (family_at S own)
 
   abbrev k_line : List ℕ → Reading RawEntry
-  k_line x = after (behind (codes "axiomk ") x) (axiom_k_line S)
+  k_line x = after (past (codes "axiomk ") x) (axiom_k_line S)
 
   abbrev k_or_data : Bool → List ℕ → Reading RawEntry
   k_or_data k x = if k && (first x == 97) then k_line x else data_line x
 
   -- what is no definition
   abbrev other_line : Bool → List ℕ → Reading RawEntry
-  other_line k x = if first x == 101 then after (behind (codes "elim ") x) (eliminator_at S) else k_or_data k x
+  other_line k x = if first x == 101 then after (past (codes "elim ") x) (eliminator_at S) else k_or_data k x
 
   alike-data : Alike true data_line
   alike-data = alike-word true (codes "data ") (family_at S own) (alike-family-at S own)
@@ -312,7 +312,7 @@ module _ (S : Signature) (own : List ℕ) where
 
   other-told : (k : Bool) (rest : List ℕ) → Told true (other_line k) rest (other_line k rest)
   other-told k rest =
-      told-first true 101 (λ x. after (behind (codes "elim ") x) (eliminator_at S)) (k_or_data k) rest
+      told-first true 101 (λ x. after (past (codes "elim ") x) (eliminator_at S)) (k_or_data k) rest
       (λ e. (alike-word true (codes "elim ") (eliminator_at S) (alike-eliminator S)).told rest) (λ e. k-told k rest) (λ no. absurd (cc)) (λ no. absurd (cc))
 
   -- of the letters that tell a definition it takes one
@@ -321,10 +321,10 @@ module _ (S : Signature) (own : List ℕ) where
   other-at false x = let left : length (100 ∷ 101 ∷ x) - 1 ≡ 1 + length x = omega arith in ap (λ n. Err (Wrong n)) left
 
   abbrev line_by : Bool → List ℕ → Reading RawEntry
-  line_by k x = if begins (codes "de") x then after (behind (codes "def ") x) (definition_at S own) else other_line k x
+  line_by k x = if begins (codes "de") x then after (past (codes "def ") x) (definition_at S own) else other_line k x
 
   line-other : (k : Bool) (x : List ℕ) → begins (codes "de") x ≡ false → line_by k x ≡ other_line k x
-  line-other k x e = ap (λ b. if b then after (behind (codes "def ") x) (definition_at S own) else other_line k x) e
+  line-other k x e = ap (λ b. if b then after (past (codes "def ") x) (definition_at S own) else other_line k x) e
 
   -- no text that agrees begins with the letters where this one does not
   no-letters : (k : Bool) (rest v r y : List ℕ) → begins (codes "de") rest ≡ false → rest ≡ v ++ r → Same r y → ((x : List ℕ) → v ≡ [] → y ≡ 100 ∷ 101 ∷ x → ⊥) → begins (codes "de") (v ++ y) ≡ false
@@ -370,14 +370,14 @@ module _ (S : Signature) (own : List ℕ) where
       on none (Err (Nested left)) t = tt
       on none (Err Memory) t = tt
 
-      by : (b : Bool) → begins (codes "de") rest ≡ b → Told true (line_by k) rest (if b then after (behind (codes "def ") rest) (definition_at S own) else other_line k rest)
+      by : (b : Bool) → begins (codes "de") rest ≡ b → Told true (line_by k) rest (if b then after (past (codes "def ") rest) (definition_at S own) else other_line k rest)
       by true e =
           let x = drop 2 rest in
           let text : rest ≡ 100 ∷ 101 ∷ x = word-is (codes "de") rest e in
-          subst (λ r. Told true (line_by k) r (after (behind (codes "def ") r) (definition_at S own))) (sym text)
+          subst (λ r. Told true (line_by k) r (after (past (codes "def ") r) (definition_at S own))) (sym text)
           (subst (λ m. Told true (line_by k) (codes "de" ++ x) (after m (definition_at S own))) (sym (definition-word x))
-          (told-shift true (λ y. after (behind (codes "f ") y) (definition_at S own)) (line_by k) (codes "de") x (after (behind (codes "f ") x) (definition_at S own))
-          (λ y. ap (λ b. if b then after (behind (codes "def ") (100 ∷ 101 ∷ y)) (definition_at S own) else other_line k (100 ∷ 101 ∷ y)) (begins-word (codes "de") y) ∙ ap (λ m. after m (definition_at S own)) (definition-word y))
+          (told-shift true (λ y. after (past (codes "f ") y) (definition_at S own)) (line_by k) (codes "de") x (after (past (codes "f ") x) (definition_at S own))
+          (λ y. ap (λ b. if b then after (past (codes "def ") (100 ∷ 101 ∷ y)) (definition_at S own) else other_line k (100 ∷ 101 ∷ y)) (begins-word (codes "de") y) ∙ ap (λ m. after m (definition_at S own)) (definition-word y))
           ((alike-word true (codes "f ") (definition_at S own) (alike-definition S own)).told x)))
       by false e = on e (other_line k rest) (other-told k rest)
 

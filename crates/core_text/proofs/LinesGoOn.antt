@@ -11,7 +11,7 @@ use Rattle.core_text.specs.DeclaredNames.{new_name}
 use Rattle.core_text.specs.LineReading.{nested, whole_term, ended, definition_at, family_found, family_name, levels_left, identities_left, eliminator_at, axiom_k_line}
 use Rattle.core_text.specs.NameRuns.{run_len}
 use Rattle.core_text.specs.RawEntries.{RawEntry, RawEliminator, RawAxiomK, RawDefinition}
-use Rattle.core_text.specs.Reading.{and_then, behind, is_left, read_level}
+use Rattle.core_text.specs.Reading.{and_then, past, is_left, read_level}
 use Rattle.core_text.specs.Spellings.{raw_line, IsTermOver, IsNewName, IsEntryOver}
 use Rattle.core_text.specs.SymbolLookup.{symbol, found_symbol}
 use Rattle.core_text.specs.SymbolNames.{name_at}
@@ -126,9 +126,9 @@ module _ (S : Signature) where
   abbrev FamilyNamed : List ℕ → ℕ → List ℕ → Type 0
   FamilyNamed rest g r = (rest ≡ name_at S g ++ r) × IsFamilyNumber S g
 
-  found-meets : (rest name behind : List ℕ) (o : Option Term) → rest ≡ name ++ behind → ((t : Term) → o ≡ Some t → term_text S t ≡ name) → ((g : ℕ) → o ≡ Some (Fam g) → IsFamilyNumber S g) → Meets (FamilyNamed rest) (Goes S) (codes "elim " ++ rest) (family_found o rest behind)
-  found-meets rest name behind (Some (Fam g)) at is family = (at ∙ ap (λ s. s ++ behind) (sym (is (Fam g) refl)), family g refl)
-  found-meets rest name behind _ at is family = meets-wrong (FamilyNamed rest) (Goes S) (codes "elim ") rest (codes "elim " ++ rest) refl eliminator-front
+  found-meets : (rest name past : List ℕ) (o : Option Term) → rest ≡ name ++ past → ((t : Term) → o ≡ Some t → term_text S t ≡ name) → ((g : ℕ) → o ≡ Some (Fam g) → IsFamilyNumber S g) → Meets (FamilyNamed rest) (Goes S) (codes "elim " ++ rest) (family_found o rest past)
+  found-meets rest name past (Some (Fam g)) at is family = (at ∙ ap (λ s. s ++ past) (sym (is (Fam g) refl)), family g refl)
+  found-meets rest name past _ at is family = meets-wrong (FamilyNamed rest) (Goes S) (codes "elim ") rest (codes "elim " ++ rest) refl eliminator-front
 
   family-meets : (rest : List ℕ) → Meets (FamilyNamed rest) (Goes S) (codes "elim " ++ rest) (family_name S rest)
   family-meets rest =
@@ -145,11 +145,11 @@ module _ (S : Signature) where
       let front = codes "elim " ++ name_at S g in
       let place = subst (IsFront (Goes S)) (sym (append_assoc (codes "elim ") (name_at S g) (codes " "))) (family-front g fg.1) in
       meets-word (Read S whole) (Goes S) front (codes " ") r1 whole _ at place
-      (λ r2 fs. let behind = at ∙ (ap (λ s. front ++ s) fs ∙ sym (append_assoc front (codes " ") r2)) in
+      (λ r2 fs. let past = at ∙ (ap (λ s. front ++ s) fs ∙ sym (append_assoc front (codes " ") r2)) in
       meets-on (Levelled (levels_left S (Elim g)) (Goes S) (front ++ codes " ") whole (fronts g fg.1) r2) (Read S whole) (Goes S) whole (read_level (levels_left S (Elim g)) r2) _
-      (level-meets (levels_left S (Elim g)) (Goes S) (front ++ codes " ") whole (fronts g fg.1) r2 behind place)
+      (level-meets (levels_left S (Elim g)) (Goes S) (front ++ codes " ") whole (fronts g fg.1) r2 past place)
       (λ m r3 fm. ended-meets S whole ((front ++ codes " ") ++ decimal m) (RawEliminator g m) r3
-      (behind ∙ (ap (λ s. (front ++ codes " ") ++ s) fm.0 ∙ sym (append_assoc (front ++ codes " ") (decimal m) r3))) (five (codes "elim ") (name_at S g) (codes " ") (decimal m) (codes "\n")) (fg.1, fm.1))))
+      (past ∙ (ap (λ s. (front ++ codes " ") ++ s) fm.0 ∙ sym (append_assoc (front ++ codes " ") (decimal m) r3))) (five (codes "elim ") (name_at S g) (codes " ") (decimal m) (codes "\n")) (fg.1, fm.1))))
     where
       five : (a b c d e : List ℕ) → (((a ++ b) ++ c) ++ d) ++ e ≡ a ++ (b ++ (c ++ (d ++ e)))
       five a b c d e = simp append_assoc
@@ -194,8 +194,8 @@ module _ (S : Signature) where
         (λ i r1 fi. let front = codes "axiomk " ++ decimal i in
         let at = ap (λ s. codes "axiomk " ++ s) fi.0 ∙ sym (append_assoc (codes "axiomk ") (decimal i) r1) in
         meets-word (Read S whole) (Goes S) front (codes " ") r1 whole _ at (number-front i fi.1)
-        (λ r2 fs. let behind = at ∙ (ap (λ s. front ++ s) fs ∙ sym (append_assoc front (codes " ") r2)) in
+        (λ r2 fs. let past = at ∙ (ap (λ s. front ++ s) fs ∙ sym (append_assoc front (codes " ") r2)) in
         meets-on (Levelled (levels_left S (AxiomK i)) (Goes S) (front ++ codes " ") whole (level-front i fi.1) r2) (Read S whole) (Goes S) whole (read_level (levels_left S (AxiomK i)) r2) _
-        (level-meets (levels_left S (AxiomK i)) (Goes S) (front ++ codes " ") whole (level-front i fi.1) r2 behind (number-front i fi.1))
+        (level-meets (levels_left S (AxiomK i)) (Goes S) (front ++ codes " ") whole (level-front i fi.1) r2 past (number-front i fi.1))
         (λ m r3 fm. ended-meets S whole ((front ++ codes " ") ++ decimal m) (RawAxiomK i m) r3
-        (behind ∙ (ap (λ s. (front ++ codes " ") ++ s) fm.0 ∙ sym (append_assoc (front ++ codes " ") (decimal m) r3))) (five (codes "axiomk ") (decimal i) (codes " ") (decimal m) (codes "\n")) (has_k, fi.1, fm.1))))
+        (past ∙ (ap (λ s. (front ++ codes " ") ++ s) fm.0 ∙ sym (append_assoc (front ++ codes " ") (decimal m) r3))) (five (codes "axiomk ") (decimal i) (codes " ") (decimal m) (codes "\n")) (has_k, fi.1, fm.1))))

@@ -11,14 +11,14 @@ use Rattle.theory.proofs.Lists.{slice_get-last, slice_get-longer}
 use Rattle.core_sig.specs.Names.{find}
 use Rattle.core_sig.specs.Raw.{RawConstructor, RawFamily}
 use Rattle.core_text.specs.DeclaredNames.{may_declare, by_shape, new_name, shape_of}
-use Rattle.core_text.specs.EntryReading.{behind_notes, shows_entry, shown_by, entry_at, with_offset, entry_from}
+use Rattle.core_text.specs.EntryReading.{after_notes, shows_entry, shown_by, entry_at, with_offset, entry_from}
 use Rattle.core_text.specs.EntryText.{parameters_text, constructors_text, line_text, entry_line}
 use Rattle.core_text.specs.LineLaws.{AreNotes, no_note, note, Stands, LinesAreRead}
-use Rattle.core_text.specs.LineReading.{nested, whole_term, ended, definition_at, family_found, family_name, levels_left, identities_left, eliminator_at, axiom_k_line, behind_item, collected, parameter_at, no_parameter, next_parameter, parameters_at, constructor_at, separated, next_constructor, constructors_at, family_behind, family_at, line_at}
+use Rattle.core_text.specs.LineReading.{nested, whole_term, ended, definition_at, family_found, family_name, levels_left, identities_left, eliminator_at, axiom_k_line, after_item, collected, parameter_at, no_parameter, next_parameter, parameters_at, constructor_at, separated, next_constructor, constructors_at, family_after, family_at, line_at}
 use Rattle.core_text.specs.Lines.{is_in_line}
 use Rattle.core_text.specs.NameRuns.{run_len}
 use Rattle.core_text.specs.RawEntries.{RawEntry, RawFamilyOf, RawEliminator, RawAxiomK, RawDefinition, entry_shown}
-use Rattle.core_text.specs.Reading.{Reading, wrong, first, and_then, after, behind, begins, read_level}
+use Rattle.core_text.specs.Reading.{Reading, wrong, first, and_then, after, past, begins, read_level}
 use Rattle.core_text.specs.SymbolLookup.{symbol, found_symbol}
 use Rattle.core_text.specs.SymbolNames.{own_name, name_at}
 use Rattle.core_text.specs.TermReading.{term_after}
@@ -138,10 +138,10 @@ Listed {A} text end most found rest xs r = (new : List A) × (xs ≡ found ++ ne
 collected-writes : {A : Type 0} (text : List A → A → List ℕ) (end : List ℕ) (most : ℕ) (next : List A → List ℕ → Reading (Option A)) → ((found : List A) (rest : List ℕ) → length found ≤ most → Ensures (Item text end found rest) (next found rest)) → (k : ℕ) (found : List A) (rest : List ℕ) → length found + k ≤ most → Ensures (Listed text end most found rest) (collected next k found rest)
 collected-writes text end most next each zero found rest few = tt
 collected-writes {A} text end most next each (suc k) found rest few =
-    ensures-then (Item text end found rest) (Listed text end most found rest) (next found rest) (behind_item (collected next k) found) (each found rest (omega arith))
+    ensures-then (Item text end found rest) (Listed text end most found rest) (next found rest) (after_item (collected next k) found) (each found rest (omega arith))
     (λ o r is. by (λ a r. collected-writes text end most next each k (found ++ a ∷ []) r (omega (arith, length-append found (a ∷ [])))) o r is)
   where
-    by : ((a : A) (r : List ℕ) → Ensures (Listed text end most (found ++ a ∷ []) r) (collected next k (found ++ a ∷ []) r)) → (o : Option A) (r : List ℕ) → Item text end found rest o r → Ensures (Listed text end most found rest) (behind_item (collected next k) found o r)
+    by : ((a : A) (r : List ℕ) → Ensures (Listed text end most (found ++ a ∷ []) r) (collected next k (found ++ a ∷ []) r)) → (o : Option A) (r : List ℕ) → Item text end found rest o r → Ensures (Listed text end most found rest) (after_item (collected next k) found o r)
     by others None r is = ([], sym (append-nil found), is, omega arith)
     by others (Some a) r is =
         ensures-weaker (Listed text end most (found ++ a ∷ []) r) (Listed text end most found rest) (collected next k (found ++ a ∷ []) r)
@@ -225,8 +225,8 @@ module _ (T S : Signature) (has : Has T S) where
       ensures-word (Line whole) (codes "\n") rest (λ end. Ok (RawFamilyOf raw, end))
       (λ r so own. is own ∙ (ap (λ s. front ++ s) so ∙ (sym (append_assoc front (codes "\n") r) ∙ ap (λ s. s ++ r) text)))
 
-  behind-writes : (whole name : List ℕ) (parameters : List Term) (type : Term) (rest : List ℕ) → length parameters < 2 ^ 33 → whole ≡ codes "data " ++ (name ++ (parameters_text T parameters ++ (codes " : " ++ (term_text T type ++ (codes " {" ++ rest))))) → Ensures (Line whole) (family_behind S name parameters type rest)
-  behind-writes whole name parameters type rest few is =
+  past-writes : (whole name : List ℕ) (parameters : List Term) (type : Term) (rest : List ℕ) → length parameters < 2 ^ 33 → whole ≡ codes "data " ++ (name ++ (parameters_text T parameters ++ (codes " : " ++ (term_text T type ++ (codes " {" ++ rest))))) → Ensures (Line whole) (family_after S name parameters type rest)
+  past-writes whole name parameters type rest few is =
       ensures-then (λ cs r. name_at T (length S.entries) ≡ name → rest ≡ constructors_text T (codes " ") cs ++ (codes " }" ++ r)) (Line whole) (constructors_at S name (length parameters) rest) _
       (ensures-later (name_at T (length S.entries) ≡ name) (λ cs r. rest ≡ constructors_text T (codes " ") cs ++ (codes " }" ++ r)) (constructors_at S name (length parameters) rest)
       (λ own. constructors-write name (length parameters) (λ some. own) few rest))
@@ -239,8 +239,8 @@ module _ (T S : Signature) (has : Has T S) where
       ensures-then (λ name r. rest ≡ name ++ r) (Line (codes "data " ++ rest)) (new_name S [] [] rest) _ (name-reads S [] [] rest)
       (λ name r1 fn. ensures-then (λ ts r. (r1 ≡ parameters_text T ts ++ (codes " : " ++ r)) × (length ts < 2 ^ 33)) (Line (codes "data " ++ rest)) (parameters_at S [] r1) _ (parameters-write r1 (shorter name r1 fn))
       (λ parameters r2 fp. ensures-then (Writes T r2) (Line (codes "data " ++ rest)) (whole_term S [] (length parameters) r2) _ (whole-writes T S has [] (length parameters) r2 (no-own T S has) fp.1)
-      (λ type r3 ft. ensures-word (Line (codes "data " ++ rest)) (codes " {") r3 (family_behind S name parameters type)
-      (λ r4 so. behind-writes (codes "data " ++ rest) name parameters type r4 fp.1
+      (λ type r3 ft. ensures-word (Line (codes "data " ++ rest)) (codes " {") r3 (family_after S name parameters type)
+      (λ r4 so. past-writes (codes "data " ++ rest) name parameters type r4 fp.1
       (ap (λ s. codes "data " ++ s) (fn ∙ ap (λ s. name ++ s) (fp.0 ∙ ap (λ s. parameters_text T parameters ++ (codes " : " ++ s)) (ft ∙ ap (λ s. term_text T type ++ s) so))))))))
     where
       shorter : (name r : List ℕ) → rest ≡ name ++ r → length r < 2 ^ 33
@@ -248,11 +248,11 @@ module _ (T S : Signature) (has : Has T S) where
 
   line-writes : (rest : List ℕ) → length rest < 2 ^ 33 → Ensures (Line rest) (line_at S [] rest)
   line-writes rest short =
-      ensures-if (Line rest) (begins (codes "de") rest) (after (behind (codes "def ") rest) (definition_at S [])) _
+      ensures-if (Line rest) (begins (codes "de") rest) (after (past (codes "def ") rest) (definition_at S [])) _
       (λ e. ensures-word (Line rest) (codes "def ") rest (definition_at S []) (λ r is. moved (codes "def ") r is (definition_at S [] r) (definition-writes T S has r)))
-      (λ e. ensures-if (Line rest) (first rest == 101) (after (behind (codes "elim ") rest) (eliminator_at S)) _
+      (λ e. ensures-if (Line rest) (first rest == 101) (after (past (codes "elim ") rest) (eliminator_at S)) _
       (λ e. ensures-word (Line rest) (codes "elim ") rest (eliminator_at S) (λ r is. moved (codes "elim ") r is (eliminator_at S r) (eliminator-writes T S has r)))
-      (λ e. ensures-if (Line rest) (S.has_k && (first rest == 97)) (after (behind (codes "axiomk ") rest) (axiom_k_line S)) _
+      (λ e. ensures-if (Line rest) (S.has_k && (first rest == 97)) (after (past (codes "axiomk ") rest) (axiom_k_line S)) _
       (λ e. ensures-word (Line rest) (codes "axiomk ") rest (axiom_k_line S) (λ r is. moved (codes "axiomk ") r is (axiom_k_line S r) (axiom_k-writes T S has r)))
       (λ e. ensures-word (Line rest) (codes "data ") rest (family_at S []) (λ r is. families r is))))
     where
@@ -287,12 +287,12 @@ NotesRead true rest r = Inside rest r
 rest-is : {a b : List ℕ} → ◌≡◌ {A = Result (List ℕ) Halt} (Ok a) (Ok b) → a ≡ b
 rest-is e = cc
 
-pub notes-read : (inside : Bool) (rest r : List ℕ) → behind_notes inside rest ≡ Ok r → NotesRead inside rest r
+pub notes-read : (inside : Bool) (rest r : List ℕ) → after_notes inside rest ≡ Ok r → NotesRead inside rest r
 notes-read false [] r e = record { notes = []; are = no_note; is = rest-is e }
 notes-read true [] r e = absurd (cc)
 notes-read false (b ∷ rest) r e = by (notes-read true rest r) (b == 35) refl e
   where
-    by : (behind_notes true rest ≡ Ok r → Inside rest r) → (c : Bool) → (b == 35) ≡ c → (if c then behind_notes true rest else Ok (b ∷ rest)) ≡ Ok r → Before (b ∷ rest) r
+    by : (after_notes true rest ≡ Ok r → Inside rest r) → (c : Bool) → (b == 35) ≡ c → (if c then after_notes true rest else Ok (b ∷ rest)) ≡ Ok r → Before (b ∷ rest) r
     by others true same is =
         let more = others is in
         let here : b ≡ 35 = grind (arith, nat_tests) in
@@ -304,7 +304,7 @@ notes-read false (b ∷ rest) r e = by (notes-read true rest r) (b == 35) refl e
     by others false same is = record { notes = []; are = no_note; is = rest-is is }
 notes-read true (b ∷ rest) r e = by (λ f. notes-read false rest r f) (λ f. notes-read true rest r f) (b == 10) refl e
   where
-    by : (behind_notes false rest ≡ Ok r → Before rest r) → (behind_notes true rest ≡ Ok r → Inside rest r) → (c : Bool) → (b == 10) ≡ c → behind_notes (not c) rest ≡ Ok r → Inside (b ∷ rest) r
+    by : (after_notes false rest ≡ Ok r → Before rest r) → (after_notes true rest ≡ Ok r → Inside rest r) → (c : Bool) → (b == 10) ≡ c → after_notes (not c) rest ≡ Ok r → Inside (b ∷ rest) r
     by ends goes true same is =
         let more = ends is in
         let here : b ≡ 10 = grind (arith, nat_tests) in
@@ -368,7 +368,7 @@ abbrev offset-of : RawEntry × ℕ → ℕ
 offset-of p = p.1
 
 pub lines-are-read : LinesAreRead
-lines-are-read S text from e to small within is = by (behind_notes false (drop from text)) refl is
+lines-are-read S text from e to small within is = by (after_notes false (drop from text)) refl is
   where
     n : ℕ
     n = length S.entries
@@ -385,7 +385,7 @@ lines-are-read S text from e to small within is = by (behind_notes false (drop f
           others = r;
           are_notes = before.are;
           line = before.is ∙ ap (λ s. before.notes ++ s) line;
-          behind = ap (λ k. drop k text) (sym last) ∙ drop-end text (take from text ++ (before.notes ++ entry_line (pushed S e) n e)) r whole;
+          past = ap (λ k. drop k text) (sym last) ∙ drop-end text (take from text ++ (before.notes ++ entry_line (pushed S e) n e)) r whole;
         }
       where
         joined : take from text ++ (before.notes ++ (entry_line (pushed S e) n e ++ r)) ≡ (take from text ++ (before.notes ++ entry_line (pushed S e) n e)) ++ r
@@ -401,7 +401,7 @@ lines-are-read S text from e to small within is = by (behind_notes false (drop f
         stands rest r before (so (ap (λ p. Some p.0) pair)) (ap offset-of pair)
     entry rest before (Err h) so same = absurd (cc)
 
-    by : (m : Result (List ℕ) Halt) → behind_notes false (drop from text) ≡ m → with_offset (length text) (after m (entry_at S)) ≡ Ok (Some (entry_shown n e, to)) → Stands S text from e to
+    by : (m : Result (List ℕ) Halt) → after_notes false (drop from text) ≡ m → with_offset (length text) (after m (entry_at S)) ≡ Ok (Some (entry_shown n e, to)) → Stands S text from e to
     by (Ok rest) notes same =
         let before = notes-read false (drop from text) rest notes in
         let short : length rest < 2 ^ 33 = omega (arith, small, length-drop from text, ap length before.is, length-append before.notes rest) in

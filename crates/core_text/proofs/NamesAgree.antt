@@ -10,13 +10,13 @@ use Rattle.core_text.proofs.RunChars.{run}
 use Rattle.core_text.proofs.Characters.{Same, run-within, run-again, no-run-same, same-named}
 
 -- after the bytes v, g reads as f does where the character is the same
-pub told-behind : {A : Type 0} (f g : List ℕ → Reading A) (v r : List ℕ) (m : Reading A) → ((y : List ℕ) → Same r y → g (v ++ y) ≡ f y) → StartsAt r m → Told true f r m → Told true g (v ++ r) m
-told-behind f g v r (Ok p) same starts t = record {
+pub told-past : {A : Type 0} (f g : List ℕ → Reading A) (v r : List ℕ) (m : Reading A) → ((y : List ℕ) → Same r y → g (v ++ y) ≡ f y) → StartsAt r m → Told true f r m → Told true g (v ++ r) m
+told-past f g v r (Ok p) same starts t = record {
   front = v ++ t.front;
   is = ap (λ s. v ++ s) t.is ∙ sym (append_assoc v t.front p.1);
   again = λ y k. ap g (append_assoc v t.front y) ∙ (same (t.front ++ y) (same-ahead true r t.front p.1 y t.is starts (λ no. absurd (cc)) k) ∙ t.again y k);
 }
-told-behind f g v r (Err (Wrong left)) same starts t = record {
+told-past f g v r (Err (Wrong left)) same starts t = record {
   front = v ++ t.front;
   back = t.back;
   is = ap (λ s. v ++ s) t.is ∙ sym (append_assoc v t.front t.back);
@@ -28,27 +28,27 @@ told-behind f g v r (Err (Wrong left)) same starts t = record {
     at : (first r < 128) ⊎ (left ≡ length r) → (first r < 128) ⊎ (length t.back ≡ length r)
     at (inl low) = inl low
     at (inr stays) = inr (t.size ∙ stays)
-told-behind f g v r (Err (Nested left)) same starts t = tt
-told-behind f g v r (Err Memory) same starts t = tt
+told-past f g v r (Err (Nested left)) same starts t = tt
+told-past f g v r (Err Memory) same starts t = tt
 
 -- what stands after the run at the front
-abbrev pub behind_run : List ℕ → List ℕ
-behind_run rest = drop (run_len rest) rest
+abbrev pub after_run : List ℕ → List ℕ
+after_run rest = drop (run_len rest) rest
 
 -- the run is the same again before the same character
 pub record RunAgain (rest y : List ℕ) : Type 0 where
   pub size : run_len (run rest ++ y) ≡ run_len rest
   pub name : run (run rest ++ y) ≡ run rest
-  pub behind : behind_run (run rest ++ y) ≡ y
+  pub past : after_run (run rest ++ y) ≡ y
 
-pub run-is-again : (rest y : List ℕ) → Same (behind_run rest) y → RunAgain rest y
+pub run-is-again : (rest y : List ℕ) → Same (after_run rest) y → RunAgain rest y
 run-is-again rest y same =
     let size = run-again rest y same in
     let long = length-take-le (run_len rest) rest (run-within rest) in
     record {
       size = size;
       name = ap (λ k. take k (run rest ++ y)) size ∙ take_at (run rest) y (run_len rest) long;
-      behind = ap (λ k. drop k (run rest ++ y)) size ∙ drop_at (run rest) y (run_len rest) long;
+      past = ap (λ k. drop k (run rest ++ y)) size ∙ drop_at (run rest) y (run_len rest) long;
     }
 
 -- what a name tells by itself is told by the name, or by the first character where there is none
@@ -66,19 +66,19 @@ pub data NameTells {A : Type 0} (N : List ℕ → List ℕ → List ℕ → Read
   goes_on : (f : List ℕ → Reading A) → Alike true f → ((r : List ℕ) → StartsAt r (f r)) → ((r x : List ℕ) → N name r x ≡ f r) → NameTells N name
   is_wrong : ((r x : List ℕ) → N name r x ≡ wrong x) → NameTells N name
 
-pub told-named : {A : Type 0} (N : List ℕ → List ℕ → List ℕ → Reading A) (rest : List ℕ) → NameTells N (run rest) → Told true (λ x. N (run x) (behind_run x) x) rest (N (run rest) (behind_run rest) rest)
+pub told-named : {A : Type 0} (N : List ℕ → List ℕ → List ℕ → Reading A) (rest : List ℕ) → NameTells N (run rest) → Told true (λ x. N (run x) (after_run x) x) rest (N (run rest) (after_run rest) rest)
 told-named {A = A} N rest (goes_on f alike starts is) =
-    subst (Told true F rest) (sym (is (behind_run rest) rest))
-    (subst (λ x. Told true F x (f (behind_run rest))) (take-append-drop (run_len rest) rest)
-    (told-behind f F (run rest) (behind_run rest) (f (behind_run rest))
-    (λ y same. let again = run-is-again rest y same in ap₂ (λ a b. N a b (run rest ++ y)) again.name again.behind ∙ is y (run rest ++ y))
-    (starts (behind_run rest)) (alike.told (behind_run rest))))
+    subst (Told true F rest) (sym (is (after_run rest) rest))
+    (subst (λ x. Told true F x (f (after_run rest))) (take-append-drop (run_len rest) rest)
+    (told-past f F (run rest) (after_run rest) (f (after_run rest))
+    (λ y same. let again = run-is-again rest y same in ap₂ (λ a b. N a b (run rest ++ y)) again.name again.past ∙ is y (run rest ++ y))
+    (starts (after_run rest)) (alike.told (after_run rest))))
   where
     F : List ℕ → Reading A
-    F x = N (run x) (behind_run x) x
+    F x = N (run x) (after_run x) x
 told-named {A = A} N rest (is_wrong is) =
-    stopped-here true F rest (F rest) (is (behind_run rest) rest)
-    (refused-named F rest (λ y same. ap (λ a. N a (behind_run y) y) same ∙ is (behind_run y) y))
+    stopped-here true F rest (F rest) (is (after_run rest) rest)
+    (refused-named F rest (λ y same. ap (λ a. N a (after_run y) y) same ∙ is (after_run y) y))
   where
     F : List ℕ → Reading A
-    F x = N (run x) (behind_run x) x
+    F x = N (run x) (after_run x) x

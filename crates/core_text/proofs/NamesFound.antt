@@ -43,18 +43,18 @@ lookup-in (q ∷ known) (suc k) p e distinct =
 in-front : (p : List ℕ × Found) (xs ys : List (List ℕ × Found)) → In p xs → In p (xs ++ ys)
 in-front p xs ys is = record { place = is.place; is = slice_get-longer xs ys is.place p is.is }
 
-behind-at : (xs ys : List (List ℕ × Found)) (k : ℕ) (p : List ℕ × Found) → slice_get ys k ≡ Some p → slice_get (xs ++ ys) (length xs + k) ≡ Some p
-behind-at [] ys k p e = subst (λ j. slice_get ys j ≡ Some p) (from k) e
+past-at : (xs ys : List (List ℕ × Found)) (k : ℕ) (p : List ℕ × Found) → slice_get ys k ≡ Some p → slice_get (xs ++ ys) (length xs + k) ≡ Some p
+past-at [] ys k p e = subst (λ j. slice_get ys j ≡ Some p) (from k) e
   where
     from : (k : ℕ) → k ≡ 0 + k
     from k = omega arith
-behind-at (x ∷ xs) ys k p e = subst (λ j. slice_get (x ∷ (xs ++ ys)) j ≡ Some p) (more (length xs) k) (behind-at xs ys k p e)
+past-at (x ∷ xs) ys k p e = subst (λ j. slice_get (x ∷ (xs ++ ys)) j ≡ Some p) (more (length xs) k) (past-at xs ys k p e)
   where
     more : (n k : ℕ) → suc (n + k) ≡ suc n + k
     more n k = omega arith
 
-in-behind : (p : List ℕ × Found) (xs ys : List (List ℕ × Found)) → In p ys → In p (xs ++ ys)
-in-behind p xs ys is = record { place = length xs + is.place; is = behind-at xs ys is.place p is.is }
+in-past : (p : List ℕ × Found) (xs ys : List (List ℕ × Found)) → In p ys → In p (xs ++ ys)
+in-past p xs ys is = record { place = length xs + is.place; is = past-at xs ys is.place p is.is }
 
 in-named : (es : List Entry) (m n : ℕ) (e : Entry) (p : List ℕ × Found) → slice_get es n ≡ Some e → In p (named_by (m + n) e) → In p (named m es)
 in-named [] m n e p at is = absurd (cc)
@@ -67,7 +67,7 @@ in-named (x ∷ es) m zero e p at is =
     entry-is : {a b : Entry} → ◌≡◌ {A = Option Entry} (Some a) (Some b) → a ≡ b
     entry-is same = cc
 in-named (x ∷ es) m (suc n) e p at is =
-    in-behind p (named_by m x) (named (m + 1) es) (in-named es (m + 1) n e p at (subst (λ k. In p (named_by k e)) (shifted m n) is))
+    in-past p (named_by m x) (named (m + 1) es) (in-named es (m + 1) n e p at (subst (λ k. In p (named_by k e)) (shifted m n) is))
   where
     shifted : (m n : ℕ) → m + suc n ≡ (m + 1) + n
     shifted m n = omega arith

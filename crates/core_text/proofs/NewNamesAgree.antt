@@ -28,7 +28,7 @@ use Rattle.core_text.specs.declared.declared_names.Shape.{Shape}
 use Rattle.core_text.specs.declared.declared_names.Shape.TheVariants.{Declarable, Underscore, Malformed}
 use Rattle.core_text.proofs.Agreement.{by_character, Told, Alike, told-same}
 use Rattle.core_text.proofs.Characters.{Same, char-same, is-run, run-within}
-use Rattle.core_text.proofs.NamesAgree.{behind_run, NameTells, goes_on, is_wrong, told-named}
+use Rattle.core_text.proofs.NamesAgree.{after_run, NameTells, goes_on, is_wrong, told-named}
 use Rattle.core_text.proofs.RunChars.{run, run-parts, run-chars}
 use Rattle.core_text.proofs.RunSteps.{run_more, run_end}
 use Rattle.core_text.proofs.TermsBack.{some-char}
@@ -200,10 +200,10 @@ module _ (S : Signature) (own : List ℕ) (found : List RawConstructor) where
   abbrev on_new : List ℕ → List ℕ → List ℕ → Reading (List ℕ)
   on_new name r x = on_shape (shape_of name) (may_declare S own found name) name r x
 
-  new-is : (x : List ℕ) → on_new (run x) (behind_run x) x ≡ new_name S own found x
+  new-is : (x : List ℕ) → on_new (run x) (after_run x) x ≡ new_name S own found x
   new-is x = by (shape_of (run x)) (may_declare S own found (run x))
     where
-      by : (s : Shape) (allowed : Bool) → on_shape s allowed (run x) (behind_run x) x ≡ by_shape s allowed (run x) x
+      by : (s : Shape) (allowed : Bool) → on_shape s allowed (run x) (after_run x) x ≡ by_shape s allowed (run x) x
       by Declarable true = ap (λ k. Ok (run x, drop k x)) (sym (length-take-le (run_len x) x (run-within x)))
       by Declarable false = refl
       by Underscore allowed = refl
@@ -223,19 +223,19 @@ module _ (S : Signature) (own : List ℕ) (found : List RawConstructor) where
   line-told rest e =
       let name = run rest in
       let line = shape-line (chars name) (sym (shape-is name (run-chars rest)) ∙ e) in
-      let z = encodes line.others ++ behind_run rest in
+      let z = encodes line.others ++ after_run rest in
       let bytes : name ≡ 95 ∷ encodes line.others =
       sym (encodes-chars name (IsUtf8-from_is_utf8 name (text-of name (run-chars rest)))) ∙ (ap encodes line.is ∙ ap (λ s. s ++ encodes line.others) (encode_ascii 95 (omega arith))) in
-      let text : rest ≡ 95 ∷ z = sym (take-append-drop (run_len rest) rest) ∙ ap (λ s. s ++ behind_run rest) bytes in
+      let text : rest ≡ 95 ∷ z = sym (take-append-drop (run_len rest) rest) ∙ ap (λ s. s ++ after_run rest) bytes in
       let whole : 95 ∷ line.others ≡ 95 ∷ chars (run z) = sym line.is ∙ (ap (λ x. chars (run x)) text ∙ line-chars z) in
       let others : line.others ≡ chars (run z) = ap (drop 1) whole in
       let alone : goes (chars (run z)) ≡ false = ap goes (sym others) ∙ line.alone in
       subst (λ x. Told true (new_name S own found) x (new_name S own found x)) (sym text)
-      (subst (Told true (new_name S own found) (95 ∷ z)) (sym (behind-line z alone))
-      (record { front = 95 ∷ []; back = z; is = refl; size = refl; refused = by_character (λ y same. behind-line y (sym (goes-same z y same) ∙ alone)) }))
+      (subst (Told true (new_name S own found) (95 ∷ z)) (sym (past-line z alone))
+      (record { front = 95 ∷ []; back = z; is = refl; size = refl; refused = by_character (λ y same. past-line y (sym (goes-same z y same) ∙ alone)) }))
     where
-      behind-line : (y : List ℕ) → goes (chars (run y)) ≡ false → new_name S own found (95 ∷ y) ≡ wrong y
-      behind-line y alone =
+      past-line : (y : List ℕ) → goes (chars (run y)) ≡ false → new_name S own found (95 ∷ y) ≡ wrong y
+      past-line y alone =
           let shape : shape_of (run (95 ∷ y)) ≡ Underscore = shape-is (run (95 ∷ y)) (run-chars (95 ∷ y)) ∙ (ap (λ cs. shape_by (piece cs) cs) (line-chars y) ∙ line-shape (chars (run y)) alone) in
           ap (λ s. by_shape s (may_declare S own found (run (95 ∷ y))) (run (95 ∷ y)) (95 ∷ y)) shape
 
@@ -246,7 +246,7 @@ module _ (S : Signature) (own : List ℕ) (found : List RawConstructor) where
       by (inl e) = line-told rest e
       by (inr tells) =
           subst (Told true (new_name S own found) rest) (new-is rest)
-          (told-same true (λ x. on_new (run x) (behind_run x) x) (new_name S own found) rest (on_new (run rest) (behind_run rest) rest) new-is (told-named on_new rest tells))
+          (told-same true (λ x. on_new (run x) (after_run x) x) (new_name S own found) rest (on_new (run rest) (after_run rest) rest) new-is (told-named on_new rest tells))
 
   pub alike-new : Alike true (new_name S own found)
   alike-new = record { told = new-told }

@@ -3,7 +3,7 @@ use Rattle.std.proofs.Common.{◌≡◌, ℕ, Bool, true, false, List, [], ◌�
 use Rattle.std.specs.Prelude.{not, ◌==◌, if◌then◌else◌, Result, Ok, Err, Some, None}
 use Rattle.std.proofs.lemmas.Bool.{and_parts}
 use Rattle.theory.specs.Signatures.{Signature}
-use Rattle.core_text.specs.EntryReading.{behind_notes, shows_entry, shown_by, entry_at, next_entry, with_offset}
+use Rattle.core_text.specs.EntryReading.{after_notes, shows_entry, shown_by, entry_at, next_entry, with_offset}
 use Rattle.core_text.specs.LineLaws.{AreNotes, no_note, note, NotesArePassedOver, EndsAreRead}
 use Rattle.core_text.specs.LineReading.{line_at}
 use Rattle.core_text.specs.Lines.{is_in_line}
@@ -15,16 +15,16 @@ use Rattle.core_text.proofs.NumbersBack.{drop-word}
 
 -- ---- notes
 
-note-ends : (text rest : List ℕ) → is_in_line text ≡ true → behind_notes true (text ++ (10 ∷ rest)) ≡ behind_notes false rest
+note-ends : (text rest : List ℕ) → is_in_line text ≡ true → after_notes true (text ++ (10 ∷ rest)) ≡ after_notes false rest
 note-ends [] rest in_line = refl
 note-ends (b ∷ text) rest in_line =
     let parts = and_parts (not (b == 10)) (is_in_line text) in_line in
-    ap (λ inside. behind_notes inside (text ++ (10 ∷ rest))) parts.0 ∙ note-ends text rest parts.1
+    ap (λ inside. after_notes inside (text ++ (10 ∷ rest))) parts.0 ∙ note-ends text rest parts.1
 
-notes-pass : {notes : List ℕ} → AreNotes notes → (rest : List ℕ) → behind_notes false (notes ++ rest) ≡ behind_notes false rest
+notes-pass : {notes : List ℕ} → AreNotes notes → (rest : List ℕ) → after_notes false (notes ++ rest) ≡ after_notes false rest
 notes-pass no_note rest = refl
 notes-pass (note text others in_line are) rest =
-    ap (behind_notes true) (append_assoc text (10 ∷ others) rest)
+    ap (after_notes true) (append_assoc text (10 ∷ others) rest)
     ∙ (note-ends text (others ++ rest) in_line ∙ notes-pass are rest)
 
 pub notes-are-passed-over : NotesArePassedOver
@@ -48,9 +48,9 @@ at-end S size [] e = refl
 at-end S size (b ∷ rest) e = absurd (shown-some (length S.entries) size (b ∷ rest) (line_at S [] (b ∷ rest)) e)
 
 only-notes : (S : Signature) (text : List ℕ) (size : ℕ) → with_offset size (next_entry S text) ≡ Ok None → AreNotes text
-only-notes S text size e = by (behind_notes false text) refl e
+only-notes S text size e = by (after_notes false text) refl e
   where
-    by : (m : Result (List ℕ) Halt) → behind_notes false text ≡ m → with_offset size (after m (entry_at S)) ≡ Ok None → AreNotes text
+    by : (m : Result (List ℕ) Halt) → after_notes false text ≡ m → with_offset size (after m (entry_at S)) ≡ Ok None → AreNotes text
     by (Ok rest) notes same =
         let before = notes-read false text rest notes in
         subst AreNotes (sym (before.is ∙ (ap (λ r. before.notes ++ r) (at-end S size rest same) ∙ append-nil before.notes))) before.are

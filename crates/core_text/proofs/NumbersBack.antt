@@ -4,7 +4,7 @@ use Rattle.std.specs.Prelude.{◌==◌, ◌&&◌, ◌||◌, nat_le, nat_lt, if�
 use Rattle.std.proofs.lemmas.Bool.Decides.{nat_tests}
 use Rattle.std.proofs.lemmas.Fmt.{decimal_digit, decimal_step}
 use Rattle.core_text.specs.Heads.{shared}
-use Rattle.core_text.specs.Reading.{first, behind, begins, wrong, is_digit, with_digit, index_from, read_index, is_left, begins_level, some_left, one_digit, level_from, read_level}
+use Rattle.core_text.specs.Reading.{first, past, begins, wrong, is_digit, with_digit, index_from, read_index, is_left, begins_level, some_left, one_digit, level_from, read_level}
 use Rattle.core_text.specs.declared.halt.Halt.TheVariants.{Wrong}
 
 -- ---- words
@@ -31,8 +31,8 @@ drop-word (b ∷ word) rest = drop-word word rest
 pub begins-word : (word rest : List ℕ) → begins word (word ++ rest) ≡ true
 begins-word word rest = ap (λ k. k == length word) (shared-word word rest) ∙ equal-same (length word)
 
-pub behind-word : (word rest : List ℕ) → behind word (word ++ rest) ≡ Ok rest
-behind-word word rest =
+pub past-word : (word rest : List ℕ) → past word (word ++ rest) ≡ Ok rest
+past-word word rest =
     ap (λ c. if c then Ok (drop (length word) (word ++ rest)) else Err (Wrong (length (word ++ rest) - shared (word ++ rest) word))) (begins-word word rest)
     ∙ ap (λ r. Ok r) (drop-word word rest)
 

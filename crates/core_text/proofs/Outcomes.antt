@@ -3,7 +3,7 @@ use Rattle.std.proofs.Common.{◌≡◌, ℕ, ◌-◌, ◌≤◌, Bool, true, fa
 use Rattle.std.specs.Prelude.{◌==◌, if◌then◌else◌, Ok, Err}
 use Rattle.std.proofs.lemmas.List.{length-drop}
 use Rattle.core_text.specs.Heads.{shared}
-use Rattle.core_text.specs.Reading.{Reading, and_then, after, behind}
+use Rattle.core_text.specs.Reading.{Reading, and_then, after, past}
 use Rattle.core_text.specs.declared.halt.Halt.TheVariants.{Wrong}
 
 abbrev pub Ensures : {A : Type 0} → (A → List ℕ → Type 0) → Reading A → Type 0
@@ -18,13 +18,13 @@ pub ensures-if : {A : Type 0} (Q : A → List ℕ → Type 0) (b : Bool) (x y : 
 ensures-if Q true x y first second = first refl
 ensures-if Q false x y first second = second refl
 
-pub ensures-behind : {B : Type 0} (Q : B → List ℕ → Type 0) (word rest : List ℕ) (next : List ℕ → Reading B) → ((r : List ℕ) → length r ≡ length rest - length word → Ensures Q (next r)) → Ensures Q (after (behind word rest) next)
-ensures-behind Q word rest next k = by (shared rest word == length word)
+pub ensures-past : {B : Type 0} (Q : B → List ℕ → Type 0) (word rest : List ℕ) (next : List ℕ → Reading B) → ((r : List ℕ) → length r ≡ length rest - length word → Ensures Q (next r)) → Ensures Q (after (past word rest) next)
+ensures-past Q word rest next k = by (shared rest word == length word)
   where
     by : (b : Bool) → Ensures Q (after (if b then Ok (drop (length word) rest) else Err (Wrong (length rest - shared rest word))) next)
     by true = k (drop (length word) rest) (length-drop (length word) rest)
     by false = tt
 
 -- the same where only the number of bytes matters
-pub ensures-after : {B : Type 0} (Q : B → List ℕ → Type 0) (n : ℕ) (word rest : List ℕ) (next : List ℕ → Reading B) → length rest ≤ n → ((r : List ℕ) → length r ≤ n → Ensures Q (next r)) → Ensures Q (after (behind word rest) next)
-ensures-after Q n word rest next short k = ensures-behind Q word rest next (λ r is. k r (omega arith))
+pub ensures-after : {B : Type 0} (Q : B → List ℕ → Type 0) (n : ℕ) (word rest : List ℕ) (next : List ℕ → Reading B) → length rest ≤ n → ((r : List ℕ) → length r ≤ n → Ensures Q (next r)) → Ensures Q (after (past word rest) next)
+ensures-after Q n word rest next short k = ensures-past Q word rest next (λ r is. k r (omega arith))

@@ -7,13 +7,13 @@ use Rattle.std.proofs.lemmas.List.{length-append, length-drop, length-take-le, t
 use Rattle.std.proofs.Math.Seq.{take-append_seam, drop-append_seam}
 use Rattle.theory.specs.Terms.{Sort}
 use Rattle.theory.specs.Signatures.{Signature}
-use Rattle.core_text.specs.EntryReading.{behind_notes, shows_entry, shown_by, entry_at, with_offset, entry_from}
+use Rattle.core_text.specs.EntryReading.{after_notes, shows_entry, shown_by, entry_at, with_offset, entry_from}
 use Rattle.core_text.specs.LineLaws.{AreNotes, no_note, note}
 use Rattle.core_text.specs.LineReading.{definition_at, eliminator_at, axiom_k_line, family_at, line_at}
 use Rattle.core_text.specs.Lines.{is_in_line}
 use Rattle.core_text.specs.Places.{IsReached, GoesOn, NoneLeft, of_family, of_eliminators, of_axiom_k}
 use Rattle.core_text.specs.RawEntries.{RawEntry, RawFamilyOf, RawDefinition}
-use Rattle.core_text.specs.Reading.{Reading, wrong, first, after, behind, begins}
+use Rattle.core_text.specs.Reading.{Reading, wrong, first, after, past, begins}
 use Rattle.core_text.specs.Spellings.{raw_line, IsEntryOver}
 use Rattle.core_text.specs.declared.halt.Halt.{Halt}
 use Rattle.core_text.specs.declared.halt.Halt.TheVariants.{Memory, Nested as TooDeep, Wrong}
@@ -45,18 +45,18 @@ data-front S =
     (record { name = fresh-name S [] []; parameters = tt; type = over-sort S false 0; constructors = tt })
 
 -- after a word, from what is read there
-word-meets : (S : Signature) (word rest : List ℕ) (next : List ℕ → Reading RawEntry) → IsFront (Goes S) word → ((r : List ℕ) → length r ≤ length rest → Meets (Read S (word ++ r)) (Goes S) (word ++ r) (next r)) → Meets (Read S rest) (Goes S) rest (after (behind word rest) next)
+word-meets : (S : Signature) (word rest : List ℕ) (next : List ℕ → Reading RawEntry) → IsFront (Goes S) word → ((r : List ℕ) → length r ≤ length rest → Meets (Read S (word ++ r)) (Goes S) (word ++ r) (next r)) → Meets (Read S rest) (Goes S) rest (after (past word rest) next)
 word-meets S word rest next f k =
     meets-word (Read S rest) (Goes S) [] word rest rest next refl f
     (λ r is. subst (λ w. Meets (Read S w) (Goes S) w (next r)) (sym is) (k r (omega (arith, ap length is, length-append word r))))
 
 pub line-meets : (S : Signature) (rest : List ℕ) → length rest < 2 ^ 32 → Meets (Read S rest) (Goes S) rest (line_at S [] rest)
 line-meets S rest short =
-    meets-if (Read S rest) (Goes S) rest (begins (codes "de") rest) (after (behind (codes "def ") rest) (definition_at S [])) _
+    meets-if (Read S rest) (Goes S) rest (begins (codes "de") rest) (after (past (codes "def ") rest) (definition_at S [])) _
     (λ e. word-meets S (codes "def ") rest (definition_at S []) (definition-front S) (λ r le. definition-meets S r))
-    (λ e. meets-if (Read S rest) (Goes S) rest (first rest == 101) (after (behind (codes "elim ") rest) (eliminator_at S)) _
+    (λ e. meets-if (Read S rest) (Goes S) rest (first rest == 101) (after (past (codes "elim ") rest) (eliminator_at S)) _
     (λ e. word-meets S (codes "elim ") rest (eliminator_at S) (eliminator-front S) (λ r le. eliminator-meets S r))
-    (λ e. meets-if (Read S rest) (Goes S) rest (S.has_k && (first rest == 97)) (after (behind (codes "axiomk ") rest) (axiom_k_line S)) _
+    (λ e. meets-if (Read S rest) (Goes S) rest (S.has_k && (first rest == 97)) (after (past (codes "axiomk ") rest) (axiom_k_line S)) _
     (λ e. let has_k = (and_parts S.has_k (first rest == 97) e).0 in word-meets S (codes "axiomk ") rest (axiom_k_line S) (axiom-front S has_k) (λ r le. axiom-meets S has_k r))
     (λ e. word-meets S (codes "data ") rest (family_at S []) (data-front S) (λ r le. family-meets S r (omega (arith, short, le))))))
 
@@ -81,12 +81,12 @@ IsUnfinished true rest = UnfinishedInside rest
 halt-is : {A : Type 0} {e f : Halt} → ◌≡◌ {A = Result A Halt} (Err e) (Err f) → e ≡ f
 halt-is same = cc
 
-notes-stop : (inside : Bool) (rest : List ℕ) (h : Halt) → behind_notes inside rest ≡ Err h → (h ≡ Wrong 0) × IsUnfinished inside rest
+notes-stop : (inside : Bool) (rest : List ℕ) (h : Halt) → after_notes inside rest ≡ Err h → (h ≡ Wrong 0) × IsUnfinished inside rest
 notes-stop false [] h e = absurd (cc)
 notes-stop true [] h e = (sym (halt-is e), record { text = []; others = []; in_line = refl; are = no_note; is = refl })
 notes-stop false (b ∷ rest) h e = by (notes-stop true rest h) (b == 35) refl e
   where
-    by : (behind_notes true rest ≡ Err h → (h ≡ Wrong 0) × UnfinishedInside rest) → (c : Bool) → (b == 35) ≡ c → (if c then behind_notes true rest else Ok (b ∷ rest)) ≡ Err h → (h ≡ Wrong 0) × Unfinished (b ∷ rest)
+    by : (after_notes true rest ≡ Err h → (h ≡ Wrong 0) × UnfinishedInside rest) → (c : Bool) → (b == 35) ≡ c → (if c then after_notes true rest else Ok (b ∷ rest)) ≡ Err h → (h ≡ Wrong 0) × Unfinished (b ∷ rest)
     by others true same is =
         let more = others is in
         let u = more.1 in
@@ -95,7 +95,7 @@ notes-stop false (b ∷ rest) h e = by (notes-stop true rest h) (b == 35) refl e
     by others false same is = absurd (cc)
 notes-stop true (b ∷ rest) h e = by (notes-stop false rest h) (notes-stop true rest h) (b == 10) refl e
   where
-    by : (behind_notes false rest ≡ Err h → (h ≡ Wrong 0) × Unfinished rest) → (behind_notes true rest ≡ Err h → (h ≡ Wrong 0) × UnfinishedInside rest) → (c : Bool) → (b == 10) ≡ c → behind_notes (not c) rest ≡ Err h → (h ≡ Wrong 0) × UnfinishedInside (b ∷ rest)
+    by : (after_notes false rest ≡ Err h → (h ≡ Wrong 0) × Unfinished rest) → (after_notes true rest ≡ Err h → (h ≡ Wrong 0) × UnfinishedInside rest) → (c : Bool) → (b == 10) ≡ c → after_notes (not c) rest ≡ Err h → (h ≡ Wrong 0) × UnfinishedInside (b ∷ rest)
     by ends goes true same is =
         let more = ends is in
         let u = more.1 in
@@ -127,8 +127,8 @@ goes-with S notes front more are (inr (spent.of_axiom_k has_k none is)) =
     inr (of_axiom_k has_k none (record { more = more; notes = notes; are_notes = are; line = append_assoc notes front more ∙ ap (λ s. notes ++ s) is }))
 
 -- a line after bytes that are notes, or are so with a line feed
-goes-behind : (S : Signature) (bytes more : List ℕ) → AreNotes (bytes ++ more) → GoesOn S bytes
-goes-behind S bytes more are =
+goes-past : (S : Signature) (bytes more : List ℕ) → AreNotes (bytes ++ more) → GoesOn S bytes
+goes-past S bytes more are =
     let some = some-line S in
     record { more = more ++ raw_line S some.0; notes = bytes ++ more; entry = some.0; are_notes = are; over = some.1; line = sym (append_assoc bytes more (raw_line S some.0)) }
 
@@ -164,7 +164,7 @@ module _ (S : Signature) (text : List ℕ) (from : ℕ) (le : from ≤ length te
   -- where the text after its first bytes is a front and what stands at the place
   at-place : (front back : List ℕ) (p : ℕ) → drop from text ≡ front ++ back → length text - length back ≡ p → GoesOn S front ⊎ NoneLeft S front → IsReached S text from p
   at-place front back p is place goes = record {
-    behind = omega (arith, sizes, place, size);
+    past = omega (arith, sizes, place, size);
     within = omega (arith, place);
     before = subst (λ bytes. GoesOn S bytes ⊎ NoneLeft S bytes) (sym bytes) goes;
   }
@@ -193,7 +193,7 @@ module _ (S : Signature) (text : List ℕ) (from : ℕ) (le : from ≤ length te
     where
       by : (b : Bool) → IsRefused p (with_offset (length text) (if b then Ok (Some raw, r) else wrong rest)) → IsReached S text from p
       by true same = absurd (not-ok _ p same)
-      by false same = at-place notes rest p is (wrong-place _ p same) (inl (goes-behind S notes [] (subst AreNotes (sym (append-nil notes)) are)))
+      by false same = at-place notes rest p is (wrong-place _ p same) (inl (goes-past S notes [] (subst AreNotes (sym (append-nil notes)) are)))
   at-line notes rest p are is (Err (Wrong left)) h e =
       at-place (notes ++ h.front) h.back p (is ∙ (ap (λ s. notes ++ s) h.is ∙ sym (append_assoc notes h.front h.back))) (ap (λ k. length text - k) h.size ∙ wrong-place _ p e) (goes-with S notes h.front h.more are h.whole)
   at-line notes rest p are is (Err (TooDeep left)) h e =
@@ -207,15 +207,15 @@ module _ (S : Signature) (text : List ℕ) (from : ℕ) (le : from ≤ length te
       (line-meets S (b ∷ rest) (omega (arith, short, length-drop from text, ap length is, length-append notes (b ∷ rest)))) e
 
   reached : (p : ℕ) → length text < 2 ^ 32 → IsRefused p (entry_from S text from) → IsReached S text from p
-  reached p short e = by (behind_notes false (drop from text)) refl e
+  reached p short e = by (after_notes false (drop from text)) refl e
     where
-      by : (m : Result (List ℕ) Halt) → behind_notes false (drop from text) ≡ m → IsRefused p (with_offset (length text) (after m (entry_at S))) → IsReached S text from p
+      by : (m : Result (List ℕ) Halt) → after_notes false (drop from text) ≡ m → IsRefused p (with_offset (length text) (after m (entry_at S))) → IsReached S text from p
       by (Ok rest) notes same = let before = notes-read false (drop from text) rest notes in at-entry before.notes rest p short before.are before.is same
       by (Err h) notes same =
           let stop = notes-stop false (drop from text) h notes in
           let u = stop.1 in
           at-place (drop from text) [] p (sym (append-nil (drop from text)))
-          (wrong-place _ p (subst (λ x. IsRefused p (with_offset (length text) (after (Err x) (entry_at S)))) stop.0 same)) (inl (goes-behind S (drop from text) (codes "\n") u.are))
+          (wrong-place _ p (subst (λ x. IsRefused p (with_offset (length text) (after (Err x) (entry_at S)))) stop.0 same)) (inl (goes-past S (drop from text) (codes "\n") u.are))
 
   pub place-reached : (p : ℕ) → length text < 2 ^ 32 → entry_from S text from ≡ Err (NotCoreText p) → IsReached S text from p
   place-reached p short e = reached p short (inl e)

@@ -21,12 +21,12 @@ no-record S rest short none = by (line_at S [] rest) (line-meets S rest short) (
     by m read is = of (subst (Meets (Read S rest) (Goes S) rest) is.0 read) is.1
       where
         of : Read S rest (RawFamilyOf none.0) none.1 → shows_record (length S.entries) none.0 ≡ false → IsNoRecord S rest
-        of line shows = record { raw = none.0; behind = none.1; over = line.1; line = line.0; none = shows }
+        of line shows = record { raw = none.0; past = none.1; over = line.1; line = line.0; none = shows }
 
 pub places-are-first : PlacesAreFirst
 places-are-first S text from p short le e =
     let reached = place-reached S text from le p short e in
-    record { reached = reached; told = by (places-told S text from p le e reached.behind reached.within) }
+    record { reached = reached; told = by (places-told S text from p le e reached.past reached.within) }
   where
     by : IsWrongCharacter S text from p ⊎ IsWrongName S text from p ⊎ ReadsNoRecord S (drop p text) → IsWrongCharacter S text from p ⊎ IsWrongName S text from p ⊎ IsNoRecord S (drop p text)
     by (inl character) = inl character

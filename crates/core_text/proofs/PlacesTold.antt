@@ -5,7 +5,7 @@ use Rattle.std.specs.Prelude.{◌==◌, not, if◌then◌else◌, Ok, Err, Resul
 use Rattle.std.proofs.lemmas.List.{take-append-drop, length-take-le, length-drop, take_at, drop_at}
 use Rattle.theory.specs.Signatures.{Signature}
 use Rattle.core_sig.specs.Raw.{RawFamily}
-use Rattle.core_text.specs.EntryReading.{behind_notes, shows_entry, shown_by, entry_at, next_entry, with_offset, entry_from}
+use Rattle.core_text.specs.EntryReading.{after_notes, shows_entry, shown_by, entry_at, next_entry, with_offset, entry_from}
 use Rattle.core_text.specs.LineReading.{line_at}
 use Rattle.core_text.specs.NameRuns.{run_len}
 use Rattle.core_text.specs.Places.{first_character, first_name, IsWrongCharacter, IsWrongName}
@@ -22,26 +22,26 @@ use Rattle.core_text.proofs.LinesAgree.{alike-line}
 
 -- The lines that begin with `#` are passed over before the same byte, or the last of them has no end.
 pub data NotesAt (inside : Bool) (rest : List ℕ) : Type 0 where
-  passed : (v r : List ℕ) → rest ≡ v ++ r → behind_notes inside rest ≡ Ok r → ((y : List ℕ) → take 1 r ≡ take 1 y → behind_notes inside (v ++ y) ≡ Ok y) → NotesAt inside rest
-  unended : behind_notes inside rest ≡ Err (Wrong 0) → NotesAt inside rest
+  passed : (v r : List ℕ) → rest ≡ v ++ r → after_notes inside rest ≡ Ok r → ((y : List ℕ) → take 1 r ≡ take 1 y → after_notes inside (v ++ y) ≡ Ok y) → NotesAt inside rest
+  unended : after_notes inside rest ≡ Err (Wrong 0) → NotesAt inside rest
 
 notes-at : (inside : Bool) (rest : List ℕ) → NotesAt inside rest
-notes-at false [] = passed [] [] refl refl (λ y same. subst (λ x. behind_notes false x ≡ Ok x) (sym (none-one y same)) refl)
+notes-at false [] = passed [] [] refl refl (λ y same. subst (λ x. after_notes false x ≡ Ok x) (sym (none-one y same)) refl)
 notes-at true [] = unended refl
 notes-at false (b ∷ rest) = by (b == 35) refl (notes-at true rest)
   where
-    here : (b == 35) ≡ false → (y : List ℕ) → take 1 (b ∷ rest) ≡ take 1 y → behind_notes false y ≡ Ok y
+    here : (b == 35) ≡ false → (y : List ℕ) → take 1 (b ∷ rest) ≡ take 1 y → after_notes false y ≡ Ok y
     here e [] same = refl
     here e (c ∷ y) same =
         let is : b ≡ c = cc in
-        ap (λ t. if t then behind_notes true y else Ok (c ∷ y)) (ap (λ x. x == 35) (sym is) ∙ e)
+        ap (λ t. if t then after_notes true y else Ok (c ∷ y)) (ap (λ x. x == 35) (sym is) ∙ e)
 
     by : (t : Bool) → (b == 35) ≡ t → NotesAt true rest → NotesAt false (b ∷ rest)
     by true e (passed v r is at again) =
-        passed (b ∷ v) r (ap (λ s. b ∷ s) is) (ap (λ t. if t then behind_notes true rest else Ok (b ∷ rest)) e ∙ at)
-        (λ y same. ap (λ t. if t then behind_notes true (v ++ y) else Ok (b ∷ (v ++ y))) e ∙ again y same)
-    by true e (unended at) = unended (ap (λ t. if t then behind_notes true rest else Ok (b ∷ rest)) e ∙ at)
-    by false e how = passed [] (b ∷ rest) refl (ap (λ t. if t then behind_notes true rest else Ok (b ∷ rest)) e) (here e)
+        passed (b ∷ v) r (ap (λ s. b ∷ s) is) (ap (λ t. if t then after_notes true rest else Ok (b ∷ rest)) e ∙ at)
+        (λ y same. ap (λ t. if t then after_notes true (v ++ y) else Ok (b ∷ (v ++ y))) e ∙ again y same)
+    by true e (unended at) = unended (ap (λ t. if t then after_notes true rest else Ok (b ∷ rest)) e ∙ at)
+    by false e how = passed [] (b ∷ rest) refl (ap (λ t. if t then after_notes true rest else Ok (b ∷ rest)) e) (here e)
 notes-at true (b ∷ rest) = by (notes-at (not (b == 10)) rest)
   where
     by : NotesAt (not (b == 10)) rest → NotesAt true (b ∷ rest)
@@ -53,7 +53,7 @@ notes-at true (b ∷ rest) = by (notes-at (not (b == 10)) rest)
 -- what the reader says of a family that shows no record
 abbrev pub ReadsNoRecord : Signature → List ℕ → Type 0
 ReadsNoRecord S rest =
-    (raw : RawFamily) × (behind : List ℕ) × (line_at S [] rest ≡ Ok (RawFamilyOf raw, behind)) × (shows_record (length S.entries) raw ≡ false)
+    (raw : RawFamily) × (past : List ℕ) × (line_at S [] rest ≡ Ok (RawFamilyOf raw, past)) × (shows_record (length S.entries) raw ≡ false)
 
 -- the rest of a text is refused
 pub data EntryRefused (S : Signature) (rest : List ℕ) (left : ℕ) : Type 0 where
@@ -88,7 +88,7 @@ entry-refused S rest left e = by (notes-at false rest)
     no-entry : (m : Reading (Option RawEntry)) → m ≡ Ok (None, []) → m ≡ Err (Wrong left) → ⊥
     no-entry m is stops = absurd (cc)
 
-    on : (v : List ℕ) (b : ℕ) (r : List ℕ) → rest ≡ v ++ b ∷ r → ((y : List ℕ) → take 1 (b ∷ r) ≡ take 1 y → behind_notes false (v ++ y) ≡ Ok y) → (m : Reading RawEntry) → line_at S [] (b ∷ r) ≡ m → Told true (line_at S []) (b ∷ r) m → shown_by (length S.entries) (b ∷ r) m ≡ Err (Wrong left) → EntryRefused S rest left
+    on : (v : List ℕ) (b : ℕ) (r : List ℕ) → rest ≡ v ++ b ∷ r → ((y : List ℕ) → take 1 (b ∷ r) ≡ take 1 y → after_notes false (v ++ y) ≡ Ok y) → (m : Reading RawEntry) → line_at S [] (b ∷ r) ≡ m → Told true (line_at S []) (b ∷ r) m → shown_by (length S.entries) (b ∷ r) m ≡ Err (Wrong left) → EntryRefused S rest left
     on v b r is again (Ok p) line t shown = at (shows_entry (length S.entries) p.0) refl shown
       where
         at : (c : Bool) → shows_entry (length S.entries) p.0 ≡ c → shown_if p.0 p.1 (b ∷ r) c ≡ Err (Wrong left) → EntryRefused S rest left
@@ -120,7 +120,7 @@ entry-refused S rest left e = by (notes-at false rest)
 -- the text before a place and after it
 record Cut (S : Signature) (text : List ℕ) (from p : ℕ) (front back : List ℕ) : Type 0 where
   before : take p text ≡ take from text ++ front
-  behind : drop p text ≡ back
+  past : drop p text ≡ back
 
 cut : (S : Signature) (text : List ℕ) (from p : ℕ) (front back : List ℕ) → from ≤ length text → drop from text ≡ front ++ back → p ≡ length text - length back → Cut S text from p front back
 cut S text from p front back le is place =
@@ -128,7 +128,7 @@ cut S text from p front back le is place =
     let whole : text ≡ start ++ back =
     sym (take-append-drop from text) ∙ (ap (λ s. take from text ++ s) is ∙ sym (append_assoc (take from text) front back)) in
     let size : length start ≡ p = omega (arith, ap length whole, length-append start back, place) in
-    record { before = ap (take p) whole ∙ take_at start back p size; behind = ap (drop p) whole ∙ drop_at start back p size }
+    record { before = ap (take p) whole ∙ take_at start back p size; past = ap (drop p) whole ∙ drop_at start back p size }
 
 -- another text that agrees is refused there
 again-at : (S : Signature) (text other : List ℕ) (from p : ℕ) (front back : List ℕ) → from ≤ length text → p ≤ length text → Cut S text from p front back → take p other ≡ take p text → next_entry S (front ++ drop p other) ≡ wrong (drop p other) → entry_from S other from ≡ Err (NotCoreText p)
@@ -149,15 +149,15 @@ place-told S text from p le within left place (refused_at front back is size ref
   where
     by : Cut S text from p front back → Refused (λ y. next_entry S (front ++ y)) back → IsWrongCharacter S text from p ⊎ IsWrongName S text from p ⊎ ReadsNoRecord S (drop p text)
     by c (by_character k) =
-        inl (λ other same character. again-at S text other from p front back le within c same (k (drop p other) (sym (character ∙ ap first_character c.behind))))
+        inl (λ other same character. again-at S text other from p front back le within c same (k (drop p other) (sym (character ∙ ap first_character c.past))))
     by c (by_name some k) =
         inr (inl (
-          subst (λ z. 0 < run_len z) (sym c.behind) some,
-          λ other same name. again-at S text other from p front back le within c same (k (drop p other) (sym (name ∙ ap first_name c.behind))),
+          subst (λ z. 0 < run_len z) (sym c.past) some,
+          λ other same name. again-at S text other from p front back le within c same (k (drop p other) (sym (name ∙ ap first_name c.past))),
         ))
 place-told S text from p le within left place (no_record front back is size reads) =
     let c = cut S text from p front back le is (place ∙ ap (λ k. length text - k) (sym size)) in
-    inr (inr (subst (ReadsNoRecord S) (sym c.behind) reads))
+    inr (inr (subst (ReadsNoRecord S) (sym c.past) reads))
 
 -- a refusal at an offset is one with so many bytes left
 record Left (S : Signature) (text : List ℕ) (from p : ℕ) : Type 0 where
@@ -182,4 +182,4 @@ left-of S text from p e = by (next_entry S (drop from text)) refl e
     }
 
 pub places-told : (S : Signature) (text : List ℕ) (from p : ℕ) → from ≤ length text → entry_from S text from ≡ Err (NotCoreText p) → from ≤ p → p ≤ length text → IsWrongCharacter S text from p ⊎ IsWrongName S text from p ⊎ ReadsNoRecord S (drop p text)
-places-told S text from p le e behind within = let l = left-of S text from p e in place-told S text from p le within l.left l.place l.refused
+places-told S text from p le e past within = let l = left-of S text from p e in place-told S text from p le within l.left l.place l.refused

@@ -5,14 +5,14 @@ use Rattle.std.specs.Str.{IsUtf8, is_utf8}
 use Rattle.std.proofs.lemmas.Str.{IsUtf8-from_is_utf8}
 use Rattle.std.proofs.lemmas.Bool.Decides.{nat_tests}
 use Rattle.std.proofs.lemmas.List.{drop_all}
-use Rattle.core_text.specs.NameRuns.{run_behind, run_len, name_char_len}
+use Rattle.core_text.specs.NameRuns.{run_after, run_len, name_char_len}
 
 pub no_utf8 : (bytes : List ℕ) → ¬ IsUtf8 bytes → is_utf8 bytes ≡ false
 no_utf8 bytes not_so =
     elim (is_utf8 bytes) as (λ b. is_utf8 bytes ≡ b → b ≡ false) [ true ↦ λ e. absurd (not_so (IsUtf8-from_is_utf8 bytes e)) | false ↦ λ e. refl ] refl
 
 -- what is passed over may be dropped
-run_skip : (k : ℕ) (bytes : List ℕ) → run_behind k bytes ≡ run_behind 0 (drop k bytes)
+run_skip : (k : ℕ) (bytes : List ℕ) → run_after k bytes ≡ run_after 0 (drop k bytes)
 run_skip zero bytes = refl
 run_skip (suc k) [] = refl
 run_skip (suc k) (b ∷ bytes) = run_skip k bytes

@@ -3,7 +3,7 @@ use Rattle.std.proofs.Common.{◌≡◌, ℕ, ◌+◌, Bool, true, List, ◌++�
 use Rattle.std.specs.Prelude.{codes}
 use Rattle.theory.specs.Terms.{Term, Sort, Pi, Lam, App, Let}
 use Rattle.theory.specs.Signatures.{Signature}
-use Rattle.core_text.specs.Reading.{Reading, and_then, after, behind}
+use Rattle.core_text.specs.Reading.{Reading, and_then, after, past}
 use Rattle.core_text.specs.Spellings.{IsTermOver}
 use Rattle.core_text.specs.TermText.{spelled, term_text}
 use Rattle.core_text.proofs.Completions.{Meets, IsFront, front-less, meets-then, meets-after}
@@ -95,7 +95,7 @@ module _ (T S : Signature) (own : Bool) where
       (λ x u. subst (λ y. IsFront V (text ++ y)) (sym u.1) (over u.0 u.2)) h (λ t r so. k t r so.0 so.1)
 
   -- The same after a word: a term is read after the word that stands after a text, and then more.
-  pub after-term : {B : Type 0} (Q : B → List ℕ → Type 0) (V : List ℕ → Type 0) (n : ℕ) (text word rest whole : List ℕ) (inner : List ℕ → Reading Term) (next : Term → List ℕ → Reading B) → whole ≡ text ++ rest → ((t : Term) → IsTermOver S own n t → IsFront V (text ++ (word ++ term_text T t))) → ((r : List ℕ) → Meets (ReadsTerm T S own n r) (IsText T S own n) r (inner r)) → ((t : Term) (r : List ℕ) → rest ≡ word ++ (term_text T t ++ r) → IsTermOver S own n t → Meets Q V whole (next t r)) → Meets Q V whole (and_then (after (behind word rest) inner) next)
+  pub after-term : {B : Type 0} (Q : B → List ℕ → Type 0) (V : List ℕ → Type 0) (n : ℕ) (text word rest whole : List ℕ) (inner : List ℕ → Reading Term) (next : Term → List ℕ → Reading B) → whole ≡ text ++ rest → ((t : Term) → IsTermOver S own n t → IsFront V (text ++ (word ++ term_text T t))) → ((r : List ℕ) → Meets (ReadsTerm T S own n r) (IsText T S own n) r (inner r)) → ((t : Term) (r : List ℕ) → rest ≡ word ++ (term_text T t ++ r) → IsTermOver S own n t → Meets Q V whole (next t r)) → Meets Q V whole (and_then (after (past word rest) inner) next)
   after-term Q V n text word rest whole inner next at over reads k =
       meets-after (ReadsTerm T S own n) Q (IsText T S own n) V text word rest whole inner next at
       (front-less V (text ++ word) (term_text T (Sort 0)) (subst (IsFront V) (sym (append_assoc text word (term_text T (Sort 0)))) (over (Sort 0) (over-sort S own n))))

@@ -9,7 +9,7 @@ use Rattle.theory.specs.Signatures.{Signature}
 use Rattle.theory.specs.SignatureScopes.{IsScoped}
 use Rattle.core_text.specs.NameRuns.{run_len}
 use Rattle.core_text.specs.Reading.{Reading, wrong, first, and_then, begins, is_digit, with_digit, index_from, read_index, read_level, level_from, one_digit, begins_level, is_left}
-use Rattle.core_text.specs.TermReading.{most, sort_levels, limited, closed_by, as_term, known, variable_at, sort_at, named, is_application, read_term, term_after, function_at, let_at, product_from, argument_of, behind_argument, arguments_from, spine_from, behind_first, enclosed_at}
+use Rattle.core_text.specs.TermReading.{most, sort_levels, limited, closed_by, as_term, known, variable_at, sort_at, named, is_application, read_term, term_after, function_at, let_at, product_from, argument_of, after_argument, arguments_from, spine_from, after_first, enclosed_at}
 use Rattle.core_text.specs.ReadLaws.{IsSymbol}
 use Rattle.core_text.specs.declared.halt.Halt.TheVariants.{Nested}
 use Rattle.core_text.proofs.Outcomes.{Ensures, ensures-then, ensures-if, ensures-after}
@@ -168,7 +168,7 @@ module _ (S : Signature) (bound : ℕ) (inner : ℕ → List ℕ → Reading Ter
   arguments-fit : (n k : ℕ) (f : Term) (rest : List ℕ) → IsScoped S n f → length rest ≤ bound → Ensures (Fits S n bound) (arguments_from inner k f n rest)
   arguments-fit n zero f rest scoped le = tt
   arguments-fit n (suc k) f rest scoped le =
-      ensures-then (Fits S n bound) (Fits S n bound) (argument_of inner f n rest) (behind_argument inner (λ t end. arguments_from inner k t n end)) (argument-fits n f rest scoped le)
+      ensures-then (Fits S n bound) (Fits S n bound) (argument_of inner f n rest) (after_argument inner (λ t end. arguments_from inner k t n end)) (argument-fits n f rest scoped le)
       (λ t r ft. ensures-if (Fits S n bound) (first r == 32) (arguments_from inner k t n (drop 1 r)) (closed_by t r)
       (λ e. arguments-fit n k t (drop 1 r) ft.scoped (drop-within 1 bound r ft.within))
       (λ e. closed-fits S n bound t r ft.scoped ft.within))
@@ -178,7 +178,7 @@ module _ (S : Signature) (bound : ℕ) (inner : ℕ → List ℕ → Reading Ter
       ensures-if (Fits S n bound) (is_application f) (wrong rest) (arguments_from inner most f n rest)
       (λ e. tt) (λ e. arguments-fit n most f rest scoped le)
 
-  first-fits : (n : ℕ) (a : Term) (rest : List ℕ) → IsScoped S n a → length rest ≤ bound → Ensures (Fits S n bound) (behind_first inner a n rest)
+  first-fits : (n : ℕ) (a : Term) (rest : List ℕ) → IsScoped S n a → length rest ≤ bound → Ensures (Fits S n bound) (after_first inner a n rest)
   first-fits n a rest scoped le =
       ensures-after (Fits S n bound) bound (codes " ") rest (λ r. if first r == 45 then product_from inner a n r else spine_from inner a n r) le
       (λ r within. ensures-if (Fits S n bound) (first r == 45) (product_from inner a n r) (spine_from inner a n r)
@@ -187,11 +187,11 @@ module _ (S : Signature) (bound : ℕ) (inner : ℕ → List ℕ → Reading Ter
   enclosed-fits : (n : ℕ) (rest : List ℕ) → length rest ≤ bound → Ensures (Fits S n bound) (enclosed_at inner n rest)
   enclosed-fits n rest le =
       ensures-if (Fits S n bound) (first rest == 92) (function_at inner n (drop 1 rest))
-      (if begins (codes "let ") rest then let_at inner n (drop 4 rest) else and_then (inner n rest) (λ a r. behind_first inner a n r))
+      (if begins (codes "let ") rest then let_at inner n (drop 4 rest) else and_then (inner n rest) (λ a r. after_first inner a n r))
       (λ e. function-fits n (drop 1 rest) (drop-within 1 bound rest le))
-      (λ e. ensures-if (Fits S n bound) (begins (codes "let ") rest) (let_at inner n (drop 4 rest)) (and_then (inner n rest) (λ a r. behind_first inner a n r))
+      (λ e. ensures-if (Fits S n bound) (begins (codes "let ") rest) (let_at inner n (drop 4 rest)) (and_then (inner n rest) (λ a r. after_first inner a n r))
       (λ e. let-fits n (drop 4 rest) (drop-within 4 bound rest le))
-      (λ e. ensures-then (Fits S n bound) (Fits S n bound) (inner n rest) (λ a r. behind_first inner a n r) (inside n rest le) (λ a r fa. first-fits n a r fa.scoped fa.within)))
+      (λ e. ensures-then (Fits S n bound) (Fits S n bound) (inner n rest) (λ a r. after_first inner a n r) (inside n rest le) (λ a r fa. first-fits n a r fa.scoped fa.within)))
 
 pub term-fits : (S : Signature) (look : List ℕ → Option Term) → AreSymbols S look → (room n bound : ℕ) (rest : List ℕ) → length rest ≤ bound → Ensures (Fits S n bound) (read_term look room n rest)
 term-fits S look are zero n bound rest le = tt

@@ -8,13 +8,13 @@ use Rattle.theory.specs.Terms.{Term, Var, Sort, Pi, Lam, App, Let, height}
 use Rattle.core_text.specs.Heads.{shared}
 use Rattle.core_text.specs.NameRuns.{run_len}
 use Rattle.core_text.specs.Reading.{Reading, wrong, first, and_then, after, begins, read_index, read_level}
-use Rattle.core_text.specs.TermReading.{most, sort_levels, limited, closed_by, as_term, known, variable_at, sort_at, named, is_application, read_term, term_at, term_after, function_at, let_at, product_from, argument_of, behind_argument, arguments_from, spine_from, behind_first, enclosed_at}
+use Rattle.core_text.specs.TermReading.{most, sort_levels, limited, closed_by, as_term, known, variable_at, sort_at, named, is_application, read_term, term_at, term_after, function_at, let_at, product_from, argument_of, after_argument, arguments_from, spine_from, after_first, enclosed_at}
 use Rattle.core_text.specs.declared.halt.Halt.TheVariants.{Memory, Nested, Wrong}
 use Rattle.core_text.proofs.Agreement.{Refused, by_character, by_name, Told, Alike, StaysAt, StartsAt, refused-map, told-within, stopped-within, alike-then}
 use Rattle.core_text.proofs.Characters.{Same, SameName, first-same, same-named}
 use Rattle.core_text.proofs.NamesAgree.{NameTells, goes_on, is_wrong, told-named}
 use Rattle.core_text.proofs.NumbersAgree.{led-same, alike-index, alike-level, alike-as}
-use Rattle.core_text.proofs.NumbersBack.{behind-word, begins-word}
+use Rattle.core_text.proofs.NumbersBack.{past-word, begins-word}
 use Rattle.core_text.proofs.RunSteps.{run_more}
 use Rattle.core_text.proofs.TermsBack.{some-char}
 use Rattle.core_text.proofs.WholeRuns.{letters, let-run}
@@ -91,9 +91,9 @@ let-same z y some same e =
     let three : run_len y ≡ 3 = ap run_len is ∙ let-run (drop 4 y) in
     let size : run_len z ≡ 3 = sym named.size ∙ three in
     let word : take 3 z ≡ codes "let" = ap (λ k. take k z) (sym size) ∙ (sym named.name ∙ (ap (λ k. take k y) three ∙ ap (take 3) is)) in
-    let behind_y : drop (run_len y) y ≡ 32 ∷ drop 4 y = ap (λ k. drop k y) three ∙ ap (drop 3) is in
+    let after_y : drop (run_len y) y ≡ 32 ∷ drop 4 y = ap (λ k. drop k y) three ∙ ap (drop 3) is in
     let space : Same (32 ∷ drop 4 y) (drop 3 z) =
-    subst (λ r. Same r (drop 3 z)) behind_y (subst (λ k. Same (drop (run_len y) y) (drop k z)) size (sym named.behind)) in
+    subst (λ r. Same r (drop 3 z)) after_y (subst (λ k. Same (drop (run_len y) y) (drop k z)) size (sym named.past)) in
     let more = drop 1 (drop 3 z) in
     let text : z ≡ codes "let " ++ more = sym (take-append-drop 3 z) ∙ ap₂ ◌++◌ word (led-same 32 (drop 4 y) (drop 3 z) space) in
     ap (begins (codes "let ")) text ∙ begins-word (codes "let ") more
@@ -161,7 +161,7 @@ module _ (inner : ℕ → List ℕ → Reading Term) (alike : (n : ℕ) → Alik
   alike-arguments : (k : ℕ) (f : Term) (n : ℕ) → Alike true (arguments_from inner k f n)
   alike-arguments zero f n = alike-nested true length
   alike-arguments (suc k) f n =
-      alike-then true (argument_of inner f n) (behind_argument inner more) (alike-argument f n)
+      alike-then true (argument_of inner f n) (after_argument inner more) (alike-argument f n)
       (λ t. record { told = λ rest. told-byte true 32 (more t) (closed_by t) rest (omega arith) (λ r is. (alike-arguments k t n).told r) (λ e. (alike-closed t).told rest) (λ no. absurd (cc)) })
       (λ t r. starts t r (first r == 32) refl) (λ t r no. absurd (cc))
     where
@@ -184,16 +184,16 @@ module _ (inner : ℕ → List ℕ → Reading Term) (alike : (n : ℕ) → Alik
     told = λ rest. told-first true 45 (product_from inner a n) (spine_from inner a n) rest (λ e. (alike-product a n).told rest) (λ e. (alike-spine a n).told rest) (λ no. absurd (cc)) (λ no. absurd (cc));
   }
 
-  alike-behind : (a : Term) (n : ℕ) → Alike true (behind_first inner a n)
-  alike-behind a n = alike-word true (codes " ") (arrow_or_spine a n) (alike-either a n)
+  alike-past : (a : Term) (n : ℕ) → Alike true (after_first inner a n)
+  alike-past a n = alike-word true (codes " ") (arrow_or_spine a n) (alike-either a n)
 
   -- a term and what stands after it in parentheses
   abbrev first_and_more : ℕ → List ℕ → Reading Term
-  first_and_more n rest = and_then (inner n rest) (λ a r. behind_first inner a n r)
+  first_and_more n rest = and_then (inner n rest) (λ a r. after_first inner a n r)
 
   alike-first : (n : ℕ) → Alike true (first_and_more n)
   alike-first n =
-      alike-then true (inner n) (λ a r. behind_first inner a n r) (alike n) (λ a. alike-behind a n)
+      alike-then true (inner n) (λ a r. after_first inner a n r) (alike n) (λ a. alike-past a n)
       (λ a r. word-starts 32 [] (arrow_or_spine a n) r (omega arith)) (λ a r no. absurd (cc))
 
   -- ---- `let ` is told from the names that begin so
@@ -207,10 +207,10 @@ module _ (inner : ℕ → List ℕ → Reading Term) (alike : (n : ℕ) → Alik
       within a (Err (Nested left)) t = tt
       within a (Err Memory) t = tt
 
-      by : (m : Reading Term) → LetAt x m → LetThen x (and_then m (λ a r. behind_first inner a n r))
+      by : (m : Reading Term) → LetAt x m → LetThen x (and_then m (λ a r. after_first inner a n r))
       by (Ok p) is =
-          subst (λ r. LetThen x (behind_first inner p.0 n r)) (sym is)
-          (subst (λ m. LetThen x (after m (arrow_or_spine p.0 n))) (sym (behind-word (codes " ") x)) (within p.0 (arrow_or_spine p.0 n x) ((alike-either p.0 n).told x)))
+          subst (λ r. LetThen x (after_first inner p.0 n r)) (sym is)
+          (subst (λ m. LetThen x (after m (arrow_or_spine p.0 n))) (sym (past-word (codes " ") x)) (within p.0 (arrow_or_spine p.0 n x) ((alike-either p.0 n).told x)))
       by (Err (Wrong left)) is = inr is
       by (Err (Nested left)) is = tt
       by (Err Memory) is = tt

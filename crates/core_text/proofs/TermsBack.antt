@@ -15,10 +15,10 @@ use Rattle.core_text.specs.NameRuns.{width, are_name_chars, name_char_len, run_l
 use Rattle.core_text.specs.ReadBack.{Stops, IsSpelled, AreSpelled, TermsAreReadBack}
 use Rattle.core_text.specs.Reading.{Reading, wrong, first, and_then, after, begins, is_left, read_index, read_level}
 use Rattle.core_text.specs.SymbolNames.{name_at, constructor_name_at, eliminator_name, axiom_k_name}
-use Rattle.core_text.specs.TermReading.{most, sort_levels, limited, closed_by, as_term, known, sort_at, named, is_application, read_term, term_after, function_at, let_at, product_from, behind_argument, arguments_from, spine_from, behind_first, enclosed_at}
+use Rattle.core_text.specs.TermReading.{most, sort_levels, limited, closed_by, as_term, known, sort_at, named, is_application, read_term, term_after, function_at, let_at, product_from, after_argument, arguments_from, spine_from, after_first, enclosed_at}
 use Rattle.core_text.specs.TermText.{spelled, term_text, spaced}
 use Rattle.core_text.specs.declared.halt.Halt.TheVariants.{Nested}
-use Rattle.core_text.proofs.NumbersBack.{drop-word, begins-word, behind-word, index-back, level-back}
+use Rattle.core_text.proofs.NumbersBack.{drop-word, begins-word, past-word, index-back, level-back}
 use Rattle.core_text.proofs.RunSteps.{run_more, run_end}
 use Rattle.core_text.proofs.SpineTexts.{spelled-alone, spelled-applied}
 use Rattle.core_text.proofs.TermSteps.{term_named}
@@ -119,7 +119,7 @@ sort-back : (look : List ℕ → Option Term) (i room n : ℕ) (rest : List ℕ)
 sort-back look i room n rest le stops =
     term_named look (suc room) n (84 ∷ 121 ∷ 112 ∷ 101 ∷ 32 ∷ (decimal i ++ rest)) (omega arith) refl refl
     ∙ (ap (λ k. named look k (84 ∷ 121 ∷ 112 ∷ 101 ∷ 32 ∷ (decimal i ++ rest))) (type-run (decimal i ++ rest))
-    ∙ (ap (λ m. after m (λ r. as_term Sort (read_level sort_levels r))) (behind-word (codes " ") (decimal i ++ rest))
+    ∙ (ap (λ m. after m (λ r. as_term Sort (read_level sort_levels r))) (past-word (codes " ") (decimal i ++ rest))
     ∙ ap (as_term Sort) (level-back sort_levels i rest (omega arith) (sort-left i le) stops.digit)))
 
 -- ---- the ends of forms
@@ -129,7 +129,7 @@ limited-back t rest low =
     let is : nat_le (height t) 2000 ≡ true = grind (arith, nat_tests) in ap (λ c. if c then Ok (t, rest) else Err (Nested (length rest))) is
 
 closed-back : (t : Term) (rest : List ℕ) → height t ≤ 2000 → closed_by t (41 ∷ rest) ≡ Ok (t, rest)
-closed-back t rest low = ap (λ m. after m (limited t)) (behind-word (codes ")") rest) ∙ limited-back t rest low
+closed-back t rest low = ap (λ m. after m (limited t)) (past-word (codes ")") rest) ∙ limited-back t rest low
 
 -- ---- compound terms, where `inner` reads back what stands inside
 
@@ -145,7 +145,7 @@ ReadsBack S look room inner =
 module _ (S : Signature) (look : List ℕ → Option Term) (room : ℕ) (inner : ℕ → List ℕ → Reading Term) (back : ReadsBack S look room inner) where
   -- a term after a word
   after-back : (word : List ℕ) (t : Term) (n : ℕ) (rest : List ℕ) → IsFit S look room n t → height t ≤ 2000 → Stops rest → term_after inner word n (word ++ (term_text S t ++ rest)) ≡ Ok (t, rest)
-  after-back word t n rest fit low stops = ap (λ m. after m (inner n)) (behind-word word (term_text S t ++ rest)) ∙ back t n rest fit low stops
+  after-back word t n rest fit low stops = ap (λ m. after m (inner n)) (past-word word (term_text S t ++ rest)) ∙ back t n rest fit low stops
 
   function-back : (a b : Term) (n : ℕ) (rest : List ℕ) → IsFit S look room n a → IsFit S look room (n + 1) b → height (Lam a b) ≤ 2000 → function_at inner n (term_text S a ++ (codes " . " ++ (term_text S b ++ 41 ∷ rest))) ≡ Ok (Lam a b, rest)
   function-back a b n rest fa fb low =
@@ -164,17 +164,17 @@ module _ (S : Signature) (look : List ℕ → Option Term) (room : ℕ) (inner :
       ∙ closed-back (Let a t b) rest low))
 
   -- after the parenthesis of a product or an application
-  open-back : (a : Term) (n : ℕ) (rest : List ℕ) → IsFit S look room n a → height a ≤ 2000 → enclosed_at inner n (term_text S a ++ 32 ∷ rest) ≡ behind_first inner a n (32 ∷ rest)
+  open-back : (a : Term) (n : ℕ) (rest : List ℕ) → IsFit S look room n a → height a ≤ 2000 → enclosed_at inner n (term_text S a ++ 32 ∷ rest) ≡ after_first inner a n (32 ∷ rest)
   open-back a n rest fa low =
       let starts = text-begins S look a fa.spelled in
       let bytes = term_text S a ++ 32 ∷ rest in
-      ap₂ (λ c d. if c then function_at inner n (drop 1 bytes) else (if d then let_at inner n (drop 4 bytes) else and_then (inner n bytes) (λ a r. behind_first inner a n r))) (starts.no_function (32 ∷ rest)) (starts.no_let (32 ∷ rest) (stops-space rest))
-      ∙ ap (λ m. and_then m (λ a r. behind_first inner a n r)) (back a n (32 ∷ rest) fa low (stops-space rest))
+      ap₂ (λ c d. if c then function_at inner n (drop 1 bytes) else (if d then let_at inner n (drop 4 bytes) else and_then (inner n bytes) (λ a r. after_first inner a n r))) (starts.no_function (32 ∷ rest)) (starts.no_let (32 ∷ rest) (stops-space rest))
+      ∙ ap (λ m. and_then m (λ a r. after_first inner a n r)) (back a n (32 ∷ rest) fa low (stops-space rest))
 
   product-back : (a b : Term) (n : ℕ) (rest : List ℕ) → IsFit S look room n a → IsFit S look room (n + 1) b → height (Pi a b) ≤ 2000 → enclosed_at inner n (term_text S a ++ (codes " -> " ++ (term_text S b ++ 41 ∷ rest))) ≡ Ok (Pi a b, rest)
   product-back a b n rest fa fb low =
       open-back a n (codes "-> " ++ (term_text S b ++ 41 ∷ rest)) fa (omega arith)
-      ∙ (ap (λ m. after m (λ r. if first r == 45 then product_from inner a n r else spine_from inner a n r)) (behind-word (codes " ") (codes "-> " ++ (term_text S b ++ 41 ∷ rest)))
+      ∙ (ap (λ m. after m (λ r. if first r == 45 then product_from inner a n r else spine_from inner a n r)) (past-word (codes " ") (codes "-> " ++ (term_text S b ++ 41 ∷ rest)))
       ∙ (ap (λ m. and_then m (λ b end. closed_by (Pi a b) end)) (after-back (codes "-> ") b (n + 1) (41 ∷ rest) fb (omega arith) (stops-close rest))
       ∙ closed-back (Pi a b) rest low))
 
@@ -185,15 +185,15 @@ module _ (S : Signature) (look : List ℕ → Option Term) (room : ℕ) (inner :
   arguments-back : (f a : Term) (spine : List Term) (k n : ℕ) (rest : List ℕ) → IsFit S look room n a → All (IsFit S look room n) spine → length spine < k → height (applied (App f a) spine) ≤ 2000 → arguments_from inner k f n (term_text S a ++ (spaced S spine ++ 41 ∷ rest)) ≡ Ok (applied (App f a) spine, rest)
   arguments-back f a spine zero n rest fit all few low = absurd (omega arith)
   arguments-back f a [] (suc k) n rest fit all few low =
-      ap (λ m. and_then (and_then m (λ a r. limited (App f a) r)) (behind_argument inner (λ t end. arguments_from inner k t n end))) (back a n (41 ∷ rest) fit (omega arith) (stops-close rest))
-      ∙ (ap (λ m. and_then m (behind_argument inner (λ t end. arguments_from inner k t n end))) (limited-back (App f a) (41 ∷ rest) low)
+      ap (λ m. and_then (and_then m (λ a r. limited (App f a) r)) (after_argument inner (λ t end. arguments_from inner k t n end))) (back a n (41 ∷ rest) fit (omega arith) (stops-close rest))
+      ∙ (ap (λ m. and_then m (after_argument inner (λ t end. arguments_from inner k t n end))) (limited-back (App f a) (41 ∷ rest) low)
       ∙ closed-back (App f a) rest low)
   arguments-back f a (c ∷ spine) (suc k) n rest fit all few low =
       let more = height-more (App f a) (c ∷ spine) in
       let tail = term_text S c ++ (spaced S spine ++ 41 ∷ rest) in
       ap (λ r. arguments_from inner (suc k) f n (term_text S a ++ 32 ∷ r)) (append_assoc (term_text S c) (spaced S spine) (41 ∷ rest))
-      ∙ (ap (λ m. and_then (and_then m (λ a r. limited (App f a) r)) (behind_argument inner (λ t end. arguments_from inner k t n end))) (back a n (32 ∷ tail) fit (omega arith) (stops-space tail))
-      ∙ (ap (λ m. and_then m (behind_argument inner (λ t end. arguments_from inner k t n end))) (limited-back (App f a) (32 ∷ tail) (omega arith))
+      ∙ (ap (λ m. and_then (and_then m (λ a r. limited (App f a) r)) (after_argument inner (λ t end. arguments_from inner k t n end))) (back a n (32 ∷ tail) fit (omega arith) (stops-space tail))
+      ∙ (ap (λ m. and_then m (after_argument inner (λ t end. arguments_from inner k t n end))) (limited-back (App f a) (32 ∷ tail) (omega arith))
       ∙ arguments-back (App f a) c spine k n rest (All-head (IsFit S look room n) c spine all) (All-tail (IsFit S look room n) c spine all) (omega arith) low))
 
   application-back : (h a : Term) (spine : List Term) (n : ℕ) (rest : List ℕ) → is_application h ≡ false → IsFit S look room n h → IsFit S look room n a → All (IsFit S look room n) spine → height (applied (App h a) spine) ≤ 2000 → enclosed_at inner n (term_text S h ++ (spaced S (a ∷ spine) ++ 41 ∷ rest)) ≡ Ok (applied (App h a) spine, rest)
@@ -203,7 +203,7 @@ module _ (S : Signature) (look : List ℕ → Option Term) (room : ℕ) (inner :
       let starts = text-begins S look a fa.spelled in
       ap (λ r. enclosed_at inner n (term_text S h ++ 32 ∷ r)) (append_assoc (term_text S a) (spaced S spine) (41 ∷ rest))
       ∙ (open-back h n tail fh (omega arith)
-      ∙ (ap (λ m. after m (λ r. if first r == 45 then product_from inner h n r else spine_from inner h n r)) (behind-word (codes " ") tail)
+      ∙ (ap (λ m. after m (λ r. if first r == 45 then product_from inner h n r else spine_from inner h n r)) (past-word (codes " ") tail)
       ∙ (ap (λ c. if c then product_from inner h n tail else spine_from inner h n tail) (starts.no_arrow (spaced S spine ++ 41 ∷ rest))
       ∙ (ap (λ c. if c then wrong tail else arguments_from inner most h n tail) head
       ∙ arguments-back h a spine most n rest fa all (omega arith) low))))
@@ -284,7 +284,7 @@ backslash inner n rest = refl
 
 pub let-word : (inner : ℕ → List ℕ → Reading Term) (n : ℕ) (rest : List ℕ) → enclosed_at inner n (codes "let " ++ rest) ≡ let_at inner n rest
 let-word inner n rest =
-    ap (λ c. if c then let_at inner n rest else and_then (inner n (codes "let " ++ rest)) (λ a r. behind_first inner a n r)) (begins-word (codes "let ") rest)
+    ap (λ c. if c then let_at inner n rest else and_then (inner n (codes "let " ++ rest)) (λ a r. after_first inner a n r)) (begins-word (codes "let ") rest)
 
 enclosed-form : (look : List ℕ → Option Term) (room n : ℕ) (text rest : List ℕ) (m : Reading Term) → text ≡ 40 ∷ rest → enclosed_at (read_term look room) n rest ≡ m → read_term look (suc room) n text ≡ m
 enclosed-form look room n text rest m is e = ap (read_term look (suc room) n) is ∙ (paren look room n rest ∙ e)

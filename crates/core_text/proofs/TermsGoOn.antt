@@ -7,10 +7,10 @@ use Rattle.theory.specs.Signatures.{Signature}
 use Rattle.core_text.specs.NameRuns.{run_len}
 use Rattle.core_text.specs.Reading.{Reading, wrong, first, and_then, begins, read_index, is_left, read_level}
 use Rattle.core_text.specs.Spellings.{IsTermOver}
-use Rattle.core_text.specs.TermReading.{most, sort_levels, limited, closed_by, as_term, known, variable_at, sort_at, named, is_application, read_term, term_after, function_at, let_at, product_from, argument_of, behind_argument, arguments_from, spine_from, behind_first, enclosed_at}
+use Rattle.core_text.specs.TermReading.{most, sort_levels, limited, closed_by, as_term, known, variable_at, sort_at, named, is_application, read_term, term_after, function_at, let_at, product_from, argument_of, after_argument, arguments_from, spine_from, after_first, enclosed_at}
 use Rattle.core_text.specs.TermText.{spelled, term_text}
 use Rattle.core_text.specs.declared.halt.Halt.TheVariants.{Memory, Nested, Wrong}
-use Rattle.core_text.proofs.Completions.{Meets, IsFront, whole-front, front-less, begun-behind, meets-if, meets-wrong, meets-deep, meets-then, meets-word}
+use Rattle.core_text.proofs.Completions.{Meets, IsFront, whole-front, front-less, begun-past, meets-if, meets-wrong, meets-deep, meets-then, meets-word}
 use Rattle.core_text.proofs.NumbersGoOn.{index-meets, level-text-meets, left-below}
 use Rattle.core_text.proofs.SymbolsRead.{same-bytes}
 use Rattle.core_text.proofs.SpineTexts.{spelled-alone}
@@ -29,11 +29,11 @@ as_term-meets : (T S : Signature) (own : Bool) (n : ℕ) (text rest whole : List
 as_term-meets T S own n text rest whole form Is (Ok p) at spells over h =
     (at ∙ (ap (λ s. text ++ s) h.0 ∙ (sym (append_assoc text (decimal p.0) p.1) ∙ ap (λ s. s ++ p.1) (spells p.0))), over p.0 h.1)
 as_term-meets T S own n text rest whole form Is (Err (Wrong left)) at spells over h =
-    begun-behind (λ x. (v : ℕ) × (x ≡ decimal v) × Is v) (IsText T S own n) text rest whole left at
+    begun-past (λ x. (v : ℕ) × (x ≡ decimal v) × Is v) (IsText T S own n) text rest whole left at
     (λ x u. whole-front (IsText T S own n) (text ++ x) (form u.0, ap (λ s. text ++ s) u.1 ∙ spells u.0, over u.0 u.2)) h
 as_term-meets T S own n text rest whole form Is (Err Memory) at spells over h = tt
 as_term-meets T S own n text rest whole form Is (Err (Nested left)) at spells over h =
-    begun-behind (λ x. (v : ℕ) × (x ≡ decimal v) × Is v) (IsText T S own n) text rest whole left at
+    begun-past (λ x. (v : ℕ) × (x ≡ decimal v) × Is v) (IsText T S own n) text rest whole left at
     (λ x u. whole-front (IsText T S own n) (text ++ x) (form u.0, ap (λ s. text ++ s) u.1 ∙ spells u.0, over u.0 u.2)) h
 
 sort-meets : (T S : Signature) (own : Bool) (n : ℕ) (rest whole : List ℕ) → whole ≡ codes "Type" ++ rest → Meets (ReadsTerm T S own n whole) (IsText T S own n) whole (sort_at rest)
@@ -132,7 +132,7 @@ module _ (T S : Signature) (own : Bool) (bound : ℕ) (inner : ℕ → List ℕ 
       meets-deep (ReadsTerm T S own n whole) (IsText T S own n) (codes "(" ++ (spelled T true f ++ codes " ")) rest whole (at ∙ simp append_assoc)
       (front-less (IsText T S own n) (codes "(" ++ (spelled T true f ++ codes " ")) (term_text T (Sort 0)) (app-front T S own n f (Sort 0) of (over-sort S own n)))
   arguments-meet n (suc k) f rest whole le of at =
-      meets-then (Opens n whole) (ReadsTerm T S own n whole) (IsText T S own n) (IsText T S own n) [] whole whole (argument_of inner f n rest) (behind_argument inner (λ t end. arguments_from inner k t n end)) refl
+      meets-then (Opens n whole) (ReadsTerm T S own n whole) (IsText T S own n) (IsText T S own n) [] whole whole (argument_of inner f n rest) (after_argument inner (λ t end. arguments_from inner k t n end)) refl
       (whole-front (IsText T S own n)) (argument-meets n f rest whole le of at)
       (λ t r ft. meets-if (ReadsTerm T S own n whole) (IsText T S own n) whole (first r == 32) (arguments_from inner k t n (drop 1 r)) (closed_by t r)
       (λ e. arguments-meet n k t (drop 1 r) whole le ft.2 (ft.1 ∙ ap (λ s. codes "(" ++ (spelled T true t ++ s)) (first-is 32 r (omega arith) e)))
@@ -144,7 +144,7 @@ module _ (T S : Signature) (own : Bool) (bound : ℕ) (inner : ℕ → List ℕ 
       (λ e. meets-wrong (ReadsTerm T S own n whole) (IsText T S own n) (codes "(" ++ (term_text T f ++ codes " ")) rest whole (at ∙ simp append_assoc) (pi-front T S own n f of))
       (λ e. arguments-meet n most f rest whole le of (at ∙ ap (λ s. codes "(" ++ (s ++ (codes " " ++ rest))) (sym (spelled-alone T f e))))
 
-  first-meets : (n : ℕ) (a : Term) (rest whole : List ℕ) → n ≤ bound → IsTermOver S own n a → whole ≡ codes "(" ++ (term_text T a ++ rest) → Meets (ReadsTerm T S own n whole) (IsText T S own n) whole (behind_first inner a n rest)
+  first-meets : (n : ℕ) (a : Term) (rest whole : List ℕ) → n ≤ bound → IsTermOver S own n a → whole ≡ codes "(" ++ (term_text T a ++ rest) → Meets (ReadsTerm T S own n whole) (IsText T S own n) whole (after_first inner a n rest)
   first-meets n a rest whole le oa at =
       meets-word (ReadsTerm T S own n whole) (IsText T S own n) (codes "(" ++ term_text T a) (codes " ") rest whole (λ r. if first r == 45 then product_from inner a n r else spine_from inner a n r) at (pi-front T S own n a oa)
       (λ r is. by r (at ∙ ap (λ s. codes "(" ++ (term_text T a ++ s)) is))
@@ -157,11 +157,11 @@ module _ (T S : Signature) (own : Bool) (bound : ℕ) (inner : ℕ → List ℕ 
   enclosed-meets : (n : ℕ) (rest whole : List ℕ) → n ≤ bound → whole ≡ codes "(" ++ rest → Meets (ReadsTerm T S own n whole) (IsText T S own n) whole (enclosed_at inner n rest)
   enclosed-meets n rest whole le at =
       meets-if (ReadsTerm T S own n whole) (IsText T S own n) whole (first rest == 92) (function_at inner n (drop 1 rest))
-      (if begins (codes "let ") rest then let_at inner n (drop 4 rest) else and_then (inner n rest) (λ a r. behind_first inner a n r))
+      (if begins (codes "let ") rest then let_at inner n (drop 4 rest) else and_then (inner n rest) (λ a r. after_first inner a n r))
       (λ e. function-meets n (drop 1 rest) whole le (at ∙ ap (λ s. codes "(" ++ s) (first-is 92 rest (omega arith) e)))
-      (λ e. meets-if (ReadsTerm T S own n whole) (IsText T S own n) whole (begins (codes "let ") rest) (let_at inner n (drop 4 rest)) (and_then (inner n rest) (λ a r. behind_first inner a n r))
+      (λ e. meets-if (ReadsTerm T S own n whole) (IsText T S own n) whole (begins (codes "let ") rest) (let_at inner n (drop 4 rest)) (and_then (inner n rest) (λ a r. after_first inner a n r))
       (λ e. let-meets n (drop 4 rest) whole le (at ∙ ap (λ s. codes "(" ++ s) (word-is (codes "let ") rest e)))
-      (λ e. then-term T S own (ReadsTerm T S own n whole) (IsText T S own n) n (codes "(") rest whole (inner n rest) (λ a r. behind_first inner a n r) at
+      (λ e. then-term T S own (ReadsTerm T S own n whole) (IsText T S own n) n (codes "(") rest whole (inner n rest) (λ a r. after_first inner a n r) at
       (λ a oa. front-less (IsText T S own n) (codes "(" ++ term_text T a) (codes " ") (pi-front T S own n a oa)) (inside n rest (omega arith))
       (λ a r fa oa. first-meets n a r whole le oa (at ∙ ap (λ s. codes "(" ++ s) fa))))
 

@@ -6,7 +6,7 @@ use Rattle.theory.specs.Terms.{Term, Var, Sort, Pi, Lam, App, Let, Const, Fam, C
 use Rattle.theory.specs.Signatures.{Signature}
 use Rattle.core_text.specs.NameRuns.{run_len}
 use Rattle.core_text.specs.Reading.{Reading, wrong, first, and_then, begins, read_index, read_level}
-use Rattle.core_text.specs.TermReading.{most, sort_levels, limited, closed_by, as_term, known, variable_at, sort_at, named, is_application, read_term, term_after, function_at, let_at, product_from, argument_of, behind_argument, arguments_from, spine_from, behind_first, enclosed_at}
+use Rattle.core_text.specs.TermReading.{most, sort_levels, limited, closed_by, as_term, known, variable_at, sort_at, named, is_application, read_term, term_after, function_at, let_at, product_from, argument_of, after_argument, arguments_from, spine_from, after_first, enclosed_at}
 use Rattle.core_text.specs.TermText.{spelled, term_text}
 use Rattle.core_text.specs.declared.halt.Halt.TheVariants.{Nested}
 use Rattle.core_text.proofs.Outcomes.{Ensures, ensures-then, ensures-if}
@@ -153,7 +153,7 @@ module _ (T : Signature) (bound : ℕ) (inner : ℕ → List ℕ → Reading Ter
   arguments-write : (n k : ℕ) (f : Term) (rest : List ℕ) → n ≤ bound → Ensures (Closes (spelled T true f ++ (codes " " ++ rest))) (arguments_from inner k f n rest)
   arguments-write n zero f rest le = tt
   arguments-write n (suc k) f rest le =
-      ensures-then (λ t r. (is_application t ≡ true) × (spelled T true f ++ (codes " " ++ rest) ≡ spelled T true t ++ r)) (Closes (spelled T true f ++ (codes " " ++ rest))) (argument_of inner f n rest) (behind_argument inner (λ t end. arguments_from inner k t n end)) (argument-writes n f rest le)
+      ensures-then (λ t r. (is_application t ≡ true) × (spelled T true f ++ (codes " " ++ rest) ≡ spelled T true t ++ r)) (Closes (spelled T true f ++ (codes " " ++ rest))) (argument_of inner f n rest) (after_argument inner (λ t end. arguments_from inner k t n end)) (argument-writes n f rest le)
       (λ t r ft. ensures-if (Closes (spelled T true f ++ (codes " " ++ rest))) (first r == 32) (arguments_from inner k t n (drop 1 r)) (closed_by t r)
       (λ e. longer (spelled T true f ++ (codes " " ++ rest)) (spelled T true t ++ (codes " " ++ drop 1 r)) (ft.1 ∙ ap (λ s. spelled T true t ++ s) (first-is 32 r (omega arith) e)) (arguments_from inner k t n (drop 1 r)) (arguments-write n k t (drop 1 r) le))
       (λ e. ended (spelled T true f ++ (codes " " ++ rest)) t r ft.0 ft.1 (closed_by t r) (closed-ends t r)))
@@ -188,7 +188,7 @@ module _ (T : Signature) (bound : ℕ) (inner : ℕ → List ℕ → Reading Ter
       by alone (Ok p) so = ap (λ s. codes "(" ++ (s ++ (codes " " ++ rest))) (sym (spelled-alone T f alone)) ∙ (ap (λ s. codes "(" ++ s) so.1 ∙ enclosed-text p.0 p.1 so.0)
       by alone (Err e) so = tt
 
-  first-writes : (n : ℕ) (a : Term) (rest : List ℕ) → n ≤ bound → Ensures (Writes T (codes "(" ++ (term_text T a ++ rest))) (behind_first inner a n rest)
+  first-writes : (n : ℕ) (a : Term) (rest : List ℕ) → n ≤ bound → Ensures (Writes T (codes "(" ++ (term_text T a ++ rest))) (after_first inner a n rest)
   first-writes n a rest le =
       ensures-word (Writes T (codes "(" ++ (term_text T a ++ rest))) (codes " ") rest (λ r. if first r == 45 then product_from inner a n r else spine_from inner a n r)
       (λ r is. ensures-same T (codes "(" ++ (term_text T a ++ rest)) (codes "(" ++ (term_text T a ++ (codes " " ++ r))) (if first r == 45 then product_from inner a n r else spine_from inner a n r) (ap (λ s. codes "(" ++ (term_text T a ++ s)) is)
@@ -198,12 +198,12 @@ module _ (T : Signature) (bound : ℕ) (inner : ℕ → List ℕ → Reading Ter
   enclosed-writes : (n : ℕ) (rest : List ℕ) → n ≤ bound → Ensures (Writes T (codes "(" ++ rest)) (enclosed_at inner n rest)
   enclosed-writes n rest le =
       ensures-if (Writes T (codes "(" ++ rest)) (first rest == 92) (function_at inner n (drop 1 rest))
-      (if begins (codes "let ") rest then let_at inner n (drop 4 rest) else and_then (inner n rest) (λ a r. behind_first inner a n r))
+      (if begins (codes "let ") rest then let_at inner n (drop 4 rest) else and_then (inner n rest) (λ a r. after_first inner a n r))
       (λ e. ensures-same T (codes "(" ++ rest) (codes "(\\" ++ drop 1 rest) (function_at inner n (drop 1 rest)) (ap (λ s. codes "(" ++ s) (first-is 92 rest (omega arith) e)) (function-writes n (drop 1 rest) le))
-      (λ e. ensures-if (Writes T (codes "(" ++ rest)) (begins (codes "let ") rest) (let_at inner n (drop 4 rest)) (and_then (inner n rest) (λ a r. behind_first inner a n r))
+      (λ e. ensures-if (Writes T (codes "(" ++ rest)) (begins (codes "let ") rest) (let_at inner n (drop 4 rest)) (and_then (inner n rest) (λ a r. after_first inner a n r))
       (λ e. ensures-same T (codes "(" ++ rest) (codes "(let " ++ drop 4 rest) (let_at inner n (drop 4 rest)) (ap (λ s. codes "(" ++ s) (word-is (codes "let ") rest e)) (let-writes n (drop 4 rest) le))
-      (λ e. ensures-then (Writes T rest) (Writes T (codes "(" ++ rest)) (inner n rest) (λ a r. behind_first inner a n r) (inside n rest (omega arith))
-      (λ a r fa. ensures-same T (codes "(" ++ rest) (codes "(" ++ (term_text T a ++ r)) (behind_first inner a n r) (ap (λ s. codes "(" ++ s) fa) (first-writes n a r le))))
+      (λ e. ensures-then (Writes T rest) (Writes T (codes "(" ++ rest)) (inner n rest) (λ a r. after_first inner a n r) (inside n rest (omega arith))
+      (λ a r fa. ensures-same T (codes "(" ++ rest) (codes "(" ++ (term_text T a ++ r)) (after_first inner a n r) (ap (λ s. codes "(" ++ s) fa) (first-writes n a r le))))
 
 -- a term is read inside `room` others, so that at most as many binders are opened
 pub term-writes : (T : Signature) (look : List ℕ → Option Term) → WritesNames T look → (room n : ℕ) (rest : List ℕ) → n + room ≤ 2 ^ 64 → Ensures (Writes T rest) (read_term look room n rest)

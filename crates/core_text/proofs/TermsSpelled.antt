@@ -11,10 +11,10 @@ use Rattle.theory.proofs.Spines.{applied-spine}
 use Rattle.core_text.specs.ReadBack.{Stops, AreSpelled}
 use Rattle.core_text.specs.Reading.{Reading, wrong, first, and_then, after}
 use Rattle.core_text.specs.SymbolNames.{name_at, constructor_name_at, eliminator_name, axiom_k_name}
-use Rattle.core_text.specs.TermReading.{most, limited, closed_by, is_application, read_term, term_after, function_at, let_at, product_from, behind_argument, arguments_from, spine_from, behind_first, enclosed_at}
+use Rattle.core_text.specs.TermReading.{most, limited, closed_by, is_application, read_term, term_after, function_at, let_at, product_from, after_argument, arguments_from, spine_from, after_first, enclosed_at}
 use Rattle.core_text.specs.TermText.{term_text, spaced}
 use Rattle.core_text.proofs.Depths.{OrNested, is_read, is_nested, or-same, or-then, or-other, or-limited, or-closed}
-use Rattle.core_text.proofs.NumbersBack.{behind-word}
+use Rattle.core_text.proofs.NumbersBack.{past-word}
 use Rattle.core_text.proofs.TermsBack.{stops-space, stops-close, text-begins, symbol-back, variable-form, sort-form, paren, backslash, let-word, head-no-application, Split, split-push, application-whole, application-text, product-text, function-text, let-text}
 
 -- ---- compound terms, where `inner` reads what stands inside unless it is too deep or too high
@@ -33,7 +33,7 @@ module _ (S : Signature) (look : List ℕ → Option Term) (inner : ℕ → List
   -- a term after a word
   after-spelled : (word : List ℕ) (t : Term) (n : ℕ) (rest : List ℕ) → IsSpelledTerm S look n t → Stops rest → OrNested (Unit {0}) (term_after inner word n (word ++ (term_text S t ++ rest))) t rest
   after-spelled word t n rest fit stops =
-      or-same (term_after inner word n (word ++ (term_text S t ++ rest))) (inner n (term_text S t ++ rest)) (ap (λ m. after m (inner n)) (behind-word word (term_text S t ++ rest))) (back t n rest fit stops)
+      or-same (term_after inner word n (word ++ (term_text S t ++ rest))) (inner n (term_text S t ++ rest)) (ap (λ m. after m (inner n)) (past-word word (term_text S t ++ rest))) (back t n rest fit stops)
 
   function-spelled : (a b : Term) (n : ℕ) (rest : List ℕ) → IsSpelledTerm S look n a → IsSpelledTerm S look (n + 1) b → OrNested (Unit {0}) (function_at inner n (term_text S a ++ (codes " . " ++ (term_text S b ++ 41 ∷ rest)))) (Lam a b) rest
   function-spelled a b n rest fa fb =
@@ -50,32 +50,32 @@ module _ (S : Signature) (look : List ℕ → Option Term) (inner : ℕ → List
       (or-then (λ b end. closed_by (Let a t b) end) (after-spelled (codes " . ") b (n + 1) (41 ∷ rest) fb (stops-close rest)) (or-closed (Let a t b) rest)))
 
   -- after the parenthesis of a product or an application
-  open-spelled : (a : Term) (n : ℕ) (rest : List ℕ) (t : Term) (end : List ℕ) → IsSpelledTerm S look n a → OrNested (Unit {0}) (behind_first inner a n (32 ∷ rest)) t end → OrNested (Unit {0}) (enclosed_at inner n (term_text S a ++ 32 ∷ rest)) t end
+  open-spelled : (a : Term) (n : ℕ) (rest : List ℕ) (t : Term) (end : List ℕ) → IsSpelledTerm S look n a → OrNested (Unit {0}) (after_first inner a n (32 ∷ rest)) t end → OrNested (Unit {0}) (enclosed_at inner n (term_text S a ++ 32 ∷ rest)) t end
   open-spelled a n rest t end fa h =
       let starts = text-begins S look a fa.spelled in
       let bytes = term_text S a ++ 32 ∷ rest in
-      or-same (enclosed_at inner n bytes) (and_then (inner n bytes) (λ a r. behind_first inner a n r))
-      (ap₂ (λ c d. if c then function_at inner n (drop 1 bytes) else (if d then let_at inner n (drop 4 bytes) else and_then (inner n bytes) (λ a r. behind_first inner a n r))) (starts.no_function (32 ∷ rest)) (starts.no_let (32 ∷ rest) (stops-space rest)))
-      (or-then (λ a r. behind_first inner a n r) (back a n (32 ∷ rest) fa (stops-space rest)) h)
+      or-same (enclosed_at inner n bytes) (and_then (inner n bytes) (λ a r. after_first inner a n r))
+      (ap₂ (λ c d. if c then function_at inner n (drop 1 bytes) else (if d then let_at inner n (drop 4 bytes) else and_then (inner n bytes) (λ a r. after_first inner a n r))) (starts.no_function (32 ∷ rest)) (starts.no_let (32 ∷ rest) (stops-space rest)))
+      (or-then (λ a r. after_first inner a n r) (back a n (32 ∷ rest) fa (stops-space rest)) h)
 
   product-spelled : (a b : Term) (n : ℕ) (rest : List ℕ) → IsSpelledTerm S look n a → IsSpelledTerm S look (n + 1) b → OrNested (Unit {0}) (enclosed_at inner n (term_text S a ++ (codes " -> " ++ (term_text S b ++ 41 ∷ rest)))) (Pi a b) rest
   product-spelled a b n rest fa fb =
       let more = codes "-> " ++ (term_text S b ++ 41 ∷ rest) in
       open-spelled a n more (Pi a b) rest fa
-      (or-same (behind_first inner a n (32 ∷ more)) (product_from inner a n more) (ap (λ m. after m (λ r. if first r == 45 then product_from inner a n r else spine_from inner a n r)) (behind-word (codes " ") more))
+      (or-same (after_first inner a n (32 ∷ more)) (product_from inner a n more) (ap (λ m. after m (λ r. if first r == 45 then product_from inner a n r else spine_from inner a n r)) (past-word (codes " ") more))
       (or-then (λ b end. closed_by (Pi a b) end) (after-spelled (codes "-> ") b (n + 1) (41 ∷ rest) fb (stops-close rest)) (or-closed (Pi a b) rest)))
 
   arguments-spelled : (f a : Term) (spine : List Term) (k n : ℕ) (rest : List ℕ) → IsSpelledTerm S look n a → All (IsSpelledTerm S look n) spine → OrNested (Unit {0}) (arguments_from inner k f n (term_text S a ++ (spaced S spine ++ 41 ∷ rest))) (applied (App f a) spine) rest
   arguments-spelled f a spine zero n rest fit all = is_nested (length (term_text S a ++ (spaced S spine ++ 41 ∷ rest))) tt refl
   arguments-spelled f a [] (suc k) n rest fit all =
-      or-then (behind_argument inner (λ t end. arguments_from inner k t n end))
+      or-then (after_argument inner (λ t end. arguments_from inner k t n end))
       (or-then (λ a r. limited (App f a) r) (back a n (41 ∷ rest) fit (stops-close rest)) (or-limited (App f a) (41 ∷ rest)))
       (or-closed (App f a) rest)
   arguments-spelled f a (c ∷ spine) (suc k) n rest fit all =
       let tail = term_text S c ++ (spaced S spine ++ 41 ∷ rest) in
       or-same (arguments_from inner (suc k) f n (term_text S a ++ (spaced S (c ∷ spine) ++ 41 ∷ rest))) (arguments_from inner (suc k) f n (term_text S a ++ 32 ∷ tail))
       (ap (λ r. arguments_from inner (suc k) f n (term_text S a ++ 32 ∷ r)) (append_assoc (term_text S c) (spaced S spine) (41 ∷ rest)))
-      (or-then (behind_argument inner (λ t end. arguments_from inner k t n end))
+      (or-then (after_argument inner (λ t end. arguments_from inner k t n end))
       (or-then (λ a r. limited (App f a) r) (back a n (32 ∷ tail) fit (stops-space tail)) (or-limited (App f a) (32 ∷ tail)))
       (arguments-spelled (App f a) c spine k n rest (All-head (IsSpelledTerm S look n) c spine all) (All-tail (IsSpelledTerm S look n) c spine all)))
 
@@ -86,8 +86,8 @@ module _ (S : Signature) (look : List ℕ → Option Term) (inner : ℕ → List
       or-same (enclosed_at inner n (term_text S h ++ (spaced S (a ∷ spine) ++ 41 ∷ rest))) (enclosed_at inner n (term_text S h ++ 32 ∷ tail))
       (ap (λ r. enclosed_at inner n (term_text S h ++ 32 ∷ r)) (append_assoc (term_text S a) (spaced S spine) (41 ∷ rest)))
       (open-spelled h n tail (applied (App h a) spine) rest fh
-      (or-same (behind_first inner h n (32 ∷ tail)) (arguments_from inner most h n tail)
-      (ap (λ m. after m (λ r. if first r == 45 then product_from inner h n r else spine_from inner h n r)) (behind-word (codes " ") tail)
+      (or-same (after_first inner h n (32 ∷ tail)) (arguments_from inner most h n tail)
+      (ap (λ m. after m (λ r. if first r == 45 then product_from inner h n r else spine_from inner h n r)) (past-word (codes " ") tail)
       ∙ (ap (λ c. if c then product_from inner h n tail else spine_from inner h n tail) (starts.no_arrow (spaced S spine ++ 41 ∷ rest))
       ∙ ap (λ c. if c then wrong tail else arguments_from inner most h n tail) head))
       (arguments-spelled h a spine most n rest fa all)))

@@ -3,12 +3,12 @@ use Rattle.std.proofs.Common.{◌≡◌, ◌⊎◌, inl, inr, ℕ, suc, ◌+◌,
 use Rattle.std.specs.Prelude.{◌==◌, if◌then◌else◌, Result, Ok, Err}
 use Rattle.std.proofs.lemmas.Bool.Decides.{nat_tests}
 use Rattle.core_text.specs.Heads.{shared}
-use Rattle.core_text.specs.Reading.{Reading, wrong, first, after, behind}
+use Rattle.core_text.specs.Reading.{Reading, wrong, first, after, past}
 use Rattle.core_text.specs.declared.halt.Halt.{Halt}
 use Rattle.core_text.specs.declared.halt.Halt.TheVariants.{Memory, Nested, Wrong}
 use Rattle.core_text.proofs.Agreement.{by_character, Told, Alike, StaysAt, StartsAt, MovesAt, refused-map, told-within}
 use Rattle.core_text.proofs.Characters.{Same, one-same, first-same, none-one}
-use Rattle.core_text.proofs.NumbersBack.{behind-word}
+use Rattle.core_text.proofs.NumbersBack.{past-word}
 use Rattle.core_text.proofs.WordsRead.{first-is}
 
 -- ---- after known bytes
@@ -118,25 +118,25 @@ word-at (b ∷ word) (x ∷ rest) = by (x == b) refl (word-at word rest)
     by false e how = leaves [] (x ∷ rest) refl (ap (λ t. if t then 1 + shared rest word else 0) e) (omega arith) (λ y same. other e y same)
 
 -- a word that is left before its end is refused there
-left-at : (word v y : List ℕ) → shared (v ++ y) word ≡ length v → length v < length word → behind word (v ++ y) ≡ Err (Wrong (length y))
+left-at : (word v y : List ℕ) → shared (v ++ y) word ≡ length v → length v < length word → past word (v ++ y) ≡ Err (Wrong (length y))
 left-at word v y is less =
     let short : (shared (v ++ y) word == length word) ≡ false = grind (arith, nat_tests) in
     let left : length (v ++ y) - shared (v ++ y) word ≡ length y = omega (arith, length-append v y) in
     ap (λ b. if b then Ok (drop (length word) (v ++ y)) else Err (Wrong (length (v ++ y) - shared (v ++ y) word))) short ∙ ap (λ n. Err (Wrong n)) left
 
-pub told-word : {A : Type 0} (ahead : Bool) (word : List ℕ) (f : List ℕ → Reading A) (rest : List ℕ) → ((r : List ℕ) → rest ≡ word ++ r → Told ahead f r (f r)) → Told ahead (λ x. after (behind word x) f) rest (after (behind word rest) f)
+pub told-word : {A : Type 0} (ahead : Bool) (word : List ℕ) (f : List ℕ → Reading A) (rest : List ℕ) → ((r : List ℕ) → rest ≡ word ++ r → Told ahead f r (f r)) → Told ahead (λ x. after (past word x) f) rest (after (past word rest) f)
 told-word {A = A} ahead word f rest next = by (word-at word rest)
   where
     F : List ℕ → Reading A
-    F x = after (behind word x) f
+    F x = after (past word x) f
 
     by : WordAt word rest → Told ahead F rest (F rest)
     by (stands r is) =
         subst (λ x. Told ahead F x (F x)) (sym is)
-        (subst (λ m. Told ahead F (word ++ r) (after m f)) (sym (behind-word word r))
-        (told-shift ahead f F word r (f r) (λ y. ap (λ m. after m f) (behind-word word y)) (next r is)))
+        (subst (λ m. Told ahead F (word ++ r) (after m f)) (sym (past-word word r))
+        (told-shift ahead f F word r (f r) (λ y. ap (λ m. after m f) (past-word word y)) (next r is)))
     by (leaves front back is size less k) =
-        let at : behind word rest ≡ Err (Wrong (length back)) = ap (behind word) is ∙ left-at word front back (ap (λ x. shared x word) (sym is) ∙ size) less in
+        let at : past word rest ≡ Err (Wrong (length back)) = ap (past word) is ∙ left-at word front back (ap (λ x. shared x word) (sym is) ∙ size) less in
         subst (λ m. Told ahead F rest (after m f)) (sym at)
         (record {
           front = front;
@@ -146,36 +146,36 @@ told-word {A = A} ahead word f rest next = by (word-at word rest)
           refused = by_character (λ y same. ap (λ m. after m f) (left-at word front y (k y (one-same back y same)) less));
         })
 
-pub alike-word : {A : Type 0} (ahead : Bool) (word : List ℕ) (f : List ℕ → Reading A) → Alike ahead f → Alike ahead (λ rest. after (behind word rest) f)
+pub alike-word : {A : Type 0} (ahead : Bool) (word : List ℕ) (f : List ℕ → Reading A) → Alike ahead f → Alike ahead (λ rest. after (past word rest) f)
 alike-word ahead word f alike = record { told = λ rest. told-word ahead word f rest (λ r is. alike.told r) }
 
 -- what begins with a word begins with a character
-pub part-starts : {A : Type 0} (b : ℕ) (word : List ℕ) (K : Result (List ℕ) Halt → Reading A) (rest : List ℕ) → b < 128 → ((e : Halt) → K (Err e) ≡ Err e) → StartsAt rest (K (behind (b ∷ word) rest))
+pub part-starts : {A : Type 0} (b : ℕ) (word : List ℕ) (K : Result (List ℕ) Halt → Reading A) (rest : List ℕ) → b < 128 → ((e : Halt) → K (Err e) ≡ Err e) → StartsAt rest (K (past (b ∷ word) rest))
 part-starts b word K [] low stops = inl (omega arith)
 part-starts b word K (x ∷ rest) low stops = by (x == b) refl
   where
-    by : (t : Bool) → (x == b) ≡ t → StartsAt (x ∷ rest) (K (behind (b ∷ word) (x ∷ rest)))
+    by : (t : Bool) → (x == b) ≡ t → StartsAt (x ∷ rest) (K (past (b ∷ word) (x ∷ rest)))
     by true e = let here : x ≡ b = grind (arith, nat_tests) in inl (omega arith)
     by false e =
         inr (subst (StaysAt (x ∷ rest)) (sym (ap K (left-at (b ∷ word) [] (x ∷ rest) (ap (λ t. if t then 1 + shared rest word else 0) e) (omega arith)) ∙ stops (Wrong (length (x ∷ rest))))) refl)
 
-pub word-starts : {A : Type 0} (b : ℕ) (word : List ℕ) (f : List ℕ → Reading A) (rest : List ℕ) → b < 128 → StartsAt rest (after (behind (b ∷ word) rest) f)
+pub word-starts : {A : Type 0} (b : ℕ) (word : List ℕ) (f : List ℕ → Reading A) (rest : List ℕ) → b < 128 → StartsAt rest (after (past (b ∷ word) rest) f)
 word-starts b word f rest low = part-starts b word (λ m. after m f) rest low (λ e. refl)
 
 -- and passes over it
-pub word-moves : {A : Type 0} (ahead : Bool) (b : ℕ) (word : List ℕ) (f : List ℕ → Reading A) (rest : List ℕ) → ((r : List ℕ) → Told ahead f r (f r)) → MovesAt rest (after (behind (b ∷ word) rest) f)
+pub word-moves : {A : Type 0} (ahead : Bool) (b : ℕ) (word : List ℕ) (f : List ℕ → Reading A) (rest : List ℕ) → ((r : List ℕ) → Told ahead f r (f r)) → MovesAt rest (after (past (b ∷ word) rest) f)
 word-moves ahead b word f rest next = by (word-at (b ∷ word) rest)
   where
     moved : (r : List ℕ) → length r < length rest → (m : Reading _) → Told ahead f r m → MovesAt rest m
     moved r less (Ok p) t = let within = told-within ahead f r p.0 p.1 t in omega arith
     moved r less (Err e) t = tt
 
-    by : WordAt (b ∷ word) rest → MovesAt rest (after (behind (b ∷ word) rest) f)
+    by : WordAt (b ∷ word) rest → MovesAt rest (after (past (b ∷ word) rest) f)
     by (stands r is) =
-        let at : behind (b ∷ word) rest ≡ Ok r = ap (behind (b ∷ word)) is ∙ behind-word (b ∷ word) r in
+        let at : past (b ∷ word) rest ≡ Ok r = ap (past (b ∷ word)) is ∙ past-word (b ∷ word) r in
         subst (λ m. MovesAt rest (after m f)) (sym at) (moved r (omega (arith, ap length is, length-append (b ∷ word) r)) (f r) (next r))
     by (leaves front back is size less k) =
-        let at : behind (b ∷ word) rest ≡ Err (Wrong (length back)) = ap (behind (b ∷ word)) is ∙ left-at (b ∷ word) front back (ap (λ x. shared x (b ∷ word)) (sym is) ∙ size) less in
+        let at : past (b ∷ word) rest ≡ Err (Wrong (length back)) = ap (past (b ∷ word)) is ∙ left-at (b ∷ word) front back (ap (λ x. shared x (b ∷ word)) (sym is) ∙ size) less in
         subst (λ m. MovesAt rest (after m f)) (sym at) tt
 
 -- ---- answers that do not depend on what stands there

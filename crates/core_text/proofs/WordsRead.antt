@@ -5,7 +5,7 @@ use Rattle.std.proofs.lemmas.Bool.{and_parts}
 use Rattle.std.proofs.lemmas.Bool.Decides.{nat_tests}
 use Rattle.std.proofs.lemmas.Fmt.{decimal_digit, decimal_step}
 use Rattle.core_text.specs.Heads.{shared}
-use Rattle.core_text.specs.Reading.{Reading, first, begins, after, behind, wrong, is_digit, with_digit, index_from, read_index, is_left, begins_level, one_digit, level_from, read_level}
+use Rattle.core_text.specs.Reading.{Reading, first, begins, after, past, wrong, is_digit, with_digit, index_from, read_index, is_left, begins_level, one_digit, level_from, read_level}
 use Rattle.core_text.specs.declared.halt.Halt.TheVariants.{Wrong}
 use Rattle.core_text.proofs.Outcomes.{Ensures, ensures-if}
 use Rattle.core_text.proofs.TermOutcomes.{lt-told, le-told}
@@ -28,7 +28,7 @@ pub word-is : (word rest : List ℕ) → begins word rest ≡ true → rest ≡ 
 word-is word rest e = shared-all word rest e
 
 -- after a word the text is the word and what follows
-pub ensures-word : {B : Type 0} (Q : B → List ℕ → Type 0) (word rest : List ℕ) (next : List ℕ → Reading B) → ((r : List ℕ) → rest ≡ word ++ r → Ensures Q (next r)) → Ensures Q (after (behind word rest) next)
+pub ensures-word : {B : Type 0} (Q : B → List ℕ → Type 0) (word rest : List ℕ) (next : List ℕ → Reading B) → ((r : List ℕ) → rest ≡ word ++ r → Ensures Q (next r)) → Ensures Q (after (past word rest) next)
 ensures-word Q word rest next k = by (shared rest word == length word) refl
   where
     by : (b : Bool) → (shared rest word == length word) ≡ b → Ensures Q (after (if b then Ok (drop (length word) rest) else Err (Wrong (length rest - shared rest word))) next)

@@ -13,11 +13,11 @@ use Rattle.core_text.specs.declared.stop.CoreTextStop.{CoreTextStop}
 use Rattle.core_text.specs.declared.stop.CoreTextStop.TheVariants.{Memory, Nested, NotCoreText}
 
 -- What stands after the lines that begin with `#`; `inside` where such a line has begun. The last one has a line feed too.
-abbrev pub behind_notes : Bool → List ℕ → Result (List ℕ) Halt
-behind_notes false [] = Ok []
-behind_notes true [] = Err (Wrong 0)
-behind_notes false (b ∷ rest) = if b == 35 then behind_notes true rest else Ok (b ∷ rest)
-behind_notes true (b ∷ rest) = behind_notes (not (b == 10)) rest
+abbrev pub after_notes : Bool → List ℕ → Result (List ℕ) Halt
+after_notes false [] = Ok []
+after_notes true [] = Err (Wrong 0)
+after_notes false (b ∷ rest) = if b == 35 then after_notes true rest else Ok (b ∷ rest)
+after_notes true (b ∷ rest) = after_notes (not (b == 10)) rest
 
 -- whether a line of entry number n shows an entry
 abbrev pub shows_entry : ℕ → RawEntry → Bool
@@ -35,7 +35,7 @@ entry_at S [] = Ok (None, [])
 entry_at S (b ∷ rest) = shown_by (length S.entries) (b ∷ rest) (line_at S [] (b ∷ rest))
 
 abbrev pub next_entry : Signature → List ℕ → Reading (Option RawEntry)
-next_entry S rest = after (behind_notes false rest) (entry_at S)
+next_entry S rest = after (after_notes false rest) (entry_at S)
 
 -- the same place by its offset in a text with `size` bytes
 abbrev pub stop_of : ℕ → Halt → CoreTextStop

@@ -19,7 +19,7 @@ pub record Stands (S : Signature) (text : List ℕ) (from : ℕ) (e : Entry) (to
   pub others : List ℕ
   pub are_notes : AreNotes notes
   pub line : drop from text ≡ notes ++ (entry_line (pushed S e) (length S.entries) e ++ others)
-  pub behind : drop to text ≡ others
+  pub past : drop to text ≡ others
 
 -- What is read as an entry is the line of the entry.
 abbrev pub LinesAreRead : Type 0

@@ -10,7 +10,7 @@ use Rattle.core_sig.specs.Raw.{RawConstructor}
 use Rattle.core_text.specs.DeclaredNames.{new_name}
 use Rattle.core_text.specs.NameRuns.{run_len}
 use Rattle.core_text.specs.RawEntries.{RawEntry, RawFamilyOf, RawEliminator, RawAxiomK, RawDefinition}
-use Rattle.core_text.specs.Reading.{Reading, wrong, and_then, after, behind, begins, first, read_level, some_left}
+use Rattle.core_text.specs.Reading.{Reading, wrong, and_then, after, past, begins, first, read_level, some_left}
 use Rattle.core_text.specs.SymbolLookup.{symbol, found_symbol}
 use Rattle.core_text.specs.TermReading.{most, read_term, term_after}
 use Rattle.core_text.specs.declared.halt.Halt.{Halt}
@@ -27,7 +27,7 @@ whole_term S own n rest = read_term (symbol S own) nested n rest
 
 -- what a line says, with the line feed that ends it
 abbrev pub ended : RawEntry → List ℕ → Reading RawEntry
-ended e rest = after (behind (codes "\n") rest) (λ end. Ok (e, end))
+ended e rest = after (past (codes "\n") rest) (λ end. Ok (e, end))
 
 -- after `def `
 abbrev pub definition_at : Signature → List ℕ → List ℕ → Reading RawEntry
@@ -71,37 +71,37 @@ identities_left S = level_list (some_level_left S) 0 top
 -- after `elim `
 abbrev pub eliminator_at : Signature → List ℕ → Reading RawEntry
 eliminator_at S rest =
-    and_then (family_name S rest) (λ n r1. after (behind (codes " ") r1) (λ r2.
+    and_then (family_name S rest) (λ n r1. after (past (codes " ") r1) (λ r2.
     and_then (read_level (levels_left S (Elim n)) r2) (λ m r3. ended (RawEliminator n m) r3)))
 
 -- after `axiomk `
 abbrev pub axiom_k_line : Signature → List ℕ → Reading RawEntry
 axiom_k_line S rest =
-    and_then (read_level (identities_left S) rest) (λ i r1. after (behind (codes " ") r1) (λ r2.
+    and_then (read_level (identities_left S) rest) (λ i r1. after (past (codes " ") r1) (λ r2.
     and_then (read_level (levels_left S (AxiomK i)) r2) (λ m r3. ended (RawAxiomK i m) r3)))
 
 -- goes on after what stands there, or ends with what was found
-abbrev pub behind_item : {A : Type 0} → (List A → List ℕ → Reading (List A)) → List A → Option A → List ℕ → Reading (List A)
-behind_item more found (Some a) rest = more (found ++ a ∷ []) rest
-behind_item more found None rest = Ok (found, rest)
+abbrev pub after_item : {A : Type 0} → (List A → List ℕ → Reading (List A)) → List A → Option A → List ℕ → Reading (List A)
+after_item more found (Some a) rest = more (found ++ a ∷ []) rest
+after_item more found None rest = Ok (found, rest)
 
 -- What stands one after the other, up to the end that `next` tells. There is no more of it than k, the number of bytes.
 abbrev pub collected : {A : Type 0} → (List A → List ℕ → Reading (Option A)) → ℕ → List A → List ℕ → Reading (List A)
 collected next zero found rest = wrong rest
-collected next (suc k) found rest = and_then (next found rest) (behind_item (collected next k) found)
+collected next (suc k) found rest = and_then (next found rest) (after_item (collected next k) found)
 
 -- a parameter's type, after its parenthesis, and the parenthesis that closes it
 abbrev pub parameter_at : Signature → List ℕ → ℕ → List ℕ → Reading (Option Term)
-parameter_at S own n rest = and_then (whole_term S own n rest) (λ a r. after (behind (codes ")") r) (λ end. Ok (Some a, end)))
+parameter_at S own n rest = and_then (whole_term S own n rest) (λ a r. after (past (codes ")") r) (λ end. Ok (Some a, end)))
 
 -- what stands before the type of the family
 abbrev pub no_parameter : List ℕ → Reading (Option Term)
-no_parameter rest = after (behind (codes ": ") rest) (λ end. Ok (None, end))
+no_parameter rest = after (past (codes ": ") rest) (λ end. Ok (None, end))
 
 -- one parameter more, or what stands before the type of the family
 abbrev pub next_parameter : Signature → List ℕ → ℕ → List ℕ → Reading (Option Term)
 next_parameter S own n rest =
-    after (behind (codes " ") rest) (λ r. if first r == 40 then parameter_at S own n (drop 1 r) else no_parameter r)
+    after (past (codes " ") rest) (λ r. if first r == 40 then parameter_at S own n (drop 1 r) else no_parameter r)
 
 -- the parameters, after the name of the family
 abbrev pub parameters_at : Signature → List ℕ → List ℕ → Reading (List Term)
@@ -117,12 +117,12 @@ constructor_at S own p found rest =
 -- what separates a constructor from those before it
 abbrev pub separated : List RawConstructor → List ℕ → Result (List ℕ) Halt
 separated [] rest = Ok rest
-separated (c ∷ found) rest = behind (codes "; ") rest
+separated (c ∷ found) rest = past (codes "; ") rest
 
 -- one constructor more, or the brace after them
 abbrev pub next_constructor : Signature → List ℕ → ℕ → List RawConstructor → List ℕ → Reading (Option RawConstructor)
 next_constructor S own p found rest =
-    after (behind (codes " ") rest) (λ r.
+    after (past (codes " ") rest) (λ r.
     if first r == 125 then Ok (None, drop 1 r) else after (separated found r) (constructor_at S own p found))
 
 -- the constructors of the family with the name `own` and p parameters, after the brace
@@ -130,8 +130,8 @@ abbrev pub constructors_at : Signature → List ℕ → ℕ → List ℕ → Rea
 constructors_at S own p rest = collected (next_constructor S own p) (length rest) [] rest
 
 -- the constructors of the family with that name, from the type of the family on
-abbrev pub family_behind : Signature → List ℕ → List Term → Term → List ℕ → Reading RawEntry
-family_behind S name parameters type rest =
+abbrev pub family_after : Signature → List ℕ → List Term → Term → List ℕ → Reading RawEntry
+family_after S name parameters type rest =
     and_then (constructors_at S name (length parameters) rest) (λ constructors end.
     ended (RawFamilyOf (record { name = name; parameters = parameters; type = type; constructors = constructors })) end)
 
@@ -141,12 +141,12 @@ family_at S own rest =
     and_then (new_name S own [] rest) (λ name r1.
     and_then (parameters_at S own r1) (λ parameters r2.
     and_then (whole_term S own (length parameters) r2) (λ type r3.
-    after (behind (codes " {") r3) (family_behind S name parameters type))))
+    after (past (codes " {") r3) (family_after S name parameters type))))
 
 -- a line, by its first bytes
 abbrev pub line_at : Signature → List ℕ → List ℕ → Reading RawEntry
 line_at S own rest =
-    if begins (codes "de") rest then after (behind (codes "def ") rest) (definition_at S own)
-    else (if first rest == 101 then after (behind (codes "elim ") rest) (eliminator_at S)
-    else (if S.has_k && (first rest == 97) then after (behind (codes "axiomk ") rest) (axiom_k_line S)
-    else after (behind (codes "data ") rest) (family_at S own)))
+    if begins (codes "de") rest then after (past (codes "def ") rest) (definition_at S own)
+    else (if first rest == 101 then after (past (codes "elim ") rest) (eliminator_at S)
+    else (if S.has_k && (first rest == 97) then after (past (codes "axiomk ") rest) (axiom_k_line S)
+    else after (past (codes "data ") rest) (family_at S own)))

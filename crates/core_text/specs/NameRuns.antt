@@ -23,12 +23,12 @@ name_char_len (b ∷ bytes) =
     if nat_le (width b) (length (b ∷ bytes)) && are_name_chars (take (width b) (b ∷ bytes)) then width b else 0
 
 -- the bytes of the run after the first k bytes, which are those of a character
-abbrev pub run_behind : ℕ → List ℕ → ℕ
-run_behind k [] = 0
-run_behind (suc k) (b ∷ bytes) = run_behind k bytes
-run_behind zero (b ∷ bytes) =
-    if name_char_len (b ∷ bytes) == 0 then 0 else name_char_len (b ∷ bytes) + run_behind (name_char_len (b ∷ bytes) - 1) bytes
+abbrev pub run_after : ℕ → List ℕ → ℕ
+run_after k [] = 0
+run_after (suc k) (b ∷ bytes) = run_after k bytes
+run_after zero (b ∷ bytes) =
+    if name_char_len (b ∷ bytes) == 0 then 0 else name_char_len (b ∷ bytes) + run_after (name_char_len (b ∷ bytes) - 1) bytes
 
 -- how many bytes the run at the front has
 abbrev pub run_len : List ℕ → ℕ
-run_len bytes = run_behind 0 bytes
+run_len bytes = run_after 0 bytes

@@ -66,16 +66,16 @@ IsWrongName S text from p =
 -- the line of a family that shows no record
 pub record IsNoRecord (S : Signature) (rest : List ℕ) : Type 0 where
   pub raw : RawFamily
-  pub behind : List ℕ
+  pub past : List ℕ
   pub over : IsFamilyOver S raw
-  pub line : rest ≡ raw_line S (RawFamilyOf raw) ++ behind
+  pub line : rest ≡ raw_line S (RawFamilyOf raw) ++ past
   pub none : shows_record (length S.entries) raw ≡ false
 
 -- ---- the laws
 
 -- a core file goes on with the bytes before p
 pub record IsReached (S : Signature) (text : List ℕ) (from p : ℕ) : Type 0 where
-  pub behind : from ≤ p
+  pub past : from ≤ p
   pub within : p ≤ length text
   pub before : GoesOn S (drop from (take p text)) ⊎ NoneLeft S (drop from (take p text))
 

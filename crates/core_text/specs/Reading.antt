@@ -20,8 +20,8 @@ abbrev pub and_then : {A B : Type 0} → Reading A → (A → List ℕ → Readi
 and_then first next = answers.and_then first (λ p. next p.0 p.1)
 
 -- the bytes after a word, or the first byte with which the word does not go on
-abbrev pub behind : List ℕ → List ℕ → Result (List ℕ) Halt
-behind word rest =
+abbrev pub past : List ℕ → List ℕ → Result (List ℕ) Halt
+past word rest =
     if shared rest word == length word then Ok (drop (length word) rest) else Err (Wrong (length rest - shared rest word))
 
 -- goes on after a word
@@ -92,6 +92,6 @@ abbrev pub Reads : {A B : Type 0} → (A → B) → Result (A × Bor (List ℕ))
 Reads f result meant = GivesUnless IsUnforeseen (λ p. (f p.0, p.1.now)) result meant
 
 -- the same of what stands after a word
-abbrev pub Behind : Result (Bor (List ℕ)) Halt → Result (List ℕ) Halt → Type 0
-Behind (Ok rest) meant = Ok rest.now ≡ meant
-Behind (Err e) meant = Err e ≡ meant
+abbrev pub Past : Result (Bor (List ℕ)) Halt → Result (List ℕ) Halt → Type 0
+Past (Ok rest) meant = Ok rest.now ≡ meant
+Past (Err e) meant = Err e ≡ meant

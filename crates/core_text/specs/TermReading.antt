@@ -2,7 +2,7 @@
 use Rattle.std.specs.Prelude.{ℕ, zero, suc, ◌+◌, ◌==◌, nat_le, Bool, true, false, if◌then◌else◌, List, [], ◌∷◌, length, take, drop, codes, bytes_eq, Ok, Err, Option, Some, None}
 use Rattle.theory.specs.Terms.{Term, Var, Sort, Pi, Lam, App, Let, height}
 use Rattle.core_text.specs.NameRuns.{run_len}
-use Rattle.core_text.specs.Reading.{Reading, wrong, and_then, after, begins, behind, first, read_index, read_level}
+use Rattle.core_text.specs.Reading.{Reading, wrong, and_then, after, begins, past, first, read_index, read_level}
 use Rattle.core_text.specs.declared.halt.Halt.TheVariants.{Nested}
 
 -- the greatest height of a term, and the number of terms that may be nested
@@ -20,7 +20,7 @@ limited t rest = if nat_le (height t) most then Ok (t, rest) else Err (Nested (l
 
 -- a term and the parenthesis that closes it
 abbrev pub closed_by : Term → List ℕ → Reading Term
-closed_by t rest = after (behind (codes ")") rest) (limited t)
+closed_by t rest = after (past (codes ")") rest) (limited t)
 
 -- a number that is a variable or a level
 abbrev pub as_term : (ℕ → Term) → Reading ℕ → Reading Term
@@ -39,7 +39,7 @@ variable_at (suc n) rest = as_term Var (read_index (suc n) (drop 1 rest))
 
 -- a sort, after `Type`
 abbrev pub sort_at : List ℕ → Reading Term
-sort_at rest = after (behind (codes " ") rest) (λ r. as_term Sort (read_level sort_levels r))
+sort_at rest = after (past (codes " ") rest) (λ r. as_term Sort (read_level sort_levels r))
 
 -- a sort, or a name of n bytes; `look` says what names stand for
 abbrev pub named : (List ℕ → Option Term) → ℕ → List ℕ → Reading Term
@@ -55,7 +55,7 @@ is_application _ = false
 module _ (inner : ℕ → List ℕ → Reading Term) where
   -- a term after a word
   abbrev pub term_after : List ℕ → ℕ → List ℕ → Reading Term
-  term_after word n rest = after (behind word rest) (inner n)
+  term_after word n rest = after (past word rest) (inner n)
 
   -- after `(\`
   abbrev pub function_at : ℕ → List ℕ → Reading Term
@@ -78,29 +78,29 @@ module _ (inner : ℕ → List ℕ → Reading Term) where
   argument_of f n rest = and_then (inner n rest) (λ a r. limited (App f a) r)
 
   -- after an argument, where t is the application so far: a space and one argument more, or the end
-  abbrev pub behind_argument : (Term → List ℕ → Reading Term) → Term → List ℕ → Reading Term
-  behind_argument more t rest = if first rest == 32 then more t (drop 1 rest) else closed_by t rest
+  abbrev pub after_argument : (Term → List ℕ → Reading Term) → Term → List ℕ → Reading Term
+  after_argument more t rest = if first rest == 32 then more t (drop 1 rest) else closed_by t rest
 
   -- The other arguments of f, at most k, and the parenthesis after them. A term with more would be too high.
   abbrev pub arguments_from : ℕ → Term → ℕ → List ℕ → Reading Term
   arguments_from zero f n rest = Err (Nested (length rest))
-  arguments_from (suc k) f n rest = and_then (argument_of f n rest) (behind_argument (λ t end. arguments_from k t n end))
+  arguments_from (suc k) f n rest = and_then (argument_of f n rest) (after_argument (λ t end. arguments_from k t n end))
 
   -- the application of f from its first argument on, where f is none
   abbrev pub spine_from : Term → ℕ → List ℕ → Reading Term
   spine_from f n rest = if is_application f then wrong rest else arguments_from most f n rest
 
   -- after the first term in parentheses: an arrow, or arguments
-  abbrev pub behind_first : Term → ℕ → List ℕ → Reading Term
-  behind_first a n rest =
-      after (behind (codes " ") rest) (λ r. if first r == 45 then product_from a n r else spine_from a n r)
+  abbrev pub after_first : Term → ℕ → List ℕ → Reading Term
+  after_first a n rest =
+      after (past (codes " ") rest) (λ r. if first r == 45 then product_from a n r else spine_from a n r)
 
   -- after `(`
   abbrev pub enclosed_at : ℕ → List ℕ → Reading Term
   enclosed_at n rest =
       if first rest == 92 then function_at n (drop 1 rest)
       else (if begins (codes "let ") rest then let_at n (drop 4 rest)
-      else and_then (inner n rest) (λ a r. behind_first a n r))
+      else and_then (inner n rest) (λ a r. after_first a n r))
 
   -- a term, by its first byte
   abbrev pub term_at : (List ℕ → Option Term) → ℕ → List ℕ → Reading Term

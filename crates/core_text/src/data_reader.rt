@@ -2,14 +2,14 @@ ghost use Rattle.std.specs.Prelude.{map, option_map};
 ghost use Rattle.core_terms.specs.Meanings.{tree_of, tele_of};
 ghost use Rattle.core_sig.specs.Raw.{raw_constructor_of};
 ghost use Rattle.core_text.specs.LineReading as spec;
-ghost use Rattle.core_text.specs.Reading.{Behind, Reads};
+ghost use Rattle.core_text.specs.Reading.{Past, Reads};
 ghost use Rattle.core_text.specs.Scopes.{line_of};
 
 use crate::declared_names::new_name;
 use crate::halt::Halt;
 use crate::line::Line;
 use crate::line_reader::end;
-use crate::scanning::{behind, first, skip};
+use crate::scanning::{past, first, skip};
 use crate::scope::Scope;
 use crate::whole_terms::{read_whole, read_whole_after};
 use core_sig::{RawCon, RawFamily};
@@ -23,13 +23,13 @@ fn read_parameter<'t>(
     ensures { Reads (option_map tree_of) result (spec.parameter_at scope.now.sig.now scope.now.own.now count rest.now) }
 {
     let (ty, rest) = read_whole(scope, count, rest)?;
-    Ok((Some(ty), behind(b")", rest)?))
+    Ok((Some(ty), past(b")", rest)?))
 }
 
 fn no_parameter(rest: &[u8]) -> Result<(Option<Term>, &[u8]), Halt>
     ensures { Reads (option_map tree_of) result (spec.no_parameter rest.now) }
 {
-    Ok((None, behind(b": ", rest)?))
+    Ok((None, past(b": ", rest)?))
 }
 
 /// One parameter more, or what stands before the type of the family.
@@ -40,7 +40,7 @@ fn next_parameter<'t>(
 ) -> Result<(Option<Term>, &'t [u8]), Halt>
     ensures { Reads (option_map tree_of) result (spec.next_parameter scope.now.sig.now scope.now.own.now count rest.now) }
 {
-    let rest = behind(b" ", rest)?;
+    let rest = past(b" ", rest)?;
     if first(rest) == b'(' {
         read_parameter(scope, count, skip(rest, 1))
     } else {
@@ -82,12 +82,12 @@ fn read_constructor<'t>(
 
 /// What separates a constructor from those before it.
 fn separated<'t>(found: &[RawCon], rest: &'t [u8]) -> Result<&'t [u8], Halt>
-    ensures { Behind result (spec.separated (map raw_constructor_of found.now) rest.now) }
+    ensures { Past result (spec.separated (map raw_constructor_of found.now) rest.now) }
 {
     if found.is_empty() {
         return Ok(rest);
     }
-    behind(b"; ", rest)
+    past(b"; ", rest)
 }
 
 /// One constructor more, or the brace after them.
@@ -99,7 +99,7 @@ fn next_constructor<'t>(
 ) -> Result<(Option<RawCon>, &'t [u8]), Halt>
     ensures { Reads (option_map raw_constructor_of) result (spec.next_constructor scope.now.sig.now scope.now.own.now count (map raw_constructor_of found.now) rest.now) }
 {
-    let rest = behind(b" ", rest)?;
+    let rest = past(b" ", rest)?;
     if first(rest) == b'}' {
         return Ok((None, skip(rest, 1)));
     }
@@ -135,18 +135,18 @@ pub(crate) fn read_family<'t>(scope: &Scope, rest: &'t [u8]) -> Result<(Line, &'
     let (name, rest) = new_name(scope, &[], rest)?;
     let (params, rest) = read_parameters(scope, rest)?;
     let (ty, rest) = read_whole(scope, params.as_slice().len(), rest)?;
-    read_family_behind(scope, name, params, ty, behind(b" {", rest)?)
+    read_family_after(scope, name, params, ty, past(b" {", rest)?)
 }
 
 /// The constructors of a family, and the end of its line.
-fn read_family_behind<'t>(
+fn read_family_after<'t>(
     scope: &Scope,
     name: Name,
     params: Tele,
     ty: Term,
     rest: &'t [u8],
 ) -> Result<(Line, &'t [u8]), Halt>
-    ensures { Reads line_of result (spec.family_behind scope.now.sig.now name (tele_of params) (tree_of ty) rest.now) }
+    ensures { Reads line_of result (spec.family_after scope.now.sig.now name (tele_of params) (tree_of ty) rest.now) }
 {
     let inside = Scope {
         alloc: scope.alloc,

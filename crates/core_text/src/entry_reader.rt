@@ -8,7 +8,7 @@ ghost use Rattle.core_text.specs.EntryReading.{ReadsEntry, entry_from};
 ghost use Rattle.core_text.specs.LineReading.{line_at};
 ghost use Rattle.core_text.specs.RawEntries.{entry_shown};
 ghost use Rattle.core_text.specs.ReadLaws.{IsReadEntry};
-ghost use Rattle.core_text.specs.Reading.{Behind, IsUnforeseen, Reads};
+ghost use Rattle.core_text.specs.Reading.{Past, IsUnforeseen, Reads};
 ghost use Rattle.core_text.specs.Records.{HasEntryLevelsZero};
 ghost use Rattle.core_text.specs.Scopes.{line_of};
 ghost use Rattle.core_terms.specs.Answers.{Unless};
@@ -42,11 +42,11 @@ pub fn read_entry(
     ensures forward { IfOk result (λ o. IfSome o (λ p. from < p.1)) }
     ensures within { IfOk result (λ o. IfSome o (λ p. p.1 ≤ length text.now)) }
 {
-    entry_behind(alloc, sig, text, from)
+    entry_after(alloc, sig, text, from)
 }
 
 /// The next entry and the offset after it.
-fn entry_behind(
+fn entry_after(
     alloc: Global,
     sig: &Signature,
     text: &[u8],
@@ -93,8 +93,8 @@ fn stop_at(size: u32, halt: Halt) -> CoreTextStop
 }
 
 /// What stands after the lines that begin with `#`.
-fn behind_notes(from: &[u8]) -> Result<&[u8], Halt>
-    ensures { Behind result (spec.behind_notes false from.now) }
+fn after_notes(from: &[u8]) -> Result<&[u8], Halt>
+    ensures { Past result (spec.after_notes false from.now) }
 {
     let mut rest = from;
     let mut inside = false;
@@ -148,7 +148,7 @@ fn next_entry<'t>(scope: &Scope, from: &'t [u8]) -> Result<(Option<Entry>, &'t [
     ensures kinds { IfOk result (λ p. IfSome p.0 (HasEntryKinds (length scope.now.sig.now.entries))) }
     ensures levels { IfOk result (λ p. IfSome p.0 (λ e. HasEntryLevelsZero (entry_of e))) }
 {
-    let rest = behind_notes(from)?;
+    let rest = after_notes(from)?;
     if rest.is_empty() {
         return Ok((None, rest));
     }

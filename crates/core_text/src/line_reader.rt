@@ -13,7 +13,7 @@ use crate::instances::{Series, identities_left, levels_left};
 use crate::line::Line;
 use crate::lookup::found_symbol;
 use crate::runs::run_len;
-use crate::scanning::{begins, behind, first, read_level, skip};
+use crate::scanning::{begins, past, first, read_level, skip};
 use crate::scope::Scope;
 use crate::whole_terms::read_whole_after;
 use core_sig::Signature;
@@ -23,7 +23,7 @@ use core_terms::Term;
 pub(crate) fn end(line: Line, rest: &[u8]) -> Result<(Line, &[u8]), Halt>
     ensures { Reads line_of result (spec.ended (line_of line) rest.now) }
 {
-    Ok((line, behind(b"\n", rest)?))
+    Ok((line, past(b"\n", rest)?))
 }
 
 fn read_definition<'t>(scope: &Scope, rest: &'t [u8]) -> Result<(Line, &'t [u8]), Halt>
@@ -51,7 +51,7 @@ fn read_eliminator<'t>(scope: &Scope, rest: &'t [u8]) -> Result<(Line, &'t [u8])
 {
     let (family, rest) = family_name(scope.sig, rest)?;
     let levels = levels_left(scope.alloc, scope.sig, Series::Elim(family))?;
-    let (level, rest) = read_level(levels.as_slice(), behind(b" ", rest)?)?;
+    let (level, rest) = read_level(levels.as_slice(), past(b" ", rest)?)?;
     end(Line::Elim(family, level), rest)
 }
 
@@ -61,7 +61,7 @@ fn read_axiom_k<'t>(scope: &Scope, rest: &'t [u8]) -> Result<(Line, &'t [u8]), H
     let identities = identities_left(scope.alloc, scope.sig)?;
     let (i, rest) = read_level(identities.as_slice(), rest)?;
     let levels = levels_left(scope.alloc, scope.sig, Series::AxiomK(i))?;
-    let (level, rest) = read_level(levels.as_slice(), behind(b" ", rest)?)?;
+    let (level, rest) = read_level(levels.as_slice(), past(b" ", rest)?)?;
     end(Line::AxiomK(i, level), rest)
 }
 
@@ -70,12 +70,12 @@ pub(crate) fn read_line<'t>(scope: &Scope, rest: &'t [u8]) -> Result<(Line, &'t 
     ensures { Reads line_of result (spec.line_at scope.now.sig.now scope.now.own.now rest.now) }
 {
     if begins(b"de", rest) {
-        read_definition(scope, behind(b"def ", rest)?)
+        read_definition(scope, past(b"def ", rest)?)
     } else if first(rest) == b'e' {
-        read_eliminator(scope, behind(b"elim ", rest)?)
+        read_eliminator(scope, past(b"elim ", rest)?)
     } else if scope.sig.k() && first(rest) == b'a' {
-        read_axiom_k(scope, behind(b"axiomk ", rest)?)
+        read_axiom_k(scope, past(b"axiomk ", rest)?)
     } else {
-        read_family(scope, behind(b"data ", rest)?)
+        read_family(scope, past(b"data ", rest)?)
     }
 }

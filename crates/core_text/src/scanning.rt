@@ -1,6 +1,6 @@
 ghost use Rattle.std.specs.Prelude.{◌≡◌, ◌<◌, ◌+◌, drop, slice_index};
 ghost use Rattle.core_text.specs.Reading as spec;
-ghost use Rattle.core_text.specs.Reading.{Behind, Reads, begins, behind};
+ghost use Rattle.core_text.specs.Reading.{Past, Reads, begins, past};
 
 use crate::halt::Halt;
 use crate::head::shared_len;
@@ -30,8 +30,8 @@ pub(crate) fn begins(word: &[u8], rest: &[u8]) -> bool
 }
 
 /// The bytes after a word.
-pub(crate) fn behind<'t>(word: &[u8], rest: &'t [u8]) -> Result<&'t [u8], Halt>
-    ensures { Behind result (behind word.now rest.now) }
+pub(crate) fn past<'t>(word: &[u8], rest: &'t [u8]) -> Result<&'t [u8], Halt>
+    ensures { Past result (past word.now rest.now) }
 {
     let len = shared_len(rest, word);
     if len == word.len() {

@@ -10,7 +10,7 @@ ghost use Rattle.core_text.specs.TermReading as spec;
 use crate::halt::Halt;
 use crate::lookup::symbol;
 use crate::runs::run_len;
-use crate::scanning::{begins, behind, first, read_index, read_level, skip};
+use crate::scanning::{begins, past, first, read_index, read_level, skip};
 use crate::scope::Scope;
 use core_terms::{Low, MAX_HEIGHT, Term};
 
@@ -32,7 +32,7 @@ fn close(term: Term, height: u32, rest: &[u8]) -> Result<(Low, &[u8]), Halt>
     requires { height ≡ tree.height (tree_of term) }
     ensures { Reads low_of result (spec.closed_by (tree_of term) rest.now) }
 {
-    limited(term, height, behind(b")", rest)?)
+    limited(term, height, past(b")", rest)?)
 }
 
 fn is_application(t: &Term) -> bool
@@ -58,7 +58,7 @@ fn read_variable(under: u32, rest: &[u8]) -> Result<(Low, &[u8]), Halt>
 fn read_sort(rest: &[u8]) -> Result<(Low, &[u8]), Halt>
     ensures { Reads low_of result (spec.sort_at rest.now) }
 {
-    let (level, rest) = read_level(&SORT_LEVELS, behind(b" ", rest)?)?;
+    let (level, rest) = read_level(&SORT_LEVELS, past(b" ", rest)?)?;
     Ok((Low::leaf(Term::Sort(level)), rest))
 }
 
@@ -113,7 +113,7 @@ pub(crate) fn read_after<'t>(
     requires { under + room < 2 ^ 32 }
     ensures { Reads low_of result (spec.term_after (spec.read_term (look_of scope.now) room) word.now under rest.now) }
 {
-    read_term(scope, under, room, behind(word, rest)?)
+    read_term(scope, under, room, past(word, rest)?)
 }
 
 /// What stands after a parenthesis.
@@ -133,7 +133,7 @@ fn read_enclosed<'t>(
         read_let(scope, under, room, skip(rest, 4))
     } else {
         let (first, rest) = read_term(scope, under, room, rest)?;
-        read_behind_first(scope, first, under, room, rest)
+        read_after_first(scope, first, under, room, rest)
     }
 }
 
@@ -172,7 +172,7 @@ fn read_let<'t>(
 
 /// What stands after the first term in parentheses.
 #[cycle(read_term)]
-fn read_behind_first<'t>(
+fn read_after_first<'t>(
     scope: &Scope,
     head: Low,
     under: u32,
@@ -180,9 +180,9 @@ fn read_behind_first<'t>(
     rest: &'t [u8],
 ) -> Result<(Low, &'t [u8]), Halt>
     requires { under + room + 1 < 2 ^ 32 }
-    ensures { Reads low_of result (spec.behind_first (spec.read_term (look_of scope.now) room) (tree_of head.term) under rest.now) }
+    ensures { Reads low_of result (spec.after_first (spec.read_term (look_of scope.now) room) (tree_of head.term) under rest.now) }
 {
-    let rest = behind(b" ", rest)?;
+    let rest = past(b" ", rest)?;
     if first(rest) == b'-' {
         read_product(scope, head, under, room, rest)
     } else if is_application(&head.term) {

@@ -6,7 +6,7 @@ ghost use Rattle.core_text.specs.TermReading.{term_after};
 ghost use Rattle.core_text.specs.declared.halt.Halt.TheVariants.{Memory};
 
 use crate::halt::Halt;
-use crate::scanning::behind;
+use crate::scanning::past;
 use crate::scope::Scope;
 use crate::term_reader::read_term;
 use core_terms::{MAX_HEIGHT, Term};
@@ -53,5 +53,5 @@ pub(crate) fn read_whole_after<'t>(
 ) -> Result<(Term, &'t [u8]), Halt>
     ensures { Reads tree_of result (term_after (whole_term scope.now.sig.now scope.now.own.now) word.now count rest.now) }
 {
-    read_whole(scope, count, behind(word, rest)?)
+    read_whole(scope, count, past(word, rest)?)
 }

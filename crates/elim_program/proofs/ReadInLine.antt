@@ -16,17 +16,17 @@ use Rattle.surface_syntax.specs.Spelling.{piece}
 use Rattle.surface_syntax.specs.declared.token.Piece.{Piece}
 use Rattle.surface_syntax.specs.declared.token.Piece.TheVariants.{Gap, Found, Bad}
 use Rattle.surface_syntax.specs.declared.token.TokenKind.TheVariants.{Plain, Dotted, Number, Keyword, Mark}
-use Rattle.core_text.specs.EntryReading.{behind_notes, shows_entry, shown_by, entry_at, next_entry, with_offset, entry_from}
+use Rattle.core_text.specs.EntryReading.{after_notes, shows_entry, shown_by, entry_at, next_entry, with_offset, entry_from}
 use Rattle.core_sig.specs.Instances.{is_eliminator, is_axiom_k}
-use Rattle.core_text.specs.LineReading.{whole_term, ended, definition_at, family_name, level_list, levels_left, identities_left, eliminator_at, axiom_k_line, behind_item, collected, parameters_at, constructor_at, separated, next_constructor, constructors_at, family_behind, family_at, line_at}
+use Rattle.core_text.specs.LineReading.{whole_term, ended, definition_at, family_name, level_list, levels_left, identities_left, eliminator_at, axiom_k_line, after_item, collected, parameters_at, constructor_at, separated, next_constructor, constructors_at, family_after, family_at, line_at}
 use Rattle.core_text.specs.Lines.{is_in_line, AreInLine}
-use Rattle.core_text.specs.NameRuns.{are_name_chars, is_name_char, name_char_len, run_behind, run_len, width}
+use Rattle.core_text.specs.NameRuns.{are_name_chars, is_name_char, name_char_len, run_after, run_len, width}
 use Rattle.core_text.specs.RawEntries.{RawEntry, RawFamilyOf, RawEliminator, RawAxiomK, RawDefinition}
-use Rattle.core_text.specs.Reading.{Reading, wrong, first, and_then, after, behind, begins, read_level, is_left}
+use Rattle.core_text.specs.Reading.{Reading, wrong, first, and_then, after, past, begins, read_level, is_left}
 use Rattle.core_text.specs.TermReading.{term_after}
 use Rattle.core_text.specs.declared.stop.CoreTextStop.{CoreTextStop}
 use Rattle.core_text.proofs.Feeds.{both}
-use Rattle.core_text.proofs.Outcomes.{Ensures, ensures-then, ensures-if, ensures-behind}
+use Rattle.core_text.proofs.Outcomes.{Ensures, ensures-then, ensures-if, ensures-past}
 use Rattle.core_text.proofs.TermOutcomes.{IsLevel, read_level-within}
 use Rattle.elim_program.proofs.RefusalsInLine.{join}
 use Rattle.elim_program.proofs.TokensInLine.{all-in, encodes-in, feed-continues}
@@ -48,20 +48,20 @@ first-in b bytes = go (nat_le (width b) (length (b ∷ bytes)) && are_name_chars
     go true e = chars-in (take (width b) (b ∷ bytes)) (and_parts (nat_le (width b) (length (b ∷ bytes))) (are_name_chars (take (width b) (b ∷ bytes))) e).1
     go false e = refl
 
-run-in : (k : ℕ) (bytes : List ℕ) → is_in_line (take (run_behind k bytes) (drop k bytes)) ≡ true
+run-in : (k : ℕ) (bytes : List ℕ) → is_in_line (take (run_after k bytes) (drop k bytes)) ≡ true
 run-in k [] = refl
 run-in (suc k) (b ∷ bytes) = run-in k bytes
 run-in zero (b ∷ bytes) = go (name_char_len (b ∷ bytes)) (first-in b bytes) (λ n. run-in n bytes)
   where
-    go : (n : ℕ) → is_in_line (take n (b ∷ bytes)) ≡ true → ((m : ℕ) → is_in_line (take (run_behind m bytes) (drop m bytes)) ≡ true)
-        → is_in_line (take (if n == 0 then 0 else n + run_behind (n - 1) bytes) (b ∷ bytes)) ≡ true
+    go : (n : ℕ) → is_in_line (take n (b ∷ bytes)) ≡ true → ((m : ℕ) → is_in_line (take (run_after m bytes) (drop m bytes)) ≡ true)
+        → is_in_line (take (if n == 0 then 0 else n + run_after (n - 1) bytes) (b ∷ bytes)) ≡ true
     go zero h rec = refl
     go (suc n) h rec =
         let some : (suc n == 0) ≡ false = grind (arith, nat_tests) in
         let less : suc n - 1 ≡ n = omega arith in
-        let parts : take (if suc n == 0 then 0 else suc n + run_behind (suc n - 1) bytes) (b ∷ bytes) ≡ take (suc n) (b ∷ bytes) ++ take (run_behind n bytes) (drop n bytes) =
-        ap (λ c. take (if c then 0 else suc n + run_behind (suc n - 1) bytes) (b ∷ bytes)) some ∙ ap (λ m. take (suc n + run_behind m bytes) (b ∷ bytes)) less ∙ take-add (suc n) (run_behind n bytes) (b ∷ bytes) in
-        subst (λ x. is_in_line x ≡ true) (sym parts) (both (take (suc n) (b ∷ bytes)) (take (run_behind n bytes) (drop n bytes)) h (rec n))
+        let parts : take (if suc n == 0 then 0 else suc n + run_after (suc n - 1) bytes) (b ∷ bytes) ≡ take (suc n) (b ∷ bytes) ++ take (run_after n bytes) (drop n bytes) =
+        ap (λ c. take (if c then 0 else suc n + run_after (suc n - 1) bytes) (b ∷ bytes)) some ∙ ap (λ m. take (suc n + run_after m bytes) (b ∷ bytes)) less ∙ take-add (suc n) (run_after n bytes) (b ∷ bytes) in
+        subst (λ x. is_in_line x ≡ true) (sym parts) (both (take (suc n) (b ∷ bytes)) (take (run_after n bytes) (drop n bytes)) h (rec n))
 
 abbrev NameIn : List ℕ → List ℕ → Type 0
 NameIn name r = is_in_line name ≡ true
@@ -115,11 +115,11 @@ any-then : {A B : Type 0} (Q : B → List ℕ → Type 0) (m : Reading A) (next 
 any-then Q (Ok p) next k = k p.0 p.1
 any-then Q (Err e) next k = tt
 
-any-behind : {B : Type 0} (Q : B → List ℕ → Type 0) (word rest : List ℕ) (next : List ℕ → Reading B) → ((r : List ℕ) → Ensures Q (next r)) → Ensures Q (after (behind word rest) next)
-any-behind Q word rest next k = ensures-behind Q word rest next (λ r is. k r)
+any-past : {B : Type 0} (Q : B → List ℕ → Type 0) (word rest : List ℕ) (next : List ℕ → Reading B) → ((r : List ℕ) → Ensures Q (next r)) → Ensures Q (after (past word rest) next)
+any-past Q word rest next k = ensures-past Q word rest next (λ r is. k r)
 
 ended-read : (S : Signature) (raw : RawEntry) (rest : List ℕ) → IsRead S raw → Ensures (Read S) (ended raw rest)
-ended-read S raw rest is = any-behind (Read S) (codes "\n") rest (λ end. Ok (raw, end)) (λ r. is)
+ended-read S raw rest is = any-past (Read S) (codes "\n") rest (λ end. Ok (raw, end)) (λ r. is)
 
 definition-read : (S : Signature) (rest : List ℕ) → Ensures (Read S) (definition_at S [] rest)
 definition-read S rest =
@@ -149,7 +149,7 @@ eliminator-read : (S : Signature) (rest : List ℕ) → Ensures (Read S) (elimin
 unfolding levels_left
 eliminator-read S rest =
     any-then (Read S) (family_name S rest) _
-    (λ n r1. any-behind (Read S) (codes " ") r1 _
+    (λ n r1. any-past (Read S) (codes " ") r1 _
     (λ r2. level-then (Read S) (level_list (λ k. not (list_any (is_eliminator n k) S.entries)) 0 top) r2 _
     (λ m r3 left. ended-read S (RawEliminator n m) r3 (record {
       missing = denied (list_any (is_eliminator n m) S.entries) (left-first (λ k. not (list_any (is_eliminator n k) S.entries)) top m left);
@@ -160,7 +160,7 @@ axiom_k-read : (S : Signature) (rest : List ℕ) → Ensures (Read S) (axiom_k_l
 unfolding levels_left
 axiom_k-read S rest =
     any-then (Read S) (read_level (identities_left S) rest) _
-    (λ i r1. any-behind (Read S) (codes " ") r1 _
+    (λ i r1. any-past (Read S) (codes " ") r1 _
     (λ r2. level-then (Read S) (level_list (λ k. not (list_any (is_axiom_k i k) S.entries)) 0 top) r2 _
     (λ m r3 left. ended-read S (RawAxiomK i m) r3 (record {
       missing = denied (list_any (is_axiom_k i m) S.entries) (left-first (λ k. not (list_any (is_axiom_k i k) S.entries)) top m left);
@@ -186,10 +186,10 @@ collected-in : (next : List RawConstructor → List ℕ → Reading (Option RawC
     (k : ℕ) (found : List RawConstructor) (rest : List ℕ) → AreInLine (named found) → Ensures AreNamed (collected next k found rest)
 collected-in next step zero found rest h = tt
 collected-in next step (suc k) found rest h =
-    ensures-then Next AreNamed (next found rest) (behind_item (collected next k) found) (step found rest) (λ o r is. item (λ xs r g. collected-in next step k xs r g) o r is)
+    ensures-then Next AreNamed (next found rest) (after_item (collected next k) found) (step found rest) (λ o r is. item (λ xs r g. collected-in next step k xs r g) o r is)
   where
     item : ((xs : List RawConstructor) (r : List ℕ) → AreInLine (named xs) → Ensures AreNamed (collected next k xs r)) → (o : Option RawConstructor) (r : List ℕ) → Next o r
-        → Ensures AreNamed (behind_item (collected next k) found o r)
+        → Ensures AreNamed (after_item (collected next k) found o r)
     item others None r new = h
     item others (Some c) r new = others (found ++ c ∷ []) r (named-more found c h new)
 
@@ -200,19 +200,19 @@ constructor-in S own p found rest =
 
 next-in : (S : Signature) (own : List ℕ) (p : ℕ) (found : List RawConstructor) (rest : List ℕ) → Ensures Next (next_constructor S own p found rest)
 next-in S own p found rest =
-    any-behind Next (codes " ") rest _
+    any-past Next (codes " ") rest _
     (λ r. ensures-if Next (first r == 125) (Ok (None, drop 1 r)) (after (separated found r) (constructor_at S own p found)) (λ e. tt) (λ e. apart found r))
   where
     apart : (before : List RawConstructor) (r : List ℕ) → Ensures Next (after (separated before r) (constructor_at S own p found))
     apart [] r = constructor-in S own p found r
-    apart (c ∷ before) r = any-behind Next (codes "; ") r (constructor_at S own p found) (λ r2. constructor-in S own p found r2)
+    apart (c ∷ before) r = any-past Next (codes "; ") r (constructor_at S own p found) (λ r2. constructor-in S own p found r2)
 
 family-read : (S : Signature) (rest : List ℕ) → Ensures (Read S) (family_at S [] rest)
 family-read S rest =
     ensures-then NameIn (Read S) (new_name S [] [] rest) _ (name-in S [] [] rest)
     (λ name r1 own. any-then (Read S) (parameters_at S [] r1) _
     (λ parameters r2. any-then (Read S) (whole_term S [] (length parameters) r2) _
-    (λ type r3. any-behind (Read S) (codes " {") r3 (family_behind S name parameters type)
+    (λ type r3. any-past (Read S) (codes " {") r3 (family_after S name parameters type)
     (λ r4. ensures-then AreNamed (Read S) (constructors_at S name (length parameters) r4) _
     (collected-in (next_constructor S name (length parameters)) (next-in S name (length parameters)) (length r4) [] r4 tt)
     (λ constructors end list. ended-read S (RawFamilyOf (record { name = name; parameters = parameters; type = type; constructors = constructors })) end
@@ -220,13 +220,13 @@ family-read S rest =
 
 line-read : (S : Signature) (rest : List ℕ) → Ensures (Read S) (line_at S [] rest)
 line-read S rest =
-    ensures-if (Read S) (begins (codes "de") rest) (after (behind (codes "def ") rest) (definition_at S [])) _
-    (λ e. any-behind (Read S) (codes "def ") rest (definition_at S []) (definition-read S))
-    (λ e. ensures-if (Read S) (first rest == 101) (after (behind (codes "elim ") rest) (eliminator_at S)) _
-    (λ e. any-behind (Read S) (codes "elim ") rest (eliminator_at S) (eliminator-read S))
-    (λ e. ensures-if (Read S) (S.has_k && (first rest == 97)) (after (behind (codes "axiomk ") rest) (axiom_k_line S)) _
-    (λ e. any-behind (Read S) (codes "axiomk ") rest (axiom_k_line S) (axiom_k-read S))
-    (λ e. any-behind (Read S) (codes "data ") rest (family_at S []) (family-read S))))
+    ensures-if (Read S) (begins (codes "de") rest) (after (past (codes "def ") rest) (definition_at S [])) _
+    (λ e. any-past (Read S) (codes "def ") rest (definition_at S []) (definition-read S))
+    (λ e. ensures-if (Read S) (first rest == 101) (after (past (codes "elim ") rest) (eliminator_at S)) _
+    (λ e. any-past (Read S) (codes "elim ") rest (eliminator_at S) (eliminator-read S))
+    (λ e. ensures-if (Read S) (S.has_k && (first rest == 97)) (after (past (codes "axiomk ") rest) (axiom_k_line S)) _
+    (λ e. any-past (Read S) (codes "axiomk ") rest (axiom_k_line S) (axiom_k-read S))
+    (λ e. any-past (Read S) (codes "data ") rest (family_at S []) (family-read S))))
 
 -- The next entry.
 
@@ -244,7 +244,7 @@ entry-read S (b ∷ rest) = shown-read S (length S.entries) (b ∷ rest) (line_a
 
 next-read : (S : Signature) (rest : List ℕ) → Ensures (NextEntry S) (next_entry S rest)
 next-read S rest =
-    elim (behind_notes false rest) as (λ m. Ensures (NextEntry S) (after m (entry_at S))) [
+    elim (after_notes false rest) as (λ m. Ensures (NextEntry S) (after m (entry_at S))) [
       | Ok r ↦ entry-read S r
       | Err h ↦ tt
     ]

@@ -2,7 +2,7 @@ use Rattle.std.proofs.Common.{rules, ◌≡◌, ◌-◌, [], ◌∷◌, ◌++◌
 use Rattle.std.specs.Prelude.{Ok, Option, Some, None, option_map}
 use Rattle.std.proofs.lemmas.List.{map-append}
 use Rattle.core_sig.specs.Raw.{RawConstructor, raw_constructor_of}
-use Rattle.core_text.specs.LineReading.{behind_item, collected, next_constructor}
+use Rattle.core_text.specs.LineReading.{after_item, collected, next_constructor}
 use Rattle.core_text.specs.Reading.{Reading, Reads, and_then}
 use Rattle.core_text.proofs.Collecting.{collected_step, collected_more, collected_end}
 use Rattle.core_text.proofs.data_reader.read_constructors.Goals as goal
@@ -11,7 +11,7 @@ pub returns-in_err-next : goal.returns-in_err-next
 returns-in_err-next c =
     let next = next_constructor c.args.scope.now.sig.now c.args.scope.now.own.now c.args.count in
     let found = map raw_constructor_of c.constructors.found in
-    let step = ap (λ cs. and_then (next (map raw_constructor_of cs) c.constructors.rest.now) (behind_item (collected next (c.constructors.turns - 1)) found)) c.as_slice.ensures ∙ collected_step next c.constructors.turns found c.constructors.rest.now (omega arith) in
+    let step = ap (λ cs. and_then (next (map raw_constructor_of cs) c.constructors.rest.now) (after_item (collected next (c.constructors.turns - 1)) found)) c.as_slice.ensures ∙ collected_step next c.constructors.turns found c.constructors.rest.now (omega arith) in
     subst (λ m. Reads (map raw_constructor_of) c.from_residual.result m) (step ∙ c.constructors.invariant) (search rules)
 
 pub returns-in_default : goal.returns-in_default

@@ -3,7 +3,7 @@ use Rattle.std.specs.Prelude.{Ok, Option, Some, None, option_map}
 use Rattle.std.proofs.lemmas.List.{length-map, map-append}
 use Rattle.theory.specs.Terms.{Term}
 use Rattle.core_terms.specs.Meanings.{tree_of, tele_of}
-use Rattle.core_text.specs.LineReading.{behind_item, collected, next_parameter}
+use Rattle.core_text.specs.LineReading.{after_item, collected, next_parameter}
 use Rattle.core_text.specs.Reading.{Reading, Reads, and_then}
 use Rattle.core_text.proofs.Collecting.{collected_step, collected_more, collected_end}
 use Rattle.core_text.proofs.data_reader.read_parameters.Goals as goal
@@ -15,7 +15,7 @@ returns-in_err-next c =
     let next = λ (found : List Term) (r : List ℕ). next_parameter S own (length found) r in
     let found = tele_of c.parameters.found in
     let count : length c.as_slice.result.now ≡ length found = ap length c.as_slice.ensures ∙ sym (length-map c.parameters.found tree_of) in
-    let step = ap (λ j. and_then (next_parameter S own j c.parameters.rest.now) (behind_item (collected next (c.parameters.turns - 1)) found)) count ∙ collected_step next c.parameters.turns found c.parameters.rest.now (omega arith) in
+    let step = ap (λ j. and_then (next_parameter S own j c.parameters.rest.now) (after_item (collected next (c.parameters.turns - 1)) found)) count ∙ collected_step next c.parameters.turns found c.parameters.rest.now (omega arith) in
     subst (λ m. Reads tele_of c.from_residual.result m) (step ∙ c.parameters.invariant) (search rules)
 
 pub returns-in_default : goal.returns-in_default

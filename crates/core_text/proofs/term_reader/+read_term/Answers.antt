@@ -6,7 +6,7 @@ use Rattle.core_terms.specs.Meanings.{tree_of}
 use Rattle.core_text.specs.Reading.{Reads, first}
 use Rattle.core_text.specs.Scopes.{look_of}
 use Rattle.core_text.specs.TermReading.{is_application, read_term, arguments_from, enclosed_at}
-use Rattle.core_text.proofs.TermSteps.{term_open, term_named, arguments_step, arguments_more, arguments_end, arguments_none, behind_arrow, behind_application, behind_head}
+use Rattle.core_text.proofs.TermSteps.{term_open, term_named, arguments_step, arguments_more, arguments_end, arguments_none, after_arrow, after_application, after_head}
 use Rattle.core_text.proofs.term_reader.+read_term.Goals as goal
 
 pub read_arguments-returns-in_err-longer : goal.read_arguments-returns-in_err-longer
@@ -35,26 +35,26 @@ read_arguments-returns t c not_memory =
     let inner = read_term (look_of c.args.scope.now) c.args.room in
     arguments_none inner c.arguments.more (tree_of c.arguments.whole.term) c.args.under c.arguments.rest.now (omega arith) ∙ c.arguments.invariant
 
-pub read_behind_first-returns-then-first-eq45 : goal.read_behind_first-returns-then-first-eq45
-read_behind_first-returns-then-first-eq45 t c =
+pub read_after_first-returns-then-first-eq45 : goal.read_after_first-returns-then-first-eq45
+read_after_first-returns-then-first-eq45 t c =
     let inner = read_term (look_of c.args.scope.now) c.args.room in
     let arrow : (first c.in_ok-rest.rest.now == 45) ≡ true = grind (arith, nat_tests) in
-    let step = behind_arrow inner (tree_of c.args.head.term) c.args.under c.args.rest.now c.in_ok-rest.rest.now c.in_ok-rest.ensures arrow in
+    let step = after_arrow inner (tree_of c.args.head.term) c.args.under c.args.rest.now c.in_ok-rest.rest.now c.in_ok-rest.ensures arrow in
     subst (λ m. Reads low_of c.read_product.result m) step c.read_product.ensures
 
-pub read_behind_first-returns-then-is_application : goal.read_behind_first-returns-then-is_application
-read_behind_first-returns-then-is_application t c not_memory =
+pub read_after_first-returns-then-is_application : goal.read_after_first-returns-then-is_application
+read_after_first-returns-then-is_application t c not_memory =
     let inner = read_term (look_of c.args.scope.now) c.args.room in
     let other : (first c.in_ok-rest.rest.now == 45) ≡ false = grind (arith, nat_tests) in
     let application : is_application (tree_of c.args.head.term) ≡ true = search rules in
-    behind_application inner (tree_of c.args.head.term) c.args.under c.args.rest.now c.in_ok-rest.rest.now c.in_ok-rest.ensures other application
+    after_application inner (tree_of c.args.head.term) c.args.under c.args.rest.now c.in_ok-rest.rest.now c.in_ok-rest.ensures other application
 
-pub read_behind_first-returns : goal.read_behind_first-returns
-read_behind_first-returns t c =
+pub read_after_first-returns : goal.read_after_first-returns
+read_after_first-returns t c =
     let inner = read_term (look_of c.args.scope.now) c.args.room in
     let other : (first c.in_ok-rest.rest.now == 45) ≡ false = grind (arith, nat_tests) in
     let head : is_application (tree_of c.args.head.term) ≡ false = search rules in
-    let step = behind_head inner (tree_of c.args.head.term) c.args.under c.args.rest.now c.in_ok-rest.rest.now c.in_ok-rest.ensures other head in
+    let step = after_head inner (tree_of c.args.head.term) c.args.under c.args.rest.now c.in_ok-rest.rest.now c.in_ok-rest.ensures other head in
     subst (λ m. Reads low_of c.read_arguments.result m) step c.read_arguments.ensures
 
 pub read_term-returns-then-first-eq40 : goal.read_term-returns-then-first-eq40

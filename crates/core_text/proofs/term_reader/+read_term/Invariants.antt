@@ -25,8 +25,8 @@ decreases-read_function l = 8 * l.room + 2
 abbrev pub decreases-read_let : goal.decreases-read_let
 decreases-read_let l = 8 * l.room + 2
 
-abbrev pub decreases-read_behind_first : goal.decreases-read_behind_first
-decreases-read_behind_first l = 8 * l.room + 3
+abbrev pub decreases-read_after_first : goal.decreases-read_after_first
+decreases-read_after_first l = 8 * l.room + 3
 
 abbrev pub decreases-read_enclosed : goal.decreases-read_enclosed
 decreases-read_enclosed l = 8 * l.room + 4
