@@ -9,7 +9,7 @@ use crate::declared_names::new_name;
 use crate::halt::Halt;
 use crate::line::Line;
 use crate::line_reader::end;
-use crate::scanning::{past, first, skip};
+use crate::scanning::{first, past, skip};
 use crate::scope::Scope;
 use crate::whole_terms::{read_whole, read_whole_after};
 use core_sig::{RawCon, RawFamily};

@@ -13,7 +13,7 @@ use crate::instances::{Series, identities_left, levels_left};
 use crate::line::Line;
 use crate::lookup::found_symbol;
 use crate::runs::run_len;
-use crate::scanning::{begins, past, first, read_level, skip};
+use crate::scanning::{begins, first, past, read_level, skip};
 use crate::scope::Scope;
 use crate::whole_terms::read_whole_after;
 use core_sig::Signature;

@@ -10,7 +10,7 @@ ghost use Rattle.core_text.specs.TermReading as spec;
 use crate::halt::Halt;
 use crate::lookup::symbol;
 use crate::runs::run_len;
-use crate::scanning::{begins, past, first, read_index, read_level, skip};
+use crate::scanning::{begins, first, past, read_index, read_level, skip};
 use crate::scope::Scope;
 use core_terms::{Low, MAX_HEIGHT, Term};
 
