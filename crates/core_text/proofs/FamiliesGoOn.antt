@@ -81,11 +81,17 @@ abbrev constructor_text : Signature → RawConstructor → List ℕ
 constructor_text T c = c.name ++ (codes " : " ++ term_text T c.type)
 
 constructors-append : (T : Signature) (found : List RawConstructor) (c : RawConstructor) → constructors_text T (codes " ") (found ++ c ∷ []) ≡ constructors_text T (codes " ") found ++ (separator found ++ constructor_text T c)
-constructors-append T [] c = simp (append_assoc, append-nil)
+constructors-append T [] c = alone (codes " ") c.name (codes " : ") (term_text T c.type)
+  where
+    alone : (a b c d : List ℕ) → (((a ++ b) ++ c) ++ d) ++ [] ≡ a ++ (b ++ (c ++ d))
+    alone a b c d = simp (append_assoc, append-nil)
 constructors-append T (d ∷ found) c = by (codes " ") d found
   where
+    both : (f a b c d : List ℕ) → f ++ ((((a ++ b) ++ c) ++ d) ++ []) ≡ (f ++ []) ++ (a ++ (b ++ (c ++ d)))
+    both f a b c d = simp (append_assoc, append-nil)
+
     by : (before : List ℕ) (d : RawConstructor) (found : List RawConstructor) → constructors_text T before (d ∷ (found ++ c ∷ [])) ≡ constructors_text T before (d ∷ found) ++ (codes " ; " ++ constructor_text T c)
-    by before d [] = simp (append_assoc, append-nil)
+    by before d [] = both (before ++ d.name ++ codes " : " ++ term_text T d.type) (codes " ; ") c.name (codes " : ") (term_text T c.type)
     by before d (e ∷ found) =
         ap (λ r. before ++ d.name ++ codes " : " ++ term_text T d.type ++ r) (by (codes " ; ") e found)
         ∙ sym (append_assoc (before ++ d.name ++ codes " : " ++ term_text T d.type) (constructors_text T (codes " ; ") (e ∷ found)) (codes " ; " ++ constructor_text T c))
