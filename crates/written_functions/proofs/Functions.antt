@@ -1,5 +1,5 @@
 -- A function by clauses that is accepted is as it is written.
-use Rattle.std.proofs.Common.{◌≡◌, ℕ, ◌+◌, ◌≤◌, List, [], ◌∷◌, length, length-append, Result, Ok, Err, IfOk, refl, sym, ap, ◌∙◌, subst as transport, arith}
+use Rattle.std.proofs.Common.{◌≡◌, ℕ, zero, suc, ◌+◌, ◌<◌, ◌≤◌, List, [], ◌∷◌, drop, length, length-append, Result, Ok, Err, IfOk, refl, sym, ap, ◌∙◌, subst as transport, arith}
 use Rattle.theory.specs.Terms.{Term}
 use Rattle.theory.specs.Signatures.{Definition, IsPrefix, Signature}
 use Rattle.theory.specs.SignatureScopes.{HasEntries}
@@ -14,7 +14,10 @@ use Rattle.surface_syntax.specs.Trees as surf
 use Rattle.surface_syntax.specs.declared.tree.Word.{Word}
 use Rattle.elab_session.proofs.Resolved.{prelude-stays}
 use Rattle.elab_session.specs.Sessions.{IsReady}
+use Rattle.tree_translation.specs.Naming.{helper_name}
 use Rattle.tree_translation.specs.Plans.{Plan}
+use Rattle.clause_reports.specs.Equations.{part_named}
+use Rattle.theory.proofs.Lists.{slice_get-last}
 use Rattle.clause_reports.proofs.Keeping.{Grows, grows_on, weaker}
 use Rattle.elaboration.specs.Functions.{Lines, enter_plan, function_level, function_of, plan_of, report_parts}
 use Rattle.elaboration.specs.Refusals.{Elaborating, OfType, answers, granted}
@@ -35,11 +38,16 @@ use Rattle.written_functions.specs.Functions.{IsByClauses}
 use Rattle.written_functions.specs.Laws.{FunctionsAreByClauses}
 use Rattle.written_functions.proofs.Equations.{placed_at}
 use Rattle.written_functions.proofs.MadeClosed.{ClosedAt, function-closed, next-tied}
+use Rattle.written_functions.proofs.PartEntries.{HasHelpers, HasName, helpers-enter, name-stays}
 use Rattle.written_functions.proofs.PlanClauses.{parts-placed}
-use Rattle.written_functions.proofs.PlanGiven.{IsPlanGiven, plan-given}
+use Rattle.written_functions.proofs.PlanGiven.{IsPlanGiven, helpers-count, plan-given}
 use Rattle.written_functions.proofs.Tellings.{IsBase, Tells, parts-tell}
 
 -- ---- the function
+
+both : {A E : Type 0} (P Q Z : A → Type 0) (r : Result A E) → IfOk r P → IfOk r Q → ((a : A) → P a → Q a → Z a) → IfOk r Z
+both P Q Z (Ok a) p q k = k a p q
+both P Q Z (Err e) p q k = tt
 
 -- what is said of the lines of a function
 record IsTold (S : Signature) (f : Function) (l : Lines) : Type 0 where
@@ -68,18 +76,35 @@ pushed-longer S B T name type body g h =
       length-append B.entries (Definition name type body ∷ []),
     )
 
+-- each part is there under its name
+parts-there : (S : Signature) (f : Function) (plan : Plan) (T : Signature) (h : IsPlanGiven S f plan) → HasOwn S f.name f.type T → HasHelpers plan T
+    → (k : ℕ) → k < length (parts_of f) → HasName T (part_named f.name k)
+parts-there S f plan T h own helpers zero low =
+    name-stays (pushed own.before (Definition f.name f.type own.body)) T f.name own.entered.prefix
+    (record {
+      number = length own.before.entries;
+      type = f.type;
+      body = own.body;
+      there = slice_get-last own.before.entries (Definition f.name f.type own.body);
+    })
+parts-there S f plan T h own helpers (suc k) low =
+    let less : k < length (drop 1 plan.parts) = omega (arith, low, helpers-count S f plan h) in
+    transport (λ name. HasName T (helper_name name (suc k))) h.name
+    (transport (λ n. HasName T (helper_name plan.name n)) (let e : 1 + k ≡ suc k = omega arith in e) (helpers k less))
+
 plan-told : (S : Signature) (f : Function) (plan : Plan) (T : Signature) (left : ℕ) → IsWellFormed S → HasPrelude S → IsPlanGiven S f plan
-    → HasOwn S plan.name plan.type T → Answers (IsTold S f) (report_parts plan 0 plan.parts T left)
-plan-told S f plan T left well first h entered =
+    → HasOwn S plan.name plan.type T → HasHelpers plan T → Answers (IsTold S f) (report_parts plan 0 plan.parts T left)
+plan-told S f plan T left well first h entered helpers =
     let own : HasOwn S f.name f.type T = named S f plan T h entered in
     let Own = pushed own.before (Definition f.name f.type own.body) in
     let g : Grows S T = grows_on S own.before T own.longer (grows_on own.before Own T own.enters own.entered) in
-    let base : IsBase S Own plan T = record {
+    let base : IsBase S Own f plan T = record {
       well = g.keeps well first;
       prelude = prelude-stays S T first g.prefix;
       own = own.entered.prefix;
       before = g.prefix;
       low = omega (arith, h.base, pushed-longer S own.before T f.name f.type own.body own.longer own.entered);
+      parts = parts-there S f plan T h own helpers;
     } in
     weaker (Tells S Own f plan h T (placed_from 0 (parts_of f))) (IsTold S f) (report_parts plan 0 plan.parts T left).0
     (λ l r. record { with_plan = T; own = own; grown = r.grows; helpers = (placed_at S f plan).helpers; trees = (placed_at S f plan).trees; told = r.told })
@@ -95,9 +120,12 @@ function-told S f fuel well first entries over closed =
     let same : level_of S f.type fuel ≡ answers (Ok level) found.1 =
     ap (λ r. on_answer r found.1 (λ s rest. answers (function_level S s) rest)) sort_is ∙ ap (λ r. answers r found.1) level_is in
     and_next-has (IsPlanGiven S f) P (plan_of S f level found.1) _ (plan-given S f level found.1 over (closed level found.1 same)) (λ plan end h.
-    and_next-has (HasOwn S plan.name plan.type) P (enter_plan S plan end) _
-    (plan-enters S plan end h.base (transport (HasEntries S) (sym h.type) entries)) (λ T last own.
-    plan-told S f plan T last well first h own))))
+    let Q : Signature → Type 0 = λ T. HasOwn S plan.name plan.type T × HasHelpers plan T in
+    and_next-has Q P (enter_plan S plan end) _
+    (both (HasOwn S plan.name plan.type) (HasHelpers plan) Q (enter_plan S plan end).0
+    (plan-enters S plan end h.base (transport (HasEntries S) (sym h.type) entries)) (helpers-enter S plan end) (λ T own helpers. (own, helpers)))
+    (λ T last own.
+    plan-told S f plan T last well first h own.0 own.1))))
 
 -- ---- the declaration
 
@@ -119,10 +147,6 @@ made-has P S x fuel f h = by (function_made S f fuel) refl
     by (Ok l, left) is =
         transport (λ (m : Elaborating Lines). IfOk m.0 Q) (function-answers S f fuel l left is) (h l (ap (λ (m : Elaborating Lines). m.0) is))
     by (Err e, left) is = tt
-
-both : {A E : Type 0} (P Q Z : A → Type 0) (r : Result A E) → IfOk r P → IfOk r Q → ((a : A) → P a → Q a → Z a) → IfOk r Z
-both P Q Z (Ok a) p q k = k a p q
-both P Q Z (Err e) p q k = tt
 
 -- what the lines say, with the function that was resolved
 record IsLined (S : Signature) (x : Word) (ty : surf.Surf) (clauses : surf.Clauses) (a : Elaborated) : Type 0 where

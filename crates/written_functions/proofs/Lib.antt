@@ -5,6 +5,7 @@ pub mod HelperColumns
 pub mod Leaves
 pub mod MadeClosed
 pub mod Numbers
+pub mod PartEntries
 pub mod PartScopes
 pub mod PlanClauses
 pub mod PlanGiven

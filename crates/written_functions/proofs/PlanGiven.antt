@@ -1,5 +1,5 @@
 -- The plan of a function has, part by part, what the walks of its clauses give.
-use Rattle.std.proofs.Common.{◌≡◌, ℕ, zero, suc, ◌+◌, Option, Some, List, [], ◌∷◌, length, slice_get, get_or, Result, Ok, Err, IfOk, refl, sym, ap, ◌∙◌, subst as transport, arith}
+use Rattle.std.proofs.Common.{◌≡◌, ℕ, zero, suc, ◌+◌, Option, Some, List, [], ◌∷◌, drop, length, slice_get, get_or, Result, Ok, Err, IfOk, refl, sym, ap, ◌∙◌, subst as transport, arith}
 use Rattle.std.specs.List.{All}
 use Rattle.std.proofs.lemmas.List.Elements.{All-cons}
 use Rattle.theory.specs.Terms.{Term}
@@ -226,3 +226,21 @@ listed-at (v ∷ ws) (suc k) w at = listed-at ws k w at
 pub clauses-listed : (S : Signature) (f : Function) (plan : Plan) (h : IsPlanGiven S f plan) (k : ℕ) (w : Walked) → slice_get (h.own ∷ h.helpers) k ≡ Some w
     → slice_get (parts_of f) k ≡ Some w.clauses
 clauses-listed S f plan h k w at = transport (λ ls. slice_get ls k ≡ Some w.clauses) h.lists (listed-at (h.own ∷ h.helpers) k w at)
+
+finished-long : (T : Signature) (ws : List Walked) (ps : List Part) → AreFinished T ws ps → length ps ≡ length ws
+finished-long T [] [] h = refl
+finished-long T [] (p ∷ ps) h = absurd h
+finished-long T (w ∷ ws) [] h = absurd h
+finished-long T (w ∷ ws) (p ∷ ps) h = ap suc (finished-long T ws ps h.1)
+
+lists-long : (ws : List Walked) → length (clauses_of ws) ≡ length ws
+lists-long [] = refl
+lists-long (w ∷ ws) = ap suc (lists-long ws)
+
+-- a plan has as many helpers as there are clauses inside of others
+pub helpers-count : (S : Signature) (f : Function) (plan : Plan) (h : IsPlanGiven S f plan) → length (parts_of f) ≡ suc (length (drop 1 plan.parts))
+helpers-count S f plan h =
+    sym (ap length h.lists)
+    ∙ (lists-long (h.own ∷ h.helpers)
+    ∙ (ap suc (sym (finished-long (provisional S f.name f.type) h.helpers h.helper_parts h.helpers_are))
+    ∙ ap (λ parts. suc (length (drop 1 parts))) (sym h.parts)))

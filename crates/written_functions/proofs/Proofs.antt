@@ -33,7 +33,7 @@ use Rattle.written_functions.proofs.Numbers.{AreUnder, under-stays}
 
 -- ---- the entry
 
-abbrev IsThere : Entry → Entered → Type 0
+abbrev pub IsThere : Entry → Entered → Type 0
 IsThere e x = IsEntryAt x.signature x.number e
 
 define-there : (S : Signature) (name : List ℕ) (type body : Term) (left : ℕ) → IfOk (define_of S name type body left).0 (IsThere (Definition name type body))
@@ -47,7 +47,7 @@ not_rejected : (P : Entered → Type 0) (S : Signature) (e : Entry) (r : Result 
 not_rejected P S e (Ok a) h = h
 not_rejected P S e (Err cause) h = tt
 
-enter-there : (S : Signature) (e : Entry) (left : ℕ) → Answers (IsThere e) (enter_entry S e left)
+pub enter-there : (S : Signature) (e : Entry) (left : ℕ) → Answers (IsThere e) (enter_entry S e left)
 enter-there S (Definition name type body) left =
     not_rejected (IsThere (Definition name type body)) S (Definition name type body) (define_of S name type body left).0 (define-there S name type body left)
 enter-there S (FamilyOf f) left = tt

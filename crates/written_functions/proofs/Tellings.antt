@@ -28,11 +28,12 @@ use Rattle.equation_laws.proofs.ShownTerms.{FamiliesStay}
 use Rattle.family_check.specs.Scopes.{HasPrelude}
 use Rattle.resolve.specs.Functions.{Function}
 use Rattle.written_functions.specs.Clauses as written
-use Rattle.written_functions.specs.Clauses.{AreLinesOf, ConvertsAt, IsLineOf, Placed, placed_from, placed_in}
+use Rattle.written_functions.specs.Clauses.{AreLinesOf, ConvertsAt, IsLineOf, Placed, parts_of, placed_from, placed_in}
 use Rattle.written_functions.proofs.Equations.{has-equation, placed_at, with-count}
 use Rattle.written_functions.proofs.Fitted.{all-fit}
 use Rattle.written_functions.proofs.Leaves.{leaves-convert}
 use Rattle.written_functions.proofs.Numbers.{all-under, scoped-under, telescope-under}
+use Rattle.written_functions.proofs.PartEntries.{HasName, name-stays, part-there}
 use Rattle.written_functions.proofs.PlanClauses.{ArePartsPlaced, ArePlaced, IsPlaced, earlier-there, placed-pats}
 use Rattle.written_functions.proofs.PlanGiven.{IsPlanGiven}
 use Rattle.written_functions.proofs.Proofs.{IsClosedUnder, IsProvedBy, SaysProved, report-says}
@@ -44,20 +45,22 @@ prefix-longer : (S T : Signature) → IsPrefix S T → length S.entries ≤ leng
 prefix-longer S T h = omega (arith, ap length h.entries, length-append S.entries h.more)
 
 -- a well-formed signature that has the function, after more entries than there are before it
-pub record IsBase (S Own : Signature) (plan : Plan) (U : Signature) : Type 0 where
+pub record IsBase (S Own : Signature) (f : Function) (plan : Plan) (U : Signature) : Type 0 where
   pub well : IsWellFormed U
   pub prelude : HasPrelude U
   pub own : IsPrefix Own U
   pub before : IsPrefix S U
   pub low : plan.base < length U.entries
+  pub parts : (k : ℕ) → k < length (parts_of f) → HasName U (part_named f.name k)
 
-base-grows : (S Own : Signature) (plan : Plan) (U V : Signature) → Grows U V → IsBase S Own plan U → IsBase S Own plan V
-base-grows S Own plan U V g b = record {
+base-grows : (S Own : Signature) (f : Function) (plan : Plan) (U V : Signature) → Grows U V → IsBase S Own f plan U → IsBase S Own f plan V
+base-grows S Own f plan U V g b = record {
   well = g.keeps b.well b.prelude;
   prelude = prelude-stays U V b.prelude g.prefix;
   own = prefix_transitive Own U V b.own g.prefix;
   before = prefix_transitive S U V b.before g.prefix;
   low = omega (arith, b.low, prefix-longer U V g.prefix);
+  parts = λ k low. name-stays U V (part_named f.name k) g.prefix (b.parts k low);
 }
 
 -- ---- one clause
@@ -116,7 +119,7 @@ module _ (S Own : Signature) (f : Function) (plan : Plan) (h : IsPlanGiven S f p
       ∙ (ap (λ i. part_named f.name i ++ codes "!c" ++ decimal (number + 1)) (sym part)
       ∙ ap (λ i. part_named f.name c.part ++ codes "!c" ++ decimal (i + 1)) (sym number_is))
 
-  line-says : (U : Signature) (k number : ℕ) (w : Walk) (c : Placed) (p : IsPlaced S f plan h k number w c) → IsBase S Own plan U
+  line-says : (U : Signature) (k number : ℕ) (w : Walk) (c : Placed) (p : IsPlaced S f plan h k number w c) → IsBase S Own f plan U
       → (V T : Signature) (line : Line) → found.Says U plan (reference k number w) V line
       → ((n : ℕ) → line ≡ Proved n → IsProvedBy U plan (reference k number w) V n)
       → (some_absurd (pats_of (part_at plan k) number) ≡ true → line ≡ Absurd) → IsPrefix V T → IsWellFormed T
@@ -169,7 +172,7 @@ module _ (S Own : Signature) (f : Function) (plan : Plan) (h : IsPlanGiven S f p
       }
   line-says U k number w c p b V T Absurd said proved clean more well = ap some_absurd (sym (placed-pats S f plan h k number w c p)) ∙ said
 
-  told-line : (U T : Signature) (k number : ℕ) (w : Walk) (c : Placed) (r : Reported) → IsPlaced S f plan h k number w c → IsBase S Own plan U
+  told-line : (U T : Signature) (k number : ℕ) (w : Walk) (c : Placed) (r : Reported) → IsPlaced S f plan h k number w c → IsBase S Own f plan U
       → IsTold U plan (reference k number w) r → IsPrefix r.signature T → IsWellFormed T
       → IsLineOf Own T (placed_at S f plan) c (line_at plan (reference k number w) r.line)
   told-line U T k number w c r p b t more well = record {
@@ -178,6 +181,7 @@ module _ (S Own : Signature) (f : Function) (plan : Plan) (h : IsPlanGiven S f p
     over = U;
     longer = b.own;
     rest = prefix_transitive U r.signature T t.grows.prefix more;
+    parts = λ i low. part-there U (placed_at S f plan) i b.well (b.parts i low);
     says = line-says U k number w c p b r.signature T r.line t.said t.proved t.absurd_line more well;
   }
 
@@ -190,7 +194,7 @@ module _ (S Own : Signature) (f : Function) (plan : Plan) (h : IsPlanGiven S f p
 
   -- ones that follow
   abbrev AllTell : List Placed → Following → Type 0
-  AllTell cs next = (U : Signature) (left : ℕ) → IsBase S Own plan U → Answers (Tells U cs) (next U left)
+  AllTell cs next = (U : Signature) (left : ℕ) → IsBase S Own f plan U → Answers (Tells U cs) (next U left)
 
   no_report-has : {A : Type 0} (P : A → Type 0) (U : Signature) (owner : Owner) (r : Result A ReportStop) → IfOk r P → IfOk (or_no_report U owner r) P
   no_report-has P U owner (Ok a) k = k
@@ -205,7 +209,7 @@ module _ (S Own : Signature) (f : Function) (plan : Plan) (h : IsPlanGiven S f p
     terms = all-under (provisional S f.name f.type) (length w.ctx) (length U.entries) w.terms le s.terms;
   }
 
-  closed-under : (U : Signature) (k number : ℕ) (w : Walk) (c : Placed) → IsPlaced S f plan h k number w c → IsBase S Own plan U
+  closed-under : (U : Signature) (k number : ℕ) (w : Walk) (c : Placed) → IsPlaced S f plan h k number w c → IsBase S Own f plan U
       → IsClosedUnder U plan (reference k number w)
   closed-under U k number w c p b = λ e is.
       let le : length (provisional S f.name f.type).entries ≤ length U.entries = omega (arith, with-count S f.name f.type, h.base, b.low) in
@@ -214,10 +218,10 @@ module _ (S Own : Signature) (f : Function) (plan : Plan) (h : IsPlanGiven S f p
       (walk-under U w le p.one.fit.scoped) is
 
   one-more : (U : Signature) (k number : ℕ) (w : Walk) (c : Placed) (cs : List Placed) (r : Reported) (lines : Lines) → IsPlaced S f plan h k number w c
-      → IsBase S Own plan U → IsTold U plan (reference k number w) r → Tells r.signature cs lines
+      → IsBase S Own f plan U → IsTold U plan (reference k number w) r → Tells r.signature cs lines
       → Tells U (c ∷ cs) (with_line (line_at plan (reference k number w) r.line) lines)
   one-more U k number w c cs r lines p b told rest =
-      let b' = base-grows S Own plan r.signature lines.signature rest.grows (base-grows S Own plan U r.signature told.grows b) in
+      let b' = base-grows S Own f plan r.signature lines.signature rest.grows (base-grows S Own f plan U r.signature told.grows b) in
       record {
         grows = grows_on U r.signature lines.signature told.grows rest.grows;
         told = (told-line U lines.signature k number w c r p b told rest.grows.prefix b'.well, rest.told);
@@ -236,7 +240,7 @@ module _ (S Own : Signature) (f : Function) (plan : Plan) (h : IsPlanGiven S f p
       (no_report-has (IsTold U plan r) U owner (report_of U plan r left).0
       (report-told U plan r left (closed-under U k number w c placed.0 b))) (λ x more t.
       and_next-has (Tells x.signature (cs ++ others)) P (report_walks plan k (number + 1) walks next x.signature more) _
-      (walks-tell k (number + 1) walks cs others next placed.1 rest x.signature more (base-grows S Own plan U x.signature t.grows b)) (λ lines end i.
+      (walks-tell k (number + 1) walks cs others next placed.1 rest x.signature more (base-grows S Own f plan U x.signature t.grows b)) (λ lines end i.
       one-more U k number w c (cs ++ others) x lines placed.0 b t i))
 
   pub parts-tell : (k : ℕ) (parts : List Part) (lists : List Clauses) → ArePartsPlaced S f plan h k parts lists

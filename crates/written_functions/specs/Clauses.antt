@@ -81,6 +81,12 @@ with_constant f = provisional f.before f.function.name f.function.type
 abbrev pub part_number : Signature → FunctionAt → (k : ℕ) → ℕ
 part_number S f k = number_of S (part_named f.function.name k)
 
+-- part k is a definition of its name, which has this number
+pub record HasPart (S : Signature) (f : FunctionAt) (k : ℕ) : Type 0 where
+  pub type : Term
+  pub body : Term
+  pub entry : IsEntryAt S (part_number S f k) (Definition (part_named f.function.name k) type body)
+
 -- A written term with terms for the clause's variables. In it the function is the next constant after the entries before it, which gets
 -- its number in S.
 abbrev pub written_in : Signature → FunctionAt → (terms : List Term) → Term → Term
@@ -194,13 +200,15 @@ Says S f c T (Proved n) = IsProved S f c T n
 Says S f c T (Shadowed earlier context vector leaves) = IsShadowed S f c earlier vector leaves
 Says S f c T Absurd = some_absurd c.pats ≡ true
 
--- The line of a clause, over a signature from S to T: it has the name of the clause's part and the clause's number, counted from 1.
+-- The line of a clause, over a signature from S to T that has all parts: it has the name of the clause's part and the clause's number,
+-- counted from 1.
 pub record IsLineOf (S T : Signature) (f : FunctionAt) (c : Placed) (l : ClauseLine) : Type 0 where
   pub part : l.function ≡ part_named f.function.name c.part
   pub number : l.clause ≡ c.number + 1
   pub over : Signature
   pub longer : IsPrefix S over
   pub rest : IsPrefix over T
+  pub parts : (k : ℕ) → k < length (parts_of f.function) → HasPart over f k
   pub says : Says over f c T l.line
 
 -- one line for each clause, in order
