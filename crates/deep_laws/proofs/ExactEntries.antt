@@ -1,26 +1,31 @@
 -- What a plan translates to is made: each entry, and so all of them.
-use Rattle.std.proofs.Common.{◌≡◌, ◌≢◌, ℕ, suc, ◌+◌, ◌≤◌, ◌&&◌, true, cond, Option, Some, None, option_and_then, IfSome, List, [], ◌∷◌, ◌++◌, length, drop, get_or, slice_get, All, Result, Ok, Err, refl, sym, ap, ap₂, ◌∙◌, subst as transport, append_assoc, arith}
+use Rattle.std.proofs.Common.{◌≡◌, ◌≢◌, ℕ, suc, ◌+◌, ◌≤◌, ◌&&◌, true, cond, Option, Some, None, option_and_then, option_map, IfSome, List, [], ◌∷◌, ◌++◌, length, drop, get_or, slice_get, All, Result, Ok, Err, refl, sym, ap, ap₂, ◌∙◌, subst as transport, append_assoc, arith}
 use Rattle.std.proofs.lemmas.Option.{none-some}
 use Rattle.theory.specs.Terms.{Term, Sort, height}
 use Rattle.theory.specs.Telescopes.{Telescope, functions, products}
+use Rattle.theory.specs.Families.{Family}
 use Rattle.theory.specs.Signatures.{Signature}
 use Rattle.theory.specs.SignatureScopes.{IsScoped}
 use Rattle.core_terms.specs.Answers.{and_then, are_low}
 use Rattle.core_terms.specs.declared.stop.Stop.{Stop}
 use Rattle.core_terms.specs.declared.stop.Stop.TheVariants.{Deep}
+use Rattle.theory.proofs.Lists.{some_is}
 use Rattle.core_sig.specs.Drafts.{Draft}
+use Rattle.kernel_reduce.specs.Entries.{family_at}
 use Rattle.unifier.specs.Conditions.{AreLow}
+use Rattle.structural_rec.specs.Positions.{Admission, admission}
 use Rattle.structural_rec.specs.Uses.{Use}
 use Rattle.tree_translation.specs.Conditions.{IsOwnPart, IsPartOf}
 use Rattle.tree_translation.specs.Entries.{function_by_recursion, function_entry, helper_entry, helper_node, ordered_variables, part_term, side_names, step_entry, step_node, translate}
 use Rattle.tree_translation.specs.Naming.{helper_name, number_in, step_name, with_names}
 use Rattle.tree_translation.specs.Plans.{Part, Plan, no_part, own_part}
-use Rattle.tree_translation.specs.Recursion.{Recursion, first_positions, order_of, ordered_telescope, ordered_term, recursion_at, recursion_of}
+use Rattle.tree_translation.specs.Recursion.{Recursion, order_of, ordered_telescope, ordered_term, recursion_at, recursion_of, recursion_with}
 use Rattle.tree_translation.specs.TreeTerms.{tree_names}
 use Rattle.tree_translation.proofs.Drafting.{AreEntries, AreHelpers, entries-are, entries-deep}
 use Rattle.tree_translation.proofs.LevelLists.{length-levels}
 use Rattle.replay_laws.proofs.LowInstances.{height-low}
 use Rattle.replay_laws.proofs.LowParts.{low-products}
+use Rattle.leaf_terms.specs.CallsApart.{CallsStandApart}
 use Rattle.leaf_terms.specs.RecursionMade.{made_at, recursion_made}
 use Rattle.function_entries.specs.CodeEntries.{entries_made, helper_made, helpers_made, last_entries, node_type, old_order, own_order, plain_made, recursive_made, recursive_names, step_made, translate_made, with_draft}
 use Rattle.order_scopes.proofs.OrderLengths.{order-counted}
@@ -30,7 +35,7 @@ use Rattle.entry_laws.proofs.OnlyEntries.{helper-like, step-like}
 use Rattle.translation_laws.proofs.MadeEntries.{translate_made-is_entries, translate_made-only_deep}
 use Rattle.own_scopes.proofs.OwnOrders.{goal-stays, telescope-stays}
 use Rattle.step_scopes.proofs.PlanOrders.{order-there, plan-ordered}
-use Rattle.leaf_laws.specs.Laws.{DropsNoCall, PartIsExact}
+use Rattle.leaf_laws.specs.Laws.{PartIsExact}
 use Rattle.deep_laws.specs.Laws.{IsKeptPlan, TranslateAnswers, TranslateIsExact}
 use Rattle.deep_laws.proofs.MadeParts.{entry-there, numbered-low, part-begins}
 
@@ -101,13 +106,29 @@ function-low S plan (Some r) d e =
     let table = with_names [] (recursive_names plan r) in
     (numbered-low plan.name plan.base table plan.type (function_by_recursion plan r (number_in plan.base table)) d e).0
 
+-- recursion is at the position that a plan has
+position-at : (S : Signature) (j : ℕ) (o : Option Admission) (r : Recursion)
+    → option_and_then (λ a. option_map (recursion_with j a) (family_at S a.number)) o ≡ Some r → j ≡ r.position
+position-at S j None r e = absurd (none-some r e)
+position-at S j (Some a) r e = by (family_at S a.number) e
+  where
+    by : (f : Option Family) → option_map (recursion_with j a) f ≡ Some r → j ≡ r.position
+    by None e = absurd (none-some r e)
+    by (Some f) e = ap (λ (r : Recursion). r.position) (some_is e)
+
+position-there : (S : Signature) (tele : Telescope) (position : Option ℕ) (r : Recursion) (P : ℕ → Type 0)
+    → option_and_then (recursion_at S tele) position ≡ Some r → IfSome position P → P r.position
+position-there S tele None r P e h = absurd (none-some r e)
+position-there S tele (Some j) r P e h = transport P (position-at S j (admission S tele j) r e) h
+
 -- ---- each entry
 
 module _ (exact : PartIsExact) (S : Signature) (plan : Plan) (kept : IsKeptPlan S plan) where
-  drops-none : (o : Option Recursion) (k : ℕ) (part : Part) → recursion_of S plan ≡ o → slice_get plan.parts k ≡ Some part → (clause : ℕ)
-      → IfSome o (λ r. DropsNoCall plan.base (first_positions r) (get_or part.sides clause (Sort 0)))
-  drops-none o k part is at clause =
-      transport (λ o. IfSome o (λ r. DropsNoCall plan.base (first_positions r) (get_or part.sides clause (Sort 0)))) is (kept.drops k part at clause)
+  calls-apart : (o : Option Recursion) (k : ℕ) (part : Part) → recursion_of S plan ≡ o → slice_get plan.parts k ≡ Some part → (clause : ℕ)
+      → IfSome o (λ r. CallsStandApart plan.base r.position (get_or part.sides clause (Sort 0)))
+  calls-apart None k part is at clause = tt
+  calls-apart (Some r) k part is at clause =
+      position-there S (own_part plan).tele plan.position r (λ j. CallsStandApart plan.base j (get_or part.sides clause (Sort 0))) is (kept.apart k part at clause)
 
   helper-there : (o : Option Recursion) (k : ℕ) (part : Part) (d : Draft) → recursion_of S plan ≡ o → slice_get plan.parts (k + 1) ≡ Some part
       → helper_entry S plan o (k + 1) part ≡ Ok d → helper_made S plan o (k + 1) part ≡ Ok d
@@ -117,7 +138,7 @@ module _ (exact : PartIsExact) (S : Signature) (plan : Plan) (kept : IsKeptPlan 
       (λ number. node_type (helper_node plan o part number)) d kept.ready kept.planned.base
       (part-begins S plan kept.planned.uses (k + 1) part part.tele part.goal part.terms (helper_node plan o part) kept.ready whole whole.context_scoped whole.goal_scoped
       whole.terms_scoped (λ number. helper_node-over plan o part number) (λ number other. helper-like plan o part number other))
-      (drops-none o (k + 1) part is at) e
+      (calls-apart o (k + 1) part is at) e
 
   own-at : slice_get plan.parts 0 ≡ Some (own_part plan)
   own-at = first-part plan.parts kept.planned.there
@@ -139,7 +160,7 @@ module _ (exact : PartIsExact) (S : Signature) (plan : Plan) (kept : IsKeptPlan 
       (part-begins S plan kept.planned.uses 0 own tele goal terms (step_node plan r) kept.ready (own-ordered S plan kept.planned.uses r is kept.planned.own)
       ordered.telescope ordered.goal (transport (λ n. All (IsScoped S n) terms) (sym long) (variables-scoped S order count (omega (arith, counted))))
       (λ number. step_node-over plan r number) (λ number other. step-like plan r number other))
-      (drops-none (Some r) 0 own is own-at) e
+      (calls-apart (Some r) 0 own is own-at) e
 
   plain-there : (d : Draft) → recursion_of S plan ≡ None → function_entry S plan None ≡ Ok d → plain_made S plan (own_part plan) ≡ Ok d
   plain-there d is e =
@@ -153,7 +174,7 @@ module _ (exact : PartIsExact) (S : Signature) (plan : Plan) (kept : IsKeptPlan 
       kept.planned.base
       (part-begins S plan kept.planned.uses 0 own own.tele own.goal terms (helper_node plan None own) kept.ready whole whole.context_scoped whole.goal_scoped
       (variables-scoped S order count (omega (arith, long))) (λ number. helper_node-over plan None own number) (λ number other. helper-like plan None own number other))
-      (drops-none None 0 own is own-at) e
+      (calls-apart None 0 own is own-at) e
 
   -- ---- all of them
 

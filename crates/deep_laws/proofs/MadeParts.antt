@@ -22,12 +22,13 @@ use Rattle.tree_translation.specs.Conditions.{IsPartOf, with_function}
 use Rattle.tree_translation.specs.Entries.{part_term, side_names}
 use Rattle.tree_translation.specs.Naming.{Naming, drafted_in_order, number_among, number_in, with_names}
 use Rattle.tree_translation.specs.Plans.{Part, Plan}
-use Rattle.tree_translation.specs.Recursion.{Recursion, first_positions}
+use Rattle.tree_translation.specs.Recursion.{Recursion}
 use Rattle.tree_translation.specs.Splits.{Node}
 use Rattle.tree_translation.specs.TreeTerms.{Translation, tree_names, tree_term}
 use Rattle.tree_translation.proofs.Drafting.{and_then-ok}
 use Rattle.replay_laws.proofs.LowParts.{low-functions}
 use Rattle.replay_laws.proofs.TreeNodes.{IsNodeOver}
+use Rattle.leaf_terms.specs.CallsApart.{CallsStandApart}
 use Rattle.function_entries.specs.CodeEntries.{table_made, translation_with, tree_entry_made}
 use Rattle.function_entries.specs.CodeNumbering.{names_at, numbered, places_of}
 use Rattle.function_entries.specs.CodeTrees.{tree_names_made}
@@ -38,7 +39,7 @@ use Rattle.translation_laws.proofs.FunctionTrees.{function-same}
 use Rattle.translation_laws.proofs.SameCode.{tree-names-made-same}
 use Rattle.translation_laws.proofs.SameFamilies.{tree-names-same, tree-same}
 use Rattle.draft_scopes.proofs.FunctionSignatures.{IsTree, function-numbers, part-tree}
-use Rattle.leaf_laws.specs.Laws.{DropsNoCall, PartIsExact}
+use Rattle.leaf_laws.specs.Laws.{PartIsExact}
 use Rattle.deep_laws.proofs.AlikeNames.{tree-names-alike}
 
 -- ---- drafts
@@ -128,7 +129,7 @@ table-there w uses at context goal terms node start ready begins low =
 pub entry-there : PartIsExact → (S : Signature) (plan : Plan) (uses : List Use) (at : ℕ) (part : Part) (o : Option Recursion) (order : List ℕ) (context : Telescope) (goal : Term)
     (terms : List Term) (node : Naming → Node) (name : List ℕ) (type : Naming → Term) (d : Draft) → IsReady (with_function S plan) → plan.base ≡ length S.entries
     → BeginsAt S plan uses at part context goal terms node
-    → ((clause : ℕ) → IfSome o (λ r. DropsNoCall plan.base (first_positions r) (get_or part.sides clause (Sort 0))))
+    → ((clause : ℕ) → IfSome o (λ r. CallsStandApart plan.base r.position (get_or part.sides clause (Sort 0))))
     → drafted_in_order name plan.base (side_names plan o at ++ tree_names S part.level part.tree (node (λ name. plan.base))) type
     (λ number. functions (node number).context (part_term S plan o part order (node number) number))
     ≡ Ok d
@@ -136,7 +137,7 @@ pub entry-there : PartIsExact → (S : Signature) (plan : Plan) (uses : List Use
     (λ table.
     tree_entry_made name table (translation_with S plan o part order (number_in plan.base table)) (node (number_in plan.base table)) (type (number_in plan.base table)))
     ≡ Ok d
-entry-there exact S plan uses at part o order context goal terms node name type d ready base begins drops e =
+entry-there exact S plan uses at part o order context goal terms node name type d ready base begins apart e =
     let table = with_names [] (side_names plan o at ++ tree_names S part.level part.tree (node (λ name. plan.base))) in
     let number = number_in plan.base table in
     let w = translation_with S plan o part order number in
@@ -145,7 +146,7 @@ entry-there exact S plan uses at part o order context goal terms node name type 
     let whole = numbered-low name plan.base table (type number) (functions here.context body) d e in
     let low : height body ≤ 2000 = (low-functions here.context body whole.1).1 in
     let made =
-    exact w uses at context goal terms here (record { ready = ready; part = begins.part_is; scoped = begins.scoped; root = begins.over number }) base drops low in
+    exact w uses at context goal terms here (record { ready = ready; part = begins.part_is; scoped = begins.scoped; root = begins.over number }) base apart low in
     ap
     (λ (r : Result (List (List ℕ)) Stop).
     and_then r (λ table.

@@ -1,30 +1,22 @@
 -- The entries of a function are refused only where one of them is too high.
-use Rattle.std.specs.Prelude.{◌≡◌, ℕ, Some, IfSome, List, get_or, slice_get, Ok}
-use Rattle.theory.specs.Terms.{Sort}
+use Rattle.std.specs.Prelude.{◌≡◌, List, Ok}
 use Rattle.theory.specs.Signatures.{Signature}
 use Rattle.core_sig.specs.Drafts.{Draft}
 use Rattle.unification.specs.ScopedStates.{IsReady}
 use Rattle.tree_translation.specs.Conditions.{IsPlanned, with_function}
 use Rattle.tree_translation.specs.Entries.{translate}
-use Rattle.tree_translation.specs.Plans.{Part, Plan}
-use Rattle.tree_translation.specs.Recursion.{first_positions, recursion_of}
+use Rattle.tree_translation.specs.Plans.{Plan}
+use Rattle.leaf_terms.specs.CallsApart.{PlanCallsApart}
 use Rattle.function_entries.specs.CodeEntries.{translate_made}
-use Rattle.leaf_laws.specs.Laws.{DropsNoCall}
 use Rattle.step_scopes.specs.Laws.{BeginsClosed}
 
--- no right side of a plan drops a call
-abbrev pub PlanDropsNoCall : Signature → Plan → Type 0
-PlanDropsNoCall S plan =
-    (k : ℕ) (part : Part) → slice_get plan.parts k ≡ Some part → (clause : ℕ) →
-    IfSome (recursion_of S plan) (λ r. DropsNoCall plan.base (first_positions r) (get_or part.sides clause (Sort 0)))
-
 -- A plan over a signature that is ready together with the function. The order of recursion begins with a type over no variables, and no
--- right side drops a call.
+-- call is the argument of another one at the position of recursion.
 pub record IsKeptPlan (S : Signature) (plan : Plan) : Type 0 where
   pub ready : IsReady (with_function S plan)
   pub planned : IsPlanned S plan
   pub closed : BeginsClosed S plan
-  pub drops : PlanDropsNoCall S plan
+  pub apart : PlanCallsApart plan
 
 -- What such a plan translates to is made.
 abbrev pub TranslateAnswers : Type 0
