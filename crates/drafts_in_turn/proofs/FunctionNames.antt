@@ -24,4 +24,4 @@ names-enter of plans S f plan h level =
     grown-in_turn S S [] drafts (extends-same S) Each.none (drafts-grow (IsGeneratedName S) S plan made.0 made.1 drafts e))
 
 pub enters-in_turn : FunctionNamesEnter → FunctionEnters → FunctionEntersInTurn
-enters-in_turn names enters S f plan left h level formed first marks drops = enters S f plan left h formed first marks drops (names S f plan h level)
+enters-in_turn names enters S f plan left h level formed first marks = enters S f plan left h formed first marks (names S f plan h level)

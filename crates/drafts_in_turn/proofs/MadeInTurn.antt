@@ -42,4 +42,4 @@ made-in_turn plans enters S f fuel is formed first marks closed whole =
     let kept = if-ok (IsReportedPlan S) (plan_of S f level further).0 plan e3 (whole level further) in
     let begins = if-ok (BeginsClosed S) (plan_of S f level further).0 plan e3 (plan-closed S f level further (closed level)) in
     let given : IsPlanFor S f plan = record { function = is; level = level; low = low; left = further; is = e3; closed = begins } in
-    reported-is S plan end kept (λ left. enters S f plan left given has formed first marks kept.drops))))
+    reported-is S plan end kept (λ left. enters S f plan left given has formed first marks))))

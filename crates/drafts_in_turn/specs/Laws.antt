@@ -3,7 +3,6 @@ use Rattle.std.specs.Prelude.{◌≡◌, ℕ, true, Ok, IfOk, []}
 use Rattle.theory.specs.Terms.{Term}
 use Rattle.theory.specs.Signatures.{Signature}
 use Rattle.theory.specs.WellFormed.{IsWellFormed}
-use Rattle.deep_laws.specs.Laws.{PlanDropsNoCall}
 use Rattle.draft_checks.specs.Checks.{unmarked}
 use Rattle.elaboration.specs.Functions.{enter_plan, function_level, function_of, plan_of, report_parts}
 use Rattle.elaboration.specs.Refusals.{OfType, granted}
@@ -33,15 +32,14 @@ FunctionNamesEnter =
     (S : Signature) (f : Function) (plan : Plan) (h : IsPlanFor S f plan) → HasLevel S f h.level → IfOk (translate S plan) (NamesInTurn S)
 
 -- So the drafts of such a function are entered as is meant, where the signature is well formed, begins with the prelude and has no mark in
--- a family's or constructor's name, and where no right side drops a call.
+-- a family's or constructor's name.
 abbrev pub FunctionEntersInTurn : Type 0
 FunctionEntersInTurn =
     (S : Signature) (f : Function) (plan : Plan) (left : ℕ) (h : IsPlanFor S f plan) → HasLevel S f h.level → IsWellFormed S → HasPrelude S →
-    unmarked S ≡ true → PlanDropsNoCall S plan → plan_entered S plan left ≡ enter_plan S plan left
+    unmarked S ≡ true → plan_entered S plan left ≡ enter_plan S plan left
 
--- What is asked of the plan of a function beyond that: no right side drops a call, and its clauses are reported as is meant.
+-- What is asked of the plan of a function beyond that: its clauses are reported as is meant.
 pub record IsReportedPlan (S : Signature) (plan : Plan) : Type 0 where
-  pub drops : PlanDropsNoCall S plan
   pub reports : (left : ℕ)
       → IfOk (enter_plan S plan left).0 (λ T. (rest : ℕ) → parts_reported plan 0 plan.parts [] T rest ≡ report_parts plan 0 plan.parts T rest)
 

@@ -51,11 +51,11 @@ drafts-ok (Ok drafts) P Q h go = go drafts refl h
 drafts-ok (Err e) P Q h go = tt
 
 pub function-enters : PlanIsOfFunction → FunctionEntriesMade → FunctionDraftsTested → EnteredIsOpen → UnmarkedIsOpen → FunctionEnters
-function-enters of made tested opens unmarks = λ S f plan left h formed first marks drops names.
+function-enters of made tested opens unmarks = λ S f plan left h formed first marks names.
     let is = if-ok (IsPlanOf S f h.level) (plan_of S f h.level h.left).0 plan h.is (of S f h.level h.left) in
     let low : are_low (first_domains plan.arity plan.type) ≡ true =
     transport (λ n. are_low (first_domains n plan.type) ≡ true) (sym is.arity)
     (transport (λ type. are_low (first_domains f.arity type) ≡ true) (sym is.type) (domains-low f.arity f.type h.function.resolved.type.low)) in
-    plan-enters S plan left marks (made S f plan h drops) low
+    plan-enters S plan left marks (made S f plan h) low
     (drafts-ok (translate S plan) (NamesInTurn S) (EnterInTurn S) names (λ drafts e turn.
     in-turn opens S S (prefix_reflexive S) formed (unmarks S formed first marks) drafts (λ U p. tested S f plan drafts U h first p e) turn))

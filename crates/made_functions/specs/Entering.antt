@@ -4,7 +4,6 @@ use Rattle.theory.specs.Signatures.{Signature}
 use Rattle.theory.specs.WellFormed.{IsWellFormed}
 use Rattle.core_sig.specs.Drafts.{Draft}
 use Rattle.clause_reports.specs.DraftEntering.{enter_draft_of}
-use Rattle.deep_laws.specs.Laws.{PlanDropsNoCall}
 use Rattle.draft_checks.specs.Checks.{names_enter, unmarked}
 use Rattle.elaboration.specs.Functions.{enter_plan}
 use Rattle.family_check.specs.Scopes.{HasPrelude}
@@ -21,8 +20,8 @@ NamesInTurn S (d ∷ drafts) =
     (names_enter S d.names ≡ true) × ((left : ℕ) → IfOk (enter_draft_of S d left).0 (λ e. NamesInTurn e.signature drafts))
 
 -- The drafts of a resolved function are entered as is meant, where the signature is well formed, begins with the prelude and has no mark in
--- a family's or constructor's name, where no right side drops a call, and where the names of the drafts may enter.
+-- a family's or constructor's name, and where the names of the drafts may enter.
 abbrev pub FunctionEnters : Type 0
 FunctionEnters =
     (S : Signature) (f : Function) (plan : Plan) (left : ℕ) → IsPlanFor S f plan → IsWellFormed S → HasPrelude S → unmarked S ≡ true →
-    PlanDropsNoCall S plan → IfOk (translate S plan) (NamesInTurn S) → plan_entered S plan left ≡ enter_plan S plan left
+    IfOk (translate S plan) (NamesInTurn S) → plan_entered S plan left ≡ enter_plan S plan left

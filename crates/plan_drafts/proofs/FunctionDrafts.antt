@@ -9,7 +9,7 @@ use Rattle.step_scopes.specs.Laws.{DraftsScopedAfterPrelude}
 use Rattle.tree_translation.specs.Conditions.{IsPlanned, with_function}
 use Rattle.tree_translation.specs.Plans.{Plan}
 use Rattle.unification.specs.ScopedStates.{IsReady}
-use Rattle.plan_laws.specs.Laws.{IsPlanOf, PlanIsOfFunction, PlanIsPlanned}
+use Rattle.plan_laws.specs.Laws.{IsPlanOf, PlanIsOfFunction, PlanIsPlanned, PlanStandsApart}
 use Rattle.plan_laws.proofs.Answering.{if-ok}
 use Rattle.plan_drafts.specs.Laws.{FunctionDraftsScoped, FunctionEntriesMade, IsPlanFor}
 
@@ -26,6 +26,11 @@ pub drafts-scoped : PlanIsOfFunction → PlanIsPlanned → DraftsScopedAfterPrel
 drafts-scoped of planned scoped = λ S f plan drafts h first e.
     scoped S plan drafts (record { ready = plan-ready of S f plan h; first = first; planned = plan-planned planned S f plan h }) h.closed e
 
-pub entries-made : PlanIsOfFunction → PlanIsPlanned → TranslateIsExact → FunctionEntriesMade
-entries-made of planned exact = λ S f plan h drops.
-    exact S plan (record { ready = plan-ready of S f plan h; planned = plan-planned planned S f plan h; closed = h.closed; drops = drops })
+pub entries-made : PlanIsOfFunction → PlanIsPlanned → PlanStandsApart → TranslateIsExact → FunctionEntriesMade
+entries-made of planned apart exact = λ S f plan h.
+    exact S plan (record {
+      ready = plan-ready of S f plan h;
+      planned = plan-planned planned S f plan h;
+      closed = h.closed;
+      apart = apart S f h.level h.left plan h.function h.is h.low;
+    })

@@ -5,7 +5,6 @@ use Rattle.theory.specs.Prelude.{prelude}
 use Rattle.theory.specs.Signatures.{Signature, IsPrefix}
 use Rattle.core_sig.specs.Drafts.{Draft}
 use Rattle.core_sig.specs.ScopedDrafts.{IsScopedDraft}
-use Rattle.deep_laws.specs.Laws.{PlanDropsNoCall}
 use Rattle.draft_checks.specs.Checks.{enterable, names_enter}
 use Rattle.elaboration.specs.Functions.{plan_of}
 use Rattle.function_entries.specs.CodeEntries.{translate_made}
@@ -36,8 +35,7 @@ FunctionDraftsTested =
     (S : Signature) (f : Function) (plan : Plan) (drafts : List Draft) (T : Signature) → IsPlanFor S f plan → IsPrefix (prelude S.has_k) S → IsPrefix S T →
     translate S plan ≡ Ok drafts → All (λ d. enterable T d ≡ names_enter T d.names) drafts
 
--- What is made of its plan is what that translates to, and Deep exactly where a type or a term of an entry is too high, where no right
--- side drops a call.
+-- What is made of its plan is what that translates to, and Deep exactly where a type or a term of an entry is too high.
 abbrev pub FunctionEntriesMade : Type 0
 FunctionEntriesMade =
-    (S : Signature) (f : Function) (plan : Plan) → IsPlanFor S f plan → PlanDropsNoCall S plan → translate_made S plan ≡ translate S plan
+    (S : Signature) (f : Function) (plan : Plan) → IsPlanFor S f plan → translate_made S plan ≡ translate S plan

@@ -2,7 +2,7 @@
 ghost use Rattle.plan_drafts.specs.Laws.{FunctionDraftsScoped, FunctionDraftsTested, FunctionEntriesMade};
 
 use deep_laws::laws::translate_is_exact;
-use plan_laws::laws::{plan_is_of_function, plan_is_planned};
+use plan_laws::laws::{plan_is_of_function, plan_is_planned, plan_stands_apart};
 use step_scopes::laws::drafts_scoped;
 
 /// The drafts of a resolved function are scoped.
@@ -29,5 +29,6 @@ pub fn function_entries_made()
 {
     plan_is_of_function();
     plan_is_planned();
+    plan_stands_apart();
     translate_is_exact();
 }

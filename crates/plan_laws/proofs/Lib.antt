@@ -16,5 +16,7 @@ pub mod GivenClauses
 pub mod PlannedClauses
 pub mod PlannedParts
 pub mod Planned
+pub mod StrictArguments
+pub mod CallsApart
 pub mod LowWalks
 pub mod ExactPlans

@@ -67,7 +67,7 @@ used-themselves (u ∷ uses) = (first-among u uses, later-used u uses uses (used
 
 -- ---- the position
 
-chosen-is : (s : Session) (c : Choice) (position : Option ℕ) → position_chosen s c ≡ Ok position → c ≡ choice_of position
+pub chosen-is : (s : Session) (c : Choice) (position : Option ℕ) → position_chosen s c ≡ Ok position → c ≡ choice_of position
 chosen-is s NotRecursive position e = let same : None ≡ position = cc in ap choice_of same
 chosen-is s (At j) position e = let same : Some j ≡ position = cc in ap choice_of same
 chosen-is s (NotSmaller rows) position e = absurd (cc)

@@ -13,6 +13,7 @@ use Rattle.resolve.specs.Functions.{Function}
 use Rattle.tree_translation.specs.Conditions.{IsPlanned}
 use Rattle.tree_translation.specs.Plans.{Plan, own_part}
 use Rattle.tree_translation.specs.Recursion.{order_of, ordered_telescope, recursion_of}
+use Rattle.leaf_terms.specs.CallsApart.{PlanCallsApart}
 use Rattle.plan_laws.specs.Conditions.{IsFunctionFor}
 use Rattle.plan_laws.specs.Reading.{AreReadAlike}
 
@@ -55,3 +56,9 @@ abbrev pub PlanIsPlanned : Type 0
 PlanIsPlanned =
     (S : Signature) (f : Function) (level left : ℕ) (plan : Plan) → IsFunctionFor S f → level < top → (plan_of S f level left).0 ≡ Ok plan →
     BeginsClosed S plan → IsPlanned S plan
+
+-- In the plan of a function no call is the argument of another one at the position of recursion.
+abbrev pub PlanStandsApart : Type 0
+PlanStandsApart =
+    (S : Signature) (f : Function) (level left : ℕ) (plan : Plan) → IsFunctionFor S f → (plan_of S f level left).0 ≡ Ok plan → level < top →
+    PlanCallsApart plan

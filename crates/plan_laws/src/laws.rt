@@ -1,5 +1,5 @@
 //! What is read of a signature, and what the plan of a function is.
-ghost use Rattle.plan_laws.specs.Laws.{PlanIsOfFunction, PlanIsPlanned, SameAbstractions, SameTrees, SameWalks};
+ghost use Rattle.plan_laws.specs.Laws.{PlanIsOfFunction, PlanIsPlanned, PlanStandsApart, SameAbstractions, SameTrees, SameWalks};
 ghost use Rattle.plan_laws.specs.MadePlans.{PlanIsMade};
 ghost use Rattle.plan_laws.specs.Reading.{FunctionIsNotRead};
 
@@ -31,6 +31,11 @@ pub fn plan_is_of_function()
 /// The plan of a function is one.
 pub fn plan_is_planned()
     ensures { PlanIsPlanned }
+{}
+
+/// No call in the plan of a function is the argument of another one at the position of recursion.
+pub fn plan_stands_apart()
+    ensures { PlanStandsApart }
 {}
 
 /// The plan that the code makes is the plan that is meant.
