@@ -13,10 +13,10 @@ ghost use Rattle.proof_walks.specs.PlaceScopes.{AreKeptLeaves};
 ghost use Rattle.proof_walks.specs.Starts.{walk_made};
 
 use crate::Line;
-use crate::clause::{PlannedClause, pats_at};
+use crate::clause::PlannedClause;
 use crate::names::proof_name;
 use crate::sides::equation_converts;
-use clause_equations::{Equation, equation};
+use clause_equations::{Equation, equation, pats_at};
 use core_sig::{Draft, Signature};
 use core_terms::{Stop, Units};
 use draft_checks::is_enterable;

@@ -10,9 +10,9 @@ ghost use Rattle.leaf_terms.specs.RecursionMeanings.{recursion_of as recursion_m
 ghost use Rattle.shadow_vectors.specs.LeafMeanings.{all_leaves_of, leaf_of};
 ghost use Rattle.theory.specs.SignatureScopes.{IsScopedSignature};
 
-use crate::clause::{PlannedClause, pats_at, side_or};
+use crate::clause::PlannedClause;
 use crate::sides::equation_converts;
-use clause_equations::{Equation, Site, equation_at};
+use clause_equations::{Equation, Site, equation_at, pats_at, side_or};
 use core_sig::Signature;
 use core_terms::{Items, Stop, Term, Units, number_of};
 use draft_entering::ReportStop;

@@ -13,9 +13,10 @@ ghost use Rattle.proof_terms.specs.ProofMeanings.{proof_of};
 ghost use Rattle.proof_walks.specs.PlaceScopes.{AreKeptLeaves};
 
 use crate::Line;
-use crate::clause::{PlannedClause, part_or};
+use crate::clause::PlannedClause;
 use crate::judging::{Judgement, judged};
 use crate::shadowing::shadowed;
+use clause_equations::part_or;
 use core_sig::{Draft, Entry, Signature};
 use core_terms::{Units, Walk};
 use draft_entering::{ReportStop, enter_draft};

@@ -19,8 +19,9 @@ ghost use Rattle.theory.specs.Signatures.{Signature as signature};
 ghost use Rattle.unification.specs.ScopedStates.{IsReady};
 
 use crate::Line;
-use crate::clause::{PlannedClause, match_at, pats_at};
+use crate::clause::{PlannedClause, match_at};
 use crate::leaves::converts_at_leaves;
+use clause_equations::pats_at;
 use core_sig::Signature;
 use core_terms::{Items, Stop, Tele, Term, Units, copy_tele};
 use draft_entering::ReportStop;

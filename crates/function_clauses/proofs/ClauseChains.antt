@@ -3,7 +3,7 @@ use Rattle.std.proofs.Common.{◌≡◌, rules, ℕ, List, [], ◌∷◌, Result
 use Rattle.theory.specs.Terms.{Term}
 use Rattle.theory.specs.Telescopes.{Telescope}
 use Rattle.theory.specs.Signatures.{Signature}
-use Rattle.core_terms.specs.Answers.{Unless, and_next, bounded, on_answer}
+use Rattle.core_terms.specs.Answers.{and_next, bounded, on_answer}
 use Rattle.core_terms.specs.CaseTrees.{Walk}
 use Rattle.core_terms.specs.Clauses as clause
 use Rattle.core_terms.specs.Clauses.{Clause, Clauses, Right, Is}
@@ -13,17 +13,14 @@ use Rattle.core_terms.specs.declared.pattern.Clause as code
 use Rattle.core_terms.specs.declared.pattern.Right.TheFolds.{the_lemmas}
 use Rattle.case_trees.specs.OwnWalks.{own_walk_of}
 use Rattle.case_trees.specs.Points.{under_solution}
-use Rattle.case_trees.specs.Stops as tree
-use Rattle.case_trees.specs.Stops.{Stopping}
 use Rattle.clause_reports.specs.Equations.{part_named}
-use Rattle.clause_walks.specs.Stops as trees
-use Rattle.clause_walks.specs.declared.stops.TreeStop.{TreeStop}
 use Rattle.elaboration.specs.Refusals as pure
-use Rattle.elaboration.specs.Refusals.{Elaborating, Owner, answers, of_tree, or_halts, owner_of, walking}
+use Rattle.elaboration.specs.Refusals.{Elaborating, Owner, answers, or_halts, owner_of, walking}
 use Rattle.elaboration.specs.Walking.{Session, Opened, Given, after_dots, check_dot, open_over, walk_clause, walk_right}
 use Rattle.function_clauses.specs.CodeClauses.{Scrutinee, clause_walked, helper_opened, inside_walked, scrutinee_over, scrutinised, with_dots}
-use Rattle.function_refusals.specs.RefusalMeanings.{Elaborates, IsUnforeseen, refusal_of}
+use Rattle.function_refusals.specs.RefusalMeanings.{Elaborates}
 use Rattle.function_refusals.specs.declared.refusal.Refusal.{Refusal}
+use Rattle.function_refusals.proofs.EndedTrees.{refused}
 use Rattle.walk_checks.specs.CodeDots.{dots_checked}
 
 -- ---- one call after another
@@ -45,21 +42,6 @@ same-answer (Err e) n f g h = refl
 pub same-after : {A B : Type 0} (first : Elaborating A) (f g : A → ℕ → Elaborating B) → ((a : A) (m : ℕ) → f a m ≡ g a m)
     → and_next first f ≡ and_next first g
 same-after first f g h = same-answer first.0 first.1 f g h
-
--- ---- a refusal where a walk ends
-
-abbrev stopped : {A : Type 0} → tree.TreeStop → ℕ → Stopping A
-stopped e n = (Err e, n)
-
-abbrev refused : {A : Type 0} → pure.Refusal → ℕ → Elaborating A
-refused e n = (Err e, n)
-
-pub ended-elaborates : {A : Type 0} (S : Signature) (f : List ℕ) (stop : TreeStop) (e : Refusal) (left : ℕ) (meant : Stopping A)
-    → Unless (IsUnforeseen e) (refusal_of e ≡ of_tree S f (trees.stop_of stop)) → (trees.IsUnforeseen stop → IsUnforeseen e)
-    → Unless (trees.IsUnforeseen stop) (stopped (trees.stop_of stop) left ≡ meant)
-    → Unless (IsUnforeseen e) (refused (refusal_of e) left ≡ walking S f meant)
-ended-elaborates S f stop e left meant answer memory yields not =
-    ap (λ r. refused r left) (answer not) ∙ ap (walking S f) (yields (λ m. not (memory m)))
 
 -- ---- dots
 

@@ -32,7 +32,8 @@ renamed-scoped S a n (t ∷ terms) e all =
     (inst-scoped S (variable_in a) n (n + 1) t (λ v low. variable-scoped S a n v e) (All-head (IsScoped S n) t terms all))
     (renamed-scoped S a n terms e (All-tail (IsScoped S n) t terms all))
 
-terms-scoped : (S : Signature) (a : Abstracted) (n : ℕ) (terms : List Term) → length a.order ≡ n → All (IsScoped S n) terms
+-- the terms of a helper are over its telescope
+pub terms-scoped : (S : Signature) (a : Abstracted) (n : ℕ) (terms : List Term) → length a.order ≡ n → All (IsScoped S n) terms
     → All (IsScoped S (n + 1)) (helper_terms a terms)
 terms-scoped S a n terms e all =
     let low : length a.order - a.place < n + 1 = omega (arith, e) in

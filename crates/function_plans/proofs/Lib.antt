@@ -1,6 +1,5 @@
 pub mod ClosedPlans
 pub mod Columns
-pub mod EndedTrees
 pub mod HelperChains
 pub mod Orders
 pub mod PlansMade

@@ -1,14 +1,13 @@
 -- Walks of clauses over the signature without the function, and the helpers that are opened over them.
-use Rattle.std.proofs.Common.{◌≡◌, ℕ, ◌+◌, ◌-◌, ◌<◌, cond, nat_lt, List, [], ◌∷◌, length, map, Ok, IfOk, sym, ap, subst as transport, arith}
-use Rattle.std.proofs.lemmas.List.Elements.{All-append, All-cons, All-head, All-nil, All-tail, All-weaker}
+use Rattle.std.proofs.Common.{◌≡◌, ℕ, ◌+◌, ◌<◌, [], ◌∷◌, length, Ok, IfOk, sym, ap, subst as transport, arith}
+use Rattle.std.proofs.lemmas.List.Elements.{All-weaker}
 use Rattle.std.specs.List.{All}
-use Rattle.theory.specs.Terms.{Term, Var, free_of, top}
-use Rattle.theory.specs.Substitutions.{inst}
+use Rattle.theory.specs.Terms.{Term, free_of, top}
 use Rattle.theory.specs.Telescopes.{variables}
 use Rattle.theory.specs.Signatures.{Signature}
 use Rattle.theory.specs.SignatureScopes.{IsScoped}
 use Rattle.theory.specs.WellFormed.{provisional}
-use Rattle.theory.proofs.ScopedTerms.{inst-scoped, scoped-wider, telescope-wider, var-scoped}
+use Rattle.theory.proofs.ScopedTerms.{scoped-wider, telescope-wider}
 use Rattle.core_terms.specs.CaseTrees.{Walk}
 use Rattle.core_terms.specs.Clauses.{Clause, Is}
 use Rattle.case_trees.specs.Laws.{IsGiven}
@@ -17,16 +16,14 @@ use Rattle.case_trees.specs.Points.{start_at, under_solution}
 use Rattle.case_trees.specs.Scoped.{IsScopedPoint}
 use Rattle.case_trees.specs.Stops.{Stopping}
 use Rattle.case_trees.proofs.ScopedPoints.{under-scoped}
-use Rattle.elaboration.specs.Walking.{Opened, Opening, helper_terms, opened, variable_in}
+use Rattle.elaboration.specs.Walking.{Opened, Opening, helper_terms, opened}
 use Rattle.function_clauses.proofs.Fitting.{clause-for}
-use Rattle.function_clauses.proofs.HelperParts.{helper-columns}
+use Rattle.function_clauses.proofs.HelperParts.{helper-columns, terms-scoped}
 use Rattle.function_clauses.proofs.WalkColumns.{walk-columns}
 use Rattle.resolve.specs.Functions.{Function}
 use Rattle.resolve.specs.Scoping.{IsClause, IsResolved}
-use Rattle.tele_eq.specs.Levels.{place_in}
 use Rattle.unification.specs.ScopedStates.{IsReady}
 use Rattle.unification.proofs.ScopedRecords.{variables-scoped}
-use Rattle.with_abstraction.specs.Abstractions.{Abstracted}
 use Rattle.plan_laws.specs.Conditions.{IsFunctionFor}
 use Rattle.plan_laws.proofs.Answering.{if-ok}
 use Rattle.plan_laws.proofs.OpenedScopes.{IsOpened, IsWalkIn, numbers}
@@ -94,27 +91,6 @@ module _ (S : Signature) (f : Function) where
 
 -- ---- helpers
 
-variable-over : (S : Signature) (a : Abstracted) (n x : ℕ) → length a.order ≡ n → IsScoped S (n + 1) (variable_in a x)
-variable-over S a n x e =
-    let before = cond (nat_lt (place_in a.order x) a.place) (place_in a.order x) (place_in a.order x + 1) in
-    let low : length a.order - before < n + 1 = omega (arith, e) in
-    var-scoped low
-
-renamed-over : (S : Signature) (a : Abstracted) (n : ℕ) (terms : List Term) → length a.order ≡ n → All (IsScoped S n) terms
-    → All (IsScoped S (n + 1)) (map (inst (variable_in a)) terms)
-renamed-over S a n [] e all = All-nil (IsScoped S (n + 1))
-renamed-over S a n (t ∷ terms) e all =
-    All-cons (IsScoped S (n + 1)) (inst (variable_in a) t) (map (inst (variable_in a)) terms)
-    (inst-scoped S (variable_in a) n (n + 1) t (λ v low. variable-over S a n v e) (All-head (IsScoped S n) t terms all))
-    (renamed-over S a n terms e (All-tail (IsScoped S n) t terms all))
-
-columns-over : (S : Signature) (a : Abstracted) (n : ℕ) (terms : List Term) → length a.order ≡ n → All (IsScoped S n) terms
-    → All (IsScoped S (n + 1)) (helper_terms a terms)
-columns-over S a n terms e all =
-    let low : length a.order - a.place < n + 1 = omega (arith, e) in
-    All-append (IsScoped S (n + 1)) (map (inst (variable_in a)) terms) (Var (length a.order - a.place) ∷ []) (renamed-over S a n terms e all)
-    (All-cons (IsScoped S (n + 1)) (Var (length a.order - a.place)) [] (var-scoped low) (All-nil (IsScoped S (n + 1))))
-
 pub opened-part : (S : Signature) (f : Function) (w : Walk) (o : Opening) → IsWalkIn S (provisional S f.name f.type) w → IsOpened S (length w.ctx) o
     → IsPartOver S (opened o w) × (length (opened o w).terms ≡ length w.terms + 1)
 opened-part S f w o walk h =
@@ -127,7 +103,7 @@ opened-part S f w o walk h =
           goal = transport (λ k. IsScoped S k a.goal) same h.over.goal;
           substitution = variables-scoped S (length a.telescope) (length a.telescope) (omega arith);
           terms =
-              transport (λ k. All (IsScoped S k) (helper_terms a w.terms)) same (columns-over S a n w.terms h.over.variables walk.terms);
+              transport (λ k. All (IsScoped S k) (helper_terms a w.terms)) same (terms-scoped S a n w.terms h.over.variables walk.terms);
         };
         level = h.level;
       },

@@ -1,15 +1,13 @@
 -- What the walks and trees of a part ask: it is scoped, and its clauses have one pattern for each of its columns.
-use Rattle.std.proofs.Common.{◌≡◌, ℕ, zero, suc, ◌+◌, ◌-◌, ◌<◌, cond, nat_lt, Bool, true, false, Some, Result, Ok, Err, IfOk, List, [], ◌∷◌, length, map, reverse, refl, sym, ap, ◌∙◌, subst as transport, arith}
+use Rattle.std.proofs.Common.{◌≡◌, ℕ, zero, suc, ◌+◌, cond, Bool, true, false, Some, Result, Ok, Err, IfOk, [], ◌∷◌, length, reverse, refl, sym, ap, ◌∙◌, subst as transport, arith}
 use Rattle.std.proofs.lemmas.List.{length-reverse}
-use Rattle.std.proofs.lemmas.List.Elements.{All-nil, All-cons, All-head, All-tail, All-append}
 use Rattle.std.specs.List.{All}
-use Rattle.theory.specs.Terms.{Term, Var, free_of}
-use Rattle.theory.specs.Substitutions.{inst}
+use Rattle.theory.specs.Terms.{Term, free_of}
 use Rattle.theory.specs.Signatures.{Signature}
 use Rattle.theory.specs.SignatureScopes.{IsScoped, IsScopedContext, IsScopedTelescope}
 use Rattle.theory.specs.Telescopes.{Telescope}
 use Rattle.theory.proofs.Lists.{some_is}
-use Rattle.theory.proofs.ScopedTerms.{context-scoped, inst-scoped, var-scoped}
+use Rattle.theory.proofs.ScopedTerms.{context-scoped}
 use Rattle.core_terms.proofs.Answers.{Answers, and_next-has}
 use Rattle.core_terms.specs.Answers.{is_low}
 use Rattle.core_terms.specs.CaseTrees.{Walk}
@@ -28,9 +26,9 @@ use Rattle.case_trees.specs.Scoped.{IsScopedWalk}
 use Rattle.case_trees.specs.Stops.{TreeStop, answers as walked_with}
 use Rattle.clause_reports.proofs.Keeping.{Any, any}
 use Rattle.elaboration.specs.Refusals.{OfGoal, OfWith, Owner, Part, Refusal, SelfInType, answers, granted, halting, or_halts, or_ill_typed}
-use Rattle.elaboration.specs.Walking.{Opened, Opening, Session, and_level, helper_terms, if_low_level, open_over, opened, variable_in, without_self}
+use Rattle.elaboration.specs.Walking.{Opened, Opening, Session, and_level, helper_terms, if_low_level, open_over, opened, without_self}
 use Rattle.function_clauses.proofs.Fitting.{clause-for}
-use Rattle.function_clauses.proofs.HelperParts.{helper-columns}
+use Rattle.function_clauses.proofs.HelperParts.{helper-columns, terms-scoped}
 use Rattle.function_clauses.proofs.WalkColumns.{walk-columns}
 use Rattle.kernel_check.proofs.Contexts.{context-reverse}
 use Rattle.kernel_check.proofs.Scoped.{infer-scoped}
@@ -39,7 +37,6 @@ use Rattle.kernel_check.specs.Laws.{IfYes, IsScopedVerdict}
 use Rattle.kernel_reduce.specs.Reduction.{answered, if_low, nesting}
 use Rattle.resolve.specs.Scoping.{AreClauses, IsClause}
 use Rattle.structural_rec.specs.Calls.{has_constant}
-use Rattle.tele_eq.specs.Levels.{place_in}
 use Rattle.theory.specs.Telescopes.{products}
 use Rattle.unification.proofs.ScopedRecords.{variables-scoped}
 use Rattle.unification.specs.ScopedStates.{IsReady}
@@ -126,27 +123,6 @@ opening-fits s owner w t left ready scoped k =
 
 -- ---- the columns of a helper
 
-variable-fits : (S : Signature) (a : Abstracted) (n x : ℕ) → length a.order ≡ n → IsScoped S (n + 1) (variable_in a x)
-variable-fits S a n x e =
-    let before = cond (nat_lt (place_in a.order x) a.place) (place_in a.order x) (place_in a.order x + 1) in
-    let low : length a.order - before < n + 1 = omega (arith, e) in
-    var-scoped low
-
-renamed-fit : (S : Signature) (a : Abstracted) (n : ℕ) (terms : List Term) → length a.order ≡ n → All (IsScoped S n) terms
-    → All (IsScoped S (n + 1)) (map (inst (variable_in a)) terms)
-renamed-fit S a n [] e all = All-nil (IsScoped S (n + 1))
-renamed-fit S a n (t ∷ terms) e all =
-    All-cons (IsScoped S (n + 1)) (inst (variable_in a) t) (map (inst (variable_in a)) terms)
-    (inst-scoped S (variable_in a) n (n + 1) t (λ v low. variable-fits S a n v e) (All-head (IsScoped S n) t terms all))
-    (renamed-fit S a n terms e (All-tail (IsScoped S n) t terms all))
-
-columns-fit : (S : Signature) (a : Abstracted) (n : ℕ) (terms : List Term) → length a.order ≡ n → All (IsScoped S n) terms
-    → All (IsScoped S (n + 1)) (helper_terms a terms)
-columns-fit S a n terms e all =
-    let low : length a.order - a.place < n + 1 = omega (arith, e) in
-    All-append (IsScoped S (n + 1)) (map (inst (variable_in a)) terms) (Var (length a.order - a.place) ∷ []) (renamed-fit S a n terms e all)
-    (All-cons (IsScoped S (n + 1)) (Var (length a.order - a.place)) [] (var-scoped low) (All-nil (IsScoped S (n + 1))))
-
 helper-given : (S : Signature) (w : Walk) (o : Opening) → IsReady S → IsScopedWalk S w → IsScopedAbstraction S (length w.ctx) o.abstraction
     → IsGiven S (opened o w).tele (opened o w).goal (opened o w).terms
 helper-given S w o ready scoped h =
@@ -158,7 +134,7 @@ helper-given S w o ready scoped h =
         context = h.telescope;
         goal = transport (λ k. IsScoped S k a.goal) same h.goal;
         substitution = variables-scoped S (length a.telescope) (length a.telescope) (omega arith);
-        terms = transport (λ k. All (IsScoped S k) (helper_terms a w.terms)) same (columns-fit S a (length w.ctx) w.terms h.variables scoped.terms);
+        terms = transport (λ k. All (IsScoped S k) (helper_terms a w.terms)) same (terms-scoped S a (length w.ctx) w.terms h.variables scoped.terms);
       };
     }
 

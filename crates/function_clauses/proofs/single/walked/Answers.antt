@@ -7,7 +7,7 @@ use Rattle.case_trees.specs.OwnWalks.{own_walk_of}
 use Rattle.clause_walks.specs.Stops.{stop_of}
 use Rattle.elaboration.specs.Refusals.{of_tree}
 use Rattle.function_refusals.specs.RefusalMeanings.{IsUnforeseen, refusal_of}
-use Rattle.function_clauses.proofs.ClauseChains.{ended-elaborates}
+use Rattle.function_refusals.proofs.EndedTrees.{ended-elaborates}
 use Rattle.function_clauses.proofs.Fitting.{clause-for}
 use Rattle.function_clauses.proofs.WalkColumns.{walk-columns}
 use Rattle.function_clauses.proofs.single.walked.Goals as goal

@@ -11,10 +11,10 @@ use Rattle.elaboration.specs.Refusals.{Elaborating, of_tree, walking}
 use Rattle.function_refusals.specs.RefusalMeanings.{IsUnforeseen, refusal_of}
 use Rattle.function_refusals.specs.declared.refusal.Refusal.{Refusal}
 
-abbrev stopped : {A : Type 0} → tree.TreeStop → ℕ → Stopping A
+abbrev pub stopped : {A : Type 0} → tree.TreeStop → ℕ → Stopping A
 stopped e n = (Err e, n)
 
-abbrev refused : {A : Type 0} → pure.Refusal → ℕ → Elaborating A
+abbrev pub refused : {A : Type 0} → pure.Refusal → ℕ → Elaborating A
 refused e n = (Err e, n)
 
 pub ended-elaborates : {A : Type 0} (S : Signature) (f : List ℕ) (stop : TreeStop) (e : Refusal) (left : ℕ) (meant : Stopping A)
