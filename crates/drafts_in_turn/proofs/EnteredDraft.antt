@@ -31,14 +31,14 @@ not_rejected : (P : Entered → Type 0) (S : Signature) (e : Entry) (r : Result 
 not_rejected P S e (Ok a) h = h
 not_rejected P S e (Err cause) h = tt
 
-entry-defines : (S : Signature) (e : Entry) (left : ℕ) → Answers (HasIn (name_in e)) (enter_entry S e left)
+pub entry-defines : (S : Signature) (e : Entry) (left : ℕ) → Answers (HasIn (name_in e)) (enter_entry S e left)
 entry-defines S (Definition name type body) left =
     not_rejected (HasIn name) S (Definition name type body) (define_of S name type body left).0 (define-defines S name type body left)
 entry-defines S (FamilyOf f) left = tt
 entry-defines S (EliminatorAt n m) left = tt
 entry-defines S (AxiomKAt i m) left = tt
 
-renumbered-name : (r : ℕ → ℕ) (e : Entry) → name_in (renumbered_entry r e) ≡ name_in e
+pub renumbered-name : (r : ℕ → ℕ) (e : Entry) → name_in (renumbered_entry r e) ≡ name_in e
 renumbered-name r (Definition name type body) = refl
 renumbered-name r (FamilyOf f) = refl
 renumbered-name r (EliminatorAt n m) = refl
