@@ -1,5 +1,5 @@
 -- No reason of a refusal is empty.
-use Rattle.std.proofs.Common.{ℕ, ◌<◌, List, length, Option, Some, None, Result, Ok, Err, IfErr, arith}
+use Rattle.std.proofs.Common.{ℕ, ◌<◌, length, Result, Ok, Err, IfErr, arith}
 use Rattle.theory.specs.Signatures.{Signature}
 use Rattle.surface_syntax.specs.Trees as surf
 use Rattle.surface_syntax.specs.declared.tree.Word.{Word}

@@ -1,5 +1,5 @@
 -- What is accepted whole is written as a core file, which is verified.
-use Rattle.std.proofs.Common.{◌≡◌, ℕ, ◌+◌, ◌-◌, ◌≤◌, Bool, true, false, List, [], ◌∷◌, ◌++◌, length, map, Option, Some, None, Result, Ok, Err, IfOk, IfSome, refl, sym, ap, ◌∙◌, subst as transport, append_assoc, append-nil}
+use Rattle.std.proofs.Common.{◌≡◌, ℕ, ◌≤◌, Bool, true, false, List, [], ◌∷◌, ◌++◌, length, map, Some, Result, Ok, Err, IfOk, IfSome, refl, sym, ap, ◌∙◌, subst as transport, append_assoc, append-nil}
 use Rattle.std.specs.Prelude.{if◌then◌else◌}
 use Rattle.std.proofs.lemmas.Bool.{true≢false}
 use Rattle.theory.specs.Prelude.{prelude}
@@ -26,8 +26,7 @@ use Rattle.elim_program.specs.Lines.{text_of}
 use Rattle.elim_program.specs.Outputs.{Output, accepted_line, accepted_lines, after, block, compiled, declarations, declared_block, followed, head_lines, lines_after, text_block}
 use Rattle.elim_program.specs.Texts.{Answer, Gives}
 use Rattle.elim_program.specs.Verifies.{verified_line}
-use Rattle.elim_program.specs.Words.{asked, verify_asked}
-use Rattle.elim_program.specs.declared.status.Status.{Status}
+use Rattle.elim_program.specs.Words.{asked}
 use Rattle.elim_program.specs.declared.status.Status.TheVariants as status
 use Rattle.elim_program.specs.declared.words.Command.{Command}
 use Rattle.elim_program.proofs.Accepted.{own-core}

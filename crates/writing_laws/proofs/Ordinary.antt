@@ -1,5 +1,5 @@
 -- Each declaration of a text is ordinary: its names are spelled, and its parts are no more than the bytes.
-use Rattle.std.proofs.Common.{ℕ, ◌≤◌, ◌<◌, ◌^◌, List, [], ◌∷◌, length, arith}
+use Rattle.std.proofs.Common.{ℕ, ◌≤◌, List, [], ◌∷◌, length, arith}
 use Rattle.theory.specs.Signatures.{Signature}
 use Rattle.surface_syntax.specs.Grammar.{limit}
 use Rattle.surface_syntax.specs.Trees as surf

@@ -1,5 +1,5 @@
 -- A plan has a part for the function itself and one for each `with` among its clauses.
-use Rattle.std.proofs.Common.{◌≡◌, ℕ, suc, ◌+◌, ◌<◌, ◌≤◌, List, [], ◌∷◌, length, reverse, Option, Some, Result, Ok, Err, IfOk, refl, sym, ap, ap₂, ◌∙◌, length-append, arith}
+use Rattle.std.proofs.Common.{◌≡◌, ℕ, suc, ◌+◌, ◌<◌, ◌≤◌, List, [], ◌∷◌, length, reverse, Option, Some, IfOk, refl, ap, ap₂, ◌∙◌, length-append, arith}
 use Rattle.theory.specs.Terms.{Term, Const}
 use Rattle.theory.specs.Telescopes.{Telescope}
 use Rattle.theory.specs.Signatures.{Signature}
@@ -16,8 +16,6 @@ use Rattle.resolve.specs.Functions.{Function, function, clause, clauses, clause_
 use Rattle.resolve.specs.Names.{Known, Scope, known_in, scope_of, with_name}
 use Rattle.resolve.specs.Patterns.{bound_all, patterns}
 use Rattle.resolve.specs.Resolving.{resolve}
-use Rattle.resolve.specs.declared.stop.ResolveStop.{ResolveStop}
-use Rattle.structural_rec.specs.Uses.{Use}
 use Rattle.case_trees.specs.OwnWalks.{own_walk_of}
 use Rattle.case_trees.specs.Points.{under_solution}
 use Rattle.case_trees.specs.Trees.{split_of}
@@ -28,7 +26,7 @@ use Rattle.elaboration.specs.Functions.{helpers_finished, own_part}
 use Rattle.elaboration.specs.Refusals.{Elaborating, OfSide, Owner, answers, granted, or_halts, owner_of, walking}
 use Rattle.elaboration.specs.Walking.{Given, Opened, Session, Walked, after_dots, check_dot, open_over, opened, walk_clause, walk_clauses, walk_right}
 use Rattle.leaf_terms.specs.RecursionMade.{made_at}
-use Rattle.function_plans.specs.CodePlans.{chosen_made, helpers_after, own_alone, own_finished_made, parts_made, parts_with, plan_made}
+use Rattle.function_plans.specs.CodePlans.{chosen_made, own_alone, own_finished_made, parts_made}
 use Rattle.function_lines.specs.FunctionMade.{plan_over, session_at}
 use Rattle.word_laws.specs.Numbers.{withs_right as written_right, withs_clause as written_clause, withs as written}
 use Rattle.writing_laws.specs.Writing.{HasFewParts}
