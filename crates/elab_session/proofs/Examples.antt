@@ -25,7 +25,7 @@ sort_at : ℕ → surf.Decl
 sort_at level = surf.Def (word (codes "t") 4) (surf.Sort level) (surf.Sort 0)
 
 -- at level 2 it takes three units
-sort_enters : declare_of start 3 (sort_at 2) ≡ Ok (accepted_as (codes "t") start (pushed start (Definition (codes "t") (tree.Sort 2) (tree.Sort 0))))
+sort_enters : declare_of start 3 (sort_at 2) ≡ Ok (accepted_as (codes "t") (pushed start (Definition (codes "t") (tree.Sort 2) (tree.Sort 0))))
 unfolding sort_in type_in native.Mathlib.Decide.ℕ_discrete start word sort_at
 sort_enters = refl
 

@@ -1,6 +1,6 @@
 pub mod Answering
+pub mod Enterable
 pub mod Entered
-pub mod EntryAnswers
 mod Examples
 pub mod PreludeReady
 pub mod Resolved

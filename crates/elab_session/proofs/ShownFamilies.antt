@@ -43,7 +43,3 @@ family-shown n f name params type cons kinds named given typed made =
     ∙ ap₂ (λ t cs. raw-parts f.name (tele_of f.params) t cs)
     (typed ∙ ap (λ ts. products ts (Sort f.level)) (sym (index_types-of f)))
     (made ∙ constructors-shown n f f.cons kinds.constructors)
-
--- the names of its constructors
-pub names-shown : (f : Family) → map (λ c. c.name) f.cons ≡ map (λ c. c.name) (family_of f).constructors
-names-shown f = sym (map-map (λ (c : pure.Constructor). c.name) (constructor_of (length f.params)) f.cons)

@@ -2,9 +2,10 @@
 use Rattle.std.specs.Prelude.{◌≡◌, ℕ, List, [], length, Ok, IfOk}
 use Rattle.theory.specs.Terms.{Term}
 use Rattle.theory.specs.Families.{Family}
-use Rattle.theory.specs.Signatures.{Definition, Entry, FamilyOf, Signature, IsPrefix}
+use Rattle.theory.specs.Signatures.{Definition, FamilyOf, Signature, IsPrefix}
 use Rattle.theory.specs.WellFormed.{IsDefinition, IsFamily, IsWellFormed, pushed}
 use Rattle.core_sig.specs.Raw.{RawFamily}
+use Rattle.core_text.specs.RawEntries.{RawEntry}
 use Rattle.surface_syntax.specs.Trees as surf
 use Rattle.surface_syntax.specs.declared.tree.Word.{Word}
 use Rattle.resolve.specs.Families.{family}
@@ -30,7 +31,7 @@ pub record IsWrittenDefinition (S : Signature) (x : Word) (ty body : surf.Surf) 
   pub term : Term
   pub type_resolved : resolve_term S [] ty ≡ Ok type
   pub body_resolved : resolve_term S [] body ≡ Ok term
-  pub accepted : a ≡ accepted_as x.text S (pushed S (Definition x.text type term))
+  pub accepted : a ≡ accepted_as x.text (pushed S (Definition x.text type term))
   pub typed : IsDefinition S type term
 
 -- One entry was added, the family that is written: it has the names, the parameters and the types that the written ones
@@ -40,7 +41,7 @@ pub record IsWrittenFamily (S : Signature) (x : Word) (params : List surf.Typed)
   pub entry : Family
   pub resolved : family S x params ty cons ≡ Ok raw
   pub given : IsAsDeclared (length S.entries) raw entry
-  pub accepted : a ≡ accepted_as x.text S (pushed S (FamilyOf entry))
+  pub accepted : a ≡ accepted_as x.text (pushed S (FamilyOf entry))
   pub formed : IsFamily S entry
 
 abbrev pub IsAsWritten : Signature → surf.Decl → Declared → Type 0
@@ -55,8 +56,8 @@ DeclaresAsWritten =
 -- The same where an entry of a core file enters.
 
 abbrev pub EnterExtends : Type 0
-EnterExtends = (S : Signature) (fuel : ℕ) (e : Entry) → IfOk (enter_of S fuel e) (λ x. IsPrefix S x.signature)
+EnterExtends = (S : Signature) (fuel : ℕ) (raw : RawEntry) → IfOk (enter_of S fuel raw) (λ x. IsPrefix S x.signature)
 
 abbrev pub EnterKeepsReady : Type 0
 EnterKeepsReady =
-    (S : Signature) (fuel : ℕ) (e : Entry) → IsReady S → CanEnter S e → IfOk (enter_of S fuel e) (λ x. IsReady x.signature)
+    (S : Signature) (fuel : ℕ) (raw : RawEntry) → IsReady S → CanEnter S raw → IfOk (enter_of S fuel raw) (λ x. IsReady x.signature)

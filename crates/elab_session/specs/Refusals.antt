@@ -1,5 +1,5 @@
 -- What refuses a declaration: refusals of resolution and of entering, with the names and the texts that they show.
-use Rattle.std.specs.Prelude.{◌≡◌, ℕ, List, [], Some, None, slice_get, unwrap_or}
+use Rattle.std.specs.Prelude.{◌≡◌, ℕ, List, [], Option, Some, None, slice_get, unwrap_or}
 use Rattle.theory.specs.Signatures.{Signature}
 use Rattle.core_terms.specs.Verdicts.{Denial}
 use Rattle.core_terms.specs.declared.stop.Stop.{Stop}
@@ -50,13 +50,18 @@ part_of names (OfConstructor n) = Con (name_in names n)
 abbrev pub ill_typed : Signature → PartName → Denial → Refusal
 ill_typed S part d = IllTyped part d.place (context_text S d.ctx) (reason_text S d.reason)
 
+-- the declared name is not new; an entry that declares none is never refused so
+abbrev pub not_new : Option Word → Refusal
+not_new (Some x) = Duplicate x.start x.text
+not_new None = Memory
+
 -- A refusal of entering. `over` is the signature that a part is checked over, `names` are those of the constructors, `x` is
--- the declared name.
-abbrev pub unentered : (Site → Signature) → List (List ℕ) → Word → ℕ → FamilyStop → Refusal
+-- the declared name, where there is one.
+abbrev pub unentered : (Site → Signature) → List (List ℕ) → Option Word → ℕ → FamilyStop → Refusal
 unentered over names x fuel (Stopped e) = stopped fuel e
 unentered over names x fuel (Denied site d) = ill_typed (over site) (part_of names site) d
 unentered over names x fuel (family.NotPositive n k) = NotPositive (name_in names n) k
 unentered over names x fuel (family.TooLarge None k) = IndexTooLarge None k
 unentered over names x fuel (family.TooLarge (Some n) k) = IndexTooLarge (Some (name_in names n)) k
 unentered over names x fuel family.BadFamily = BadFamily
-unentered over names x fuel family.Duplicate = Duplicate x.start x.text
+unentered over names x fuel family.Duplicate = not_new x

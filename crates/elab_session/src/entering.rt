@@ -1,69 +1,101 @@
-ghost use Rattle.std.specs.Prelude.{◌≡◌, [], None, IsTrue, map, length, Ok, IfOk, OnErr};
-ghost use Rattle.theory.specs.Signatures as pure;
+ghost use Rattle.std.specs.Prelude.{◌≡◌, ◌+◌, ◌≤◌, None, IsTrue, map, length, Ok, OnErr};
 ghost use Rattle.theory.specs.SignatureScopes.{IsFamilyNumber, IsScoped};
 ghost use Rattle.core_terms.specs.Answers.{Gives};
 ghost use Rattle.core_terms.specs.Meanings.{tree_of};
-ghost use Rattle.core_sig.specs.Kinds.{HasEntryKinds, HasKinds};
-ghost use Rattle.core_sig.specs.Meanings.{entry_of, family_of};
+ghost use Rattle.core_sig.specs.Kinds.{HasEntryKinds};
+ghost use Rattle.core_sig.specs.Meanings.{entry_of};
 ghost use Rattle.core_sig.specs.Names.{find};
+ghost use Rattle.core_sig.specs.Raw.{raw_constructor_of, raw_of};
+ghost use Rattle.core_text.specs.RawEntries as pure;
+ghost use Rattle.family_check.specs.Entering.{entered_at};
 ghost use Rattle.family_check.specs.Scopes.{IsScopedRaw};
-ghost use Rattle.core_text.specs.RawEntries as raw_entries;
 ghost use Rattle.elab_session.specs.Entering as spec;
+ghost use Rattle.elab_session.specs.Meanings.{definition_of, raw_entry_of};
 ghost use Rattle.elab_session.specs.Sessions.{IsReady};
 
 use crate::Refusal;
-use crate::families::enter_raw;
+use crate::raw_entry::{Definition, RawEntry};
+use crate::refused_families::refuse_family;
 use crate::refusing::refusal;
-use crate::shown::family_shown;
-use core_sig::{Constructor, Entry, Family, Signature};
-use core_terms::{Items, Name, Stop, Term, Units, copy_name};
-use family_check::{axiom_k, define, instance};
-use std::alloc::{AllocError, Global};
+use crate::shown::entry_shown;
+use core_sig::{Entry, RawCon, RawFamily, Signature};
+use core_terms::{Items, Name, Stop, Units, copy_name};
+use family_check::{axiom_k, declare, define, instance};
+use std::alloc::Global;
 use surface_syntax::Word;
 
-/// Adds an entry of a core file and answers its number.
-pub(crate) fn enter(
+/// Adds an entry of a core file, which may spend `fuel` units, and answers its number. After a refusal the signature is as it
+/// was.
+pub(crate) fn enter_entry(
     alloc: Global,
     sig: &mut Signature,
     fuel: u64,
     entry: Entry,
 ) -> Result<u32, Refusal>
     requires ready { IsReady sig.old }
-    requires entry { spec.CanEnter sig.old (entry_of entry) }
+    requires entry { spec.CanEnter sig.old (pure.entry_shown (length sig.old.entries) (entry_of entry)) }
     requires kinds { HasEntryKinds (length sig.old.entries) entry }
-    ensures answer { spec.Enters sig.new result (spec.enter_of sig.old fuel (entry_of entry)) }
+    ensures answer { spec.Enters sig.new result (spec.enter_of sig.old fuel (pure.entry_shown (length sig.old.entries) (entry_of entry))) }
     ensures err { OnErr result (sig.new ≡ sig.old) }
 {
-    match entry {
-        Entry::Family(family) => enter_family(alloc, sig, fuel, &family),
-        Entry::Elim(fam, m) => enter_eliminator(alloc, sig, fuel, fam, m),
-        Entry::AxiomK(i, m) => enter_axiom_k(alloc, sig, fuel, i, m),
-        Entry::Def { name, ty, body } => enter_definition(alloc, sig, fuel, name, ty, body),
+    let Ok(raw) = entry_shown(alloc, sig.len(), entry) else {
+        return Err(Refusal::Memory);
+    };
+    let mut units = Units {
+        left: fuel,
+        spent: 0,
+    };
+    enter(alloc, sig, 0, fuel, raw, &mut units)
+}
+
+/// Adds an entry, whose name stands at the offset `start`, and answers its number. All of it may spend `fuel` units. After a
+/// refusal the signature is as it was, and the units that were spent stay spent.
+pub(crate) fn enter(
+    alloc: Global,
+    sig: &mut Signature,
+    start: u32,
+    fuel: u64,
+    raw: RawEntry,
+    units: &mut Units,
+) -> Result<u32, Refusal>
+    requires ready { IsReady sig.old }
+    requires entry { spec.CanEnter sig.old (raw_entry_of raw) }
+    ensures answer { spec.Declares (entered_at sig.new) result units.new.left (spec.enter_with sig.old start fuel (raw_entry_of raw) units.old.left) }
+    ensures err { OnErr result (sig.new ≡ sig.old) }
+    ensures sum { units.new.left + units.new.spent ≡ units.old.left + units.old.spent }
+    ensures spends { units.new.left ≤ units.old.left }
+{
+    match raw {
+        RawEntry::Family(raw) => enter_family(alloc, sig, start, fuel, raw, units),
+        RawEntry::Elim(fam, m) => enter_eliminator(alloc, sig, fuel, fam, m, units),
+        RawEntry::AxiomK(i, m) => enter_axiom_k(alloc, sig, fuel, i, m, units),
+        RawEntry::Def(d) => enter_definition(alloc, sig, start, fuel, d, units),
     }
 }
 
 fn enter_definition(
     alloc: Global,
     sig: &mut Signature,
+    start: u32,
     fuel: u64,
-    name: Name,
-    ty: Term,
-    body: Term,
+    d: Definition,
+    units: &mut Units,
 ) -> Result<u32, Refusal>
     requires ready { IsReady sig.old }
-    requires ty { IsScoped sig.old 0 (tree_of ty) }
-    requires body { IsScoped sig.old 0 (tree_of body) }
-    ensures answer { spec.Enters sig.new result (spec.enter_of sig.old fuel (pure.Definition name (tree_of ty) (tree_of body))) }
+    requires ty { IsScoped sig.old 0 (tree_of d.ty) }
+    requires body { IsScoped sig.old 0 (tree_of d.body) }
+    ensures answer { spec.Declares (entered_at sig.new) result units.new.left (spec.enter_with sig.old start fuel (definition_of d) units.old.left) }
     ensures err { OnErr result (sig.new ≡ sig.old) }
+    ensures sum { units.new.left + units.new.spent ≡ units.old.left + units.old.spent }
+    ensures spends { units.new.left ≤ units.old.left }
 {
-    let x = unplaced(alloc, &name)?;
-    let mut units = Units {
-        left: fuel,
-        spent: 0,
+    let x = Word {
+        text: copy_name(alloc, &d.name)?,
+        start,
     };
-    match define(alloc, sig, name, ty, body, &mut units) {
+    match define(alloc, sig, d.name, d.ty, d.body, units) {
         Ok(number) => Ok(number),
-        Err(stop) => Err(refusal(alloc, sig, &[], &x, fuel, stop)),
+        Err(stop) => Err(refusal(alloc, sig, &[], Some(&x), fuel, stop)),
     }
 }
 
@@ -73,19 +105,18 @@ fn enter_eliminator(
     fuel: u64,
     fam: u32,
     m: u8,
+    units: &mut Units,
 ) -> Result<u32, Refusal>
     requires ready { IsReady sig.old }
     requires family { IsFamilyNumber sig.old fam }
-    ensures answer { spec.Enters sig.new result (spec.enter_of sig.old fuel (pure.EliminatorAt fam m)) }
+    ensures answer { spec.Declares (entered_at sig.new) result units.new.left (spec.enter_with sig.old 0 fuel (pure.RawEliminator fam m) units.old.left) }
     ensures err { OnErr result (sig.new ≡ sig.old) }
+    ensures sum { units.new.left + units.new.spent ≡ units.old.left + units.old.spent }
+    ensures spends { units.new.left ≤ units.old.left }
 {
-    let mut units = Units {
-        left: fuel,
-        spent: 0,
-    };
-    match instance(alloc, sig, fam, m, &mut units) {
+    match instance(alloc, sig, fam, m, units) {
         Ok(number) => Ok(number),
-        Err(stop) => Err(refusal(alloc, sig, &[], &nameless(alloc), fuel, stop)),
+        Err(stop) => Err(refusal(alloc, sig, &[], None, fuel, stop)),
     }
 }
 
@@ -95,68 +126,57 @@ fn enter_axiom_k(
     fuel: u64,
     i: u8,
     m: u8,
+    units: &mut Units,
 ) -> Result<u32, Refusal>
     requires ready { IsReady sig.old }
     requires on { IsTrue sig.old.has_k }
-    ensures answer { spec.Enters sig.new result (spec.enter_of sig.old fuel (pure.AxiomKAt i m)) }
+    ensures answer { spec.Declares (entered_at sig.new) result units.new.left (spec.enter_with sig.old 0 fuel (pure.RawAxiomK i m) units.old.left) }
     ensures err { OnErr result (sig.new ≡ sig.old) }
+    ensures sum { units.new.left + units.new.spent ≡ units.old.left + units.old.spent }
+    ensures spends { units.new.left ≤ units.old.left }
 {
-    let mut units = Units {
-        left: fuel,
-        spent: 0,
-    };
-    match axiom_k(alloc, sig, i, m, &mut units) {
+    match axiom_k(alloc, sig, i, m, units) {
         Ok(number) => Ok(number),
-        Err(stop) => Err(refusal(alloc, sig, &[], &nameless(alloc), fuel, stop)),
+        Err(stop) => Err(refusal(alloc, sig, &[], None, fuel, stop)),
     }
 }
 
-fn enter_family(alloc: Global, sig: &mut Signature, fuel: u64, f: &Family) -> Result<u32, Refusal>
+fn enter_family(
+    alloc: Global,
+    sig: &mut Signature,
+    start: u32,
+    fuel: u64,
+    raw: RawFamily,
+    units: &mut Units,
+) -> Result<u32, Refusal>
     requires ready { IsReady sig.old }
-    requires raw { IsScopedRaw sig.old (raw_entries.family_shown (length sig.old.entries) (family_of f.now)) }
-    requires new { find sig.old f.now.name ≡ None }
-    requires kinds { HasKinds (length sig.old.entries) f.now }
-    ensures answer { spec.Enters sig.new result (spec.enter_of sig.old fuel (pure.FamilyOf (family_of f.now))) }
+    requires raw { IsScopedRaw sig.old (raw_of raw) }
+    requires new { find sig.old raw.name ≡ None }
+    ensures answer { spec.Declares (entered_at sig.new) result units.new.left (spec.enter_with sig.old start fuel (pure.RawFamilyOf (raw_of raw)) units.old.left) }
     ensures err { OnErr result (sig.new ≡ sig.old) }
+    ensures sum { units.new.left + units.new.spent ≡ units.old.left + units.old.spent }
+    ensures spends { units.new.left ≤ units.old.left }
 {
-    let Ok(raw) = family_shown(alloc, sig.len(), f) else {
+    let x = Word {
+        text: copy_name(alloc, &raw.name)?,
+        start,
+    };
+    let Ok(names) = constructor_names(alloc, raw.cons.as_slice()) else {
         return Err(Refusal::Memory);
     };
-    let Ok(names) = constructor_names(alloc, f.cons.as_slice()) else {
-        return Err(Refusal::Memory);
-    };
-    let x = unplaced(alloc, &f.name)?;
-    enter_raw(alloc, sig, fuel, &x, names.as_slice(), raw)
+    match declare(alloc, sig, raw, units) {
+        Ok(number) => Ok(number),
+        Err(stop) => Err(refuse_family(alloc, sig, fuel, &x, names.as_slice(), stop)),
+    }
 }
 
 /// The names of constructors.
-fn constructor_names(alloc: Global, cons: &[Constructor]) -> Result<Items<Name>, Stop>
-    ensures { Gives (λ names. names) result (Ok (map (λ c. c.name) cons.now)) }
+fn constructor_names(alloc: Global, cons: &[RawCon]) -> Result<Items<Name>, Stop>
+    ensures { Gives (λ names. names) result (Ok (map (λ c. c.name) (map raw_constructor_of cons.now))) }
 {
     let mut names = Items::new(alloc);
     for con in cons {
         names.push(copy_name(alloc, &con.name)?)?;
     }
     Ok(names)
-}
-
-/// A name that stands at no offset.
-fn unplaced(alloc: Global, name: &Name) -> Result<Word, AllocError>
-    ensures text { IfOk result (λ x. x.text ≡ name.now) }
-    ensures start { IfOk result (λ x. x.start ≡ 0) }
-{
-    Ok(Word {
-        text: copy_name(alloc, name)?,
-        start: 0,
-    })
-}
-
-fn nameless(alloc: Global) -> Word
-    ensures text { result.text ≡ [] }
-    ensures start { result.start ≡ 0 }
-{
-    Word {
-        text: Name::from_vec(Vec::new(alloc)),
-        start: 0,
-    }
 }

@@ -6,17 +6,18 @@
 //! declaration is `NotYet`. The entries of a core file enter by the same checks.
 #![tactic(auto)]
 
-mod accepted;
-mod definitions;
+mod declaring;
 mod entering;
-mod families;
 pub mod laws;
+mod raw_entry;
 mod refusal;
+mod refused_families;
 mod refusing;
+mod resolving;
 mod session;
 mod shown;
 
-pub use accepted::Accepted;
+pub use declaring::declare;
 pub use refusal::{PartName, Refusal, Text};
 pub use refusing::stopped;
-pub use session::{Session, declare};
+pub use session::Session;

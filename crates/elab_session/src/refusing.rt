@@ -1,4 +1,5 @@
 ghost use Rattle.std.specs.Prelude.{◌≡◌, Ok};
+ghost use Rattle.std.specs.Option.{option_copied};
 ghost use Rattle.core_terms.specs.Answers.{Gives, Unless};
 ghost use Rattle.core_terms.specs.Meanings.{denial_of};
 ghost use Rattle.family_check.specs.Meanings.{site_of, stop_of};
@@ -77,16 +78,26 @@ pub(crate) fn denied_part(
     ill_typed(alloc, sig, part, denial)
 }
 
+/// The declared name is not new.
+fn not_new(alloc: Global, x: Option<&Word>) -> Result<Refusal, Stop>
+    ensures { Gives (λ refusal. refusal) result (Ok (spec.not_new (option_copied x.entry))) }
+{
+    match x {
+        Some(x) => Ok(Refusal::Duplicate(x.start, copy_name(alloc, &x.text)?)),
+        None => Ok(Refusal::Memory),
+    }
+}
+
 /// A refusal of entering, with texts over one signature.
 fn unentered(
     alloc: Global,
     sig: &Signature,
     names: &[Name],
-    x: &Word,
+    x: Option<&Word>,
     fuel: u64,
     stop: FamilyStop,
 ) -> Result<Refusal, Stop>
-    ensures { Gives (λ refusal. refusal) result (Ok (spec.unentered (λ site. sig.now) names.now x.now fuel (stop_of stop))) }
+    ensures { Gives (λ refusal. refusal) result (Ok (spec.unentered (λ site. sig.now) names.now (option_copied x.entry) fuel (stop_of stop))) }
 {
     match stop {
         FamilyStop::Stop(stop) => Ok(stopped(fuel, stop)),
@@ -100,7 +111,7 @@ fn unentered(
             Ok(Refusal::IndexTooLarge(Some(name), k))
         }
         FamilyStop::BadFamily => Ok(Refusal::BadFamily),
-        FamilyStop::Duplicate => Ok(Refusal::Duplicate(x.start, copy_name(alloc, &x.text)?)),
+        FamilyStop::Duplicate => not_new(alloc, x),
     }
 }
 
@@ -109,11 +120,11 @@ pub(crate) fn refusal(
     alloc: Global,
     sig: &Signature,
     names: &[Name],
-    x: &Word,
+    x: Option<&Word>,
     fuel: u64,
     stop: FamilyStop,
 ) -> Refusal
-    ensures { Unless (spec.IsUnforeseen result) (result ≡ spec.unentered (λ site. sig.now) names.now x.now fuel (stop_of stop)) }
+    ensures { Unless (spec.IsUnforeseen result) (result ≡ spec.unentered (λ site. sig.now) names.now (option_copied x.entry) fuel (stop_of stop)) }
 {
     match unentered(alloc, sig, names, x, fuel, stop) {
         Ok(refusal) => refusal,

@@ -1,23 +1,24 @@
-ghost use Rattle.std.specs.Prelude.{◌≡◌, map, length, IfOk, OnErr};
+ghost use Rattle.std.specs.Prelude.{◌≡◌, length, IfOk, OnErr};
 ghost use Rattle.theory.specs.Prelude.{prelude};
 ghost use Rattle.theory.specs.Signatures.{IsPrefix};
 ghost use Rattle.core_terms.specs.declared.stop.Stop.TheVariants.{Memory};
-ghost use Rattle.surface_syntax.specs.TreeMeanings.{decl_of, member_of};
+ghost use Rattle.surface_syntax.specs.TreeMeanings.{decl_of};
 ghost use Rattle.core_sig.specs.Kinds.{HasEntryKinds};
 ghost use Rattle.core_sig.specs.Meanings.{entry_of};
+ghost use Rattle.core_text.specs.RawEntries.{entry_shown};
 ghost use Rattle.elab_session.specs.Declaring as spec;
 ghost use Rattle.elab_session.specs.Entering.{CanEnter, Enters, enter_of};
 ghost use Rattle.elab_session.specs.Laws.{IsAsWritten};
 ghost use Rattle.elab_session.specs.Sessions.{IsReady};
 
-use crate::definitions::declare_definition;
-use crate::families::declare_family;
-use crate::{Accepted, Refusal, entering};
+use crate::Refusal;
+use crate::declaring::declare;
+use crate::entering::enter_entry;
 use core_sig::{Entry, Signature};
-use core_terms::Stop;
+use core_terms::{Name, Stop};
 use std::alloc::Global;
 use std::marker::Model;
-use surface_syntax::{Decl, SurfMember, Word};
+use surface_syntax::Decl;
 
 /// The signature that declarations add their entries to, and the units that each declaration may spend. Whoever writes to the
 /// signature leaves it well formed, settled, and with the prelude at its front.
@@ -59,58 +60,28 @@ impl Session {
         &self.sig
     }
 
-    /// Adds the entries of a declaration. After a refusal the session is as it was.
-    pub fn declare(&mut self, d: &Decl) -> Result<Accepted, Refusal>
+    /// Adds the entries of a declaration, and answers its name. After a refusal the session is as it was.
+    pub fn declare(&mut self, d: &Decl) -> Result<Name, Refusal>
         ensures answer { spec.Answers self.new.signature result (spec.declare_of self.old.signature self.old.fuel (decl_of d.now)) }
         ensures err { OnErr result (self.new ≡ self.old) }
         ensures fuel { self.new.fuel ≡ self.old.fuel }
         ensures longer { IsPrefix self.old.signature self.new.signature }
         ensures ready { IsReady self.new.signature }
-        ensures written { IfOk result (λ accepted. IsAsWritten self.old.signature (decl_of d.now) (spec.declared_in self.new.signature accepted)) }
+        ensures written { IfOk result (λ name. IsAsWritten self.old.signature (decl_of d.now) (spec.accepted_as name self.new.signature)) }
     {
         declare(self.alloc, &mut self.sig, self.fuel, d)
     }
 
     /// Adds an entry of a core file and answers its number. After a refusal the session is as it was.
     pub fn enter(&mut self, entry: Entry) -> Result<u32, Refusal>
-        requires entry { CanEnter self.old.signature (entry_of entry) }
+        requires entry { CanEnter self.old.signature (entry_shown (length self.old.signature.entries) (entry_of entry)) }
         requires kinds { HasEntryKinds (length self.old.signature.entries) entry }
-        ensures answer { Enters self.new.signature result (enter_of self.old.signature self.old.fuel (entry_of entry)) }
+        ensures answer { Enters self.new.signature result (enter_of self.old.signature self.old.fuel (entry_shown (length self.old.signature.entries) (entry_of entry))) }
         ensures err { OnErr result (self.new ≡ self.old) }
         ensures fuel { self.new.fuel ≡ self.old.fuel }
         ensures longer { IsPrefix self.old.signature self.new.signature }
         ensures ready { IsReady self.new.signature }
     {
-        entering::enter(self.alloc, &mut self.sig, self.fuel, entry)
-    }
-}
-
-/// Adds the entries of a declaration, which may spend `fuel` units. After a refusal the signature is as it was.
-pub fn declare(alloc: Global, sig: &mut Signature, fuel: u64, d: &Decl) -> Result<Accepted, Refusal>
-    requires ready { IsReady sig.old }
-    ensures answer { spec.Answers sig.new result (spec.declare_of sig.old fuel (decl_of d.now)) }
-    ensures err { OnErr result (sig.new ≡ sig.old) }
-{
-    match d {
-        Decl::Def { name, ty, body } => declare_definition(alloc, sig, fuel, name, ty, body),
-        Decl::Data { name, cons, .. } => {
-            declare_family(alloc, sig, fuel, d, name, cons.as_slice())
-        }
-        Decl::Decide { name, .. } | Decl::Fun { name, .. } => Err(Refusal::NotYet(name.start)),
-        Decl::Mutual {
-            members,
-            family,
-            ..
-        } => Err(Refusal::NotYet(first_name(members.as_slice(), family).start)),
-    }
-}
-
-/// The first of the names that families which refer to each other declare.
-fn first_name<'a>(members: &'a [SurfMember], family: &'a Word) -> &'a Word
-    ensures { result.now ≡ spec.first_name (map member_of members.now) family.now }
-{
-    match members.first() {
-        Some(member) => &member.name,
-        None => family,
+        enter_entry(self.alloc, &mut self.sig, self.fuel, entry)
     }
 }

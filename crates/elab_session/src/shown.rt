@@ -4,20 +4,35 @@ ghost use Rattle.theory.specs.Terms as tree;
 ghost use Rattle.core_terms.specs.Answers.{Gives};
 ghost use Rattle.core_terms.specs.Meanings.{tree_of, tele_of};
 ghost use Rattle.core_terms.specs.declared.stop.Stop.TheVariants.{Memory};
-ghost use Rattle.core_sig.specs.Kinds.{HasKinds};
-ghost use Rattle.core_sig.specs.Meanings.{family_of};
+ghost use Rattle.core_sig.specs.Kinds.{HasEntryKinds, HasKinds};
+ghost use Rattle.core_sig.specs.Meanings.{entry_of, family_of};
 ghost use Rattle.core_sig.specs.Raw.{raw_constructor_of, raw_of};
-ghost use Rattle.core_text.specs.RawEntries.{family_shown};
+ghost use Rattle.core_text.specs.RawEntries.{entry_shown, family_shown};
+ghost use Rattle.elab_session.specs.Meanings.{raw_entry_of};
 ghost use Rattle.elab_session.specs.Shown.{shown, shown_constructor};
 
-use core_sig::{Constructor, Family, RawCon, RawFamily, types_of};
+use crate::raw_entry::{Definition, RawEntry};
+use core_sig::{Constructor, Entry, Family, RawCon, RawFamily, types_of};
 use core_terms::{
     Items, Stop, Term, applied, applied_to_variables, copy_name, copy_tele, number_of, products,
 };
 use std::alloc::Global;
 
+/// The entry as its line shows it.
+pub(crate) fn entry_shown(alloc: Global, number: u32, entry: Entry) -> Result<RawEntry, Stop>
+    requires { HasEntryKinds number entry }
+    ensures { Gives raw_entry_of result (Ok (entry_shown number (entry_of entry))) }
+{
+    match entry {
+        Entry::Family(family) => Ok(RawEntry::Family(family_shown(alloc, number, &family)?)),
+        Entry::Elim(family, m) => Ok(RawEntry::Elim(family, m)),
+        Entry::AxiomK(i, m) => Ok(RawEntry::AxiomK(i, m)),
+        Entry::Def { name, ty, body } => Ok(RawEntry::Def(Definition { name, ty, body })),
+    }
+}
+
 /// The family as its line shows it.
-pub(crate) fn family_shown(alloc: Global, number: u32, f: &Family) -> Result<RawFamily, Stop>
+fn family_shown(alloc: Global, number: u32, f: &Family) -> Result<RawFamily, Stop>
     requires { HasKinds number f.now }
     ensures { Gives raw_of result (Ok (family_shown number (family_of f.now))) }
 {

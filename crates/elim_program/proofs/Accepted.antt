@@ -53,7 +53,7 @@ record IsFound (command : Command) (all : List surf.Decl) (lines : List (List �
   accepted : Elaborated
   elaborated : elaborate_of before command.fuel declaration ≡ Ok accepted
   written : IsAsWritten before declaration accepted
-  named : accepted.accepted.name ≡ name
+  named : accepted.name ≡ name
   longer : IsPrefix before accepted.signature
   whole : IsReady accepted.signature
   earlier : List (List ℕ)
@@ -182,11 +182,11 @@ shows-more P S T clauses earlier shows longer =
 -- what is known after a declaration that is accepted
 onward : (command : Command) (all : List surf.Decl) (d : surf.Decl) (ds : List surf.Decl) (earlier : List (List ℕ)) (S : Signature) (a : Elaborated) →
     IsBefore command all (d ∷ ds) earlier S → elaborate_of S command.fuel d ≡ Ok a → KeepsReady S a
-    → IsBefore command all ds ((earlier ++ own_lines S a) ++ accepted_line a.accepted.name ∷ []) a.signature
+    → IsBefore command all ds ((earlier ++ own_lines S a) ++ accepted_line a.name ∷ []) a.signature
 onward command all d ds earlier S a b is on =
     let P : List (List ℕ) → Type 0 = λ ls. Shows (prelude command.k) a.signature ls in
-    let core : core_lines ((earlier ++ own_lines S a) ++ accepted_line a.accepted.name ∷ []) ≡ core_lines (earlier ++ own_lines S a) =
-    core-lines-append (earlier ++ own_lines S a) (accepted_line a.accepted.name ∷ []) ∙ append-nil (core_lines (earlier ++ own_lines S a)) in
+    let core : core_lines ((earlier ++ own_lines S a) ++ accepted_line a.name ∷ []) ≡ core_lines (earlier ++ own_lines S a) =
+    core-lines-append (earlier ++ own_lines S a) (accepted_line a.name ∷ []) ∙ append-nil (core_lines (earlier ++ own_lines S a)) in
     record {
       done = b.done ++ d ∷ [];
       parts = b.parts ∙ sym (append_assoc b.done (d ∷ []) ds);
@@ -197,7 +197,7 @@ onward command all d ds earlier S a b is on =
     }
 
 shown_here : (command : Command) (all : List surf.Decl) (d : surf.Decl) (ds : List surf.Decl) (earlier : List (List ℕ)) (S : Signature) (a : Elaborated) (name : List ℕ) →
-    IsBefore command all (d ∷ ds) earlier S → elaborate_of S command.fuel d ≡ Ok a → KeepsReady S a → IsAsWritten S d a → a.accepted.name ≡ name
+    IsBefore command all (d ∷ ds) earlier S → elaborate_of S command.fuel d ≡ Ok a → KeepsReady S a → IsAsWritten S d a → a.name ≡ name
     → IsFound command all (earlier ++ own_lines S a) name
 shown_here command all d ds earlier S a name b is on written named = record {
   front = b.done;
@@ -221,11 +221,11 @@ shown_here command all d ds earlier S a name b is on written named = record {
 }
 
 -- the lines of an accepted declaration and those that follow
-split-lines : (S : Signature) (a : Elaborated) (rest : List (List ℕ)) → accepted_lines S a ++ rest ≡ own_lines S a ++ accepted_line a.accepted.name ∷ rest
+split-lines : (S : Signature) (a : Elaborated) (rest : List (List ℕ)) → accepted_lines S a ++ rest ≡ own_lines S a ++ accepted_line a.name ∷ rest
 split-lines S a rest =
     let entries = lines_after S a.signature in
     let clauses = clause_lines a.signature a.lines in
-    let last = accepted_line a.accepted.name ∷ [] in
+    let last = accepted_line a.name ∷ [] in
     ap (λ ls. ls ++ rest) (sym (append_assoc entries clauses last)) ∙ append_assoc (entries ++ clauses) last rest
 
 found : (command : Command) (all : List surf.Decl) (S : Signature) (ds : List surf.Decl) (earlier above below : List (List ℕ)) (name : List ℕ) →
@@ -243,18 +243,18 @@ found command all S (d ∷ ds) earlier above below name b e =
         let on = if_ok (KeepsReady S) (elaborate_of S command.fuel d) a er (elaborate-ready S command.fuel d b.ready) in
         let written = if_ok (IsAsWritten S d) (elaborate_of S command.fuel d) a er (elaborates-written S command.fuel d b.ready) in
         let rest = (declarations command.fuel a.signature ds).lines in
-        which on written (find (own_lines S a) rest above below a.accepted.name name (own-other S a) (sym (split-lines S a rest) ∙ e))
+        which on written (find (own_lines S a) rest above below a.name name (own-other S a) (sym (split-lines S a rest) ∙ e))
       where
-        which : KeepsReady S a → IsAsWritten S d a → Found (own_lines S a) (declarations command.fuel a.signature ds).lines above below a.accepted.name name → IsFound command all (earlier ++ above) name
+        which : KeepsReady S a → IsAsWritten S d a → Found (own_lines S a) (declarations command.fuel a.signature ds).lines above below a.name name → IsFound command all (earlier ++ above) name
         which on written (here f m r) =
             let P : List (List ℕ) → Type 0 = λ ls. IsFound command all (earlier ++ ls) name in
             subst P (sym f) (shown_here command all d ds earlier S a name b er on written m)
         which on written (later_on later f r) =
             let P : List (List ℕ) → Type 0 = λ ls. IsFound command all ls name in
-            let place : ((earlier ++ own_lines S a) ++ accepted_line a.accepted.name ∷ []) ++ later ≡ earlier ++ above =
-            append_assoc (earlier ++ own_lines S a) (accepted_line a.accepted.name ∷ []) later ∙ append_assoc earlier (own_lines S a) (accepted_line a.accepted.name ∷ later)
+            let place : ((earlier ++ own_lines S a) ++ accepted_line a.name ∷ []) ++ later ≡ earlier ++ above =
+            append_assoc (earlier ++ own_lines S a) (accepted_line a.name ∷ []) later ∙ append_assoc earlier (own_lines S a) (accepted_line a.name ∷ later)
             ∙ ap (λ ls. earlier ++ ls) (sym f) in
-            subst P place (rec a.signature later ((earlier ++ own_lines S a) ++ accepted_line a.accepted.name ∷ []) (onward command all d ds earlier S a b er on) r)
+            subst P place (rec a.signature later ((earlier ++ own_lines S a) ++ accepted_line a.name ∷ []) (onward command all d ds earlier S a b er on) r)
 
 -- what is found in a text is accepted
 as_accepted : (words : List (List ℕ)) (bytes : List ℕ) (command : Command) (decls : List surf.Decl) (lines : List (List ℕ)) (name : List ℕ) →

@@ -3,8 +3,7 @@ use Rattle.std.proofs.Common.{◌≡◌, ℕ, Bool, true, false, List, [], ◌�
 use Rattle.std.specs.Prelude.{slice_get, position, nat_lt}
 use Rattle.theory.specs.Terms.{Term, top}
 use Rattle.theory.specs.Eliminators.{eliminator_type}
-use Rattle.theory.specs.Signatures.{Entry, FamilyOf, EliminatorAt, AxiomKAt, Definition, Signature, IsPrefix, axiom_k_type}
-use Rattle.theory.specs.WellFormed.{IsWellFormed}
+use Rattle.theory.specs.Signatures.{Entry, FamilyOf, EliminatorAt, AxiomKAt, Definition, Signature, axiom_k_type}
 use Rattle.core_sig.specs.Instances.{is_eliminator, is_axiom_k}
 use Rattle.core_text.specs.RawEntries.{RawEntry, RawFamilyOf, RawEliminator, RawAxiomK, RawDefinition}
 use Rattle.core_text.specs.ReadLaws.{IsReadEntry}
@@ -13,37 +12,19 @@ use Rattle.family_check.specs.Asking.{sort_in, type_in}
 use Rattle.family_check.specs.Entering.{Entered, are_new, check_definition, declare_of, define_of, enter_instance, entered, unless_there}
 use Rattle.family_check.specs.Laws.{EntersAsDeclared}
 use Rattle.family_check.specs.Outcomes.{OfType, OfBody, FamilyStop, Outcome}
-use Rattle.family_check.specs.Scopes.{IsSettled}
-use Rattle.family_check.proofs.Extending.{declare-extends}
 use Rattle.family_check.proofs.AsDeclared.{declare-gives}
 use Rattle.core_terms.proofs.Answers.{Answers, and_next-has}
 use Rattle.family_check.proofs.Outcomes.{if_new-has}
-use Rattle.family_check.proofs.ScopedEntering.{declare-settles}
-use Rattle.family_check.proofs.Soundness.{declare-keeps}
-use Rattle.elab_session.specs.Entering.{answered, checked_entry, eliminator_in}
+use Rattle.elab_session.specs.Entering.{checked, eliminator_in, enter_of}
 use Rattle.elab_session.specs.Sessions.{IsReady}
-use Rattle.elab_session.specs.declared.refusal.Refusal.{Refusal}
-use Rattle.elab_session.proofs.Entered.{enter-ready}
-use Rattle.elab_session.proofs.Resolved.{prelude-stays, together}
-use Rattle.elim_program.specs.Verifies.{enter_read}
+use Rattle.elab_session.proofs.Entered.{answered-has, enter-ready}
 use Rattle.elim_program.specs.VerifyHeadline.{Adds, family, eliminator, axiom_k, definition}
-use Rattle.elim_program.proofs.Entries.{scoped-raw}
+use Rattle.elim_program.proofs.Entries.{can-enter}
 use Rattle.elim_program.proofs.ReadInLine.{IsMissing}
 
-answered-has : (P : Entered → Type 0) (refusal : FamilyStop → Refusal) (r : Result Entered FamilyStop) → IfOk r P → IfOk (answered refusal r) P
-answered-has P refusal (Ok e) h = h
-answered-has P refusal (Err e) h = tt
-
 -- The signature stays one that a session may have.
-pub ready-read : (S : Signature) (fuel : ℕ) (raw : RawEntry) → IsReady S → IsReadEntry S raw → IfOk (enter_read S fuel raw) (λ x. IsReady x.signature)
-ready-read S fuel (RawFamilyOf raw) ready is =
-    answered-has (λ x. IsReady x.signature) _ (declare_of S raw fuel).0
-    (together (λ x. IsWellFormed x.signature) (λ x. IsSettled x.signature) (λ x. IsPrefix S x.signature) (λ x. IsReady x.signature) (declare_of S raw fuel).0
-    (declare-keeps S raw fuel ready.well_formed) (declare-settles S raw fuel ready.settled (scoped-raw S raw is)).0 (declare-extends S raw fuel)
-    (λ x well settled longer. record { well_formed = well; settled = settled; prelude = prelude-stays S x.signature ready.prelude longer }))
-ready-read S fuel (RawEliminator n m) ready is = enter-ready S fuel (EliminatorAt n m) ready is.0
-ready-read S fuel (RawAxiomK i m) ready is = enter-ready S fuel (AxiomKAt i m) ready is.0
-ready-read S fuel (RawDefinition name type body) ready is = enter-ready S fuel (Definition name type body) ready (is.1.scoped, is.2.scoped)
+pub ready-read : (S : Signature) (fuel : ℕ) (raw : RawEntry) → IsReady S → IsReadEntry S raw → IfOk (enter_of S fuel raw) (λ x. IsReady x.signature)
+ready-read S fuel raw ready is = enter-ready S fuel raw ready (can-enter S raw is)
 
 -- What is read is what is added.
 
@@ -86,19 +67,19 @@ eliminator-enters S n m left None h = tt
 added : (S : Signature) (raw : RawEntry) (e : Entry) → Adds S raw (entered S e).signature → (x : Entered) → x ≡ entered S e → Adds S raw x.signature
 added S raw e adds x is = subst (λ y. Adds S raw y.signature) (sym is) adds
 
-pub adds-read : (S : Signature) (fuel : ℕ) (raw : RawEntry) → IsMissing S raw → IfOk (enter_read S fuel raw) (λ x. Adds S raw x.signature)
+pub adds-read : (S : Signature) (fuel : ℕ) (raw : RawEntry) → IsMissing S raw → IfOk (enter_of S fuel raw) (λ x. Adds S raw x.signature)
 adds-read S fuel (RawFamilyOf raw) missing =
     answered-has (λ x. Adds S (RawFamilyOf raw) x.signature) _ (declare_of S raw fuel).0
     (if-ok-map (EntersAsDeclared S raw) (λ x. Adds S (RawFamilyOf raw) x.signature) (declare_of S raw fuel).0 (λ x is. added S (RawFamilyOf raw) (FamilyOf is.0) (family raw is.0 is.2) x is.1) (declare-gives S raw fuel))
 adds-read S fuel (RawEliminator n m) missing =
-    answered-has (λ x. Adds S (RawEliminator n m) x.signature) _ (checked_entry S (EliminatorAt n m) fuel).0
-    (if-ok-map (λ x. x ≡ entered S (EliminatorAt n m)) (λ x. Adds S (RawEliminator n m) x.signature) (checked_entry S (EliminatorAt n m) fuel).0 (added S (RawEliminator n m) (EliminatorAt n m) (eliminator n m))
+    answered-has (λ x. Adds S (RawEliminator n m) x.signature) _ (checked S (RawEliminator n m) fuel).0
+    (if-ok-map (λ x. x ≡ entered S (EliminatorAt n m)) (λ x. Adds S (RawEliminator n m) x.signature) (checked S (RawEliminator n m) fuel).0 (added S (RawEliminator n m) (EliminatorAt n m) (eliminator n m))
     (eliminator-enters S n m fuel (slice_get S.entries n) (none-position (is_eliminator n m) S.entries missing)))
 adds-read S fuel (RawAxiomK i m) missing =
-    answered-has (λ x. Adds S (RawAxiomK i m) x.signature) _ (checked_entry S (AxiomKAt i m) fuel).0
-    (if-ok-map (λ x. x ≡ entered S (AxiomKAt i m)) (λ x. Adds S (RawAxiomK i m) x.signature) (checked_entry S (AxiomKAt i m) fuel).0 (added S (RawAxiomK i m) (AxiomKAt i m) (axiom_k i m))
+    answered-has (λ x. Adds S (RawAxiomK i m) x.signature) _ (checked S (RawAxiomK i m) fuel).0
+    (if-ok-map (λ x. x ≡ entered S (AxiomKAt i m)) (λ x. Adds S (RawAxiomK i m) x.signature) (checked S (RawAxiomK i m) fuel).0 (added S (RawAxiomK i m) (AxiomKAt i m) (axiom_k i m))
     (missing-enters S (AxiomKAt i m) _ (axiom_k_type i m) fuel (position (is_axiom_k i m) S.entries) (none-position (is_axiom_k i m) S.entries missing)))
 adds-read S fuel (RawDefinition name type body) missing =
-    answered-has (λ x. Adds S (RawDefinition name type body) x.signature) _ (checked_entry S (Definition name type body) fuel).0
-    (if-ok-map (λ x. x ≡ entered S (Definition name type body)) (λ x. Adds S (RawDefinition name type body) x.signature) (checked_entry S (Definition name type body) fuel).0 (added S (RawDefinition name type body) (Definition name type body) (definition name type body))
+    answered-has (λ x. Adds S (RawDefinition name type body) x.signature) _ (checked S (RawDefinition name type body) fuel).0
+    (if-ok-map (λ x. x ≡ entered S (Definition name type body)) (λ x. Adds S (RawDefinition name type body) x.signature) (checked S (RawDefinition name type body) fuel).0 (added S (RawDefinition name type body) (Definition name type body) (definition name type body))
     (define-enters S name type body fuel))

@@ -27,7 +27,7 @@ use Rattle.elim_program.proofs.SessionInLine.{NamesIn, TextIn, RefusesIn, Accept
 use Rattle.elim_program.proofs.TokensInLine.{Each}
 
 pub record ElaboratedIn (a : Elaborated) : Type 0 where
-  pub name : IsIn a.accepted.name
+  pub name : IsIn a.name
   pub names : NamesIn a.signature
   pub clauses : Each ClauseIn a.lines
 
@@ -69,13 +69,13 @@ refusal-written fuel (refusal.SelfInType owner) h = h
 refusal-written fuel (refusal.NotSmaller rows) h = h
 refusal-written fuel (refusal.Rejected r) h = h
 
-lines-written : (S : Signature) (x : Word) → WordIn x → (fuel : ℕ) (r : Result Lines refusal.Refusal) → Splits LinesIn RefusalIn r → WrittenIn (on_lines S x fuel r)
-lines-written S x h fuel (Ok l) k = record { name = h; names = k.names; clauses = k.clauses }
-lines-written S x h fuel (Err e) k = refusal-written fuel e k
+lines-written : (x : Word) → WordIn x → (fuel : ℕ) (r : Result Lines refusal.Refusal) → Splits LinesIn RefusalIn r → WrittenIn (on_lines x fuel r)
+lines-written x h fuel (Ok l) k = record { name = h; names = k.names; clauses = k.clauses }
+lines-written x h fuel (Err e) k = refusal-written fuel e k
 
 function-in-line : (S : Signature) → NamesIn S → (x : Word) → WordIn x → (fuel : ℕ) (r : Result function.Function ResolveStop) → Resolves NameIn r
     → WrittenIn (on_function r (enter_function S fuel x))
-function-in-line S names x h fuel (Ok f) k = lines-written S x h fuel (function_made S f fuel).0 (function-written S names f k fuel)
+function-in-line S names x h fuel (Ok f) k = lines-written x h fuel (function_made S f fuel).0 (function-written S names f k fuel)
 function-in-line S names x h fuel (Err e) k = unresolved-in e k
 
 -- ---- declarations

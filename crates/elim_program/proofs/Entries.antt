@@ -1,34 +1,29 @@
 -- Entries of a core file one by one.
 use Rattle.std.proofs.Common.{◌≡◌, ◌≢◌, ℕ, zero, suc, ◌+◌, ◌-◌, ◌<◌, ◌≤◌, Bool, true, false, List, [], ◌∷◌, length, map, Option, Some, None, Result, Ok, Err, refl, sym, ap, subst, ◌∙◌, arith}
 use Rattle.std.proofs.lemmas.List.Elements.{All-head}
-use Rattle.std.proofs.lemmas.Simd.{map-map}
-use Rattle.theory.specs.Families.{Constructor}
-use Rattle.theory.specs.Signatures.{Entry, FamilyOf, EliminatorAt, AxiomKAt, Definition, Signature}
+use Rattle.theory.specs.Signatures.{Signature}
 use Rattle.theory.specs.SignatureScopes.{IsScopedTelescope}
 use Rattle.theory.specs.Prelude.{prelude}
 use Rattle.theory.specs.Telescopes.{Telescope}
 use Rattle.core_sig.specs.Names.{find}
-use Rattle.core_sig.specs.Raw.{RawConstructor, RawFamily}
+use Rattle.core_sig.specs.Raw.{RawFamily}
 use Rattle.core_sig.specs.Meanings.{entry_of}
 use Rattle.core_sig.specs.declared.entry.Entry as code
 use Rattle.core_text.specs.EntryReading.{ReadsEntry, entry_from}
-use Rattle.core_text.specs.RawEntries.{RawEntry, entry_shown, family_shown, constructor_type_shown}
+use Rattle.core_text.specs.RawEntries.{RawEntry, RawFamilyOf, RawEliminator, RawAxiomK, RawDefinition, entry_shown}
 use Rattle.core_text.specs.ReadLaws.{AreReadTypes, IsReadEntry, IsReadFamily}
 use Rattle.core_text.specs.declared.stop.CoreTextStop.{CoreTextStop}
 use Rattle.core_text.specs.declared.stop.CoreTextStop.TheVariants as core
 use Rattle.core_text.proofs.EntryOutcomes.{what-is-read}
-use Rattle.family_check.specs.Entering.{Entered, declare_of}
 use Rattle.family_check.specs.Families.{family_without}
-use Rattle.family_check.specs.Scopes.{IsScopedRaw, site_signature}
-use Rattle.elab_session.specs.Entering.{CanEnter, answered, enter_of}
-use Rattle.elab_session.specs.Refusals.{unentered}
-use Rattle.elab_session.specs.declared.refusal.Refusal.{Refusal}
+use Rattle.family_check.specs.Scopes.{IsScopedRaw}
+use Rattle.elab_session.specs.Entering.{CanEnter, enter_of}
 use Rattle.elim_program.specs.declared.status.Status.{Status}
 use Rattle.elim_program.specs.declared.text_stop.TextStop.{TextStop}
 use Rattle.elim_program.specs.Outputs.{Block, block, followed}
 use Rattle.elim_program.specs.Refusals.{stop_line}
 use Rattle.elim_program.specs.Texts.{is_memory}
-use Rattle.elim_program.specs.Verifies.{BoundIsEnough, after_entry, after_head, enter_read, entries, next_block, read_block, unread, unread_block}
+use Rattle.elim_program.specs.Verifies.{BoundIsEnough, after_entry, after_head, entries, next_block, read_block, unread, unread_block}
 use Rattle.elim_program.proofs.Following.{IsWriting, Writes, writing, written_all, written_last, written_one, written_part, written_rest}
 
 -- What is read can enter.
@@ -44,22 +39,12 @@ scoped-raw S raw is = record {
   constructors = λ i d lt. (is.constructors (family_without raw [] 0) i d lt).scoped;
 }
 
-pub can-enter : (S : Signature) (e : Entry) → IsReadEntry S (entry_shown (length S.entries) e) → CanEnter S e
-can-enter S (FamilyOf f) is =
-    (scoped-raw S (family_shown (length S.entries) f) is, All-head (λ name. find S name ≡ None) f.name (map (λ c. c.name) (family_shown (length S.entries) f).constructors) is.names.unknown)
-can-enter S (EliminatorAt n m) is = is.0
-can-enter S (AxiomKAt i m) is = is.0
-can-enter S (Definition name type body) is = (is.1.scoped, is.2.scoped)
-
--- The checker looks at no more of an entry than its line shows.
-pub read_as_entered : (S : Signature) (fuel : ℕ) (e : Entry) → enter_read S fuel (entry_shown (length S.entries) e) ≡ enter_of S fuel e
-read_as_entered S fuel (FamilyOf f) =
-    let raw = family_shown (length S.entries) f in
-    let named : List (List ℕ) → Result Entered Refusal = λ names. answered (unentered (site_signature S raw) names (record { text = f.name; start = 0 }) fuel) (declare_of S raw fuel).0 in
-    ap named (map-map (λ (c : RawConstructor). c.name) (λ (c : Constructor). record { name = c.name; type = constructor_type_shown (length S.entries) f c }) f.constructors)
-read_as_entered S fuel (EliminatorAt n m) = refl
-read_as_entered S fuel (AxiomKAt i m) = refl
-read_as_entered S fuel (Definition name type body) = refl
+pub can-enter : (S : Signature) (raw : RawEntry) → IsReadEntry S raw → CanEnter S raw
+can-enter S (RawFamilyOf raw) is =
+    (scoped-raw S raw is, All-head (λ name. find S name ≡ None) raw.name (map (λ c. c.name) raw.constructors) is.names.unknown)
+can-enter S (RawEliminator n m) is = is.0
+can-enter S (RawAxiomK i m) is = is.0
+can-enter S (RawDefinition name type body) is = (is.1.scoped, is.2.scoped)
 
 -- Core text that is not read.
 
@@ -119,7 +104,7 @@ module _ (before now : Option (List ℕ)) (whole : Block) (text : List ℕ) (fue
       written_rest before now end whole rest answer n.writing (written rest (λ known. ap (next_block fuel S (entries text fuel n.others)) (k known)))
 
   split : (e : code.Entry) (to : ℕ) → r ≡ Ok (Some (e, to)) → (n : IsNext before now whole text fuel S from) →
-      IsWriting before now whole (followed (read_block S fuel (entry_shown (length S.entries) (entry_of e))) (entries text fuel n.others (after_entry S (enter_read S fuel (entry_shown (length S.entries) (entry_of e)))) to))
+      IsWriting before now whole (followed (read_block S fuel (entry_shown (length S.entries) (entry_of e))) (entries text fuel n.others (after_entry S (enter_of S fuel (entry_shown (length S.entries) (entry_of e)))) to))
   split e to is n =
       let k : IsRead S text from (Ok (Some (e, to))) = subst (IsRead S text from) is h in
       subst (λ m. IsWriting before now whole (next_block fuel S (entries text fuel n.others) m)) (sym k) n.writing
@@ -129,28 +114,28 @@ module _ (before now : Option (List ℕ)) (whole : Block) (text : List ℕ) (fue
   at_failed e to is end status written =
       let n = next before now whole text fuel S from g in
       let raw = entry_shown (length S.entries) (entry_of e) in
-      written_part before now end whole (read_block S fuel raw) (entries text fuel n.others (after_entry S (enter_read S fuel raw)) to) status (split e to is n) written
+      written_part before now end whole (read_block S fuel raw) (entries text fuel n.others (after_entry S (enter_of S fuel raw)) to) status (split e to is n) written
 
   pub at_refused : (e : code.Entry) (to : ℕ) → r ≡ Ok (Some (e, to)) → (end : Option (List ℕ)) (b : Bool) → b ≡ true → Writes now end (Ok b) (read_block S fuel (entry_shown (length S.entries) (entry_of e))) →
       Writes before end (Ok true) whole
   at_refused e to is end b eb written =
       let n = next before now whole text fuel S from g in
       let raw = entry_shown (length S.entries) (entry_of e) in
-      written_last before now end whole (read_block S fuel raw) (entries text fuel n.others (after_entry S (enter_read S fuel raw)) to) (split e to is n) (subst (λ x. Writes now end (Ok x) (read_block S fuel raw)) eb written)
+      written_last before now end whole (read_block S fuel raw) (entries text fuel n.others (after_entry S (enter_of S fuel raw)) to) (split e to is n) (subst (λ x. Writes now end (Ok x) (read_block S fuel raw)) eb written)
 
   pub at_verified : (e : code.Entry) (to : ℕ) → r ≡ Ok (Some (e, to)) → (end : Option (List ℕ)) (b : Bool) → b ≡ false → Writes now end (Ok b) (read_block S fuel (entry_shown (length S.entries) (entry_of e))) → from < to → to ≤ length text
-      → (T : Signature) → T ≡ after_entry S (enter_read S fuel (entry_shown (length S.entries) (entry_of e))) → (left : ℕ) → left ≡ fuel → IsGoing before end whole text left T to
+      → (T : Signature) → T ≡ after_entry S (enter_of S fuel (entry_shown (length S.entries) (entry_of e))) → (left : ℕ) → left ≡ fuel → IsGoing before end whole text left T to
   at_verified e to is end b eb written forward within T et left el =
       let n = next before now whole text fuel S from g in
       let raw = entry_shown (length S.entries) (entry_of e) in
       let le = n.enough in
       let less : length text - to < n.others = omega (arith, le, forward, within) in
       let P : Signature → Type 0 = λ X. IsGoing before end whole text left X to in
-      let Q : ℕ → Type 0 = λ m. IsGoing before end whole text m (after_entry S (enter_read S fuel raw)) to in
+      let Q : ℕ → Type 0 = λ m. IsGoing before end whole text m (after_entry S (enter_of S fuel raw)) to in
       subst P (sym et) (subst Q (sym el) (record {
         most = n.others;
         enough = less;
-        writing = written_one before now end whole (read_block S fuel raw) (entries text fuel n.others (after_entry S (enter_read S fuel raw)) to) (split e to is n) (subst (λ x. Writes now end (Ok x) (read_block S fuel raw)) eb written);
+        writing = written_one before now end whole (read_block S fuel raw) (entries text fuel n.others (after_entry S (enter_of S fuel raw)) to) (split e to is n) (subst (λ x. Writes now end (Ok x) (read_block S fuel raw)) eb written);
       }))
 
 -- the lines after a head that is read
@@ -176,4 +161,4 @@ bound_is_enough text fuel S from (suc most) (suc more) within lt le =
         let what = what-is-read S text from raw to within is in
         let forward = what.1 in
         let inside = what.2 in
-        ap (followed (read_block S fuel raw)) (rec (after_entry S (enter_read S fuel raw)) to inside (omega (arith, lt, forward, inside)))
+        ap (followed (read_block S fuel raw)) (rec (after_entry S (enter_of S fuel raw)) to inside (omega (arith, lt, forward, inside)))

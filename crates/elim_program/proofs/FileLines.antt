@@ -9,24 +9,22 @@ use Rattle.core_text.specs.Lines.{is_in_line, AreInLine}
 use Rattle.core_text.specs.RawEntries.{RawEntry, RawFamilyOf, RawEliminator, RawAxiomK, RawDefinition}
 use Rattle.core_text.specs.declared.stop.CoreTextStop.{CoreTextStop}
 use Rattle.core_text.proofs.Feeds.{both}
-use Rattle.family_check.specs.Entering.{Entered, declare_of}
+use Rattle.family_check.specs.Entering.{Entered}
 use Rattle.family_check.specs.Outcomes.{FamilyStop}
-use Rattle.family_check.specs.Scopes.{site_signature}
-use Rattle.elab_session.specs.Entering.{answered, checked_entry, part_signature}
-use Rattle.elab_session.specs.Refusals.{unentered}
+use Rattle.elab_session.specs.Entering.{answered, checked, enter_of, refused}
 use Rattle.elab_session.specs.declared.refusal.Refusal.{Refusal}
 use Rattle.elim_program.specs.declared.text_stop.TextStop.{TextStop}
 use Rattle.elim_program.specs.declared.text_stop.TextStop.TheVariants as stop
 use Rattle.elim_program.specs.declared.words.Command.{Command}
 use Rattle.elim_program.specs.Outputs.{accepted_line, compiled, followed}
 use Rattle.elim_program.specs.Refusals.{refusal_line, stop_line}
-use Rattle.elim_program.specs.Verifies.{after_entry, after_head, enter_read, entries, entry_block, file_block, next_block, read_name, unread, verified_line}
+use Rattle.elim_program.specs.Verifies.{after_entry, after_head, entries, entry_block, file_block, next_block, read_name, unread, verified_line}
 use Rattle.elim_program.specs.VerifyHeadline.{Adds, family, eliminator, axiom_k, definition}
 use Rattle.elim_program.proofs.Adding.{adds-read}
 use Rattle.elim_program.proofs.Lines.{third, first_line, not_empty, after_heads, if_ok}
 use Rattle.elim_program.proofs.ReadInLine.{IsRead, is-read}
 use Rattle.elim_program.proofs.RefusalsInLine.{refusal-in, stop-in}
-use Rattle.elim_program.proofs.SessionInLine.{NamesIn, TextIn, each-last, prelude-in, site-in, term-in, unentered-in}
+use Rattle.elim_program.proofs.SessionInLine.{EntryNamesIn, NamesIn, TextIn, each-last, entry-refused-in, prelude-in, term-in}
 use Rattle.elim_program.proofs.TokensInLine.{Each}
 
 -- Refusals of entries.
@@ -39,19 +37,15 @@ answered-in : (refusal : FamilyStop → Refusal) (r : Result Entered FamilyStop)
 answered-in refusal (Ok x) h = tt
 answered-in refusal (Err e) h = h e
 
-refuses-in : (S : Signature) (fuel : ℕ) (raw : RawEntry) → NamesIn S → IsRead S raw → Refuses (enter_read S fuel raw)
-refuses-in S fuel (RawFamilyOf raw) names read =
-    answered-in (unentered (site_signature S raw) (map (λ c. c.name) raw.constructors) (record { text = raw.name; start = 0 }) fuel) (declare_of S raw fuel).0
-    (unentered-in (site_signature S raw) (map (λ c. c.name) raw.constructors) (site-in S raw names read.names.0) read.names.1 (record { text = raw.name; start = 0 }) read.names.0 fuel)
-refuses-in S fuel (RawEliminator n m) names read =
-    answered-in (unentered (part_signature S (EliminatorAt n m)) [] (record { text = []; start = 0 }) fuel) (checked_entry S (EliminatorAt n m) fuel).0
-    (unentered-in (part_signature S (EliminatorAt n m)) [] (λ site. names) tt (record { text = []; start = 0 }) refl fuel)
-refuses-in S fuel (RawAxiomK i m) names read =
-    answered-in (unentered (part_signature S (AxiomKAt i m)) [] (record { text = []; start = 0 }) fuel) (checked_entry S (AxiomKAt i m) fuel).0
-    (unentered-in (part_signature S (AxiomKAt i m)) [] (λ site. names) tt (record { text = []; start = 0 }) refl fuel)
-refuses-in S fuel (RawDefinition name type body) names read =
-    answered-in (unentered (part_signature S (Definition name type body)) [] (record { text = name; start = 0 }) fuel) (checked_entry S (Definition name type body) fuel).0
-    (unentered-in (part_signature S (Definition name type body)) [] (λ site. names) tt (record { text = name; start = 0 }) read.names.0 fuel)
+names-read : (S : Signature) (raw : RawEntry) → IsRead S raw → EntryNamesIn raw
+names-read S (RawFamilyOf raw) read = (read.names.0, read.names.1)
+names-read S (RawEliminator n m) read = tt
+names-read S (RawAxiomK i m) read = tt
+names-read S (RawDefinition name type body) read = read.names.0
+
+refuses-in : (S : Signature) (fuel : ℕ) (raw : RawEntry) → NamesIn S → IsRead S raw → Refuses (enter_of S fuel raw)
+refuses-in S fuel raw names read =
+    answered-in (refused S 0 fuel raw) (checked S raw fuel).0 (entry-refused-in S names 0 fuel raw (names-read S raw read))
 
 -- Names.
 
@@ -99,13 +93,13 @@ entries-plain text fuel (suc most) S from names = go (entry_from S text from) re
     go (Err stop) e rec = (stop-plain (unread stop), tt)
     go (Ok (Some (raw, to))) e rec =
         let read = is-read S text from raw to e in
-        answer (enter_read S fuel raw) refl read (refuses-in S fuel raw names read)
+        answer (enter_of S fuel raw) refl read (refuses-in S fuel raw names read)
       where
-        answer : (r : Result Entered Refusal) → enter_read S fuel raw ≡ r → IsRead S raw → Refuses r
+        answer : (r : Result Entered Refusal) → enter_of S fuel raw ≡ r → IsRead S raw → Refuses r
             → Each IsPlain (followed (entry_block (read_name S raw) r) (entries text fuel most (after_entry S r) to)).lines
         answer (Err why) is read in_line = (refusal-plain (read_name S raw) why (name-in S raw names read) in_line, tt)
         answer (Ok x) is read in_line =
-            let added = if_ok (λ y. Adds S raw y.signature) (enter_read S fuel raw) x is (adds-read S fuel raw read.missing) in
+            let added = if_ok (λ y. Adds S raw y.signature) (enter_of S fuel raw) x is (adds-read S fuel raw read.missing) in
             (verified-plain (read_name S raw) (name-in S raw names read), rec x.signature to (added-in S x.signature raw names read added))
 
 file-plain : (command : Command) (text : Option (List ℕ)) → Each IsPlain (file_block command text).lines

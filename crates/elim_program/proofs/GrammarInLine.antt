@@ -13,7 +13,7 @@ use Rattle.surface_syntax.specs.declared.token.TokenKind.TheVariants.{Plain, Dot
 use Rattle.surface_syntax.specs.declared.lexeme.Lexeme.{Lexeme}
 use Rattle.surface_syntax.specs.declared.lexeme.Lexeme.TheVariants as x
 use Rattle.surface_syntax.specs.Lexemes.{leveled, number, spelled, word_of, lexemes_of}
-use Rattle.elab_session.specs.Declaring.{first_name}
+use Rattle.resolve.specs.DeclaredNames.{first_name}
 use Rattle.elim_program.proofs.TokensInLine.{Each}
 
 abbrev pub WordIn : Word → Type 0

@@ -64,10 +64,10 @@ name-in (surf.Fun x ty clauses) h = h.0
 
 accepted-lines-in : (S : Signature) (a : Elaborated) → ElaboratedIn a → AreInLine (accepted_lines S a)
 accepted-lines-in S a h =
-    join (lines_after S a.signature) (clause_lines a.signature a.lines ++ accepted_line a.accepted.name ∷ [])
+    join (lines_after S a.signature) (clause_lines a.signature a.lines ++ accepted_line a.name ∷ [])
     (entries-in a.signature h.names (length S.entries) (length a.signature.entries - length S.entries))
-    (join (clause_lines a.signature a.lines) (accepted_line a.accepted.name ∷ []) (clauses-in a.signature h.names a.lines h.clauses)
-    (both (codes "# accepted ") a.accepted.name refl h.name, tt))
+    (join (clause_lines a.signature a.lines) (accepted_line a.name ∷ []) (clauses-in a.signature h.names a.lines h.clauses)
+    (both (codes "# accepted ") a.name refl h.name, tt))
 
 declarations-in : (fuel : ℕ) (S : Signature) (ds : List surf.Decl) → IsReady S → NamesIn S → Each DeclInLine ds → AreInLine (declarations fuel S ds).lines
 declarations-in fuel S [] ready names h = tt

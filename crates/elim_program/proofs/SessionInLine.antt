@@ -1,5 +1,5 @@
 -- What a declaration whose words are in line gives holds no line feed, over a signature whose names hold none.
-use Rattle.std.proofs.Common.{◌≡◌, ℕ, zero, suc, ◌+◌, ◌/◌, ◌%◌, Bool, true, false, List, [], ◌∷◌, ◌++◌, length, map, Option, Some, None, Result, Ok, Err, All, refl, sym, subst, arith}
+use Rattle.std.proofs.Common.{◌≡◌, ℕ, zero, suc, ◌+◌, ◌/◌, ◌%◌, Bool, true, false, List, [], ◌∷◌, ◌++◌, length, map, Option, Some, None, IfSome, Result, Ok, Err, All, refl, sym, subst, arith}
 use Rattle.std.specs.Prelude.{◌||◌, codes, decimal, if◌then◌else◌, slice_get, is_some, nat_le, nat_lt, cond, bytes_eq}
 use Rattle.std.specs.List.{range_with_len, list_any}
 use Rattle.std.proofs.lemmas.List.Elements.{All-append, All-cons, All-map}
@@ -12,13 +12,15 @@ use Rattle.core_terms.specs.declared.stop.Stop.{Stop}
 use Rattle.core_terms.specs.declared.stop.Stop.TheVariants as stop
 use Rattle.core_sig.specs.Names.{find}
 use Rattle.core_text.specs.Lines.{is_in_line, AreInLine, HasNamesInLine}
+use Rattle.core_text.specs.RawEntries.{RawEntry, RawFamilyOf, RawEliminator, RawAxiomK, RawDefinition}
 use Rattle.core_text.specs.SymbolNames.{own_name, own_constructor_name, constructor_name_in}
 use Rattle.core_text.specs.TermText.{term_text}
 use Rattle.core_text.proofs.Feeds.{both, decimal-in, spelled-in}
 use Rattle.surface_syntax.specs.Trees as surf
 use Rattle.surface_syntax.specs.declared.tree.Word.{Word}
-use Rattle.core_terms.specs.Answers.{and_then}
+use Rattle.core_terms.specs.Answers.{and_next, and_then, on_answer}
 use Rattle.core_sig.specs.Raw.{RawFamily, RawConstructor, raw_names}
+use Rattle.resolve.specs.DeclaredNames.{first_name}
 use Rattle.resolve.specs.Families.{declared, parameters, constructors}
 use Rattle.resolve.specs.Families as resolve_family
 use Rattle.family_check.specs.Families.{family_without}
@@ -28,10 +30,10 @@ use Rattle.resolve.specs.Resolving.{Answer, low, binding, group, resolve, telesc
 use Rattle.resolve.specs.declared.stop.ResolveStop.{ResolveStop}
 use Rattle.resolve.specs.declared.stop.ResolveStop.TheVariants as unresolved
 use Rattle.family_check.specs.Entering.{Entered}
-use Rattle.family_check.specs.Entering as entering
 use Rattle.family_check.specs.Outcomes.{Site, OfType, OfBody, OfParameter, OfConstructor, FamilyStop, Stopped, Denied}
 use Rattle.family_check.specs.Outcomes as family
 use Rattle.elab_session.specs.Declaring as session
+use Rattle.elab_session.specs.Entering.{answered, answers, checked, refused}
 use Rattle.elab_session.specs.Laws.{IsAsWritten}
 use Rattle.elab_session.specs.Refusals as refusals
 use Rattle.core_text.specs.ContextText.{types_text, context_text, reason_text}
@@ -201,11 +203,22 @@ family-in S x params ty cons hx hp ht hc =
     further RawConstructorsIn RawIn (constructors S (with_name own (tree.Fam (length S.entries)) (known_in S)) (scope_of (resolve_family.names_of params)) (own ∷ []) cons) _
     (raw-constructors-in S (with_name own (tree.Fam (length S.entries)) (known_in S)) (scope_of (resolve_family.names_of params)) (own ∷ []) cons hc) (λ list l. (n, l)))))
 
-definition-in : (S : Signature) (x : Word) (ty body : surf.Surf) → WordIn x → UsesInLine ty → UsesInLine body → Refuses (session.resolve_definition S x ty body)
+-- the names of an entry that is resolved or read are in line; an instance has none
+abbrev pub EntryNamesIn : RawEntry → Type 0
+EntryNamesIn (RawFamilyOf raw) = RawIn raw
+EntryNamesIn (RawDefinition name type body) = is_in_line name ≡ true
+EntryNamesIn _ = Unit {0}
+
+definition-in : (S : Signature) (x : Word) (ty body : surf.Surf) → WordIn x → UsesInLine ty → UsesInLine body → Resolves EntryNamesIn (session.resolve_definition S x ty body)
 definition-in S x ty body hx ht hb =
-    next (declared S [] x) _ (declared-in S [] x hx) (λ name.
-    next (resolve_term S [] ty) _ (resolve-in (known_in S) ty (scope_of []) ht) (λ type.
-    next (resolve_term S [] body) _ (resolve-in (known_in S) body (scope_of []) hb) (λ term. tt)))
+    further (λ name. is_in_line name ≡ true) EntryNamesIn (declared S [] x) _ (named-word S [] x hx) (λ name n.
+    after EntryNamesIn (resolve_term S [] ty) _ (resolve-in (known_in S) ty (scope_of []) ht) (λ type.
+    after EntryNamesIn (resolve_term S [] body) _ (resolve-in (known_in S) body (scope_of []) hb) (λ term. n)))
+
+data-in : (S : Signature) (x : Word) (params : List surf.Typed) (ty : surf.Surf) (cons : List surf.Typed) → WordIn x → Each TypedIn params → UsesInLine ty → Each TypedIn cons →
+    Resolves EntryNamesIn (session.resolve_family S x params ty cons)
+data-in S x params ty cons hx hp ht hc =
+    further RawIn EntryNamesIn (resolve_family.family S x params ty cons) _ (family-in S x params ty cons hx hp ht hc) (λ raw n. n)
 
 -- Texts of refusals.
 
@@ -284,7 +297,7 @@ stopped-in fuel stop.PoolFull = refl
 argument-in : (kind owner : List ℕ) (k : ℕ) → is_in_line kind ≡ true → is_in_line owner ≡ true → is_in_line (kind ++ owner ++ codes " " ++ decimal k) ≡ true
 argument-in kind owner k h j = both (kind ++ owner ++ codes " ") (decimal k) (both (kind ++ owner) (codes " ") (both kind owner h j) refl) (decimal-in k)
 
-pub unentered-in : (over : Site → Signature) (names : List (List ℕ)) → ((site : Site) → NamesIn (over site)) → AreInLine names → (x : Word) → WordIn x → (fuel : ℕ) (e : FamilyStop) →
+pub unentered-in : (over : Site → Signature) (names : List (List ℕ)) → ((site : Site) → NamesIn (over site)) → AreInLine names → (x : Option Word) → IfSome x WordIn → (fuel : ℕ) (e : FamilyStop) →
     TextIn (refusals.unentered over names x fuel e)
 unentered-in over names hs hn x h fuel (Stopped e) = stopped-in fuel e
 unentered-in over names hs hn x h fuel (Denied site d) = denied-in (over site) names (hs site) hn site d
@@ -292,7 +305,8 @@ unentered-in over names hs hn x h fuel (family.NotPositive n k) = argument-in (c
 unentered-in over names hs hn x h fuel (family.TooLarge None k) = argument-in (codes "IndexTooLarge ") (codes "-") k refl refl
 unentered-in over names hs hn x h fuel (family.TooLarge (Some n) k) = argument-in (codes "IndexTooLarge ") (refusals.name_in names n) k refl (chosen-in names n hn)
 unentered-in over names hs hn x h fuel family.BadFamily = refl
-unentered-in over names hs hn x h fuel family.Duplicate = at-word (codes "Duplicate ") x.start x.text refl h
+unentered-in over names hs hn (Some x) h fuel family.Duplicate = at-word (codes "Duplicate ") x.start x.text refl h
+unentered-in over names hs hn None h fuel family.Duplicate = refl
 
 -- Declarations.
 
@@ -300,18 +314,16 @@ abbrev pub RefusesIn : Result session.Declared Refusal → Type 0
 RefusesIn (Ok a) = Unit {0}
 RefusesIn (Err e) = TextIn e
 
-entered-in : (S : Signature) (x : Word) (refusal : FamilyStop → Refusal) (r : Result Entered FamilyStop) → ((e : FamilyStop) → TextIn (refusal e)) → RefusesIn (session.on_entered S x refusal r)
-entered-in S x refusal (Ok e) h = tt
-entered-in S x refusal (Err e) h = h e
+entered-in : (S : Signature) (fuel : ℕ) (x : Word) (raw : RawEntry) (r : Result Entered FamilyStop) (left : ℕ) → ((e : FamilyStop) → TextIn (refused S x.start fuel raw e))
+    → RefusesIn (on_answer (answered (refused S x.start fuel raw) r) left (λ e rest. answers (Ok (session.accepted_as x.text e.signature)) rest)).0
+entered-in S fuel x raw (Ok e) left h = tt
+entered-in S fuel x raw (Err e) left h = h e
 
-resolved-in : {A : Type 0} (P : A → Type 0) (r : Result A ResolveStop) (go : A → Result session.Declared Refusal) → Resolves P r → ((a : A) → P a → RefusesIn (go a)) →
-    RefusesIn (session.on_resolved r go)
-resolved-in P (Ok a) go h k = k a h
-resolved-in P (Err e) go h k = unresolved-in e h
-
-pub anything : {A : Type 0} (r : Result A ResolveStop) → Refuses r → Resolves (λ a. Unit {0}) r
-anything (Ok a) h = tt
-anything (Err e) h = h
+resolved-in : (P : RawEntry → Type 0) (S : Signature) (fuel : ℕ) (x : Word) (r : Result RawEntry ResolveStop) → Resolves P r
+    → ((raw : RawEntry) → P raw → (e : FamilyStop) → TextIn (refused S x.start fuel raw e))
+    → RefusesIn (and_next (answers (session.or_unresolved r) fuel) (λ raw rest. session.enter_declared S fuel x raw rest)).0
+resolved-in P S fuel x (Ok raw) h k = entered-in S fuel x raw (checked S raw fuel).0 (checked S raw fuel).1 (k raw h)
+resolved-in P S fuel x (Err e) h k = unresolved-in e h
 
 -- the signature that a part of a family is checked over
 pub site-in : (S : Signature) (raw : RawFamily) → NamesIn S → is_in_line raw.name ≡ true → (site : Site) → NamesIn (site_signature S raw site)
@@ -320,28 +332,27 @@ site-in S raw hs h OfBody = hs
 site-in S raw hs h (OfParameter k) = hs
 site-in S raw hs h (OfConstructor n) = each-last (λ e. AreInLine (names_of e)) S.entries (FamilyOf (family_without raw [] 0)) hs (h, tt)
 
-words-in : (cons : List surf.Typed) → Each TypedIn cons → AreInLine (resolve_family.names_of cons)
-words-in [] h = tt
-words-in (c ∷ cons) h = (h.0.0, words-in cons h.1)
+pub entry-refused-in : (S : Signature) → NamesIn S → (start fuel : ℕ) (raw : RawEntry) → EntryNamesIn raw → (e : FamilyStop) → TextIn (refused S start fuel raw e)
+entry-refused-in S names start fuel (RawFamilyOf raw) h =
+    unentered-in (site_signature S raw) (map (λ c. c.name) raw.constructors) (site-in S raw names h.0) h.1 (Some (record { text = raw.name; start = start })) h.0 fuel
+entry-refused-in S names start fuel (RawEliminator n m) h = unentered-in (λ site. S) [] (λ site. names) tt None tt fuel
+entry-refused-in S names start fuel (RawAxiomK i m) h = unentered-in (λ site. S) [] (λ site. names) tt None tt fuel
+entry-refused-in S names start fuel (RawDefinition name type body) h =
+    unentered-in (λ site. S) [] (λ site. names) tt (Some (record { text = name; start = start })) h fuel
 
 -- what refuses a declaration is in line
 pub refused-in : (S : Signature) (fuel : ℕ) (d : surf.Decl) → NamesIn S → DeclInLine d → RefusesIn (session.declare_of S fuel d)
 refused-in S fuel (surf.Def x ty body) names h =
-    resolved-in (λ a. Unit {0}) (session.resolve_definition S x ty body) (session.enter_definition S fuel x)
-    (anything (session.resolve_definition S x ty body) (definition-in S x ty body h.0 h.1 h.2))
-    (λ def _. entered-in S x (refusals.unentered (λ site. S) [] x fuel) (entering.define_of S def.name def.type def.body fuel).0
-    (unentered-in (λ site. S) [] (λ site. names) tt x h.0 fuel))
+    resolved-in EntryNamesIn S fuel x (session.resolve_definition S x ty body) (definition-in S x ty body h.0 h.1 h.2) (λ raw n. entry-refused-in S names x.start fuel raw n)
 refused-in S fuel (surf.Data x params ty cons) names h =
-    resolved-in RawIn (resolve_family.family S x params ty cons) (session.enter_family S fuel x cons) (family-in S x params ty cons h.0 h.1 h.2 h.3)
-    (λ raw r. entered-in S x (refusals.unentered (site_signature S raw) (resolve_family.names_of cons) x fuel) (entering.declare_of S raw fuel).0
-    (unentered-in (site_signature S raw) (resolve_family.names_of cons) (site-in S raw names r.0) (words-in cons h.3) x h.0 fuel))
+    resolved-in EntryNamesIn S fuel x (session.resolve_family S x params ty cons) (data-in S x params ty cons h.0 h.1 h.2 h.3) (λ raw n. entry-refused-in S names x.start fuel raw n)
 refused-in S fuel (surf.Decide x f e) names h = both (codes "NotYet ") (decimal x.start) refl (decimal-in x.start)
-refused-in S fuel (surf.Mutual params members f tag tags) names h = both (codes "NotYet ") (decimal (session.first_name members f).start) refl (decimal-in (session.first_name members f).start)
+refused-in S fuel (surf.Mutual params members f tag tags) names h = both (codes "NotYet ") (decimal (first_name members f).start) refl (decimal-in (first_name members f).start)
 refused-in S fuel (surf.Fun x ty clauses) names h = both (codes "NotYet ") (decimal x.start) refl (decimal-in x.start)
 
 -- what is accepted has a name in line, and the names of its signature are in line
 pub record AcceptedIn (a : session.Declared) : Type 0 where
-  pub name : is_in_line a.accepted.name ≡ true
+  pub name : is_in_line a.name ≡ true
   pub names : NamesIn a.signature
 
 is-raw : (r : Result RawFamily ResolveStop) (raw : RawFamily) → r ≡ Ok raw → Resolves RawIn r → RawIn raw

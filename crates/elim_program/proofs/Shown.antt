@@ -84,18 +84,18 @@ asks-k words c asks k = asked-k words (ap k-of asks ∙ k)
 
 -- ---- each form of declaration
 
-plain-name : (S : Signature) (x : List ℕ) (T : Signature) (a : Elaborated) (name : List ℕ) → declared_of a ≡ accepted_as x S T → a.accepted.name ≡ name → x ≡ name
-plain-name S x T a name is named = sym (ap (λ (d : Declared). d.accepted.name) is) ∙ named
+plain-name : (x : List ℕ) (T : Signature) (a : Elaborated) (name : List ℕ) → declared_of a ≡ accepted_as x T → a.name ≡ name → x ≡ name
+plain-name x T a name is named = sym (ap (λ (d : Declared). d.name) is) ∙ named
 
-plain-signature : (S : Signature) (x : List ℕ) (T : Signature) (a : Elaborated) → declared_of a ≡ accepted_as x S T → a.signature ≡ T
-plain-signature S x T a is = ap (λ (d : Declared). d.signature) is
+plain-signature : (x : List ℕ) (T : Signature) (a : Elaborated) → declared_of a ≡ accepted_as x T → a.signature ≡ T
+plain-signature x T a is = ap (λ (d : Declared). d.signature) is
 
-written-as : (S : Signature) (fuel : ℕ) (d : surf.Decl) (a : Elaborated) (name : List ℕ) → IsReady S → elaborate_of S fuel d ≡ Ok a → IsAsWritten S d a → a.accepted.name ≡ name
+written-as : (S : Signature) (fuel : ℕ) (d : surf.Decl) (a : Elaborated) (name : List ℕ) → IsReady S → elaborate_of S fuel d ≡ Ok a → IsAsWritten S d a → a.name ≡ name
     → IsWritten S d name a.signature a.lines
 written-as S fuel (surf.Def x ty body) a name ready same is named =
     let w = is.written in
     let T = pushed S (Definition x.text w.type w.term) in (
-      plain-name S x.text T a name w.accepted named,
+      plain-name x.text T a name w.accepted named,
       is.lines,
       record {
         type = w.type;
@@ -103,13 +103,13 @@ written-as S fuel (surf.Def x ty body) a name ready same is named =
         type_resolved = w.type_resolved;
         body_resolved = w.body_resolved;
         typed = w.typed;
-        added = plain-signature S x.text T a w.accepted;
+        added = plain-signature x.text T a w.accepted;
       },
     )
 written-as S fuel (surf.Data x params ty cons) a name ready same is named =
     let w = is.written in
     let T = pushed S (FamilyOf w.entry) in (
-      plain-name S x.text T a name w.accepted named,
+      plain-name x.text T a name w.accepted named,
       is.lines,
       record {
         raw = w.raw;
@@ -117,11 +117,11 @@ written-as S fuel (surf.Data x params ty cons) a name ready same is named =
         resolved = w.resolved;
         given = w.given;
         formed = w.formed;
-        added = plain-signature S x.text T a w.accepted;
+        added = plain-signature x.text T a w.accepted;
       },
     )
 written-as S fuel (surf.Fun x ty clauses) a name ready same is named = (
-  plain-name S x.text a.signature a name is.accepted named,
+  plain-name x.text a.signature a name is.accepted named,
   if_ok (λ (b : Elaborated). IsByClauses S x ty clauses b.signature b.lines) (elaborate_of S fuel (surf.Fun x ty clauses)) a same (by-clauses S fuel x ty clauses ready),
 )
 written-as S fuel (surf.Decide x family decision) a name ready same is named = absurd is.written

@@ -10,6 +10,7 @@ use Rattle.core_text.specs.RawEntries.{RawEntry}
 use Rattle.core_text.specs.declared.stop.CoreTextStop.{CoreTextStop}
 use Rattle.core_text.proofs.EntryOutcomes.{what-is-read}
 use Rattle.family_check.specs.Entering.{Entered}
+use Rattle.elab_session.specs.Entering.{enter_of}
 use Rattle.elab_session.specs.Sessions.{IsReady}
 use Rattle.elab_session.specs.declared.refusal.Refusal.{Refusal}
 use Rattle.elab_session.proofs.PreludeReady.{prelude-ready}
@@ -19,7 +20,7 @@ use Rattle.elim_program.specs.DefinedOutputs.{IsOutput, refused_words, compiles,
 use Rattle.elim_program.specs.Outputs.{Output, followed, head_lines}
 use Rattle.elim_program.specs.Refusals.{refusal_line, stop_line}
 use Rattle.elim_program.specs.Texts.{limited}
-use Rattle.elim_program.specs.Verifies.{after_entry, after_head, enter_read, entries, entry_block, file_block, next_block, read_name, unread, verified_line}
+use Rattle.elim_program.specs.Verifies.{after_entry, after_head, entries, entry_block, file_block, next_block, read_name, unread, verified_line}
 use Rattle.elim_program.specs.VerifyHeadline.{Adds, family, eliminator, axiom_k, definition, Holds, head, entry, IsVerified}
 use Rattle.elim_program.specs.Words.{verify_asked}
 use Rattle.elim_program.proofs.Adding.{adds-read, ready-read}
@@ -65,15 +66,15 @@ found k text fuel (suc most) S from earlier above below name b e =
         → IsFound k text (earlier ++ above) name
     go rec (Ok None) is e = absurd (not_empty above below (verified_line name) e)
     go rec (Err stop) is e = absurd (not_one (stop_line (unread stop)) (verified_line name) above below (λ k. omega (arith, k)) e)
-    go rec (Ok (Some (raw, to))) is e = answer (enter_read S fuel raw) refl e
+    go rec (Ok (Some (raw, to))) is e = answer (enter_of S fuel raw) refl e
       where
-        answer : (r : Result Entered Refusal) → enter_read S fuel raw ≡ r
+        answer : (r : Result Entered Refusal) → enter_of S fuel raw ≡ r
             → (followed (entry_block (read_name S raw) r) (entries text fuel most (after_entry S r) to)).lines ≡ above ++ verified_line name ∷ below → IsFound k text (earlier ++ above) name
         answer (Err why) same e = absurd (not_one (refusal_line (read_name S raw) why) (verified_line name) above below (λ k. omega (arith, k)) e)
         answer (Ok x) same e =
             let what = what-is-read S text from raw to b.within is in
-            let adds = if_ok (λ y. Adds S raw y.signature) (enter_read S fuel raw) x same (adds-read S fuel raw (is-read S text from raw to is).missing) in
-            let ready = if_ok (λ y. IsReady y.signature) (enter_read S fuel raw) x same (ready-read S fuel raw b.ready what.0) in
+            let adds = if_ok (λ y. Adds S raw y.signature) (enter_of S fuel raw) x same (adds-read S fuel raw (is-read S text from raw to is).missing) in
+            let ready = if_ok (λ y. IsReady y.signature) (enter_of S fuel raw) x same (ready-read S fuel raw b.ready what.0) in
             place above e (onward k text S x.signature from to earlier raw b is adds ready what.2)
           where
             place : (above : List (List ℕ)) → verified_line (read_name S raw) ∷ (entries text fuel most x.signature to).lines ≡ above ++ verified_line name ∷ below

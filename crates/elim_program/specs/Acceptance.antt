@@ -44,7 +44,7 @@ pub record IsAccepted (words : List (List ℕ)) (bytes : List ℕ) (above : List
   pub accepted : Elaborated
   pub elaborated : elaborate_of before command.fuel declaration ≡ Ok accepted
   pub written : IsAsWritten before declaration accepted
-  pub named : accepted.accepted.name ≡ name
+  pub named : accepted.name ≡ name
   pub longer : IsPrefix before accepted.signature
   pub whole : IsReady accepted.signature
   pub lines : List (List ℕ)

@@ -3,8 +3,8 @@ use Rattle.std.specs.Prelude.{ℕ, zero, suc, ◌+◌, ◌-◌, Bool, true, fals
 use Rattle.theory.specs.Signatures.{Entry, Signature}
 use Rattle.theory.specs.Prelude.{prelude}
 use Rattle.surface_syntax.specs.Trees as surf
+use Rattle.resolve.specs.DeclaredNames.{declared_word}
 use Rattle.core_text.specs.EntryText.{entry_text}
-use Rattle.elab_session.specs.Declaring.{first_name}
 use Rattle.function_session.specs.Elaborating.{Elaborated, Refused, Declaration, Function, elaborate_of}
 use Rattle.elim_program.specs.declared.status.Status.{Status}
 use Rattle.elim_program.specs.declared.status.Status.TheVariants as status
@@ -39,18 +39,13 @@ lines_after S T = entry_lines T (length S.entries) (length T.entries - length S.
 abbrev pub accepted_line : List ℕ → List ℕ
 accepted_line name = codes "# accepted " ++ name
 
--- the name of a declaration; of families that refer to each other it is the first one's
 abbrev pub declared_name : surf.Decl → List ℕ
-declared_name (surf.Def x ty body) = x.text
-declared_name (surf.Decide x family decision) = x.text
-declared_name (surf.Data x params ty cons) = x.text
-declared_name (surf.Mutual params members family tag tags) = (first_name members family).text
-declared_name (surf.Fun x ty clauses) = x.text
+declared_name d = (declared_word d).text
 
 -- the lines of what is accepted over S: its entries, then its clauses, then that it is accepted
 abbrev pub accepted_lines : Signature → Elaborated → List (List ℕ)
 accepted_lines S a =
-    lines_after S a.signature ++ (clause_lines a.signature a.lines ++ accepted_line a.accepted.name ∷ [])
+    lines_after S a.signature ++ (clause_lines a.signature a.lines ++ accepted_line a.name ∷ [])
 
 -- the lines of what is refused under a name
 abbrev pub refused_lines : (name : List ℕ) → Refused → List (List ℕ)

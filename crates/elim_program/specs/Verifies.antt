@@ -1,7 +1,7 @@
 -- What is said of the entries of a core file, one by one, up to the first that is refused.
 use Rattle.std.specs.Prelude.{◌≡◌, ℕ, zero, suc, ◌-◌, ◌<◌, ◌≤◌, Bool, true, false, List, [], ◌∷◌, ◌++◌, map, length, codes, Option, Some, None, Result, Ok, Err}
 use Rattle.theory.specs.Terms.{Elim, AxiomK}
-use Rattle.theory.specs.Signatures.{EliminatorAt, AxiomKAt, Definition, Signature}
+use Rattle.theory.specs.Signatures.{Signature}
 use Rattle.theory.specs.Prelude.{prelude}
 use Rattle.core_text.specs.EntryReading.{entry_from}
 use Rattle.core_text.specs.Heads.{head_of}
@@ -9,10 +9,8 @@ use Rattle.core_text.specs.RawEntries.{RawEntry, RawFamilyOf, RawEliminator, Raw
 use Rattle.core_text.specs.TermText.{term_text}
 use Rattle.core_text.specs.declared.stop.CoreTextStop.{CoreTextStop}
 use Rattle.core_text.specs.declared.stop.CoreTextStop.TheVariants as core
-use Rattle.family_check.specs.Entering.{Entered, declare_of}
-use Rattle.family_check.specs.Scopes.{site_signature}
-use Rattle.elab_session.specs.Entering.{answered, enter_of}
-use Rattle.elab_session.specs.Refusals.{unentered}
+use Rattle.family_check.specs.Entering.{Entered}
+use Rattle.elab_session.specs.Entering.{enter_of}
 use Rattle.elab_session.specs.declared.refusal.Refusal.{Refusal}
 use Rattle.elim_program.specs.declared.text_stop.TextStop.{TextStop}
 use Rattle.elim_program.specs.declared.text_stop.TextStop.TheVariants as stop
@@ -27,14 +25,6 @@ read_name S (RawEliminator n m) = term_text S (Elim n m)
 read_name S (RawAxiomK i m) = term_text S (AxiomK i m)
 read_name S (RawDefinition name type body) = name
 
--- what the checker says of an entry that is read: its number and the signature that has it, or the first refusal
-abbrev pub enter_read : Signature → ℕ → RawEntry → Result Entered Refusal
-enter_read S fuel (RawFamilyOf raw) =
-    answered (unentered (site_signature S raw) (map (λ c. c.name) raw.constructors) (record { text = raw.name; start = 0 }) fuel) (declare_of S raw fuel).0
-enter_read S fuel (RawEliminator n m) = enter_of S fuel (EliminatorAt n m)
-enter_read S fuel (RawAxiomK i m) = enter_of S fuel (AxiomKAt i m)
-enter_read S fuel (RawDefinition name type body) = enter_of S fuel (Definition name type body)
-
 abbrev pub verified_line : List ℕ → List ℕ
 verified_line name = codes "# verified " ++ name
 
@@ -45,7 +35,7 @@ entry_block name (Err e) = block (refusal_line name e ∷ []) true
 
 -- the line of an entry that is read over S
 abbrev pub read_block : Signature → ℕ → RawEntry → Block
-read_block S fuel raw = entry_block (read_name S raw) (enter_read S fuel raw)
+read_block S fuel raw = entry_block (read_name S raw) (enter_of S fuel raw)
 
 -- the signature after an entry
 abbrev pub after_entry : Signature → Result Entered Refusal → Signature
@@ -65,7 +55,7 @@ unread_block e = block (stop_line (unread e) ∷ []) true
 abbrev pub next_block : ℕ → Signature → (Signature → ℕ → Block) → Result (Option (RawEntry × ℕ)) CoreTextStop → Block
 next_block fuel S others (Ok None) = block [] false
 next_block fuel S others (Ok (Some p)) =
-    followed (read_block S fuel p.0) (others (after_entry S (enter_read S fuel p.0)) p.1)
+    followed (read_block S fuel p.0) (others (after_entry S (enter_of S fuel p.0)) p.1)
 next_block fuel S others (Err e) = unread_block e
 
 -- the lines of the entries from an offset on, of which there are fewer than `most`

@@ -15,6 +15,7 @@ use core_terms::Name;
 use elab_session::{Refusal, Session};
 use elim_ports::Sink;
 use function_session::{Refused, elaborate};
+use resolve::declared_word;
 use std::alloc::Global;
 use surface_syntax::Decl;
 
@@ -22,20 +23,7 @@ use surface_syntax::Decl;
 pub(crate) fn declared_name(d: &Decl) -> &Name
     ensures { result.now ≡ spec.declared_name (decl_of d.now) }
 {
-    match d {
-        Decl::Def { name, .. }
-        | Decl::Decide { name, .. }
-        | Decl::Data { name, .. }
-        | Decl::Fun { name, .. } => &name.text,
-        Decl::Mutual {
-            members,
-            family,
-            ..
-        } => match members.as_slice().first() {
-            Some(member) => &member.name.text,
-            None => &family.text,
-        },
-    }
+    &declared_word(d).text
 }
 
 /// The lines of a declaration that is refused, or want of memory.
@@ -63,7 +51,7 @@ fn declare(alloc: Global, session: &mut Session, d: &Decl) -> Result<Block, Stat
             session.signature(),
             from,
             made.lines.as_slice(),
-            &made.accepted.name,
+            &made.name,
         ),
         Err(refused) => refused_block(alloc, declared_name(d), &refused),
     }

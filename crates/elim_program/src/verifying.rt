@@ -54,8 +54,8 @@ fn read_name(alloc: Global, sig: &Signature, entry: &Entry) -> Result<Name, Stat
 fn enter(alloc: Global, session: &mut Session, name: &Name, entry: Entry) -> Result<Block, Status>
     requires kinds { HasEntryKinds (length session.old.signature.entries) entry }
     requires scoped { IsReadEntry session.old.signature (entry_shown (length session.old.signature.entries) (entry_of entry)) }
-    ensures made { Makes result (spec.entry_block name.now (enter_of session.old.signature session.old.fuel (entry_of entry))) }
-    ensures after { OnOk result (session.new.signature ≡ spec.after_entry session.old.signature (enter_of session.old.signature session.old.fuel (entry_of entry))) }
+    ensures made { Makes result (spec.entry_block name.now (enter_of session.old.signature session.old.fuel (entry_shown (length session.old.signature.entries) (entry_of entry)))) }
+    ensures after { OnOk result (session.new.signature ≡ spec.after_entry session.old.signature (enter_of session.old.signature session.old.fuel (entry_shown (length session.old.signature.entries) (entry_of entry)))) }
     ensures fuel { session.new.fuel ≡ session.old.fuel }
 {
     match session.enter(entry) {
@@ -66,7 +66,6 @@ fn enter(alloc: Global, session: &mut Session, name: &Name, entry: Entry) -> Res
 }
 
 /// Adds an entry to the session, writes its line, and answers whether that refuses it.
-#[tactic(auto, using(crate::proofs::Entries::read_as_entered))]
 fn write_entry_line<K: Sink>(
     alloc: Global,
     session: &mut Session,
@@ -77,7 +76,7 @@ fn write_entry_line<K: Sink>(
     requires scoped { IsReadEntry session.old.signature (entry_shown (length session.old.signature.entries) (entry_of entry)) }
     ensures written { (text : List ℕ) × Appends (K.written sink.old) (K.written sink.new) text
         × Written result (spec.read_block session.old.signature session.old.fuel (entry_shown (length session.old.signature.entries) (entry_of entry))) text }
-    ensures after { OnOk result (session.new.signature ≡ spec.after_entry session.old.signature (spec.enter_read session.old.signature session.old.fuel (entry_shown (length session.old.signature.entries) (entry_of entry)))) }
+    ensures after { OnOk result (session.new.signature ≡ spec.after_entry session.old.signature (enter_of session.old.signature session.old.fuel (entry_shown (length session.old.signature.entries) (entry_of entry)))) }
     ensures fuel { session.new.fuel ≡ session.old.fuel }
     ensures fault { result ≡ Err Status.WriteFault → Rose (K.faults sink.old) (K.faults sink.new) }
     ensures never_falls { K.faults sink.old ≤ K.faults sink.new }

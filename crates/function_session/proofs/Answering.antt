@@ -1,5 +1,5 @@
 -- What the answer of a call says, from what the calls inside it answered.
-use Rattle.std.proofs.Common.{◌≡◌, ◌≢◌, ℕ, List, length, Result, Ok, Err, IfOk, OnErr, sym, ap, ◌∙◌, subst as transport}
+use Rattle.std.proofs.Common.{◌≡◌, ◌≢◌, ℕ, List, Result, Ok, Err, IfOk, OnErr, sym, ap, ◌∙◌, subst as transport}
 use Rattle.theory.specs.Signatures.{Signature}
 use Rattle.core_terms.specs.declared.stop.Stop.TheVariants as stop
 use Rattle.surface_syntax.specs.declared.tree.Word.{Word}
@@ -31,19 +31,14 @@ pub stays : (P : Signature → Type 0) (S T : Signature) (r : Result Elaborated 
 stays P S T (Ok a) meant is same h p = transport (λ m. IfOk m (λ a. P a.signature)) (sym is) h
 stays P S T (Err e) meant is same h p = transport P (sym same) p
 
--- the answer with the lines, where the entries from `from` up to, but without, `to` are accepted under the name
-abbrev accepts : Signature → List ClauseLine → (name : List ℕ) → (from to : ℕ) → Result pure.Elaborated pure.Refused
-accepts T lines name from to =
-    Ok (elaborated_in T (record { accepted = record { name = name; from = from; to = to }; lines = lines }))
+abbrev accepts : Signature → List ClauseLine → (name : List ℕ) → Result pure.Elaborated pure.Refused
+accepts T lines name = Ok (elaborated_in T (record { name = name; lines = lines }))
 
--- the entries of a function are accepted, with its lines
-pub enters : (S T : Signature) (x : Word) (fuel left : ℕ) (lines : List ClauseLine) (name : List ℕ) (from to : ℕ) (meant : Elaborating Lines)
-    → (Ok (lines_of T lines), left) ≡ meant → name ≡ x.text → from ≡ length S.entries → to ≡ length T.entries
-    → accepts T lines name from to ≡ on_lines S x fuel meant.0
-enters S T x fuel left lines name from to meant is named first last =
-    transport (λ (m : Elaborating Lines). accepts T lines name from to ≡ on_lines S x fuel m.0) is
-    (ap (λ n. accepts T lines n from to) named
-    ∙ (ap (λ n. accepts T lines x.text n to) first ∙ ap (λ n. accepts T lines x.text (length S.entries) n) last))
+-- a function is accepted, with its lines
+pub enters : (T : Signature) (x : Word) (fuel left : ℕ) (lines : List ClauseLine) (name : List ℕ) (meant : Elaborating Lines)
+    → (Ok (lines_of T lines), left) ≡ meant → name ≡ x.text → accepts T lines name ≡ on_lines x fuel meant.0
+enters T x fuel left lines name meant is named =
+    transport (λ (m : Elaborating Lines). accepts T lines name ≡ on_lines x fuel m.0) is (ap (accepts T lines) named)
 
 -- a refusal that stands for want of memory is want of memory
 declares-memory : (r : Refused) → refused_of r ≡ pure.Declaration Memory → r ≡ Declaration Memory
@@ -62,10 +57,10 @@ declares-memory (Function e) is = absurd (transport IsFunction is tt)
     IsFunction (pure.Function e) = Unit {0}
 
 -- or a function is refused
-pub refuses : (S : Signature) (x : Word) (fuel left : ℕ) (e : function.Refusal) (r : Refused) (meant : Elaborating Lines)
+pub refuses : (x : Word) (fuel left : ℕ) (e : function.Refusal) (r : Refused) (meant : Elaborating Lines)
     → (e ≢ Stop stop.Memory → (Err (refusal_of e), left) ≡ meant) → refused_of r ≡ refused_function fuel (refusal_of e)
-    → r ≢ Declaration Memory → Err (refused_of r) ≡ on_lines S x fuel meant.0
-refuses S x fuel left e r meant is told other =
-    transport (λ (m : Elaborating Lines). Err (refused_of r) ≡ on_lines S x fuel m.0)
+    → r ≢ Declaration Memory → Err (refused_of r) ≡ on_lines x fuel meant.0
+refuses x fuel left e r meant is told other =
+    transport (λ (m : Elaborating Lines). Err (refused_of r) ≡ on_lines x fuel m.0)
     (is (λ q. other (declares-memory r (told ∙ ap (λ e. refused_function fuel (refusal_of e)) q))))
     (ap Err told)

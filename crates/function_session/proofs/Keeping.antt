@@ -33,10 +33,10 @@ on_function-has : (P : Elaborated → Type 0) (r : Result Function ResolveStop) 
 on_function-has P (Ok f) go h = h f refl
 on_function-has P (Err e) go h = tt
 
-on_lines-has : (P : Elaborated → Type 0) (S : Signature) (x : Word) (fuel : ℕ) (r : Result Lines refusal.Refusal)
-    → IfOk r (λ l. P (with_lines (accepted_as x.text S l.signature) l.lines)) → IfOk (on_lines S x fuel r) P
-on_lines-has P S x fuel (Ok l) h = h
-on_lines-has P S x fuel (Err e) h = tt
+on_lines-has : (P : Elaborated → Type 0) (x : Word) (fuel : ℕ) (r : Result Lines refusal.Refusal)
+    → IfOk r (λ l. P (with_lines (accepted_as x.text l.signature) l.lines)) → IfOk (on_lines x fuel r) P
+on_lines-has P x fuel (Ok l) h = h
+on_lines-has P x fuel (Err e) h = tt
 
 -- what holds of the lines that are meant holds of those that are made
 made-has : (P : Lines → Type 0) (S : Signature) (f : Function) (fuel : ℕ) → IfOk (function_of S f fuel).0 P → IfOk (function_made S f fuel).0 P
@@ -49,12 +49,12 @@ made-has P S f fuel h = by (function_made S f fuel) refl
 -- what holds of a function that is added, from what holds of its lines
 pub function-has : (P : Elaborated → Type 0) (S : Signature) (fuel : ℕ) (x : Word) (ty : surf.Surf) (clauses : surf.Clauses)
     → ((f : Function) → function S x ty clauses ≡ Ok f
-    → IfOk (function_of S f fuel).0 (λ l. P (with_lines (accepted_as x.text S l.signature) l.lines)))
+    → IfOk (function_of S f fuel).0 (λ l. P (with_lines (accepted_as x.text l.signature) l.lines)))
     → IfOk (elaborate_function S fuel x ty clauses) P
 function-has P S fuel x ty clauses h =
     on_function-has P (function S x ty clauses) (enter_function S fuel x) (λ f is.
-    on_lines-has P S x fuel (function_made S f fuel).0
-    (made-has (λ l. P (with_lines (accepted_as x.text S l.signature) l.lines)) S f fuel (h f is)))
+    on_lines-has P x fuel (function_made S f fuel).0
+    (made-has (λ l. P (with_lines (accepted_as x.text l.signature) l.lines)) S f fuel (h f is)))
 
 -- ---- what stays
 
@@ -76,7 +76,7 @@ function-ready : (S : Signature) (fuel : ℕ) (x : Word) (ty : surf.Surf) (claus
 function-ready S fuel x ty clauses ready =
     function-has (KeepsReady S) S fuel x ty clauses (λ f is.
     weaker (λ (l : Lines). IsPrefix S l.signature × IsWellFormed l.signature)
-    (λ (l : Lines). KeepsReady S (with_lines (accepted_as x.text S l.signature) l.lines)) (function_of S f fuel).0
+    (λ (l : Lines). KeepsReady S (with_lines (accepted_as x.text l.signature) l.lines)) (function_of S f fuel).0
     (λ l h. record { longer = h.0; ready = longer-ready S l.signature ready h.0 h.1 })
     (function-keeps S f fuel ready.well_formed ready.prelude))
 

@@ -1,6 +1,5 @@
 -- What is accepted is as written.
-use Rattle.std.proofs.Common.{◌≡◌, ℕ, false, ◌||◌, if◌then◌else◌, Option, Some, None, List, [], ◌∷◌, map, length, Result, Ok, Err, IfOk, refl, sym, ap, ◌∙◌, subst as transport, arith}
-use Rattle.std.specs.Option.{is_some}
+use Rattle.std.proofs.Common.{◌≡◌, ℕ, List, [], ◌∷◌, map, length, Result, Ok, Err, IfOk, refl, sym, ap, ◌∙◌, subst as transport}
 use Rattle.theory.specs.Terms.{Term, Const}
 use Rattle.theory.specs.Signatures.{Definition, Signature, IsPrefix}
 use Rattle.theory.specs.SignatureScopes.{HasEntries, IsConstantNumber}
@@ -13,17 +12,16 @@ use Rattle.theory.proofs.WellFormedness.{well_formed_typed}
 use Rattle.core_terms.specs.Verdicts.{Verdict, Yes, No}
 use Rattle.core_terms.specs.declared.stop.Stop.{Stop}
 use Rattle.core_terms.proofs.Answers.{Answers, and_next-has, and_then-is}
-use Rattle.core_sig.specs.Names.{find}
-use Rattle.core_sig.specs.declared.entry.Found.{Found}
 use Rattle.surface_syntax.specs.Trees as surf
 use Rattle.surface_syntax.specs.declared.tree.Word.{Word}
+use Rattle.resolve.specs.DeclaredNames.{IsNewName}
 use Rattle.resolve.specs.Families.{declared}
 use Rattle.resolve.specs.Functions.{Function, allowed_by, arity_of, clauses, function, resolve_fun}
 use Rattle.resolve.specs.Names.{known_in, with_name}
 use Rattle.resolve.specs.Resolving.{resolve, resolve_term}
 use Rattle.resolve.specs.Scoping.{IsResolvedFunction}
-use Rattle.resolve.specs.declared.stop.ResolveStop.{ResolveStop}
 use Rattle.resolve.proofs.LawProofs.{functions-resolve}
+use Rattle.resolve.proofs.NewNames.{declared-new}
 use Rattle.kernel_check.specs.Checking.{infer_sort_of}
 use Rattle.kernel_check.specs.Laws.{HasUniverse, IfYes}
 use Rattle.kernel_check.proofs.Soundness.{infer_sort-is_sound}
@@ -35,9 +33,8 @@ use Rattle.elaboration.specs.Refusals.{OfType, Part, granted, or_ill_typed}
 use Rattle.elab_session.specs.Declaring.{Declared, accepted_as, declare_of}
 use Rattle.elab_session.specs.Laws as session
 use Rattle.elab_session.specs.Sessions.{IsReady}
-use Rattle.elab_session.proofs.Resolved.{name-declared}
 use Rattle.elab_session.proofs.Written.{declares-written}
-use Rattle.function_session.specs.Elaborating.{IsFunctionNamed, elaborate_function, with_lines, without_lines}
+use Rattle.function_session.specs.Elaborating.{elaborate_function, with_lines, without_lines}
 use Rattle.function_session.specs.Evidence.{AreLinesOf, line_owner, references_from}
 use Rattle.function_session.specs.Laws.{ElaboratesAsWritten, IsWrittenFunction, IsWrittenPlainly, clause_owners, inner}
 use Rattle.function_session.proofs.Counting.{all-numbered, count_of, numbered_from}
@@ -48,15 +45,10 @@ use Rattle.function_session.proofs.Reported.{Reports, lines-from, parts-report}
 
 -- ---- resolved functions
 
--- a function that is resolved has the name that is written, which is new, and the type that the written one stands for
+-- a function that is resolved has the name that is written, and the type that the written one stands for
 pub record IsNewFunction (S : Signature) (x : Word) (ty : surf.Surf) (f : Function) : Type 0 where
   pub name : f.name ≡ x.text
-  pub new : find S x.text ≡ None
   pub type : resolve_term S [] ty ≡ Ok f.type
-
-unknown : (found : Option Found) (e : ResolveStop) (name own : List ℕ) → (if is_some found || false then Err e else Ok name) ≡ Ok own → found ≡ None
-unknown None e name own is = refl
-unknown (Some f) e name own is = absurd (grind arith)
 
 new-function : (S : Signature) (x : Word) (ty : surf.Surf) (cs : surf.Clauses) → IfOk (function S x ty cs) (IsNewFunction S x ty)
 new-function S x ty cs =
@@ -64,7 +56,7 @@ new-function S x ty cs =
     and_then-is P (declared S [] x) _ (λ own named.
     and_then-is P (resolve (known_in S) ty []) _ (λ type typed.
     and_then-is P (clauses S (with_name own (Const (length S.entries)) (known_in S)) own (allowed_by type (arity_of type cs)) cs) _ (λ list made.
-    record { name = name-declared S x own named; new = unknown (find S x.text) _ x.text own named; type = typed })))
+    let n : IsNewName S x own = declared-new S x own named in record { name = n.is; type = typed })))
 
 pub function-new : (S : Signature) (x : Word) (ty : surf.Surf) (cs : surf.Clauses) (f : Function) → function S x ty cs ≡ Ok f → IsNewFunction S x ty f
 function-new S x ty cs f is = transport (λ r. IfOk r (IsNewFunction S x ty)) is (new-function S x ty cs)
@@ -77,16 +69,6 @@ pub function-scoped : (S : Signature) (d : surf.Decl) (f : Function) → resolve
 function-scoped S d f is =
     transport (λ r. IfOk r (IsResolvedFunction S (provisional S f.name f.type))) is
     (functions-resolve S (provisional S f.name f.type) d (push_is_longer S (Definition f.name f.type (Const (length S.entries)))) (own-constant S f.name f.type))
-
--- what is written under the name
-pub named-new : (S : Signature) (x : Word) (d : surf.Decl) (f : Function) → IsFunctionNamed x d → resolve_fun S d ≡ Ok f → (f.name ≡ x.text) × (find S f.name ≡ None)
-named-new S x (surf.Fun y ty cs) f same is =
-    let n = function-new S y ty cs f is in
-    (n.name ∙ ap (λ (w : Word). w.text) same, ap (find S) n.name ∙ n.new)
-named-new S x (surf.Def y ty body) f other is = absurd other
-named-new S x (surf.Data y params ty cons) f other is = absurd other
-named-new S x (surf.Decide y family decision) f other is = absurd other
-named-new S x (surf.Mutual params members family tag tags) f other is = absurd other
 
 -- ---- functions that are accepted
 
@@ -171,7 +153,7 @@ function-written S fuel x ty cs ready =
     function-has (IsWrittenFunction S x ty cs) S fuel x ty cs (λ f is.
     let new = function-new S x ty cs f is in
     let scoped = function-scoped S (surf.Fun x ty cs) f is in
-    weaker (IsElaborated S f) (λ (l : Lines). IsWrittenFunction S x ty cs (with_lines (accepted_as x.text S l.signature) l.lines)) (function_of S f fuel).0
+    weaker (IsElaborated S f) (λ (l : Lines). IsWrittenFunction S x ty cs (with_lines (accepted_as x.text l.signature) l.lines)) (function_of S f fuel).0
     (λ l h. record {
       given = f;
       resolved = is;

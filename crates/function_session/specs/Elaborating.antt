@@ -1,6 +1,6 @@
 -- One declaration over a signature, also a function by clauses: its names, then what the checker says of each written part, with one
 -- count of units that starts at the fuel. The first refusal in this order is the answer.
-use Rattle.std.specs.Prelude.{◌≡◌, ℕ, List, [], Result, Ok, Err}
+use Rattle.std.specs.Prelude.{ℕ, List, [], Result, Ok, Err}
 use Rattle.theory.specs.Signatures.{Signature}
 use Rattle.surface_syntax.specs.Trees as surf
 use Rattle.surface_syntax.specs.declared.tree.Word.{Word}
@@ -11,20 +11,19 @@ use Rattle.elaboration.specs.Refusals as refusal
 use Rattle.function_lines.specs.FunctionMade.{function_made}
 use Rattle.elab_session.specs.Declaring.{Declared, accepted_as, declare_of}
 use Rattle.elab_session.specs.Refusals.{stopped, unresolved}
-use Rattle.elab_session.specs.declared.accepted.Accepted.{Accepted}
 use Rattle.elab_session.specs.declared.refusal.Refusal as session
 
--- what was accepted, with the lines of a function's clauses, and the signature that has it
+-- the name of what was accepted, the lines of a function's clauses, and the signature that has it
 pub record Elaborated : Type 0 where
-  pub accepted : Accepted
+  pub name : List ℕ
   pub lines : List ClauseLine
   pub signature : Signature
 
 abbrev pub with_lines : Declared → List ClauseLine → Elaborated
-with_lines d lines = record { accepted = d.accepted; lines = lines; signature = d.signature }
+with_lines d lines = record { name = d.name; lines = lines; signature = d.signature }
 
 abbrev pub declared_of : Elaborated → Declared
-declared_of a = record { accepted = a.accepted; signature = a.signature }
+declared_of a = accepted_as a.name a.signature
 
 -- Why a declaration is refused: as a definition or a family is, or as a function alone is.
 pub data Refused : Type 0 where
@@ -41,24 +40,19 @@ abbrev pub refused_function : (fuel : ℕ) → refusal.Refusal → Refused
 refused_function fuel (refusal.Halts e) = Declaration (stopped fuel e)
 refused_function fuel e = Function e
 
--- what entered under the name x after the entries of S, or what refused it
-abbrev pub on_lines : Signature → Word → (fuel : ℕ) → Result Lines refusal.Refusal → Result Elaborated Refused
-on_lines S x fuel (Ok l) = Ok (with_lines (accepted_as x.text S l.signature) l.lines)
-on_lines S x fuel (Err e) = Err (refused_function fuel e)
+-- what entered under the name x, or what refused it
+abbrev pub on_lines : Word → (fuel : ℕ) → Result Lines refusal.Refusal → Result Elaborated Refused
+on_lines x fuel (Ok l) = Ok (with_lines (accepted_as x.text l.signature) l.lines)
+on_lines x fuel (Err e) = Err (refused_function fuel e)
 
 -- a function that is resolved enters, with a line for each of its clauses
 abbrev pub enter_function : Signature → (fuel : ℕ) → Word → function.Function → Result Elaborated Refused
-enter_function S fuel x f = on_lines S x fuel (function_made S f fuel).0
+enter_function S fuel x f = on_lines x fuel (function_made S f fuel).0
 
 -- goes on with what is resolved
 abbrev pub on_function : Result function.Function ResolveStop → (function.Function → Result Elaborated Refused) → Result Elaborated Refused
 on_function (Ok f) go = go f
 on_function (Err e) go = Err (Declaration (unresolved e))
-
--- the declaration is a function with the name
-abbrev pub IsFunctionNamed : Word → surf.Decl → Type 0
-IsFunctionNamed x (surf.Fun y ty clauses) = y ≡ x
-IsFunctionNamed x _ = ⊥
 
 abbrev pub elaborate_function : Signature → (fuel : ℕ) → Word → surf.Surf → surf.Clauses → Result Elaborated Refused
 elaborate_function S fuel x ty clauses = on_function (function.function S x ty clauses) (enter_function S fuel x)

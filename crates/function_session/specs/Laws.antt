@@ -75,7 +75,7 @@ pub record IsWrittenFunction (S : Signature) (x : Word) (ty : surf.Surf) (clause
   pub typed : IsDefinition before given.type body
   pub entered : IsPrefix (pushed before (Definition x.text given.type body)) a.signature
   pub formed : IsWellFormed a.signature
-  pub accepted : declared_of a ≡ accepted_as x.text S a.signature
+  pub accepted : declared_of a ≡ accepted_as x.text a.signature
   pub lines : map line_owner a.lines ≡ clause_owners given
   pub level : ℕ
   pub left : ℕ

@@ -12,7 +12,7 @@ use Rattle.function_session.specs.declared.refused.Refused.TheVariants as refuse
 
 -- what was accepted, where the call leaves the signature T
 abbrev pub elaborated_in : Signature → Elaborated → pure.Elaborated
-elaborated_in T a = record { accepted = a.accepted; lines = map clause_line_of a.lines; signature = T }
+elaborated_in T a = record { name = a.name; lines = map clause_line_of a.lines; signature = T }
 
 abbrev pub refused_of : Refused → pure.Refused
 refused_of (refused.Declaration e) = pure.Declaration e

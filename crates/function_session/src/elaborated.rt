@@ -1,11 +1,10 @@
-use core_terms::Items;
-use elab_session::Accepted;
+use core_terms::{Items, Name};
 use function_lines::ClauseLine;
 
-/// A declaration that was accepted. A function has a line for each of its clauses, in the order of the clauses; other declarations
+/// A declaration that was accepted, by its name. A function has a line for each of its clauses, in the order of the clauses; other declarations
 /// have none.
 #[derive(Debug, Drop)]
 pub struct Elaborated {
-    pub accepted: Accepted,
+    pub name: Name,
     pub lines: Items<ClauseLine>,
 }

@@ -39,7 +39,7 @@ fn elaborate_over(
     ensures err { OnErr result (sig.new ≡ sig.old) }
 {
     match d {
-        Decl::Fun { name, .. } => elaborate_function(alloc, sig, fuel, d, name),
+        Decl::Fun { .. } => elaborate_function(alloc, sig, fuel, d),
         Decl::Def { .. } | Decl::Data { .. } | Decl::Decide { .. } | Decl::Mutual { .. } => {
             elaborate_plainly(alloc, sig, fuel, d)
         }
@@ -57,7 +57,7 @@ fn elaborate_plainly(
     ensures answer { Answers sig.new result (spec.without_lines (declare_of sig.old fuel (decl_of d.now))) }
     ensures err { OnErr result (sig.new ≡ sig.old) }
 {
-    let accepted = declare(alloc, sig, fuel, d)?;
+    let name = declare(alloc, sig, fuel, d)?;
     let lines = Items::new(alloc);
-    Ok(Elaborated { accepted, lines })
+    Ok(Elaborated { name, lines })
 }

@@ -3,7 +3,8 @@ ghost use Rattle.theory.specs.WellFormed.{provisional};
 ghost use Rattle.core_terms.specs.Meanings.{tree_of};
 ghost use Rattle.core_sig.specs.Names.{find};
 ghost use Rattle.surface_syntax.specs.TreeMeanings.{decl_of};
-ghost use Rattle.resolve.specs.Functions.{resolve_fun};
+ghost use Rattle.resolve.specs.DeclaredNames.{declared_word};
+ghost use Rattle.resolve.specs.Functions.{IsFun, resolve_fun};
 ghost use Rattle.resolve.specs.PatternMeanings.{fun_of};
 ghost use Rattle.resolve.specs.Scoping.{IsResolvedFunction};
 ghost use Rattle.elab_session.specs.Sessions.{IsReady};
@@ -14,27 +15,25 @@ use crate::refused::refused_function;
 use crate::{Elaborated, Refused};
 use core_sig::Signature;
 use core_terms::{Units, copy_name};
-use elab_session::Accepted;
 use function_lines::function;
-use resolve::{FunCore, resolve_fun};
+use resolve::{FunCore, declared_word, resolve_fun};
 use std::alloc::Global;
 use surface_syntax::{Decl, Word};
 
-/// Adds the function that is written as `d`, which has the name `x`.
+/// Adds the function that is written.
 pub(crate) fn elaborate_function(
     alloc: Global,
     sig: &mut Signature,
     fuel: u64,
     d: &Decl,
-    x: &Word,
 ) -> Result<Elaborated, Refused>
     requires ready { IsReady sig.old }
-    requires written { spec.IsFunctionNamed x.now (decl_of d.now) }
-    ensures answer { Answers sig.new result (spec.on_function (resolve_fun sig.old (decl_of d.now)) (spec.enter_function sig.old fuel x.now)) }
+    requires written { IsFun (decl_of d.now) }
+    ensures answer { Answers sig.new result (spec.on_function (resolve_fun sig.old (decl_of d.now)) (spec.enter_function sig.old fuel (declared_word (decl_of d.now)))) }
     ensures err { OnErr result (sig.new ≡ sig.old) }
 {
     let f = resolve_fun(alloc, sig, d)?;
-    enter_function(alloc, sig, fuel, x, &f)
+    enter_function(alloc, sig, fuel, declared_word(d), &f)
 }
 
 /// Adds a function that is resolved.
@@ -52,17 +51,12 @@ fn enter_function(
     ensures err { OnErr result (sig.new ≡ sig.old) }
 {
     let name = copy_name(alloc, &x.text)?;
-    let from = sig.len();
     let mut units = Units {
         left: fuel,
         spent: 0,
     };
     match function(alloc, sig, f, &mut units) {
-        Ok(lines) => {
-            let to = sig.len();
-            let accepted = Accepted { name, from, to };
-            Ok(Elaborated { accepted, lines })
-        }
+        Ok(lines) => Ok(Elaborated { name, lines }),
         Err(refusal) => Err(refused_function(fuel, refusal)),
     }
 }

@@ -97,7 +97,7 @@ pub declaration-reports : DeclarationReports
 declaration-reports S fuel x ty cs ready =
     function-has (HasReportedLines S x ty cs) S fuel x ty cs (λ f is.
     let scoped = function-scoped S (surf.Fun x ty cs) f is in
-    weaker (HasReports S f) (λ (l : Lines). HasReportedLines S x ty cs (with_lines (accepted_as x.text S l.signature) l.lines)) (function_of S f fuel).0
+    weaker (HasReports S f) (λ (l : Lines). HasReportedLines S x ty cs (with_lines (accepted_as x.text l.signature) l.lines)) (function_of S f fuel).0
     (λ l h. record {
       given = f;
       resolved = is;

@@ -10,6 +10,7 @@ use Rattle.core_text.specs.Heads.{head_of}
 use Rattle.core_text.specs.RawEntries.{RawEntry}
 use Rattle.core_text.specs.declared.stop.CoreTextStop.{CoreTextStop}
 use Rattle.family_check.specs.Entering.{Entered}
+use Rattle.elab_session.specs.Entering.{enter_of}
 use Rattle.elab_session.specs.declared.refusal.Refusal as session
 use Rattle.function_session.specs.Elaborating.{Elaborated, Refused, Declaration, Function, elaborate_of}
 use Rattle.elim_program.specs.declared.status.Status.TheVariants as status
@@ -20,7 +21,7 @@ use Rattle.elim_program.specs.declared.counts.Counts.{Counts}
 use Rattle.elim_program.specs.Outputs.{Block, block, lines_after, accepted_line, declared_name, refused_lines, declared_block, after, followed, declarations, text_block, head_lines, compiled}
 use Rattle.elim_program.specs.Refusals.{stop_text, refusal_line, refusal_text}
 use Rattle.elim_program.specs.Texts.{limited}
-use Rattle.elim_program.specs.Verifies.{read_name, enter_read, verified_line, entry_block, read_block, after_entry, unread, next_block, entries, after_head, file_block}
+use Rattle.elim_program.specs.Verifies.{read_name, verified_line, entry_block, read_block, after_entry, unread, next_block, entries, after_head, file_block}
 use Rattle.elim_program.specs.WorkTexts.{summary_line}
 use Rattle.elim_program.specs.Works.{none_counted, on_worked, with_accepted, work_block, worked, worked_block}
 use Rattle.program_laws.specs.LastLines.{begins, last_line, status_by}
@@ -109,8 +110,8 @@ heads-told false = record { front = codes "elim 1" ∷ []; line = codes "prelude
 declared-told : (S : Signature) (d : Decl) (r : Result Elaborated Refused) → IsToldBy (declared_block S d r)
 unfolding IsToldBy
 declared-told S d (Ok a) =
-    inr (after-others (lines_after S a.signature) (clause_lines a.signature a.lines ++ accepted_line a.accepted.name ∷ []) false
-    (after-others (clause_lines a.signature a.lines) (accepted_line a.accepted.name ∷ []) false (one (accepted_line a.accepted.name) false (accepted-told a.accepted.name))))
+    inr (after-others (lines_after S a.signature) (clause_lines a.signature a.lines ++ accepted_line a.name ∷ []) false
+    (after-others (clause_lines a.signature a.lines) (accepted_line a.name ∷ []) false (one (accepted_line a.name) false (accepted-told a.name))))
 declared-told S d (Err e) = inr (refused-told (declared_name d) e)
 
 declarations-told : (fuel : ℕ) (S : Signature) (ds : List Decl) → IsToldBy (declarations fuel S ds)
@@ -130,7 +131,7 @@ next-told : (fuel : ℕ) (S : Signature) (others : Signature → ℕ → Block) 
 unfolding IsToldBy
 next-told fuel S others (Ok None) h = inl (refl, refl)
 next-told fuel S others (Ok (Some p)) h =
-    followed-told (read_block S fuel p.0) (others (after_entry S (enter_read S fuel p.0)) p.1) (entry-told (read_name S p.0) (enter_read S fuel p.0)) (h (after_entry S (enter_read S fuel p.0)) p.1)
+    followed-told (read_block S fuel p.0) (others (after_entry S (enter_of S fuel p.0)) p.1) (entry-told (read_name S p.0) (enter_of S fuel p.0)) (h (after_entry S (enter_of S fuel p.0)) p.1)
 next-told fuel S others (Err e) h = inr (stop-told (stop_text (unread e)))
 
 entries-told : (text : List ℕ) (fuel most : ℕ) (S : Signature) (from : ℕ) → IsToldBy (entries text fuel most S from)

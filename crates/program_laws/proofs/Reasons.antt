@@ -61,12 +61,12 @@ plain-given : (r : Result Declared Refusal) → IfErr (without_lines r) HasReaso
 plain-given (Ok d) = tt
 plain-given (Err e) = refusal-given e
 
-lines-given : (S : Signature) (x : Word) (fuel : ℕ) (r : Result Lines function.Refusal) → IfErr (on_lines S x fuel r) HasReason
-lines-given S x fuel (Ok l) = tt
-lines-given S x fuel (Err e) = function-given fuel e
+lines-given : (x : Word) (fuel : ℕ) (r : Result Lines function.Refusal) → IfErr (on_lines x fuel r) HasReason
+lines-given x fuel (Ok l) = tt
+lines-given x fuel (Err e) = function-given fuel e
 
 resolved-given : (S : Signature) (x : Word) (fuel : ℕ) (r : Result resolve.Function ResolveStop) → IfErr (on_function r (enter_function S fuel x)) HasReason
-resolved-given S x fuel (Ok f) = lines-given S x fuel (function_made S f fuel).0
+resolved-given S x fuel (Ok f) = lines-given x fuel (function_made S f fuel).0
 resolved-given S x fuel (Err e) = refusal-given (unresolved e)
 
 declaration-given : (S : Signature) (fuel : ℕ) (d : surf.Decl) → IfErr (elaborate_of S fuel d) HasReason

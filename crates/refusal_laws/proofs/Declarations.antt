@@ -37,9 +37,9 @@ refused-as fuel (refusal.Rejected r) e is = cc
 err-is : {A E : Type 0} (a b : E) → ◌≡◌ {A = Result A E} (Err a) (Err b) → a ≡ b
 err-is a b h = cc
 
-lines-refused : (S : Signature) (x : Word) (fuel : ℕ) (r : Result Lines Refusal) (e : Refusal) → on_lines S x fuel r ≡ Err (OfFunction e) → r ≡ Err e
-lines-refused S x fuel (Ok l) e is = absurd (cc)
-lines-refused S x fuel (Err r) e is =
+lines-refused : (x : Word) (fuel : ℕ) (r : Result Lines Refusal) (e : Refusal) → on_lines x fuel r ≡ Err (OfFunction e) → r ≡ Err e
+lines-refused x fuel (Ok l) e is = absurd (cc)
+lines-refused x fuel (Err r) e is =
     let same : r ≡ e = refused-as fuel r e (err-is {A = Elaborated} (refused_function fuel r) (OfFunction e) is) in
     transport (λ (q : Refusal). ◌≡◌ {A = Result Lines Refusal} (Err r) (Err q)) same refl
 
@@ -57,7 +57,7 @@ function-refused S fuel x ty cs e ready (Ok f) resolved is =
       cause =
           refusal-is_caused S f fuel e
           (provisional-over S f ready.settled ready.prelude (function-scoped S (surf.Fun x ty cs) f resolved))
-          (lines-refused S x fuel (function_made S f fuel).0 e is);
+          (lines-refused x fuel (function_made S f fuel).0 e is);
     }
 function-refused S fuel x ty cs e ready (Err stop) resolved is = absurd (cc)
 

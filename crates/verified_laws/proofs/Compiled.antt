@@ -51,7 +51,7 @@ longer {fuel} {S} (one_more T e h lets) = prefix_transitive S T _ (longer h) (pu
 -- the core lines of a declaration are those of its entries
 accepted-core : (S : Signature) (a : Elaborated) → core_lines (accepted_lines S a) ≡ lines_after S a.signature
 accepted-core S a =
-    let last = accepted_line a.accepted.name ∷ [] in
+    let last = accepted_line a.name ∷ [] in
     ap core_lines (sym (append_assoc (lines_after S a.signature) (clause_lines a.signature a.lines) last))
     ∙ core-lines-append (own_lines S a) last ∙ append-nil (core_lines (own_lines S a)) ∙ own-core S a
 

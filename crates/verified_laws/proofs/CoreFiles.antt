@@ -12,17 +12,15 @@ use Rattle.theory.proofs.Pushing.{cut_to_prefix, prefix_reflexive, prefix_transi
 use Rattle.theory.proofs.Widening.{prefix_keeps}
 use Rattle.core_sig.specs.Raw.{RawFamily}
 use Rattle.core_text.specs.Heads.{head as head_text, head_of, head_stop, has_head, shared}
-use Rattle.core_text.specs.RawEntries.{RawEntry}
+use Rattle.core_text.specs.RawEntries.{RawEntry, RawFamilyOf, RawEliminator, RawAxiomK, RawDefinition}
 use Rattle.core_text.specs.declared.stop.CoreTextStop.TheVariants.{NotCoreText}
 use Rattle.family_check.specs.Entering.{declare_of, entered, entered_at}
-use Rattle.family_check.specs.Scopes.{site_signature}
-use Rattle.elab_session.specs.Entering.{answered, constructor_names, part_signature, word_of}
-use Rattle.elab_session.specs.Refusals.{unentered}
+use Rattle.elab_session.specs.Entering.{answered, enter_of, refused}
 use Rattle.accepted_laws.specs.Checked.{LetsIn, Checked}
 use Rattle.accepted_laws.proofs.Families.{family-is}
 use Rattle.elim_program.specs.DefinedOutputs.{IsOutput, verifies}
 use Rattle.elim_program.specs.Outputs.{Block, block, compiled, followed}
-use Rattle.elim_program.specs.Verifies.{after_entry, after_head, file_block, enter_read, entries, entry_block, next_block, read_name, verified_line}
+use Rattle.elim_program.specs.Verifies.{after_entry, after_head, file_block, entries, entry_block, next_block, read_name, verified_line}
 use Rattle.elim_program.specs.VerifyHeadline.{Adds, family, eliminator, axiom_k, definition, Holds, head, entry}
 use Rattle.elim_program.specs.Texts.{limited}
 use Rattle.elim_program.specs.Words.{verify_asked}
@@ -75,16 +73,14 @@ module _ (fuel : ℕ) (W : Signature) (checked : Checked fuel (prelude W.has_k) 
 
   -- and so is what is read of it
   read-in : (S T : Signature) (raw : RawEntry) → Adds S raw T → IsPrefix T W → length (prelude W.has_k).entries ≤ length S.entries
-      → enter_read S fuel raw ≡ Ok (entered_at T (length S.entries))
+      → enter_of S fuel raw ≡ Ok (entered_at T (length S.entries))
   read-in S _ _ (family raw f given) longer le =
-      ap (answered (unentered (site_signature S raw) (map (λ c. c.name) raw.constructors) (record { text = raw.name; start = 0 }) fuel))
+      ap (answered (refused S 0 fuel (RawFamilyOf raw)))
       (transport (λ (r : RawFamily). (declare_of S r fuel).0 ≡ Ok (entered S (FamilyOf f))) (sym (family-is (length S.entries) f raw given)) (let-in S (FamilyOf f) longer le))
-  read-in S _ _ (eliminator n m) longer le =
-      let e = EliminatorAt n m in ap (answered (unentered (part_signature S e) (constructor_names e) (word_of e) fuel)) (let-in S e longer le)
-  read-in S _ _ (axiom_k i m) longer le =
-      let e = AxiomKAt i m in ap (answered (unentered (part_signature S e) (constructor_names e) (word_of e) fuel)) (let-in S e longer le)
+  read-in S _ _ (eliminator n m) longer le = ap (answered (refused S 0 fuel (RawEliminator n m))) (let-in S (EliminatorAt n m) longer le)
+  read-in S _ _ (axiom_k i m) longer le = ap (answered (refused S 0 fuel (RawAxiomK i m))) (let-in S (AxiomKAt i m) longer le)
   read-in S _ _ (definition name type body) longer le =
-      let e = Definition name type body in ap (answered (unentered (part_signature S e) (constructor_names e) (word_of e) fuel)) (let-in S e longer le)
+      ap (answered (refused S 0 fuel (RawDefinition name type body))) (let-in S (Definition name type body) longer le)
 
   -- ---- all entries
 

@@ -8,6 +8,7 @@ use Rattle.core_terms.specs.Answers.{and_then}
 use Rattle.core_terms.proofs.Answers.{Answers, and_then-has, and_then-is}
 use Rattle.core_sig.specs.Names.{find}
 use Rattle.core_sig.specs.Raw.{RawConstructor, RawFamily, raw_names}
+use Rattle.core_text.specs.RawEntries.{RawEntry, RawFamilyOf, RawEliminator, RawAxiomK, RawDefinition}
 use Rattle.surface_syntax.specs.Trees as surf
 use Rattle.surface_syntax.specs.declared.tree.Word.{Word}
 use Rattle.resolve.specs.Families.{declared, parameters, constructors, names_of}
@@ -17,16 +18,14 @@ use Rattle.resolve.specs.Names.{Known, Scope, known_in, with_name, scope_of}
 use Rattle.resolve.specs.Resolving.{resolve, resolve_term}
 use Rattle.resolve.specs.declared.stop.ResolveStop.{ResolveStop}
 use Rattle.resolve.specs.declared.stop.ResolveStop.TheVariants as unresolved
-use Rattle.family_check.specs.Entering.{Entered}
 use Rattle.family_check.specs.Entering as entering
-use Rattle.family_check.specs.Outcomes.{FamilyStop}
 use Rattle.elaboration.specs.Functions.{Lines}
 use Rattle.elaboration.specs.Refusals as refusal
 use Rattle.function_lines.specs.FunctionMade.{function_made}
 use Rattle.elab_session.specs.Declaring as session
-use Rattle.elab_session.specs.Declaring.{Declared, on_resolved, on_entered}
-use Rattle.elab_session.specs.Refusals as refusals
-use Rattle.family_check.specs.Scopes.{site_signature}
+use Rattle.elab_session.specs.Declaring.{Declared}
+use Rattle.elab_session.specs.Entering.{checked}
+use Rattle.elab_session.proofs.Resolved.{declare-has, or_unresolved-has}
 use Rattle.elab_session.specs.declared.refusal.Refusal.{Refusal}
 use Rattle.function_session.specs.Elaborating.{Elaborated, Refused, without_lines, on_lines, on_function, enter_function, elaborate_of}
 use Rattle.word_laws.specs.Words.{Each}
@@ -87,11 +86,22 @@ family-is W most S x params ty cons hx few hc =
     (constructors-are W S (with_name own (Fam (length S.entries)) (known_in S)) scope (own ∷ []) cons hc) (λ list l.
     record { own = n; few = subst (λ k. k < most) (sym e) few; constructors = l }))))
 
-definition-is : (W : List ℕ → Type 0) (S : Signature) (x : Word) (ty body : surf.Surf) → W x.text → IfOk (session.resolve_definition S x ty body) (λ d. W d.name)
-definition-is W S x ty body h =
-    and_then-has W (λ d. W d.name) (declared S [] x) _ (declared-is W S [] x h) (λ name n.
-    and_then-has Any (λ d. W d.name) (resolve_term S [] ty) _ (any (resolve_term S [] ty)) (λ type u.
-    and_then-has Any (λ d. W d.name) (resolve_term S [] body) _ (any (resolve_term S [] body)) (λ term v. n)))
+-- the names of an entry that is declared
+abbrev EntryIs : (List ℕ → Type 0) → ℕ → RawEntry → Type 0
+EntryIs W most (RawFamilyOf raw) = RawIs W most raw
+EntryIs W most (RawDefinition name type body) = W name
+EntryIs W most _ = ⊥
+
+definition-is : (W : List ℕ → Type 0) (most : ℕ) (S : Signature) (x : Word) (ty body : surf.Surf) → W x.text → IfOk (session.resolve_definition S x ty body) (EntryIs W most)
+definition-is W most S x ty body h =
+    and_then-has W (EntryIs W most) (declared S [] x) _ (declared-is W S [] x h) (λ name n.
+    and_then-has Any (EntryIs W most) (resolve_term S [] ty) _ (any (resolve_term S [] ty)) (λ type u.
+    and_then-has Any (EntryIs W most) (resolve_term S [] body) _ (any (resolve_term S [] body)) (λ term v. n)))
+
+data-is : (W : List ℕ → Type 0) (most : ℕ) (S : Signature) (x : Word) (params : List surf.Typed) (ty : surf.Surf) (cons : List surf.Typed)
+    → W x.text → length params < most → Each (λ c. W c.name.text) cons → IfOk (session.resolve_family S x params ty cons) (EntryIs W most)
+data-is W most S x params ty cons hx few hc =
+    and_then-has (RawIs W most) (EntryIs W most) (resolve_family.family S x params ty cons) _ (family-is W most S x params ty cons hx few hc) (λ raw r. r)
 
 function-is : (W : List ℕ → Type 0) (S : Signature) (x : Word) (ty : surf.Surf) (cs : surf.Clauses) → W x.text → IfOk (function.function S x ty cs) (λ f. W f.name)
 function-is W S x ty cs h =
@@ -103,38 +113,34 @@ function-is W S x ty cs h =
 -- ---- what is entered
 
 module _ (D W : List ℕ → Type 0) (Few : ℕ → Type 0) (most : ℕ) (P : Signature → Type 0) (all : KeepsAll D W Few most P) where
-  entered-is : (S : Signature) (x : Word) (refuse : FamilyStop → Refusal) (r : Result Entered FamilyStop) → IfOk r (After P) → IfOk (on_entered S x refuse r) (λ d. P d.signature)
-  entered-is S x refuse (Ok e) h = h
-  entered-is S x refuse (Err e) h = tt
-
-  resolved-is : {A : Type 0} (Q : A → Type 0) (r : Result A ResolveStop) (go : A → Result Declared Refusal) → IfOk r Q → ((a : A) → Q a → IfOk (go a) (λ d. P d.signature))
-      → IfOk (on_resolved r go) (λ d. P d.signature)
-  resolved-is Q (Ok a) go h k = k a h
-  resolved-is Q (Err e) go h k = tt
+  entry-is : (S : Signature) → P S → (fuel : ℕ) (raw : RawEntry) → EntryIs W most raw → Answers (λ e. P e.signature) (checked S raw fuel)
+  entry-is S p fuel (RawFamilyOf raw) r = all.declare S raw fuel p r
+  entry-is S p fuel (RawDefinition name type body) n = all.keeps.define S name type body fuel p (all.keeps.own name n)
+  entry-is S p fuel (RawEliminator n m) other = absurd other
+  entry-is S p fuel (RawAxiomK i m) other = absurd other
 
   plain-is : (r : Result Declared Refusal) → IfOk r (λ d. P d.signature) → IfOk (without_lines r) (λ a. P a.signature)
   plain-is (Ok d) h = h
   plain-is (Err e) h = tt
 
-  lines-are : (S : Signature) (x : Word) (fuel : ℕ) (r : Result Lines refusal.Refusal) → IfOk r (λ l. P l.signature) → IfOk (on_lines S x fuel r) (λ a. P a.signature)
-  lines-are S x fuel (Ok l) h = h
-  lines-are S x fuel (Err e) h = tt
+  lines-are : (x : Word) (fuel : ℕ) (r : Result Lines refusal.Refusal) → IfOk r (λ l. P l.signature) → IfOk (on_lines x fuel r) (λ a. P a.signature)
+  lines-are x fuel (Ok l) h = h
+  lines-are x fuel (Err e) h = tt
 
   function-entered : (S : Signature) → P S → (x : Word) (fuel : ℕ) (r : Result function.Function ResolveStop) → IfOk r (λ f. W f.name) → IfOk r (FunctionFew Few S)
       → IfOk (on_function r (enter_function S fuel x)) (λ a. P a.signature)
-  function-entered S p x fuel (Ok f) h few = lines-are S x fuel (function_made S f fuel).0 (function-keeps D W Few P all.keeps S p f h few fuel)
+  function-entered S p x fuel (Ok f) h few = lines-are x fuel (function_made S f fuel).0 (function-keeps D W Few P all.keeps S p f h few fuel)
   function-entered S p x fuel (Err e) h few = tt
 
   pub elaborated-keeps : (S : Signature) → P S → (fuel : ℕ) (d : surf.Decl) → DeclIs W Few most S d → IfOk (elaborate_of S fuel d) (λ a. P a.signature)
   elaborated-keeps S p fuel (surf.Def x ty body) h =
-      plain-is (session.declare_definition S fuel x ty body)
-      (resolved-is (λ d. W d.name) (session.resolve_definition S x ty body) (session.enter_definition S fuel x) (definition-is W S x ty body h) (λ d n.
-      entered-is S x (refusals.unentered (λ site. S) [] x fuel) (entering.define_of S d.name d.type d.body fuel).0
-      (all.keeps.define S d.name d.type d.body fuel p (all.keeps.own d.name n))))
+      plain-is (session.declare_of S fuel (surf.Def x ty body))
+      (declare-has (EntryIs W most) (λ d. P d.signature) S fuel (surf.Def x ty body)
+      (or_unresolved-has (EntryIs W most) (session.resolve_definition S x ty body) (definition-is W most S x ty body h)) (entry-is S p fuel))
   elaborated-keeps S p fuel (surf.Data x params ty cons) h =
-      plain-is (session.declare_family S fuel x params ty cons)
-      (resolved-is (RawIs W most) (resolve_family.family S x params ty cons) (session.enter_family S fuel x cons) (family-is W most S x params ty cons h.0 h.1 h.2) (λ raw r.
-      entered-is S x (refusals.unentered (site_signature S raw) (names_of cons) x fuel) (entering.declare_of S raw fuel).0 (all.declare S raw fuel p r)))
+      plain-is (session.declare_of S fuel (surf.Data x params ty cons))
+      (declare-has (EntryIs W most) (λ d. P d.signature) S fuel (surf.Data x params ty cons)
+      (or_unresolved-has (EntryIs W most) (session.resolve_family S x params ty cons) (data-is W most S x params ty cons h.0 h.1 h.2)) (entry-is S p fuel))
   elaborated-keeps S p fuel (surf.Decide x f e) h = tt
   elaborated-keeps S p fuel (surf.Mutual params members f tag tags) h = tt
   elaborated-keeps S p fuel (surf.Fun x ty clauses) h = function-entered S p x fuel (function.function S x ty clauses) (function-is W S x ty clauses h.0) h.1

@@ -136,14 +136,14 @@ on_function-has P (Err e) go h = tt
 
 -- the lines that are made are those that are meant, where they are made
 made-has : (P : Elaborated → Type 0) (S : Signature) (x : Word) (fuel : ℕ) (f : Function)
-    → ((l : Lines) → (function_made S f fuel).0 ≡ Ok l → IfOk (function_of S f fuel).0 (λ l. P (with_lines (accepted_as x.text S l.signature) l.lines)))
-    → IfOk (on_lines S x fuel (function_made S f fuel).0) P
+    → ((l : Lines) → (function_made S f fuel).0 ≡ Ok l → IfOk (function_of S f fuel).0 (λ l. P (with_lines (accepted_as x.text l.signature) l.lines)))
+    → IfOk (on_lines x fuel (function_made S f fuel).0) P
 made-has P S x fuel f h = by (function_made S f fuel) refl
   where
     Q : Lines → Type 0
-    Q l = P (with_lines (accepted_as x.text S l.signature) l.lines)
+    Q l = P (with_lines (accepted_as x.text l.signature) l.lines)
 
-    by : (r : Elaborating Lines) → function_made S f fuel ≡ r → IfOk (on_lines S x fuel r.0) P
+    by : (r : Elaborating Lines) → function_made S f fuel ≡ r → IfOk (on_lines x fuel r.0) P
     by (Ok l, left) is =
         transport (λ (m : Elaborating Lines). IfOk m.0 Q) (function-answers S f fuel l left is) (h l (ap (λ (m : Elaborating Lines). m.0) is))
     by (Err e, left) is = tt
@@ -153,7 +153,7 @@ record IsLined (S : Signature) (x : Word) (ty : surf.Surf) (clauses : surf.Claus
   given : Function
   resolved : function S x ty clauses ≡ Ok given
   lines : Lines
-  is : a ≡ with_lines (accepted_as x.text S lines.signature) lines.lines
+  is : a ≡ with_lines (accepted_as x.text lines.signature) lines.lines
   told : IsTold S given lines
 
 lined : (S : Signature) (fuel : ℕ) (x : Word) (ty : surf.Surf) (cs : surf.Clauses) → IsReady S → IfOk (elaborate_function S fuel x ty cs) (IsLined S x ty cs)
@@ -161,7 +161,7 @@ lined S fuel x ty cs ready =
     on_function-has (IsLined S x ty cs) (function S x ty cs) (enter_function S fuel x) (λ f is.
     let scoped = function-scoped S (surf.Fun x ty cs) f is in
     made-has (IsLined S x ty cs) S x fuel f (λ made made_is.
-    weaker (IsTold S f) (λ (l : Lines). IsLined S x ty cs (with_lines (accepted_as x.text S l.signature) l.lines)) (function_of S f fuel).0
+    weaker (IsTold S f) (λ (l : Lines). IsLined S x ty cs (with_lines (accepted_as x.text l.signature) l.lines)) (function_of S f fuel).0
     (λ l h. record { given = f; resolved = is; lines = l; is = refl; told = h })
     (function-told S f fuel ready.well_formed ready.prelude scoped.type.scoped.entries (provisional-over S f ready.settled ready.prelude scoped)
     (λ level left e. function-closed S f fuel made level left made_is e))))

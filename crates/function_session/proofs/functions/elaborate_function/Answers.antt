@@ -1,12 +1,8 @@
 use Rattle.std.proofs.Common.{sym}
 use Rattle.surface_syntax.specs.TreeMeanings.{decl_of}
 use Rattle.resolve.specs.PatternMeanings.{fun_of}
-use Rattle.function_session.proofs.Written.{function-scoped, named-new}
+use Rattle.function_session.proofs.Written.{function-scoped}
 use Rattle.function_session.proofs.functions.elaborate_function.Goals as goal
-
-pub enter_function-requires-clause-new : goal.enter_function-requires-clause-new
-enter_function-requires-clause-new c =
-    (named-new c.args.sig.now c.args.x.now (decl_of c.args.d.now) (fun_of c.in_ok-f.f) c.requires.written (sym c.in_ok-f.ensures.answer)).1
 
 pub enter_function-requires-clause-resolved : goal.enter_function-requires-clause-resolved
 enter_function-requires-clause-resolved c =

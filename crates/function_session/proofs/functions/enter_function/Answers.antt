@@ -3,9 +3,8 @@ use Rattle.function_session.proofs.functions.enter_function.Goals as goal
 
 pub returns-in-Ok-clause-answer : goal.returns-in-Ok-clause-answer
 returns-in-Ok-clause-answer c =
-    enters c.args.sig.now c.function.new.sig c.args.x.now c.args.fuel _ c.in-Ok.lines c.in_ok-name.name c.len-from.result c.len-to.result _
-    c.in-Ok.ensures.answer c.in_ok-name.ensures c.len-from.ensures c.len-to.ensures
+    enters c.function.new.sig c.args.x.now c.args.fuel _ c.in-Ok.lines c.in_ok-name.name _ c.in-Ok.ensures.answer c.in_ok-name.ensures
 
 pub returns-in-Err-clause-answer : goal.returns-in-Err-clause-answer
 returns-in-Err-clause-answer c =
-    refuses c.args.sig.now c.args.x.now c.args.fuel _ c.in-Err.refusal c.refused_function.result _ c.in-Err.ensures.answer c.refused_function.ensures
+    refuses c.args.x.now c.args.fuel _ c.in-Err.refusal c.refused_function.result _ c.in-Err.ensures.answer c.refused_function.ensures

@@ -2,7 +2,7 @@ use Rattle.std.proofs.Common.{IfOk, subst as transport}
 use Rattle.theory.specs.Signatures.{IsPrefix}
 use Rattle.surface_syntax.specs.TreeMeanings.{decl_of}
 use Rattle.theory.proofs.Pushing.{prefix_reflexive}
-use Rattle.elab_session.specs.Declaring.{declared_in}
+use Rattle.elab_session.specs.Declaring.{accepted_as}
 use Rattle.elab_session.specs.Laws.{IsAsWritten}
 use Rattle.elab_session.specs.Sessions.{IsReady, Session}
 use Rattle.elab_session.proofs.Answering.{says, stays}
@@ -27,6 +27,6 @@ returns-clause-longer c =
 
 pub returns-clause-written : goal.returns-clause-written
 returns-clause-written c =
-    transport (λ (s : Session). IfOk c.declare.result (λ a. IsAsWritten s.signature (decl_of c.args.d.now) (declared_in c.declare.new.sig a))) c.self.view_is
+    transport (λ (s : Session). IfOk c.declare.result (λ a. IsAsWritten s.signature (decl_of c.args.d.now) (accepted_as a c.declare.new.sig))) c.self.view_is
     (says (IsAsWritten c.self.inside.sig (decl_of c.args.d.now)) _ _ _ c.declare.ensures.answer
     (declares-written c.self.inside.sig c.self.inside.fuel (decl_of c.args.d.now) c.self.invariant.well_formed))

@@ -1,6 +1,7 @@
-use Rattle.std.proofs.Common.{sym, subst as transport}
+use Rattle.std.proofs.Common.{length, sym, subst as transport}
 use Rattle.theory.specs.Signatures.{IsPrefix}
 use Rattle.core_sig.specs.Meanings.{entry_of}
+use Rattle.core_text.specs.RawEntries.{entry_shown}
 use Rattle.theory.proofs.Pushing.{prefix_reflexive}
 use Rattle.elab_session.specs.Entering.{CanEnter, Enters, enter_of}
 use Rattle.elab_session.specs.Sessions.{IsReady, Session}
@@ -9,25 +10,25 @@ use Rattle.elab_session.proofs.session.Session.enter.Goals as goal
 
 pub invariant_of-self : goal.invariant_of-self
 invariant_of-self c =
-    entry-stays IsReady _ _ _ _ c.enter.ensures.answer c.enter.ensures.err
-    (enter-ready c.self.inside.sig c.self.inside.fuel (entry_of c.args.entry) c.self.invariant
-    (transport (λ (s : Session). CanEnter s.signature (entry_of c.args.entry)) (sym c.self.view_is) c.requires.entry))
+    entry-stays IsReady _ _ _ _ c.enter_entry.ensures.answer c.enter_entry.ensures.err
+    (enter-ready c.self.inside.sig c.self.inside.fuel (entry_shown (length c.self.inside.sig.entries) (entry_of c.args.entry)) c.self.invariant
+    (transport (λ (s : Session). CanEnter s.signature (entry_shown (length s.signature.entries) (entry_of c.args.entry))) (sym c.self.view_is) c.requires.entry))
     c.self.invariant
 
 pub returns-clause-ready : goal.returns-clause-ready
 returns-clause-ready c =
-    entry-stays IsReady _ _ _ _ c.enter.ensures.answer c.enter.ensures.err
-    (enter-ready c.self.inside.sig c.self.inside.fuel (entry_of c.args.entry) c.self.invariant
-    (transport (λ (s : Session). CanEnter s.signature (entry_of c.args.entry)) (sym c.self.view_is) c.requires.entry))
+    entry-stays IsReady _ _ _ _ c.enter_entry.ensures.answer c.enter_entry.ensures.err
+    (enter-ready c.self.inside.sig c.self.inside.fuel (entry_shown (length c.self.inside.sig.entries) (entry_of c.args.entry)) c.self.invariant
+    (transport (λ (s : Session). CanEnter s.signature (entry_shown (length s.signature.entries) (entry_of c.args.entry))) (sym c.self.view_is) c.requires.entry))
     c.self.invariant
 
 pub returns-clause-answer : goal.returns-clause-answer
 returns-clause-answer c =
-    transport (λ (s : Session). Enters c.enter.new.sig c.enter.result (enter_of s.signature s.fuel (entry_of c.args.entry))) c.self.view_is
-    c.enter.ensures.answer
+    transport (λ (s : Session). Enters c.enter_entry.new.sig c.enter_entry.result (enter_of s.signature s.fuel (entry_shown (length s.signature.entries) (entry_of c.args.entry)))) c.self.view_is
+    c.enter_entry.ensures.answer
 
 pub returns-clause-longer : goal.returns-clause-longer
 returns-clause-longer c =
-    transport (λ (s : Session). IsPrefix s.signature c.enter.new.sig) c.self.view_is
-    (entry-stays (IsPrefix c.self.inside.sig) _ _ _ _ c.enter.ensures.answer c.enter.ensures.err
-    (enter-extends c.self.inside.sig c.self.inside.fuel (entry_of c.args.entry)) (prefix_reflexive c.self.inside.sig))
+    transport (λ (s : Session). IsPrefix s.signature c.enter_entry.new.sig) c.self.view_is
+    (entry-stays (IsPrefix c.self.inside.sig) _ _ _ _ c.enter_entry.ensures.answer c.enter_entry.ensures.err
+    (enter-extends c.self.inside.sig c.self.inside.fuel (entry_shown (length c.self.inside.sig.entries) (entry_of c.args.entry))) (prefix_reflexive c.self.inside.sig))

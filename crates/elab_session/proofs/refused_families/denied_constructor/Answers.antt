@@ -2,7 +2,7 @@ use Rattle.std.proofs.Common.{Ok, subst as transport}
 use Rattle.core_terms.specs.Answers.{Gives}
 use Rattle.elab_session.specs.declared.refusal.Refusal.{Refusal}
 use Rattle.elab_session.proofs.SameNames.{bare-denied}
-use Rattle.elab_session.proofs.families.denied_constructor.Goals as goal
+use Rattle.elab_session.proofs.refused_families.denied_constructor.Goals as goal
 
 pub returns-clause-answer : goal.returns-clause-answer
 returns-clause-answer c = λ f named bare.
