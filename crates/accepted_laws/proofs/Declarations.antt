@@ -1,5 +1,5 @@
 -- Whatever is declared, its entries are let in one by one.
-use Rattle.std.proofs.Common.{ℕ, List, [], IfOk, arith}
+use Rattle.std.proofs.Common.{ℕ, [], IfOk, arith}
 use Rattle.theory.specs.Signatures.{Signature}
 use Rattle.surface_syntax.specs.Trees as surf
 use Rattle.surface_syntax.specs.declared.tree.Word.{Word}

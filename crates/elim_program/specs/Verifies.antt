@@ -1,5 +1,5 @@
 -- What is said of the entries of a core file, one by one, up to the first that is refused.
-use Rattle.std.specs.Prelude.{◌≡◌, ℕ, zero, suc, ◌-◌, ◌<◌, ◌≤◌, Bool, true, false, List, [], ◌∷◌, ◌++◌, map, length, codes, Option, Some, None, Result, Ok, Err}
+use Rattle.std.specs.Prelude.{◌≡◌, ℕ, zero, suc, ◌-◌, ◌<◌, ◌≤◌, Bool, true, false, List, [], ◌∷◌, ◌++◌, length, codes, Option, Some, None, Result, Ok, Err}
 use Rattle.theory.specs.Terms.{Elim, AxiomK}
 use Rattle.theory.specs.Signatures.{Signature}
 use Rattle.theory.specs.Prelude.{prelude}
