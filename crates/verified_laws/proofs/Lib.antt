@@ -1,4 +1,6 @@
 mod Compiled
 pub mod CoreFiles
 pub mod LetIn
+pub mod Reported
 pub mod Texts
+pub mod Written

@@ -1,1 +1,2 @@
+pub mod AcceptedLines
 pub mod Laws

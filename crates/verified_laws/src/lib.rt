@@ -1,4 +1,6 @@
-//! A core file of the signature that an accepted text gives is verified with as much fuel.
+//! A core file of the signature that an accepted text gives is verified with as much fuel; and what holds of each line that accepts
+//! a declaration.
 #![tactic(auto)]
 
 pub mod laws;
+pub mod lines;

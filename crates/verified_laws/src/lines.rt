@@ -1,5 +1,5 @@
-//! The laws.
-ghost use Rattle.reader_laws.specs.Laws.{LinesAreCoreFiles, LinesAreReports, LinesAreWritable};
+//! Laws of what a line accepts, beside the headline of the program.
+ghost use Rattle.verified_laws.specs.AcceptedLines.{LinesAreCoreFiles, LinesAreReports, LinesAreWritable};
 
 /// Where a line says that a function is accepted, the lines of its clauses are the reports of the clauses.
 pub fn lines_are_reports()

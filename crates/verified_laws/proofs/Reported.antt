@@ -8,7 +8,7 @@ use Rattle.function_session.specs.Laws.{IsAsWritten}
 use Rattle.line_laws.specs.Laws.{HasReportedLines}
 use Rattle.line_laws.proofs.Functions.{declaration-reports}
 use Rattle.elim_program.proofs.Lines.{if_ok}
-use Rattle.reader_laws.specs.Laws.{IsReported, LinesAreReports}
+use Rattle.verified_laws.specs.AcceptedLines.{IsReported, LinesAreReports}
 
 reported : (S : Signature) (fuel : ℕ) (d : surf.Decl) (a : Elaborated) → IsReady S → elaborate_of S fuel d ≡ Ok a → IsAsWritten S d a → IsReported S d a
 reported S fuel (surf.Fun x ty clauses) a ready is written =

@@ -9,7 +9,7 @@ use Rattle.core_text.proofs.SurfacePlain.{surface-names-are-plain}
 use Rattle.elim_program.proofs.Accepted.{accepts-more}
 use Rattle.program_laws.proofs.OneSignature.{core-of-lines}
 use Rattle.writing_laws.proofs.Writables.{accepted-writable}
-use Rattle.reader_laws.specs.Laws.{LinesAreCoreFiles, LinesAreWritable}
+use Rattle.verified_laws.specs.AcceptedLines.{LinesAreCoreFiles, LinesAreWritable}
 
 pub lines_are_writable : LinesAreWritable
 lines_are_writable words bytes above name a =

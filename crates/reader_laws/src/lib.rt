@@ -1,4 +1,0 @@
-//! Laws of what a line accepts, beside the headline of the program.
-#![tactic(auto)]
-
-pub mod laws;
