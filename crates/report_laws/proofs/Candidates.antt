@@ -1,14 +1,14 @@
 -- The candidate of a clause may enter: its terms are scoped and low, and each of its names can be generated.
-use Rattle.std.proofs.Common.{◌≡◌, inl, inr, ℕ, zero, suc, ◌+◌, ◌-◌, ◌<◌, ◌≤◌, ◌==◌, nat_lt, Bool, true, false, ◌&&◌, ◌||◌, cond, Option, Some, List, [], ◌∷◌, ◌++◌, length, map, get_or, slice_get, Result, Ok, Err, refl, sym, ap, ap₂, ◌∙◌, subst as transport, arith}
+use Rattle.std.proofs.Common.{◌≡◌, inl, inr, ℕ, zero, suc, ◌+◌, ◌-◌, ◌<◌, ◌==◌, nat_lt, Bool, true, false, ◌&&◌, ◌||◌, cond, List, [], ◌∷◌, ◌++◌, length, map, get_or, slice_get, Result, Ok, Err, refl, ap, ap₂, ◌∙◌, subst as transport, arith}
 use Rattle.std.specs.Option.{is_some}
 use Rattle.std.proofs.lemmas.Bool.Decides.{nat_tests}
 use Rattle.theory.specs.Terms.{Term, Var, Sort, Pi, Lam, App, Let, Const, Fam, Con, Elim, AxiomK, free_of, top}
 use Rattle.theory.specs.Telescopes.{functions, products}
 use Rattle.theory.specs.Prelude.{prelude}
-use Rattle.theory.specs.Signatures.{Signature, Definition, FamilyOf, IsPrefix, equation}
+use Rattle.theory.specs.Signatures.{Signature, Definition, IsPrefix, equation}
 use Rattle.theory.specs.SignatureScopes.{IsConstantNumber, IsScoped}
 use Rattle.theory.proofs.ScopedTerms.{scoped_over_more, scoped-wider, telescope-wider}
-use Rattle.core_terms.specs.Answers.{and_then, bounded, is_low}
+use Rattle.core_terms.specs.Answers.{bounded, is_low}
 use Rattle.core_terms.specs.declared.stop.Stop.{Stop}
 use Rattle.core_terms.specs.declared.stop.Stop.TheVariants.{Deep}
 use Rattle.core_sig.specs.DraftScopes.{HasDraftEntries, IsDraftNumber, IsDraftTerm}
@@ -22,7 +22,7 @@ use Rattle.unification.specs.ScopedStates.{IsReady}
 use Rattle.tree_translation.specs.Laws.{IsAmong}
 use Rattle.tree_translation.specs.Naming.{Naming, is_named, mentions, number_among, number_in, once, with_names}
 use Rattle.tree_translation.specs.Plans.{Plan}
-use Rattle.tree_translation.proofs.Drafting.{and_then-ok, bounded-ok, in_order-is}
+use Rattle.tree_translation.proofs.Drafting.{and_then-ok, in_order-is}
 use Rattle.tree_translation.proofs.NewNames.{named-among, or-true, with-named}
 use Rattle.entry_laws.proofs.OnlyConstants.{Each, HasOnly, each-weaker}
 use Rattle.entry_laws.proofs.TableNames.{IsInTable, draft-names, named-later, place-low}
@@ -40,7 +40,7 @@ use Rattle.clause_reports.specs.Generated.{generated_by}
 use Rattle.clause_reports.specs.Laws.{IsOver}
 use Rattle.clause_reports.specs.ProofTerms.{candidate, proof_name, proof_names, proof_term}
 use Rattle.clause_reports.specs.ProofWalks.{Proof}
-use Rattle.report_laws.proofs.WalkedProofs.{IsProof, IsProofOver, place_in}
+use Rattle.report_laws.proofs.WalkedProofs.{IsProofOver, place_in}
 use Rattle.report_laws.proofs.ProofNames.{names-fit}
 use Rattle.report_laws.proofs.ProofScopes.{proof-scoped}
 

@@ -6,3 +6,8 @@ pub mod Candidates
 pub mod EnteredReports
 pub mod ShadowedReports
 pub mod MadeReports
+pub mod OwnWalks
+pub mod LeafSites
+pub mod NamedEntries
+pub mod EnteredParts
+pub mod FunctionReports

@@ -1,16 +1,16 @@
 -- The term and the names of a proof are made where the term is no higher than a term may be, and so the candidate of a clause is made.
-use Rattle.std.proofs.Common.{◌≡◌, ℕ, suc, ◌+◌, ◌<◌, ◌≤◌, Bool, true, false, cond, Option, Some, None, List, [], ◌∷◌, ◌++◌, length, get_or, map, slice_get, Result, Ok, Err, refl, sym, ap, ◌∙◌, subst as transport, append_assoc, arith}
+use Rattle.std.proofs.Common.{◌≡◌, ℕ, ◌+◌, ◌<◌, ◌≤◌, Bool, true, false, cond, Some, None, List, [], ◌∷◌, ◌++◌, length, slice_get, Result, Ok, Err, refl, sym, ap, ◌∙◌, subst as transport, append_assoc, arith}
 use Rattle.theory.specs.Terms.{Term, Sort, height}
-use Rattle.theory.specs.Telescopes.{Telescope, functions, products}
+use Rattle.theory.specs.Telescopes.{Telescope, functions}
 use Rattle.theory.specs.Families.{Constructor}
-use Rattle.theory.specs.Signatures.{Signature, equation}
+use Rattle.theory.specs.Signatures.{Signature}
 use Rattle.theory.specs.SignatureScopes.{IsScoped}
 use Rattle.core_terms.specs.Answers.{and_then, bounded, is_low}
 use Rattle.core_terms.specs.CaseTrees.{Step}
 use Rattle.core_terms.specs.declared.stop.Stop.{Stop}
 use Rattle.core_terms.specs.declared.stop.Stop.TheVariants.{Deep}
 use Rattle.core_terms.proofs.Answers.{low-is}
-use Rattle.core_sig.specs.Drafts.{Draft, drafted}
+use Rattle.core_sig.specs.Drafts.{Draft}
 use Rattle.core_sig.specs.Settling.{renumbered}
 use Rattle.core_sig.proofs.DraftTerms.{height-renumbered}
 use Rattle.tele_eq.proofs.Growing.{append-none}
@@ -20,9 +20,9 @@ use Rattle.unifier.specs.Conditions.{AreLow}
 use Rattle.case_trees.specs.Problems.{Member, member_of, problem_of}
 use Rattle.case_trees.specs.Standing.{Runs}
 use Rattle.tree_translation.specs.Conditions.{AreRuns, IsEnd, IsSeen, IsSplit}
-use Rattle.tree_translation.specs.Naming.{Naming, case_name, drafted_in_order, mentions, number_among, number_in, once, with_names}
+use Rattle.tree_translation.specs.Naming.{Naming, case_name, mentions, number_among, number_in, once, with_names}
 use Rattle.tree_translation.specs.Plans.{Part, Plan, no_part}
-use Rattle.tree_translation.specs.Splits.{Node, behind_first, branch_standing, is_absurd, on_member, split_member, split_method, split_methods, split_names, split_node}
+use Rattle.tree_translation.specs.Splits.{behind_first, branch_standing, is_absurd, on_member, split_member, split_method, split_methods, split_names, split_node}
 use Rattle.tree_translation.specs.Standings.{problem_state}
 use Rattle.tree_translation.proofs.Drafting.{IsDeepAlone, and_then-deep, and_then-ok, drafted-deep, ok-deep}
 use Rattle.tree_translation.proofs.NothingHidden.{number-own, widened-own}
@@ -32,7 +32,6 @@ use Rattle.replay_laws.proofs.LowParts.{low-functions}
 use Rattle.replay_laws.proofs.ReplayedSteps.{after_step-is_step}
 use Rattle.replay_laws.proofs.SeenMembers.{member-count}
 use Rattle.replay_laws.proofs.TreeNodes.{absurd-ends, problem-reached, solved-goes}
-use Rattle.run_laws.specs.Laws.{IsRun}
 use Rattle.run_laws.specs.SplitLaws.{IsRunSplit}
 use Rattle.run_laws.proofs.AnsweredSplits.{IsSplitOver, branch-run, branch-there, method-low, split-answers, split-low, split_names-answer, whole-member, whole_of}
 use Rattle.run_laws.proofs.MadeSplits.{split-only_deep, split_names-only_deep}

@@ -1,12 +1,12 @@
 -- The report of a clause is made as is meant.
-use Rattle.std.proofs.Common.{◌≡◌, ℕ, zero, suc, ◌+◌, Bool, true, false, ◌&&◌, ◌||◌, cond, is_none, Option, Some, None, List, [], ◌∷◌, length, map, All, Result, Ok, Err, IfOk, refl, sym, ap, ap₂, ◌∙◌, subst as transport}
+use Rattle.std.proofs.Common.{◌≡◌, ℕ, zero, suc, ◌+◌, Bool, true, false, ◌&&◌, cond, Option, List, [], ◌∷◌, length, All, Result, Ok, Err, refl, sym, ap, ap₂, ◌∙◌, subst as transport}
 use Rattle.std.proofs.lemmas.List.Elements.{All-cons, All-head, All-nil, All-tail}
 use Rattle.theory.specs.Terms.{Term}
 use Rattle.theory.specs.Telescopes.{Telescope}
 use Rattle.theory.specs.Signatures.{Signature}
 use Rattle.theory.specs.SignatureScopes.{IsScoped, IsScopedTelescope}
 use Rattle.theory.proofs.ScopedTerms.{sort-scoped}
-use Rattle.core_terms.specs.Answers.{and_next, and_then, are_low}
+use Rattle.core_terms.specs.Answers.{and_next, and_then}
 use Rattle.core_terms.specs.declared.stop.Stop.{Stop}
 use Rattle.core_terms.specs.declared.stop.Stop.TheVariants.{Deep}
 use Rattle.core_sig.specs.Drafts.{Draft}
@@ -15,24 +15,20 @@ use Rattle.kernel_reduce.specs.Reduction.{nesting}
 use Rattle.tele_eq.specs.Items.{term_at}
 use Rattle.tree_translation.specs.Plans.{Plan, own_part}
 use Rattle.tree_translation.specs.Recursion.{Recursion, order_of, recursion_of, terms_at}
-use Rattle.leaf_terms.specs.RecursionMade.{recursion_made}
 use Rattle.clause_equations.specs.CodeEquations.{equation_in, equation_made}
 use Rattle.clause_reports.specs.Equations.{Equation, equation_of, part_at, part_name, pats_of, side_of, walk_site}
-use Rattle.clause_reports.specs.Laws.{IsOver}
 use Rattle.clause_reports.specs.ProofTerms.{candidate}
 use Rattle.clause_reports.specs.ProofWalks.{Place, Proof, first_place, first_values, walk_of}
 use Rattle.clause_reports.specs.Reports as pure
-use Rattle.clause_reports.specs.Reports.{Reference, Reported, Absurd, order_in, reported, report_of, some_absurd}
+use Rattle.clause_reports.specs.Reports.{Reference, Absurd, order_in, reported, report_of, some_absurd}
 use Rattle.clause_reports.specs.Shadows.{leaves_of}
 use Rattle.clause_reports.specs.Stops.{Halts, ReportStop, Reporting, answers, or_halts, halting}
-use Rattle.draft_checks.specs.Checks.{enterable}
-use Rattle.draft_entering.specs.Depths.{own_name}
 use Rattle.entry_laws.proofs.OnlyConstants.{each-all}
 use Rattle.equation_laws.proofs.LeftShowing.{equation-is}
-use Rattle.proof_walks.specs.PlaceScopes.{IsScopedPlace, are_scoped, is_scoped_over, is_scoped_place, is_scoped_telescope}
+use Rattle.proof_walks.specs.PlaceScopes.{IsScopedPlace, are_scoped, is_scoped_place, is_scoped_telescope}
 use Rattle.proof_walks.specs.Starts.{walk_made}
 use Rattle.proof_walks.proofs.WalkLaws.{walk-is-made}
-use Rattle.clause_lines.specs.CodeReports.{Candidate, Judgement, Known, candidate_of, entering_made, equation_converts, equation_judged, in_plan, judged, on_judged, proof_judged, report_made, sides_judged, unless_converts, walk_judged, with_candidate}
+use Rattle.clause_lines.specs.CodeReports.{Candidate, Judgement, Known, equation_converts, equation_judged, in_plan, on_judged, proof_judged, report_made, sides_judged, unless_converts, with_candidate}
 use Rattle.clause_lines.proofs.NameMarks.{clause-marked, mark_after}
 use Rattle.clause_lines.proofs.ReportsAnswered.{candidate-own}
 use Rattle.clause_lines.proofs.SameEquations.{equation-same}

@@ -1,10 +1,10 @@
 -- The term of a proof is over the context of its place, and names entries and the names of its table.
-use Rattle.std.proofs.Common.{◌≡◌, inl, inr, ℕ, suc, ◌+◌, ◌<◌, ◌≤◌, Option, Some, None, List, [], ◌∷◌, length, map, slice_get, refl, sym, ap, ◌∙◌, subst as transport, arith}
-use Rattle.theory.specs.Terms.{Term, Const, top}
+use Rattle.std.proofs.Common.{◌≡◌, ℕ, ◌+◌, ◌<◌, Option, Some, None, List, [], ◌∷◌, length, map, slice_get, refl, sym, ap, ◌∙◌, subst as transport, arith}
+use Rattle.theory.specs.Terms.{Term, top}
 use Rattle.theory.specs.Telescopes.{Telescope}
 use Rattle.theory.specs.Families.{Constructor}
-use Rattle.theory.specs.Signatures.{Signature, FamilyOf, equality, equation, reflexivity}
-use Rattle.theory.specs.SignatureScopes.{IsConstantNumber, IsScoped, IsScopedTelescope}
+use Rattle.theory.specs.Signatures.{Signature, reflexivity}
+use Rattle.theory.specs.SignatureScopes.{IsConstantNumber, IsScoped}
 use Rattle.theory.proofs.ScopedTerms.{scoped-wider, telescope-wider}
 use Rattle.core_terms.specs.CaseTrees.{Step}
 use Rattle.core_terms.specs.declared.case_tree.Rule.{Rule}
@@ -22,7 +22,6 @@ use Rattle.tree_translation.specs.Naming.{Naming}
 use Rattle.tree_translation.specs.Replays.{behind_rule, behind_run, behind_step, step_in, unless_compared}
 use Rattle.tree_translation.specs.Splits.{branch_standing, member_names, on_member, split_member, split_names}
 use Rattle.tree_translation.specs.Standings.{Standing, levels_from}
-use Rattle.tree_translation.specs.TreeTerms.{node_of}
 use Rattle.tree_translation.proofs.LevelLists.{length-levels}
 use Rattle.replay_laws.proofs.TreeNodes.{branch-below, node-after}
 use Rattle.run_laws.proofs.AnsweredSplits.{IsSplitOver, branch-run, whole-member, whole_of}

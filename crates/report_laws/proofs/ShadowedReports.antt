@@ -1,11 +1,11 @@
 -- What is said of a clause whose candidate is denied is what is meant, where its equation is over the context of each of its leaves.
-use Rattle.std.proofs.Common.{◌≡◌, ◌≤◌, ℕ, zero, suc, ◌+◌, nat_le, Bool, true, false, ◌&&◌, not, nat_lt, cond, Option, Some, List, [], ◌∷◌, length, Result, Ok, Err, refl, sym, ap, ap₂, ◌∙◌, subst as transport, arith}
+use Rattle.std.proofs.Common.{◌≡◌, ◌≤◌, ℕ, zero, suc, nat_le, Bool, true, false, ◌&&◌, not, nat_lt, cond, Option, Some, List, [], ◌∷◌, length, Result, Ok, Err, refl, ap, ap₂, ◌∙◌, arith}
 use Rattle.std.proofs.lemmas.Bool.Decides.{nat_tests}
 use Rattle.theory.specs.Terms.{Term, free_of}
 use Rattle.theory.specs.Telescopes.{Telescope}
 use Rattle.theory.specs.Signatures.{Signature}
 use Rattle.theory.specs.SignatureScopes.{IsScoped}
-use Rattle.core_terms.specs.Answers.{SpentOr, and_next}
+use Rattle.core_terms.specs.Answers.{and_next}
 use Rattle.core_terms.specs.declared.stop.Stop.{Stop}
 use Rattle.core_terms.specs.declared.stop.Stop.TheVariants.{Deep}
 use Rattle.core_sig.specs.ScopeTests.{has_entries}
@@ -23,7 +23,7 @@ use Rattle.clause_reports.specs.Reports.{Reference, Reported, order_in, at_leaf,
 use Rattle.clause_reports.specs.Shadows.{TreeLeaf, convert_at_all, earlier_leaf, equation_at_leaf, leaves_of, vector_of}
 use Rattle.clause_reports.specs.Stops.{Rejection, ReportStop, Reporting, Halts, Rejected, answers, or_halts, halting}
 use Rattle.proof_walks.specs.PlaceScopes.{is_scoped}
-use Rattle.clause_lines.specs.CodeReports.{in_plan, can_be_compared, equation_converts, order_at, equation_there, converts_at_all, converts_with, converts_at_leaves, if_shadowed, both_match, at_matched, at_vector_made, at_place, place_converts, shadowed_among, shadowed_made}
+use Rattle.clause_lines.specs.CodeReports.{in_plan, equation_converts, order_at, equation_there, converts_at_all, converts_with, converts_at_leaves, if_shadowed, both_match, at_matched, at_vector_made, at_place, place_converts, shadowed_among, shadowed_made}
 use Rattle.clause_lines.proofs.SameEquations.{equation-same}
 use Rattle.made_functions.proofs.Sequences.{next-after, next-same}
 use Rattle.report_laws.specs.Reportable.{AreSidesOver, IsLeafOver}

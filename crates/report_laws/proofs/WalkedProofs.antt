@@ -10,7 +10,6 @@ use Rattle.theory.specs.SignatureScopes.{IsScoped, IsScopedTelescope}
 use Rattle.core_terms.specs.Answers.{and_next, are_low, is_low}
 use Rattle.core_terms.specs.CaseTrees as tree
 use Rattle.core_terms.specs.CaseTrees.{Step, Tree, Branch, Branches}
-use Rattle.core_terms.specs.declared.case_tree.Origin.{Origin}
 use Rattle.core_terms.specs.declared.stop.Stop.{Stop}
 use Rattle.core_terms.specs.declared.stop.Stop.TheVariants.{Deep}
 use Rattle.core_terms.proofs.Answers.{Answers, and_next-has}
@@ -29,7 +28,7 @@ use Rattle.case_trees.specs.Problems.{Member, member_of, problem_of, type_of_var
 use Rattle.case_trees.specs.Standing.{Runs}
 use Rattle.case_trees.specs.Stops.{TreeStop}
 use Rattle.case_trees.proofs.Answered.{Holds}
-use Rattle.case_trees.proofs.Running.{AllRun, HasRun, IsNotStuck, RunHas, all-run}
+use Rattle.case_trees.proofs.Running.{AllRun, IsNotStuck, RunHas, all-run}
 use Rattle.case_trees.proofs.ScopedPoints.{all-under-scoped, built-parts, under-scoped}
 use Rattle.case_trees.proofs.ScopedProblems.{member-in, problem-scoped, type_of-scoped}
 use Rattle.clause_reports.specs.ProofWalks.{Place, Proof, Ends, Splits, Proofs, nil, cons, Branching, Splitting, Walking, at_head, at_member, at_other, at_split, at_variable, bounded_place, enter_branch, looked_again, moved_place, no_splitting, or_halted, solved_branch, solved_branches, split_variable, stuck_at, take_branch, value_at, walk_tree, with_runs}

@@ -1,7 +1,32 @@
-//! Where the report of a clause is made as is meant.
+//! Where the report of a clause, and a function by clauses, are made as is meant.
+ghost use Rattle.report_laws.specs.Functions.{FunctionIsMeant, PlanReports};
 ghost use Rattle.report_laws.specs.Laws.{ReportIsMade};
+
+use draft_checks::laws::unmarked_is_open;
+use drafts_in_turn::laws::function_enters_in_turn;
+use made_functions::laws::lines_are_reported;
+use plan_laws::laws::{plan_is_made, plan_is_of_function, plan_is_planned};
 
 /// The report of a clause is made with each refusal that is meant, and with the same units.
 pub fn report_is_made()
     ensures { ReportIsMade }
 {}
+
+/// The clauses of a resolved function are reported as is meant, once its entries have entered.
+pub fn plan_reports()
+    ensures { PlanReports }
+{
+    plan_is_of_function();
+    plan_is_planned();
+    unmarked_is_open();
+    lines_are_reported();
+}
+
+/// So the function that the code makes is the one that is meant.
+pub fn function_is_meant()
+    ensures { FunctionIsMeant }
+{
+    plan_is_made();
+    function_enters_in_turn();
+    plan_reports();
+}
