@@ -43,7 +43,7 @@ use Rattle.run_laws.proofs.AnsweredNames.{run_names-answer}
 use Rattle.run_laws.proofs.AnsweredSplits.{IsSplitOver, branch-run, branch-there, method-low, split-low, type-low, whole-member, whole_of}
 use Rattle.run_laws.proofs.MadeSplits.{split_names-are_these}
 use Rattle.function_entries.specs.CodeTrees.{branches_names_made, names_at_split, next_made, node_after, tree_names_made}
-use Rattle.entry_laws.proofs.SameNames.{IsLikeNode, like-long, next-like}
+use Rattle.entry_laws.proofs.SameNames.{IsLikeNode, like-long, next-like as next-alike}
 use Rattle.translation_laws.proofs.AnsweredTrees.{AreFrom, at_signature, ends_from, from-first, from-next, low-after, methods_from, node_from, run-ends, run-goes, solved-branch, split-over}
 
 -- ---- what such nodes have in common
@@ -187,7 +187,7 @@ next-like : (w : Translation) (a b : Node) (x : ℕ) (m : Member) (number : ℕ)
 next-like w a b x m number steps h =
     transport (λ n. IsLikeNode (next_node w.signature a (variable_in a x) number steps (Some n)) (node_from w b x m number steps)) (whole-same a b m h)
     (transport (λ y. IsLikeNode (next_node w.signature a y number steps (Some (whole_of b m))) (node_from w b x m number steps)) (variable-same a b x h)
-    (next-like w.signature a b (variable_in b x) number steps (Some (whole_of b m)) h))
+    (next-alike w.signature a b (variable_in b x) number steps (Some (whole_of b m)) h))
 
 -- the standing of a branch whose method is not too high at the other node
 standing-low : (w : Translation) (p : Point) (a b : Node) (x : ℕ) (type : Term) (m : Member) (number : ℕ) (c : Constructor) (cs : List Constructor)
