@@ -25,7 +25,7 @@ returns-then-not-asks_for_source-clause-complete g c = λ source sink memory.
 pub returns-in-Ok-clause-runs : goal.returns-in-Ok-clause-runs
 returns-in-Ok-clause-runs g c = record {
   bytes = c.in-Ok.ensures.bytes.0;
-  written = c.in-Ok.ensures.bytes.1;
+  known = c.in-Ok.ensures.bytes.1;
   wrote = c.answer.ensures.wrote _ c.in-Ok.ensures.bytes.2;
 }
 
