@@ -1,0 +1,4 @@
+//! Each declaration of a session is made as is meant.
+#![tactic(auto)]
+
+pub mod laws;
