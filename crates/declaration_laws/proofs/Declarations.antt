@@ -12,7 +12,6 @@ use Rattle.function_lines.proofs.Provisional.{provisional-over}
 use Rattle.plan_laws.specs.MadePlans.{BeginsAlwaysClosed}
 use Rattle.report_laws.specs.Functions.{FunctionIsMeant}
 use Rattle.report_laws.proofs.FunctionReports.{ready-of}
-use Rattle.elab_session.specs.Sessions.{IsReady}
 use Rattle.function_session.specs.Elaborating.{enter_function, on_function, on_lines}
 use Rattle.function_session.proofs.Written.{function-scoped}
 use Rattle.declaration_laws.specs.Laws.{DeclarationIsMeant, DeclaredFunctionIsMeant}

@@ -30,3 +30,13 @@ abbrev pub DeclarationIsMeant : Type 0
 DeclarationIsMeant =
     (S : Signature) (fuel : ℕ) (d : surf.Decl) → IsReady S → unmarked S ≡ true → RecursionBeginsClosed S d →
     elaborate_of S fuel d ≡ elaborate_meant S fuel d
+
+-- the declaration is of no family
+abbrev pub IsNoData : surf.Decl → Type 0
+IsNoData (surf.Data x params ty cons) = ⊥
+IsNoData d = Unit {0}
+
+-- A declaration of another form than a family leaves such a signature: the names of families and constructors hold no `!`.
+abbrev pub DeclarationStaysUnmarked : Type 0
+DeclarationStaysUnmarked =
+    (S : Signature) (fuel : ℕ) (d : surf.Decl) → IsNoData d → unmarked S ≡ true → IfOk (elaborate_of S fuel d) (λ a. unmarked a.signature ≡ true)

@@ -1,5 +1,5 @@
 //! Each declaration of a session is made as is meant.
-ghost use Rattle.declaration_laws.specs.Laws.{DeclarationIsMeant, DeclaredFunctionIsMeant};
+ghost use Rattle.declaration_laws.specs.Laws.{DeclarationIsMeant, DeclarationStaysUnmarked, DeclaredFunctionIsMeant};
 
 use report_laws::laws::function_is_meant;
 
@@ -16,3 +16,8 @@ pub fn declaration_is_meant()
 {
     declared_function_is_meant();
 }
+
+/// No definition and no function adds a family or constructor whose name holds a `!`.
+pub fn declaration_stays_unmarked()
+    ensures { DeclarationStaysUnmarked }
+{}
