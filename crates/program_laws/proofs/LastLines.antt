@@ -17,7 +17,6 @@ use Rattle.elim_program.specs.declared.status.Status.TheVariants as status
 use Rattle.elim_program.specs.ClauseTexts.{clause_lines}
 use Rattle.elim_program.specs.DefinedOutputs.{refused_words, compiles, verifies, works}
 use Rattle.elim_program.specs.FunctionRefusals as function
-use Rattle.elim_program.specs.declared.counts.Counts.{Counts}
 use Rattle.elim_program.specs.Outputs.{Block, block, lines_after, accepted_line, declared_name, refused_lines, declared_block, after, followed, declarations, text_block, head_lines, compiled}
 use Rattle.elim_program.specs.Refusals.{stop_text, refusal_line, refusal_text}
 use Rattle.elim_program.specs.Texts.{limited}
@@ -149,11 +148,19 @@ refused-whole : (text : List ℕ) → IsToldBy (block ((codes "# refused " ++ te
 unfolding IsToldBy
 refused-whole text = inr (stop-told text)
 
-worked-told : (n fuel : ℕ) (S : Signature) (ds : List Decl) (c : Counts) → Ends (worked_block n (worked fuel S ds c)).lines (worked_block n (worked fuel S ds c)).refused
+-- the type of a value
+abbrev type-of : {A : Type 0} → A → Type 0
+type-of {A} a = A
+
+-- the counts of what is accepted
+abbrev Counted : Type 0
+Counted = type-of none_counted
+
+worked-told : (n fuel : ℕ) (S : Signature) (ds : List Decl) (c : Counted) → Ends (worked_block n (worked fuel S ds c)).lines (worked_block n (worked fuel S ds c)).refused
 worked-told n fuel S [] c = one (summary_line n c) false (refl, refl)
 worked-told n fuel S (d ∷ ds) c = by (λ T more. worked-told n fuel T ds more) (elaborate_of S fuel d)
   where
-    by : ((T : Signature) (more : Counts) → Ends (worked_block n (worked fuel T ds more)).lines (worked_block n (worked fuel T ds more)).refused) → (r : Result Elaborated Refused)
+    by : ((T : Signature) (more : Counted) → Ends (worked_block n (worked fuel T ds more)).lines (worked_block n (worked fuel T ds more)).refused) → (r : Result Elaborated Refused)
         → Ends (worked_block n (on_worked d r (λ a. worked fuel a.signature ds (with_accepted c a)))).lines (worked_block n (on_worked d r (λ a. worked fuel a.signature ds (with_accepted c a)))).refused
     by rec (Ok a) = rec a.signature (with_accepted c a)
     by rec (Err e) = refused-told (declared_name d) e

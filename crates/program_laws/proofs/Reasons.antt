@@ -13,20 +13,8 @@ use Rattle.elaboration.specs.Functions.{Lines}
 use Rattle.elaboration.specs.Refusals as function
 use Rattle.function_lines.specs.FunctionMade.{function_made}
 use Rattle.function_session.specs.Elaborating.{elaborate_of, enter_function, on_function, on_lines, refused_function, without_lines}
-use Rattle.elim_program.specs.Refusals.{stop_text, refusal_text}
-use Rattle.elim_program.specs.declared.text_stop.TextStop.{TextStop}
-use Rattle.elim_program.specs.declared.text_stop.TextStop.TheVariants as stop
+use Rattle.elim_program.specs.Refusals.{refusal_text}
 use Rattle.program_laws.specs.Laws.{HasReason, ReasonsAreGiven}
-
-stop-given : (e : TextStop) → 0 < length (stop_text e)
-stop-given stop.Memory = omega arith
-stop-given stop.TooLong = omega arith
-stop-given (stop.NotUtf8 offset) = omega arith
-stop-given (stop.BadToken offset) = omega arith
-stop-given (stop.NotYet offset) = omega arith
-stop-given (stop.Nested offset) = omega arith
-stop-given (stop.Syntax offset) = omega arith
-stop-given (stop.NotCoreText offset) = omega arith
 
 refusal-given : (e : Refusal) → 0 < length (refusal_text e)
 refusal-given refusal.Memory = omega arith
@@ -77,4 +65,4 @@ declaration-given S fuel (surf.Mutual params members family tag tags) = plain-gi
 declaration-given S fuel (surf.Fun x ty clauses) = resolved-given S x fuel (resolve.function S x ty clauses)
 
 pub reasons-given : ReasonsAreGiven
-reasons-given = (stop-given, refusal-given, declaration-given)
+reasons-given = (refusal-given, declaration-given)

@@ -16,7 +16,6 @@ use Rattle.elim_program.specs.Refusals as refusals
 use Rattle.elim_program.specs.Texts.{Gives}
 use Rattle.elim_program.specs.Unbuilt.{unbuilt}
 use Rattle.elim_program.specs.VerifyHeadline.{IsVerified}
-use Rattle.elim_program.specs.declared.text_stop.TextStop.{TextStop}
 use Rattle.program_laws.specs.Answers.{SaysOf}
 use Rattle.program_laws.specs.CoreFiles.{IsCoreFile, IsWritable}
 use Rattle.program_laws.specs.LastLines.{last_line, status_by}
@@ -44,10 +43,10 @@ abbrev pub HasReason : Refused → Type 0
 HasReason (Declaration e) = 0 < length (refusals.refusal_text e)
 HasReason (Function e) = 0 < length (functions.refusal_text e)
 
--- Each line that is defined for a refusal has a reason: of a text, of an entry of a core file, of a declaration.
+-- Each line that is defined for a refusal has a reason: of an entry of a core file, of a declaration.
 abbrev pub ReasonsAreGiven : Type 0
 ReasonsAreGiven =
-    ((e : TextStop) → 0 < length (refusals.stop_text e)) × ((e : Refusal) → 0 < length (refusals.refusal_text e))
+    ((e : Refusal) → 0 < length (refusals.refusal_text e))
     × ((S : Signature) (fuel : ℕ) (d : Decl) → IfErr (elaborate_of S fuel d) HasReason)
 
 -- Where the words do not ask for K, no line above the one that accepts a declaration is that of an instance of K, and no
