@@ -28,7 +28,6 @@ use Rattle.elim_program.specs.Texts.{Answer, Gives}
 use Rattle.elim_program.specs.Verifies.{verified_line}
 use Rattle.elim_program.specs.Words.{asked}
 use Rattle.elim_program.specs.declared.status.Status.TheVariants as status
-use Rattle.elim_program.specs.declared.words.Command.{Command}
 use Rattle.elim_program.proofs.Accepted.{own-core}
 use Rattle.elim_program.proofs.Lines.{core-lines-append}
 use Rattle.elim_program.proofs.OneOutput.{not-both-asked, same-command, work-no-compile}
@@ -37,7 +36,7 @@ use Rattle.program_laws.specs.CoreFiles.{IsCoreFile, IsWritable}
 use Rattle.program_laws.proofs.CoreFiles.{core-file}
 use Rattle.program_laws.proofs.Writable.{in-turn}
 use Rattle.writing_laws.proofs.Writables.{accepted-writable}
-use Rattle.verified_laws.specs.Laws.{CompiledIsVerified, IsFileOf, IsVerifiedWhole, signature_after}
+use Rattle.verified_laws.specs.Laws.{CompiledIsVerified, Flags, IsFileOf, IsVerifiedWhole, signature_after}
 use Rattle.verified_laws.proofs.CoreFiles.{each-named, output-verifies}
 use Rattle.verified_laws.proofs.LetIn.{same-k}
 use Rattle.verified_laws.proofs.Texts.{text-checked}
@@ -99,7 +98,7 @@ text-writable bytes fuel k ds gives accepted =
 -- ---- outputs with status `Done`
 
 -- the output for a text whose declarations are accepted
-record IsAcceptedWhole (bytes : List ℕ) (command : Command) (out : Output) : Type 0 where
+record IsAcceptedWhole (bytes : List ℕ) (command : Flags) (out : Output) : Type 0 where
   decls : List Decl
   gives : Gives bytes (Ok decls)
   accepted : (declarations command.fuel (prelude command.k) decls).refused ≡ false
@@ -109,7 +108,7 @@ done-is : (refused : Bool) → (if refused then status.Refused else status.Done)
 done-is true e = absurd (cc)
 done-is false e = refl
 
-by-answer : (bytes : List ℕ) (command : Command) (answer : Answer) → Gives bytes answer → (compiled command.k (text_block command answer)).status ≡ status.Done
+by-answer : (bytes : List ℕ) (command : Flags) (answer : Answer) → Gives bytes answer → (compiled command.k (text_block command answer)).status ≡ status.Done
     → IsAcceptedWhole bytes command (compiled command.k (text_block command answer))
 by-answer bytes command (Ok ds) gives done = record {
   decls = ds;
@@ -119,7 +118,7 @@ by-answer bytes command (Ok ds) gives done = record {
 }
 by-answer bytes command (Err e) gives done = absurd (cc)
 
-accepted-whole : (words : List (List ℕ)) (bytes : List ℕ) (command : Command) (out : Output) → asked words ≡ Some command → IsOutput words bytes out → out.status ≡ status.Done
+accepted-whole : (words : List (List ℕ)) (bytes : List ℕ) (command : Flags) (out : Output) → asked words ≡ Some command → IsOutput words bytes out → out.status ≡ status.Done
     → IsAcceptedWhole bytes command out
 accepted-whole words bytes command _ asks (refused_words nothing verify work) done = absurd (let e = sym nothing ∙ asks in cc)
 accepted-whole words bytes command out asks (compiles other answer is gives) done =

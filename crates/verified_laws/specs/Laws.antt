@@ -16,9 +16,8 @@ use Rattle.elim_program.specs.Outputs.{Output, after, block, compiled, declarati
 use Rattle.elim_program.specs.Texts.{Gives, limit}
 use Rattle.elim_program.specs.Verifies.{after_head, verified_line}
 use Rattle.elim_program.specs.VerifyHeadline.{Holds}
-use Rattle.elim_program.specs.Words.{asked, verify_asked}
+use Rattle.elim_program.specs.Words.{asked, command, default_fuel, verify_asked}
 use Rattle.elim_program.specs.declared.status.Status.TheVariants.{Done}
-use Rattle.elim_program.specs.declared.words.Command.{Command}
 
 -- the signature after declarations, each of which may spend `fuel` units
 abbrev pub signature_after : (fuel : ℕ) → Signature → List Decl → Signature
@@ -79,9 +78,17 @@ OutputVerifies =
     asked.fuel ≡ fuel → IsFileOf asked.k text (signature_after fuel (prelude k) ds) names
     → IsOutput words text (compiled asked.k (block (map verified_line names) false)))
 
+-- the type of a value
+abbrev pub type_of : {A : Type 0} → A → Type 0
+type_of {A} a = A
+
+-- what words ask for: axiom K or not, and the units of a declaration
+abbrev pub Flags : Type 0
+Flags = type_of (command false default_fuel)
+
 -- The output that is defined for the words on a text: status `Done`, the head lines, and one line for each entry that the declarations of
 -- `bytes` gave, in order.
-pub record IsVerifiedWhole (words : List (List ℕ)) (text : List ℕ) (command : Command) (bytes : List ℕ) : Type 0 where
+pub record IsVerifiedWhole (words : List (List ℕ)) (text : List ℕ) (command : Flags) (bytes : List ℕ) : Type 0 where
   pub decls : List Decl
   pub gives : Gives bytes (Ok decls)
   pub names : List (List ℕ)
@@ -92,5 +99,5 @@ pub record IsVerifiedWhole (words : List (List ℕ)) (text : List ℕ) (command 
 -- much fuel and as much of K, verifies each entry.
 abbrev pub CompiledIsVerified : Type 0
 CompiledIsVerified =
-    (words verifying : List (List ℕ)) (bytes : List ℕ) (command : Command) (out : Output) → asked words ≡ Some command → verify_asked verifying ≡ Some command
+    (words verifying : List (List ℕ)) (bytes : List ℕ) (command : Flags) (out : Output) → asked words ≡ Some command → verify_asked verifying ≡ Some command
     → IsOutput words bytes out → out.status ≡ Done → length (text_of out.lines) ≤ limit → IsVerifiedWhole verifying (text_of out.lines) command bytes
