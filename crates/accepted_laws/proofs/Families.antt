@@ -33,7 +33,7 @@ abbrev first_term : List Term → Term
 first_term [] = Sort 0
 first_term (x ∷ xs) = x
 
--- what stands after the same products is the same
+-- what comes after the same products is the same
 same-end : (tele : Telescope) (a b : Term) → products tele a ≡ products tele b → a ≡ b
 same-end [] a b e = e
 same-end (t ∷ tele) a b e = same-end tele a b (ap codomain e)

@@ -113,7 +113,7 @@ not_within-draft q depth x y is named low hx hy =
 
 -- ---- direct arguments
 
--- the argument and its hypothesis stand before the depth
+-- the argument and its hypothesis come before the depth
 abbrev pub IsBelow : ℕ → Direct → Type 0
 IsBelow depth d = (d.argument < depth) × (d.hypothesis < depth)
 

@@ -21,7 +21,7 @@ use Rattle.core_sig.specs.FamilyShapes.{argument_shapes}
 use Rattle.core_sig.specs.Shapes.{recursive_count}
 use Rattle.case_below_gen.specs.CourseLaws.{HasTargets}
 
--- two recursors do the same at all indices and scrutinees, wherever they stand
+-- two recursors do the same at all indices and scrutinees, wherever they are
 abbrev pub Agree : (S : Signature) (k : ℕ) (A R : Term) → Type 0
 Agree S k A R = (r : ℕ → ℕ) (js : List Term) (y : Term) → length js ≡ k → Converts S (App (applied (ren r A) js) y) (App (applied (ren r R) js) y)
 

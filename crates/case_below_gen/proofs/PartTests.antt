@@ -1,4 +1,4 @@
--- The test for strict parts tells what the relation says.
+-- The test for strict parts says what the relation says.
 use native.Mathlib.Decide.{ℕ_discrete}
 use Rattle.std.proofs.Common.{◌≡◌, ◌≢◌, ◌⊎◌, ℕ, zero, suc, ◌+◌, ◌<◌, ◌≤◌, Bool, true, false, ◌&&◌, ◌||◌, ◌==◌, IsTrue, if◌then◌else◌, List, [], ◌∷◌, ◌++◌, length, Option, Some, None, option_map, slice_get, inl, inr, refl, ap, ap₂, sym, ◌∙◌, subst, arith}
 use Rattle.std.specs.Prelude.{option_and_then, ◌↔◌}
@@ -149,7 +149,7 @@ whole-found n f t number c head known whole =
 
 -- ---- along a spine
 
--- argument `at` of those that stand in a spine t has the part
+-- argument `at` of those that are in a spine t has the part
 record HasAt (n : ℕ) (f : Family) (part : Term) (arguments : List ArgumentShape) (at : ℕ) (t : Term) : Type 0 where
   place : ℕ
   r : Term
@@ -217,7 +217,7 @@ argument-low (App g a) r place at = elim (slice_get-pushed (spine_of g) a place 
 ]
 argument-low _ r place at = absurd (none-some r at)
 
--- ---- the test tells, and finds
+-- ---- the test says, and finds
 
 -- what is known of each argument
 abbrev Known : (n : ℕ) (f : Family) (part t : Term) → Type 0

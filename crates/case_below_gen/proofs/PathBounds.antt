@@ -1,4 +1,4 @@
--- Bounds of paths: their free variables and heights, and how many arguments stand in a term.
+-- Bounds of paths: their free variables and heights, and how many arguments are in a term.
 use Rattle.std.proofs.Common.{◌≡◌, ℕ, zero, suc, ◌+◌, ◌-◌, ◌<◌, ◌≤◌, Bool, true, false, ◌==◌, if◌then◌else◌, List, [], ◌∷◌, ◌++◌, map, length, take, drop, Option, Some, None, option_map, slice_get, Result, Ok, Err, ◌&&◌, All, refl, ap, sym, ◌∙◌, subst, append_assoc, arith}
 use Rattle.std.specs.Prelude.{option_and_then, ◌↔◌, IfOk}
 use Rattle.std.proofs.lemmas.Bool.{false≢true}

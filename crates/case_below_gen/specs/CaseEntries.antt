@@ -1,5 +1,5 @@
 -- Case analysis (McBride, Goguen and McKinna, "A few constructions on constructors", 2006): `D!case.m` is the eliminator
--- without hypotheses. Variables stand by level: the parameters have the levels from 0 on.
+-- without hypotheses. Variables are by level: the parameters have the levels from 0 on.
 use Rattle.std.specs.Prelude.{ℕ, ◌+◌, List, [], ◌∷◌, length, Result, codes}
 use Rattle.theory.specs.Terms.{Term, App, Elim}
 use Rattle.theory.specs.Telescopes.{Telescope, products, functions, applied}

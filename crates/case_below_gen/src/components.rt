@@ -70,7 +70,7 @@ fn at_inner(alloc: Global, depth: u32, level: u32, start: u32) -> Result<Term, S
     applied_to_run(alloc, variable(depth, level), depth, start, inner)
 }
 
-/// Where a component stands: the levels of its argument, of its first inner argument and of its hypothesis.
+/// Where a component is: the levels of its argument, of its first inner argument and of its hypothesis.
 #[derive(Clone, Copy)]
 struct Site {
     argument: u32,

@@ -37,7 +37,7 @@ pub fn has_part(fam: u32, f: &Family, part: &Term, t: &Term) -> bool
     }
 }
 
-/// Whether `part` is a strict part among the first `at` arguments of a constructor, of which those that stand in `t` are the
+/// Whether `part` is a strict part among the first `at` arguments of a constructor, of which those that are in `t` are the
 /// last.
 #[cycle(has_part)]
 pub fn has_part_along(fam: u32, f: &Family, part: &Term, args: &[Arg], at: usize, t: &Term) -> bool

@@ -1,4 +1,4 @@
--- What holds of answers and refusals, and of the units after them, where calls stand one after the other.
+-- What holds of answers and refusals, and of the units after them, where calls are one after the other.
 use Rattle.std.proofs.Common.{ℕ, ◌≤◌, Result, Ok, Err, IfOk, arith}
 use Rattle.core_terms.specs.Answers.{SpentOr, and_next, on_answer}
 use Rattle.case_trees.specs.Stops.{TreeStop, Stopping}

@@ -1,4 +1,4 @@
--- Where a clause clashes, and that what is told of it is scoped.
+-- Where a clause clashes, and that what is said of it is scoped.
 use Rattle.std.proofs.Common.{◌≡◌, ℕ, Option, Some, None, List, ◌∷◌, All, ap, sym, ◌∙◌, refl, subst as transport, arith}
 use Rattle.std.proofs.lemmas.List.Elements.{All-head, All-tail}
 use Rattle.theory.specs.Terms.{Term, Con}
@@ -23,7 +23,7 @@ use Rattle.case_trees.proofs.ScopedPoints.{built-parts}
 use Rattle.case_trees.proofs.Shapes as shape
 use Rattle.case_trees.proofs.Shapes.{IsClash, HasShape, HaveShapes}
 
--- the pattern and the term of a clash are told as the constructors u and v
+-- the pattern and the term of a clash are given as the constructors u and v
 pub record IsTold (S : Signature) (clash : Pat × Term) (u v : Term) : Type 0 where
   pub told : (clause : ℕ) (context : Telescope) → clashing S clause context clash.0 (built_of S clash.1) ≡ stop.Impossible clause context u v
 
@@ -33,7 +33,7 @@ record HasClash (S : Signature) (pat : Pat) (t : Term) (clash : Pat × Term) : T
   place : ClashAt S pat t u v
   told : IsTold S clash u v
 
--- the clause clashes with the terms, as it is told
+-- the clause clashes with the terms, as it is given
 pub record HaveClash (S : Signature) (pats : Pats) (terms : List Term) (clash : Pat × Term) : Type 0 where
   pub u : Term
   pub v : Term

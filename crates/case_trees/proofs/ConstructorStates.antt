@@ -53,7 +53,7 @@ left-has S n number level s h =
     transport (λ k. HasConstructor S k number h.last.left) h.family
     (transport (λ k. HasConstructor S h.built.n k h.last.left) h.constructor (built-has S h.last.left h.built h.left))
 
--- an equation of the state is the last one, or stands before it
+-- an equation of the state is the last one, or comes before it
 pub standing : (S : Signature) (n number level : ℕ) (s : State) (h : AwaitsConstructor S n number level s) (k : ℕ) (e : Equation) → slice_get s.equations k ≡ Some e
     → (k + 1 ≤ length h.before) ⊎ (h.last ≡ e)
 standing S n number level s h k e at =

@@ -21,7 +21,7 @@ suc_pattern pat = Con 46 1 (vector (pat ∷ []))
 abbrev pair_pattern : (first second : Pat) → Pat
 pair_pattern first second = Con 52 0 (vector (first ∷ second ∷ []))
 
--- a pair whose first part, twice zero, is the pair of up zero and up zero: it is 4 high then, and stands 2 deep
+-- a pair whose first part, twice zero, is the pair of up zero and up zero: it is 4 high then, and is 2 deep
 abbrev work : (room : ℕ) → Pat → ℕ → Spent Pair
 work room pat left = work_pattern (sample false) room pat (pair_term (twice zero_term) zero_term) left
 

@@ -24,7 +24,7 @@ not-equal a b other = by (a == b) refl
     by true e = absurd (other (eqb-true a b e))
     by false e = refl
 
--- in levels that rise each one stands at its own place
+-- in levels that rise each one is at its own place
 place-own : (n : ℕ) (levels : List ℕ) (k j : ℕ) → IsFrom n levels → slice_get levels k ≡ Some j → place_in levels j ≡ k
 place-own n [] k j from e = absurd (grind arith)
 place-own n (t ∷ levels) zero j from e = ap (λ test. cond test zero (place_in levels j + 1)) (eq-eqb t j (some_is e))
@@ -100,7 +100,7 @@ without-among out (t ∷ levels) j h = by (is_among t out) refl (without-among o
             (transport (λ i. is_among i (t ∷ levels) ≡ true) same (among-own t levels), transport (λ i. is_among i out ≡ false) same e)
         either_way (inr later) = let (there, not_out) = rest later in (among-later j t levels there, not_out)
 
--- the variable at a place of the order is another one than that which is solved, and stands at that place alone
+-- the variable at a place of the order is another one than that which is solved, and is at that place alone
 pub order-own : (context : Telescope) (p k j : ℕ) → p < length context → slice_get (order_without context p) k ≡ Some j
     → (place_in (order_without context p) j ≡ k) × ((j < length context) × (j ≡ p → ⊥))
 order-own context p k j less e = by (split-place kept moved k j e)

@@ -27,7 +27,7 @@ pub record AreOrigins (n m : ℕ) (solution : List Term) (origins : List Origin)
   pub count : length origins ≡ m
   pub each : (k : ℕ) (o : Origin) → slice_get origins k ≡ Some o → slice_get solution (origin_level n o) ≡ Some (Var (m - (k + 1)))
 
--- a variable that is not solved stands at its place in the new order
+-- a variable that is not solved is at its place in the new order
 put-other : (context : Telescope) (p k j : ℕ) (u : Term) → p < length context → slice_get (order_without context p) k ≡ Some j
     → put (solved (length context) (order_without context p) p u) (length context) (length (order_without context p)) (Var (length context - (j + 1)))
     ≡ Var (length (order_without context p) - (k + 1))

@@ -1,4 +1,4 @@
--- Trees of small functions, as they are worked by hand. Contexts, terms and units are told whole.
+-- Trees of small functions, as they are worked by hand. Contexts, terms and units are given whole.
 use native.Mathlib.Decide.{ℕ_discrete}
 use Rattle.std.proofs.Common.{◌≡◌, ℕ, false, Ok, Err, List, [], ◌∷◌, refl}
 use Rattle.theory.specs.Terms.{Term}
@@ -132,7 +132,7 @@ dropped = refl
 -- ---- what clauses were compared with stays in the terms
 
 -- f _ v, f zero _, f n (u zero): after u the second clause is compared with `up k`, for two units. The third one binds `up k` as
--- it stands, and leaves the vector that is shown.
+-- it is, and leaves the vector that is shown.
 kept : split_of (sample false) (Nat ∷ U (Var 0) ∷ []) Nat (Var 1 ∷ Var 0 ∷ [])
     (clauses
     (a_clause (Wild ∷ Con 51 1 (vector []) ∷ []) 0
@@ -143,7 +143,7 @@ kept : split_of (sample false) (Nat ∷ U (Var 0) ∷ []) Nat (Var 1 ∷ Var 0 �
 unfolding native.Mathlib.Decide.ℕ_discrete sample
 kept = refl
 
--- the same with u _ in the third clause: its leaf has the terms as they were compared, and the binding as it stands
+-- the same with u _ in the third clause: its leaf has the terms as they were compared, and the binding as it is
 bound_as_it_stands : split_of (sample false) (Nat ∷ U (Var 0) ∷ []) Nat (Var 1 ∷ Var 0 ∷ [])
     (clauses
     (a_clause (Wild ∷ Con 51 1 (vector []) ∷ []) 0
@@ -187,7 +187,7 @@ stuck : split_of (sample false) (Q zero_term ∷ []) Nat (Var 0 ∷ []) (clauses
 unfolding native.Mathlib.Decide.ℕ_discrete sample
 stuck = refl
 
--- The first clause is the one that is told: after zero the second one asks for q0 k at Q zero.
+-- The first clause is the one that is reported: after zero the second one asks for q0 k at Q zero.
 stuck_later : split_of (sample false) (Nat ∷ Q (Var 0) ∷ []) Nat (Var 1 ∷ Var 0 ∷ [])
     (clauses
     (a_clause (suc_pattern Wild ∷ Wild ∷ []) 0

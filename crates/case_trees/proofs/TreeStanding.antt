@@ -1,4 +1,4 @@
--- A tree stands over its start: it is one of the split rule.
+-- A tree is over its start: it is one of the split rule.
 use Rattle.std.proofs.Common.{◌≡◌, ℕ, zero, suc, ◌+◌, ◌==◌, Bool, true, false, ◌&&◌, cond, Some, None, Result, Ok, Err, IfOk, List, [], ◌∷◌, length, map, slice_get, refl, sym, ap, ap₂, ◌∙◌, subst as transport, arith}
 use Rattle.std.proofs.lemmas.List.Elements.{All-take}
 use Rattle.std.proofs.lemmas.Bool.{eqb-true}
@@ -179,7 +179,7 @@ solved-ready S start clauses p live x found number c steps context solution read
 
 -- ---- branches
 
--- what stands over the point, whatever its terms were before they were compared
+-- what is over the point, whatever its terms were before they were compared
 abbrev StandsFor : Signature → (start : Point) → Clauses → Point → Tree → Type 0
 StandsFor S start clauses p t =
     ((ts : List Term) → EachConverts S ts p.terms → StandsAt S (record p { terms = ts }) t)

@@ -47,7 +47,7 @@ use Rattle.case_trees.proofs.WalkTurns.{Claims, Turns, keeping-holds, walk-holds
 use Rattle.case_trees.proofs.WalkLooks.{LookedAt, IsOther, Outcomes, look-holds}
 use Rattle.case_trees.proofs.WalkStanding.{IsStanding, IsSplit, standing-start, standing-kept, standing-moved, looked-split, tidied-form, tidied-scoped, no-variable, head-form-of, type-there, problem-outcome, IsOpenIn, all-open-in}
 
--- the walk stands at a point, and is matched there or absurd
+-- the walk is at a point, and is matched there or absurd
 pub record IsEnd (S : Signature) (start : Point) (pats : Pats) (w : Walk) : Type 0 where
   pub stands : IsWalkAt S start w
   pub ends : IsWalkEnd S pats w

@@ -1,4 +1,4 @@
--- Own walks of clauses, as they are worked by hand. What is refused has its data, and the units are told.
+-- Own walks of clauses, as they are worked by hand. What is refused has its data, and the units are given.
 use native.Mathlib.Decide.{ℕ_discrete}
 use Rattle.std.proofs.Common.{◌≡◌, ℕ, false, true, Ok, Err, List, [], ◌∷◌, refl}
 use Rattle.theory.specs.Terms.{Term}
@@ -82,7 +82,7 @@ forced_last : walk (Pi Nat Nat ∷ Nat ∷ []) (App (Var 1) (Var 0) ∷ Var 0 �
 unfolding native.Mathlib.Decide.ℕ_discrete sample
 forced_last = refl
 
--- ( ) where there are constructors: the first one is told
+-- ( ) where there are constructors: the first one is reported
 not_absurd : walk (Boolean ∷ []) (Var 0 ∷ []) (pattern.Absurd ∷ []) 0 10 ≡ answers (Err (NotAbsurd 0 49 0)) 10
 unfolding native.Mathlib.Decide.ℕ_discrete sample
 not_absurd = refl
@@ -146,7 +146,7 @@ unbound : walk (Nat ∷ Vec Nat (pred (Var 0)) ∷ Nat ∷ Nat ∷ Fam 0 ∷ [])
 unfolding native.Mathlib.Decide.ℕ_discrete sample
 unbound = refl
 
--- a constructor that is stuck wins over an earlier one that can be there, and else the first one is told
+-- a constructor that is stuck wins over an earlier one that can be there, and else the first one is reported
 stuck_wins : walk (Q zero_term ∷ []) (Var 0 ∷ []) (pattern.Absurd ∷ []) 0 10
     ≡ answers (Err (Stuck 0 (Q zero_term ∷ Nat ∷ []) (pred (Var 0)) zero_term NotRigid)) 9
 unfolding native.Mathlib.Decide.ℕ_discrete sample

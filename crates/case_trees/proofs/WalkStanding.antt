@@ -100,7 +100,7 @@ mutual
       (some-open S pats pairs shapes worked)
   pair-open S _ _ (shape.apart pat t far) worked = tt
 
-  -- an open pair stands at its place in the terms
+  -- an open pair is at its place in the terms
   some-open : (S : Signature) (pats : Pats) (pairs : Pairs) → HaveShapes S pats pairs → AreWorked S pairs
       → AllPairs (λ o. SomeOpenAt S pats (terms_in pairs) o.0 o.1) (all_open pairs)
   some-open S _ _ shape.none worked = tt

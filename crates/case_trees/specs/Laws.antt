@@ -136,7 +136,7 @@ TreeStopScoped =
     IsGiven S context goal terms → AreClausesFor S terms clauses → (split_of S context goal terms clauses left).0 ≡ Err e →
     IsScopedStop S e
 
--- ---- where walks and trees stand
+-- ---- where walks and trees are
 
 -- A walk ends at a point that splits lead to, with its terms as far as they were compared.
 pub record IsWalkAt (S : Signature) (start : Point) (w : Walk) : Type 0 where
@@ -151,7 +151,7 @@ abbrev pub WalkStands : Type 0
 WalkStands = OfWalk (λ S start number pats w. IsWalkAt S start w)
 
 -- A tree is one of the split rule: each split has one branch for each constructor, in order; an absurd branch is the end of a run,
--- and a solved one stands over the solution of one.
+-- and a solved one is over the solution of one.
 abbrev pub TreeStands : Type 0
 TreeStands = OfTree (λ S start clauses t. StandsAt S start t)
 

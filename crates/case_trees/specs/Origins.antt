@@ -11,7 +11,7 @@ use Rattle.tele_eq.specs.Items.{each_position}
 use Rattle.unification.specs.Occurrences.{order_without}
 use Rattle.unification.specs.Solving.{solved, new_context}
 
--- n variables of the context that is split, and then so many arguments of a constructor: a variable is told by its number, and an
+-- n variables of the context that is split, and then so many arguments of a constructor: a variable is named by its number, and an
 -- argument by its place
 abbrev pub first_origins : (n count : ℕ) → List Origin
 first_origins n count = each_position (λ j. Old (n - (j + 1))) 0 n ++ each_position (λ j. Arg j) 0 count

@@ -23,7 +23,7 @@ use Rattle.case_trees.specs.Stops as stop
 use Rattle.case_trees.specs.Stops.{TreeStop, Stopping, or_halts, halting, answers}
 use Rattle.case_trees.specs.Looking.{Look, Found, Passed, Looked, look_at_type, first_found, Ran, run_all}
 
--- a walk goes on in a new state, or ends as it stands, at an absurd pattern
+-- a walk goes on in a new state, or ends as it is, at an absurd pattern
 pub data Turn : Type 0 where
   Goes : Point → Pairs → Turn
   Ends : Turn

@@ -1,4 +1,4 @@
--- The terms at which the variables and the dots of patterns stand.
+-- The terms at which the variables and the dots of patterns are.
 use Rattle.std.specs.Prelude.{ℕ, zero, suc, Option, Some, None, List, [], ◌∷◌, ◌++◌, map}
 use Rattle.theory.specs.Terms.{Term}
 use Rattle.theory.specs.Signatures.{Signature}
@@ -16,7 +16,7 @@ in_arguments find else_found None = else_found
 in_arguments find else_found (Some b) = find b.arguments
 
 abbrev mutual
-  -- The term at each variable of a pattern. Below a constructor pattern that has no constructor there is none, and `Type 0` stands
+  -- The term at each variable of a pattern. Below a constructor pattern that has no constructor there is none, and `Type 0` is
   -- for each.
   pub variable_places : Signature → Pat → Term → List Term
   variable_places S pattern.Bind t = t ∷ []

@@ -38,7 +38,7 @@ abbrev pub type_of_variable : Telescope → (x : ℕ) → Term
 type_of_variable context x = lift (term_at context (length context - (x + 1))) (x + 1) 0
 
 -- The problem of constructor `number` for variable x of the type D ps is, in the context after which the constructor's arguments
--- Ac stand: us_c, c ps Ac and is, x in the telescope I, D ps I.
+-- Ac are: us_c, c ps Ac and is, x in the telescope I, D ps I.
 abbrev pub problem_of : Telescope → (x : ℕ) → Member → (number : ℕ) → Constructor → Problem
 problem_of context x m number c =
     let count = length c.arguments in

@@ -40,7 +40,7 @@ abbrev pub behind_solution : Point → Telescope → List Term → Point
 behind_solution p context solution = moved_point p context (solution_for p solution)
 
 mutual
-  -- A tree stands over a point. A leaf has its context, goal and substitution, and its terms up to conversion. A split is at one of
+  -- A tree is over a point. A leaf has its context, goal and substitution, and its terms up to conversion. A split is at one of
   -- its variables.
   pub data StandsAt (S : Signature) : Point → Tree → Type 0 where
     leaf : (p : Point) (number : ℕ) (terms binds : List Term) → EachConverts S p.terms terms
@@ -50,7 +50,7 @@ mutual
         → StandsAt S p (tree.Split p.context x m.n type branches)
 
   -- One branch for each constructor, in their order. An absurd one is the end of the constructor's run; after a solved one the
-  -- subtree stands over the point under the solution of the run.
+  -- subtree is over the point under the solution of the run.
   pub data BranchesAt (S : Signature) : Point → ℕ → Member → ℕ → List Constructor → Branches → Type 0 where
     none : (p : Point) (x : ℕ) (m : Member) (number : ℕ) → BranchesAt S p x m number [] tree.nil
     absurd : (p : Point) (x : ℕ) (m : Member) (number : ℕ) (c : Constructor) (constructors : List Constructor) (steps : List Step)

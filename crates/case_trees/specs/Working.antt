@@ -22,11 +22,11 @@ Rooms = ℕ → ℕ
 abbrev pub of_columns : Rooms
 of_columns count = most_height
 
--- and an argument stands as many applications deep as there are arguments from it on.
+-- and an argument is as many applications deep as there are arguments from it on.
 abbrev pub of_arguments : (room : ℕ) → Rooms
 of_arguments room count = room - count
 
--- A constructor is put where the term stands, or is Deep where it is too high there.
+-- A constructor is put where the term is, or is Deep where it is too high there.
 abbrev pub in_room : (room : ℕ) → Term → Option Built → Result Term Stop
 in_room room w None = Ok w
 in_room room w (Some b) = cond (nat_le (height w) room) (Ok w) (Err Deep)

@@ -81,7 +81,7 @@ pub fn leaves_lead()
     ensures { LeavesLead }
 {}
 
-/// A walk stands where solved problems lead to.
+/// A walk is where solved problems lead to.
 pub fn walk_stands()
     ensures { WalkStands }
 {}
@@ -91,7 +91,7 @@ pub fn walk_ends()
     ensures { WalkEnds }
 {}
 
-/// A split has one branch for each constructor, in order: an absurd one is the end of a run, a solved one stands over the solution of one.
+/// A split has one branch for each constructor, in order: an absurd one is the end of a run, a solved one is over the solution of one.
 pub fn tree_stands()
     ensures { TreeStands }
 {}

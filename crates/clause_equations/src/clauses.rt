@@ -18,7 +18,7 @@ use leaf_terms::{Part, Plan, Recursion, no_part, recursion_of};
 use std::alloc::Global;
 use unifier::variables;
 
-/// The equation of two sides where a clause stands.
+/// The equation of two sides where a clause is.
 fn equation_of_sides(alloc: Global, site: &Site, left: Term, right: Term) -> Result<Equation, Stop>
     ensures { Gives equation_of result (Ok (spec.equation_of_sides (site_of site.now) (tree_of left) (tree_of right))) }
 {
@@ -61,7 +61,7 @@ fn low_right(
     checked(right_side(alloc, sig, plan, r, side, site)?)
 }
 
-/// The equation of a clause of part k with these patterns and this right side where it stands, with the function's recursion, if there
+/// The equation of a clause of part k with these patterns and this right side where it is, with the function's recursion, if there
 /// is one, or Deep where a side of it is too high.
 pub fn equation_at(
     alloc: Global,

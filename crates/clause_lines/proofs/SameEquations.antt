@@ -1,4 +1,4 @@
--- The equation where a clause stands, with the recursion that is found, is that equation.
+-- The equation where a clause is, with the recursion that is found, is that equation.
 use Rattle.std.proofs.Common.{◌≡◌, ℕ, zero, suc, Ok, refl, sym, ap}
 use Rattle.theory.specs.Terms.{Term, Const}
 use Rattle.theory.specs.Signatures.{Signature}

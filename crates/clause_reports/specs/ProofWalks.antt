@@ -30,7 +30,7 @@ use Rattle.clause_reports.specs.Stops.{ReportStop, Reporting, Halts, Stuck, answ
 
 -- ---- places
 
--- Where the walk stands: a context, the equation there, the terms of the clause, and a term for each variable of the tree's node.
+-- Where the walk is: a context, the equation there, the terms of the clause, and a term for each variable of the tree's node.
 pub record Place : Type 0 where
   pub context : Telescope
   pub type : Term

@@ -8,7 +8,7 @@ use Rattle.core_terms.specs.Patterns as pattern
 use Rattle.core_terms.specs.Patterns.{Pat, Pats}
 
 -- `Shows S written pat t binds`: the term shows the pattern, whose variables have these terms, in the order of the text. A variable
--- has its binding, a dot is as it is written, `_` is any term, and a constructor stands at some parameters and at arguments that show.
+-- has its binding, a dot is as it is written, `_` is any term, and a constructor is at some parameters and at arguments that show.
 mutual
   pub data Shows (S : Signature) (written : Term → Term) : Pat → Term → List Term → Type 0 where
     binds : (t : Term) → Shows S written pattern.Bind t (t ∷ [])

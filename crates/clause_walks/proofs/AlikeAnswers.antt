@@ -1,4 +1,4 @@
--- Two calls that answer alike: their answers stand in a relation, and their refusals and units are the same.
+-- Two calls that answer alike: their answers are in a relation, and their refusals and units are the same.
 use Rattle.std.proofs.Common.{◌≡◌, ℕ, Bool, true, false, cond, Result, Ok, Err, IfOk, refl, ap, ap₂, subst as transport}
 use Rattle.core_terms.specs.Answers.{Spent, SpentOr, and_then, on_answer, and_next}
 use Rattle.core_terms.specs.declared.stop.Stop.{Stop}

@@ -1,4 +1,4 @@
--- Pairs that differ in the terms of wildcards alone, where each pair with a constructor stands at a shared term that is one: working
+-- Pairs that differ in the terms of wildcards alone, where each pair with a constructor is at a shared term that is one: working
 -- and keeping see no difference.
 use Rattle.std.proofs.Common.{◌≡◌, ℕ, Bool, true, false, ◌||◌, ◌&&◌, cond, Option, Some, None, option_map, Ok, List, [], ◌∷◌, ◌++◌, length, map, refl, sym, ap, ap₂, ◌∙◌, subst as transport, arith}
 use Rattle.theory.specs.Terms.{Term, Con}
@@ -306,7 +306,7 @@ mutual
   all-forget-on S _ _ (u ∷ us) (more pair other pairs others _ one all) h =
       more pair (forget other) pairs (forget_all others) (u ∷ us) (forget-on S pair other u one h.0) (all-forget-on S pairs others us all h.1)
 
-  -- wherever the pairs stood
+  -- wherever the pairs were
   beyond-on : (S : Signature) (pair other : Pair) (u : Option Term) → IsAlike S pair other u → IsAlike S pair (forget other) None
   beyond-on S _ _ u (same pair _) = beyond S pair
   beyond-on S _ _ u (passes t v _) = passes t _ None

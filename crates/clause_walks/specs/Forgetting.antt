@@ -33,7 +33,7 @@ forget_live (c ∷ live) = record { number = c.number; pairs = forget_all c.pair
 -- ---- pairs over shared terms
 
 abbrev mutual
-  -- A pair with a constructor stands at a shared term that is one, so that the pair's own term is never asked for again. A pattern that
+  -- A pair with a constructor is at a shared term that is one, so that the pair's own term is never asked for again. A pattern that
   -- waits has all arguments in its constructors.
   pub Covers : Signature → Pair → (u : Term) → Type 0
   Covers S (Waits pat t) u = IsWhole S pat

@@ -17,7 +17,7 @@ use crate::{Pair, Point};
 use core_terms::{Items, Stop, Tele, Term, Walk, copy_whole, inst};
 use std::alloc::Global;
 
-/// Whether a variable is free in a term of any height. It has the number `n` where the term stands.
+/// Whether a variable is free in a term of any height. It has the number `n` where the term is.
 fn mentions(n: u64, t: &Term) -> bool
     ensures { (m : ℕ) → n ≡ min m 18446744073709551615 → result ≡ dependences.has_variable m (tree_of t.now) }
 {

@@ -13,7 +13,7 @@ use unifier::{are_low, variables};
 /// How many variables a context may have; with more, memory is short.
 pub(crate) const MOST_LEVELS: usize = 2147400000;
 
-/// Where a walk or a tree stands: the context and the goal there, a term of the context for each variable of the context that was
+/// Where a walk or a tree is: the context and the goal there, a term of the context for each variable of the context that was
 /// given, and the terms of the columns, with what clauses were compared with.
 #[derive(Debug, Drop)]
 pub struct Point {

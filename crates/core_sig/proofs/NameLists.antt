@@ -56,7 +56,7 @@ length-named-suc es n count d lt is =
     ∙ ap (λ k. length (named 0 (map entry_of (take n es))) + k)
     (ap length (append-nil (named_by (0 + length (map entry_of (take n es))) (entry_of (get_or es n d)))) ∙ (length-named_by _ 0 (entry_of (get_or es n d)) ∙ sym is)))))
 
--- the names of the first entries stand first
+-- the names of the first entries come first
 pub take-named : (es : List Entry) (n : ℕ) → take (length (named 0 (map entry_of (take n es)))) (named 0 (map entry_of es)) ≡ named 0 (map entry_of (take n es))
 take-named es n =
     ap (λ xs. take (length (named 0 (map entry_of (take n es)))) (named 0 xs)) (sym (ap (map entry_of) (take-append-drop n es)) ∙ map-append entry_of (take n es) (drop n es))
@@ -113,7 +113,7 @@ new-family known f new = subst (λ names. AreNew known (f.name ∷ names)) (name
 pub named_by-family : (n : ℕ) (f : Family) → named_by n (entry_of (FamilyEntry f)) ≡ (f.name, FoundEntry n) ∷ named_constructors n 0 (map (λ c. c.name) f.cons)
 named_by-family n f = ap (λ names. (f.name, FoundEntry n) ∷ named_constructors n 0 names) (names-constructors (length f.params) f.cons)
 
--- the names of one entry more stand last
+-- the names of one entry more come last
 pub named-push : (es : List Entry) (e : Entry) → named 0 (map entry_of (es ++ e ∷ [])) ≡ named 0 (map entry_of es) ++ named_by (length es) (entry_of e)
 named-push es e =
     ap (named 0) (map-append entry_of es (e ∷ []))

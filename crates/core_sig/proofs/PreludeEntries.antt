@@ -49,7 +49,7 @@ take-next xs n x at =
 pub first_entries-push : (S : Signature) (n : ℕ) (e : Entry) → IsEntryAt S n e → pushed (first_entries S n) e ≡ first_entries S (n + 1)
 first_entries-push S n e at = ap (λ (es : List Entry). record { entries = es; has_k = S.has_k }) (sym (take-next S.entries n e at))
 
--- the first m entries of the prelude tell whether K is on, and how many they are
+-- the first m entries of the prelude say whether K is on, and how many they are
 pub first-are : (k : Bool) (m : ℕ) (S : Signature) → m ≤ length (prelude k).entries → S ≡ first_entries (prelude k) m → (S.has_k ≡ k) × (length S.entries ≡ m)
 first-are k m S le so_far =
     (ap (λ (s : Signature). s.has_k) so_far, ap (λ (s : Signature). length s.entries) so_far ∙ length-take-le m (prelude k).entries le)

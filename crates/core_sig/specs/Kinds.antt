@@ -22,7 +22,7 @@ pub record IsRecursiveType (n : ℕ) (f : pure.Family) (at : ℕ) (inner : Teles
   pub targets_lack : All (Lacks n) targets
   pub target_count : length targets ≡ length f.indices
 
--- `Recursive count` stands exactly where the type t is recursive with `count` inner arguments, else `Plain`
+-- `Recursive count` is exactly where the type t is recursive with `count` inner arguments, else `Plain`
 abbrev pub HasKind : ℕ → pure.Family → ℕ → ArgKind → tree.Term → Type 0
 HasKind n f at Plain t = (inner : Telescope) (targets : List tree.Term) → ¬ IsRecursiveType n f at inner targets t
 HasKind n f at (Recursive count) t =

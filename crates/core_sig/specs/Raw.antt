@@ -11,7 +11,7 @@ pub record RawConstructor : Type 0 where
   pub name : List ℕ
   pub type : Term
 
--- a family as declared: its type and the types of its constructors stand under the parameters
+-- a family as declared: its type and the types of its constructors are under the parameters
 pub record RawFamily : Type 0 where
   pub name : List ℕ
   pub parameters : Telescope

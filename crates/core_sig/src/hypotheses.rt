@@ -33,7 +33,7 @@ pub fn applied_to_targets(
     }
 }
 
-/// Where a hypothesis stands: the levels of the motive, of its argument and of the first inner argument, and how many indices
+/// Where a hypothesis is: the levels of the motive, of its argument and of the first inner argument, and how many indices
 /// the family has.
 #[derive(Clone, Copy)]
 struct Site {

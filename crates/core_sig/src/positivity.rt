@@ -51,7 +51,7 @@ fn offender(fam: u32, con: &Constructor) -> Option<u32>
     None
 }
 
-/// Whether the family stands in the type elsewhere than at the end of a recursive argument's type.
+/// Whether the family occurs in the type elsewhere than at the end of a recursive argument's type.
 fn offends(fam: u32, arg: &Arg) -> bool
     ensures { (f : pure.Family) (at : ℕ) → HasKind fam f at arg.now.kind (tree_of arg.now.ty) → result ≡ offends fam (argument_of (length f.parameters) arg.now) }
 {
@@ -72,7 +72,7 @@ fn any_mentions(terms: &[Term], fam: u32) -> bool
     false
 }
 
-/// Whether a symbol of the family stands in the term. Takes no memory.
+/// Whether a symbol of the family occurs in the term. Takes no memory.
 pub fn mentions(t: &Term, fam: u32) -> bool
     ensures { result ≡ pure.mentions fam (tree_of t.now) }
 {

@@ -1,6 +1,6 @@
 use core_terms::{Items, Name, Tele, Term};
 
-/// A family as declared: its type and the types of its constructors stand under the parameters.
+/// A family as declared: its type and the types of its constructors are under the parameters.
 #[derive(Debug, Drop)]
 pub struct RawFamily {
     pub name: Name,

@@ -11,7 +11,7 @@ use Rattle.core_terms.specs.declared.term.Term.{Term}
 pub drop-at : {A : Type 0} (xs : List A) (k : ℕ) (a : A) → k < length xs → a ≡ get_or xs k a → drop k xs ≡ a ∷ drop (k + 1) xs
 drop-at xs k a lt is = drop-cons xs k a lt ∙ ap₂ (λ b n. b ∷ drop n xs) (sym is) (sym (add-one k))
 
--- what stands before number k + 1 ends with the element at k
+-- what comes before number k + 1 ends with the element at k
 pub take-more : {A : Type 0} (xs : List A) (k : ℕ) (a : A) → k < length xs → a ≡ get_or xs k a → take (k + 1) xs ≡ take k xs ++ a ∷ []
 take-more xs k a lt is =
     ap (λ n. take n xs) (add-one k) ∙ (take-suc xs k a lt ∙ ap (λ b. take k xs ++ b ∷ []) (sym is))

@@ -6,7 +6,7 @@ abbrev pub most_height : ℕ
 most_height = 2000
 
 -- 2 ^ 32 - 2001: with so many free variables a term of height 2,000 or less has no index above u32.MAX, since fewer
--- than 2,000 binders stand around a variable
+-- than 2,000 binders are around a variable
 abbrev pub most_free : ℕ
 most_free = 4294965295
 

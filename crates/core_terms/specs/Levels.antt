@@ -1,6 +1,6 @@
 -- Variables by level: the outermost binder has level 0, and a term at depth d comes after d binders.
 --
--- A record's terms stand over the record's own variables. Where such a term is put into a larger one, its variables lie in
+-- A record's terms are over the record's own variables. Where such a term is put into a larger one, its variables lie in
 -- runs of levels: (start, count) are `count` levels from `start` on, for so many of the record's variables.
 use Rattle.std.specs.Prelude.{ℕ, zero, suc, ◌+◌, ◌-◌, nat_lt, nat_le, cond, if◌then◌else◌, List, [], ◌∷◌}
 use Rattle.theory.specs.Terms.{Term, Var, Sort, Pi, Lam, App, Let, Const, Fam, Con, Elim, AxiomK, height}
@@ -49,7 +49,7 @@ abbrev pub bind : Binder → Term → Term → Term
 bind Product a b = Pi a b
 bind Function a b = Lam a b
 
--- (tele) -> end, or \tele. end, over a telescope of a record: each type is over one variable of the record more, and stands one
+-- (tele) -> end, or \tele. end, over a telescope of a record: each type is over one variable of the record more, and is one
 -- binder further in
 abbrev pub over : (binder : Binder) (runs : List (ℕ × ℕ)) (size depth : ℕ) → Telescope → Term → Term
 over binder runs size depth [] end = end

@@ -112,7 +112,7 @@ pub fn into_spine(alloc: Global, t: Term) -> Result<Vec<Term>, Stop>
     }
 }
 
-/// What stands applied at the head of a term.
+/// What is applied at the head of a term.
 pub fn head(t: &Term) -> &Term
     ensures { tree_of result.now ≡ head_of (tree_of t.now) }
 {

@@ -3,7 +3,7 @@ use crate::{Items, Term};
 /// A pattern of a clause.
 ///
 /// `Bind` is a variable and `Wild` the pattern `_`. `Dot` is a forced term, written after a dot, and `Absurd` the
-/// pattern `( )`. `Con(f, c, args)` is constructor `c` of the family with entry number `f`, whose arguments stand
+/// pattern `( )`. `Con(f, c, args)` is constructor `c` of the family with entry number `f`, whose arguments are
 /// without the parameters.
 #[derive(Debug, Drop)]
 pub enum Pat {

@@ -1,6 +1,6 @@
 use crate::{Items, Tele, Term};
 
-/// Where in a term something stands: child numbers from the root on.
+/// Where in a term something is: child numbers from the root on.
 ///
 /// Child 0 is the domain, the annotation or the function. Child 1 is the codomain, the body, the argument or the value
 /// of a `let`, and child 2 the body of a `let`.

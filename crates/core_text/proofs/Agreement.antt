@@ -8,9 +8,9 @@ use Rattle.core_text.specs.Reading.{Reading, wrong, first, and_then}
 use Rattle.core_text.specs.declared.halt.Halt.TheVariants.{Memory, Nested, Wrong}
 use Rattle.core_text.proofs.Characters.{Same, SameName, low-same, same-named}
 
--- ---- what is told
+-- ---- what is given
 
--- a refusal at the front, by the character or by the name that stands there
+-- a refusal at the front, by the character or by the name that is there
 pub data Refused {A : Type 0} (f : List ℕ → Reading A) (z : List ℕ) : Type 0 where
   by_character : ((y : List ℕ) → Same z y → f y ≡ wrong y) → Refused f z
   by_name : 0 < run_len z → ((y : List ℕ) → SameName z y → f y ≡ wrong y) → Refused f z
@@ -35,7 +35,7 @@ Told ahead f rest (Err (Wrong left)) = Stopped f rest left
 Told ahead f rest (Err (Nested left)) = Unit {0}
 Told ahead f rest (Err Memory) = Unit {0}
 
--- what f reads is told of every text
+-- what f reads is said of every text
 pub record Alike {A : Type 0} (ahead : Bool) (f : List ℕ → Reading A) : Type 0 where
   pub told : (rest : List ℕ) → Told ahead f rest (f rest)
 
@@ -98,7 +98,7 @@ stopped-within f rest left t = omega (arith, ap length t.is, length-append t.fro
 
 -- ---- one part after another
 
--- Where what stands after passes over a character or nothing, the character before it is the same too.
+-- Where what comes after passes over a character or nothing, the character before it is the same too.
 pub same-ahead : (ahead : Bool) (r v s y : List ℕ) → r ≡ v ++ s → (first r < 128) ⊎ (length s ≡ length r) → (ahead ≡ false → length s < length r) → (ahead ≡ true → Same s y) → Same r (v ++ y)
 same-ahead true r [] s y is starts moves same = ap first_character is ∙ same refl
 same-ahead false r [] s y is starts moves same = let less = moves refl in absurd (omega (arith, ap length is))
@@ -165,7 +165,7 @@ told-then {A} {B} ahead g h rest first_part next =
     joins r (Err (Nested left)) starts moves = tt
     joins r (Err Memory) starts moves = tt
 
--- where the first part is told by its own bytes, whatever stands after it
+-- where the first part is known by its own bytes, whatever comes after it
 pub told-next : {A B : Type 0} (ahead : Bool) (g : List ℕ → Reading A) (h : A → List ℕ → Reading B) (rest : List ℕ) → Told false g rest (g rest)
     → ((a : A) (r : List ℕ) → g rest ≡ Ok (a, r) → Told ahead (h a) r (h a r))
     → Told ahead (λ x. and_then (g x) h) rest (and_then (g rest) h)

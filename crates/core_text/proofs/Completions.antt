@@ -85,7 +85,7 @@ shared-same (x ∷ rest) (b ∷ word) = by (shared-same rest word) (x == b) refl
         ap (λ k. take k (x ∷ rest)) more ∙ (ap₂ ◌∷◌ here others ∙ ap (λ k. take k (b ∷ word)) (sym more))
     by others false e = refl
 
--- at the first byte with which a word does not go on, where what stands before it and the word are a front
+-- at the first byte with which a word does not go on, where what comes before it and the word are a front
 pub begun-word : (V : List ℕ → Type 0) (text word rest whole : List ℕ) → whole ≡ text ++ rest → IsFront V (text ++ word) → Begun V whole (length rest - shared rest word)
 begun-word V text word rest whole at f =
     let k = shared rest word in
@@ -100,7 +100,7 @@ begun-word V text word rest whole at f =
 pub meets-wrong : {A : Type 0} (Q : A → List ℕ → Type 0) (V : List ℕ → Type 0) (text rest whole : List ℕ) → whole ≡ text ++ rest → IsFront V text → Meets Q V whole (wrong rest)
 meets-wrong Q V text rest whole at f = begun-at V text rest whole (length rest) at refl f
 
--- where what stands there would be too deep
+-- where what is there would be too deep
 pub meets-deep : {A : Type 0} (Q : A → List ℕ → Type 0) (V : List ℕ → Type 0) (text rest whole : List ℕ) → whole ≡ text ++ rest → IsFront V text → Meets Q V whole (Err (Nested (length rest)))
 meets-deep Q V text rest whole at f = begun-at V text rest whole (length rest) at refl f
 
@@ -130,7 +130,7 @@ meets-on P Q V whole (Err (Wrong left)) next h k = h
 meets-on P Q V whole (Err Memory) next h k = tt
 meets-on P Q V whole (Err (Nested left)) next h k = h
 
--- A word stands after a text, and then more is read.
+-- A word comes after a text, and then more is read.
 pub meets-word : {B : Type 0} (Q : B → List ℕ → Type 0) (V : List ℕ → Type 0) (text word rest whole : List ℕ) (next : List ℕ → Reading B) → whole ≡ text ++ rest → IsFront V (text ++ word) → ((r : List ℕ) → rest ≡ word ++ r → Meets Q V whole (next r)) → Meets Q V whole (after (past word rest) next)
 meets-word Q V text word rest whole next at f k = by (shared rest word == length word) refl
   where
@@ -138,7 +138,7 @@ meets-word Q V text word rest whole next at f k = by (shared rest word == length
     by true e = k (drop (length word) rest) (word-is word rest e)
     by false e = begun-word V text word rest whole at f
 
--- A part is read after a word that stands after a text, and then more.
+-- A part is read after a word that comes after a text, and then more.
 pub meets-after : {A B : Type 0} (P : List ℕ → A → List ℕ → Type 0) (Q : B → List ℕ → Type 0) (U V : List ℕ → Type 0) (text word rest whole : List ℕ) (inner : List ℕ → Reading A) (next : A → List ℕ → Reading B) → whole ≡ text ++ rest → IsFront V (text ++ word) → ((x : List ℕ) → U x → IsFront V (text ++ (word ++ x))) → ((r : List ℕ) → Meets (P r) U r (inner r)) → ((a : A) (r s : List ℕ) → rest ≡ word ++ r → P r a s → Meets Q V whole (next a s)) → Meets Q V whole (and_then (after (past word rest) inner) next)
 meets-after P Q U V text word rest whole inner next at f over reads k = by (shared rest word == length word) refl
   where

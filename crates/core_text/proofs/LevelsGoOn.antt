@@ -111,7 +111,7 @@ eliminator-or-none S = by (search-before S (length S.entries))
 -- ---- a level that is read after a text
 
 module _ (levels : List Bool) (V : List ℕ → Type 0) (text whole : List ℕ) (fronts : (v : ℕ) → is_left levels v ≡ true → IsFront V (text ++ decimal v)) where
-  -- the number and what stands after it
+  -- the number and what comes after it
   abbrev pub Levelled : List ℕ → ℕ → List ℕ → Type 0
   Levelled rest v r = (rest ≡ decimal v ++ r) × (is_left levels v ≡ true)
 

@@ -23,7 +23,7 @@ use Rattle.core_text.proofs.TermsAgree.{alike-read, begins-front}
 use Rattle.core_text.proofs.WordsAgree.{told-shift, told-first, told-byte, alike-word, part-starts, word-starts, word-moves, alike-here}
 use Rattle.core_text.proofs.WordsRead.{word-is}
 
--- ---- what stands one after the other
+-- ---- what is one after the other
 
 module _ {A : Type 0} (next : List A → List ℕ → Reading (Option A)) (none : (found : List A) → next found [] ≡ wrong []) (moves : (found : List A) (rest : List ℕ) → MovesAt rest (next found rest)) where
   -- each number of bytes that is not less than there are leaves room for all
@@ -43,7 +43,7 @@ module _ {A : Type 0} (next : List A → List ℕ → Reading (Option A)) (none 
       by same (Ok (None, r)) moved = refl
       by same (Err e) moved = refl
 
-  -- all that stands there
+  -- all that is there
   abbrev all_of : List A → List ℕ → Reading (List A)
   all_of found rest = collected next (length rest) found rest
 
@@ -59,7 +59,7 @@ module _ {A : Type 0} (next : List A → List ℕ → Reading (Option A)) (none 
   moved-from : (found : List A) (rest : List ℕ) (o : Option A) (r : List ℕ) → next found rest ≡ Ok (o, r) → length r < length rest
   moved-from found rest o r e = subst (MovesAt rest) e (moves found rest)
 
-  -- where what stands after an item is told
+  -- where what comes after an item is given
   whole-step : ((found : List A) → Alike false (next found)) → (found : List A) (rest : List ℕ) → ((others : List A) (r : List ℕ) → length r < length rest → Told false (all_of others) r (all_of others r)) → Told false (all_of found) rest (all_of found rest)
   whole-step alike found rest shorter =
       subst (Told false (all_of found) rest) (all-step found rest)
@@ -108,7 +108,7 @@ module _ (S : Signature) (own : List ℕ) where
   alike-whole : (n : ℕ) → Alike true (whole_term S own n)
   alike-whole n = alike-read (symbol S own) nested n
 
-  -- a whole term after a word, and what stands after it
+  -- a whole term after a word, and what comes after it
   alike-part : {B : Type 0} (word : List ℕ) (n : ℕ) (h : Term → List ℕ → Reading B) → ((t : Term) → Alike true (h t)) → ((t : Term) (r : List ℕ) → StartsAt r (h t r)) → Alike true (λ r. and_then (term_after (whole_term S own) word n r) h)
   alike-part word n h next starts =
       alike-then true (term_after (whole_term S own) word n) h (alike-word true word (whole_term S own n) (alike-whole n)) next starts (λ t r no. absurd (cc))
@@ -268,7 +268,7 @@ two s = by (s == 2) refl
     by true e = grind (arith, nat_tests)
     by false e = grind (arith, nat_tests)
 
--- after the letters that tell a definition
+-- after the letters that begin a definition
 definition-word : (y : List ℕ) → past (codes "def ") (100 ∷ 101 ∷ y) ≡ past (codes "f ") y
 definition-word y =
     let s = shared y (codes "f ") in
@@ -315,7 +315,7 @@ module _ (S : Signature) (own : List ℕ) where
       told-first true 101 (λ x. after (past (codes "elim ") x) (eliminator_at S)) (k_or_data k) rest
       (λ e. (alike-word true (codes "elim ") (eliminator_at S) (alike-eliminator S)).told rest) (λ e. k-told k rest) (λ no. absurd (cc)) (λ no. absurd (cc))
 
-  -- of the letters that tell a definition it takes one
+  -- of the letters that begin a definition it takes one
   other-at : (k : Bool) (x : List ℕ) → other_line k (100 ∷ 101 ∷ x) ≡ Err (Wrong (1 + length x))
   other-at true x = let left : length (100 ∷ 101 ∷ x) - 1 ≡ 1 + length x = omega arith in ap (λ n. Err (Wrong n)) left
   other-at false x = let left : length (100 ∷ 101 ∷ x) - 1 ≡ 1 + length x = omega arith in ap (λ n. Err (Wrong n)) left

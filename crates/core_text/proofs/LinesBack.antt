@@ -123,7 +123,7 @@ parameters-long S (a ∷ tele) =
 
 -- ---- constructors
 
--- what stands before a constructor after those found
+-- what comes before a constructor after those found
 abbrev pub separator : List RawConstructor → List ℕ
 separator [] = codes " "
 separator (c ∷ found) = codes " ; "
@@ -175,7 +175,7 @@ constructors-back T S n f (c ∷ cs) found before (suc k) rest is are few =
 
 -- ---- families
 
--- a parameter or the colon stands after the name
+-- a parameter or the colon comes after the name
 pub stops-name : (S : Signature) (tele : Telescope) (rest : List ℕ) → Stops (parameters_text S tele ++ (codes " : " ++ rest))
 stops-name S [] rest = stops-space _
 stops-name S (a ∷ tele) rest = subst Stops (sym (parameter-text S a tele (codes " : " ++ rest))) (stops-space _)

@@ -122,7 +122,7 @@ module _ (S : Signature) where
       by (inl some) = line-front S (codes "elim ") _ (RawEliminator some.0 some.2.0) refl (some.1, some.2.1)
       by (inr none) = front-of (Goes S) (codes "elim ") [] (codes "elim ") refl (inr (of_eliminators none refl))
 
-  -- the name of a family, and what stands after it
+  -- the name of a family, and what comes after it
   abbrev FamilyNamed : List ℕ → ℕ → List ℕ → Type 0
   FamilyNamed rest g r = (rest ≡ name_at S g ++ r) × IsFamilyNumber S g
 

@@ -75,7 +75,7 @@ module _ (T S : Signature) (has : Has T S) where
       (ensures-word (λ t r. rest ≡ word ++ (term_text T t ++ r)) word rest (whole_term S own n)
       (λ r so. ensures-weaker (Writes T r) (λ t s. rest ≡ word ++ (term_text T t ++ s)) (whole_term S own n r) (λ t s w. so ∙ ap (λ x. word ++ x) w) (whole-writes own n r is few))) k
 
-  -- ---- lines, by what stands before their end
+  -- ---- lines, by what comes before their end
 
   ended-writes : (whole front : List ℕ) (e : RawEntry) (rest : List ℕ) → whole ≡ front ++ rest → front ++ codes "\n" ≡ line_text T e → Ensures (λ x r. whole ≡ line_text T x ++ r) (ended e rest)
   ended-writes whole front e rest is text =
@@ -120,7 +120,7 @@ module _ (T S : Signature) (has : Has T S) where
       (λ m r3 fm. ended-writes (codes "axiomk " ++ rest) (codes "axiomk " ++ (decimal i ++ (codes " " ++ decimal m))) (RawAxiomK i m) r3
       (ap (λ s. codes "axiomk " ++ s) (fi ∙ ap (λ s. decimal i ++ s) (fs ∙ ap (λ s. codes " " ++ s) fm)) ∙ simp append_assoc) (simp append_assoc))))
 
--- ---- what stands one after the other
+-- ---- what is one after the other
 
 -- the bytes of one item more, or of the end
 abbrev Item : {A : Type 0} → (List A → A → List ℕ) → List ℕ → List A → List ℕ → Option A → List ℕ → Type 0
@@ -354,7 +354,7 @@ entry-read : (S : Signature) (e : Entry) (rest : List ℕ) → length rest < 2 ^
 entry-read S e [] short = λ is. absurd (cc)
 entry-read S e (b ∷ rest) short = shown-read S e (length S.entries) (b ∷ rest) (line_at S [] (b ∷ rest)) (line-read S e (b ∷ rest) short)
 
--- after so many bytes from the end stands the end
+-- after so many bytes from the end is the end
 drop-end : (text front r : List ℕ) → text ≡ front ++ r → drop (length text - length r) text ≡ r
 drop-end text front r is =
     let place : length text - length r ≡ length front = omega (arith, ap length is, length-append front r) in

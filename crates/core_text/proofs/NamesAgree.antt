@@ -1,4 +1,4 @@
--- Texts that agree are read alike: what a name tells, where a whole run is the name.
+-- Texts that agree are read alike: what a name says, where a whole run is the name.
 use Rattle.std.proofs.Common.{◌≡◌, ◌⊎◌, inl, inr, ℕ, zero, suc, ◌<◌, true, List, ◌++◌, length, drop, take, refl, sym, ap, ap₂, ◌∙◌, subst, append_assoc, arith}
 use Rattle.std.specs.Prelude.{Ok, Err}
 use Rattle.std.proofs.lemmas.List.{take-append-drop, length-take-le, take_at, drop_at}
@@ -31,7 +31,7 @@ told-past f g v r (Err (Wrong left)) same starts t = record {
 told-past f g v r (Err (Nested left)) same starts t = tt
 told-past f g v r (Err Memory) same starts t = tt
 
--- what stands after the run at the front
+-- what comes after the run at the front
 abbrev pub after_run : List ℕ → List ℕ
 after_run rest = drop (run_len rest) rest
 
@@ -51,7 +51,7 @@ run-is-again rest y same =
       past = ap (λ k. drop k (run rest ++ y)) size ∙ drop_at (run rest) y (run_len rest) long;
     }
 
--- what a name tells by itself is told by the name, or by the first character where there is none
+-- what a name says by itself depends on the name, or on the first character where there is none
 pub refused-named : {A : Type 0} (f : List ℕ → Reading A) (z : List ℕ) → ((y : List ℕ) → run y ≡ run z → f y ≡ wrong y) → Refused f z
 refused-named f z k = by (run_len z) refl
   where
@@ -61,7 +61,7 @@ refused-named f z k = by (run_len z) refl
         let some : 0 < run_len z = omega arith in
         by_name some (λ y same. k y (same-named z y some same).name)
 
--- Of a name, N tells how reading goes on after it, or that it is wrong.
+-- Of a name, N says how reading goes on after it, or that it is wrong.
 pub data NameTells {A : Type 0} (N : List ℕ → List ℕ → List ℕ → Reading A) (name : List ℕ) : Type 0 where
   goes_on : (f : List ℕ → Reading A) → Alike true f → ((r : List ℕ) → StartsAt r (f r)) → ((r x : List ℕ) → N name r x ≡ f r) → NameTells N name
   is_wrong : ((r x : List ℕ) → N name r x ≡ wrong x) → NameTells N name

@@ -12,7 +12,7 @@ use Rattle.core_sig.specs.declared.entry.Found.TheVariants.{Entry as FoundEntry,
 use Rattle.core_sig.proofs.NameLists.{differs}
 use Rattle.core_sig.proofs.NewNames.{keys-named}
 
--- ---- a list in which each name stands once
+-- ---- a list in which each name occurs once
 
 -- the pair is one of the list
 record In (p : List ℕ × Found) (known : List (List ℕ × Found)) : Type 0 where
@@ -38,7 +38,7 @@ lookup-in (q ∷ known) (suc k) p e distinct =
     ap (λ b. cond b (Some q.1) (lookup (bytes_eq p.0) known)) other
     ∙ lookup-in known k p e (λ i j d lt within. distinct (suc i) (suc j) d (omega arith) (omega arith))
 
--- ---- where a name stands
+-- ---- where a name is
 
 in-front : (p : List ℕ × Found) (xs ys : List (List ℕ × Found)) → In p xs → In p (xs ++ ys)
 in-front p xs ys is = record { place = is.place; is = slice_get-longer xs ys is.place p is.is }

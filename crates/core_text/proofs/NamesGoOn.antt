@@ -68,7 +68,7 @@ taken-first (suc k) (b ∷ rest) e = e
 -- ---- a name that is declared
 
 module _ (S : Signature) (own : List ℕ) (found : List RawConstructor) where
-  -- the name and what stands after it
+  -- the name and what comes after it
   abbrev pub Named : List ℕ → List ℕ → List ℕ → Type 0
   Named rest name r = (rest ≡ name ++ r) × IsNewName S own found name
 

@@ -1,4 +1,4 @@
--- Numbers that are read may stand there and, where a byte is wrong, the bytes before it begin the text of one that may.
+-- Numbers that are read may be there and, where a byte is wrong, the bytes before it begin the text of one that may.
 use Rattle.std.proofs.Common.{◌≡◌, ℕ, zero, suc, ◌-◌, ◌^◌, ◌<◌, ◌≤◌, Bool, true, false, List, [], ◌∷◌, ◌++◌, length, refl, append-nil, arith}
 use Rattle.std.specs.Prelude.{◌&&◌, nat_lt, if◌then◌else◌, Ok, Err, decimal}
 use Rattle.std.proofs.lemmas.Bool.{and_parts, false≢true}
@@ -59,11 +59,11 @@ index-meets n rest some le =
 
 -- ---- levels
 
--- a level that may stand there is read, whose text is at the front
+-- a level that may be there is read, whose text is at the front
 abbrev pub ReadsLevel : List Bool → List ℕ → ℕ → List ℕ → Type 0
 ReadsLevel levels rest v r = (rest ≡ decimal v ++ r) × (is_left levels v ≡ true)
 
--- the text of a level that may stand there
+-- the text of a level that may be there
 abbrev pub IsLevelText : List Bool → List ℕ → Type 0
 IsLevelText levels text = (v : ℕ) × (text ≡ decimal v) × (is_left levels v ≡ true)
 

@@ -114,7 +114,7 @@ notes-stop true (b ∷ rest) h e = by (notes-stop false rest h) (notes-stop true
           },
         )
 
--- ---- what stands before the place
+-- ---- what comes before the place
 
 goes-with : (S : Signature) (notes front more : List ℕ) → AreNotes notes → Goes S (front ++ more) → GoesOn S (notes ++ front) ⊎ NoneLeft S (notes ++ front)
 goes-with S notes front more are (inl line) =
@@ -161,7 +161,7 @@ deep-place p q (inr e) = place-is e
     place-is e = cc
 
 module _ (S : Signature) (text : List ℕ) (from : ℕ) (le : from ≤ length text) where
-  -- where the text after its first bytes is a front and what stands at the place
+  -- where the text after its first bytes is a front and what is at the place
   at-place : (front back : List ℕ) (p : ℕ) → drop from text ≡ front ++ back → length text - length back ≡ p → GoesOn S front ⊎ NoneLeft S front → IsReached S text from p
   at-place front back p is place goes = record {
     past = omega (arith, sizes, place, size);

@@ -47,7 +47,7 @@ end_of_text : read_term no_names 2000 2 (codes "(%0 -> ") ≡ Err (Wrong 0)
 unfolding no_names
 end_of_text = refl
 
--- a term is due inside one term too many, whatever stands there
+-- a term is due inside one term too many, whatever is there
 too_deep : read_term no_names 2 1 (codes "((?") ≡ Err (Nested 1)
 too_deep = refl
 

@@ -27,12 +27,12 @@ run_more (b ∷ bytes) zero is some = absurd (omega arith)
 run_more (b ∷ bytes) (suc k) is some =
     let less : suc k - 1 ≡ k = omega arith in rw (is, zero-test (suc k) some, less) (ap (λ r. suc k + r) (run_skip k bytes))
 
--- where no character of a name stands the run is over
+-- where no character of a name is the run is over
 pub run_end : (bytes : List ℕ) → name_char_len bytes ≡ 0 → run_len bytes ≡ 0
 run_end [] is = refl
 run_end (b ∷ bytes) is = rw is refl
 
--- what was taken stands before the rest
+-- what was taken comes before the rest
 pub taken-front : (k : ℕ) (xs : List ℕ) → xs ≡ take k xs ++ drop (length (take k xs)) xs
 taken-front zero xs = refl
 taken-front (suc k) [] = refl

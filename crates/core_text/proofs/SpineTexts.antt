@@ -11,7 +11,7 @@ use Rattle.core_text.specs.SymbolNames.{name_at}
 use Rattle.core_text.specs.TermReading.{is_application}
 use Rattle.core_text.specs.TermText.{spelled, term_text, spaced}
 
--- a term that is no application has its text wherever it stands
+-- a term that is no application has its text wherever it is
 pub spelled-alone : (S : Signature) (t : Term) → is_application t ≡ false → spelled S true t ≡ term_text S t
 spelled-alone S (App f a) e = absurd (cc)
 spelled-alone S t e = refl

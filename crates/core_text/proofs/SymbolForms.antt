@@ -31,7 +31,7 @@ index-at (x ∷ xs) y ys = index-at xs y ys
 digit-true : (v : ℕ) → v < 10 → is_digit (48 + v) ≡ true
 digit-true v small = and_from (nat_le 48 (48 + v)) (nat_le (48 + v) 57) (grind (arith, nat_tests)) (grind (arith, nat_tests))
 
--- the number by the last two bytes, which stand after the first a and the first b ones
+-- the number by the last two bytes, which come after the first a and the first b ones
 abbrev by_ends : List ℕ → ℕ → ℕ → ℕ → ℕ → ℕ → Option (List ℕ × ℕ)
 by_ends bytes n a b other last =
     if not (is_digit last) then None

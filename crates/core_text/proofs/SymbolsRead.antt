@@ -177,7 +177,7 @@ word-read word bytes front e = by (bytes_eq (drop n bytes) word) refl e
 
 -- ---- symbols, written over a signature T that has the entries of S
 
--- the text of the term is the name, wherever it stands
+-- the text of the term is the name, wherever it is
 abbrev pub IsWritten : Signature → List ℕ → Term → Type 0
 IsWritten T name t = (b : Bool) → spelled T b t ≡ name
 

@@ -1,4 +1,4 @@
--- Terms that may stand somewhere, and fronts of their texts: each part that is missing is completed by `Type 0`.
+-- Terms that may be somewhere, and fronts of their texts: each part that is missing is completed by `Type 0`.
 use Rattle.std.proofs.Common.{◌≡◌, ℕ, ◌+◌, Bool, true, List, ◌++◌, sym, ap, ◌∙◌, subst, append_assoc, arith}
 use Rattle.std.specs.Prelude.{codes}
 use Rattle.theory.specs.Terms.{Term, Sort, Pi, Lam, App, Let}
@@ -16,7 +16,7 @@ IsText T S own n text = (t : Term) × (text ≡ term_text T t) × IsTermOver S o
 abbrev pub ReadsTerm : Signature → Signature → Bool → ℕ → List ℕ → Term → List ℕ → Type 0
 ReadsTerm T S own n rest t r = (rest ≡ term_text T t ++ r) × IsTermOver S own n t
 
--- ---- the forms over parts that may stand there
+-- ---- the forms over parts that may be there
 
 pub over-sort : (S : Signature) (own : Bool) (n : ℕ) → IsTermOver S own n (Sort 0)
 over-sort S own n = record { symbols = omega arith; free = omega arith }
@@ -94,7 +94,7 @@ module _ (T S : Signature) (own : Bool) where
       meets-then (ReadsTerm T S own n rest) Q (IsText T S own n) V text rest whole m next at
       (λ x u. subst (λ y. IsFront V (text ++ y)) (sym u.1) (over u.0 u.2)) h (λ t r so. k t r so.0 so.1)
 
-  -- The same after a word: a term is read after the word that stands after a text, and then more.
+  -- The same after a word: a term is read after the word that comes after a text, and then more.
   pub after-term : {B : Type 0} (Q : B → List ℕ → Type 0) (V : List ℕ → Type 0) (n : ℕ) (text word rest whole : List ℕ) (inner : List ℕ → Reading Term) (next : Term → List ℕ → Reading B) → whole ≡ text ++ rest → ((t : Term) → IsTermOver S own n t → IsFront V (text ++ (word ++ term_text T t))) → ((r : List ℕ) → Meets (ReadsTerm T S own n r) (IsText T S own n) r (inner r)) → ((t : Term) (r : List ℕ) → rest ≡ word ++ (term_text T t ++ r) → IsTermOver S own n t → Meets Q V whole (next t r)) → Meets Q V whole (and_then (after (past word rest) inner) next)
   after-term Q V n text word rest whole inner next at over reads k =
       meets-after (ReadsTerm T S own n) Q (IsText T S own n) V text word rest whole inner next at

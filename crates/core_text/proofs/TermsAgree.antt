@@ -131,7 +131,7 @@ LetThen x (Err (Nested left)) = Unit {0}
 LetThen x (Err Memory) = Unit {0}
 
 module _ (inner : ℕ → List ℕ → Reading Term) (alike : (n : ℕ) → Alike true (inner n)) (let_in : (n : ℕ) (x : List ℕ) → LetAt x (inner n (108 ∷ 101 ∷ 116 ∷ 32 ∷ x))) where
-  -- a term after a word, and what stands after it
+  -- a term after a word, and what comes after it
   alike-part : (word : List ℕ) (n : ℕ) (h : Term → List ℕ → Reading Term) → ((b : Term) → Alike true (h b)) → ((b : Term) (r : List ℕ) → StartsAt r (h b r)) → Alike true (λ r. and_then (term_after inner word n r) h)
   alike-part word n h next starts = alike-then true (term_after inner word n) h (alike-word true word (inner n) (alike n)) next starts (λ b r no. absurd (cc))
 
@@ -187,7 +187,7 @@ module _ (inner : ℕ → List ℕ → Reading Term) (alike : (n : ℕ) → Alik
   alike-past : (a : Term) (n : ℕ) → Alike true (after_first inner a n)
   alike-past a n = alike-word true (codes " ") (arrow_or_spine a n) (alike-either a n)
 
-  -- a term and what stands after it in parentheses
+  -- a term and what comes after it in parentheses
   abbrev first_and_more : ℕ → List ℕ → Reading Term
   first_and_more n rest = and_then (inner n rest) (λ a r. after_first inner a n r)
 
@@ -196,7 +196,7 @@ module _ (inner : ℕ → List ℕ → Reading Term) (alike : (n : ℕ) → Alik
       alike-then true (inner n) (λ a r. after_first inner a n r) (alike n) (λ a. alike-past a n)
       (λ a r. word-starts 32 [] (arrow_or_spine a n) r (omega arith)) (λ a r no. absurd (cc))
 
-  -- ---- `let ` is told from the names that begin so
+  -- ---- `let ` is told apart from the names that begin so
 
   let-then : (n : ℕ) (x : List ℕ) → LetThen x (first_and_more n (108 ∷ 101 ∷ 116 ∷ 32 ∷ x))
   let-then n x = by (inner n (108 ∷ 101 ∷ 116 ∷ 32 ∷ x)) (let_in n x)

@@ -131,7 +131,7 @@ limited-back t rest low =
 closed-back : (t : Term) (rest : List ℕ) → height t ≤ 2000 → closed_by t (41 ∷ rest) ≡ Ok (t, rest)
 closed-back t rest low = ap (λ m. after m (limited t)) (past-word (codes ")") rest) ∙ limited-back t rest low
 
--- ---- compound terms, where `inner` reads back what stands inside
+-- ---- compound terms, where `inner` reads back what is inside
 
 record IsFit (S : Signature) (look : List ℕ → Option Term) (room n : ℕ) (t : Term) : Type 0 where
   spelled : AreSpelled S look t
@@ -257,7 +257,7 @@ function-text S a b rest = simp append_assoc
 pub let-text : (S : Signature) (a t b : Term) (rest : List ℕ) → term_text S (Let a t b) ++ rest ≡ 40 ∷ (codes "let " ++ (term_text S a ++ (codes " = " ++ (term_text S t ++ (codes " . " ++ (term_text S b ++ 41 ∷ rest))))))
 let-text S a t b rest = simp append_assoc
 
--- an application is its head at its spine, which stand in one pair of parentheses
+-- an application is its head at its spine, which are in one pair of parentheses
 pub application-whole : (f a : Term) (split : Split (spine_of f ++ a ∷ [])) → applied (App (head_of f) split.one) split.others ≡ App f a
 application-whole f a split = ap (applied (head_of f)) (sym split.is) ∙ applied-spine (App f a)
 

@@ -1,4 +1,4 @@
--- What is read as a term may stand there and, where a byte is wrong, the bytes before it begin the text of a term that may.
+-- What is read as a term may be there and, where a byte is wrong, the bytes before it begin the text of a term that may.
 use Rattle.std.proofs.Common.{◌≡◌, ℕ, zero, suc, ◌+◌, ◌<◌, ◌≤◌, ◌^◌, Bool, true, false, List, [], ◌++◌, length, drop, take, refl, sym, ap, ◌∙◌, append_assoc, arith}
 use Rattle.std.specs.Prelude.{◌==◌, nat_le, if◌then◌else◌, Ok, Err, Option, Some, None, codes, decimal, bytes_eq}
 use Rattle.std.proofs.lemmas.List.{take-append-drop}
@@ -53,7 +53,7 @@ known-meets : (T S : Signature) (own : Bool) (n : ℕ) (name rest whole : List �
 known-meets T S own n name rest whole (Some t) at is over = (at ∙ ap (λ s. s ++ rest) (sym (is t refl false)), over-more S own n t (over t refl))
 known-meets T S own n name rest whole None at is over = meets-wrong (ReadsTerm T S own n whole) (IsText T S own n) [] whole whole refl (no-text T S own n)
 
--- names stand for terms that may stand anywhere
+-- names stand for terms that may be anywhere
 abbrev pub NamesAreOver : Signature → Bool → (List ℕ → Option Term) → Type 0
 NamesAreOver S own look = (name : List ℕ) (t : Term) → look name ≡ Some t → IsTermOver S own 0 t
 
@@ -165,7 +165,7 @@ module _ (T S : Signature) (own : Bool) (bound : ℕ) (inner : ℕ → List ℕ 
       (λ a oa. front-less (IsText T S own n) (codes "(" ++ term_text T a) (codes " ") (pi-front T S own n a oa)) (inside n rest (omega arith))
       (λ a r fa oa. first-meets n a r whole le oa (at ∙ ap (λ s. codes "(" ++ s) fa))))
 
--- A term is read inside `room` others, so that at most as many binders are opened. What is read is a term that may stand there
+-- A term is read inside `room` others, so that at most as many binders are opened. What is read is a term that may be there
 -- and its text; where a byte is wrong, the bytes before it begin such a text.
 pub term-meets : (T S : Signature) (own : Bool) (look : List ℕ → Option Term) → WritesNames T look → NamesAreOver S own look → (room n : ℕ) (rest : List ℕ) → n + room ≤ 2 ^ 64 → Meets (ReadsTerm T S own n rest) (IsText T S own n) rest (read_term look room n rest)
 term-meets T S own look names symbols zero n rest le =

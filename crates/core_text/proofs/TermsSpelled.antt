@@ -17,7 +17,7 @@ use Rattle.core_text.proofs.Depths.{OrNested, is_read, is_nested, or-same, or-th
 use Rattle.core_text.proofs.NumbersBack.{past-word}
 use Rattle.core_text.proofs.TermsBack.{stops-space, stops-close, text-begins, symbol-back, variable-form, sort-form, paren, backslash, let-word, head-no-application, Split, split-push, application-whole, application-text, product-text, function-text, let-text}
 
--- ---- compound terms, where `inner` reads what stands inside unless it is too deep or too high
+-- ---- compound terms, where `inner` reads what is inside unless it is too deep or too high
 
 -- a term over n variables that is spelled
 pub record IsSpelledTerm (S : Signature) (look : List ℕ → Option Term) (n : ℕ) (t : Term) : Type 0 where

@@ -22,7 +22,7 @@ use Rattle.core_text.proofs.WordsRead.{word-is}
 
 -- ---- one character
 
--- its first byte tells how many there are
+-- its first byte says how many there are
 record IsLed (bytes : List ℕ) : Type 0 where
   lead : ℕ
   others : List ℕ

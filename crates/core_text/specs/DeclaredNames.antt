@@ -52,7 +52,7 @@ abbrev pub is_new : Signature → List ℕ → List RawConstructor → List ℕ 
 is_new S own found name =
     not (is_some (find S name)) && (not (bytes_eq name own) && not (list_any (λ c. bytes_eq name c.name) found))
 
--- the name may stand there
+-- the name may be there
 abbrev pub may_declare : Signature → List ℕ → List RawConstructor → List ℕ → Bool
 may_declare S own found name =
     not (is_eliminator_name name) && (not (is_axiom_k_name name) && is_new S own found name)

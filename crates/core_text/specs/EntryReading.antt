@@ -12,7 +12,7 @@ use Rattle.core_text.specs.declared.halt.Halt.TheVariants.{Memory as Exhausted, 
 use Rattle.core_text.specs.declared.stop.CoreTextStop.{CoreTextStop}
 use Rattle.core_text.specs.declared.stop.CoreTextStop.TheVariants.{Memory, Nested, NotCoreText}
 
--- What stands after the lines that begin with `#`; `inside` where such a line has begun. The last one has a line feed too.
+-- What comes after the lines that begin with `#`; `inside` where such a line has begun. The last one has a line feed too.
 abbrev pub after_notes : Bool → List ℕ → Result (List ℕ) Halt
 after_notes false [] = Ok []
 after_notes true [] = Err (Wrong 0)

@@ -1,4 +1,4 @@
--- Reading a line: its first word tells which entry it is. `own` is the name of the family that is being declared, and
+-- Reading a line: its first word says which entry it is. `own` is the name of the family that is being declared, and
 -- nothing at the beginning of a line.
 use Rattle.std.specs.Prelude.{ℕ, zero, suc, ◌+◌, ◌==◌, Bool, false, not, ◌&&◌, if◌then◌else◌, List, [], ◌∷◌, ◌++◌, length, take, drop, codes, Option, Some, None, Result, Ok}
 use Rattle.std.specs.List.{list_any}
@@ -80,12 +80,12 @@ axiom_k_line S rest =
     and_then (read_level (identities_left S) rest) (λ i r1. after (past (codes " ") r1) (λ r2.
     and_then (read_level (levels_left S (AxiomK i)) r2) (λ m r3. ended (RawAxiomK i m) r3)))
 
--- goes on after what stands there, or ends with what was found
+-- goes on after what is there, or ends with what was found
 abbrev pub after_item : {A : Type 0} → (List A → List ℕ → Reading (List A)) → List A → Option A → List ℕ → Reading (List A)
 after_item more found (Some a) rest = more (found ++ a ∷ []) rest
 after_item more found None rest = Ok (found, rest)
 
--- What stands one after the other, up to the end that `next` tells. There is no more of it than k, the number of bytes.
+-- What is one after the other, up to the end that `next` says. There is no more of it than k, the number of bytes.
 abbrev pub collected : {A : Type 0} → (List A → List ℕ → Reading (Option A)) → ℕ → List A → List ℕ → Reading (List A)
 collected next zero found rest = wrong rest
 collected next (suc k) found rest = and_then (next found rest) (after_item (collected next k) found)
@@ -94,11 +94,11 @@ collected next (suc k) found rest = and_then (next found rest) (after_item (coll
 abbrev pub parameter_at : Signature → List ℕ → ℕ → List ℕ → Reading (Option Term)
 parameter_at S own n rest = and_then (whole_term S own n rest) (λ a r. after (past (codes ")") r) (λ end. Ok (Some a, end)))
 
--- what stands before the type of the family
+-- what comes before the type of the family
 abbrev pub no_parameter : List ℕ → Reading (Option Term)
 no_parameter rest = after (past (codes ": ") rest) (λ end. Ok (None, end))
 
--- one parameter more, or what stands before the type of the family
+-- one parameter more, or what comes before the type of the family
 abbrev pub next_parameter : Signature → List ℕ → ℕ → List ℕ → Reading (Option Term)
 next_parameter S own n rest =
     after (past (codes " ") rest) (λ r. if first r == 40 then parameter_at S own n (drop 1 r) else no_parameter r)

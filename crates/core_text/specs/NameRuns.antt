@@ -1,4 +1,4 @@
--- Names in core text are told by runs: all characters at the front that can stand in a name.
+-- Names in core text are found by runs: all characters at the front that can be in a name.
 use Rattle.std.specs.Prelude.{ℕ, zero, suc, ◌+◌, ◌-◌, ◌==◌, Bool, ◌&&◌, ◌||◌, if◌then◌else◌, nat_le, List, [], ◌∷◌, length, take}
 use Rattle.std.specs.List.{list_all}
 use Rattle.std.specs.Str.{chars, is_utf8, continuation_len}
@@ -16,7 +16,7 @@ width b = 1 + continuation_len b
 abbrev pub are_name_chars : List ℕ → Bool
 are_name_chars bytes = is_utf8 bytes && list_all is_name_char (chars bytes)
 
--- how many bytes the first character has, or 0 where no character of a name stands there
+-- how many bytes the first character has, or 0 where no character of a name is there
 abbrev pub name_char_len : List ℕ → ℕ
 name_char_len [] = 0
 name_char_len (b ∷ bytes) =

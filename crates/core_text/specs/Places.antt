@@ -32,7 +32,7 @@ pub record BeginsWord (bytes word : List ℕ) : Type 0 where
   pub are_notes : AreNotes notes
   pub line : bytes ++ more ≡ notes ++ word
 
--- Where an instance would be named but none is left, the words and the name of the family may still stand.
+-- Where an instance would be named but none is left, the words and the name of the family may still be.
 pub data NoneLeft (S : Signature) (bytes : List ℕ) : Type 0 where
   of_family : (g : ℕ) → IsFamilyNumber S g → ((m : ℕ) → is_left (levels_left S (Elim g)) m ≡ false)
       → BeginsWord bytes (codes "elim " ++ (name_at S g ++ codes " ")) → NoneLeft S bytes
@@ -56,7 +56,7 @@ IsWrongCharacter S text from p =
     (other : List ℕ) → take p other ≡ take p text → first_character (drop p other) ≡ first_character (drop p text)
     → entry_from S other from ≡ Err (NotCoreText p)
 
--- The same where a name stands there, and they have the same name there.
+-- The same where a name is there, and they have the same name there.
 abbrev pub IsWrongName : Signature → List ℕ → ℕ → ℕ → Type 0
 IsWrongName S text from p =
     (0 < run_len (drop p text))
@@ -84,7 +84,7 @@ pub record IsPlace (S : Signature) (text : List ℕ) (from p : ℕ) : Type 0 whe
   pub told : IsWrongCharacter S text from p ⊎ IsWrongName S text from p ⊎ IsNoRecord S (drop p text)
 
 -- The place of a refusal is the first one from which no core file over the entries goes on: before it one does, and what
--- stands there is refused whatever follows it.
+-- is there is refused whatever follows it.
 abbrev pub PlacesAreFirst : Type 0
 PlacesAreFirst =
     (S : Signature) (text : List ℕ) (from p : ℕ) → length text < 2 ^ 32 → from ≤ length text →

@@ -12,7 +12,7 @@ use Rattle.core_text.specs.ReadBack.{IsSpelled}
 use Rattle.core_text.specs.SymbolLookup.{symbol}
 use Rattle.core_text.specs.SymbolNames.{name_at, constructor_name_at, eliminator_name, axiom_k_name}
 
--- Characters that can stand in a name, and none of the two words that begin a term otherwise. It is not written as an
+-- Characters that can be in a name, and none of the two words that begin a term otherwise. It is not written as an
 -- eliminator of a family whose name holds no `!`, nor as K.
 pub record IsPlainName (name : List ℕ) : Type 0 where
   pub chars : are_name_chars name ≡ true
@@ -33,7 +33,7 @@ pub record HasPlainNames (S : Signature) : Type 0 where
   pub plain : All IsPlainName (names S)
   pub families : All HasPlainFamily S.entries
 
--- Each symbol of the signature is looked up by its name, which is told from what follows it.
+-- Each symbol of the signature is looked up by its name, which is told apart from what follows it.
 pub record HasSpelledNames (S : Signature) : Type 0 where
   pub constants : (n : ℕ) (name : List ℕ) (type body : Term) → IsEntryAt S n (Definition name type body) → IsSpelled (symbol S []) (name_at S n) (Const n)
   pub families : (n : ℕ) (f : Family) → IsEntryAt S n (FamilyOf f) → IsSpelled (symbol S []) (name_at S n) (Fam n)
@@ -41,7 +41,7 @@ pub record HasSpelledNames (S : Signature) : Type 0 where
   pub eliminators : (n m : ℕ) (f : Family) → IsEntryAt S n (FamilyOf f) → m < top → IsSpelled (symbol S []) (eliminator_name (name_at S n) m) (Elim n m)
   pub axiom_k : (i m : ℕ) → i < top → m < top → IsSpelled (symbol S []) (axiom_k_name i m) (AxiomK i m)
 
--- Symbols are told by their names where these are plain and all different.
+-- Symbols are known by their names where these are plain and all different.
 abbrev pub NamesAreSpelled : Type 0
 NamesAreSpelled = (S : Signature) → AllPairs (λ x y. x ≢ y) (names S) → HasPlainNames S → HasSpelledNames S
 

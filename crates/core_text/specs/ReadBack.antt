@@ -1,4 +1,4 @@
--- What is printed is read back: the conditions under which names are told from what follows them, and the laws.
+-- What is printed is read back: the conditions under which names are told apart from what follows them, and the laws.
 use Rattle.std.specs.Prelude.{◌≡◌, ℕ, ◌+◌, ◌<◌, ◌≤◌, ◌^◌, ◌==◌, true, false, List, [], ◌∷◌, ◌++◌, length, codes, bytes_eq, Option, Some, Ok}
 use Rattle.theory.specs.Terms.{Term, Var, Sort, Pi, Lam, App, Let, Const, Fam, Con, Elim, AxiomK, free_of, height, top}
 use Rattle.theory.specs.Telescopes.{Telescope}

@@ -1,4 +1,4 @@
--- Reading from the front of bytes: what stands there and the bytes after it, or where reading stops.
+-- Reading from the front of bytes: what is there and the bytes after it, or where reading stops.
 use Rattle.std.specs.Prelude.{◌≡◌, ℕ, zero, suc, ◌+◌, ◌-◌, ◌*◌, ◌==◌, nat_le, nat_lt, Bool, false, ◌&&◌, ◌||◌, if◌then◌else◌, List, [], ◌∷◌, length, drop, Result, Ok, Err, slice_get, slice_index, unwrap_or}
 use Rattle.std.specs.Borrow.{Bor}
 use Rattle.core_terms.specs.Answers.{GivesUnless}
@@ -54,7 +54,7 @@ abbrev pub read_index : ℕ → List ℕ → Reading ℕ
 read_index n [] = wrong []
 read_index n (b ∷ rest) = if is_digit b && nat_lt (b - 48) n then Ok (index_from n (b - 48) rest) else wrong (b ∷ rest)
 
--- Levels come with a list that says of each of them whether it may stand there.
+-- Levels come with a list that says of each of them whether it may be there.
 abbrev pub is_left : List Bool → ℕ → Bool
 is_left levels n = unwrap_or (slice_get levels n) false
 
@@ -77,7 +77,7 @@ level_from levels d [] = one_digit levels d []
 level_from levels d (b ∷ rest) =
     if is_digit b && (nat_lt 0 d && is_left levels (with_digit d b)) then Ok (with_digit d b, rest) else one_digit levels d (b ∷ rest)
 
--- one of the levels that may stand there, in decimal
+-- one of the levels that may be there, in decimal
 abbrev pub read_level : List Bool → List ℕ → Reading ℕ
 read_level levels [] = wrong []
 read_level levels (b ∷ rest) =
@@ -91,7 +91,7 @@ IsUnforeseen e = e ≡ Memory
 abbrev pub Reads : {A B : Type 0} → (A → B) → Result (A × Bor (List ℕ)) Halt → Reading B → Type 0
 Reads f result meant = GivesUnless IsUnforeseen (λ p. (f p.0, p.1.now)) result meant
 
--- the same of what stands after a word
+-- the same of what comes after a word
 abbrev pub Past : Result (Bor (List ℕ)) Halt → Result (List ℕ) Halt → Type 0
 Past (Ok rest) meant = Ok rest.now ≡ meant
 Past (Err e) meant = Err e ≡ meant

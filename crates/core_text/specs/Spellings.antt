@@ -1,4 +1,4 @@
--- What a line says by its spelling: its names and numbers may stand there. Neither the height of its terms nor the question
+-- What a line says by its spelling: its names and numbers may be there. Neither the height of its terms nor the question
 -- whether a family shows a record belongs to the spelling.
 use Rattle.std.specs.Prelude.{◌≡◌, ℕ, ◌+◌, ◌≤◌, Bool, true, false, List, [], ◌∷◌, ◌++◌, length}
 use Rattle.theory.specs.Terms.{Term, Sort, free_of}
@@ -28,7 +28,7 @@ abbrev pub raw_line : Signature → RawEntry → List ℕ
 raw_line S (RawFamilyOf raw) = line_text (with_name S raw.name) (RawFamilyOf raw)
 raw_line S raw = line_text S raw
 
--- ---- what may stand in it
+-- ---- what may be in it
 
 -- A term over n variables and the symbols of S; where `own` says so, also the family after its entries.
 pub record IsTermOver (S : Signature) (own : Bool) (n : ℕ) (t : Term) : Type 0 where

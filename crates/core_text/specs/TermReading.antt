@@ -1,4 +1,4 @@
--- Reading a term: one byte, or the word after a parenthesis, tells its form.
+-- Reading a term: one byte, or the word after a parenthesis, says its form.
 use Rattle.std.specs.Prelude.{ℕ, zero, suc, ◌+◌, ◌==◌, nat_le, Bool, true, false, if◌then◌else◌, List, [], ◌∷◌, length, take, drop, codes, bytes_eq, Ok, Err, Option, Some, None}
 use Rattle.theory.specs.Terms.{Term, Var, Sort, Pi, Lam, App, Let, height}
 use Rattle.core_text.specs.NameRuns.{run_len}
@@ -9,7 +9,7 @@ use Rattle.core_text.specs.declared.halt.Halt.TheVariants.{Nested}
 abbrev pub most : ℕ
 most = 2000
 
--- the levels 0 to 15, all of which may stand after `Type`
+-- the levels 0 to 15, all of which may be after `Type`
 abbrev pub sort_levels : List Bool
 sort_levels =
     true ∷ true ∷ true ∷ true ∷ true ∷ true ∷ true ∷ true ∷ true ∷ true ∷ true ∷ true ∷ true ∷ true ∷ true ∷ true ∷ []

@@ -32,7 +32,7 @@ fn no_parameter(rest: &[u8]) -> Result<(Option<Term>, &[u8]), Halt>
     Ok((None, past(b": ", rest)?))
 }
 
-/// One parameter more, or what stands before the type of the family.
+/// One parameter more, or what comes before the type of the family.
 fn next_parameter<'t>(
     scope: &Scope,
     count: usize,

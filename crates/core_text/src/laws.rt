@@ -33,7 +33,7 @@ pub fn lines_are_read()
     ensures { LinesAreRead }
 {}
 
-/// Where names are plain, each symbol is looked up by its name, which is told from what follows it.
+/// Where names are plain, each symbol is looked up by its name, which is told apart from what follows it.
 pub fn names_are_spelled()
     ensures { NamesAreSpelled }
 {}
@@ -48,7 +48,7 @@ pub fn notes_are_passed_over()
     ensures { NotesArePassedOver }
 {}
 
-/// No entry is left exactly where nothing but such lines stands.
+/// No entry is left exactly where nothing but such lines is.
 pub fn ends_are_read()
     ensures { EndsAreRead }
 {}

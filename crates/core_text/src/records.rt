@@ -138,7 +138,7 @@ fn kind(family: u32, f: &Family, at: usize, ty: &Term) -> Result<ArgKind, Halt>
     Ok(kind_of(family, f, at as u32, ty))
 }
 
-/// Adds the domains of the leading products of the term as arguments, with levels 0, and answers what stands after them.
+/// Adds the domains of the leading products of the term as arguments, with levels 0, and answers what comes after them.
 fn arguments(family: u32, f: &Family, args: &mut Items<Arg>, t: Term) -> Result<Term, Halt>
     ensures types { OnOk result (map typed args.new ≡ map typed args.old ++ map with_level_zero (domains_of (tree_of t))) }
     ensures kinds { OnOk result (HaveKinds family (family_of f.now) 0 args.old → HaveKinds family (family_of f.now) 0 args.new) }

@@ -5,7 +5,7 @@ ghost use Rattle.core_text.specs.NameRuns as spec;
 
 use crate::scanning::skip;
 
-/// Whether the character can stand in a name.
+/// Whether the character can be in a name.
 fn is_name_char(c: char) -> bool
     ensures { result ≡ spec.is_name_char c }
 {
@@ -27,7 +27,7 @@ fn width(first: u8) -> usize
     }
 }
 
-/// Whether all characters can stand in a name.
+/// Whether all characters can be in a name.
 fn all_name_chars(text: &str) -> bool
     ensures { result ≡ list_all spec.is_name_char (chars text.now) }
 {
@@ -44,7 +44,7 @@ fn are_name_chars(bytes: &[u8]) -> bool
     }
 }
 
-/// How many bytes the first character has, or 0 where no character of a name stands there.
+/// How many bytes the first character has, or 0 where no character of a name is there.
 fn name_char_len(bytes: &[u8]) -> usize
     ensures value { result ≡ spec.name_char_len bytes.now }
     ensures within { result ≤ length bytes.now }

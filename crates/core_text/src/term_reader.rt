@@ -116,7 +116,7 @@ pub(crate) fn read_after<'t>(
     read_term(scope, under, room, past(word, rest)?)
 }
 
-/// What stands after a parenthesis.
+/// What comes after a parenthesis.
 #[cycle(read_term)]
 fn read_enclosed<'t>(
     scope: &Scope,
@@ -170,7 +170,7 @@ fn read_let<'t>(
     close(term, height, rest)
 }
 
-/// What stands after the first term in parentheses.
+/// What comes after the first term in parentheses.
 #[cycle(read_term)]
 fn read_after_first<'t>(
     scope: &Scope,

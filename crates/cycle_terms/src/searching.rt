@@ -46,7 +46,7 @@ pub fn is_below(c: &Search, t: &Term) -> bool
     }
 }
 
-/// Whether it is at or below a direct argument among the first `at` arguments of a constructor, of which those that stand in `t` are
+/// Whether it is at or below a direct argument among the first `at` arguments of a constructor, of which those that are in `t` are
 /// the last.
 #[cycle(is_below)]
 pub fn is_below_along(c: &Search, args: &[Arg], at: usize, t: &Term) -> bool

@@ -1,4 +1,4 @@
--- What the tests tell.
+-- What the tests say.
 use Rattle.std.specs.Prelude.{◌≡◌, true}
 use Rattle.theory.specs.Signatures.{Signature}
 use Rattle.theory.specs.WellFormed.{IsWellFormed}

@@ -1,4 +1,4 @@
-//! What the tests tell.
+//! What the tests say.
 ghost use Rattle.draft_checks.specs.Laws.{EnterableMayEnter, UnmarkedIsOpen};
 
 /// A draft that is found to be one that may enter is such a draft.

@@ -1,4 +1,4 @@
--- The signature with the function at its end: it is ready where the signature is, and the trees of a plan stand over it.
+-- The signature with the function at its end: it is ready where the signature is, and the trees of a plan are over it.
 use Rattle.std.proofs.Common.{◌≡◌, append_assoc, ◌⊎◌, ℕ, ◌+◌, ◌<◌, List, [], ◌∷◌, ◌++◌, length, All, ap, ◌∙◌, arith}
 use Rattle.std.proofs.lemmas.List.{length-append}
 use Rattle.std.proofs.lemmas.List.Elements.{All-weaker}
@@ -55,7 +55,7 @@ pub record IsTree (S : Signature) (context : Telescope) (goal : Term) (terms : L
   pub stands : StandsAt S (start_at context goal terms) t
   pub scoped : IsScopedTree S t
 
--- the tree of a part stands over the signature with the function
+-- the tree of a part is over the signature with the function
 pub part-tree : (S : Signature) (plan : Plan) (uses : List Use) (at : ℕ) (part : Part) (context : Telescope) (goal : Term) (terms : List Term) → IsReady (with_function S plan)
     → IsPartOf S plan uses at part context goal terms → IsScopedTelescope S 0 context → IsScoped S (length context) goal → All (IsScoped S (length context)) terms
     → IsTree (with_function S plan) context goal terms part.tree

@@ -48,7 +48,7 @@ pub(crate) fn enter_entry(
     enter(alloc, sig, 0, fuel, raw, &mut units)
 }
 
-/// Adds an entry, whose name stands at the offset `start`, and answers its number. All of it may spend `fuel` units. After a
+/// Adds an entry, whose name is at the offset `start`, and answers its number. All of it may spend `fuel` units. After a
 /// refusal the signature is as it was, and the units that were spent stay spent.
 pub(crate) fn enter(
     alloc: Global,

@@ -22,7 +22,7 @@ pub enum PartName {
 ///
 /// `NotYet` is a form of declaration that is not built yet, with the offset of its first name. `Fuel` has the units that a
 /// declaration may spend, `Deep` is a term higher than 2,000 or kernel calls nested deeper than that. `UnknownName`,
-/// `Duplicate`, `WrongArity` and `NotLinear` have an offset and the name that stands there. `NotPositive` has a constructor
+/// `Duplicate`, `WrongArity` and `NotLinear` have an offset and the name that is there. `NotPositive` has a constructor
 /// and its argument, counted from 1, or 0 for its result; `IndexTooLarge` has a constructor and its argument, or an index
 /// where there is no constructor. The texts of `IllTyped` are printed over the signature in which the denial arose.
 #[derive(Debug, Drop)]

@@ -7,7 +7,7 @@ use crate::PortError;
 
 /// Where bytes go.
 pub trait Sink {
-    // The bytes that were written, where the sink tells them.
+    // The bytes that were written, where the sink says them.
     ghost written: { Self → Option (List ℕ) };
 
     // How many writes failed; it stays at its last value once it is there.

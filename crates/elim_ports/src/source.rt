@@ -8,7 +8,7 @@ use crate::PortError;
 
 /// Where bytes come from.
 pub trait Source {
-    // The bytes still to come, where the source tells them.
+    // The bytes still to come, where the source says them.
     ghost left: { Self → Option (List ℕ) };
 
     // How many reads failed; it stays at its last value once it is there.

@@ -7,7 +7,7 @@ use crate::{PortError, Sink};
 use std::io::Write;
 use std::marker::Model;
 
-/// A sink over a writer of the standard library, which tells nothing of the bytes.
+/// A sink over a writer of the standard library, which says nothing of the bytes.
 ///
 /// Each error of the writer is a fault, also one that says that the write was interrupted. The writer is not flushed.
 #[derive(Debug, Drop)]

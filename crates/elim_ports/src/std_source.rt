@@ -9,7 +9,7 @@ use crate::{PortError, Source};
 use std::io::Read;
 use std::marker::Model;
 
-/// A source over a reader of the standard library, which tells nothing of the bytes.
+/// A source over a reader of the standard library, which says nothing of the bytes.
 ///
 /// Each error of the reader is a fault, also one that says that the read was interrupted.
 #[derive(Debug, Drop)]

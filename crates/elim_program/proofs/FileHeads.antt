@@ -26,7 +26,7 @@ headed k has_k text h allowed =
     let le = shared-within text (head has_k) in
     record { within = subst (λ n. n ≤ length text) whole le; allowed = allowed }
 
--- the head that is read, by whether each of the two stands there
+-- the head that is read, by whether each of the two is there
 abbrev head_by : Bool → List ℕ → Bool → Bool → Result (Bool × ℕ) CoreTextStop
 head_by k text plain with_k =
     if plain then Ok (false, length (head false))

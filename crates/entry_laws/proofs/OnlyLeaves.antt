@@ -27,7 +27,7 @@ use Rattle.entry_laws.proofs.OnlyFamilies.{FamilyOnly, only-lifted}
 use Rattle.entry_laws.proofs.OnlyStates.{OptionOnly, only-all_placed}
 use Rattle.entry_laws.proofs.OnlyPaths.{only-path_of, only-shape}
 
--- ---- what a comparison with the leaf tells
+-- ---- what a comparison with the leaf says
 
 only-or : (Q : ℕ → Type 0) (o p : Option Term) → OptionOnly (HasOnly Q) o → OptionOnly (HasOnly Q) p → OptionOnly (HasOnly Q) (option_or o p)
 only-or Q None p h k = k

@@ -100,7 +100,7 @@ scoped-over S T n (Con f c) more each h = IsOver.of_con (more.constructors f c h
 scoped-over S T n (Elim f m) more each h = IsOver.of_elim (more.families f h.entries)
 scoped-over S T n (AxiomK i m) more each h = IsOver.of_axiom
 
--- ---- what a comparison with the leaf tells
+-- ---- what a comparison with the leaf says
 
 chosen-there : (S : Signature) (m : ℕ) (b : Bool) (o : Option Term) → OptionOnly (IsScoped S m) o → OptionOnly (IsScoped S m) (cond b o None)
 chosen-there S m true o h = h

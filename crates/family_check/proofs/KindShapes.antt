@@ -99,7 +99,7 @@ plain-are n f k t h = by_case (recursive_parts n f k t) refl (recursive-found n 
     by_case None e is = e
     by_case (Some p) e is = absurd (h p.0 p.1 is)
 
--- the kind of an argument tells whether it has the parts of a recursive one
+-- the kind of an argument says whether it has the parts of a recursive one
 pub kind-tells : (n : ℕ) (f : Family) (k : ℕ) (kind : ArgKind) (t : Term) → HasKind n f k kind t → is_some (recursive_parts n f k t) ≡ is_recursive kind
 kind-tells n f k Plain t h = ap is_some (plain-are n f k t h)
 kind-tells n f k (Recursive count) t h = ap is_some (recursive-are n f k h.0 h.1 t h.3)
@@ -111,7 +111,7 @@ kind-takes n f k Plain t level h = ap (argument_of t level) (sym (plain-are n f 
 kind-takes n f k (Recursive count) t level h =
     argument_with-recursive n f k count h.0 h.1 t level h.2 h.3 ∙ ap (argument_of t level) (sym (recursive-are n f k h.0 h.1 t h.3))
 
--- that of an end tells whether there are targets
+-- that of an end says whether there are targets
 pub end-tells : (n : ℕ) (f : Family) (k : ℕ) (kind : ArgKind) (t : Term) → is_product t ≡ false → HasKind n f k kind t
     → is_some (targets_of n f k t) ≡ is_recursive kind
 unfolding parts_by

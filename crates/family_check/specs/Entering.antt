@@ -29,16 +29,16 @@ entered_at S n = record { number = n; signature = S }
 abbrev pub entered : Signature → Entry → Entered
 entered S e = entered_at (pushed S e) (length S.entries)
 
--- a name stands twice in the list
+-- a name occurs twice in the list
 abbrev pub has_repeat : List (List ℕ) → Bool
 has_repeat [] = false
 has_repeat (name ∷ names) = list_any (bytes_eq name) names || has_repeat names
 
--- the signature knows none of the names, and none of them stands twice
+-- the signature knows none of the names, and none of them occurs twice
 abbrev pub are_new : Signature → List (List ℕ) → Bool
 are_new S names = not (list_any (λ name. is_some (find S name)) names || has_repeat names)
 
--- the signature knows the name, or the name stands among those before it
+-- the signature knows the name, or the name is among those before it
 abbrev pub is_taken : Signature → List (List ℕ) → List ℕ → Bool
 is_taken S before name = is_some (find S name) || list_any (bytes_eq name) before
 

@@ -42,7 +42,7 @@ level_in S role k G a left =
     and_next (sort_in S (site_of role k) G a left) (λ sort rest.
     ended (fitting role k (sort_level sort)) rest)
 
--- the levels of the types of a telescope from the left, where `count` types stand before them
+-- the levels of the types of a telescope from the left, where `count` types come before them
 abbrev pub levels_of : Signature → Role → ℕ → Context → Telescope → ℕ → Outcome (List ℕ)
 levels_of S role count G tele left = for_each (λ G k a. level_in S role (k + 1) G a) (λ G a. a ∷ G) G count tele left
 

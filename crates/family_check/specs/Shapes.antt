@@ -44,7 +44,7 @@ arguments n f k _ _ = []
 abbrev pub is_positive : ℕ → Family → ℕ → Term → Bool
 is_positive n f k t = not (mentions n t) || is_some (recursive_parts n f k t)
 
--- the first argument that does not, counted from 1, where k arguments stand before the given ones
+-- the first argument that does not, counted from 1, where k arguments come before the given ones
 abbrev pub first_offender : ℕ → Family → ℕ → Telescope → Option ℕ
 first_offender n f k [] = None
 first_offender n f k (t ∷ types) = cond (is_positive n f k t) (first_offender n f (k + 1) types) (Some (k + 1))

@@ -7,7 +7,7 @@ use core_sig::{NameSet, RawFamily, Signature};
 use core_terms::{Name, Stop};
 use std::alloc::Global;
 
-/// Whether the signature knows none of the names that the family brings, and none of them stands twice.
+/// Whether the signature knows none of the names that the family brings, and none of them occurs twice.
 pub(crate) fn are_new(alloc: Global, sig: &Signature, raw: &RawFamily) -> Result<bool, Stop>
     ensures { Gives (λ new. new) result (Ok (spec.are_new sig.now (raw_names (raw_of raw.now)))) }
 {

@@ -17,7 +17,7 @@ pub enum Site {
 ///
 /// `NotPositive` has a constructor and its argument, counted from 1, or 0 for its result. `TooLarge` has a constructor and
 /// its argument, or an index where there is no constructor, counted from 1. `BadFamily` is a type that is no products
-/// ending in a sort, `Duplicate` a name that is known or stands twice.
+/// ending in a sort, `Duplicate` a name that is known or occurs twice.
 #[derive(Debug, Drop)]
 pub enum FamilyStop {
     Stop(Stop),

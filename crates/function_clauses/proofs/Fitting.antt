@@ -86,7 +86,7 @@ pub clauses-for : (S : Signature) (us : List Term) (clauses : Clauses) → AreCl
 clauses-for S us clause.nil h = tt
 clauses-for S us (clause.cons c clauses) h = (clause-for S us c h.0, clauses-for S us clauses h.1)
 
--- what stands after the patterns
+-- what comes after the patterns
 pub right-of : (S : Signature) (k n : ℕ) (right : Right) → IsRight S k n right → IsRightSide S k right
 right-of S k n (clause.Side t) h = h.scoped.entries
 right-of S k n (clause.With t inner) h = (h.0.scoped.entries, h.1)

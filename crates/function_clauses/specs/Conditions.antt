@@ -1,4 +1,4 @@
--- What is asked of a walk and of what stands after it.
+-- What is asked of a walk and of what comes after it.
 use Rattle.std.specs.Prelude.{◌<◌, ℕ, ◌+◌, length}
 use Rattle.theory.specs.Signatures.{Signature}
 use Rattle.theory.specs.SignatureScopes.{HasEntries}

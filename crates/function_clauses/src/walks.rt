@@ -37,7 +37,7 @@ fn helper_after(next: u32, given: &Given) -> Result<u32, Stop>
     sum(next, count)
 }
 
-/// Clause `number` of part `k`, where `next` is the number of the next helper: its own walk, its dots, and what stands after them.
+/// Clause `number` of part `k`, where `next` is the number of the next helper: its own walk, its dots, and what comes after them.
 #[cycle(walks)]
 fn walk_clause<'a>(
     alloc: Global,

@@ -42,7 +42,7 @@ pub fn after_first(terms: &[Term], count: u32) -> &[Term]
     }
 }
 
-/// Types, followed by those of a telescope, which stand one variable further in; so many of its types come before.
+/// Types, followed by those of a telescope, which are one variable further in; so many of its types come before.
 #[tactic(auto, using(tele_eq::proofs::Growing::growing))]
 fn with_raised(alloc: Global, from: u32, tele: &[Term], mut made: Tele) -> Result<Tele, Stop>
     ensures { Gives tele_of result (Ok (tele_of made ++ lifted.lift_telescope (tele_of tele.now) 1 from)) }
@@ -73,7 +73,7 @@ pub fn goal_with_below(alloc: Global, at: u32, count: u32, goal: &Term) -> Resul
     raised(alloc, 1, count.saturating_sub(at), goal)
 }
 
-/// Terms, followed by the variables at `count` old positions from one on, which stand in a new order.
+/// Terms, followed by the variables at `count` old positions from one on, which are in a new order.
 #[tactic(auto, using(tele_eq::proofs::Growing::growing))]
 fn with_ordered(
     order: &[u32],

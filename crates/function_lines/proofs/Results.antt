@@ -28,7 +28,7 @@ prelude-stays S T h p = transport (λ k. IsPrefix (prelude k) T) (sym h.has_k) (
 pub closed-type : (S : Signature) (type : Term) → IsScopedSignature S → IsScoped S 0 type → AreWellScoped S [] (type ∷ [])
 closed-type S type signature scoped = record { signature = signature; context = tt; few = omega arith; terms = (scoped, tt) }
 
--- a refusal that is shown over the signature as it stood before
+-- a refusal that is shown over the signature as it was before
 pub refused-after : (S T : Signature) (owner : Owner) (stop : ReportStop) (r : Refusal) (left : ℕ) (meant : Reporting Signature) → T ≡ S
     → r ≡ of_report T owner stop → spent (Err stop) left ≡ meant → spent (Err r) left ≡ reporting S owner meant
 refused-after S T owner stop r left meant is shown ends =

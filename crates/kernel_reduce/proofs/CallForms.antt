@@ -184,7 +184,7 @@ map-drop f (suc n) (x ∷ xs) = map-drop f n xs
 pub tele_take : (n : ℕ) (xs : List code.Term) → tele_of (take n xs) ≡ take n (tele_of xs)
 tele_take n xs = map-take tree_of n xs
 
--- a value of the code, whatever stands past the end
+-- a value of the code, whatever is past the end
 pub value-there : (values : List code.Term) (k : ℕ) (r : code.Term) (d : Term) → k < length values → r ≡ get_or values k r → tree_of r ≡ get_or (tele_of values) k d
 value-there [] k r d low e = absurd (omega arith)
 value-there (v ∷ values) zero r d low e = ap tree_of e

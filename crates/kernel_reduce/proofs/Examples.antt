@@ -166,7 +166,7 @@ k_rests : whnf_of (sample false) true 10 by_k ≡ answered (Ok by_k) 10
 unfolding sample number by_k
 k_rests = refl
 
--- It takes none either where another family stands in the place of Eq.0.
+-- It takes none either where another family occurs in the place of Eq.0.
 
 k_elsewhere : whnf_of (record { entries = FamilyOf natural_family ∷ FamilyOf natural_family ∷ []; has_k = true }) true 10 by_k ≡ answered (Ok by_k) 10
 unfolding natural_family number by_k

@@ -11,7 +11,7 @@ use Rattle.kernel_reduce.specs.Entries.{family_at}
 use Rattle.kernel_reduce.specs.Identities.{is_sort, is_variable, is_named, has_parameters, has_index, has_no_arguments, has_target, has_reflexivity, is_identity, is_identity_there, has_k_at}
 use Rattle.kernel_reduce.proofs.LookUps.{both-true, family-found}
 
--- the test by the family that stands there
+-- the test by the family that is there
 pub identity-tested : (S : Signature) (i n : ℕ) (o : Option Family) (answer : Bool) → n ≡ equality i → o ≡ family_at S n
     → answer ≡ is_identity_there i o → answer ≡ is_identity_there i (family_at S (equality i))
 identity-tested S i n o answer number found e = e ∙ ap (is_identity_there i) (found ∙ ap (family_at S) number)

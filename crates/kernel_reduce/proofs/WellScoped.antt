@@ -161,7 +161,7 @@ pub after_push : {S : Signature} {ts : List Term} (types more : List code.Term) 
     → AreWellScoped S (tele_of types ++ tree_of t ∷ []) ts → AreWellScoped S (tele_of more) ts
 after_push {S} {ts} types more t is h = transport (λ G. AreWellScoped S G ts) (sym (ap tele_of is ∙ map-append tree_of types (t ∷ []))) h
 
--- the same terms, lifted past the new variables, and as they stand
+-- the same terms, lifted past the new variables, and as they are
 pub lifted : {S : Signature} {G : Telescope} {ts : List Term} (tele : Telescope) → AreWellScoped S G ts → IsScopedTelescope S (length G) tele
     → length G + length tele < context_limit → AreWellScoped S (G ++ tele) (map (λ t. lift t (length tele) 0) ts)
 lifted {S} {G} {ts} tele h inner few = under-telescope tele h inner few (scoped-lift S (length G) (length tele) ts h.terms)

@@ -12,7 +12,7 @@ use Rattle.core_sig.specs.declared.family.ArgKind.{ArgKind}
 use Rattle.core_sig.specs.declared.family.ArgKind.TheVariants.{Plain, Recursive}
 use Rattle.core_terms.specs.Instances.{instance_of}
 
--- the recursor at the targets that stand in `D p targets`, so many binders further in
+-- the recursor at the targets that are in `D p targets`, so many binders further in
 abbrev pub call_of : List Term → ℕ → Term → ℕ → Term → Term
 call_of values p recursor under (App f a) =
     cond (nat_le p (min (length (spine_of f)) 2001))

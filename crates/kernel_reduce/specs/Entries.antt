@@ -1,4 +1,4 @@
--- What stands at a number of a signature.
+-- What is at a number of a signature.
 use Rattle.std.specs.Prelude.{ℕ, Bool, false, cond, ◌==◌, Option, Some, None, option_and_then, slice_get}
 use Rattle.theory.specs.Terms.{Term, Const}
 use Rattle.theory.specs.Families.{Family, Constructor}

@@ -13,7 +13,7 @@ abbrev pub nesting : ℕ
 nesting = 2000
 
 -- 3 * 2 ^ 30 - 2000: so many at most has a term that a call is given, which is more than 2 ^ 31. As many binders more as calls
--- may be open stand around a term inside.
+-- may be open be around a term inside.
 abbrev pub most_variables : ℕ
 most_variables = 3221223472
 

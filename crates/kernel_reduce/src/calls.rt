@@ -50,7 +50,7 @@ pub fn head_step(
     next_step(alloc, sig, t, delta, units)
 }
 
-/// The head form of a term: head steps until there is none, so a term that takes none is answered as it stands.
+/// The head form of a term: head steps until there is none, so a term that takes none is answered as it is.
 ///
 /// Each step costs one unit. Deep where the term, or one that a step makes, is too high; Fuel where a step is left and no
 /// unit. The units that the steps until then took stay spent.
@@ -71,7 +71,7 @@ pub fn whnf(
     head_form(alloc, sig, t, delta, units)
 }
 
-/// The head form of a term without delta: `whnf` with the same units and errors, where constants stay as they stand.
+/// The head form of a term without delta: `whnf` with the same units and errors, where constants stay as they are.
 pub fn tidy(alloc: Global, sig: &Signature, t: &Term, units: &mut Units) -> Result<Term, Stop>
     requires { CanReduce sig.now (tree_of t.now ∷ []) }
     ensures answer { Runs tree_of result units.new.left (tidy_of sig.now units.old.left (tree_of t.now)) }

@@ -1,6 +1,6 @@
 //! Reduction and comparison of terms, with units.
 //!
-//! Every call has one condition: its terms are scoped, and few variables stand free in them (`specs/WellScoped`). A caller
+//! Every call has one condition: its terms are scoped, and few variables are free in them (`specs/WellScoped`). A caller
 //! shows it for the terms of a context, and carries it on to their parts, under binders and to answers by the lemmas of
 //! `proofs/WellScoped`.
 #![tactic(auto)]

@@ -1,4 +1,4 @@
--- Terms in which the function does not stand are put into a right side in which no call is the argument of another: still none is.
+-- Terms in which the function is not are put into a right side in which no call is the argument of another: still none is.
 use Rattle.std.proofs.Common.{◌≡◌, ℕ, zero, suc, ◌<◌, ◌==◌, ◌||◌, Bool, true, false, cond, List, [], ◌∷◌, length, get_or, refl, sym, ap, ap₂, ◌∙◌, arith}
 use Rattle.std.proofs.lemmas.Bool.{true≢false}
 use Rattle.std.proofs.lemmas.Bool.Decides.{nat_tests}
@@ -96,7 +96,7 @@ call-in base s (Con n c) h e = absurd (true≢false (sym e))
 call-in base s (Elim n m) h e = absurd (true≢false (sym e))
 call-in base s (AxiomK i m) h e = absurd (true≢false (sym e))
 
--- in such a term calls stand apart
+-- in such a term calls are apart
 free-apart : (base position : ℕ) (t : Term) → has_constant base t ≡ false → CallsStandApart base position t
 free-apart base position (Pi a b) e =
     let parts = or-false (has_constant base a) (has_constant base b) e in (free-apart base position a parts.first, free-apart base position b parts.second)

@@ -1,4 +1,4 @@
--- The family of recursion that is found stands in the signature.
+-- The family of recursion that is found is in the signature.
 use Rattle.std.proofs.Common.{◌≡◌, ℕ, Option, Some, None, option_map, option_and_then, refl}
 use Rattle.theory.specs.Families.{Family}
 use Rattle.theory.specs.Signatures.{Signature}

@@ -19,7 +19,7 @@ use Rattle.leaf_terms.specs.declared.paths.Descent.{Descent}
 use Rattle.leaf_terms.specs.declared.right_sides.BelowValue.{BelowValue}
 use Rattle.leaf_terms.specs.declared.right_sides.Place.{Place}
 
--- the family of recursion stands in the signature, where there is recursion
+-- the family of recursion is in the signature, where there is recursion
 abbrev pub HasFamily : Signature → Option recursions.Recursion → Type 0
 HasFamily S r = IfSome r (λ r. IsEntryAt S r.admission.number (FamilyOf r.family))
 

@@ -43,7 +43,7 @@ fn is_helper(base: u32, t: &Term) -> bool
     }
 }
 
-/// The terms for the variables of the context of a clause's walk, by what the comparison with a leaf tells. There are none without a
+/// The terms for the variables of the context of a clause's walk, by what the comparison with a leaf says. There are none without a
 /// walk.
 fn values_in_walk(
     alloc: Global,

@@ -357,7 +357,7 @@ module _ (bound : ℕ) (c : Search) (is : IsOldSearch bound c) where
   with-tells None t go proof h each = h
   with-tells (Some con) t go proof h each = each con.arguments
 
-  -- what tells goes on telling
+  -- `Tells` holds along the way
   along-tells : (whole : Term) (arguments : List ArgumentShape) (at : ℕ) (t tuple : Term) (proof : List ℕ) → at ≤ length arguments → IsOld bound whole → IsOld bound t
       → Tells tuple proof → Tells (component_along c whole arguments at t tuple) proof
   along-tells whole arguments (suc at) (App g r) tuple proof le hw (HasOnly.of_app hg hr) h =
@@ -376,7 +376,7 @@ module _ (bound : ℕ) (c : Search) (is : IsOldSearch bound c) where
       with-tells (constructor_of c.family c.shape whole) tuple _ proof h
       (λ arguments. along-tells whole arguments (length arguments) whole tuple proof (omega arith) hw hw h)
 
-  -- where the variable stands below the constructor, the entry of parts is mentioned first
+  -- where the variable occurs below the constructor, the entry of parts is mentioned first
   along-first : (whole : Term) (arguments : List ArgumentShape) (at : ℕ) (t tuple : Term) → at ≤ length arguments → IsOld bound whole → IsOld bound t
       → is_below_along c arguments at t ≡ true → Tells (component_along c whole arguments at t tuple) (mentions bound tuple)
   along-first whole arguments (suc at) (App g r) tuple le hw (HasOnly.of_app hg hr) below =

@@ -37,7 +37,7 @@ use Rattle.name_laws.proofs.ToldCycles.{IsOldSearch, for-tells, for-first, motiv
 
 -- ---- what runs are asked for
 
--- the variable stands below the constructor on the left, along direct arguments
+-- the variable occurs below the constructor on the left, along direct arguments
 abbrev pub StandsBelow : Standing → (x : ℕ) → (left : Term) → (from_left from_right : Option Built) → Type 0
 StandsBelow s x left None from_right = Unit {0}
 StandsBelow s x left (Some b) (Some d) = Unit {0}

@@ -90,7 +90,7 @@ dropping-at s p k motive method depth (suc i) (d ∷ cs) c at =
     let here : method + 1 + i ≡ method + suc i = omega arith in
     dropping-at s p k motive (method + 1) depth i cs c at ∙ ap (λ j. Some (inst s (dropping p k motive j depth c))) here
 
--- what stands at a position, with what stands before it and after it
+-- what is at a position, with what comes before it and after it
 pub record SplitAt {X : Type 0} (xs : List X) (i : ℕ) (x : X) : Type 0 where
   pub before : List X
   pub after : List X

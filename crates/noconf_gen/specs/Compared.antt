@@ -7,7 +7,7 @@ use Rattle.core_sig.specs.ByLevels.{family_at}
 use Rattle.core_sig.specs.Shapes.{ArgumentShape, ConstructorShape, Shape}
 use Rattle.tele_eq.specs.Items.{Item}
 
--- arguments or indices, the first of which stands over `size` variables of the family's record
+-- arguments or indices, the first of which is over `size` variables of the family's record
 abbrev pub placed_items : (runs : List (ℕ × ℕ)) (size depth : ℕ) → List ArgumentShape → List Item
 placed_items runs size depth [] = []
 placed_items runs size depth (a ∷ arguments) =

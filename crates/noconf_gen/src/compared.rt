@@ -12,7 +12,7 @@ use core_terms::{Items, Run, Stop, Tele, Term, applied_to_run, place, variable};
 use std::alloc::Global;
 use tele_eq::Item;
 
-/// Arguments or indices, the first of which stands over `size` variables of the family's record, after the items that are made.
+/// Arguments or indices, the first of which is over `size` variables of the family's record, after the items that are made.
 #[tactic(auto, using(tele_eq::proofs::Growing::growing))]
 fn placed_items(
     alloc: Global,

@@ -70,7 +70,7 @@ visible-gap a more n e =
 
 -- ---- terms
 
--- levels of j variables, of which those from number a on stand one further in
+-- levels of j variables, of which those from number a on are one further in
 record IsGap (levels : List ℕ) (j a : ℕ) : Type 0 where
   count : length levels ≡ j
   room : a ≤ j

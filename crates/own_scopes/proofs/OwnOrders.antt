@@ -1,4 +1,4 @@
--- In the order of a function that does not call itself each variable stands where it stood.
+-- In the order of a function that does not call itself each variable is where it was.
 use Rattle.std.proofs.Common.{◌≡◌, ℕ, zero, suc, ◌+◌, ◌-◌, ◌<◌, ◌≤◌, ◌==◌, inl, inr, false, cond, [], ◌∷◌, length, refl, sym, ap, ap₂, ◌∙◌, arith, eq-eqb}
 use Rattle.theory.specs.Terms.{Term, Var, Sort, Pi, Lam, App, Let, Const, Fam, Con, Elim, AxiomK}
 use Rattle.theory.specs.Telescopes.{Telescope}

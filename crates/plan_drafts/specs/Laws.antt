@@ -23,7 +23,7 @@ pub record IsPlanFor (S : Signature) (f : Function) (plan : Plan) : Type 0 where
   pub is : (plan_of S f level left).0 ≡ Ok plan
   pub closed : BeginsClosed S plan
 
--- The drafts of a function are scoped: they stand over the signature, and name its entries and their own names alone.
+-- The drafts of a function are scoped: they are over the signature, and name its entries and their own names alone.
 abbrev pub FunctionDraftsScoped : Type 0
 FunctionDraftsScoped =
     (S : Signature) (f : Function) (plan : Plan) (drafts : List Draft) → IsPlanFor S f plan → IsPrefix (prelude S.has_k) S → translate S plan ≡ Ok drafts →

@@ -178,7 +178,7 @@ not-called base s a none = by (is_function base (head_of a)) refl
     by false e = refl
     by true e = absurd (true≢false (sym (called-in base s a e).head ∙ none))
 
--- calls stand apart in a term, where no call in its instance has a call at the position
+-- calls are apart in a term, where no call in its instance has a call at the position
 pub stand-apart : (base position under : ℕ) (s : ℕ → Term) (t whole : Term) (rest : List Term) → spine_of whole ≡ spine_of (inst s t) ++ rest
     → All (HasNoCallAt base position) (calls_in base under whole (inst s t)) → CallsStandApart base position t
 stand-apart base position under s (Pi a b) whole rest e h = (

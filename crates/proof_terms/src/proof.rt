@@ -1,6 +1,6 @@
 use core_terms::{Items, Step, Tele, Term};
 
-/// Where a walk stands: a context, the equation there, the terms of the clause, and a term for each variable of the tree's node.
+/// Where a walk is: a context, the equation there, the terms of the clause, and a term for each variable of the tree's node.
 #[derive(Debug, Drop)]
 pub struct Place {
     pub ctx: Tele,

@@ -1,4 +1,4 @@
--- What holds of the refusal, where calls stand one after the other.
+-- What holds of the refusal, where calls are one after the other.
 use Rattle.std.proofs.Common.{◌≡◌, ℕ, List, Result, Ok, Err, IfErr, refl, subst as transport}
 use Rattle.core_terms.specs.Answers.{SpentOr, and_next, on_answer}
 use Rattle.core_terms.proofs.Answers.{Splits}

@@ -109,7 +109,7 @@ reflexivities-there X us few low hu =
     ap (λ b. cond {A = Result (List Term) Stop} b (Ok (reflexivities X us)) (Err Deep))
     (ap₂ ◌&&◌ (few-enough (length X) few) (ap₂ ◌&&◌ low (terms-low us hu)))
 
--- what stands before the equations of the group is made
+-- what comes before the equations of the group is made
 group-made : (s : Standing) (k : ℕ) (c : Comparison) → IsCounted k c → length c.family.indices + 1 ≤ 1000 → AreLow (group_equations s c k)
     → (before : List Term) × (before_group c k ≡ Ok before)
 group-made s zero c counted few low =

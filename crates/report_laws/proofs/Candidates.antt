@@ -65,7 +65,7 @@ only-in-table S count table many (Con n c) h = HasOnly.of_con
 only-in-table S count table many (Elim n m) h = HasOnly.of_elim
 only-in-table S count table many (AxiomK i m) h = HasOnly.of_axiom
 
--- the names stand over the signature
+-- the names are over the signature
 names-over : (S : Signature) (count : ℕ) → IsNamedOver S (with_count S count) (length S.entries)
 names-over S count = record {
   families = λ n is. (scoped-draft S count 0 (Fam n) (record { variables = omega arith; entries = is })).entries;

@@ -1,4 +1,4 @@
--- Telescopes that are resolved one binder after the other, where the types of the first ones stand already.
+-- Telescopes that are resolved one binder after the other, where the types of the first ones are already.
 use Rattle.std.proofs.Common.{◌≡◌, ℕ, ◌+◌, ◌<◌, ◌≤◌, List, [], ◌∷◌, ◌++◌, map, drop, length, get_or, Option, Ok, Err, refl, ap, sym, ◌∙◌}
 use Rattle.std.proofs.Math.ListN.{drop_of_length-le}
 use Rattle.std.proofs.lemmas.List.{map-append}
@@ -12,7 +12,7 @@ use Rattle.resolve.specs.Names.{Scope, name_of}
 use Rattle.resolve.specs.Resolving.{Answer, binding, group, low}
 use Rattle.core_terms.proofs.Lists.{drop-at}
 
--- one type more, bound nearest to what stands under it
+-- one type more, bound nearest to what is under it
 pub closed_more : (make : Term → Term → Term) (types : List Term) (a : Term) (inner : Answer) → closed make (types ++ a ∷ []) inner ≡ closed make types (binding make (Ok a) inner)
 closed_more make [] a inner = refl
 closed_more make (b ∷ types) a inner = ap (binding make (Ok b)) (closed_more make types a inner)
@@ -47,7 +47,7 @@ pub group_done : (make : Term → Term → Term) (names : List (Option Word)) (k
     → group make (drop k names) type inner scope ≡ inner scope
 group_done make names k type inner scope end = ap (λ xs. group make xs type inner scope) (drop_of_length-le names end)
 
--- the last type is bound around what stands under it
+-- the last type is bound around what is under it
 pub bind_step : (make : Term → Term → Term) (types rest : List Low) (a under made : Low) → types ≡ rest ++ a ∷ [] → Ok (low_of made) ≡ low (make (low_of a) (low_of under))
     → closed make (map low_of types) (Ok (low_of under)) ≡ closed make (map low_of rest) (Ok (low_of made))
 bind_step make types rest a under made is answer =

@@ -14,7 +14,7 @@ use Rattle.core_sig.proofs.NamesShown.{bytes_eq-swap}
 abbrev Places : Type 0
 Places = List (Vec ℕ Global × ℕ)
 
--- a name that is written at a place stands there, and the others stand where they stood
+-- a name that is written at a place is there, and the others are where they were
 pub last-insert : (name : List ℕ) (places : Places) (key : Vec ℕ Global) (at : ℕ)
     → last_of name (insert_entry (λ p q. bytes_eq p.items q.items) places key at) ≡ cond (bytes_eq name key.items) (Some at) (last_of name places)
 last-insert name [] key at = refl

@@ -13,7 +13,7 @@ use Rattle.core_terms.specs.Answers.{and_then}
 use Rattle.resolve.specs.Names.{Known, Scope, scope_of, known_in, with_name}
 use Rattle.resolve.specs.Resolving.{resolve}
 
--- a name that is declared: neither the signature has it, nor does it stand among the names that are declared before
+-- a name that is declared: neither the signature has it, nor is it among the names that are declared before
 abbrev pub declared : Signature → List (List ℕ) → Word → Result (List ℕ) ResolveStop
 declared S before x = if is_some (find S x.text) || list_any (bytes_eq x.text) before then Err (Duplicate x.start x.text) else Ok x.text
 
@@ -27,7 +27,7 @@ parameters known before (p ∷ params) =
     and_then (resolve known p.ty (scope_of before)) (λ type.
     and_then (parameters known (before ++ p.name.text ∷ []) params) (λ types. Ok (type ∷ types)))
 
--- constructors whose types stand in the scope, where the names `before` are declared before them
+-- constructors whose types are in the scope, where the names `before` are declared before them
 abbrev pub constructors : Signature → Known → Scope → List (List ℕ) → List surf.Typed → Result (List RawConstructor) ResolveStop
 constructors S known scope before [] = Ok []
 constructors S known scope before (c ∷ cons) =

@@ -16,7 +16,7 @@ Answer = Result tree.Term ResolveStop
 abbrev pub low : tree.Term → Answer
 low t = if is_low t then Ok t else Err Deep
 
--- a product or a function over two parts, the second of which stands under the binder
+-- a product or a function over two parts, the second of which is under the binder
 abbrev pub binding : (tree.Term → tree.Term → tree.Term) → Answer → Answer → Answer
 binding make first second = and_then first (λ a. and_then second (λ b. low (make a b)))
 

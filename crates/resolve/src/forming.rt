@@ -29,7 +29,7 @@ fn low(made: (Term, u32)) -> Result<Low, ResolveStop>
     Ok(Low { term, height })
 }
 
-/// The product or the function of a type and what stands under it.
+/// The product or the function of a type and what is under it.
 pub(crate) fn binding(alloc: Global, form: Form, ty: Low, body: Low) -> Result<Low, ResolveStop>
     ensures { Gives low_of result (spec.low (former form (low_of ty) (low_of body))) }
 {

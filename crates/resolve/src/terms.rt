@@ -135,7 +135,7 @@ fn group(
     Ok(())
 }
 
-/// The products or the functions of the types, the last of which is bound nearest to what stands under them.
+/// The products or the functions of the types, the last of which is bound nearest to what is under them.
 fn bind(alloc: Global, form: Form, types: Vec<Low>, inner: Low) -> Result<Low, ResolveStop>
     ensures { Gives low_of result (closed (former form) (map low_of types.items) (Ok (low_of inner))) }
 {

@@ -57,7 +57,7 @@ length-each : {A : Type 0} (f : ℕ → A) (j count : ℕ) → length (each_posi
 length-each f j zero = refl
 length-each f j (suc count) = ap suc (length-each f (j + 1) count)
 
--- the type that is split stands in the term
+-- the type that is split is in the term
 applied-more : (h h' : Term) (us : List Term) → height h ≤ height h' → height (applied h us) ≤ height (applied h' us)
 applied-more h h' [] le = le
 applied-more h h' (u ∷ us) le = applied-more (App h u) (App h' u) us (omega arith)

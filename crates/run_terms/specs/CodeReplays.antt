@@ -45,7 +45,7 @@ abbrev pub kept_by : Standing → (x : ℕ) (moved : List ℕ) → List ℕ
 kept_by s x moved =
     without (level_of (length s.state.context) x ∷ moved) (levels_from 0 (length s.state.context))
 
--- the equations after the first one, once it is solved, where the variables stand in such an order
+-- the equations after the first one, once it is solved, where the variables occur in such an order
 abbrev pub equations_by : State → (x i : ℕ) (A u : Term) (order : List ℕ) → List Equation
 equations_by s x i A u order =
     let n = length s.context in
@@ -56,7 +56,7 @@ equations_by s x i A u order =
     moved (behind n 1 m s' (over_first m (u' ∷ []))) (behind n 1 m s' (over_first m (reflexivity i A' u' ∷ []))) (put s' n m)
     (n + 1) m (drop 1 s.equations)
 
--- the state after variable x is solved, where the others stand in such an order
+-- the state after variable x is solved, where the others are in such an order
 abbrev pub state_by : State → (x i : ℕ) (A u : Term) (order : List ℕ) → State
 state_by s x i A u order =
     let n = length s.context in

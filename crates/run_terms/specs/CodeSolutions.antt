@@ -30,7 +30,7 @@ abbrev pub motive_levels : Standing → (x : ℕ) (moved : List ℕ) (depth : �
 motive_levels s x moved depth =
     each_position (motive_level s.variables moved (level_of (length s.state.context) x) depth) 0 (length s.state.context)
 
--- (dependants as they stand) -> (E2 as they stand) -> G, after two binders from this depth on
+-- (dependants as they are) -> (E2 as they are) -> G, after two binders from this depth on
 abbrev pub motive_body : Standing → (levels moved : List ℕ) (depth : ℕ) → Term
 motive_body s levels moved depth =
     products (new_context s.state.context (at_levels levels) (depth + 2) moved)

@@ -203,7 +203,7 @@ fn with_lowered(
     }
 }
 
-/// The parameters of a type that stands after `k` places, at these as its indices.
+/// The parameters of a type that comes after `k` places, at these as its indices.
 #[tactic(auto, using(crate::proofs::Spines::counts))]
 fn parameters_of(alloc: Global, k: u32, ty: &Term) -> Result<Tele, Stop>
     ensures { Gives tele_of result (Ok (map (groups.lowered k) (take (length (spine_of (tree_of ty.now)) - k) (spine_of (tree_of ty.now))))) }

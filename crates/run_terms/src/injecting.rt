@@ -132,7 +132,7 @@ fn after_places(size: u32, count: u32, depth: u32, terms: &[Term]) -> Places
     })
 }
 
-/// Equations, followed by those of a state from the `group`-th one on, where `depth` variables and equations stand before these: the
+/// Equations, followed by those of a state from the `group`-th one on, where `depth` variables and equations come before these: the
 /// terms stand for the places before them, and the proofs for the equations.
 fn with_moved(
     alloc: Global,

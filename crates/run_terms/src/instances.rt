@@ -157,7 +157,7 @@ pub fn all_raised(alloc: Global, by: u32, terms: &[Term]) -> Result<Tele, Stop>
     with_raised(alloc, by, terms, Items::new(alloc))
 }
 
-/// `head` at parameters and at the nearest `count` variables, which stand after the parameters.
+/// `head` at parameters and at the nearest `count` variables, which come after the parameters.
 pub fn at_nearest(alloc: Global, head: Term, ps: &[Term], count: u32) -> Result<Term, Stop>
     requires { tree.free_of (tree_of head) ≡ 0 }
     ensures { Gives tree_of result (Ok (telescopes.applied (telescopes.weaken_by count (telescopes.applied (tree_of head) (tele_of ps.now))) (telescopes.variables count))) }

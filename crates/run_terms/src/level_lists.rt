@@ -78,7 +78,7 @@ pub fn with_places(order: &[u32], levels: &[u32], mut made: Items<u32>) -> Resul
     }
 }
 
-/// Levels, followed by those that stand at positions of a list.
+/// Levels, followed by those that are at positions of a list.
 #[tactic(auto, using(tele_eq::proofs::Growing::listing))]
 pub fn with_level_at(
     variables: &[u32],

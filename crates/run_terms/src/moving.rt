@@ -35,7 +35,7 @@ fn side(alloc: Global, sides: Sides, t: &Term) -> Result<Term, Stop>
     }
 }
 
-/// Equations that stood after `size` variables, and now stand at a depth, after those that are made: `items` stands for the
+/// Equations that were after `size` variables, and now are at a depth, after those that are made: `items` stands for the
 /// variables in their places, `types` in their types.
 #[tactic(auto, using(tele_eq::proofs::Growing::growing))]
 pub fn moved(
@@ -114,7 +114,7 @@ fn put_type(alloc: Global, ctx: &[Term], places: Places, depth: u32, j: u32) -> 
     }
 }
 
-/// Types, followed by those of the variables with these levels, the first of which stands at a depth.
+/// Types, followed by those of the variables with these levels, the first of which is at a depth.
 #[tactic(auto, using(tele_eq::proofs::Growing::growing))]
 pub fn new_context(
     alloc: Global,

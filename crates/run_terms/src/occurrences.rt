@@ -12,7 +12,7 @@ use crate::numbers::next;
 use core_terms::{Items, Stop, Term};
 use std::alloc::Global;
 
-/// Whether a variable is free in a term. It has the number `n` where the term stands.
+/// Whether a variable is free in a term. It has the number `n` where the term is.
 fn occurs(n: u32, t: &Term) -> Result<bool, Stop>
     ensures { Gives (λ b. b) result (Ok (dependences.has_variable n (tree_of t.now))) }
 {

@@ -12,7 +12,7 @@ use core_terms::{Stop, Term, copy_whole};
 use std::alloc::Global;
 use unifier::Solution;
 
-/// Terms over the first `over` variables for the first `count` places after `size` variables; the further places stand from level
+/// Terms over the first `over` variables for the first `count` places after `size` variables; the further places are from level
 /// `new` on.
 #[derive(Clone, Copy)]
 pub struct After<'a> {
@@ -81,7 +81,7 @@ fn solved_at(alloc: Global, solution: Option<Solution>, depth: u32, j: u32) -> R
     }
 }
 
-/// What stands after the variables of a context.
+/// What comes after the variables of a context.
 #[cycle(put)]
 fn after_at(alloc: Global, after: After, depth: u32, j: u32) -> Result<Term, Stop>
     ensures { Gives tree_of result (Ok (after_environment after.entry depth j)) }

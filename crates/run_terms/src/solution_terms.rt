@@ -29,7 +29,7 @@ use core_terms::{Items, Stop, Term, functions, number_of, products};
 use std::alloc::Global;
 use tele_eq::is_among;
 
-/// `E -> G`: equations as they stand, and then the goal, where the variables of the context and the equations before these have
+/// `E -> G`: equations as they are, and then the goal, where the variables of the context and the equations before these have
 /// such levels.
 #[tactic(auto, using(crate::proofs::EquationTypes::type_counts))]
 fn goal_after(
@@ -49,7 +49,7 @@ fn goal_after(
     products(alloc, types.into_vec(), goal)
 }
 
-/// `E2 -> G`: the equations after the first `g` ones, as they stand, and then the goal.
+/// `E2 -> G`: the equations after the first `g` ones, as they are, and then the goal.
 pub fn remaining_goal(
     alloc: Global,
     s: &Standing,

@@ -1,7 +1,7 @@
 use core_terms::{Items, Tele, Term};
 use tele_eq::Item;
 
-/// An equation between two terms of a context: its place in a telescope, its type as it stands, after the equations before it, and
+/// An equation between two terms of a context: its place in a telescope, its type as it is, after the equations before it, and
 /// its sides.
 #[derive(Debug, Drop)]
 pub struct Equation {

@@ -236,7 +236,7 @@ index_type_mentions : admission sample (Fam 0 ∷ App (Const 8) (Var 0) ∷ Fam 
 unfolding native.Mathlib.Decide.ℕ_discrete
 index_type_mentions = refl
 
--- the indices stand in the order of the family: (A : Type 0) (m n : Nat) (Two n m)
+-- the indices are in the order of the family: (A : Type 0) (m n : Nat) (Two n m)
 indices_exchanged : admission sample (Sort 0 ∷ Fam 0 ∷ Fam 0 ∷ applied (Fam 4) (Var 0 ∷ Var 1 ∷ []) ∷ []) 3
     ≡ Some (record { number = 4; fixed = []; indices = 2 ∷ 1 ∷ [] })
 unfolding native.Mathlib.Decide.ℕ_discrete

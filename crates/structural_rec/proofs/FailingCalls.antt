@@ -1,4 +1,4 @@
--- The first failing call of calls that stand one after the other.
+-- The first failing call of calls that are one after the other.
 use Rattle.std.proofs.Common.{◌≡◌, ℕ, Bool, true, false, cond, not, Option, Some, None, option_map, List, [], ◌∷◌, ◌++◌, refl}
 use Rattle.std.specs.Prelude.{find}
 use Rattle.std.specs.Option.{option_or}

@@ -14,7 +14,7 @@ use Rattle.structural_rec.proofs.Members.{among-first, among-later, any-tells, a
 lt-tells : (i j : ℕ) (b : Bool) → (nat_lt i j && b) ≡ true → i < j
 lt-tells i j b h = (Decides-ltb i j).0 (and-tells (nat_lt i j) b h).0
 
--- what is mentioned stands before
+-- what is mentioned comes before
 pub have-before : (j i : ℕ) (terms : List Term) → have_position j i terms ≡ true → i < j
 have-before j i terms h = lt-tells i j _ h
 

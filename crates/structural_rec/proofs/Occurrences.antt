@@ -1,4 +1,4 @@
--- There is a call exactly where the constant stands in the term.
+-- There is a call exactly where the constant occurs in the term.
 use Rattle.std.proofs.Common.{◌≡◌, ℕ, ◌+◌, Bool, true, false, ◌||◌, ◌==◌, cond, List, [], ◌∷◌, ◌++◌, suc, length, refl, ap, ap₂, arith}
 use Rattle.std.specs.Prelude.{◌↔◌}
 use Rattle.std.proofs.lemmas.Bool.{or_parts, or_from}

@@ -1,8 +1,8 @@
--- Where a function's constant stands in a term, and with which arguments.
+-- Where a function's constant occurs in a term, and with which arguments.
 use Rattle.std.specs.Prelude.{ℕ, ◌+◌, ◌==◌, Bool, false, ◌||◌, cond, List, [], ◌∷◌, ◌++◌}
 use Rattle.theory.specs.Terms.{Term, Pi, Lam, App, Let, Const}
 
--- whether the constant stands in a term
+-- whether the constant occurs in a term
 abbrev pub has_constant : (own : ℕ) → Term → Bool
 has_constant own (Pi a b) = has_constant own a || has_constant own b
 has_constant own (Lam a b) = has_constant own a || has_constant own b
@@ -11,7 +11,7 @@ has_constant own (Let a t b) = has_constant own a || (has_constant own t || has_
 has_constant own (Const c) = c == own
 has_constant own _ = false
 
--- the constant with all the arguments that come after it, none or more, and how many binders stand around them
+-- the constant with all the arguments that come after it, none or more, and how many binders are around them
 pub record Call : Type 0 where
   pub under : ℕ
   pub term : Term

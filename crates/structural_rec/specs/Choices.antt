@@ -9,7 +9,7 @@ use Rattle.structural_rec.specs.Positions.{Admission, admission}
 use Rattle.structural_rec.specs.Uses.{Use, is_recursive}
 use Rattle.structural_rec.specs.Fitting.{arguments_fit, fits}
 
--- a call that does not fit a position, with the function or helper and the clause that it stands in
+-- a call that does not fit a position, with the function or helper and the clause that it is in
 pub record Failing : Type 0 where
   pub position : ℕ
   pub function : ℕ

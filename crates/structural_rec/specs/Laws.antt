@@ -30,13 +30,13 @@ abbrev pub FitsDecides : Type 0
 FitsDecides =
     (S : Signature) (count j : ℕ) (a : Admission) (terms : List Term) (c : Call) → (fits S count j a terms c ≡ true) ↔ Fits S count j a terms c
 
--- there is a call exactly where the constant stands in the term
+-- there is a call exactly where the constant occurs in the term
 abbrev pub ConstantIsCalled : Type 0
 ConstantIsCalled = (own : ℕ) (t : Term) → (has_constant own t ≡ false) ↔ (calls own t ≡ [])
 
 -- ---- the choice
 
--- `NotRecursive` is chosen exactly where the constant stands in no right side and in no scrutinee
+-- `NotRecursive` is chosen exactly where the constant occurs in no right side and in no scrutinee
 abbrev pub NotRecursiveIsExact : Type 0
 NotRecursiveIsExact =
     (S : Signature) (tele : List Term) (own : ℕ) (uses : List Use)
@@ -116,7 +116,7 @@ PartsEnd =
 
 -- ---- the recursion order
 
--- Each of `count` positions stands in the order, once, and nothing else does.
+-- Each of `count` positions is in the order, once, and nothing else is.
 pub record IsOrder (count : ℕ) (order : List ℕ) : Type 0 where
   pub whole : (i : ℕ) → i < count → is_among i order ≡ true
   pub within : (i : ℕ) → is_among i order ≡ true → i < count

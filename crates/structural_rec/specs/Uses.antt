@@ -5,7 +5,7 @@ use Rattle.theory.specs.Terms.{Term}
 use Rattle.structural_rec.specs.Calls.{has_constant}
 
 -- A right side or a scrutinee, in a clause of the function, which has number 0, or of helper k, which has number k. The terms are
--- the clause's own, the function's positions first. All stand in one context.
+-- the clause's own, the function's positions first. All are in one context.
 pub record Use : Type 0 where
   pub function : ℕ
   pub clause : ℕ

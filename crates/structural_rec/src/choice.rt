@@ -10,7 +10,7 @@ pub struct Use {
     pub body: Term,
 }
 
-/// A call that does not fit a position, with the function or helper and the clause that it stands in. Positions count from 0.
+/// A call that does not fit a position, with the function or helper and the clause that it is in. Positions count from 0.
 #[derive(Debug, Drop)]
 pub struct Failing {
     pub position: u32,

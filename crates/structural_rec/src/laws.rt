@@ -16,12 +16,12 @@ pub fn fits_decides()
     ensures { FitsDecides }
 {}
 
-/// There is a call exactly where the constant stands in the term.
+/// There is a call exactly where the constant occurs in the term.
 pub fn constant_is_called()
     ensures { ConstantIsCalled }
 {}
 
-/// `NotRecursive` is chosen exactly where the constant stands in no right side and in no scrutinee.
+/// `NotRecursive` is chosen exactly where the constant occurs in no right side and in no scrutinee.
 pub fn not_recursive_is_exact()
     ensures { NotRecursiveIsExact }
 {}

@@ -7,7 +7,7 @@ ghost use Rattle.structural_rec.specs.Uses.{is_recursive};
 use crate::Use;
 use core_terms::Term;
 
-/// Whether the constant stands in a term.
+/// Whether the constant occurs in a term.
 fn has_constant(own: u32, t: &Term) -> bool
     ensures { result ≡ spec.has_constant own (tree_of t.now) }
 {

@@ -102,7 +102,7 @@ w = record { text = codes "x"; start = 0 }
 abbrev opened : List Lexeme
 opened = x.Def ∷ x.Plain w ∷ x.Colon ∷ x.Open ∷ x.Open ∷ []
 
--- the term that is due is refused at the end, and whatever stands there
+-- the term that is due is refused at the end, and whatever is there
 due_at_the_end : run two Start opened ≡ Deep 0
 due_at_the_end = refl
 

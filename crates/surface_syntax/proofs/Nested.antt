@@ -50,7 +50,7 @@ pub begun_extra : (n : ℕ) (s : m.State) → begun n s ≡ n + extra s
 begun_extra n (m.In_term (m.Names d at w ws k)) = above_extra n ws
 begun_extra n s = omega arith
 
--- from where something too deep is awaited, the first that is too deep stands there
+-- from where something too deep is awaited, the first that is too deep is there
 deep_future : (s : m.State) (n d p : ℕ) → Future s n d p → down_to (begun n s) d p ≡ every d p
 deep_future s n d p (now a q) = down_at (begun n s) d p (omega arith)
 deep_future s n d p (later l) = let e = begun_extra n s in down_at (begun n s) d p (omega arith)

@@ -73,7 +73,7 @@ module _ (allows : ℕ → ℕ → Bool) where
     none : {d : ℕ} {k : m.Clauses_in} {ts : List Lexeme} {ds : List tree.Decl} → RestClosed k ts ds → RestClauses d k (x.CloseBrace ∷ ts) ds
     some : {d : ℕ} {k : m.Clauses_in} {ts : List Lexeme} {ds : List tree.Decl} → RestDue d k ts ds → RestClauses d k ts ds
 
-  -- where patterns of depth `d` stand; the Bool says whether `( )` stood before
+  -- where patterns of depth `d` are; the Bool says whether `( )` came before
   pub data RestPats : ℕ → Bool → m.Pats_in → List Lexeme → List tree.Decl → Type 0 where
     pat : {d : ℕ} {void : Bool} {p : tree.Pat} {k : m.Pats_in} {ts us : List Lexeme} {ds : List tree.Decl} →
         g.Pat allows d ts us p 0 → RestPats d void (m.with_pat p k) us ds → RestPats d void k ts ds

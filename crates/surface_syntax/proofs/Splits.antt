@@ -33,7 +33,7 @@ byte_len_parts cs n = sum_by-take-drop len_utf8 cs n
 pub goes-end : {cs rest : List ℕ} {tokens : List Token} {at : ℕ} → Goes cs tokens at rest → Reads 0 cs tokens at rest
 goes-end {cs} {rest} {tokens} {at} g = subst (λ (ts : List Token). Reads 0 cs ts at rest) (append-nil tokens) (g.onward [] at rest stop)
 
--- the same where the rest is what stands at a place of the text
+-- the same where the rest is what is at a place of the text
 module _ (cs rest : List ℕ) (tokens : List Token) (at from : ℕ) (e : rest ≡ drop from cs) (g : Goes cs tokens at (drop from cs)) where
   goes_rest : Goes cs tokens at rest
   goes_rest = subst (λ (r : List ℕ). Goes cs tokens at r) (sym e) g

@@ -49,7 +49,7 @@ module _ (allows : ℕ → ℕ → Bool) where
   binder_rest d q acc k ds (g.group names t) more =
       begun (names_rest (record { depth = d; quantifier = q; binders = acc }) [] k ds names (colon_rest (record { depth = d; quantifier = q; binders = acc }) k ds names t more))
 
-  -- binders with what they stand before
+  -- binders with what they come before
   pub binders_rest : {ts us vs : List Lexeme} {bs : List tree.Binder} {t : tree.Surf} (d : ℕ) (q : m.Quantifier) (acc : List tree.Binder) (k : m.Term_in) (ds : List tree.Decl) → g.Binders allows d ts (x.Arrow ∷ us) bs →
       g.Term allows (d + 1) us vs t → r.RestTerm allows k (m.quantified q (acc ++ bs) t) vs ds → Begun (record { depth = d; quantifier = q; binders = acc }) k ts ds
   binders_rest d q acc k ds (g.one b) t more = binder_rest d q acc k ds b (r.into t more)

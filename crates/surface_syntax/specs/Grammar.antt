@@ -10,7 +10,7 @@ abbrev pub applied : tree.Surf → List tree.Surf → tree.Surf
 applied h [] = h
 applied h (a ∷ args) = tree.App h (tree.surfs (a ∷ args))
 
--- nothing stands inside 2,000 other terms, patterns and clauses
+-- nothing is inside 2,000 other terms, patterns and clauses
 abbrev pub limit : ℕ → ℕ → Bool
 limit d n = nat_lt d 2000
 
@@ -60,7 +60,7 @@ module _ (allows : ℕ → ℕ → Bool) where
       end : {d : ℕ} {ts : List Lexeme} → Atoms d ts ts []
       next : {d : ℕ} {ts us rest : List Lexeme} {a : tree.Surf} {args : List tree.Surf} → Atom d ts us a → Atoms d us rest args → Atoms d ts rest (a ∷ args)
 
-  -- `Pat d ts rest p n`: `ts` are a pattern inside `d` other productions in which `( )` stands `n` times, and then `rest`
+  -- `Pat d ts rest p n`: `ts` are a pattern inside `d` other productions in which `( )` is `n` times, and then `rest`
   mutual
     pub data Pat : ℕ → List Lexeme → List Lexeme → tree.Pat → ℕ → Type 0 where
       plain : {d : ℕ} {w : Word} {ts : List Lexeme} → May d (x.Plain w ∷ ts) → Pat d (x.Plain w ∷ ts) ts (tree.Name w) 0
@@ -77,7 +77,7 @@ module _ (allows : ℕ → ℕ → Bool) where
       end : {d : ℕ} {ts : List Lexeme} → Pats d ts ts [] 0
       next : {d n m : ℕ} {ts us rest : List Lexeme} {p : tree.Pat} {ps : List tree.Pat} → Pat d ts us p n → Pats d us rest ps m → Pats d ts rest (p ∷ ps) (n + m)
 
-  -- A clause has a right side where no `( )` stands in its patterns, and none where it stands once.
+  -- A clause has a right side where no `( )` is in its patterns, and none where it occurs once.
   mutual
     pub data Clause : ℕ → List Lexeme → List Lexeme → tree.Clause → Type 0 where
       side : {d : ℕ} {f : Word} {ts us rest : List Lexeme} {ps : List tree.Pat} {t : tree.Surf} → May d (x.Plain f ∷ ts) →

@@ -53,7 +53,7 @@ spelled Number w = number w.text
 spelled Keyword w = keyword w.text
 spelled Mark w = mark w.text
 
--- the bytes of a token, and where they stand
+-- the bytes of a token, and where they are
 abbrev pub word_of : List ℕ → Token → Word
 word_of bytes t = record { text = slice_range bytes t.start t.end; start = t.start }
 

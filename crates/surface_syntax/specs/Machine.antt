@@ -60,7 +60,7 @@ one_more h p = record { depth = h.depth; head = h.head; pats = h.pats ++ p ∷ [
 abbrev pub clause : Headed → tree.Right → tree.Clause
 clause h r = tree.Is h.head h.pats r
 
--- where clauses stand, with the clauses so far: in a function, or in a `with` of a clause
+-- where clauses are, with the clauses so far: in a function, or in a `with` of a clause
 pub data Clauses_in : Type 0 where
   Fun : Word → tree.Surf → List tree.Clause → Clauses_in
   Inspect : Headed → tree.Surf → List tree.Clause → Clauses_in → Clauses_in
@@ -69,7 +69,7 @@ abbrev pub with_clause : tree.Clause → Clauses_in → Clauses_in
 with_clause c (Fun w a cs) = Fun w a (cs ++ c ∷ [])
 with_clause c (Inspect h t cs k) = Inspect h t (cs ++ c ∷ []) k
 
--- where patterns stand, with the patterns so far: in a clause, or in a constructor pattern
+-- where patterns are, with the patterns so far: in a clause, or in a constructor pattern
 pub data Pats_in : Type 0 where
   Behind : Headed → Clauses_in → Pats_in
   Inside : Headed → Pats_in → Pats_in
@@ -87,7 +87,7 @@ pub data Part : Type 0 where
   ConType : Families → tree.Member → Word → Part
   FunType : Word → Part
 
--- where a term stands: in a declaration, or in a term, a pattern or a clause, with `d` productions around that
+-- where a term is: in a declaration, or in a term, a pattern or a clause, with `d` productions around that
 pub data Term_in : Type 0 where
   Whole : Part → Term_in
   Parens : (d : ℕ) → Option Spine → Term_in → Term_in
@@ -101,7 +101,7 @@ pub data Term_in : Type 0 where
   Side : Headed → Clauses_in → Term_in
   Scrutinee : Headed → Clauses_in → Term_in
 
--- What is awaited, in parts by what it stands in. A Bool says whether `( )` stood in the patterns of the clause.
+-- What is awaited, in parts by what it is in. A Bool says whether `( )` was in the patterns of the clause.
 pub data Def_state : Type 0 where
   DefName : Def_state
   DefNext : Word → Def_state
@@ -162,7 +162,7 @@ pub data State : Type 0 where
 
 -- What a lexeme leads to: perhaps a whole declaration, and what is awaited then, or the end of the text; or it fits
 -- nowhere; or a term, pattern
--- or clause that begins where so many lexemes are left stands inside too many others.
+-- or clause that begins where so many lexemes are left is inside too many others.
 pub data Outcome : Type 0 where
   Goes : Option tree.Decl → State → Outcome
   Ends : Option tree.Decl → Outcome
@@ -384,7 +384,7 @@ module _ (allows : ℕ → ℕ → Bool) where
   abbrev pub may : ℕ → ℕ → Outcome → Outcome
   may d i out = cond (allows d i) out (Over i)
 
-  -- where patterns stand
+  -- where patterns are
   abbrev pub pats : ℕ → ℕ → Bool → Pats_in → Lexeme → Outcome
   pats d i void k (x.Plain w) = may d i (to (In_clause (Pats d void (with_pat (tree.Name w) k))))
   pats d i void k (x.Dotted w) = may d i (to (In_clause (Pats d void (with_pat (tree.Name w) k))))
@@ -408,7 +408,7 @@ module _ (allows : ℕ → ℕ → Bool) where
   opened d i k x.Underscore = to (In_term (BinderNames (product d) (None ∷ []) k))
   opened d i k x = may (d + 1) i (term_start (d + 1) (Parens d None k) x)
 
-  -- the same after plain names, the first of which stood where `at` lexemes were left
+  -- the same after plain names, the first of which was where `at` lexemes were left
   abbrev pub names : ℕ → ℕ → Word → List Word → Term_in → Lexeme → Outcome
   names d at w ws k (x.Plain v) = to (In_term (Names d at w (ws ++ v ∷ []) k))
   names d at w ws k x.Underscore = to (In_term (BinderNames (product d) (some_names (w ∷ ws) ++ None ∷ []) k))

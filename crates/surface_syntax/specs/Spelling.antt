@@ -75,7 +75,7 @@ name_piece n cs =
     else (if tail_len (drop n cs) == 0 then found_within (nat_le (byte_len (take n cs)) 255) Plain n
     else found_within (nat_le (byte_len (take n cs)) 255 && nat_le (tail_len (drop n cs)) 3) Dotted (n + tail_len (drop n cs)))
 
--- what stands at the front where no name does
+-- what is at the front where no name is
 abbrev pub other_piece : List ℕ → Piece
 other_piece cs =
     if nat_lt 0 (number_len cs) then found_within (nat_le (number_len cs) 3) Number (number_len cs)

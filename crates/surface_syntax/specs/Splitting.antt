@@ -18,7 +18,7 @@ pub data Reads : (at : ℕ) (cs : List ℕ) (tokens : List Token) (end : ℕ) (r
 abbrev pub Splits : List ℕ → List Token → Type 0
 Splits cs tokens = Reads 0 cs tokens (byte_len cs) []
 
--- the characters split up to the offset, and something other than a token, a blank or a comment stands there
+-- the characters split up to the offset, and something other than a token, a blank or a comment is there
 pub record StopsAt (cs : List ℕ) (offset : ℕ) : Type 0 where
   pub tokens : List Token
   pub rest : List ℕ
@@ -36,7 +36,7 @@ pub record IsBadToken (bytes : List ℕ) (offset : ℕ) : Type 0 where
   pub utf8 : IsUtf8 bytes
   pub stops : StopsAt (chars bytes) offset
 
--- the tokens stand one after the other between the two offsets
+-- the tokens are one after the other between the two offsets
 abbrev pub AreInOrder : ℕ → List Token → ℕ → Type 0
 AreInOrder from [] to = from ≤ to
 AreInOrder from (t ∷ ts) to = (from ≤ t.start) × (t.start ≤ t.end) × AreInOrder t.end ts to

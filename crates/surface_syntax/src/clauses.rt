@@ -29,7 +29,7 @@ fn pats_inside(alloc: Global, depth: u32, void: bool, context: PatsIn) -> Result
     to(ClauseState::Pats(inner, void, context))
 }
 
-/// After `( )`, which stands once at most in the patterns of a clause.
+/// After `( )`, which occurs once at most in the patterns of a clause.
 fn pat_void(depth: u32, void: bool, context: Box<PatsIn>) -> Result<Step, Halt>
     ensures { Follows result (machine.pat_open depth void (pats_in_of context.value) Lexeme.Close) }
 {
@@ -164,7 +164,7 @@ fn pat_group(left: u32, depth: u32, void: bool, context: Box<PatsIn>) -> Result<
     may(depth, left).and(to(ClauseState::PatOpen(depth, void, context)))
 }
 
-/// Where patterns stand.
+/// Where patterns are.
 fn pats(
     left: u32,
     depth: u32,

@@ -38,14 +38,14 @@ pub(crate) struct Headed {
     pub pats: Items<SurfPat>,
 }
 
-/// Where clauses stand, with the clauses so far: in a function, or in a `with` of a clause.
+/// Where clauses are, with the clauses so far: in a function, or in a `with` of a clause.
 #[derive(Drop)]
 pub(crate) enum ClausesIn {
     Fun(Word, Surf, Items<SurfClause>),
     Inspect(Headed, Surf, Items<SurfClause>, Box<ClausesIn>),
 }
 
-/// Where patterns stand, with the patterns so far: in a clause, or in a constructor pattern.
+/// Where patterns are, with the patterns so far: in a clause, or in a constructor pattern.
 #[derive(Drop)]
 pub(crate) enum PatsIn {
     Behind(Headed, Box<ClausesIn>),
@@ -63,7 +63,7 @@ pub(crate) enum Part {
     FunType(Word),
 }
 
-/// Where a term stands: in a declaration, or in a term, a pattern or a clause, with the number of productions around
+/// Where a term is: in a declaration, or in a term, a pattern or a clause, with the number of productions around
 /// that.
 #[derive(Drop)]
 pub(crate) enum TermIn {

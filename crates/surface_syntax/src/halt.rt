@@ -4,7 +4,7 @@ use core_terms::Stop;
 use std::alloc::{AllocError, AllocFailed};
 
 /// Why the parser goes no further: the lexeme fits nowhere, or a term, pattern or clause that begins where so many
-/// lexemes are left stands inside too many others, or want of memory.
+/// lexemes are left is inside too many others, or want of memory.
 #[derive(Clone, Copy)]
 pub(crate) enum Halt {
     Stuck,

@@ -57,7 +57,7 @@ fn characters(alloc: Global, text: &str) -> Result<Vec<char>, SyntaxStop>
     Ok(text.chars().collect(alloc)?)
 }
 
-/// The tokens of a text, in order, and the offsets between which each stands. Space, tab, carriage return and line feed
+/// The tokens of a text, in order, and the offsets between which each is. Space, tab, carriage return and line feed
 /// separate tokens, and `--` begins a comment that goes on to the next line feed.
 pub fn tokens(alloc: Global, bytes: &[u8]) -> Result<Items<Token>, SyntaxStop>
     ensures says { TokensSay bytes.now result }

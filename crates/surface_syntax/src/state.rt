@@ -48,7 +48,7 @@ pub(crate) enum TermState {
     Term(u32, TermIn),
     Level(u32, Option<Spine>, Box<TermIn>),
     Opened(u32, Box<TermIn>),
-    /// Names after `(`, and how many lexemes were left where the first of them stood.
+    /// Names after `(`, and how many lexemes were left where the first of them was.
     Names(u32, u32, Word, Items<Word>, Box<TermIn>),
     BinderOpen(Telescope, Box<TermIn>),
     BinderNames(Telescope, Items<Option<Word>>, Box<TermIn>),
@@ -58,7 +58,7 @@ pub(crate) enum TermState {
     Atoms(u32, Spine, Box<TermIn>),
 }
 
-/// What is awaited among clauses. A `bool` says whether `( )` stood in the patterns of the clause.
+/// What is awaited among clauses. A `bool` says whether `( )` was in the patterns of the clause.
 #[derive(Drop)]
 pub(crate) enum ClauseState {
     Pats(u32, bool, Box<PatsIn>),

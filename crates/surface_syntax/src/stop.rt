@@ -7,7 +7,7 @@ use thiserror::Error;
 ///
 /// `Memory` is want of memory. `NotUtf8` has the first byte that begins no character, `BadToken` the first byte of what
 /// is no token, `Syntax` the first token with which no text of the language continues, or the length of the text, and
-/// `Nested` the first token of a term, pattern or clause that stands inside 2,000 others.
+/// `Nested` the first token of a term, pattern or clause that is inside 2,000 others.
 #[derive(Clone, Copy, Debug, PartialEq, Eq, Error)]
 pub enum SyntaxStop {
     #[error("Memory")]

@@ -270,7 +270,7 @@ fn parens_atoms(
     atoms(alloc, inner, spine, context, lexeme)
 }
 
-/// After `(` and plain names that begin a term, the first of which stood where `at` lexemes were left.
+/// After `(` and plain names that begin a term, the first of which was where `at` lexemes were left.
 fn names_inside(
     alloc: Global,
     depth: u32,
@@ -316,7 +316,7 @@ fn names_term(
     names_inside(alloc, depth, at, spine, context, lexeme)
 }
 
-/// After `(` and plain names, the first of which stood where `at` lexemes were left.
+/// After `(` and plain names, the first of which was where `at` lexemes were left.
 fn names(
     alloc: Global,
     depth: u32,

@@ -1,6 +1,6 @@
 use core_terms::{Items, Name};
 
-/// A name of the text, by its bytes and the offset at which it stands.
+/// A name of the text, by its bytes and the offset at which it is.
 #[derive(Debug, Drop)]
 pub struct Word {
     pub text: Name,
@@ -23,7 +23,7 @@ pub enum Surf {
     Pi(Items<Binder>, Box<Surf>),
     Arrow(Box<Surf>, Box<Surf>),
     App(Box<Surf>, Items<Surf>),
-    /// The name, its annotation, its value, and the term in which it stands.
+    /// The name, its annotation, its value, and the term in which it is.
     Let(Word, Box<Surf>, Box<Surf>, Box<Surf>),
     Sort(u8),
     /// A plain or a dotted name.

@@ -30,7 +30,7 @@ IsGoalCarried c C =
 abbrev pub IsBaseCarried : Carries → (ℕ → Term) → Type 0
 IsBaseCarried c base = (k d d' : ℕ) → AreDepths c k d d' → inst (ups_by k c.terms) (base d) ≡ base d'
 
--- what stands for the variables at positions that are bound from level l on, where the binders are in a term that stands k
+-- what stands for the variables at positions that are bound from level l on, where the binders are in a term that is k
 -- binders further in
 abbrev AreBound : Carries → (z z' : Environment) (k l : ℕ) (positions : List ℕ) → Type 0
 AreBound c z z' k l positions = (p k' : ℕ) → k ≤ k' → bound positions l p ≤ k' → Agrees c z z' k' p

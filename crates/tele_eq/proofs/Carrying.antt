@@ -1,4 +1,4 @@
--- Terms that stand at a depth, carried to another depth: an instantiation that passes the variables of the context puts what
+-- Terms that are at a depth, carried to another depth: an instantiation that passes the variables of the context puts what
 -- stands for the variables of a telescope at the one depth for what stands for them at the other.
 use Rattle.std.proofs.Common.{◌≡◌, ℕ, zero, suc, ◌+◌, ◌-◌, ◌*◌, ◌<◌, ◌≤◌, ◌==◌, ◌⊎◌, inl, inr, nat_lt, cond, List, [], ◌∷◌, length, refl, ap, ap₂, sym, ◌∙◌, arith}
 use Rattle.std.proofs.lemmas.Bool.Decides.{nat_tests}

@@ -1,4 +1,4 @@
--- Equations, transports and congruences of some telescopes, as they stand in the types of no confusion.
+-- Equations, transports and congruences of some telescopes, as they are in the types of no confusion.
 use Rattle.std.proofs.Common.{◌≡◌, ℕ, List, [], ◌∷◌, refl}
 use Rattle.theory.specs.Terms.{Term}
 use Rattle.theory.specs.Terms.Term.{Var, Sort, Pi, Lam, App, Const, Fam, Con, Elim}

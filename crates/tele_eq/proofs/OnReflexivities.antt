@@ -81,7 +81,7 @@ functions-applied S s X w (t ∷ positions) z e z' e' depth depth' end =
 same_or_other : (p t : ℕ) → (p ≡ t) ⊎ (p ≡ t → ⊥)
 same_or_other p t = grind arith
 
--- the variables at the positions become what stands there
+-- the variables at the positions become what is there
 inside-put : (s : ℕ → Term) (positions : List ℕ) (z e u : Environment) (depth l D p : ℕ) → D ≡ l + 2 * length positions
     → inst (behind s positions z e depth) (u D p) ≡ z depth p
     → inst (behind s positions z e depth) (inside positions l u D p) ≡ z depth p

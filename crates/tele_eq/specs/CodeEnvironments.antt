@@ -108,7 +108,7 @@ HaveSmallSides (Mapped map n sides) = IsSmallMap map × AreSmallSides sides × (
 abbrev pub AreSmallPairs : Pairs → Type 0
 AreSmallPairs pairs = HaveSmallSides pairs × (maps_of_pairs pairs ≤ 1)
 
--- the goal is small, and a map's own telescope is the one that J stands over
+-- the goal is small, and a map's own telescope is the one that J is over
 abbrev pub IsSmallGoal : List Item → (u : Environment) → Goal → Type 0
 IsSmallGoal X u (Transport j) = j ≤ 1000
 IsSmallGoal X u (Congruence map n j) =

@@ -1,4 +1,4 @@
--- What stands for the variables of a telescope. The telescope stands in a context; a term at depth d comes after d binders
+-- What stands for the variables of a telescope. The telescope is in a context; a term at depth d comes after d binders
 -- more, and the outermost of these has level 0.
 use Rattle.std.specs.Prelude.{ℕ, ◌+◌, ◌-◌, ◌==◌, nat_lt, cond, List, [], ◌∷◌}
 use Rattle.theory.specs.Terms.{Term, Var, Sort, Pi, Lam, App, Let, Const, Fam, Con, Elim, AxiomK, lift}

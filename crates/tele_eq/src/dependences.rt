@@ -9,7 +9,7 @@ use crate::Item;
 use core_terms::{Stop, Term};
 use std::alloc::Global;
 
-/// Whether a variable is free in a term. It has the number `n` where the term stands.
+/// Whether a variable is free in a term. It has the number `n` where the term is.
 pub fn has_variable(n: u64, t: &Term) -> bool
     requires { n + tree.height (tree_of t.now) < 2 ^ 64 }
     ensures { result ≡ spec.has_variable n (tree_of t.now) }

@@ -42,7 +42,7 @@ abbrev pub HasTerms : (Term → Type 0) → Argument → Type 0
 HasTerms Q (Plain type level) = Unit {0}
 HasTerms Q (Recursive inner targets level) = All Q inner × All Q targets
 
--- A bound P on terms in n variables that formers keep, where terms of the sort Q may stand in a record.
+-- A bound P on terms in n variables that formers keep, where terms of the sort Q may be in a record.
 pub record IsBound (Q : Term → Type 0) (P : ℕ → Term → Type 0) : Type 0 where
   pub dummy : (n : ℕ) → P n (Sort 0)
   pub eliminator : (n family level : ℕ) → P n (Elim family level)

@@ -1,5 +1,5 @@
 -- A family that gets its constructors: the signature that has it with them carries what holds over the one that has it
--- without them. A family without constructors takes part in no iota step, and no instance of its eliminator stands there.
+-- without them. A family without constructors takes part in no iota step, and no instance of its eliminator is there.
 use Rattle.std.proofs.Common.{◌≡◌, ℕ, ◌<◌, [], ◌∷◌, length, Some, slice_get, refl, sym, ap, ◌∙◌, subst as transport, inl, inr, arith}
 use Rattle.std.proofs.lemmas.Option.{none-some}
 use Rattle.theory.specs.Terms.{Term}
@@ -23,7 +23,7 @@ record_of : Family → Entry → Family
 record_of f (FamilyOf g) = g
 record_of f _ = f
 
--- an entry that is no family stands before the last one, which is a family
+-- an entry that is no family comes before the last one, which is a family
 before : (S : Signature) (f : Family) (n : ℕ) (e : Entry) → ¬ (is_family e) → IsEntryAt (pushed S (FamilyOf f)) n e → IsEntryAt S n e
 unfolding is_family
 before S f n e other at = elim (slice_get-pushed S.entries (FamilyOf f) n e at) [

@@ -113,7 +113,7 @@ free_of-variables zero n le = All-nil (λ t. free_of t ≤ n)
 free_of-variables (suc k) n le =
     All-cons (λ t. free_of t ≤ n) (Var k) (variables k) (omega arith) (free_of-variables k n (omega arith))
 
--- a bound on the free variables is one that formers keep, whatever stands in a record
+-- a bound on the free variables is one that formers keep, whatever is in a record
 pub free_bound : IsBound (λ t. Unit {0}) (λ n t. free_of t ≤ n)
 free_bound = record {
   dummy = λ n. omega arith;

@@ -54,7 +54,7 @@ some_is {x = x} e = ap (λ o. unwrap_or o x) e
 pub slice_get-longer : {X : Type 0} (xs ys : List X) (n : ℕ) (x : X) → slice_get xs n ≡ Some x → slice_get (xs ++ ys) n ≡ Some x
 slice_get-longer xs ys n x at = slice_get-append xs ys n (slice_get_within xs n x at) ∙ at
 
--- an element of a list with one more stands in the list or is that one
+-- an element of a list with one more is in the list or is that one
 pub slice_get-pushed : {X : Type 0} (xs : List X) (y : X) (n : ℕ) (x : X) → slice_get (xs ++ y ∷ []) n ≡ Some x → (slice_get xs n ≡ Some x) ⊎ ((n ≡ length xs) × (y ≡ x))
 slice_get-pushed [] y zero x at = inr (refl, some_is at)
 slice_get-pushed [] y (suc n) x at = absurd (none-some x at)
@@ -64,14 +64,14 @@ slice_get-pushed (z ∷ xs) y (suc n) x at = elim (slice_get-pushed xs y n x at)
   | inr (place, same) ↦ inr (ap suc place, same)
 ]
 
--- an element of the first n stands in the whole list
+-- an element of the first n is in the whole list
 pub slice_get-take : {X : Type 0} (n : ℕ) (xs : List X) (m : ℕ) (x : X) → slice_get (take n xs) m ≡ Some x → slice_get xs m ≡ Some x
 slice_get-take zero xs m x at = absurd (none-some x at)
 slice_get-take (suc n) [] m x at = at
 slice_get-take (suc n) (y ∷ xs) zero x at = at
 slice_get-take (suc n) (y ∷ xs) (suc m) x at = slice_get-take n xs m x at
 
--- a list is what stands before an element, the element and what is after it
+-- a list is what comes before an element, the element and what is after it
 pub split_at : {X : Type 0} (xs : List X) (n : ℕ) (x : X) → slice_get xs n ≡ Some x → xs ≡ (take n xs ++ x ∷ []) ++ drop (suc n) xs
 split_at [] n x at = absurd (none-some x at)
 split_at (y ∷ xs) zero x at = ap (λ z. z ∷ xs) (some_is at)

@@ -141,7 +141,7 @@ scoped-methods s family ps P number (c ∷ cs) k n each sp hp sc =
     (All-head (IsConstructorOver k) c cs sc))
     (scoped-methods s family ps P (number + 1) cs k n each sp hp (All-tail (IsConstructorOver k) c cs sc))
 
--- a telescope with terms put for the variables that it stands over
+-- a telescope with terms put for the variables that it is over
 pub scoped-inst_telescope : (s : ℕ → Term) (tele : Telescope) (k n : ℕ) → Places s k n → IsTelescopeOver k tele
     → IsTelescopeOver n (inst_telescope s tele)
 scoped-inst_telescope s [] k n each st = tt

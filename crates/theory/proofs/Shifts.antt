@@ -20,7 +20,7 @@ lift_var-above n by from h = grind (arith, nat_tests)
 pub subst_var-below : (n at : ℕ) (u : Term) → n < at → subst_var n at u ≡ Var n
 subst_var-below n at u h = grind (arith, nat_tests)
 
--- at `at` stands `u`
+-- at `at` is `u`
 pub subst_var-at : (n at : ℕ) (u : Term) → n ≡ at → subst_var n at u ≡ u
 subst_var-at n at u h = grind (arith, nat_tests)
 

@@ -6,7 +6,7 @@ use Rattle.theory.specs.Signatures.{Signature, AxiomKAt, IsEntryAt}
 use Rattle.theory.specs.Typing.{Has}
 use Rattle.theory.specs.WellFormed.{IsWellFormedSoFar}
 
--- no symbol of K stands in the term
+-- no symbol of K is in the term
 abbrev pub LacksAxiomK : Term → Type 0
 LacksAxiomK (Pi a b) = LacksAxiomK a × LacksAxiomK b
 LacksAxiomK (Lam a b) = LacksAxiomK a × LacksAxiomK b

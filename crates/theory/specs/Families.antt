@@ -1,6 +1,6 @@
 -- Inductive families (Dybjer, "Inductive families", 1994) as records, and the types of what they bring along.
 --
--- A record stands over the variables of its parameters. The type of constructor argument j is over the parameters and
+-- A record is over the variables of its parameters. The type of constructor argument j is over the parameters and
 -- the arguments before it, and the targets are over the parameters and all arguments.
 use Rattle.std.specs.Prelude.{◌≡◌, ℕ, Bool, false, ◌||◌, ◌==◌, List, [], ◌∷◌, map, length}
 use Rattle.std.specs.List.{All}
@@ -28,7 +28,7 @@ pub record Family : Type 0 where
   pub level : ℕ
   pub constructors : List Constructor
 
--- the family as it stands before it has constructors
+-- the family as it is before it has constructors
 abbrev pub without_constructors : Family → Family
 without_constructors f = record f { constructors = [] }
 
@@ -73,7 +73,7 @@ constructor_type n f c =
 
 -- Positivity: argument types lack the family, but for the end of a recursive argument's type, and so do the targets.
 
--- a symbol of family n stands in the term
+-- a symbol of family n occurs in the term
 abbrev pub mentions : ℕ → Term → Bool
 mentions n (Pi a b) = mentions n a || mentions n b
 mentions n (Lam a b) = mentions n a || mentions n b

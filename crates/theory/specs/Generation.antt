@@ -7,7 +7,7 @@ use Rattle.theory.specs.Signatures.{Signature, TypeOf}
 use Rattle.theory.specs.Conversion.{Below}
 use Rattle.theory.specs.Typing.{Has}
 
--- a variable stands in the context
+-- a variable occurs in the context
 pub record OfVariable (S : Signature) (G : Context) (n : ℕ) (type : Term) : Type 0 where
   pub declared : Term
   pub at : slice_get G n ≡ Some declared

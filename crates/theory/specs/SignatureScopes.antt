@@ -40,7 +40,7 @@ abbrev pub IsScopedTelescope : Signature → ℕ → Telescope → Type 0
 IsScopedTelescope S n [] = Unit {0}
 IsScopedTelescope S n (a ∷ tele) = IsScoped S n a × IsScopedTelescope S (n + 1) tele
 
--- the same of a context, whose types stand the other way round
+-- the same of a context, whose types are the other way round
 abbrev pub IsScopedContext : Signature → Context → Type 0
 IsScopedContext S [] = Unit {0}
 IsScopedContext S (a ∷ G) = IsScoped S (length G) a × IsScopedContext S G
@@ -61,7 +61,7 @@ pub record IsScopedConstructor (S : Signature) (n count : ℕ) (c : Constructor)
   pub targets : All (IsScoped S (n + length c.arguments)) c.targets
   pub target_count : length c.targets ≡ count
 
--- Entry n of S, a family: it stands over the entries before it, and its constructors may name the family too.
+-- Entry n of S, a family: it is over the entries before it, and its constructors may name the family too.
 pub record IsScopedFamily (S : Signature) (n : ℕ) (f : Family) : Type 0 where
   pub parameters : IsScopedTelescope (first_entries S n) 0 f.parameters
   pub indices : IsScopedTelescope (first_entries S n) (length f.parameters) (index_types f)

@@ -35,7 +35,7 @@ abbrev pub applied : Term → List Term → Term
 applied head [] = head
 applied head (a ∷ spine) = applied (App head a) spine
 
--- A -> .. -> B, where all the types and B stand in one context
+-- A -> .. -> B, where all the types and B are in one context
 abbrev pub arrows : List Term → Term → Term
 arrows [] b = b
 arrows (a ∷ types) b = Pi a (weaken (arrows types b))
@@ -49,7 +49,7 @@ variables (suc k) = Var k ∷ variables k
 abbrev pub weaken_by : ℕ → Term → Term
 weaken_by k t = ren (λ n. n + k) t
 
--- a telescope with terms put for the variables that it stands over
+-- a telescope with terms put for the variables that it is over
 abbrev pub inst_telescope : (ℕ → Term) → Telescope → Telescope
 inst_telescope s [] = []
 inst_telescope s (a ∷ tele) = inst s a ∷ inst_telescope (ups s) tele

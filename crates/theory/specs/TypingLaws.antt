@@ -9,7 +9,7 @@ use Rattle.theory.specs.Generation.{Parts}
 use Rattle.theory.specs.Typing.{IsContext, Has, HasSort, IsType}
 use Rattle.theory.specs.WellFormed.{IsTyped}
 
--- a derivation stands in a well-formed context
+-- a derivation is in a well-formed context
 abbrev pub ContextOfDerivation : Type 0
 ContextOfDerivation = (S : Signature) (G : Context) (t a : Term) → Has S G t a → IsContext S G
 

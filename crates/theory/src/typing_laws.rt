@@ -1,7 +1,7 @@
 //! The laws of derivations, without confluence, normalisation or subject reduction.
 ghost use Rattle.theory.specs.TypingLaws.{ContextOfDerivation, TermScoped, TypeScoped, BodiesClosed, Renaming, Weakening, WeakeningOfContexts, Instantiation, Substitution, Generation, TelescopeFormation, TelescopeGeneration, Validity, Subsumption, FunctionTypes};
 
-/// A derivation stands in a well-formed context.
+/// A derivation is in a well-formed context.
 pub fn context_of_derivation()
     ensures { ContextOfDerivation }
 {}

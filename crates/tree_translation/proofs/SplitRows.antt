@@ -14,7 +14,7 @@ use Rattle.tree_translation.proofs.Samples.{sample, behind, Nat, suc_term, Fin, 
 abbrev solved_by : (x : ℕ) → Term → Step
 solved_by x u = record { group = 1; rule = SolveRight x; ty = Nat; left = u; right = Var x }
 
--- x b y : the variable b : Fin x is hidden, and x is split; the steps stand over x and y, and after them the constructor's argument
+-- x b y : the variable b : Fin x is hidden, and x is split; the steps are over x and y, and after them the constructor's argument
 split_with_hidden : split_term (sample false) 52 0
     (record { context = Nat ∷ Fin (Var 0) ∷ Nat ∷ []; goal = Nat; hidden = 1 ∷ [] }) 2 Nat
     ((solved_by 1 (Con 46 0) ∷ []) ∷ (solved_by 2 (suc_term (Var 0)) ∷ []) ∷ [])

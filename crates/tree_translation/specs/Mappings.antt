@@ -1,5 +1,5 @@
 -- How the variables of a clause's own walk are read at a leaf of the clause: two lists of terms are compared place by place, and the
--- first place at which the walk's list has a variable tells its term.
+-- first place at which the walk's list has a variable gives its term.
 use Rattle.std.specs.Prelude.{ℕ, ◌+◌, ◌-◌, ◌==◌, ◌&&◌, Bool, false, cond, Option, Some, None, List, ◌∷◌, ◌++◌, length}
 use Rattle.std.specs.Option.{option_or}
 use Rattle.theory.specs.Terms.{Term, Var, Sort, App, Con}

@@ -14,7 +14,7 @@ use Rattle.tree_translation.specs.Naming.{Naming, left_name}
 use Rattle.tree_translation.specs.Standings.{Standing, inside, first_equations, further_equations, here, at_levels, placed, placed_telescope}
 use Rattle.tree_translation.specs.Replays.{level_of_first, kept, solved_standing}
 
--- E2 -> G, as they stand, where the variables of the context and the first g equations have these levels
+-- E2 -> G, as they are, where the variables of the context and the first g equations have these levels
 abbrev pub remaining_goal : Standing → (g : ℕ) (variables equations : List ℕ) (depth : ℕ) → Term
 remaining_goal s g variables equations depth =
     let types = types_as_they_stand (drop g s.state.equations) in
@@ -36,7 +36,7 @@ within s t = placed s.variables (inside s + 1) t
 abbrev pub equation_with : (on_right : Bool) (i : ℕ) (A u z : Term) → Term
 equation_with on_right i A u z = cond on_right (equation i A u z) (equation i A z u)
 
--- \(x : A) (e : its equation with u). (dependants as they stand) -> (E2 as they stand) -> G
+-- \(x : A) (e : its equation with u). (dependants as they are) -> (E2 as they are) -> G
 abbrev pub solution_motive : Standing → (p : ℕ) (on_right : Bool) (A u : Term) → Term
 solution_motive s p on_right A u =
     let i = level_of_first s.state.equations in

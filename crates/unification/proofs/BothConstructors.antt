@@ -31,7 +31,7 @@ use Rattle.unification.proofs.TurnProperties.{IsOnward, IsTurn, AreScopedSides, 
 
 -- ---- the measure
 
--- an injectivity of sides that are constructors as they stand makes the equations smaller
+-- an injectivity of sides that are constructors as they are makes the equations smaller
 injected-smaller : (S : Signature) (s : State) (k : ℕ) (e : Equation) (b d : Built) (n number : ℕ) (f : Family) (c : Constructor) (ps : List Term)
     → slice_get s.equations k ≡ Some e → built_of S e.left ≡ Some b → built_of S e.right ≡ Some d
     → size_of_sides (injected_equations s (k + 1) n number f c ps b.arguments d.arguments) < size_of_sides s.equations

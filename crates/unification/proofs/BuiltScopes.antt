@@ -1,4 +1,4 @@
--- Constructors in scoped terms: their families stand in the signature, and their parts are scoped.
+-- Constructors in scoped terms: their families occur in the signature, and their parts are scoped.
 use Rattle.std.proofs.Common.{◌≡◌, ℕ, Some, IfSome, List, ◌++◌, length, slice_get, sym, subst, arith}
 use Rattle.std.proofs.lemmas.List.Elements.{All-append, All-take, All-drop}
 use Rattle.std.proofs.lemmas.Option.{slice_get_within}

@@ -27,7 +27,7 @@ use Rattle.unification.proofs.Trials.{Found, Comes, none-comes}
 use Rattle.unification.proofs.TurnProperties.{DeletesWithK, IsTurn, IsEnd, tried, type-scoped, first-as, single-scoped, fails_at-is}
 use Rattle.unification.proofs.Variables.{variable-is, variable-low}
 
--- t converts to w, in which the variable stands below constructors
+-- t converts to w, in which the variable occurs below constructors
 record IsOnWay (S : Signature) (x : ℕ) (t w : Term) : Type 0 where
   pub reduct : IsReduct S t w
   pub n : ℕ

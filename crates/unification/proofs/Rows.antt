@@ -1,4 +1,4 @@
--- Problems in Nat, with their outcomes as they are worked by hand. The steps, the context and the solution are told whole.
+-- Problems in Nat, with their outcomes as they are worked by hand. The steps, the context and the solution are given whole.
 use native.Mathlib.Decide.{ℕ_discrete}
 use Rattle.std.proofs.Common.{◌≡◌, true, false, Ok, [], ◌∷◌, refl}
 use Rattle.theory.specs.Terms.{Term}

@@ -92,7 +92,7 @@ runs-end S s left = by_units-runs S left s left (omega arith)
 
 -- ---- no other run
 
--- what is told of two answers to one question
+-- what is said of two answers to one question
 same-answer : {A : Type 0} (r : Spent A) (a b : Result A Stop) (m n : ℕ) → r ≡ answered a m → r ≡ answered b n → (a ≡ b) × (m ≡ n)
 same-answer r a b m n e f = (ap (λ p. p.0) (sym e ∙ f), ap (λ p. p.1) (sym e ∙ f))
 

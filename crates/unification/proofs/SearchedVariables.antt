@@ -1,4 +1,4 @@
--- Searches below constructors: a variable that is found stands there, in a term that the searched one converts to.
+-- Searches below constructors: a variable that is found is there, in a term that the searched one converts to.
 use Rattle.std.proofs.Common.{◌≡◌, ℕ, zero, suc, ◌≤◌, ◌⊎◌, inl, inr, nat_lt, ◌==◌, true, IsTrue, Option, Some, None, IfSome, option_map, Ok, Err, List, [], ◌∷◌, ◌++◌, slice_get, refl, ap, sym, subst as transport, ◌∙◌, arith}
 use Rattle.std.proofs.lemmas.Bool.{eqb-true}
 use Rattle.std.proofs.lemmas.List.Elements.{All-cons, All-head, All-tail}

@@ -1,4 +1,4 @@
--- The context after a solution: the other variables stand in it once each, and each type is over what stands before it.
+-- The context after a solution: the other variables occur in it once each, and each type is over what comes before it.
 use Rattle.std.proofs.Common.{◌≡◌, ℕ, zero, suc, ◌+◌, ◌-◌, ◌<◌, ◌≤◌, ◌⊎◌, inl, inr, Bool, true, false, cond, List, [], ◌∷◌, ◌++◌, length, drop, refl, ap, sym, get_or-drop, length-drop, length-append, drop_of_length-le, subst, ◌∙◌, arith}
 use Rattle.std.proofs.lemmas.Bool.{not-true}
 use Rattle.theory.specs.Terms.{Term}
@@ -85,7 +85,7 @@ reordered-scoped : (S : Signature) (order done rest : List ℕ) (i d : ℕ) → 
 reordered-scoped S order done rest i d e h le =
     let low : place_in order i < length done = place-within order done rest i e h in var-scoped (omega arith)
 
--- a term of the context over levels that stand before a depth
+-- a term of the context over levels that come before a depth
 pub reordered-term : (S : Signature) (n : ℕ) (order done rest : List ℕ) (t : Term) (d : ℕ) → order ≡ done ++ rest → IsScoped S n t → IsOver n done t
     → length done ≤ d → IsScoped S d (put (reordered order) n d t)
 reordered-term S n order done rest t d e h over le =
@@ -103,7 +103,7 @@ solved-scoped S n p u order done rest i d e h (inr own) le =
 
 -- ---- the types
 
--- each type is over what stands before it
+-- each type is over what comes before it
 abbrev pub AreOver : (n p : ℕ) (u : Term) (context : Telescope) (done rest : List ℕ) → Type 0
 AreOver n p u context done [] = Unit {0}
 AreOver n p u context done (j ∷ rest) =

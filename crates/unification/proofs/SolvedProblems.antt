@@ -143,7 +143,7 @@ built-converts S q b d e number hp ha =
     (transport (Converts S (Con b.n b.number)) (ap₂ Con e number) same)
     (each-append S (map (inst q) b.parameters) (map (inst q) d.parameters) (map (inst q) b.arguments) (map (inst q) d.arguments) hp ha)))
 
--- what the equations after an injectivity tell: the arguments convert, and the equations after the group hold
+-- what the equations after an injectivity say: the arguments convert, and the equations after the group hold
 injected-sides : (S : Signature) (s : State) (q : ℕ → Term) (g : ℕ) (f : Family) (ps : List Term) (b d : Built) → IsBuilt S b → IsBuilt S d
     → b.n ≡ d.n → b.number ≡ d.number
     → SidesConvert S q (injected_state s g b.n b.number f b.constructor ps b.arguments d.arguments).equations
@@ -172,7 +172,7 @@ injected-sides S s q g f ps b d hb hd e number h =
 
 -- ---- one step
 
--- the first equation, where its sides convert under an instantiation as they stand in the step
+-- the first equation, where its sides convert under an instantiation as they are in the step
 first-sides : (S : Signature) → HasClosedBodies S → (s : State) (q : ℕ → Term) (e : Equation) (A u v : Term) → IsFirst S s e A u v
     → Converts S (inst q u) (inst q v) → SidesConvert S q (drop 1 s.equations) → SidesConvert S q s.equations
 first-sides S closed s q e A u v first h rest =

@@ -328,7 +328,7 @@ normalised : unify_of (sample false)
 unfolding native.Mathlib.Decide.ℕ_discrete sample
 normalised = refl
 
--- n k : Nat, v : Vec n, u : Vec k, e : Eq.0 Nat n (suc k): v stands last once n is solved
+-- n k : Nat, v : Vec n, u : Vec k, e : Eq.0 Nat n (suc k): v comes last once n is solved
 dependants_stand_last : unify_of (sample false)
     (of_refl (Nat ∷ Nat ∷ Vec (Var 1) ∷ Vec (Var 1) ∷ equation 0 Nat (Var 3) (suc_term (Var 2)) ∷ []) Nat (Var 4) (suc_term (Var 3))) 100
     ≡ answered

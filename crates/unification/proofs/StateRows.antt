@@ -1,4 +1,4 @@
--- States on the way of e : Eq.0 Nat (suc m) (suc n) to refl. The types of the equations, as they stand, are those that another
+-- States on the way of e : Eq.0 Nat (suc m) (suc n) to refl. The types of the equations, as they are, are those that another
 -- implementation writes into the motives of its eliminators.
 use Rattle.std.proofs.Common.{◌≡◌, Ok, [], ◌∷◌, refl}
 use Rattle.theory.specs.Terms.{Term}

@@ -118,7 +118,7 @@ sticks_at-is S s left why u v rest sides =
 pub first-at : (s : State) (e : Equation) (others : List Equation) → s.equations ≡ e ∷ others → slice_get s.equations 0 ≡ Some e
 first-at s e others first = ap (λ equations. slice_get equations 0) first
 
--- the equation e stands first in the scoped state s
+-- the equation e comes first in the scoped state s
 pub record IsTried (S : Signature) (s : State) (e : Equation) : Type 0 where
   pub others : List Equation
   pub first : s.equations ≡ e ∷ others

@@ -1,4 +1,4 @@
--- What types tell of the constructors on both sides of an equation. No rule compares this: in a problem whose sides have the types
+-- What types say of the constructors on both sides of an equation. No rule compares this: in a problem whose sides have the types
 -- of their places it holds, since families are injective. That they are is not proved here.
 use Rattle.std.specs.Prelude.{◌≡◌, ℕ, ◌-◌, List, map, take}
 use Rattle.theory.specs.Terms.{Term}

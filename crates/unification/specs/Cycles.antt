@@ -1,4 +1,4 @@
--- Cycle: one side of the first equation is a variable, which stands below constructors on the other side.
+-- Cycle: one side of the first equation is a variable, which is below constructors on the other side.
 use Rattle.std.specs.Prelude.{ℕ, zero, suc, Bool, true, false, ◌&&◌, ◌==◌, nat_lt, cond, Option, Some, None, option_map, List, ◌∷◌, ◌++◌, Result, Ok, Err}
 use Rattle.theory.specs.Terms.{Term, Var, Con, height}
 use Rattle.theory.specs.Telescopes.{applied}
@@ -36,7 +36,7 @@ abbrev pub Below : Type 0
 Below = (before : ℕ) → Term → Search Term
 
 -- One direct argument after the other is reduced and searched, until something is found. It takes the place of the argument in
--- which it is found; the other arguments stay as they stand.
+-- which it is found; the other arguments stay as they are.
 abbrev pub among_arguments : Signature → Below → List Argument → List Term → Search (List Term)
 among_arguments S below (a ∷ arguments) (u ∷ us) left =
     cond (is_direct a)
@@ -67,7 +67,7 @@ in_form S n x below t left =
 
 -- ---- the search, worked out by a measure that falls on the way: units, and then room for the height of the term
 
--- How a search goes on in an argument, by what has become less: its reduction has spent units, or else it stands as it did and is
+-- How a search goes on in an argument, by what has become less: its reduction has spent units, or else it is as it was and is
 -- lower than the constructor around it.
 abbrev pub by_less : (units room : Term → Search Term) → Below
 by_less units room before t left = cond (nat_lt left before) (units t left) (room t left)

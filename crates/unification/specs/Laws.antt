@@ -139,8 +139,8 @@ SolutionIsWhole =
     (S : Signature) (p : Problem) (left : ℕ) (steps : List Step) (context : Telescope) (solution : List Term) →
     (unify_of S p left).0 ≡ Ok (Solved steps context solution) → length solution ≡ length p.context
 
--- Where variable p is solved by a term without it, the other variables stand in the new context, each of them once, in an order in
--- which each type is over what stands before it.
+-- Where variable p is solved by a term without it, the other variables occur in the new context, each of them once, in an order in
+-- which each type is over what comes before it.
 pub record IsSolvedContext (S : Signature) (context new : Telescope) (p : ℕ) : Type 0 where
   pub shorter : length new + 1 ≡ length context
   pub each : (j : ℕ) → j < length context → j ≢ p →

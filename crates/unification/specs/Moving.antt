@@ -1,5 +1,5 @@
 -- Equations move after other variables than before, once others are solved. What stands for the variables of a context and of
--- the places or equations after it is told by levels.
+-- the places or equations after it is given by levels.
 use Rattle.std.specs.Prelude.{ℕ, ◌+◌, ◌-◌, nat_lt, cond, List, [], ◌∷◌}
 use Rattle.theory.specs.Terms.{Term, lift}
 use Rattle.core_terms.specs.Levels.{variable}
@@ -11,7 +11,7 @@ use Rattle.unification.specs.States.{Equation}
 abbrev pub over_first : (n : ℕ) → List Term → Environment
 over_first n terms depth position = lift (term_at terms position) (depth - n) 0
 
--- What stands for n variables, for the first `count` places after them, and for the further places, which stand from level
+-- What stands for n variables, for the first `count` places after them, and for the further places, which are from level
 -- `new` on.
 abbrev pub behind : (n count new : ℕ) (variables places : Environment) → Environment
 behind n count new variables places depth j =
@@ -21,7 +21,7 @@ behind n count new variables places depth j =
 abbrev pub moved_item : Environment → (size depth : ℕ) → Item → Item
 moved_item s size depth x = record { type = put s size depth x.type; level = x.level }
 
--- Equations that came after `size` variables, and stand now at a depth: `items` stands for the variables in their places,
+-- Equations that came after `size` variables, and are now at a depth: `items` stands for the variables in their places,
 -- `types` in their types, and `side` makes their sides.
 abbrev pub moved : (items types : Environment) (side : Term → Term) (size depth : ℕ) → List Equation → List Equation
 moved items types side size depth [] = []

@@ -1,4 +1,4 @@
--- Where variables of a context occur. A variable is told by its level: the outermost one has level 0.
+-- Where variables of a context occur. A variable is named by its level: the outermost one has level 0.
 use Rattle.std.specs.Prelude.{ℕ, ◌+◌, Bool, not, cond, List, [], ◌∷◌, ◌++◌, length, drop}
 use Rattle.theory.specs.Terms.{Term}
 use Rattle.theory.specs.Telescopes.{Telescope}
@@ -24,7 +24,7 @@ abbrev pub without : (out levels : List ℕ) → List ℕ
 without out [] = []
 without out (j ∷ levels) = cond (is_among j out) (without out levels) (j ∷ without out levels)
 
--- The levels of all other variables, in the order in which they stand once the variable with level p is solved: its dependants
+-- The levels of all other variables, in the order in which they are once the variable with level p is solved: its dependants
 -- come last.
 abbrev pub order_without : Telescope → (p : ℕ) → List ℕ
 order_without context p =

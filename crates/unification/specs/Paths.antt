@@ -1,4 +1,4 @@
--- Constructors over a signature, and variables that stand below them.
+-- Constructors over a signature, and variables that are below them.
 use Rattle.std.specs.Prelude.{◌≡◌, ℕ, ◌≤◌, IsTrue, Some, [], length, slice_get}
 use Rattle.theory.specs.Terms.{Term, Var}
 use Rattle.theory.specs.Families.{Argument}
@@ -25,7 +25,7 @@ pub record IsArgument (S : Signature) (n : ℕ) (b : Built) (t : Term) : Type 0 
   pub direct : IsTrue (is_direct argument)
   pub term_there : slice_get b.arguments at ≡ Some t
 
--- variable x stands below one or more constructors of family n, along direct arguments, up to conversion
+-- variable x occurs below one or more constructors of family n, along direct arguments, up to conversion
 pub data HasBelow (S : Signature) (n x : ℕ) : Term → Type 0 where
   there : (t u : Term) (b : Built) → Converts S t (term_of b) → IsArgument S n b u → Converts S u (Var x) → HasBelow S n x t
   further : (t u : Term) (b : Built) → Converts S t (term_of b) → IsArgument S n b u → HasBelow S n x u → HasBelow S n x t

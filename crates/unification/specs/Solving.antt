@@ -19,7 +19,7 @@ reordered order depth j = variable depth (place_in order j)
 abbrev pub solved : (n : ℕ) (order : List ℕ) (p : ℕ) (u : Term) → Environment
 solved n order p u depth j = cond (j == p) (put (reordered order) n depth u) (reordered order depth j)
 
--- the types of the variables with these levels, the first of which stands at a depth
+-- the types of the variables with these levels, the first of which is at a depth
 abbrev pub new_context : Telescope → Environment → (depth : ℕ) (order : List ℕ) → Telescope
 new_context context s depth [] = []
 new_context context s depth (j ∷ order) = put s j depth (term_at context j) ∷ new_context context s (depth + 1) order

@@ -5,7 +5,7 @@ use Rattle.theory.specs.Telescopes.{Telescope, variables}
 use Rattle.tele_eq.specs.Items.{Item}
 
 -- An equation of two terms of the context. Its place is an item of a telescope, over the context and the places before it; its
--- type, as it stands, is over the context and the equations before it.
+-- type, as it is, is over the context and the equations before it.
 pub record Equation : Type 0 where
   pub place : Item
   pub type : Term

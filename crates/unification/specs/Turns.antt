@@ -1,4 +1,4 @@
--- Trials of rules, with units. A trial starts from the plain terms and the types as they stand; it tells what the rule does, or
+-- Trials of rules, with units. A trial starts from the plain terms and the types as they are; it says what the rule does, or
 -- that it does not apply.
 use Rattle.std.specs.Prelude.{ℕ, Option, Some, None, Result, Ok}
 use Rattle.theory.specs.Terms.{Term, Sort, App}

@@ -79,7 +79,7 @@ module _ (S : Signature) (n x room p : ℕ) (args : List Arg) (us : List code.Te
     pub argument-without : (end : ℕ) → ◌≡◌ {A = Spent (Option Term)} (Ok None, end) (at_argument S n x room (argument_of p a) (tree_of u) left) → among_from ≡ mapped (λ ws. tree_of u ∷ ws) (behind end)
     argument-without end h = at-argument ∙ ap (λ r. and_next r (λ found end. after found end)) (sym h)
 
--- ---- what stands in the list that is written
+-- ---- what is in the list that is written
 
 -- the term at the number stays where those up to it stay
 pub kept-at : (old new : List code.Term) (at : ℕ) (u : code.Term) → at < length old → u ≡ get_or old at u → take (at + 1) new ≡ take (at + 1) old → drop at (tele_of new) ≡ tree_of u ∷ drop (at + 1) (tele_of new)

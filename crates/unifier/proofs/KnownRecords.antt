@@ -34,7 +34,7 @@ use Rattle.unifier.specs.declared.built.Built.{Built}
 use Rattle.unifier.proofs.LowTerms.{small-items, small-terms}
 use Rattle.unifier.proofs.RecordSizes.{arguments-few, constructor-over, family-few, family-scoped, lifted-free, scoped-over, terms-few}
 
--- ---- the record stands in a signature
+-- ---- the record is in a signature
 
 family-known : (b : Built) (k : IsKnown b) → IsScopedFamily k.S b.family (family_of b.record.now)
 family-known b k = family-scoped k.S b.family (family_of b.record.now) k.ready.scoped k.family
@@ -145,7 +145,7 @@ terms-small b ps p us known count e over few made =
     (transport (λ k. All (λ t. free_of t ≤ length (tele_of b.record.now.params) + length (constructor_of k b.con.now).arguments) c.targets) (sym e) (constructor-known b known).targets))
     (omega (arith, length-map b.con.now.args (argument_of p))))
 
--- ---- terms that stand further in
+-- ---- terms that are further in
 
 pub over-more : (n m : ℕ) (ts : List Term) → n ≤ m → m ≤ most_depth → AreOver n ts → AreOver m ts
 over-more n m [] le few h = tt

@@ -48,7 +48,7 @@ map-drop f zero xs = refl
 map-drop f (suc k) [] = refl
 map-drop f (suc k) (x ∷ xs) = map-drop f k xs
 
--- what stands from number k on, as a slice has it
+-- what is from number k on, as a slice has it
 pub slice-from : {A : Type 0} (k : ℕ) (xs : List A) → take (length xs - k) (drop k xs) ≡ drop k xs
 slice-from k xs = let e = length-drop k xs in take_all (length xs - k) (drop k xs) (omega arith)
 

@@ -126,7 +126,7 @@ map-weaken : (k : ℕ) (ts : List Term) → map (weaken_by k) ts ≡ lifted k ts
 map-weaken k [] = refl
 map-weaken k (t ∷ ts) = ap₂ ◌∷◌ (weaken-is_lift k t) (map-weaken k ts)
 
--- a closed head at parameters that stand further in
+-- a closed head at parameters that are further in
 pub nearest-is : (head : Term) (ps : List Term) (count : ℕ) → free_of head ≡ 0
     → applied (weaken_by count (applied head ps)) (variables count) ≡ applied (applied head (lifted count ps)) (variables count)
 nearest-is head ps count closed =

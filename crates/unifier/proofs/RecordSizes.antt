@@ -143,7 +143,7 @@ terms-few n number ps c over h le =
 pub lifted-free : (t : Term) (by n m : ℕ) → n + by ≤ m → free_of t ≤ n → free_of (lift t by 0) ≤ m
 lifted-free t by n m le h = let e = free_of-lift t by 0 in grind (arith, nat_tests)
 
--- terms that stand further in, before the variables there
+-- terms that are further in, before the variables there
 lifted-all : (n by m : ℕ) (ps : List Term) → n + by ≤ m → AreOver n ps → All (Scoped m) (lifted by ps)
 lifted-all n by m [] le h = All-nil (Scoped m)
 lifted-all n by m (p ∷ ps) le h =

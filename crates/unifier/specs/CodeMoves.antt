@@ -59,7 +59,7 @@ solved_equations s i solution depth A =
     (behind n 1 depth (solved_environment solution) (over_first depth (reflexivity i A' u' ∷ [])))
     (put (solved_environment solution) n depth) (n + 1) depth (drop 1 s.equations)
 
--- the state in which a variable is solved, where the others stand in the given order
+-- the state in which a variable is solved, where the others are in the given order
 abbrev pub state_with : pure.State → (i : ℕ) → Solution → Term → pure.State
 state_with s i solution A =
     let m = length solution.order.now in

@@ -125,7 +125,7 @@ ArePlaces (place.Reordered order) = length order.now ≤ most_depth
 ArePlaces (place.Solved s) = IsSolution s
 ArePlaces (place.Behind b) = IsBehind b
 
--- So deep a term may stand with what is at these places. The solving term is put itself, with the variables in their new order.
+-- So deep a term may be with what is at these places. The solving term is put itself, with the variables in their new order.
 abbrev pub deepest : Places → ℕ
 deepest (place.Reordered order) = 2147600000
 deepest (place.Solved s) = 2147500000

@@ -23,7 +23,7 @@ pub struct Solution<'a> {
     pub by: &'a Term,
 }
 
-/// Terms over the first `over` variables for the first `count` places after `size` variables; the further places stand from
+/// Terms over the first `over` variables for the first `count` places after `size` variables; the further places are from
 /// level `new` on.
 #[derive(Clone, Copy)]
 pub(crate) struct Behind<'a> {
@@ -103,7 +103,7 @@ pub(crate) fn raised(alloc: Global, by: u32, from: u32, t: &Term) -> Result<Term
     }
 }
 
-/// The term at a position, over so many variables fewer than stand around it.
+/// The term at a position, over so many variables fewer than are around it.
 fn term_at(alloc: Global, terms: &[Term], position: u32, by: u32) -> Result<Term, Stop>
     requires { HaveRoomFor by (tele_of terms.now) }
     ensures { Gives tree_of result (Ok (tree.lift (items.term_at (tele_of terms.now) position) by 0)) }
@@ -278,7 +278,7 @@ fn side(alloc: Global, n: u32, sides: Sides, t: &Term) -> Result<Term, Stop>
     }
 }
 
-/// Equations of terms over `n` variables, that came after `size` variables and now stand at a depth, after those that are made:
+/// Equations of terms over `n` variables, that came after `size` variables and now are at a depth, after those that are made:
 /// `items` stands for the variables in their places, `types` in their types.
 #[tactic(auto, using(tele_eq::proofs::Growing::growing))]
 pub(crate) fn moved(

@@ -28,7 +28,7 @@ fn reflexivity(alloc: Global, level: u8, ty: Term, a: Term) -> Result<Term, Stop
     Term::new_app(alloc, Term::new_app(alloc, head, ty)?, a)
 }
 
-/// The types of the variables with these levels, the first of which stands at a depth, after those that are made.
+/// The types of the variables with these levels, the first of which is at a depth, after those that are made.
 #[tactic(auto, using(tele_eq::proofs::Growing::growing))]
 pub fn new_context(
     alloc: Global,

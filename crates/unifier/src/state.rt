@@ -16,7 +16,7 @@ use core_terms::{Items, Stop, Tele, Term, copy_tele, copy_whole};
 use std::alloc::Global;
 use tele_eq::Item;
 
-/// An equation between two terms of the context: its place in a telescope, its type as it stands, after the equations before it,
+/// An equation between two terms of the context: its place in a telescope, its type as it is, after the equations before it,
 /// and its plain sides.
 #[derive(Debug, Drop)]
 pub(crate) struct Equation {

@@ -26,7 +26,7 @@ use function_walks::{GREATEST_LEVEL, Session};
 use std::alloc::Global;
 use with_abstraction::{Abstracted, abstract_over};
 
-/// Whether the constant stands in a term.
+/// Whether the constant occurs in a term.
 fn mentions(own: u32, t: &Term) -> bool
     ensures { result ≡ has_constant own (tree_of t.now) }
 {

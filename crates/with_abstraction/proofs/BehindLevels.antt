@@ -34,7 +34,7 @@ behind-below n j found (a ∷ types) l h =
     ]
     by one other false k = let lt : l < j + 1 + length types = other k in omega arith
 
--- all variables but the new one stand before it or after
+-- all variables but the new one come before it or after
 pub length-both : (n : ℕ) (types : List Term) → length types ≡ n → length (in_front n types) + length (behind n types) ≡ n
 length-both n types e =
     length-without (behind n types) 0 n (behind-order n 0 (n ∷ []) types)

@@ -1,4 +1,4 @@
--- In the new order each type has no variables but those that stand before its own.
+-- In the new order each type has no variables but those that come before its own.
 use Rattle.std.proofs.Common.{◌≡◌, ℕ, zero, suc, ◌+◌, ◌-◌, ◌≤◌, ◌<◌, ◌⊎◌, inl, inr, Bool, true, false, cond, List, [], ◌∷◌, ◌++◌, length, refl, sym, subst as transport, arith}
 use Rattle.theory.specs.Terms.{Term}
 use Rattle.tele_eq.specs.Levels.{has_level, is_among}
@@ -42,7 +42,7 @@ pub in-front_among : (n : ℕ) (types : List Term) (l : ℕ) → l < n → is_am
 in-front_among n types l lt h =
     among-without l (behind n types) (each_position (λ j. j) 0 n) (each-among 0 n l (omega arith) (omega arith)) h
 
--- the variables of a type in front stand in front
+-- the variables of a type in front are in front
 front-within : (n : ℕ) (types : List Term) (s : Term) → IsOpened n types s → (at : ℕ) → at < n → is_among at (behind n types) ≡ false → (done : List ℕ)
     → ((l : ℕ) → l < at → is_among l (behind n types) ≡ false → is_among l done ≡ true) → IsWithin n done (term_at (types ++ s ∷ []) at)
 front-within n types s h at low none done knows l lt has =
@@ -115,7 +115,7 @@ not-cons l j levels ne h = elim (either (is_among l (j ∷ levels))) [
   ]
 ]
 
--- the variables of a type after the new variable stand before it too
+-- the variables of a type after the new variable come before it too
 behind-within : (n : ℕ) (types : List Term) (s : Term) → IsOpened n types s → (j : ℕ) → j < n → (done : List ℕ)
     → ((l : ℕ) → l < j → is_among l done ≡ true) → is_among n done ≡ true → IsWithin n done (term_at (types ++ s ∷ []) j)
 behind-within n types s h j low done lower new l lt has =

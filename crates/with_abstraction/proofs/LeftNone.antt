@@ -90,7 +90,7 @@ lifted-variable_is (AxiomK i m) under k e = absurd (cc)
 
 -- ---- what occurs as the scrutinee is the new variable
 
--- the new variable stands among the values, and u is that variable
+-- the new variable is among the values, and u is that variable
 abbrev pub IsNew : (values : List Term) (order : List ℕ) (n : ℕ) (u : Term) → Type 0
 IsNew values order n u = (place_in order n < length values) × (u ≡ Var (length values - (place_in order n + 1)))
 
@@ -243,7 +243,7 @@ place-new n (x ∷ xs) ys low = by (place-new n xs ys (λ l h. low l (among-late
         absurd (omega arith)
     by rest false e = ap (λ k. k + 1) rest ∙ add-one (length xs)
 
--- the type of a variable stands at its place, and has only variables before it
+-- the type of a variable is at its place, and has only variables before it
 arranged-at : (order : List ℕ) (n : ℕ) (all : List Term) (done rest : List ℕ) (d j : ℕ) → EachFollows n all done rest → is_among j rest ≡ true
     → (term_at (arranged order n all d rest) (place_in rest j) ≡ put (reordered order) (n + 1) (d + place_in rest j) (term_at all j))
     × IsWithin n (done ++ take (place_in rest j) rest) (term_at all j)

@@ -71,7 +71,7 @@ mentioned n types p (i ∷ levels) j h k = elim (among-cases j i levels h) [
       or_right (has_variable (n - (p + 1)) (term_at types i)) (is_mentioned n types p levels) (mentioned n types p levels j there k)
 ]
 
--- So are those of their types, where each type has only variables that stand before its own.
+-- So are those of their types, where each type has only variables that come before its own.
 pub needed-closed : (n : ℕ) (types : List Term) (S : Term)
     → ((j i : ℕ) → i < n → has_variable (n - (i + 1)) (term_at types j) ≡ true → i < j)
     → (below : ℕ) (found : List ℕ) (j i : ℕ) → below ≤ n → i < below → is_among j (needed_below n types S below found) ≡ true

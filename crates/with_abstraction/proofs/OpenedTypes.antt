@@ -1,4 +1,4 @@
--- The types of a context without the scrutinee: where they stand, and which variables they have.
+-- The types of a context without the scrutinee: where they are, and which variables they have.
 use Rattle.std.proofs.Common.{◌≡◌, ℕ, zero, suc, ◌+◌, ◌-◌, ◌≤◌, ◌<◌, ◌⊎◌, inl, inr, Bool, true, false, cond, List, [], ◌∷◌, length, ap, ◌∙◌, subst as transport, arith}
 use Rattle.theory.specs.Terms.{Term, lift}
 use Rattle.tele_eq.specs.Levels.{is_among}

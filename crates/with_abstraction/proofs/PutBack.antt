@@ -98,7 +98,7 @@ pub record Stands (values : List Term) (order : List ℕ) (n : ℕ) (t : Term) (
   pub place : place_in order level < length values
   pub value : get_or values (place_in order level) (Sort 0) ≡ value_of n t level
 
--- each level whose variable occurs in a term over n + 1 variables, under so many binders, stands there
+-- each level whose variable occurs in a term over n + 1 variables, under so many binders, is there
 abbrev pub EachStands : (values : List Term) (order : List ℕ) (n : ℕ) (t : Term) (under : ℕ) (x : Term) → Type 0
 EachStands values order n t under x = (l : ℕ) → l < n + 1 → has_variable (n + 1 - (l + 1) + under) x ≡ true → Stands values order n t l
 

@@ -1,4 +1,4 @@
--- Abstractions over scrutinees, worked by hand. The telescope, the goal, the place and the order are told whole.
+-- Abstractions over scrutinees, worked by hand. The telescope, the goal, the place and the order are given whole.
 use native.Mathlib.Decide.{ℕ_discrete}
 use Rattle.std.proofs.Common.{◌≡◌, Ok, Err, [], ◌∷◌, refl, false, ℕ, List}
 use Rattle.theory.specs.Terms.{Term}
@@ -20,7 +20,7 @@ abbrev families : Term
 families = Pi Nat (Sort 0)
 
 -- (g : Nat -> Nat) (n : Nat) (P : Nat -> Type 0) (y : P (g n)) (m : Nat), and P (g n): the scrutinee g n occurs in the goal and in
--- a type, which comes after the new variable, while m stands before it
+-- a type, which comes after the new variable, while m comes before it
 in_both : abstract_over_of (sample false) (functions ∷ Nat ∷ families ∷ App (Var 0) (App (Var 2) (Var 1)) ∷ Nat ∷ [])
     (App (Var 2) (App (Var 4) (Var 3)))
     (App (Var 4) (Var 3)) Nat 0
@@ -68,7 +68,7 @@ under_binder : abstract_over_of (sample false) (Nat ∷ families ∷ Pi Nat (App
 unfolding native.Mathlib.Decide.ℕ_discrete sample
 under_binder = refl
 
--- (g : Nat -> Nat) (n : Nat) (P : Nat -> Type 0) (y : (m : Nat) -> P (g m)), and P (g n): under the binder stands g m, which is not g n
+-- (g : Nat -> Nat) (n : Nat) (P : Nat -> Type 0) (y : (m : Nat) -> P (g m)), and P (g n): under the binder is g m, which is not g n
 other_under_binder : abstract_over_of (sample false) (functions ∷ Nat ∷ families ∷ Pi Nat (App (Var 1) (App (Var 3) (Var 0))) ∷ [])
     (App (Var 1) (App (Var 3) (Var 2)))
     (App (Var 3) (Var 2)) Nat 0
@@ -85,7 +85,7 @@ abbrev over_y : Term → Term
 over_y y = App (Lam (Fin zero_term) Nat) y
 
 -- (y z : Fin zero), and Fin zero: the scrutinee (\(i : Fin zero) -> zero) y comes to zero, which occurs in the types of y and z. The
--- type (\(i : Fin zero) -> Nat) y has y, so y keeps its type and stands before the new variable. One unit is spent, for the scrutinee.
+-- type (\(i : Fin zero) -> Nat) y has y, so y keeps its type and comes before the new variable. One unit is spent, for the scrutinee.
 needed_type : abstract_over_of (sample false) (Fin zero_term ∷ Fin zero_term ∷ []) (Fin zero_term)
     (App (Lam (Fin zero_term) zero_term) (Var 1))
     (over_y (Var 1)) 1

@@ -1,4 +1,4 @@
--- An abstraction is scoped: each type is over those before it, and each variable of the context stands once.
+-- An abstraction is scoped: each type is over those before it, and each variable of the context occurs once.
 use Rattle.std.proofs.Common.{◌≡◌, ℕ, zero, suc, ◌+◌, ◌-◌, ◌≤◌, ◌<◌, inl, inr, Bool, true, false, cond, List, [], ◌∷◌, ◌++◌, length, map, length-append, Ok, IfOk, refl, sym, ap, ◌∙◌, subst as transport, arith}
 use Rattle.std.proofs.lemmas.List.{length-map}
 use Rattle.theory.specs.Terms.{Term, Var, Sort, Pi, Lam, App, Let, Const, Fam, Con, Elim, AxiomK, lift, lift_var}

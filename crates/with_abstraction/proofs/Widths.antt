@@ -175,7 +175,7 @@ opened-low_made t kept made types none h =
 pub ok-inner : {A : Type 0} (x y : A) → ◌≡◌ {A = Result A Stop} (Ok x) (Ok y) → x ≡ y
 ok-inner x y e = transport (λ r. IfOk r (λ z. x ≡ z)) e refl
 
--- what stands at the end of low terms
+-- what is at the end of low terms
 pub low-end : (terms : List code.Term) (t : code.Term) (u : Term) → ◌≡◌ {A = Result Term Stop} (Ok (tree_of t)) (Ok (lift u 1 0)) → height u ≤ 2000
     → AreLow (tele_of terms) → AreLow (tele_of (terms ++ t ∷ []))
 low-end [] t u e le h =

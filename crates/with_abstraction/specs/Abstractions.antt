@@ -14,14 +14,14 @@ use Rattle.with_abstraction.specs.Occurrences.{without}
 use Rattle.with_abstraction.specs.Orders.{behind, in_front, arranged}
 
 -- The telescope with the new variable, the goal over it, the place of the new variable, and for each other place the number of the
--- variable of the context that stands there.
+-- variable of the context that is there.
 pub record Abstracted : Type 0 where
   pub telescope : Telescope
   pub goal : Term
   pub place : ℕ
   pub order : List ℕ
 
--- The types of a context, the first of which is that of the variable with level j, one variable further in: the new variable stands
+-- The types of a context, the first of which is that of the variable with level j, one variable further in: the new variable is
 -- for t in each of them, but not in those that the scrutinee's type needs.
 abbrev pub opened : (t : Term) (kept : List ℕ) (j : ℕ) (types : List Term) → List Term
 opened t kept j [] = []
@@ -54,7 +54,7 @@ abstracted m S =
     let n = length m.types in
     arranged_with n m.scrutinee S (opened_types n m.scrutinee S (widened n 0 m.types)) m.goal
 
--- Units are spent on normal forms alone. The type is taken as it stands, and is Deep after them where it is too high.
+-- Units are spent on normal forms alone. The type is taken as it is, and is Deep after them where it is too high.
 abbrev pub abstract_over_of : Signature → (context : Telescope) (goal t type : Term) → ℕ → Spent Abstracted
 abstract_over_of S context goal t type left =
     and_next (normal_forms_of S context goal t left) (λ m rest. if_low (is_low type) (answered (Ok (abstracted m type))) rest)

@@ -57,7 +57,7 @@ AbstractionGivesBack =
 
 -- ---- what is made is scoped
 
--- an abstraction in a context of n variables: each type is over those before it, and each variable of the context stands once
+-- an abstraction in a context of n variables: each type is over those before it, and each variable of the context occurs once
 pub record IsScopedAbstraction (S : Signature) (n : ℕ) (a : Abstracted) : Type 0 where
   pub telescope : IsScopedTelescope S 0 a.telescope
   pub goal : IsScoped S (n + 1) a.goal

@@ -1,4 +1,4 @@
--- Which variables of a context the type of a scrutinee needs. A variable is told by its level: the outermost one has level 0.
+-- Which variables of a context the type of a scrutinee needs. A variable is named by its level: the outermost one has level 0.
 use Rattle.std.specs.Prelude.{ℕ, zero, suc, ◌+◌, ◌-◌, Bool, false, ◌||◌, cond, List, [], ◌∷◌}
 use Rattle.theory.specs.Terms.{Term, lift}
 use Rattle.theory.specs.Telescopes.{Telescope}

@@ -1,5 +1,5 @@
--- What an abstraction begins from, in plain normal form: constants stay as they stand. Units are counted in the order in which the
--- terms stand here: the goal, the types of the context from the outermost on, the scrutinee.
+-- What an abstraction begins from, in plain normal form: constants stay as they are. Units are counted in the order in which the
+-- terms are here: the goal, the types of the context from the outermost on, the scrutinee.
 use Rattle.std.specs.Prelude.{ℕ, false, [], ◌∷◌, Ok}
 use Rattle.theory.specs.Terms.{Term}
 use Rattle.theory.specs.Telescopes.{Telescope}

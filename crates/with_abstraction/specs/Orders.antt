@@ -1,4 +1,4 @@
--- In which order the variables of a context and the new variable stand. The new one is told by level n, after the n levels of the
+-- In which order the variables of a context and the new variable are. The new one is named by level n, after the n levels of the
 -- context, and the types are terms over all of these n + 1 variables.
 use Rattle.std.specs.Prelude.{ℕ, ◌+◌, cond, List, [], ◌∷◌, ◌++◌}
 use Rattle.theory.specs.Terms.{Term}
@@ -27,7 +27,7 @@ in_front n types = levels.without (behind n types) (each_position (λ j. j) 0 n)
 abbrev pub new_order : (n : ℕ) (types : List Term) → List ℕ
 new_order n types = in_front n types ++ n ∷ behind n types
 
--- the types of the variables with these levels, the first of which stands at a depth, where all variables stand in an order
+-- the types of the variables with these levels, the first of which is at a depth, where all variables occur in an order
 abbrev pub arranged : (order : List ℕ) (n : ℕ) (types : List Term) (depth : ℕ) (levels : List ℕ) → Telescope
 arranged order n types depth [] = []
 arranged order n types depth (j ∷ levels) =

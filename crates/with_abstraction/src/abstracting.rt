@@ -98,7 +98,7 @@ fn abstracted(alloc: Global, forms: &NormalForms, ty: &Term) -> Result<Abstracte
 /// Abstracts a goal and the types of its context over a scrutinee of type `ty`.
 ///
 /// Goal, types and scrutinee are brought into plain normal form. A new variable stands for each subterm that is letter for letter the
-/// scrutinee, but not in the types of the variables that `ty` needs. Those whose types changed, and those that depend on them, stand
+/// scrutinee, but not in the types of the variables that `ty` needs. Those whose types changed, and those that depend on them, are
 /// after the new variable, all others before it.
 ///
 /// Each head step costs a unit: first those of the goal, then those of the types from the outermost on, then those of the scrutinee.

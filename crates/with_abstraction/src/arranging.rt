@@ -104,7 +104,7 @@ fn type_put(
     }
 }
 
-/// The types of the variables with these levels, the first of which stands at a depth, after those that are made.
+/// The types of the variables with these levels, the first of which is at a depth, after those that are made.
 #[tactic(auto, using(tele_eq::proofs::Growing::growing))]
 pub(crate) fn arranged(
     alloc: Global,

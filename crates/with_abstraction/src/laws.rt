@@ -11,7 +11,7 @@ pub fn abstraction_gives_back()
     ensures { AbstractionGivesBack }
 {}
 
-/// Each type is over those before it, and each variable of the context stands once.
+/// Each type is over those before it, and each variable of the context occurs once.
 pub fn abstraction_scoped()
     ensures { AbstractionScoped }
 {}

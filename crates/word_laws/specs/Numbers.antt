@@ -2,7 +2,7 @@
 use Rattle.std.specs.Prelude.{◌≤◌, ◌+◌, ℕ, length}
 use Rattle.surface_syntax.specs.Trees as surf
 
--- how many `with` stand in clauses
+-- how many `with` are in clauses
 abbrev mutual
   pub withs_right : surf.Right → ℕ
   withs_right (surf.Side t) = 0

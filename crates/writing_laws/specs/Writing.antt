@@ -51,7 +51,7 @@ IsOrdinary S _ = Unit {0}
 abbrev pub TextIsOrdinary : Type 0
 TextIsOrdinary = (bytes : List ℕ) (ds : List surf.Decl) → Gives bytes (Ok ds) → Each (λ d. (S : Signature) → IsOrdinary S d) ds
 
--- What the declarations at the front of a text give, which are accepted one by one from the prelude on, may stand in a core file: names
+-- What the declarations at the front of a text give, which are accepted one by one from the prelude on, may be in a core file: names
 -- are plain and may be declared, and no shown term is too high.
 abbrev pub AcceptedIsWritable : Type 0
 AcceptedIsWritable =

@@ -6,7 +6,7 @@ pub fn entries_stay_low()
     ensures { EntriesStayLow }
 {}
 
-/// What is accepted of a text may stand in a core file.
+/// What is accepted of a text may be in a core file.
 pub fn accepted_is_writable()
     ensures { AcceptedIsWritable }
 {}

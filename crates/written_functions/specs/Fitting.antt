@@ -7,8 +7,8 @@ use Rattle.theory.specs.Signatures.{Signature, FamilyOf, IsEntryAt}
 use Rattle.core_terms.specs.Patterns as pattern
 use Rattle.core_terms.specs.Patterns.{Pat, Pats}
 
--- `Fits S Dot pat t terms`: t fits the pattern, whose variables have these terms, in the order of the text. A variable has what stands
--- there, any term fits `_`, a dot is one of its written term by `Dot`, and a constructor stands at as many terms as its family has
+-- `Fits S Dot pat t terms`: t fits the pattern, whose variables have these terms, in the order of the text. A variable has what is
+-- there, any term fits `_`, a dot is one of its written term by `Dot`, and a constructor is at as many terms as its family has
 -- parameters, and then at terms that fit. Nothing fits `( )`.
 mutual
   pub data Fits (S : Signature) (Dot : (written t : Term) → Type 0) : Pat → Term → List Term → Type 0 where

@@ -32,7 +32,7 @@ tree_is_positive =
     only (IsPositiveConstructor tree) node
     (record { arguments = only (IsPositiveArgument tree) (Recursive (Nat ∷ []) [] 0) (only (Lacks tree) Nat refl, All-nil _); targets = All-nil _ })
 
--- each symbol of the family is a mention of it, wherever it stands
+-- each symbol of the family is a mention of it, wherever it is
 mentioned_anywhere : (mentions nat (Pi (Sort 0) (Lam (Sort 0) (App (Var 0) Nat))) ≡ true) × (mentions nat (Let (Sort 0) (Con nat 1) (Elim vec 0)) ≡ true)
     × (mentions nat (Elim nat 0) ≡ true) × (mentions nat (Pi (Fam vec) (App (Con vec 0) (Elim tree 0))) ≡ false)
 mentioned_anywhere = (refl, refl, refl, refl)
@@ -69,6 +69,6 @@ bad_argument (Recursive (a ∷ inner) js level ∷ arguments) targets e h =
 bad_is_refused : (c : Constructor) → constructor_type bad (bad_family c) c ≡ Pi (Pi (Fam bad) (Fam 0)) (Fam bad) → IsPositive bad (bad_family c) → ⊥
 bad_is_refused c e h = bad_argument c.arguments c.targets e (h 0 c (omega arith)).arguments
 
--- the family may not stand in a target either
+-- the family may not be in a target either
 target_is_refused : IsPositive bad (bad_family (record { name = []; arguments = []; targets = Fam bad ∷ [] })) → ⊥
 target_is_refused h = true≢false ((h 0 (record { name = []; arguments = []; targets = Fam bad ∷ [] }) (omega arith)).targets 0 (Fam bad) (omega arith))

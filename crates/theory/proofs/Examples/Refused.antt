@@ -17,7 +17,7 @@ use Rattle.theory.proofs.Examples.Sample.{nat, suc_constructor, nat_family, vec_
 k_off : (S : Signature) (i m : ℕ) → S.has_k ≡ false → IsAxiomK S i m → ⊥
 k_off S i m off h = true≢false (sym h.on ∙ off)
 
--- K where another family stands in the place of Eq.0
+-- K where another family occurs in the place of Eq.0
 k_elsewhere : (m : ℕ) → IsAxiomK (record { entries = FamilyOf nat_family ∷ FamilyOf nat_family ∷ []; has_k = true }) 0 m → ⊥
 k_elsewhere m h = grind (arith, h.identity.entry)
 

@@ -6,7 +6,7 @@ use Rattle.theory.specs.Signatures.{Signature, FamilyOf, EliminatorAt, AxiomKAt,
 use Rattle.theory.specs.WellFormed.{provisional}
 use Rattle.theory.specs.Prelude.{empty_family, equality_family}
 
--- the entry numbers: Empty and Eq.0 stand where the prelude has them
+-- the entry numbers: Empty and Eq.0 are where the prelude has them
 abbrev pub nat : ℕ
 nat = 2
 
