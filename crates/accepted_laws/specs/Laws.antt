@@ -1,4 +1,4 @@
--- What enters a signature is let in entry by entry, with as many units for each entry as were there for all.
+-- What enters a signature is accepted entry by entry, where each entry may spend as many units as all of them together.
 use Rattle.std.specs.Prelude.{ℕ, IfOk}
 use Rattle.theory.specs.Signatures.{Signature}
 use Rattle.core_sig.specs.Drafts.{Draft}

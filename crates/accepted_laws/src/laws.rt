@@ -1,12 +1,12 @@
-//! Each entry that a declaration adds is let in by the checker when it is asked about that entry alone.
+//! Each entry that a declaration adds is accepted by the checker when it checks that entry alone.
 ghost use Rattle.accepted_laws.specs.Laws.{ElaborateIsChecked, EnteringIsChecked, FamilyIsChecked, FunctionIsChecked, ReportIsChecked};
 
-/// A declared family is let in as its line shows it.
+/// A declared family is accepted as its line shows it.
 pub fn family_is_checked()
     ensures { FamilyIsChecked }
 {}
 
-/// Where a draft enters, each new entry is let in by itself.
+/// Where a draft enters, each new entry is accepted by itself.
 pub fn entering_is_checked()
     ensures { EnteringIsChecked }
 {}

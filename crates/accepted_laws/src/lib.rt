@@ -1,4 +1,4 @@
-//! What a declaration adds is let in by the checker entry by entry, each entry with units of its own.
+//! Each entry that an accepted declaration adds is accepted by the checker, with units of its own.
 #![tactic(auto)]
 
 pub mod laws;

@@ -18,7 +18,7 @@ use leaf_terms::{Part, Plan, Recursion, no_part, recursion_of};
 use std::alloc::Global;
 use unifier::variables;
 
-/// The equation of two sides where a clause is.
+/// The equation of two sides at the site of a clause.
 fn equation_of_sides(alloc: Global, site: &Site, left: Term, right: Term) -> Result<Equation, Stop>
     ensures { Gives equation_of result (Ok (spec.equation_of_sides (site_of site.now) (tree_of left) (tree_of right))) }
 {
@@ -61,8 +61,8 @@ fn low_right(
     checked(right_side(alloc, sig, plan, r, side, site)?)
 }
 
-/// The equation of a clause of part k with these patterns and this right side where it is, with the function's recursion, if there
-/// is one, or Deep where a side of it is too high.
+/// The equation of a clause of part k at its site, with these patterns and this right side, and with the function's recursion, if
+/// there is one. It is Deep where one of its sides is too high.
 pub fn equation_at(
     alloc: Global,
     sig: &Signature,
@@ -130,8 +130,8 @@ fn equation_in(
 /// It is over the context of the walk and of its goal's type. The left side is the function at what the patterns show of the terms of
 /// its columns, or helper k at the terms for its telescope and, where the function is recursive, at the values of the recursion. The
 /// right side is the clause's own with its bindings, or the call of a helper, with those values too. The function and its helpers have
-/// the numbers of the signature. It is Deep where a side is higher than 2,000, or where a type of the function's own telescope is and
-/// the plan has a position for recursion.
+/// the numbers of the signature. It is Deep where a side is higher than 2,000, or where the plan has a position for recursion
+/// and a type of the function's own telescope is too high.
 pub fn equation(
     alloc: Global,
     sig: &Signature,

@@ -20,7 +20,7 @@ use core_terms::{Items, Pat, Stop, Tele, Term, applied, copy_tele, head};
 use leaf_terms::{Plan, Recursion};
 use std::alloc::Global;
 
-/// Where a clause of a part is: a context and a goal there; terms for the variables of the part's telescope and for its columns; the
+/// The site of a clause of a part: a context and a goal there; terms for the variables of the part's telescope and for its columns; the
 /// bindings of the clause; and terms for the variables of the context of the clause's own walk.
 #[derive(Clone, Copy)]
 pub struct Site<'a> {

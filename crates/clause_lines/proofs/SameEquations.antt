@@ -1,4 +1,4 @@
--- The equation where a clause is, with the recursion that is found, is that equation.
+-- The equation that the code makes at the site of a clause, with the recursion that is found, is the one that is meant.
 use Rattle.std.proofs.Common.{◌≡◌, ℕ, zero, suc, Ok, refl, sym, ap}
 use Rattle.theory.specs.Terms.{Term, Const}
 use Rattle.theory.specs.Signatures.{Signature}

@@ -1,5 +1,5 @@
 -- The line of a clause as the code finds it. It is the clause's own, or Deep: where the equation, its walk or its proof is Deep; where a
--- side of an equation names what is no entry, or has a variable that its context has not; and where a proof names something that is neither
+-- side of an equation names what is no entry, or has a variable that its context lacks; and where a proof names something that is neither
 -- an entry nor generated.
 use Rattle.std.specs.Prelude.{ℕ, zero, suc, Bool, true, false, ◌&&◌, not, nat_lt, cond, bytes_eq, Option, None, List, [], ◌∷◌, length, map, Result, Ok, Err}
 use Rattle.theory.specs.Terms.{Term}

@@ -117,7 +117,7 @@ fn clause_report(
 ///
 /// The equation of the clause holds by conversion, or a proof of it, with what the proof needs, is added to the signature. Where the
 /// checker denies the proof itself, and an earlier clause shadows the clause, the signature is as it was, and so it is after an
-/// error. The units that were spent stay spent. It is Deep where the equation, its walk or its proof is so, where a side of an equation
+/// error. The units that were spent stay spent. It is Deep where the equation, its walk or its proof is Deep, where a side of an equation
 /// names what is no entry, and where the proof may not enter.
 pub fn report(
     alloc: Global,

@@ -63,7 +63,7 @@ abbrev mutual
 
 -- ---- a clause at its own walk or at a leaf
 
--- A clause of part k where it is: a context and a goal there; terms for the variables of the part's telescope and for its columns;
+-- The site of a clause of part k: a context and a goal there; terms for the variables of the part's telescope and for its columns;
 -- the bindings of the clause; and terms for the variables of the context of the clause's own walk.
 pub record Site : Type 0 where
   pub context : Telescope

@@ -1,5 +1,5 @@
 -- The walk of a clause's terms through the tree of its function: it goes into the branch of each constructor, and splits each variable
--- at which the tree does. At each leaf the equation is to hold by reflexivity.
+-- at which the tree does. At each leaf the equation has to hold by reflexivity.
 use Rattle.std.specs.Prelude.{ℕ, zero, suc, ◌+◌, ◌-◌, ◌==◌, ◌&&◌, true, cond, Option, Some, None, List, [], ◌∷◌, ◌++◌, length, map, take, Result, Ok, Err}
 use Rattle.theory.specs.Terms.{Term}
 use Rattle.theory.specs.Telescopes.{Telescope}

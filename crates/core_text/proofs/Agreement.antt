@@ -8,7 +8,7 @@ use Rattle.core_text.specs.Reading.{Reading, wrong, first, and_then}
 use Rattle.core_text.specs.declared.halt.Halt.TheVariants.{Memory, Nested, Wrong}
 use Rattle.core_text.proofs.Characters.{Same, SameName, low-same, same-named}
 
--- ---- what is given
+-- ---- texts that agree with one that is read or refused
 
 -- a refusal at the front, by the character or by the name that is there
 pub data Refused {A : Type 0} (f : List ℕ → Reading A) (z : List ℕ) : Type 0 where
@@ -35,7 +35,7 @@ Told ahead f rest (Err (Wrong left)) = Stopped f rest left
 Told ahead f rest (Err (Nested left)) = Unit {0}
 Told ahead f rest (Err Memory) = Unit {0}
 
--- what f reads is said of every text
+-- f reads every text as each text that agrees with it
 pub record Alike {A : Type 0} (ahead : Bool) (f : List ℕ → Reading A) : Type 0 where
   pub told : (rest : List ℕ) → Told ahead f rest (f rest)
 

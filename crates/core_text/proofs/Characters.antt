@@ -59,7 +59,7 @@ low-led b bytes low =
 pub low-same : (b : ℕ) (v z y : List ℕ) → b < 128 → Same (b ∷ (v ++ z)) (b ∷ (v ++ y))
 low-same b v z y low = low-led b (v ++ z) low ∙ sym (low-led b (v ++ y) low)
 
--- ---- whether it can be in a name
+-- ---- whether a character can be in a name
 
 test-same : (a b c d : Bool) (k : ℕ) → a ≡ c → b ≡ d → (if a && b then k else 0) ≡ (if c && d then k else 0)
 test-same a b c d k e f = ap₂ (λ x y. if x && y then k else 0) e f
@@ -92,7 +92,7 @@ char-alone (b ∷ bytes) =
 pub char-same : (z y : List ℕ) → Same z y → name_char_len z ≡ name_char_len y
 char-same z y same = sym (char-alone z) ∙ (ap name_char_len same ∙ char-alone y)
 
--- a character of a name, where one is
+-- the bytes begin with a character of a name
 pub record IsCharacter (z : List ℕ) : Type 0 where
   pub wide : name_char_len z ≡ width (first z)
   pub within : width (first z) ≤ length z

@@ -1,4 +1,4 @@
--- What is one after the other, one turn at a time.
+-- Items that are read one after the other, one turn at a time.
 use Rattle.std.proofs.Common.{◌≡◌, ℕ, zero, suc, ◌-◌, ◌<◌, List, [], ◌∷◌, ◌++◌, length, refl, ap, ◌∙◌, arith}
 use Rattle.std.specs.Prelude.{Ok, Err, Option, Some, None}
 use Rattle.core_text.specs.Reading.{Reading, and_then}

@@ -85,7 +85,7 @@ shared-same (x ∷ rest) (b ∷ word) = by (shared-same rest word) (x == b) refl
         ap (λ k. take k (x ∷ rest)) more ∙ (ap₂ ◌∷◌ here others ∙ ap (λ k. take k (b ∷ word)) (sym more))
     by others false e = refl
 
--- at the first byte with which a word does not go on, where what comes before it and the word are a front
+-- at the first byte with which a word does not go on, where the text before the word, followed by the word, is a front
 pub begun-word : (V : List ℕ → Type 0) (text word rest whole : List ℕ) → whole ≡ text ++ rest → IsFront V (text ++ word) → Begun V whole (length rest - shared rest word)
 begun-word V text word rest whole at f =
     let k = shared rest word in
@@ -100,7 +100,7 @@ begun-word V text word rest whole at f =
 pub meets-wrong : {A : Type 0} (Q : A → List ℕ → Type 0) (V : List ℕ → Type 0) (text rest whole : List ℕ) → whole ≡ text ++ rest → IsFront V text → Meets Q V whole (wrong rest)
 meets-wrong Q V text rest whole at f = begun-at V text rest whole (length rest) at refl f
 
--- where what is there would be too deep
+-- where what comes next would be too deep
 pub meets-deep : {A : Type 0} (Q : A → List ℕ → Type 0) (V : List ℕ → Type 0) (text rest whole : List ℕ) → whole ≡ text ++ rest → IsFront V text → Meets Q V whole (Err (Nested (length rest)))
 meets-deep Q V text rest whole at f = begun-at V text rest whole (length rest) at refl f
 

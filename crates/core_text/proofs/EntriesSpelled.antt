@@ -149,7 +149,7 @@ module _ (S : Signature) (distinct : AllPairs (λ x y. x ≢ y) (names S)) (plai
 
 -- ---- a line after other bytes
 
--- no note is where a line does
+-- where a line begins there is no note
 next-is : (S : Signature) (text : List ℕ) → Starts text → next_entry S text ≡ shown_by (length S.entries) text (line_at S [] text)
 next-is S text starts =
     ap (next_entry S) starts.is

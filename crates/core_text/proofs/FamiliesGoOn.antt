@@ -27,7 +27,7 @@ use Rattle.core_text.proofs.TermFronts.{IsText, over-sort}
 use Rattle.core_text.proofs.TermsGoOn.{term-meets}
 use Rattle.core_text.proofs.WordsRead.{first-is}
 
--- ---- what is one after the other
+-- ---- items that are read one after the other
 
 -- one item more, or the end
 abbrev pub Item : {A : Type 0} → (List A → List ℕ) → List ℕ → (List A → Type 0) → List ℕ → List A → Option A → List ℕ → Type 0

@@ -171,9 +171,9 @@ axiom_k-fits S bound rest has le =
     (λ r2 within. ensures-then (IsLevel (levels_left S (AxiomK i)) bound) (Good S bound) (read_level (levels_left S (AxiomK i)) r2) _ (read_level-within (levels_left S (AxiomK i)) bound r2 within)
     (λ m r3 level. ended-fits S bound (RawAxiomK i m) r3 (has, identities-below S i first.0, levels-below S (AxiomK i) m level.0) level.1)))
 
--- ---- what is one after the other
+-- ---- items that are read one after the other
 
--- what is so of the items so far, and stays so with one more, is so of all
+-- what holds of the items so far, and still holds with one more, holds of all
 collected-fit : {A : Type 0} (P : List A → Type 0) (bound : ℕ) (next : List A → List ℕ → Reading (Option A)) (N : List A → Option A → Type 0) → ((found : List A) (rest : List ℕ) → P found → length rest ≤ bound → Ensures (λ o r. N found o × (length r ≤ bound)) (next found rest)) → ((found : List A) (a : A) → P found → N found (Some a) → P (found ++ a ∷ [])) → (k : ℕ) (found : List A) (rest : List ℕ) → P found → length rest ≤ bound → Ensures (λ xs r. P xs × (length r ≤ bound)) (collected next k found rest)
 collected-fit {A} P bound next N step grows zero found rest so le = tt
 collected-fit {A} P bound next N step grows (suc k) found rest so le =

@@ -23,7 +23,7 @@ use Rattle.core_text.proofs.TermsAgree.{alike-read, begins-front}
 use Rattle.core_text.proofs.WordsAgree.{told-shift, told-first, told-byte, alike-word, part-starts, word-starts, word-moves, alike-here}
 use Rattle.core_text.proofs.WordsRead.{word-is}
 
--- ---- what is one after the other
+-- ---- items that are read one after the other
 
 module _ {A : Type 0} (next : List A → List ℕ → Reading (Option A)) (none : (found : List A) → next found [] ≡ wrong []) (moves : (found : List A) (rest : List ℕ) → MovesAt rest (next found rest)) where
   -- each number of bytes that is not less than there are leaves room for all
@@ -43,7 +43,7 @@ module _ {A : Type 0} (next : List A → List ℕ → Reading (Option A)) (none 
       by same (Ok (None, r)) moved = refl
       by same (Err e) moved = refl
 
-  -- all that is there
+  -- all items of the bytes
   abbrev all_of : List A → List ℕ → Reading (List A)
   all_of found rest = collected next (length rest) found rest
 
@@ -59,7 +59,7 @@ module _ {A : Type 0} (next : List A → List ℕ → Reading (Option A)) (none 
   moved-from : (found : List A) (rest : List ℕ) (o : Option A) (r : List ℕ) → next found rest ≡ Ok (o, r) → length r < length rest
   moved-from found rest o r e = subst (MovesAt rest) e (moves found rest)
 
-  -- where what comes after an item is given
+  -- where it holds of shorter texts
   whole-step : ((found : List A) → Alike false (next found)) → (found : List A) (rest : List ℕ) → ((others : List A) (r : List ℕ) → length r < length rest → Told false (all_of others) r (all_of others r)) → Told false (all_of found) rest (all_of found rest)
   whole-step alike found rest shorter =
       subst (Told false (all_of found) rest) (all-step found rest)

@@ -120,7 +120,7 @@ module _ (T S : Signature) (has : Has T S) where
       (λ m r3 fm. ended-writes (codes "axiomk " ++ rest) (codes "axiomk " ++ (decimal i ++ (codes " " ++ decimal m))) (RawAxiomK i m) r3
       (ap (λ s. codes "axiomk " ++ s) (fi ∙ ap (λ s. decimal i ++ s) (fs ∙ ap (λ s. codes " " ++ s) fm)) ∙ simp append_assoc) (simp append_assoc))))
 
--- ---- what is one after the other
+-- ---- items that are read one after the other
 
 -- the bytes of one item more, or of the end
 abbrev Item : {A : Type 0} → (List A → A → List ℕ) → List ℕ → List A → List ℕ → Option A → List ℕ → Type 0
@@ -354,7 +354,7 @@ entry-read : (S : Signature) (e : Entry) (rest : List ℕ) → length rest < 2 ^
 entry-read S e [] short = λ is. absurd (cc)
 entry-read S e (b ∷ rest) short = shown-read S e (length S.entries) (b ∷ rest) (line_at S [] (b ∷ rest)) (line-read S e (b ∷ rest) short)
 
--- after so many bytes from the end is the end
+-- what is left of a text after all bytes before its end is that end
 drop-end : (text front r : List ℕ) → text ≡ front ++ r → drop (length text - length r) text ≡ r
 drop-end text front r is =
     let place : length text - length r ≡ length front = omega (arith, ap length is, length-append front r) in

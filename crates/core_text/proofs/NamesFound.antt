@@ -38,7 +38,7 @@ lookup-in (q ∷ known) (suc k) p e distinct =
     ap (λ b. cond b (Some q.1) (lookup (bytes_eq p.0) known)) other
     ∙ lookup-in known k p e (λ i j d lt within. distinct (suc i) (suc j) d (omega arith) (omega arith))
 
--- ---- where a name is
+-- ---- the place of a name
 
 in-front : (p : List ℕ × Found) (xs ys : List (List ℕ × Found)) → In p xs → In p (xs ++ ys)
 in-front p xs ys is = record { place = is.place; is = slice_get-longer xs ys is.place p is.is }

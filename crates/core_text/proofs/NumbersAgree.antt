@@ -15,7 +15,7 @@ led-same b rest y same = by y (one-same (b ∷ rest) y same)
     by [] e = absurd (cc)
     by (c ∷ x) e = let here : b ≡ c = cc in ap (λ d. d ∷ x) (sym here)
 
--- what the first byte says, which is passed over or refused
+-- a reading that the first byte decides, which is passed over or refused
 pub alike-led : {A : Type 0} (test : ℕ → Bool) (G : ℕ → List ℕ → Reading A) (R : List ℕ → Reading A) → R [] ≡ wrong [] → ((b : ℕ) (y : List ℕ) → R (b ∷ y) ≡ (if test b then G b y else wrong (b ∷ y))) → ((b : ℕ) → Alike true (G b)) → Alike true R
 alike-led test G R none some alike = record { told = at }
   where

@@ -1,4 +1,4 @@
--- Numbers that are read may be there and, where a byte is wrong, the bytes before it begin the text of one that may.
+-- A number that is read is one that may be there. Where a byte is wrong, the bytes before it begin the text of such a number.
 use Rattle.std.proofs.Common.{◌≡◌, ℕ, zero, suc, ◌-◌, ◌^◌, ◌<◌, ◌≤◌, Bool, true, false, List, [], ◌∷◌, ◌++◌, length, refl, append-nil, arith}
 use Rattle.std.specs.Prelude.{◌&&◌, nat_lt, if◌then◌else◌, Ok, Err, decimal}
 use Rattle.std.proofs.lemmas.Bool.{and_parts, false≢true}
@@ -59,7 +59,7 @@ index-meets n rest some le =
 
 -- ---- levels
 
--- a level that may be there is read, whose text is at the front
+-- what is read is a level that may be there, and its text is at the front
 abbrev pub ReadsLevel : List Bool → List ℕ → ℕ → List ℕ → Type 0
 ReadsLevel levels rest v r = (rest ≡ decimal v ++ r) × (is_left levels v ≡ true)
 

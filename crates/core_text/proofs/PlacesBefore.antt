@@ -161,7 +161,7 @@ deep-place p q (inr e) = place-is e
     place-is e = cc
 
 module _ (S : Signature) (text : List ℕ) (from : ℕ) (le : from ≤ length text) where
-  -- where the text after its first bytes is a front and what is at the place
+  -- where the text after its first bytes is a front, followed by what is at the place
   at-place : (front back : List ℕ) (p : ℕ) → drop from text ≡ front ++ back → length text - length back ≡ p → GoesOn S front ⊎ NoneLeft S front → IsReached S text from p
   at-place front back p is place goes = record {
     past = omega (arith, sizes, place, size);

@@ -1,5 +1,5 @@
--- A text that is refused is refused at the same place with every text that agrees before it and has the same character or
--- name there; or a family is there that shows no record.
+-- Where a text is refused, each text that agrees with it before that place, and has the same character or name there, is refused at
+-- the same place too; or a family is there that shows no record.
 use Rattle.std.proofs.Common.{◌≡◌, ◌⊎◌, inl, inr, ℕ, ◌+◌, ◌-◌, ◌<◌, ◌≤◌, Bool, true, false, List, [], ◌∷◌, ◌++◌, length, drop, take, refl, sym, ap, ◌∙◌, subst, append_assoc, append-nil, length-append, arith}
 use Rattle.std.specs.Prelude.{◌==◌, not, if◌then◌else◌, Ok, Err, Result, Option, Some, None}
 use Rattle.std.proofs.lemmas.List.{take-append-drop, length-take-le, length-drop, take_at, drop_at}

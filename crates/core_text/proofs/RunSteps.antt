@@ -27,7 +27,7 @@ run_more (b ∷ bytes) zero is some = absurd (omega arith)
 run_more (b ∷ bytes) (suc k) is some =
     let less : suc k - 1 ≡ k = omega arith in rw (is, zero-test (suc k) some, less) (ap (λ r. suc k + r) (run_skip k bytes))
 
--- where no character of a name is the run is over
+-- where the bytes do not begin with a character of a name, the run is over
 pub run_end : (bytes : List ℕ) → name_char_len bytes ≡ 0 → run_len bytes ≡ 0
 run_end [] is = refl
 run_end (b ∷ bytes) is = rw is refl

@@ -1,4 +1,4 @@
--- Terms that may be somewhere, and fronts of their texts: each part that is missing is completed by `Type 0`.
+-- Terms that may be at a place, and fronts of their texts: each part that is missing is completed by `Type 0`.
 use Rattle.std.proofs.Common.{◌≡◌, ℕ, ◌+◌, Bool, true, List, ◌++◌, sym, ap, ◌∙◌, subst, append_assoc, arith}
 use Rattle.std.specs.Prelude.{codes}
 use Rattle.theory.specs.Terms.{Term, Sort, Pi, Lam, App, Let}
@@ -16,7 +16,7 @@ IsText T S own n text = (t : Term) × (text ≡ term_text T t) × IsTermOver S o
 abbrev pub ReadsTerm : Signature → Signature → Bool → ℕ → List ℕ → Term → List ℕ → Type 0
 ReadsTerm T S own n rest t r = (rest ≡ term_text T t ++ r) × IsTermOver S own n t
 
--- ---- the forms over parts that may be there
+-- ---- forms whose parts may be there
 
 pub over-sort : (S : Signature) (own : Bool) (n : ℕ) → IsTermOver S own n (Sort 0)
 over-sort S own n = record { symbols = omega arith; free = omega arith }

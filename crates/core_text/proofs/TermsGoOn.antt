@@ -1,4 +1,4 @@
--- What is read as a term may be there and, where a byte is wrong, the bytes before it begin the text of a term that may.
+-- A term that is read is one that may be there. Where a byte is wrong, the bytes before it begin the text of such a term.
 use Rattle.std.proofs.Common.{◌≡◌, ℕ, zero, suc, ◌+◌, ◌<◌, ◌≤◌, ◌^◌, Bool, true, false, List, [], ◌++◌, length, drop, take, refl, sym, ap, ◌∙◌, append_assoc, arith}
 use Rattle.std.specs.Prelude.{◌==◌, nat_le, if◌then◌else◌, Ok, Err, Option, Some, None, codes, decimal, bytes_eq}
 use Rattle.std.proofs.lemmas.List.{take-append-drop}
@@ -53,7 +53,7 @@ known-meets : (T S : Signature) (own : Bool) (n : ℕ) (name rest whole : List �
 known-meets T S own n name rest whole (Some t) at is over = (at ∙ ap (λ s. s ++ rest) (sym (is t refl false)), over-more S own n t (over t refl))
 known-meets T S own n name rest whole None at is over = meets-wrong (ReadsTerm T S own n whole) (IsText T S own n) [] whole whole refl (no-text T S own n)
 
--- names stand for terms that may be anywhere
+-- names stand for terms that may be at any place
 abbrev pub NamesAreOver : Signature → Bool → (List ℕ → Option Term) → Type 0
 NamesAreOver S own look = (name : List ℕ) (t : Term) → look name ≡ Some t → IsTermOver S own 0 t
 

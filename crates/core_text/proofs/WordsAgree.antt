@@ -71,7 +71,7 @@ told-first ahead c f g rest one two moves more = by (first rest == c) refl
 equal-same : (n : ℕ) → (n == n) ≡ true
 equal-same n = grind (arith, nat_tests)
 
--- after the byte, where it is there
+-- a reading that goes on after a byte, where that byte is the first one
 pub told-byte : {A : Type 0} (ahead : Bool) (c : ℕ) (f g : List ℕ → Reading A) (rest : List ℕ) → 0 < c → ((r : List ℕ) → rest ≡ c ∷ r → Told ahead f r (f r)) → ((first rest == c) ≡ false → Told ahead g rest (g rest)) → (ahead ≡ false → MovesAt rest (g rest)) → Told ahead (λ x. if first x == c then f (drop 1 x) else g x) rest (if first rest == c then f (drop 1 rest) else g rest)
 told-byte {A = A} ahead c f g rest some one two moves = by (first rest == c) refl
   where
@@ -90,7 +90,7 @@ told-byte {A = A} ahead c f g rest some one two moves = by (first rest == c) ref
 
 -- ---- words
 
--- the word is there, or the bytes leave it before its end, in favour of a byte that says so
+-- the word is at the front, or the bytes leave it before its end, which their next byte shows
 pub data WordAt (word rest : List ℕ) : Type 0 where
   stands : (r : List ℕ) → rest ≡ word ++ r → WordAt word rest
   leaves : (front back : List ℕ) → rest ≡ front ++ back → shared rest word ≡ length front → length front < length word → ((y : List ℕ) → take 1 back ≡ take 1 y → shared (front ++ y) word ≡ length front) → WordAt word rest
@@ -178,7 +178,7 @@ word-moves ahead b word f rest next = by (word-at (b ∷ word) rest)
         let at : past (b ∷ word) rest ≡ Err (Wrong (length back)) = ap (past (b ∷ word)) is ∙ left-at (b ∷ word) front back (ap (λ x. shared x (b ∷ word)) (sym is) ∙ size) less in
         subst (λ m. MovesAt rest (after m f)) (sym at) tt
 
--- ---- answers that do not depend on what is there
+-- ---- answers that do not depend on the text
 
 pub alike-here : {A : Type 0} (ahead : Bool) (a : A) → Alike ahead (λ rest. Ok (a, rest))
 alike-here ahead a = record { told = λ rest. record { front = []; is = refl; again = λ y k. refl } }

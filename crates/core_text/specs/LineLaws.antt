@@ -33,6 +33,6 @@ NotesArePassedOver =
     (S : Signature) (before notes rest : List ℕ) → AreNotes notes →
     entry_from S (before ++ (notes ++ rest)) (length before) ≡ entry_from S ((before ++ notes) ++ rest) (length (before ++ notes))
 
--- No entry is left exactly where nothing but lines that begin with `#` is there.
+-- No entry is left exactly where nothing but lines that begin with `#` follows.
 abbrev pub EndsAreRead : Type 0
 EndsAreRead = (S : Signature) (text : List ℕ) (from : ℕ) → (entry_from S text from ≡ Ok None) ↔ AreNotes (drop from text)

@@ -80,12 +80,12 @@ axiom_k_line S rest =
     and_then (read_level (identities_left S) rest) (λ i r1. after (past (codes " ") r1) (λ r2.
     and_then (read_level (levels_left S (AxiomK i)) r2) (λ m r3. ended (RawAxiomK i m) r3)))
 
--- goes on after what is there, or ends with what was found
+-- goes on after one item more, or ends with the items that were found
 abbrev pub after_item : {A : Type 0} → (List A → List ℕ → Reading (List A)) → List A → Option A → List ℕ → Reading (List A)
 after_item more found (Some a) rest = more (found ++ a ∷ []) rest
 after_item more found None rest = Ok (found, rest)
 
--- What is one after the other, up to the end that `next` says. There is no more of it than k, the number of bytes.
+-- Items that are read one after the other, up to the end that `next` finds. There are no more of them than k, the number of bytes.
 abbrev pub collected : {A : Type 0} → (List A → List ℕ → Reading (Option A)) → ℕ → List A → List ℕ → Reading (List A)
 collected next zero found rest = wrong rest
 collected next (suc k) found rest = and_then (next found rest) (after_item (collected next k) found)

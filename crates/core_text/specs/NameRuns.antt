@@ -16,7 +16,7 @@ width b = 1 + continuation_len b
 abbrev pub are_name_chars : List ℕ → Bool
 are_name_chars bytes = is_utf8 bytes && list_all is_name_char (chars bytes)
 
--- how many bytes the first character has, or 0 where no character of a name is there
+-- how many bytes the first character has, or 0 where the bytes do not begin with a character of a name
 abbrev pub name_char_len : List ℕ → ℕ
 name_char_len [] = 0
 name_char_len (b ∷ bytes) =

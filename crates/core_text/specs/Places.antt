@@ -32,7 +32,7 @@ pub record BeginsWord (bytes word : List ℕ) : Type 0 where
   pub are_notes : AreNotes notes
   pub line : bytes ++ more ≡ notes ++ word
 
--- Where an instance would be named but none is left, the words and the name of the family may still be.
+-- Where an instance would be named but none is left, the words and the name of the family may still be there.
 pub data NoneLeft (S : Signature) (bytes : List ℕ) : Type 0 where
   of_family : (g : ℕ) → IsFamilyNumber S g → ((m : ℕ) → is_left (levels_left S (Elim g)) m ≡ false)
       → BeginsWord bytes (codes "elim " ++ (name_at S g ++ codes " ")) → NoneLeft S bytes
@@ -56,7 +56,7 @@ IsWrongCharacter S text from p =
     (other : List ℕ) → take p other ≡ take p text → first_character (drop p other) ≡ first_character (drop p text)
     → entry_from S other from ≡ Err (NotCoreText p)
 
--- The same where a name is there, and they have the same name there.
+-- The same where a name begins there: texts that have the same bytes before p are refused there where they have the same name there.
 abbrev pub IsWrongName : Signature → List ℕ → ℕ → ℕ → Type 0
 IsWrongName S text from p =
     (0 < run_len (drop p text))

@@ -12,8 +12,8 @@ use Rattle.core_text.specs.ReadBack.{IsSpelled}
 use Rattle.core_text.specs.SymbolLookup.{symbol}
 use Rattle.core_text.specs.SymbolNames.{name_at, constructor_name_at, eliminator_name, axiom_k_name}
 
--- Characters that can be in a name, and none of the two words that begin a term otherwise. It is not written as an
--- eliminator of a family whose name holds no `!`, nor as K.
+-- A plain name has characters that can be in a name, and is neither of the two words that begin a term otherwise. It is not
+-- written as an eliminator of a family whose name holds no `!`, nor as K.
 pub record IsPlainName (name : List ℕ) : Type 0 where
   pub chars : are_name_chars name ≡ true
   pub some : 0 < length name

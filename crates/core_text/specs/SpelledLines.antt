@@ -24,7 +24,7 @@ HasLowTerms (RawDefinition name type body) = IsLow type × IsLow body
 abbrev pub IsTooDeepOrHigh : RawEntry → Result (Option (RawEntry × ℕ)) CoreTextStop → Type 0
 IsTooDeepOrHigh raw r = (HasLowTerms raw → ⊥) × (at : ℕ) × (r ≡ Err (Nested at))
 
--- what comes of reading the line that says `raw` after the entries S and is from one offset to the other
+-- what comes of reading the line between the two offsets, which says `raw` after the entries S
 abbrev pub IsSpelledOutcome : Signature → RawEntry → ℕ → ℕ → Result (Option (RawEntry × ℕ)) CoreTextStop → Type 0
 IsSpelledOutcome S raw from to r =
     (r ≡ Ok (Some (raw, to))) ⊎ IsTooDeepOrHigh raw r

@@ -130,7 +130,7 @@ fn shown_entry(scope: &Scope, line: Line, start: usize) -> Result<Entry, Halt>
     }
 }
 
-/// The entry whose line is there.
+/// The entry whose line is at the front.
 fn read_shown<'t>(scope: &Scope, rest: &'t [u8]) -> Result<(Entry, &'t [u8]), Halt>
     ensures read { Reads (λ e. Some (entry_shown (length scope.now.sig.now.entries) (entry_of e))) result (spec.shown_by (length scope.now.sig.now.entries) rest.now (line_at scope.now.sig.now scope.now.own.now rest.now)) }
     ensures kinds { IfOk result (λ p. HasEntryKinds (length scope.now.sig.now.entries) p.0) }

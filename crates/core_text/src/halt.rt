@@ -6,7 +6,7 @@ use std::alloc::{AllocError, AllocFailed};
 /// Where reading stops, by the number of bytes that are left from there on.
 ///
 /// `Nested` is a term inside too many terms or one that is too high. `Wrong` is a byte with which no core file goes on,
-/// or the first byte of a name that is not to be there.
+/// or the first byte of a name that may not be there.
 #[derive(Clone, Copy, Debug, PartialEq, Eq)]
 pub(crate) enum Halt {
     Memory,

@@ -48,7 +48,7 @@ pub fn notes_are_passed_over()
     ensures { NotesArePassedOver }
 {}
 
-/// No entry is left exactly where nothing but such lines is.
+/// No entry is left exactly where nothing but such lines follows.
 pub fn ends_are_read()
     ensures { EndsAreRead }
 {}

@@ -44,7 +44,7 @@ fn are_name_chars(bytes: &[u8]) -> bool
     }
 }
 
-/// How many bytes the first character has, or 0 where no character of a name is there.
+/// How many bytes the first character has, or 0 where the bytes do not begin with a character of a name.
 fn name_char_len(bytes: &[u8]) -> usize
     ensures value { result ≡ spec.name_char_len bytes.now }
     ensures within { result ≤ length bytes.now }

@@ -88,7 +88,7 @@ found-at : (S : Signature) (tele : Telescope) (position : Option ℕ) → are_lo
 found-at S tele None low = refl
 found-at S tele (Some j) low = ap (λ b. cond {A = Result (Option Recursion) Stop} b (Ok (recursion_at S tele j)) (Err Deep)) low
 
--- the telescope is in the written type
+-- the telescope is part of the written type, which is low
 recursion-there : (S : Signature) (plan : Plan) → plan.type ≡ products (own_part plan).tele (own_part plan).goal → height plan.type ≤ 2000
     → recursion_made S plan ≡ Ok (recursion_of S plan)
 recursion-there S plan type low =

@@ -47,7 +47,7 @@ is_definition_found S (Some (FoundEntry n)) = is_constant (slice_get S.entries n
 is_definition_found S (Some (FoundCon f c)) = false
 is_definition_found S None = false
 
--- the name is that of a definition, or something that has it can be generated
+-- the name is that of a definition, or of something that can be generated
 abbrev pub name_enters : Signature → List ℕ → Bool
 name_enters S name = is_definition_found S (find S name) || is_some (generated_by S name)
 

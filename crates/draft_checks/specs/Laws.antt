@@ -1,4 +1,4 @@
--- What the tests say.
+-- What holds where a test answers true.
 use Rattle.std.specs.Prelude.{◌≡◌, true}
 use Rattle.theory.specs.Signatures.{Signature}
 use Rattle.theory.specs.WellFormed.{IsWellFormed}

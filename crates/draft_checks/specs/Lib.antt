@@ -1,3 +1,3 @@
--- Tests of drafts and of signatures that they are to enter.
+-- Tests of drafts, and of the signatures that they enter.
 pub mod Checks
 pub mod Laws

@@ -108,7 +108,7 @@ fn is_definition_found(sig: &Signature, found: Option<Found>) -> bool
     }
 }
 
-/// Whether the name is that of a definition, or something that has it can be generated.
+/// Whether the name is that of a definition, or of something that can be generated.
 fn name_enters(sig: &Signature, name: &[u8]) -> Result<bool, Stop>
     ensures { Gives (λ b. b) result (Ok (spec.name_enters sig.now name.now)) }
 {

@@ -1,4 +1,4 @@
-//! What the tests say.
+//! What holds where a test answers true.
 ghost use Rattle.draft_checks.specs.Laws.{EnterableMayEnter, UnmarkedIsOpen};
 
 /// A draft that is found to be one that may enter is such a draft.

@@ -1,4 +1,4 @@
-//! Tests of drafts, and of signatures that they are to enter.
+//! Tests of drafts, and of the signatures that they enter.
 #![tactic(auto)]
 
 mod drafts;

@@ -30,7 +30,7 @@ pub record IsOpen (S : Signature) : Type 0 where
   pub prelude : HasPrelude S
   pub tabled : IsTabled S
 
--- The name is a definition's, or something that has it can be generated.
+-- The name is that of a definition, or of something that can be generated.
 abbrev pub IsEnterable : Signature → List ℕ → Type 0
 IsEnterable S name = IsDefined S name ⊎ IsGeneratedName S name
 

@@ -25,8 +25,8 @@ pub record HasLevel (S : Signature) (f : Function) (level : ℕ) : Type 0 where
   pub granted_sort : (granted S OfType (infer_sort_of S nesting [] f.type fuel)).0 ≡ Ok sort
   pub is_level : function_level S sort ≡ Ok level
 
--- Where the plan of a function has the level of its type, each name of a draft is that of a definition, or something that has it can be
--- generated, in the signature that has the drafts before.
+-- Where the plan of a function has the level of its type, each name of a draft is that of a definition, or of something that can be
+-- generated, in the signature that has the drafts before it.
 abbrev pub FunctionNamesEnter : Type 0
 FunctionNamesEnter =
     (S : Signature) (f : Function) (plan : Plan) (h : IsPlanFor S f plan) → HasLevel S f h.level → IfOk (translate S plan) (NamesInTurn S)

@@ -23,7 +23,7 @@ answers answer left = (answer, left)
 
 -- ---- what the checker says
 
--- the eliminator into Type m of what is at number n, which is a family
+-- the eliminator into Type m of the entry with number n, which is a family
 abbrev pub eliminator_in : Signature → ℕ → ℕ → Option Entry → ℕ → Outcome Entered
 eliminator_in S n m (Some (FamilyOf f)) left = instance_of S n f m left
 eliminator_in S n m _ left = ended (Err (Stopped stop.Memory)) left
@@ -40,7 +40,7 @@ checked_entry S e left = checked S (entry_shown (length S.entries) e) left
 
 -- ---- why an entry is refused
 
--- the name that is declared, which is at the offset; an instance declares none
+-- the name that is declared, with its offset; an instance declares none
 abbrev pub word_of : (start : ℕ) → RawEntry → Option Word
 word_of start (RawFamilyOf raw) = Some (record { text = raw.name; start = start })
 word_of start (RawDefinition name type body) = Some (record { text = name; start = start })
@@ -55,7 +55,7 @@ abbrev pub part_signature : Signature → RawEntry → Site → Signature
 part_signature S (RawFamilyOf raw) site = site_signature S raw site
 part_signature S _ site = S
 
--- why the entry is refused, whose name is at the offset, where all of it may spend `fuel` units
+-- why the entry is refused; its name is at the offset, and it may spend `fuel` units in all
 abbrev pub refused : Signature → (start fuel : ℕ) → RawEntry → FamilyStop → Refusal
 refused S start fuel raw = unentered (part_signature S raw) (constructor_names raw) (word_of start raw) fuel
 

@@ -24,8 +24,8 @@ abbrev pub DeclareKeepsReady : Type 0
 DeclareKeepsReady =
     (S : Signature) (fuel : ℕ) (d : surf.Decl) → IsReady S → IfOk (declare_of S fuel d) (λ a. IsReady a.signature)
 
--- One entry was added, the definition that is written: its type and its body are the core terms that the written ones are
--- for. By the typing rules over the entries before it the type has a sort, and the body has the type.
+-- One entry was added, the definition that is written: its type and its body are the core terms that the written ones
+-- stand for. By the typing rules over the entries before it the type has a sort, and the body has the type.
 pub record IsWrittenDefinition (S : Signature) (x : Word) (ty body : surf.Surf) (a : Declared) : Type 0 where
   pub type : Term
   pub term : Term

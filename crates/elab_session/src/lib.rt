@@ -2,7 +2,7 @@
 //! the first reason in the written order.
 //!
 //! A `Session` holds the prelude and the entries that were accepted. Each declaration may spend the same number of units. A
-//! refusal leaves the session as it was, and holds its terms as texts. Definitions and families are built so far; every other
+//! refusal leaves the session as it was, and holds its terms as texts. Definitions and families are built here; every other
 //! declaration is `NotYet`. The entries of a core file enter by the same checks.
 #![tactic(auto)]
 

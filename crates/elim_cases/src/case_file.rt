@@ -8,7 +8,7 @@
 //! = the status
 //! ```
 //!
-//! A line feed is between two lines of the input and none after the last one; `<` alone is an empty line. Each line of
+//! A line feed separates two lines of the input, and none follows the last one; `<` alone is an empty line. Each line of
 //! the output ends with a line feed. `$` alone stands for no words. After a line of the input or of the output, `+ 3 ab` goes
 //! on in that line with `ababab`. Empty lines between the cases are passed over.
 use crate::case::Case;

@@ -6,7 +6,7 @@ ghost use Rattle.elim_program.specs.Verifies.{BoundIsEnough};
 ghost use Rattle.elim_program.specs.VerifyHeadline.{VerifyHeadline};
 ghost use Rattle.elim_program.specs.WorkLaws.{WorkCountsOutput};
 
-/// Where a line says that a declaration is accepted, the elaborator accepts it over what the declarations before it came to.
+/// Where a line says that a declaration is accepted, the elaborator accepts it over the signature that the declarations before it gave.
 pub fn acceptance()
     ensures { Acceptance }
 {}

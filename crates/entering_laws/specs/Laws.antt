@@ -26,7 +26,7 @@ abbrev pub DefinitionKeepsOpen : Type 0
 DefinitionKeepsOpen =
     (S : Signature) (name : List ℕ) (type body : Term) → IsOpen S → IsScoped S 0 type → IsScoped S 0 body → IsOpen (pushed S (Definition name type body))
 
--- An open signature may have a family with the name of something that another family will generate, so its names are asked too.
+-- An open signature may have a family with the name of something that another family will generate, so its names are tested too.
 abbrev pub FamilyKeepsOpen : Type 0
 FamilyKeepsOpen =
     (S : Signature) (f : Family) → IsOpen S → IsUnmarked S → HasUnmarkedNames (FamilyOf f) →

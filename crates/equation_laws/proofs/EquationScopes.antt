@@ -178,7 +178,7 @@ side-scoped before plan base some at w _ _ (planned.absurd pats binds) =
 
 -- ---- the law
 
--- where a clause is, what is there is over the context
+-- the site of a clause, all of whose terms are over its context
 pub record IsScopedSite (S : Signature) (site : Site) : Type 0 where
   pub context : IsScopedTelescope S 0 site.context
   pub goal : IsScoped S (length site.context) site.goal

@@ -1,4 +1,4 @@
--- What is asked of a walk and of what comes after it.
+-- The conditions on a walk and on what comes after it.
 use Rattle.std.specs.Prelude.{◌<◌, ℕ, ◌+◌, length}
 use Rattle.theory.specs.Signatures.{Signature}
 use Rattle.theory.specs.SignatureScopes.{HasEntries}
@@ -16,7 +16,7 @@ pub record IsWalkOver (S : Signature) (w : Walk) : Type 0 where
   pub scoped : IsScopedWalk S w
   pub few : length w.ctx < most_levels
 
--- A right side or scrutinee names what is there, and the clauses inside have one pattern more.
+-- A right side or scrutinee names entries of the signature, and the clauses inside have one pattern more.
 abbrev pub IsRightSide : Signature → (columns : ℕ) → Right → Type 0
 IsRightSide S k (clause.Side t) = HasEntries S t
 IsRightSide S k (clause.With t inner) = HasEntries S t × AreClauses S (k + 1) inner

@@ -97,7 +97,7 @@ more : (first : Result Draft Stop) (others : Result (List Draft) Stop) (d : Draf
     → and_more first others ≡ Ok (d ∷ ds)
 more first others d ds e f = ap₂ and_more e f
 
--- the drafts of helpers, in whichever entries they are
+-- the drafts of helpers follow those that are made already, whatever these are
 helpers-are : (S : Signature) → StepsAreThese S → (plan : Plan) (r : Option Recursion) (k : ℕ) (parts : List Part) (drafts all : List Draft)
     → helpers_made S plan r k parts drafts ≡ Ok all
     → (hs : List Draft) × (all ≡ drafts ++ hs)

@@ -42,7 +42,7 @@ pub fn after_first(terms: &[Term], count: u32) -> &[Term]
     }
 }
 
-/// Types, followed by those of a telescope, which are one variable further in; so many of its types come before.
+/// Types, followed by those of a telescope, each one variable further in; `from` types of the telescope come before these.
 #[tactic(auto, using(tele_eq::proofs::Growing::growing))]
 fn with_raised(alloc: Global, from: u32, tele: &[Term], mut made: Tele) -> Result<Tele, Stop>
     ensures { Gives tele_of result (Ok (tele_of made ++ lifted.lift_telescope (tele_of tele.now) 1 from)) }

@@ -58,7 +58,7 @@ fn helper_tree(
     )
 }
 
-/// Helpers with their trees, the first of which has this number, after the parts that are made.
+/// Helpers with their trees, after the parts that are made; the first helper has this number.
 pub fn helpers_finished(
     alloc: Global,
     s: Session,

@@ -34,7 +34,7 @@ pub record IsProofEntry (S : Signature) (plan : Plan) (c : Reference) (T : Signa
       (Definition (proof_name plan c.part c.clause)
       (products given.context (equation (part_at plan c.part).level given.type given.left given.right)) body)
 
--- An earlier clause takes the vector, which the clause matches too. The leaves are all of the clause in its tree, and its equation
+-- An earlier clause takes the vector, which the clause matches too. The leaves are all leaves of the clause in its tree, and its equation
 -- converts at each of them.
 pub record IsShadow (S : Signature) (plan : Plan) (c : Reference) (earlier : ℕ) (vector : List Term) (leaves : List (Telescope × List Term)) : Type 0 where
   pub before : earlier < c.clause

@@ -1,4 +1,4 @@
--- Terms in which the function is not are put into a right side in which no call is the argument of another: still none is.
+-- Terms that do not name the function are put into a right side in which no call is the argument of another. Still no call is.
 use Rattle.std.proofs.Common.{◌≡◌, ℕ, zero, suc, ◌<◌, ◌==◌, ◌||◌, Bool, true, false, cond, List, [], ◌∷◌, length, get_or, refl, sym, ap, ap₂, ◌∙◌, arith}
 use Rattle.std.proofs.lemmas.Bool.{true≢false}
 use Rattle.std.proofs.lemmas.Bool.Decides.{nat_tests}

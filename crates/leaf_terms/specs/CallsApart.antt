@@ -1,4 +1,4 @@
--- Calls of which none is the argument of another one at the position of recursion. Such an argument is no strict part of a term of a
+-- Calls, none of which is the argument of another one at the position of recursion. Such an argument is no strict part of a term of a
 -- pattern, so the right sides of a function that is accepted have none.
 use Rattle.std.specs.Prelude.{◌≡◌, ℕ, ◌==◌, Bool, true, false, Some, IfSome, length, get_or, slice_get}
 use Rattle.theory.specs.Terms.{Term, Sort, Pi, Lam, App, Let, Const}

@@ -1,5 +1,5 @@
--- Right sides at leaves as the code makes them. What is too high is not made: a tower is in its place, which is no lower than a term
--- may be, and a right side that still has one is Deep. So nothing is refused for an argument that a call drops.
+-- Right sides at leaves as the code makes them. What is too high is not made: a tower takes its place, which is higher than a term may
+-- be, and a right side that still has a tower is Deep. So nothing is refused for an argument that a call drops.
 use Rattle.std.specs.Prelude.{ℕ, zero, suc, ◌+◌, ◌-◌, ◌==◌, nat_lt, cond, Option, Some, None, option_map, List, [], ◌∷◌, ◌++◌, map, drop, get_or, Result, Ok, Err}
 use Rattle.theory.specs.Terms.{Term, Sort, Pi, Lam, App, Let, Const, lift}
 use Rattle.theory.specs.Substitutions.{inst, fill}

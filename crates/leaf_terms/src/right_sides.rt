@@ -339,7 +339,7 @@ fn constant_at(
     helper_applied(alloc, w, l, under, c - w.plan.base, arguments)
 }
 
-/// Arguments, the first of which comes last, in their order.
+/// Arguments in their order; they are given in reverse.
 #[tactic(auto, using(crate::proofs::Turning::turning))]
 fn in_order(mut arguments: Vec<Option<Term>>) -> Vec<Option<Term>>
     ensures { arguments_of result.items ≡ reverse (arguments_of arguments.items) }
@@ -348,7 +348,7 @@ fn in_order(mut arguments: Vec<Option<Term>>) -> Vec<Option<Term>>
     arguments
 }
 
-/// Arguments, the first of which comes last, with one before them.
+/// Arguments in reverse, with one before them in their order.
 #[tactic(auto, using(crate::proofs::Turning::turning))]
 fn with_first(mut arguments: Vec<Option<Term>>, a: Option<Term>) -> Result<Vec<Option<Term>>, Stop>
     ensures { Gives (λ v. reverse (arguments_of v.items)) result (Ok (option_map tree_of a ∷ reverse (arguments_of arguments.items))) }

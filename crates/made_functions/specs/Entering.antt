@@ -13,7 +13,7 @@ use Rattle.resolve.specs.Functions.{Function}
 use Rattle.tree_translation.specs.Entries.{translate}
 use Rattle.tree_translation.specs.Plans.{Plan}
 
--- Each name of each draft is that of a definition, or something that has it can be generated, in the signature that has the drafts before.
+-- Each name of each draft is that of a definition, or of something that can be generated, in the signature that has the drafts before it.
 abbrev pub NamesInTurn : Signature → List Draft → Type 0
 NamesInTurn S [] = Unit {0}
 NamesInTurn S (d ∷ drafts) =

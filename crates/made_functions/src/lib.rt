@@ -1,4 +1,4 @@
-//! Where the code answers of a function what is meant.
+//! When the code answers for a function what is meant.
 #![tactic(auto)]
 
 pub mod laws;

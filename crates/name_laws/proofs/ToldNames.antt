@@ -190,7 +190,7 @@ module _ (base n : ℕ) where
   abbrev told_in : (all others : List (List ℕ)) → List ℕ
   told_in all others = told (base + n) (number_in base all) others
 
-  -- a name that is known says nothing new
+  -- a name that is known adds nothing new
   old-told : (all known : List (List ℕ)) (seen rest : List ℕ) (name : List ℕ) → AreTold n known seen → place_of all name < length known
       → once seen (mentions (base + n) (Const (number_in base all name)) ++ rest) ≡ once seen rest
   old-told all known seen rest name t low = elim (below-or_from (place_of all name) n) [
@@ -202,7 +202,7 @@ module _ (base n : ℕ) where
         ∙ ap (λ b. cond b (once seen rest) ((base + place_of all name - (base + n)) ∷ once ((base + place_of all name - (base + n)) ∷ seen) rest)) there
   ]
 
-  -- one that is new says its place
+  -- one that is new adds its place
   new-told : (all known : List (List ℕ)) (seen rest : List ℕ) (name : List ℕ) → n ≤ length known → AreTold n known seen → place_of all name ≡ length known
       → once seen (mentions (base + n) (Const (number_in base all name)) ++ rest) ≡ (length known - n) ∷ once ((length known - n) ∷ seen) rest
   new-told all known seen rest name le t e =

@@ -18,7 +18,7 @@ use Rattle.translation_laws.specs.Laws.{IsTreeOver, with_function_at}
 use Rattle.translation_laws.proofs.FunctionTrees.{function_tree-answers, function_tree_names-answer}
 use Rattle.part_laws.specs.Laws.{IsRooted, PartAnswers, PartNamesAnswer}
 
--- the tree of a part is over where it begins
+-- the tree of a part is over the point at which the part begins
 part-over : (w : Translation) (uses : List Use) (at : ℕ) (context : Telescope) (goal : Term) (terms : List Term) (node : Node)
     → IsRooted w uses at context goal terms node → IsTreeOver (with_function_at w) (start_at context goal terms) w.part.tree node
 part-over w uses at context goal terms node is = record {

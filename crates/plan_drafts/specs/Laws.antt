@@ -14,7 +14,7 @@ use Rattle.resolve.specs.Functions.{Function}
 use Rattle.tree_translation.specs.Entries.{translate}
 use Rattle.tree_translation.specs.Plans.{Plan}
 
--- The plan of a function over a signature, of which the order of recursion begins with a type over no variables.
+-- The plan of a function over a signature. Its order of recursion begins with a type over no variables.
 pub record IsPlanFor (S : Signature) (f : Function) (plan : Plan) : Type 0 where
   pub function : IsFunctionFor S f
   pub level : ℕ

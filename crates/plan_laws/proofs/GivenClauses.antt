@@ -106,7 +106,7 @@ module _ (S : Signature) (name : List ℕ) (type : Term) where
     pub sides : given.sides ≡ side ∷ []
     pub one : IsOneGiven all uses k part number c walk side
 
-  -- what is given, wherever its helpers and uses are
+  -- what a clause gives, wherever its helpers and uses are
   abbrev pub GivesOne : (k : ℕ) → Opened → (number next : ℕ) → Clause → Given → Type 0
   GivesOne k part number next c given =
       (all : List Walked) (uses : List Use) → AreAt all next given.helpers → AreUsed uses given.uses →

@@ -5,7 +5,7 @@ use Rattle.theory.specs.Signatures.{Signature}
 use Rattle.theory.specs.WellFormed.{provisional}
 use Rattle.kernel_reduce.specs.Entries.{body_at, family_at}
 
--- two signatures of which the same is read
+-- two signatures from which the same is read
 pub record AreReadAlike (S T : Signature) : Type 0 where
   pub families : (n : ℕ) → family_at S n ≡ family_at T n
   pub bodies : (n : ℕ) → body_at S n ≡ body_at T n

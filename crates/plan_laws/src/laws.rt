@@ -8,17 +8,17 @@ pub fn function_is_not_read()
     ensures { FunctionIsNotRead }
 {}
 
-/// Signatures of which the same is read have the same walks.
+/// Signatures from which the same is read have the same walks.
 pub fn same_walks()
     ensures { SameWalks }
 {}
 
-/// Signatures of which the same is read have the same trees.
+/// Signatures from which the same is read have the same trees.
 pub fn same_trees()
     ensures { SameTrees }
 {}
 
-/// Signatures of which the same is read have the same abstractions.
+/// Signatures from which the same is read have the same abstractions.
 pub fn same_abstractions()
     ensures { SameAbstractions }
 {}

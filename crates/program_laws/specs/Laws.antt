@@ -61,8 +61,8 @@ abbrev pub VerifiedWithoutK : Type 0
 VerifiedWithoutK =
     (text : List ℕ) (above : List (List ℕ)) (name : List ℕ) (verified : IsVerified false text above name) → HasNoK verified.signature
 
--- One signature: where the entries that are accepted may be in a core file, the lines above the one that accepts a
--- declaration are a core file, and what is read of it, entry by entry, is the signature that has the declaration.
+-- One signature: where the entries that are accepted can be written in a core file, the lines above the one that accepts a
+-- declaration are a core file, and what is read from it, entry by entry, is the signature that has the declaration.
 abbrev pub OneSignature : Type 0
 OneSignature =
     (words : List (List ℕ)) (bytes text : List ℕ) (above below : List (List ℕ)) (name : List ℕ) → lines_of text ≡ above ++ below

@@ -1,7 +1,7 @@
 //! The walk of a clause's terms through the tree of its function.
 //!
 //! It goes into the branch of each constructor, and splits each variable of the clause's context at which the tree does. At each leaf the
-//! equation of the clause is to hold by reflexivity.
+//! equation of the clause has to hold by reflexivity.
 #![tactic(auto)]
 
 pub mod laws;

@@ -44,7 +44,7 @@ use Rattle.refusal_laws.specs.Parts.{IsPartOf, IsTreeStart, clause_lists, with_o
 
 -- ---- where it ends
 
--- part k of a function with its clauses, which are the k-th list of them in the text
+-- part k of a function with its clauses, which are the k-th list of clauses in the text
 pub record IsPartAt (S : Signature) (f : Function) (k : ℕ) (part : Opened) (clauses : Clauses) : Type 0 where
   pub is : IsPartOf S f k part clauses
   pub listed : slice_get (clause_lists f) k ≡ Some clauses
@@ -55,7 +55,7 @@ pub data EndCause (S : Signature) (f : Function) (k : ℕ) (part : Opened) (clau
       → WalkCause (with_own S f) (start_at part.tele part.goal part.terms) number pats e → EndCause S f k part clauses e
   of_split : (start : Point) → IsTreeStart S f k part start → TreeCause (with_own S f) start clauses e → EndCause S f k part clauses e
 
--- The refusal is shown of what ended a walk or a tree of a part, and that has its cause there.
+-- The refusal shows what ended a walk or a tree of a part, and this has its cause there.
 pub record IsEnd (S : Signature) (f : Function) (r : Refusal) : Type 0 where
   pub k : ℕ
   pub part : Opened
@@ -136,7 +136,7 @@ pub record AreFailing (S : Signature) (f : Function) (calls : List FailingCall) 
 -- ---- entries
 
 -- The checker denies what was to enter a signature: a definition that comes of a draft, by its numbers there, an instance of an eliminator,
--- or one of the axiom K. The rejection is shown of the denial.
+-- or an instance of axiom K. The rejection shows the denial.
 pub data IsDenied (r : Rejection) : Type 0 where
   of_draft : (T : Signature) (d : Draft) (name : List ℕ) (type body : Term) (left : ℕ) (site : Site) (denial : Denial)
       → renumbered_entry (settled_number T d.base d.names) d.entry ≡ Definition name type body

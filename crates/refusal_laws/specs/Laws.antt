@@ -37,7 +37,7 @@ MeantIsCaused =
     (S : Signature) (f : Function) (fuel : ℕ) (e : Refusal) → IsFunctionOver (with_own S f) f → BeginsClosed S f → (function_of S f fuel).0 ≡ Err e →
     Caused S f e
 
--- What a declaration is refused for, as a function by clauses is, has its cause at the function that is written.
+-- Where a declaration is refused for a reason of functions by clauses, the refusal has its cause at the function that is written.
 pub record IsRefusedFunction (S : Signature) (d : Decl) (e : Refusal) : Type 0 where
   pub given : Function
   pub resolved : resolve_fun S d ≡ Ok given

@@ -83,7 +83,7 @@ items-below (x ∷ X) h = ap₂ ◌&&◌ (height-low x.type (h 0 (omega arith)))
 type-below : (n : ℕ) (X : List Item) (us vs : List Term) (j : ℕ) → height (type_at X j) ≤ height (equation_behind n X us vs j)
 type-below n X us vs j = let le = put-least (outside vs) j j 0 (type_at X j) in omega arith
 
--- what is in the equations of a telescope
+-- the types and the sides in low equations of a telescope are low
 pub low-equations : (X : List Item) (us vs : List Term) → length us ≡ length X → length vs ≡ length X → AreLow (equations X us vs)
     → (are_low_items X ≡ true) × (AreLow us × AreLow vs)
 low-equations X us vs eu ev low = (items-below X each, low-both X us vs eu ev low)
@@ -100,7 +100,7 @@ reflexive-below : (X : List Item) (us : List Term) (k : ℕ)
 reflexive-below X us k =
     let le = put-least (outside us) k 0 0 (type_at X k) in let e = height-lift (term_at us k) 0 0 in (omega arith, omega arith)
 
--- what is in reflexivities
+-- the types and the terms in low reflexivities are low
 pub low-reflexivities : (X : List Item) (us : List Term) → length us ≡ length X → AreLow (reflexivities X us) → (are_low_items X ≡ true) × AreLow us
 low-reflexivities X us eu low = (items-below X (λ k lt. (both k lt).0), low-from_each us (λ k lt. (both k (omega arith)).1))
   where

@@ -21,7 +21,7 @@ pub fn replay_answers()
     ensures { ReplayAnswers }
 {}
 
-/// Of the state of a branch over a whole context, that of the constructor's problem is seen.
+/// What is seen of the state of a branch over a whole context is the state of the constructor's problem.
 pub fn branch_widens()
     ensures { BranchWidens }
 {}

@@ -39,7 +39,7 @@ use Rattle.proof_walks.proofs.KeptPlaces.{origins-scoped, value-scoped}
 
 -- ---- proofs
 
--- where a proof is
+-- the place of a proof
 abbrev pub place_in : Proof → Place
 place_in (Ends clause p) = p
 place_in (Splits p x type runs proofs) = p

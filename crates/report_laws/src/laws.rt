@@ -1,4 +1,4 @@
-//! Where the report of a clause, and a function by clauses, are made as is meant.
+//! When the report of a clause, and a function by clauses, are made as is meant.
 ghost use Rattle.report_laws.specs.Functions.{FunctionIsMeant, PlanReports};
 ghost use Rattle.report_laws.specs.Laws.{ReportIsMade};
 

@@ -1,4 +1,4 @@
-//! The report of a clause is made as is meant.
+//! The report of a clause, and a function by clauses, are made as is meant.
 #![tactic(auto)]
 
 pub mod laws;

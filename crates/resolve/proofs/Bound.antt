@@ -1,4 +1,4 @@
--- Telescopes that are resolved one binder after the other, where the types of the first ones are already.
+-- Telescopes that are resolved one binder after the other, where the first types are resolved already.
 use Rattle.std.proofs.Common.{◌≡◌, ℕ, ◌+◌, ◌<◌, ◌≤◌, List, [], ◌∷◌, ◌++◌, map, drop, length, get_or, Option, Ok, Err, refl, ap, sym, ◌∙◌}
 use Rattle.std.proofs.Math.ListN.{drop_of_length-le}
 use Rattle.std.proofs.lemmas.List.{map-append}

@@ -1,4 +1,4 @@
--- Lists that are resolved one item after the other, where the first ones are already.
+-- Lists that are resolved one item after the other, where the first ones are resolved already.
 use Rattle.std.proofs.Common.{List, ◌++◌, Result, Ok, Err}
 use Rattle.resolve.specs.declared.stop.ResolveStop.{ResolveStop}
 

@@ -1,4 +1,4 @@
--- Patterns and clauses that are resolved one after the other, where the first ones are already.
+-- Patterns and clauses that are resolved one after the other, where the first ones are resolved already.
 use Rattle.std.proofs.Common.{◌≡◌, ℕ, List, [], ◌∷◌, ◌++◌, Option, Result, Ok, Err, refl, ap, sym, ◌∙◌}
 use Rattle.theory.specs.Signatures.{Signature}
 use Rattle.core_terms.specs.Patterns as pattern

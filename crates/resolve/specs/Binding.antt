@@ -12,8 +12,8 @@ abbrev pub closed : (tree.Term → tree.Term → tree.Term) → List tree.Term �
 closed make [] inner = inner
 closed make (a ∷ types) inner = binding make (Ok a) (closed make types inner)
 
--- A part of a telescope, which wraps what is under it, goes on from the types and the names before it to those
--- after it: whatever is under it, it answers the same as what is under those after it.
+-- A part of a telescope goes on from the types and the names before it to those after it: around whatever is inside, it
+-- answers the same as the types and the names after it do.
 abbrev pub IsBound : (tree.Term → tree.Term → tree.Term) → ((Scope → Answer) → Scope → Answer) → Scope → List tree.Term → Scope → List tree.Term → Scope → Result (Unit {0}) ResolveStop → Type 0
 IsBound make wraps outer types names more further (Ok _) =
     (inner : Scope → Answer) → closed make types (wraps inner (names ++ outer)) ≡ closed make more (inner (further ++ outer))

@@ -10,7 +10,7 @@ use Rattle.resolve.specs.Names.{Scope, variable_of}
 abbrev pub names_in : Scope → List (List ℕ)
 names_in scope = reverse (map (λ x. unwrap_or x []) scope)
 
--- what is at the name
+-- the place that the name has
 abbrev pub last_of : List ℕ → List (Vec ℕ Global × ℕ) → Option ℕ
 last_of name places = lookup (λ key. bytes_eq name key.items) places
 

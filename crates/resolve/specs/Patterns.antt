@@ -57,7 +57,7 @@ abbrev mutual
   bound_all S surf.no_pat = []
   bound_all S (surf.arg p ps) = bound S p ++ bound_all S ps
 
--- A name with n arguments: a constructor, or with none also a variable, which is not among those before it.
+-- A name with n arguments is a constructor. Without arguments it may also be a variable, which is not among those before it.
 abbrev pub head : ℕ → List (List ℕ) → Word → Option Constructor → Result (Option Constructor) ResolveStop
 head n before x (Some c) = if n == c.arguments then Ok (Some c) else Err (WrongArity x.start x.text)
 head n before x None =

@@ -58,7 +58,7 @@ fn variable_among(names: &Variables, name: &[u8]) -> Result<Option<u32>, Resolve
     }
 }
 
-/// The number of a variable that so many binders come before.
+/// The number of a variable, seen from inside so many binders more.
 fn further(found: Option<u32>, binders: usize) -> Result<Option<u32>, ResolveStop>
     ensures { Gives (λ found. found) result (Ok (option_map (λ n. n + binders) found)) }
 {

@@ -9,7 +9,7 @@ use thiserror::Error;
 ///
 /// `Memory` is want of memory, and `Deep` a term that is higher than 2,000. `UnknownName` is a name that nothing has,
 /// `Duplicate` a declared name that is taken, `WrongArity` a clause or a constructor with too many or too few patterns,
-/// and `NotLinear` a variable that is a second time among the patterns of a clause.
+/// and `NotLinear` a variable that occurs a second time among the patterns of a clause.
 #[derive(Debug, Drop, Error)]
 pub enum ResolveStop {
     #[error("Memory")]

@@ -175,7 +175,7 @@ last-rule S number L s _ w N ready (cycle_right _ e n x A u first below) low wid
 
 -- ---- what a step goes on to
 
--- the next term is in the term of an injectivity,
+-- the next term is part of the term of an injectivity,
 inject-inner : (number : Naming) (L : ℕ) (s : Standing) (k : ℕ) (c : Comparison) (N : Term) → height (inject_term number L s k c N) ≤ 2000 → height N ≤ 2000
 inject-inner number L s k c N low =
     (low-applied (confused number L s k c) (injection_motive s (k + 1) _ ∷ N ∷ further_equations s (k + 1)) low).1.1.0

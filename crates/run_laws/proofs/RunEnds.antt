@@ -1,4 +1,4 @@
--- The end of a run that solves its problem is in the run's term.
+-- The end of a run that solves its problem is part of the run's term.
 use Rattle.std.proofs.Common.{◌≡◌, ℕ, ◌≤◌, false, List, [], ◌∷◌, length, refl, sym, ◌∙◌, arith}
 use Rattle.std.proofs.lemmas.Bool.{true≢false}
 use Rattle.theory.specs.Terms.{Term, height}

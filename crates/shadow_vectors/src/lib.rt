@@ -1,4 +1,4 @@
-//! What a clause without a proof is read by: its leaves in a tree, and the vector of terms that an earlier clause takes from it.
+//! What is reported of a clause without a proof: its leaves in a tree, and the vector of terms that an earlier clause takes from it.
 #![tactic(auto)]
 
 mod absurd;

@@ -62,7 +62,7 @@ fn right_terms(alloc: Global, m: &Member, x: u32, count: u32) -> Result<Tele, St
     Ok(made)
 }
 
-/// The problem of a constructor with so many arguments, after which the telescope and the left terms are.
+/// The problem of a constructor with so many arguments; the telescope and the left terms follow them.
 fn problem_from(
     alloc: Global,
     node: &Node,

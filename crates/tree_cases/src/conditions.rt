@@ -82,7 +82,7 @@ pub fn is_clause_for(sig: &Signature, terms: &Tele, clause: &Clause) -> bool
         && are_scoped_patterns(sig, clause.binds, pats)
 }
 
-/// Whether clauses are so, each of them.
+/// The same of each of some clauses.
 pub fn are_clauses_for(sig: &Signature, terms: &Tele, clauses: &[Clause]) -> bool
     ensures { IsTrue result → AreClausesFor sig.now (tele_of terms.now) (clauses_of clauses.now) }
 {

@@ -77,7 +77,7 @@ seen fuel P S (d ∷ ds) before ready shows accepted =
         (transport (λ ls. Shows P a.signature ls) (sym core) (more S a.signature (core_lines before) shows on.longer)) accepted)
     by (Err e) on rest accepted = absurd (true≢false accepted)
 
--- ---- the signature may be in a core file
+-- ---- the signature can be written in a core file
 
 accepts : (fuel : ℕ) (S : Signature) (ds : List Decl) → (declarations fuel S ds).refused ≡ false → Accepts fuel S ds (signature_after fuel S ds)
 accepts fuel S [] accepted = end S

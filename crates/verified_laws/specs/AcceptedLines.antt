@@ -19,13 +19,13 @@ LinesAreReports =
     (words : List (List ℕ)) (bytes : List ℕ) (above : List (List ℕ)) (name : List ℕ) → (a : IsAccepted words bytes above name)
     → IsReported a.before a.declaration a.accepted
 
--- The entries that it has, with those before it, may be in a core file.
+-- The entries that it has, with those before it, can be written in a core file.
 abbrev pub LinesAreWritable : Type 0
 LinesAreWritable =
     (words : List (List ℕ)) (bytes : List ℕ) (above : List (List ℕ)) (name : List ℕ) → (a : IsAccepted words bytes above name)
     → IsWritable a.accepted.signature
 
--- The lines above it are a core file: what is read of it, entry by entry up to its end, is the signature that has the declaration.
+-- The lines above it are a core file: what is read from it, entry by entry up to its end, is the signature that has the declaration.
 abbrev pub LinesAreCoreFiles : Type 0
 LinesAreCoreFiles =
     (words : List (List ℕ)) (bytes text : List ℕ) (above below : List (List ℕ)) (name : List ℕ) → lines_of text ≡ above ++ below

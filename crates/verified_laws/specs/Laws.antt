@@ -63,7 +63,7 @@ CoreFileIsVerified =
     (fuel : ℕ) (k : Bool) (text : List ℕ) (W : Signature) (names : List (List ℕ)) → IsFileOf k text W names → Checked fuel (prelude W.has_k) W
     → after_head fuel text (head_of k text) ≡ block (map verified_line names) false
 
--- A text is accepted whole. Each entry of a core file of the signature that it gives is verified with as much fuel.
+-- A text is accepted whole. Each entry of a core file of the signature that it gives is verified with the same fuel.
 abbrev pub AcceptedIsVerified : Type 0
 AcceptedIsVerified =
     (fuel : ℕ) (k verify_k : Bool) (ds : List Decl) (text : List ℕ) (names : List (List ℕ)) → (declarations fuel (prelude k) ds).refused ≡ false
@@ -95,8 +95,8 @@ pub record IsVerifiedWhole (words : List (List ℕ)) (text : List ℕ) (command 
   pub are : AreNames (signature_after command.fuel (prelude command.k) decls) names
   pub output : IsOutput words text (compiled command.k (block (map verified_line names) false))
 
--- The output that is defined for `compile` has status `Done`, and is no longer than a text may be. Then `verify` on it, asked with as
--- much fuel and as much of K, verifies each entry.
+-- The output that is defined for `compile` has status `Done`, and is no longer than a text may be. Then `verify` on it, with the
+-- same fuel and the same choice of K, verifies each entry.
 abbrev pub CompiledIsVerified : Type 0
 CompiledIsVerified =
     (words verifying : List (List ℕ)) (bytes : List ℕ) (command : Flags) (out : Output) → asked words ≡ Some command → verify_asked verifying ≡ Some command

@@ -1,7 +1,7 @@
 //! What is accepted is verified.
 ghost use Rattle.verified_laws.specs.Laws.{AcceptedIsVerified, CompiledIsVerified, CoreFileIsVerified, EachIsNamed, OutputVerifies, TextIsChecked};
 
-/// Where no declaration of a text is refused, each entry of the signature that they give is let in by itself.
+/// Where no declaration of a text is refused, each entry of the signature that they give is accepted by itself.
 pub fn text_is_checked()
     ensures { TextIsChecked }
 {}
@@ -11,12 +11,12 @@ pub fn each_is_named()
     ensures { EachIsNamed }
 {}
 
-/// A core file is verified line by line, where each of its entries is let in by itself.
+/// A core file is verified line by line, where each of its entries is accepted by itself.
 pub fn core_file_is_verified()
     ensures { CoreFileIsVerified }
 {}
 
-/// A core file of the signature that an accepted text gives is verified with as much fuel.
+/// A core file of the signature that an accepted text gives is verified with the same fuel.
 pub fn accepted_is_verified()
     ensures { AcceptedIsVerified }
 {}
@@ -26,7 +26,7 @@ pub fn output_verifies()
     ensures { OutputVerifies }
 {}
 
-/// What `compile` writes, where no declaration is refused, is verified entry by entry with as much fuel.
+/// What `compile` writes, where no declaration is refused, is verified entry by entry with the same fuel.
 pub fn compiled_is_verified()
     ensures { CompiledIsVerified }
 {}

@@ -1,4 +1,4 @@
-//! A core file of the signature that an accepted text gives is verified with as much fuel; and what holds of each line that accepts
+//! The core file of the signature that an accepted text gives is verified with the same fuel; and what holds of each line that accepts
 //! a declaration.
 #![tactic(auto)]
 

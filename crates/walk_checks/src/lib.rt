@@ -1,4 +1,4 @@
-//! What the checker is asked of a clause's own walk: its dots, and the helper over a scrutinee.
+//! The checker's questions about a clause's own walk: its dots, and the helper over a scrutinee.
 #![tactic(auto)]
 
 mod asking;

@@ -142,7 +142,7 @@ proof-named x (suc k) clause is lt =
 
 -- ---- families
 
--- names that may be inside of a generated one
+-- names that may be part of a generated one
 pub record IsPart (name : List ℕ) : Type 0 where
   pub all_chars : are_name_chars name ≡ true
   pub unmarked : holds_mark name ≡ false

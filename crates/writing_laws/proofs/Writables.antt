@@ -1,4 +1,4 @@
--- What the declarations of a text give may be in a core file.
+-- What the declarations of a text give can be written in a core file.
 use Rattle.std.proofs.Common.{◌≡◌, ◌⊎◌, inl, inr, ℕ, zero, suc, ◌+◌, ◌<◌, ◌≤◌, ◌^◌, Bool, true, false, List, [], ◌∷◌, ◌++◌, length, map, drop, All, Option, Some, None, Result, Ok, Err, IfOk, refl, sym, ap, ◌∙◌, subst, arith}
 use Rattle.std.specs.Prelude.{◌==◌, get_or, slice_get, codes}
 use Rattle.std.specs.List.{list_any, range_with_len}

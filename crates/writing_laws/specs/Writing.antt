@@ -51,8 +51,8 @@ IsOrdinary S _ = Unit {0}
 abbrev pub TextIsOrdinary : Type 0
 TextIsOrdinary = (bytes : List ℕ) (ds : List surf.Decl) → Gives bytes (Ok ds) → Each (λ d. (S : Signature) → IsOrdinary S d) ds
 
--- What the declarations at the front of a text give, which are accepted one by one from the prelude on, may be in a core file: names
--- are plain and may be declared, and no shown term is too high.
+-- What the declarations at the front of a text give, accepted one by one from the prelude on, can be written in a core file: names are
+-- plain and may be declared, and no shown term is too high.
 abbrev pub AcceptedIsWritable : Type 0
 AcceptedIsWritable =
     (bytes : List ℕ) (decls front back : List surf.Decl) (k : Bool) (fuel : ℕ) (T : Signature) → Gives bytes (Ok decls) → decls ≡ front ++ back

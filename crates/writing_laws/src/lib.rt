@@ -1,4 +1,4 @@
-//! Laws about what is written: for all words and bytes, what is above a line that accepts a declaration can be read again.
+//! What the accepted declarations of a text give can be written in a core file: names are plain, and no shown term is too high.
 #![tactic(auto)]
 
 pub mod laws;

@@ -192,7 +192,7 @@ written S x ty cs a ready w l =
           (grows_on Own t.with_plan l.lines.signature t.own.entered t.grown).prefix;
       helpers = t.helpers;
       trees = t.trees;
-      told =
+      each_line =
           transport
           (λ name.
           AreLinesOf (pushed t.own.before (Definition name f.type t.own.body)) l.lines.signature

@@ -112,7 +112,7 @@ record IsSingle (S : Signature) (f : Function) (all : List Walked) (part : Opene
   sides : given.sides ≡ side ∷ []
   one : IsOneGiven S f all part number c walk side
 
--- what is given, wherever its helpers are among all parts
+-- what a clause gives, wherever its helpers are among all parts
 record GivesOne (S : Signature) (f : Function) (part : Opened) (number next : ℕ) (c : Clause) (given : Given) : Type 0 where
   lists : clauses_of given.helpers ≡ inner_of c
   one : (all : List Walked) → AreAt all next given.helpers → IsSingle S f all part number c given

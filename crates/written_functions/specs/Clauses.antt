@@ -51,20 +51,20 @@ placed_from part (clauses ∷ parts) = placed_in part 0 clauses ++ placed_from (
 
 -- ---- the equation of a clause
 
--- From where the clauses of a part are walked: a telescope, a goal over it, and terms of it, one for each pattern of a clause.
+-- The start from which the clauses of a part are walked: a telescope, a goal over it, and terms of it, one for each pattern of a clause.
 pub record Start : Type 0 where
   pub telescope : Telescope
   pub goal : Term
   pub columns : List Term
 
--- A function after some entries, with the start of each helper, whose arguments its telescope has, and a case tree for each part.
+-- A function after some entries. Each helper has a start, whose telescope has the arguments of the helper; each part has a case tree.
 pub record FunctionAt : Type 0 where
   pub before : Signature
   pub function : Function
   pub helpers : (k : ℕ) → Start
   pub trees : (part : ℕ) → Tree
 
--- that of the function itself: the domains of its type, one for each pattern, and what the type ends in
+-- the start of the function itself: the domains of its type, one for each pattern, and what the type ends in
 abbrev pub start_of : FunctionAt → (part : ℕ) → Start
 start_of f zero = record {
   telescope = first_domains f.function.arity f.function.type;
@@ -159,7 +159,7 @@ pub record IsDefinitional (S : Signature) (f : FunctionAt) (c : Placed) : Type 0
 abbrev pub closed : (level : ℕ) → Equation → Term
 closed level e = products e.context (equation level e.type e.left e.right)
 
--- proved: entry n of T is a definition of it, letter for letter, under the clause's name, and has it by the typing rules
+-- proved: entry n of T is a definition under the clause's name, whose type is the equation, letter for letter, also by the typing rules
 pub record IsProved (S : Signature) (f : FunctionAt) (c : Placed) (T : Signature) (n : ℕ) : Type 0 where
   pub equation : Equation
   pub of : HasEquation S f c equation
@@ -168,8 +168,8 @@ pub record IsProved (S : Signature) (f : FunctionAt) (c : Placed) (T : Signature
   pub entry : IsEntryAt T n (Definition (part_named f.function.name c.part ++ codes "!c" ++ decimal (c.number + 1)) (closed level equation) body)
   pub typed : IsDefinition (first_entries T n) (closed level equation) body
 
--- At the terms of a leaf the clause has an equation over its context, whose sides convert. The variables are what they are in these terms,
--- up to conversion.
+-- At the terms of a leaf the clause has an equation over the leaf's context, whose sides convert. The variables have the terms that they
+-- have there, up to conversion.
 pub record ConvertsAt (S : Signature) (f : FunctionAt) (c : Placed) (leaf : Telescope × List Term) : Type 0 where
   pub equation : Equation
   pub context : equation.context ≡ leaf.0
@@ -180,8 +180,8 @@ pub record ConvertsAt (S : Signature) (f : FunctionAt) (c : Placed) (leaf : Tele
   pub is : IsEquation S f c leaf.1 found terms called equation
   pub converts : Converts S equation.left equation.right
 
--- shadowed: an earlier clause of the part takes a vector that the clause itself takes too; the leaves are all of the clause in the tree of
--- the part, and at each its equation converts
+-- Shadowed: an earlier clause of the part takes a vector that this clause takes too. The leaves are all those that the tree of the part has
+-- for this clause, and at each of them the sides of the clause's equation convert.
 pub record IsShadowed (S : Signature) (f : FunctionAt) (c : Placed) (earlier : ℕ) (vector : List Term) (leaves : List (Telescope × List Term)) : Type 0 where
   pub before : earlier < c.number
   pub pats : Pats

@@ -7,9 +7,10 @@ use Rattle.theory.specs.Signatures.{Signature, FamilyOf, IsEntryAt}
 use Rattle.core_terms.specs.Patterns as pattern
 use Rattle.core_terms.specs.Patterns.{Pat, Pats}
 
--- `Fits S Dot pat t terms`: t fits the pattern, whose variables have these terms, in the order of the text. A variable has what is
--- there, any term fits `_`, a dot is one of its written term by `Dot`, and a constructor is at as many terms as its family has
--- parameters, and then at terms that fit. Nothing fits `( )`.
+-- `Fits S Dot pat t terms`: t fits the pattern, whose variables have these terms, in the order of the text. A variable
+-- has the term itself, and any term fits `_`. A term fits a dot where `Dot` holds of the dot's written term and it. What fits a
+-- constructor pattern is the constructor at as many terms as its family has parameters, and then at terms that fit its patterns.
+-- Nothing fits `( )`.
 mutual
   pub data Fits (S : Signature) (Dot : (written t : Term) → Type 0) : Pat → Term → List Term → Type 0 where
     variable : (t : Term) → Fits S Dot pattern.Bind t (t ∷ [])

@@ -28,5 +28,5 @@ pub record IsByClauses (S : Signature) (x : Word) (ty : surf.Surf) (clauses : su
   pub entered : IsPrefix (pushed before (Definition x.text given.type body)) T
   pub helpers : (k : ℕ) → Start
   pub trees : (part : ℕ) → Tree
-  pub told : AreLinesOf (pushed before (Definition x.text given.type body)) T (record { before = S; function = given; helpers = helpers; trees = trees })
+  pub each_line : AreLinesOf (pushed before (Definition x.text given.type body)) T (record { before = S; function = given; helpers = helpers; trees = trees })
       (placed_from 0 (parts_of given)) lines

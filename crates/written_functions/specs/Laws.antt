@@ -1,4 +1,4 @@
--- A function by clauses that is accepted is as it is written.
+-- An accepted function by clauses is the one that is written.
 use Rattle.std.specs.Prelude.{ℕ, IfOk}
 use Rattle.theory.specs.Signatures.{Signature}
 use Rattle.surface_syntax.specs.Trees as surf

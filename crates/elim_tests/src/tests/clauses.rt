@@ -1,4 +1,4 @@
-// Functions by clauses, which the program does not compile yet: where their text goes wrong, and what their names stand for.
+// Functions by clauses: where their text goes wrong, and what their names stand for.
 use core_sig::Signature;
 use core_terms::Pat;
 use resolve::resolve_fun;
