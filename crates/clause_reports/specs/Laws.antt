@@ -89,7 +89,7 @@ ProvedHasType =
     (products e.context (equation (part_at plan c.part).level e.type e.left e.right)) body)
     × IsPrefix S r.signature × (IsWellFormed S → HasPrelude S → IsWellFormed r.signature))
 
--- shadowed: an earlier clause and the clause itself match the vector; the leaves are all of the clause in its tree, in order, and the
+-- shadowed: an earlier clause and the clause itself match the vector; the leaves are all leaves of the clause in its tree, in order, and the
 -- equation converts at each of them
 abbrev pub ShadowedMatches : Type 0
 ShadowedMatches =

@@ -23,7 +23,7 @@ use Rattle.clause_reports.specs.Shadows.{TreeLeaf, earlier_leaf, vector_of, leav
 use Rattle.clause_reports.specs.Stops.{Rejection, ReportStop, Reporting, Rejected, answers, or_halts, halting}
 
 -- `Definitional`: the sides convert. `Proved n`: entry n proves the equation. `Shadowed earlier context vector leaves`: the earlier
--- clause takes the vector; the equation converts at the leaves, which are all of the clause in the tree. `Absurd`: the clause has no
+-- clause takes the vector; the equation converts at the leaves, which are all leaves of the clause in the tree. `Absurd`: the clause has no
 -- right side.
 pub data Line : Type 0 where
   Definitional : Line
