@@ -18,7 +18,7 @@ use Rattle.tree_translation.specs.Naming.{Naming, number_among, number_in, with_
 use Rattle.tree_translation.specs.Plans.{Plan}
 use Rattle.tree_translation.proofs.Drafting.{in_order-is, places_of, IsInOrder}
 use Rattle.clause_reports.specs.DraftEntering.{enter_entry}
-use Rattle.clause_reports.specs.Equations.{Equation, part_at}
+use Rattle.clause_reports.specs.Equations.{Equation, part_at, closed_type}
 use Rattle.clause_reports.specs.Laws.{IsOver}
 use Rattle.clause_reports.specs.ProofTerms.{candidate, proof_name, proof_names, proof_term}
 use Rattle.clause_reports.specs.ProofWalks.{Proof}
@@ -49,9 +49,6 @@ products-fixed : (S : Signature) (r : ℕ → ℕ) → Fixes S r → (n : ℕ) (
     → renumbered r goal ≡ goal → renumbered r (products tele goal) ≡ products tele goal
 products-fixed S r k n [] goal h g = g
 products-fixed S r k n (a ∷ tele) goal h g = ap₂ Pi (fixed S r k a h.0.entries) (products-fixed S r k (n + 1) tele goal h.1 g)
-
-abbrev pub closed_type : (L : ℕ) → Equation → Term
-closed_type L e = products e.context (equation L e.type e.left e.right)
 
 closed-fixed : (S : Signature) (r : ℕ → ℕ) → Fixes S r → (L : ℕ) (e : Equation) → IsOver S e → renumbered r (closed_type L e) ≡ closed_type L e
 closed-fixed S r k L e over =

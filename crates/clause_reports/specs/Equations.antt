@@ -3,8 +3,8 @@
 use Rattle.std.specs.Prelude.{ℕ, zero, suc, ◌-◌, nat_lt, cond, Option, Some, None, option_and_then, List, [], ◌∷◌, ◌++◌, get_or, length, take, Result, Ok}
 use Rattle.std.specs.Option.{option_map_or}
 use Rattle.theory.specs.Terms.{Term, Sort, Con, Const}
-use Rattle.theory.specs.Telescopes.{Telescope, applied, variables}
-use Rattle.theory.specs.Signatures.{Signature}
+use Rattle.theory.specs.Telescopes.{Telescope, applied, variables, products}
+use Rattle.theory.specs.Signatures.{Signature, equation}
 use Rattle.theory.specs.Spines.{head_of}
 use Rattle.core_terms.specs.Answers.{and_then, bounded}
 use Rattle.core_terms.specs.CaseTrees.{Walk}
@@ -78,6 +78,10 @@ pub record Equation : Type 0 where
   pub type : Term
   pub left : Term
   pub right : Term
+
+-- the equation as a type, closed by products over its context
+abbrev pub closed_type : (level : ℕ) → Equation → Term
+closed_type level e = products e.context (equation level e.type e.left e.right)
 
 -- D!all.L ps (F!motive F) (F!step F) is x, at terms of the function's telescope: the values of the recursion there
 abbrev pub values_of_recursion : Signature → Plan → Recursion → List Term → Term

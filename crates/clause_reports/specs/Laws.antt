@@ -1,7 +1,7 @@
 -- What holds of the reports of clauses, in whatever way they are found.
 use Rattle.std.specs.Prelude.{◌≡◌, ◌↔◌, ℕ, suc, ◌<◌, ◌≤◌, true, false, Ok, IfOk, List, All, length, map}
 use Rattle.theory.specs.Terms.{Term, Const}
-use Rattle.theory.specs.Telescopes.{products, applied}
+use Rattle.theory.specs.Telescopes.{applied}
 use Rattle.theory.specs.Conversion.{Converts}
 use Rattle.theory.specs.Signatures.{Signature, Definition, IsEntryAt, IsPrefix, equation}
 use Rattle.theory.specs.SignatureScopes.{IsScoped, IsScopedTelescope}
@@ -14,7 +14,7 @@ use Rattle.case_trees.specs.Points.{under_solution}
 use Rattle.tree_translation.specs.Plans.{Plan}
 use Rattle.clause_reports.specs.Conditions.{IsEntered, IsReference}
 use Rattle.clause_reports.specs.DraftEntering.{enter_draft_of}
-use Rattle.clause_reports.specs.Equations.{Equation, equation_of, in_signature, number_of, part_at, pats_of}
+use Rattle.clause_reports.specs.Equations.{Equation, equation_of, in_signature, number_of, part_at, pats_of, closed_type}
 use Rattle.clause_reports.specs.ProofTerms.{proof_name}
 use Rattle.clause_reports.specs.Reports.{Reference, Reported, Definitional, Proved, Shadowed, Absurd, report_of, some_absurd, order_in, shown_leaf}
 use Rattle.clause_reports.specs.Shadows.{leaves_of, equation_at_leaf}
@@ -86,7 +86,7 @@ ProvedHasType =
     (e : Equation) × (body : Term) × (equation_of S plan c.part c.clause c.walk ≡ Ok e)
     × IsEntryAt r.signature n
     (Definition (proof_name plan c.part c.clause)
-    (products e.context (equation (part_at plan c.part).level e.type e.left e.right)) body)
+    (closed_type (part_at plan c.part).level e) body)
     × IsPrefix S r.signature × (IsWellFormed S → HasPrelude S → IsWellFormed r.signature))
 
 -- shadowed: an earlier clause and the clause itself match the vector; the leaves are all leaves of the clause in its tree, in order, and the

@@ -1,14 +1,14 @@
 -- The term of a walk: a split is the term of a split node, and a leaf is reflexivity.
 use Rattle.std.specs.Prelude.{ℕ, ◌+◌, List, [], ◌∷◌, ◌++◌, length, Result, codes, decimal}
 use Rattle.theory.specs.Terms.{Term}
-use Rattle.theory.specs.Telescopes.{products, functions}
+use Rattle.theory.specs.Telescopes.{functions}
 use Rattle.theory.specs.Signatures.{Signature, equation, reflexivity}
 use Rattle.core_terms.specs.declared.stop.Stop.{Stop}
 use Rattle.core_sig.specs.Drafts.{Draft}
 use Rattle.tree_translation.specs.Naming.{Naming, drafted_in_order}
 use Rattle.tree_translation.specs.Plans.{Plan}
 use Rattle.tree_translation.specs.Splits.{Node, split_node, split_names}
-use Rattle.clause_reports.specs.Equations.{Equation, part_at, part_name}
+use Rattle.clause_reports.specs.Equations.{Equation, part_at, part_name, closed_type}
 use Rattle.clause_reports.specs.ProofWalks.{Place, Proof, Ends, Splits, Proofs, nil, cons}
 
 -- the goal of a place: Eq.L type left right
@@ -44,5 +44,5 @@ abbrev pub candidate : Signature → Plan → (k clause : ℕ) → Equation → 
 candidate S plan k clause e proof =
     let L = (part_at plan k).level in
     drafted_in_order (proof_name plan k clause) (length S.entries) (proof_names S L proof)
-    (λ number. products e.context (equation L e.type e.left e.right))
+    (λ number. closed_type L e)
     (λ number. functions e.context (proof_term S number L proof))

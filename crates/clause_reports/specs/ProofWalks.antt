@@ -22,7 +22,7 @@ use Rattle.case_trees.specs.Points.{under_solution}
 use Rattle.case_trees.specs.Problems.{Member, member_of, type_of_variable}
 use Rattle.case_trees.specs.Looking.{Look, Found, Passed, Ran, run_all}
 use Rattle.case_trees.specs.Stops as tree_stop
-use Rattle.case_trees.specs.Stops.{TreeStop, Stopping}
+use Rattle.case_trees.specs.Stops.{TreeStop}
 use Rattle.tree_translation.specs.Plans.{Plan, own_part}
 use Rattle.tree_translation.specs.Recursion.{recursion_of, order_of, terms_at}
 use Rattle.clause_reports.specs.Equations.{Equation}

@@ -8,7 +8,7 @@ use Rattle.tree_translation.specs.Entries.{translate}
 use Rattle.tree_translation.specs.Plans.{Plan}
 use Rattle.leaf_terms.specs.CallsApart.{PlanCallsApart}
 use Rattle.function_entries.specs.CodeEntries.{translate_made}
-use Rattle.step_scopes.specs.Laws.{BeginsClosed}
+use Rattle.order_scopes.specs.Laws.{BeginsClosed}
 
 -- A plan over a signature that is ready together with the function. The order of recursion begins with a type over no variables, and no
 -- call is the argument of another one at the position of recursion.

@@ -1,5 +1,5 @@
 -- The order of recursion of a function's plan begins with a type over no variables, where each of the function does.
-use Rattle.std.proofs.Common.{◌≡◌, ℕ, true, Option, Some, None, option_and_then, ◌∷◌, length, Result, Ok, Err, IfOk, refl, sym, ap, ◌∙◌, subst as transport}
+use Rattle.std.proofs.Common.{◌≡◌, ℕ, true, Option, Some, None, option_and_then, length, Result, Ok, Err, IfOk, refl, sym, ◌∙◌, subst as transport}
 use Rattle.theory.specs.Telescopes.{Telescope}
 use Rattle.theory.specs.Signatures.{Signature}
 use Rattle.theory.specs.WellFormed.{provisional}
@@ -8,13 +8,12 @@ use Rattle.elaboration.specs.Functions as function
 use Rattle.elaboration.specs.Functions.{helpers_finished, own_finished, plan_of, position_chosen, recursion_in}
 use Rattle.elaboration.specs.Refusals.{Refusal, answers, walking}
 use Rattle.elaboration.specs.Walking.{Session, Walked, walk_clauses}
-use Rattle.order_scopes.specs.Laws.{begins_closed}
+use Rattle.order_scopes.specs.Laws.{begins_closed, BeginsClosed}
 use Rattle.resolve.specs.Functions.{Function}
 use Rattle.structural_rec.specs.Choices.{choose}
 use Rattle.tree_translation.specs.Entries.{ordered_variables}
 use Rattle.tree_translation.specs.Plans.{Part, Plan, own_part}
 use Rattle.tree_translation.specs.Recursion.{Recursion, order_of, ordered_telescope, ordered_term, recursion_at}
-use Rattle.plan_laws.specs.Laws.{BeginsClosed}
 use Rattle.plan_laws.specs.MadePlans.{BeginsAlwaysClosed}
 use Rattle.plan_laws.proofs.Answering.{if-ok, next-has}
 use Rattle.function_plans.proofs.SameChoices.{recursion-same}

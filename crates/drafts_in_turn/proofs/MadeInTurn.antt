@@ -1,6 +1,6 @@
 -- The function that the code makes is the one that is meant, where the names of its drafts enter in turn.
-use Rattle.std.proofs.Common.{◌≡◌, ℕ, ◌<◌, [], Ok, ap, ◌∙◌, arith}
-use Rattle.theory.specs.Terms.{Term, top}
+use Rattle.std.proofs.Common.{◌≡◌, ℕ, ◌<◌, [], ap, ◌∙◌, arith}
+use Rattle.theory.specs.Terms.{top}
 use Rattle.theory.specs.Signatures.{Signature}
 use Rattle.core_terms.specs.Answers.{and_next}
 use Rattle.elaboration.specs.Functions.{enter_plan, function_level, plan_of, report_parts}
@@ -10,13 +10,13 @@ use Rattle.kernel_check.specs.Checking.{infer_sort_of}
 use Rattle.kernel_reduce.specs.Reduction.{nesting}
 use Rattle.tree_translation.specs.Plans.{Plan}
 use Rattle.plan_drafts.specs.Laws.{IsPlanFor}
-use Rattle.plan_laws.specs.Laws.{BeginsClosed}
 use Rattle.plan_laws.specs.MadePlans.{PlanIsMade}
 use Rattle.plan_laws.proofs.Answering.{if-ok}
 use Rattle.made_functions.proofs.Sequences.{next-after, next-same}
 use Rattle.drafts_in_turn.specs.Laws.{FunctionEntersInTurn, FunctionIsMadeInTurn, HasLevel, IsReportedPlan}
 use Rattle.drafts_in_turn.proofs.ClosedOrders.{plan-closed}
 use Rattle.drafts_in_turn.proofs.FamilyLevels.{level-low}
+use Rattle.order_scopes.specs.Laws.{BeginsClosed}
 
 -- once the plan is there
 reported-is : (S : Signature) (plan : Plan) (left : ℕ) → IsReportedPlan S plan → ((left : ℕ) → plan_entered S plan left ≡ enter_plan S plan left)

@@ -34,7 +34,7 @@ use Rattle.entry_laws.proofs.OnlyEntries.{own_node, recursion-entry}
 use Rattle.draft_scopes.specs.Laws.{IsOrdered}
 use Rattle.draft_scopes.proofs.FunctionSignatures.{part-tree}
 use Rattle.step_scopes.proofs.PlanOrders.{order-there, plan-ordered}
-use Rattle.plan_laws.specs.Laws.{BeginsClosed, IsPlanOf, PlanIsOfFunction, PlanIsPlanned}
+use Rattle.plan_laws.specs.Laws.{IsPlanOf, PlanIsOfFunction, PlanIsPlanned}
 use Rattle.plan_laws.proofs.Answering.{if-ok}
 use Rattle.plan_drafts.specs.Laws.{IsPlanFor}
 use Rattle.drafts_in_turn.specs.Laws.{HasLevel}
@@ -45,6 +45,7 @@ use Rattle.step_scopes.proofs.AllDrafts.{step-own}
 use Rattle.drafts_in_turn.proofs.PartLevels.{ArePartsLow, part-low, plan-low}
 use Rattle.drafts_in_turn.proofs.RunNames.{IsFitting, can-recur}
 use Rattle.drafts_in_turn.proofs.TreeNames.{tree-fits}
+use Rattle.order_scopes.specs.Laws.{BeginsClosed}
 
 -- what is generated with the function is generated without it
 without-function : (S : Signature) (plan : Plan) (name : List ℕ) → IsGeneratedName (with_function S plan) name → IsGeneratedName S name

@@ -19,7 +19,7 @@ use Rattle.core_text.specs.Lines.{is_in_line, AreInLine}
 use Rattle.core_text.specs.SymbolNames.{name_at}
 use Rattle.core_text.proofs.Feeds.{both, decimal-in, text-in}
 use Rattle.family_check.specs.Entering.{Entered, enter_instance, unless_there, instance_of, axiom_k_of, define_of, entered}
-use Rattle.family_check.specs.Outcomes.{FamilyStop, Outcome}
+use Rattle.family_check.specs.Outcomes.{FamilyStop}
 use Rattle.family_check.specs.Outcomes as family
 use Rattle.kernel_reduce.specs.Entries.{family_at}
 use Rattle.noconf_gen.specs.NoConfusionTypes.{constructor_mark, constructor_name}

@@ -19,7 +19,7 @@ use Rattle.case_trees.specs.Stops as tree
 use Rattle.case_trees.specs.Stops.{TreeStop}
 use Rattle.clause_reports.specs.Reports.{Line, Definitional, Proved, Shadowed, Absurd}
 use Rattle.clause_reports.specs.Stops as report
-use Rattle.clause_reports.specs.Stops.{Rejection, ReportStop}
+use Rattle.clause_reports.specs.Stops.{ReportStop}
 use Rattle.core_text.specs.ContextText.{context_text, reason_text}
 use Rattle.elaboration.specs.Functions.{ClauseLine}
 use Rattle.elaboration.specs.Refusals.{Owner, Part, FailingCall, Refusal, Halts, Stuck, DotMismatch, SelfInType, NotSmaller, ill_typed, or_ill_typed, level_too_high, pattern_text, of_tree, or_ends, of_report, or_no_report, or_halts, owner_of}

@@ -22,7 +22,7 @@ use Rattle.tree_translation.specs.Recursion.{Recursion}
 use Rattle.leaf_terms.specs.RecursionMade.{recursion_made}
 use Rattle.function_entries.specs.CodeNumbering.{names_at, numbered, places_of}
 use Rattle.clause_reports.specs.DraftEntering.{enter_draft_of}
-use Rattle.clause_reports.specs.Equations.{Equation, part_name, part_named, pats_of}
+use Rattle.clause_reports.specs.Equations.{Equation, part_name, part_named, pats_of, closed_type}
 use Rattle.clause_reports.specs.ProofWalks.{Place, Proof, leaves_in}
 use Rattle.clause_reports.specs.Reports.{Reference, Reported, Absurd, some_absurd}
 use Rattle.clause_reports.specs.Shadows.{TreeLeaf, vector_of, leaves_of}
@@ -31,7 +31,7 @@ use Rattle.clause_reports.proofs.Keeping.{any}
 use Rattle.clause_equations.specs.CodeEquations.{equation_made}
 use Rattle.draft_checks.specs.Checks.{enterable}
 use Rattle.draft_entering.specs.Depths.{own_name}
-use Rattle.proof_terms.specs.CodeProofs.{body_made, goal_type, name_made, table_made}
+use Rattle.proof_terms.specs.CodeProofs.{body_made, name_made, table_made}
 use Rattle.proof_walks.specs.Starts.{start_made, walk_made}
 use Rattle.clause_lines.specs.CodeReports.{PlannedClause, Judgement, Known, Candidate, in_plan, can_be_compared, equation_converts, first_order, equation_there, converts_there, converts_at_all, converts_at_leaves, if_shadowed, both_match, at_matched, at_vector_made, at_place, place_converts, is_earlier, shadowed_among, shadowed_made, denies, on_entered, entering_made, candidate_of, proof_judged, unless_converts, equation_judged, judged, on_judged, report_made}
 use Rattle.elim_program.proofs.EnteredNames.{IsIn, ReportIn, NamesAfter, DraftIn, enter_draft-in}
@@ -87,7 +87,7 @@ candidate-in S c e proof h =
     both (part_name c.plan c.number ++ codes "!c") (decimal (c.clause + 1)) (both (part_name c.plan c.number) (codes "!c") (part-in c.plan.name c.number h) refl) (decimal-in (c.clause + 1)) in
     and_then-has Any DraftIn (table_made S c.part.level proof) _ (any (table_made S c.part.level proof)) (λ table u.
     and_then-has Any DraftIn (body_made S (number_in (length S.entries) table) c.part.level e proof) _ (any (body_made S (number_in (length S.entries) table) c.part.level e proof)) (λ body v.
-    renumbered-made name (length S.entries) table (goal_type c.part.level e) body own))
+    renumbered-made name (length S.entries) table (closed_type c.part.level e) body own))
 
 pub halts-in : {A : Type 0} (P : A → Type 0) (r : Result A Stop) → IfOk r P → Splits P ReportIn (or_halts r)
 halts-in P (Ok a) h = h

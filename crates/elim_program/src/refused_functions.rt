@@ -1,4 +1,4 @@
-ghost use Rattle.std.specs.Prelude.{◌≡◌, ◌++◌, ◌∷◌, [], codes, decimal, map, OnOk};
+ghost use Rattle.std.specs.Prelude.{◌≡◌, ◌++◌, [], codes, map, OnOk};
 ghost use Rattle.elaboration.specs.Refusals as pure;
 ghost use Rattle.elim_program.specs.FunctionRefusals as spec;
 ghost use Rattle.elim_program.specs.Lines.{text_of};

@@ -1,4 +1,4 @@
-ghost use Rattle.std.specs.Prelude.{◌≡◌, codes, slice_range};
+ghost use Rattle.std.specs.Prelude.{◌≡◌, slice_range};
 ghost use Rattle.elim_program.specs.Unbuilt as spec;
 
 use surface_syntax::{Token, TokenKind};

@@ -1,4 +1,4 @@
-ghost use Rattle.std.specs.Prelude.{◌≡◌, ◌≢◌, ◌≤◌, ℕ, List, length, suc, true, Some, IfSome, IfOk, Err, OnErr, OnOk};
+ghost use Rattle.std.specs.Prelude.{◌≡◌, ◌≢◌, ◌≤◌, ℕ, List, length, suc, true, Some, IfOk, Err, OnErr, OnOk};
 ghost use Rattle.std.specs.Io.KnownBytes.{Appends};
 ghost use Rattle.core_terms.specs.Answers.{Unless};
 ghost use Rattle.core_terms.specs.Count.{Rose};
@@ -13,7 +13,7 @@ ghost use Rattle.elab_session.specs.Entering.{enter_of};
 ghost use Rattle.elim_program.specs.Blocks.{Makes};
 ghost use Rattle.elim_program.specs.Outputs as outputs;
 ghost use Rattle.elim_program.specs.Runs.{Follows, Written, Wrote};
-ghost use Rattle.elim_program.specs.Texts.{limit, limited};
+ghost use Rattle.elim_program.specs.Texts.{limited};
 ghost use Rattle.elim_program.specs.Verifies as spec;
 ghost use Rattle.elim_program.specs.Words.{verify_asked};
 

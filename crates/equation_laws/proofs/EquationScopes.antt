@@ -21,15 +21,15 @@ use Rattle.unification.specs.Built.{Built, built_of}
 use Rattle.unification.proofs.Constructors.{found}
 use Rattle.unification.proofs.ScopedRecords.{variables-scoped}
 use Rattle.case_trees.specs.Points.{under_solution}
-use Rattle.case_trees.specs.Scoped.{IsScopedPattern, AreScopedPatterns, IsScopedWalk}
+use Rattle.case_trees.specs.Scoped.{IsScopedPattern, AreScopedPatterns}
 use Rattle.case_trees.proofs.ScopedPoints.{under-scoped}
-use Rattle.tree_translation.specs.Conditions.{with_function, IsSide, IsPlanned}
+use Rattle.tree_translation.specs.Conditions.{with_function, IsSide}
 use Rattle.tree_translation.specs.Conditions as planned
 use Rattle.tree_translation.specs.Naming.{motive_name, step_name}
 use Rattle.tree_translation.specs.Plans.{Plan, own_part}
 use Rattle.tree_translation.specs.Recursion.{Recursion, recursion_of, parameters_at, scrutinee_at, terms_at}
 use Rattle.tree_translation.specs.RightSides.{is_helper}
-use Rattle.clause_reports.specs.Conditions.{IsDefined, HasRecursion, IsEntered, IsReference}
+use Rattle.clause_reports.specs.Conditions.{IsDefined, HasRecursion, IsEntered}
 use Rattle.clause_reports.specs.Equations.{Equation, Site, number_of, part_name, in_signature, shown_built, shown, all_shown, values_of_recursion, last_argument, left_side, walk_site, equation_at, equation_of, part_at, pats_of, side_of}
 use Rattle.clause_reports.specs.Generated.{all_name}
 use Rattle.clause_reports.specs.Laws.{IsOver}

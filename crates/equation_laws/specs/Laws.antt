@@ -1,14 +1,13 @@
 -- What holds of the equations of clauses.
 use Rattle.std.specs.Prelude.{◌≡◌, ℕ, Ok, IfOk}
 use Rattle.theory.specs.Terms.{Term}
-use Rattle.theory.specs.Telescopes.{products}
 use Rattle.theory.specs.Signatures.{Signature, Definition, IsEntryAt, IsPrefix, equation}
 use Rattle.theory.specs.WellFormed.{IsWellFormed}
 use Rattle.family_check.specs.Scopes.{HasPrelude}
 use Rattle.case_trees.specs.Scoped.{IsScopedWalk}
 use Rattle.tree_translation.specs.Plans.{Plan}
 use Rattle.clause_reports.specs.Conditions.{IsEntered, IsReference}
-use Rattle.clause_reports.specs.Equations.{Equation, equation_of, part_at}
+use Rattle.clause_reports.specs.Equations.{Equation, equation_of, part_at, closed_type}
 use Rattle.clause_reports.specs.Laws.{IsOver}
 use Rattle.clause_reports.specs.ProofTerms.{proof_name}
 use Rattle.clause_reports.specs.Reports.{Reference, Proved, report_of}
@@ -29,5 +28,5 @@ ProvedIsTyped =
     (e : Equation) × (body : Term) × (equation_of S plan c.part c.clause c.walk ≡ Ok e)
     × IsEntryAt r.signature n
     (Definition (proof_name plan c.part c.clause)
-    (products e.context (equation (part_at plan c.part).level e.type e.left e.right)) body)
+    (closed_type (part_at plan c.part).level e) body)
     × IsPrefix S r.signature × (IsWellFormed S → HasPrelude S → IsWellFormed r.signature))

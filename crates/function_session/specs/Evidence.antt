@@ -1,14 +1,14 @@
 -- What the lines of clauses say of them.
 use Rattle.std.specs.Prelude.{◌≡◌, ◌<◌, ℕ, ◌+◌, true, List, [], ◌∷◌, ◌++◌, All, map, Result, Ok}
 use Rattle.theory.specs.Terms.{Term}
-use Rattle.theory.specs.Telescopes.{Telescope, products}
+use Rattle.theory.specs.Telescopes.{Telescope}
 use Rattle.theory.specs.Conversion.{Converts}
 use Rattle.theory.specs.Signatures.{Signature, Definition, IsEntryAt, IsPrefix, equation}
 use Rattle.core_terms.specs.CaseTrees.{Walk}
 use Rattle.core_terms.specs.declared.stop.Stop.{Stop}
 use Rattle.pattern_vectors.specs.Matching.{matches_all}
 use Rattle.tree_translation.specs.Plans.{Plan, Part}
-use Rattle.clause_reports.specs.Equations.{Equation, equation_of, part_at, part_named, pats_of}
+use Rattle.clause_reports.specs.Equations.{Equation, equation_of, part_at, part_named, pats_of, closed_type}
 use Rattle.clause_reports.specs.Laws.{IsOver}
 use Rattle.clause_reports.specs.ProofTerms.{proof_name}
 use Rattle.clause_reports.specs.Reports.{Line, Definitional, Proved, Shadowed, Absurd, Reference, some_absurd, order_in, shown_leaf}
@@ -32,7 +32,7 @@ pub record IsProofEntry (S : Signature) (plan : Plan) (c : Reference) (T : Signa
   pub body : Term
   pub entry : IsOver S given → IsEntryAt T n
       (Definition (proof_name plan c.part c.clause)
-      (products given.context (equation (part_at plan c.part).level given.type given.left given.right)) body)
+      (closed_type (part_at plan c.part).level given) body)
 
 -- An earlier clause takes the vector, which the clause matches too. The leaves are all leaves of the clause in its tree, and its equation
 -- converts at each of them.

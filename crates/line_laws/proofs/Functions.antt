@@ -23,10 +23,10 @@ use Rattle.function_session.proofs.Written.{function-scoped}
 use Rattle.function_session.specs.Elaborating.{with_lines}
 use Rattle.function_session.specs.Evidence.{references_from}
 use Rattle.resolve.specs.Functions.{Function}
-use Rattle.refusal_laws.specs.Parts.{with_own}
 use Rattle.line_laws.specs.Laws.{DeclarationReports, FunctionReports, HasReports, HasReportedLines}
 use Rattle.line_laws.proofs.PlanWalks.{IsPlanScoped, plan-scoped}
 use Rattle.line_laws.proofs.Reports.{AreReports, IsBase, lines-from, parts-report}
+use Rattle.written_functions.specs.Clauses.{with_own}
 
 -- what grows is longer
 pushed-longer : (S B T : Signature) (name : List ℕ) (type body : Term) → Grows S B → Grows (pushed B (Definition name type body)) T

@@ -25,9 +25,10 @@ use Rattle.function_lines.specs.FunctionMade.{session_at}
 use Rattle.function_session.specs.Laws.{inner}
 use Rattle.resolve.specs.Functions.{Function}
 use Rattle.refusal_laws.specs.Causes.{Caused}
-use Rattle.refusal_laws.specs.Parts.{own, with_own}
+use Rattle.refusal_laws.specs.Parts.{own}
 use Rattle.refusal_laws.proofs.PartScopes.{part-walkable}
 use Rattle.refusal_laws.proofs.WalkCauses.{AreHelpers, GivesHelpers, all-from, all-listed, clauses-caused}
+use Rattle.written_functions.specs.Clauses.{with_own}
 
 -- all walks of a part
 abbrev pub AreScopedWalks : Signature → Part → Type 0

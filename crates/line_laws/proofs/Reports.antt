@@ -24,12 +24,12 @@ use Rattle.elaboration.specs.Refusals.{Owner, or_no_report, owner_of, reporting}
 use Rattle.family_check.specs.Scopes.{HasPrelude}
 use Rattle.function_session.specs.Evidence.{references, references_from}
 use Rattle.resolve.specs.Functions.{Function}
-use Rattle.refusal_laws.specs.Parts.{with_own}
 use Rattle.line_laws.specs.Lines.{AreReported, IsProof, IsReported}
 use Rattle.written_functions.proofs.Numbers.{all-under, scoped-under, telescope-under}
 use Rattle.line_laws.proofs.PlanWalks.{AreScopedWalks, IsPlanScoped}
 use Rattle.written_functions.proofs.Proofs.{IsClosedUnder, IsProvedBy, SaysProved, report-says}
 use Rattle.written_functions.proofs.Sides.{IsWalkUnder, type-under}
+use Rattle.written_functions.specs.Clauses.{with_own}
 
 -- ---- signatures on the way
 

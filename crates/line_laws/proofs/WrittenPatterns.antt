@@ -25,25 +25,26 @@ use Rattle.function_lines.specs.FunctionMade.{session_at}
 use Rattle.function_session.specs.Laws.{inner}
 use Rattle.resolve.specs.Functions.{Function}
 use Rattle.refusal_laws.specs.Causes.{Caused}
-use Rattle.refusal_laws.specs.Parts.{clause_lists, own, with_own}
+use Rattle.refusal_laws.specs.Parts.{own}
 use Rattle.refusal_laws.proofs.WalkCauses.{AreHelpers, GivesHelpers, all-from, all-listed, clauses-caused}
 use Rattle.line_laws.specs.Laws.{HasWrittenPatterns, PatternsAreWritten}
+use Rattle.written_functions.specs.Clauses.{with_own, parts_of}
 
 -- ---- helpers
 
 -- each helper has the clauses of its number
 same-lists : (S : Signature) (f : Function) (k : ℕ) (helpers : List Walked) (lists : List Clauses) → AreHelpers S f k helpers
-    → length helpers ≡ length lists → ((i : ℕ) (cs : Clauses) → slice_get lists i ≡ Some cs → slice_get (clause_lists f) (k + i) ≡ Some cs)
+    → length helpers ≡ length lists → ((i : ℕ) (cs : Clauses) → slice_get lists i ≡ Some cs → slice_get (parts_of f) (k + i) ≡ Some cs)
     → map (λ (w : Walked). w.clauses) helpers ≡ lists
 same-lists S f k [] [] h n at = refl
 same-lists S f k [] (cs ∷ lists) h n at = absurd (omega (arith, n))
 same-lists S f k (w ∷ helpers) [] h n at = absurd (omega (arith, n))
 same-lists S f k (w ∷ helpers) (cs ∷ lists) h n at =
-    let here : slice_get (clause_lists f) k ≡ Some cs =
-    transport (λ m. slice_get (clause_lists f) m ≡ Some cs) (let same : k + 0 ≡ k = omega arith in same) (at 0 cs refl) in
+    let here : slice_get (parts_of f) k ≡ Some cs =
+    transport (λ m. slice_get (parts_of f) m ≡ Some cs) (let same : k + 0 ≡ k = omega arith in same) (at 0 cs refl) in
     ap₂ (λ c others. c ∷ others) (some_is (sym h.0.1.listed ∙ here))
     (same-lists S f (k + 1) helpers lists h.1 (omega (arith, n)) (λ i c e.
-    transport (λ m. slice_get (clause_lists f) m ≡ Some c) (let same : k + suc i ≡ k + 1 + i = omega arith in same) (at (suc i) c e)))
+    transport (λ m. slice_get (parts_of f) m ≡ Some c) (let same : k + suc i ≡ k + 1 + i = omega arith in same) (at (suc i) c e)))
 
 -- ---- parts
 
@@ -93,11 +94,11 @@ clause-pats (clause.cons (Is ps n r) cs) (suc number) binds pats right e = claus
 -- ---- the plan
 
 plan-written : (S : Signature) (f : Function) (level left : ℕ) → IsFunctionOver (with_own S f) f
-    → Answers (λ (plan : Plan). AreWritten (clause_lists f) plan.parts) (plan_of S f level left)
+    → Answers (λ (plan : Plan). AreWritten (parts_of f) plan.parts) (plan_of S f level left)
 plan-written S f level left over =
     let s = session_at S f in
     let part = own_part f level in
-    let P : Plan → Type 0 = λ plan. AreWritten (clause_lists f) plan.parts in
+    let P : Plan → Type 0 = λ plan. AreWritten (parts_of f) plan.parts in
     let H = GivesHelpers S f 1 (length (inner f.clauses)) in
     let walked = walk_clauses s 0 part 0 1 f.clauses left in
     and_next-has H P walked _
@@ -115,7 +116,7 @@ plan-written S f level left over =
 
 pub patterns-are_written : PatternsAreWritten
 patterns-are_written S f level left over =
-    weaker (λ (plan : Plan). AreWritten (clause_lists f) plan.parts) (HasWrittenPatterns f) (plan_of S f level left).0
+    weaker (λ (plan : Plan). AreWritten (parts_of f) plan.parts) (HasWrittenPatterns f) (plan_of S f level left).0
     (λ plan h k number clauses pats binds right there at.
-    ap (λ all. get_or all number pattern.nil) (part-pats (clause_lists f) plan.parts k clauses h there) ∙ clause-pats clauses number binds pats right at)
+    ap (λ all. get_or all number pattern.nil) (part-pats (parts_of f) plan.parts k clauses h there) ∙ clause-pats clauses number binds pats right at)
     (plan-written S f level left over)

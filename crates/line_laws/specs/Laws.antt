@@ -17,8 +17,8 @@ use Rattle.resolve.specs.Functions.{Function, function}
 use Rattle.surface_syntax.specs.Trees as surf
 use Rattle.surface_syntax.specs.declared.tree.Word.{Word}
 use Rattle.tree_translation.specs.Plans.{Plan}
-use Rattle.refusal_laws.specs.Parts.{clause_lists, with_own}
 use Rattle.line_laws.specs.Lines.{AreReported}
+use Rattle.written_functions.specs.Clauses.{with_own, parts_of}
 
 -- the lines of a function, with its plan, over the signature S before it
 pub record HasReports (S : Signature) (f : Function) (l : Lines) : Type 0 where
@@ -55,7 +55,7 @@ DeclarationReports =
 -- each `with`, in the order of the text.
 abbrev pub HasWrittenPatterns : Function → Plan → Type 0
 HasWrittenPatterns f plan =
-    (k number : ℕ) (clauses : Clauses) (pats : Pats) (binds : ℕ) (right : Right) → slice_get (clause_lists f) k ≡ Some clauses →
+    (k number : ℕ) (clauses : Clauses) (pats : Pats) (binds : ℕ) (right : Right) → slice_get (parts_of f) k ≡ Some clauses →
     clause_at clauses number ≡ Some (Is pats binds right) → pats_of (part_at plan k) number ≡ pats
 
 abbrev pub PatternsAreWritten : Type 0

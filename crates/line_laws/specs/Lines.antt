@@ -1,20 +1,15 @@
 -- What the lines of clauses say, with nothing left to be asked.
 use Rattle.std.specs.Prelude.{◌≡◌, ◌↔◌, ℕ, true, Ok, List, [], ◌∷◌}
 use Rattle.theory.specs.Terms.{Term}
-use Rattle.theory.specs.Telescopes.{products}
 use Rattle.theory.specs.Signatures.{Definition, IsEntryAt, IsPrefix, Signature, equation}
 use Rattle.theory.specs.WellFormed.{IsDefinition, first_entries}
 use Rattle.tree_translation.specs.Plans.{Plan}
-use Rattle.clause_reports.specs.Equations.{Equation, equation_of, part_at, part_named, pats_of}
+use Rattle.clause_reports.specs.Equations.{Equation, equation_of, part_at, part_named, pats_of, closed_type}
 use Rattle.clause_reports.specs.ProofTerms.{proof_name}
 use Rattle.clause_reports.specs.Reports.{Absurd, Proved, Reference, report_of, reported, some_absurd}
 use Rattle.elaboration.specs.Functions.{ClauseLine}
 use Rattle.elaboration.specs.Refusals.{owner_of}
 use Rattle.function_session.specs.Evidence.{line_owner}
-
--- the closed type of an equation: a product over its context
-abbrev pub closed : (level : ℕ) → Equation → Term
-closed level e = products e.context (equation level e.type e.left e.right)
 
 -- Entry n of T is a definition, under the clause's name, of the closed type of the clause's equation over S, letter for letter. By the
 -- typing rules over the entries before it the type has a sort, and the term of the definition has the type.
@@ -22,8 +17,8 @@ pub record IsProof (S : Signature) (plan : Plan) (c : Reference) (T : Signature)
   pub given : Equation
   pub is : equation_of S plan c.part c.clause c.walk ≡ Ok given
   pub body : Term
-  pub entry : IsEntryAt T n (Definition (proof_name plan c.part c.clause) (closed (part_at plan c.part).level given) body)
-  pub typed : IsDefinition (first_entries T n) (closed (part_at plan c.part).level given) body
+  pub entry : IsEntryAt T n (Definition (proof_name plan c.part c.clause) (closed_type (part_at plan c.part).level given) body)
+  pub typed : IsDefinition (first_entries T n) (closed_type (part_at plan c.part).level given) body
 
 -- The line of a clause of the plan, over signatures from S to T: it is the clause's report at some units. Where it says that an entry
 -- proves the equation, it is a proof of it in T. It is absurd exactly where `( )` is among the clause's patterns.

@@ -5,13 +5,18 @@ use Rattle.theory.specs.Telescopes.{Telescope}
 use Rattle.theory.specs.Signatures.{Signature}
 use Rattle.theory.specs.SignatureScopes.{IsScoped, IsScopedTelescope}
 use Rattle.structural_rec.specs.Laws.{IsOrder}
-use Rattle.tree_translation.specs.Recursion.{recursion_at, order_of, ordered_telescope, ordered_term}
+use Rattle.tree_translation.specs.Recursion.{recursion_at, order_of, ordered_telescope, ordered_term, recursion_of}
+use Rattle.tree_translation.specs.Plans.{Plan, own_part}
 
 -- Whether the first type of a telescope is over no variables. The order of recursion need not begin so: it takes the indices in the
 -- order of the family, and the type of one index may mention a later one.
 abbrev pub begins_closed : Telescope → Bool
 begins_closed [] = true
 begins_closed (a ∷ tele) = free_of a == 0
+
+-- the telescope of a plan begins with a type over no variables in the order of recursion
+abbrev pub BeginsClosed : Signature → Plan → Type 0
+BeginsClosed S plan = (let tele = (own_part plan).tele in begins_closed (ordered_telescope tele (order_of (length tele) (recursion_of S plan)))) ≡ true
 
 -- A telescope in another order is scoped with a term over it, where its first type is over no variables.
 abbrev pub OrderedScoped : Type 0

@@ -9,10 +9,10 @@ use Rattle.draft_checks.specs.Checks.{enterable, names_enter}
 use Rattle.elaboration.specs.Functions.{plan_of}
 use Rattle.function_entries.specs.CodeEntries.{translate_made}
 use Rattle.plan_laws.specs.Conditions.{IsFunctionFor}
-use Rattle.plan_laws.specs.Laws.{BeginsClosed}
 use Rattle.resolve.specs.Functions.{Function}
 use Rattle.tree_translation.specs.Entries.{translate}
 use Rattle.tree_translation.specs.Plans.{Plan}
+use Rattle.order_scopes.specs.Laws.{BeginsClosed}
 
 -- The plan of a function over a signature. Its order of recursion begins with a type over no variables.
 pub record IsPlanFor (S : Signature) (f : Function) (plan : Plan) : Type 0 where

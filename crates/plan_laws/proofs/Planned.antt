@@ -19,7 +19,7 @@ use Rattle.function_clauses.proofs.OwnParts.{own-columns, own-part-for}
 use Rattle.function_plans.specs.CodePlans.{IsStart}
 use Rattle.function_plans.proofs.Starts.{start-clauses, start-given, starts}
 use Rattle.function_walks.specs.Conditions.{IsPart, IsPartFor}
-use Rattle.order_scopes.specs.Laws.{begins_closed}
+use Rattle.order_scopes.specs.Laws.{begins_closed, BeginsClosed}
 use Rattle.order_scopes.proofs.RecursionOrders.{recursion-ordered}
 use Rattle.resolve.specs.Functions.{Function}
 use Rattle.structural_rec.specs.Choices.{At, Choice, NotRecursive, NotSmaller, choose}
@@ -29,7 +29,7 @@ use Rattle.tree_translation.specs.Entries.{ordered_variables}
 use Rattle.tree_translation.specs.Plans.{Part, Plan}
 use Rattle.tree_translation.specs.Recursion.{Recursion, order_of, ordered_telescope, ordered_term, recursion_at}
 use Rattle.plan_laws.specs.Conditions.{IsFunctionFor}
-use Rattle.plan_laws.specs.Laws.{BeginsClosed, IsPlanOf, PlanIsOfFunction, PlanIsPlanned}
+use Rattle.plan_laws.specs.Laws.{IsPlanOf, PlanIsOfFunction, PlanIsPlanned}
 use Rattle.plan_laws.proofs.Answering.{if-ok, next-has}
 use Rattle.plan_laws.proofs.GivenClauses.{AreAt, AreHelpersGiven, AreUsed, Gives, IsAmong, IsHelperGiven, clauses-has}
 use Rattle.plan_laws.proofs.OpenedScopes.{session}

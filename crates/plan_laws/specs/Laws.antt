@@ -1,5 +1,5 @@
 -- What holds of walks, trees and plans over a signature that has the function.
-use Rattle.std.specs.Prelude.{◌≡◌, ◌<◌, ℕ, true, Ok, IfOk, List, length}
+use Rattle.std.specs.Prelude.{◌≡◌, ◌<◌, ℕ, Ok, IfOk, List, length}
 use Rattle.theory.specs.Terms.{Term, top}
 use Rattle.theory.specs.Telescopes.{Telescope}
 use Rattle.theory.specs.Signatures.{Signature}
@@ -8,11 +8,10 @@ use Rattle.case_trees.specs.OwnWalks.{own_walk_of}
 use Rattle.case_trees.specs.Trees.{split_of}
 use Rattle.with_abstraction.specs.Abstractions.{abstract_over_of}
 use Rattle.elaboration.specs.Functions.{plan_of}
-use Rattle.order_scopes.specs.Laws.{begins_closed}
+use Rattle.order_scopes.specs.Laws.{BeginsClosed}
 use Rattle.resolve.specs.Functions.{Function}
 use Rattle.tree_translation.specs.Conditions.{IsPlanned}
-use Rattle.tree_translation.specs.Plans.{Plan, own_part}
-use Rattle.tree_translation.specs.Recursion.{order_of, ordered_telescope, recursion_of}
+use Rattle.tree_translation.specs.Plans.{Plan}
 use Rattle.leaf_terms.specs.CallsApart.{PlanCallsApart}
 use Rattle.plan_laws.specs.Conditions.{IsFunctionFor}
 use Rattle.plan_laws.specs.Reading.{AreReadAlike}
@@ -34,10 +33,6 @@ SameAbstractions =
     abstract_over_of S context goal t type left ≡ abstract_over_of T context goal t type left
 
 -- ---- plans
-
--- the telescope of a plan begins with a type over no variables in the order of recursion
-abbrev pub BeginsClosed : Signature → Plan → Type 0
-BeginsClosed S plan = (let tele = (own_part plan).tele in begins_closed (ordered_telescope tele (order_of (length tele) (recursion_of S plan)))) ≡ true
 
 -- what a plan has of its function
 pub record IsPlanOf (S : Signature) (f : Function) (level : ℕ) (plan : Plan) : Type 0 where

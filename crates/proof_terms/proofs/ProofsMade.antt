@@ -12,10 +12,10 @@ use Rattle.split_terms.specs.CodeSplits.{split_names_made, split_node_made}
 use Rattle.split_terms.specs.Laws.{StepsAreThese}
 use Rattle.split_terms.proofs.SplitsMade.{node-is, split-names-are}
 use Rattle.function_entries.specs.CodeNumbering.{numbered}
-use Rattle.clause_reports.specs.Equations.{part_at, part_name}
+use Rattle.clause_reports.specs.Equations.{part_at, part_name, closed_type}
 use Rattle.clause_reports.specs.ProofTerms.{all_proof_names, goal_node, proof_names, proof_term, proof_terms}
 use Rattle.clause_reports.specs.ProofWalks.{Ends, Splits, Proofs, nil, cons}
-use Rattle.proof_terms.specs.CodeProofs.{all_names_made, body_made, candidate_with, goal_type, name_made, names_made, proof_made, proofs_made, table_made}
+use Rattle.proof_terms.specs.CodeProofs.{all_names_made, body_made, candidate_with, name_made, names_made, proof_made, proofs_made, table_made}
 use Rattle.proof_terms.specs.Laws.{CandidateIsThis, ProofIsTerm, ProofNamesAreThese}
 
 append-append : {A : Type 0} (xs ys zs : List A) → (xs ++ ys) ++ zs ≡ xs ++ (ys ++ zs)
@@ -67,9 +67,9 @@ candidate-is S these plan k clause e proof d h =
     let table = with_names [] (proof_names S L proof) in
     let number = number_in base table in
     let same = sym (ok_is names.2) ∙ ap (with_names []) (proof-names-are S these L proof [] names.0 names.1) in
-    let second = if-both (body_made S number L e proof) (numbered name base table (goal_type L e)) d
+    let second = if-both (body_made S number L e proof) (numbered name base table (closed_type L e)) d
     (transport (λ table. candidate_with S name L e proof table ≡ Ok d) same first.2) in
     let third = if-both (proof_made S number L proof) (λ t. Ok (functions e.context t)) second.0 second.1 in
-    ap (numbered name base table (goal_type L e))
+    ap (numbered name base table (closed_type L e))
     (sym (ap (functions e.context) (proof-is S these number L proof third.0 third.1)) ∙ ok_is third.2)
     ∙ second.2

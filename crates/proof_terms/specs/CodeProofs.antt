@@ -2,15 +2,15 @@
 -- or the term of the candidate is too high.
 use Rattle.std.specs.Prelude.{ℕ, ◌+◌, List, [], ◌∷◌, ◌++◌, length, codes, decimal, Result, Ok}
 use Rattle.theory.specs.Terms.{Term}
-use Rattle.theory.specs.Telescopes.{products, functions}
-use Rattle.theory.specs.Signatures.{Signature, equation, reflexivity}
+use Rattle.theory.specs.Telescopes.{functions}
+use Rattle.theory.specs.Signatures.{Signature, reflexivity}
 use Rattle.core_terms.specs.Answers.{and_then}
 use Rattle.core_terms.specs.declared.stop.Stop.{Stop}
 use Rattle.core_sig.specs.Drafts.{Draft}
 use Rattle.tree_translation.specs.Naming.{Naming, number_in, with_names}
 use Rattle.split_terms.specs.CodeSplits.{split_names_made, split_node_made}
 use Rattle.function_entries.specs.CodeNumbering.{numbered}
-use Rattle.clause_reports.specs.Equations.{Equation}
+use Rattle.clause_reports.specs.Equations.{Equation, closed_type}
 use Rattle.clause_reports.specs.ProofTerms.{goal_node}
 use Rattle.clause_reports.specs.ProofWalks.{Proof, Ends, Splits, Proofs, nil, cons}
 
@@ -43,16 +43,13 @@ abbrev mutual
 abbrev pub table_made : Signature → (L : ℕ) → Proof → Result (List (List ℕ)) Stop
 table_made S L proof = and_then (names_made S L proof []) (λ names. Ok (with_names [] names))
 
-abbrev pub goal_type : (L : ℕ) → Equation → Term
-goal_type L e = products e.context (equation L e.type e.left e.right)
-
 -- the closed term of a proof, with the numbers of these names
 abbrev pub body_made : Signature → Naming → (L : ℕ) → Equation → Proof → Result Term Stop
 body_made S number L e proof = and_then (proof_made S number L proof) (λ t. Ok (functions e.context t))
 
 abbrev pub candidate_with : Signature → (name : List ℕ) (L : ℕ) → Equation → Proof → (table : List (List ℕ)) → Result Draft Stop
 candidate_with S name L e proof table =
-    and_then (body_made S (number_in (length S.entries) table) L e proof) (numbered name (length S.entries) table (goal_type L e))
+    and_then (body_made S (number_in (length S.entries) table) L e proof) (numbered name (length S.entries) table (closed_type L e))
 
 abbrev pub candidate_made : Signature → (name : List ℕ) (L : ℕ) → Equation → Proof → Result Draft Stop
 candidate_made S name L e proof = and_then (table_made S L proof) (candidate_with S name L e proof)

@@ -1,10 +1,11 @@
-ghost use Rattle.std.specs.Prelude.{◌≡◌, [], Ok, length};
+ghost use Rattle.std.specs.Prelude.{[], Ok};
 ghost use Rattle.core_terms.specs.Answers.{Gives};
 ghost use Rattle.core_terms.specs.Meanings.{tree_of};
 ghost use Rattle.core_sig.specs.Drafts.{draft_of};
 ghost use Rattle.run_terms.specs.CodeNaming.{naming_of};
 ghost use Rattle.proof_terms.specs.CodeProofs as spec;
 ghost use Rattle.proof_terms.specs.ProofMeanings.{goal_of, proof_of};
+ghost use Rattle.clause_reports.specs.Equations.{closed_type};
 
 use crate::proof::Proof;
 use crate::terms::{equation, proof_names, proof_term};
@@ -33,7 +34,7 @@ fn table_of(alloc: Global, sig: &Signature, level: u8, proof: &Proof) -> Result<
 
 /// `(context) -> Eq.L type left right`.
 fn goal_type(alloc: Global, level: u8, e: Goal) -> Result<Term, Stop>
-    ensures { Gives tree_of result (Ok (spec.goal_type level (goal_of e.entry))) }
+    ensures { Gives tree_of result (Ok (closed_type level (goal_of e.entry))) }
 {
     let context = copy_tele(alloc, e.ctx)?;
     let end = equation(alloc, level, e.ty, e.left, e.right)?;

@@ -25,7 +25,7 @@ use Rattle.elaboration.specs.Refusals.{of_tree}
 use Rattle.elaboration.specs.Walking.{Opened}
 use Rattle.resolve.specs.Functions.{Function}
 use Rattle.refusal_laws.specs.Causes.{Caused, EndCause, of_walk, of_split, IsEnd, IsPartAt, IsUncovered, NoneMatches}
-use Rattle.refusal_laws.specs.Parts.{with_own}
+use Rattle.written_functions.specs.Clauses.{with_own}
 
 -- ---- what is apart is not matched
 

@@ -27,12 +27,12 @@ use Rattle.function_lines.specs.FunctionMade.{all_entered, checked_entered, clau
 use Rattle.resolve.specs.Functions.{Function}
 use Rattle.refusal_laws.specs.Causes.{Caused, no_sort, too_high}
 use Rattle.refusal_laws.specs.Laws.{BeginsClosed, MeantIsCaused, RefusalIsCaused}
-use Rattle.refusal_laws.specs.Parts.{with_own}
 use Rattle.refusal_laws.proofs.Chains.{Refuses, granted-caused, halts-caused, next-refuses, refused-err, report-caused}
 use Rattle.refusal_laws.proofs.PlanCauses.{plan-caused, plan-meant}
 use Rattle.refusal_laws.proofs.Rejections.{entering-rejects, mentioning-rejects}
 use Rattle.refusal_laws.proofs.ReportCauses.{made-rejects, report-rejects}
 use Rattle.refusal_laws.proofs.WalkCauses.{splits-any}
+use Rattle.written_functions.specs.Clauses.{with_own}
 
 level-caused : (S : Signature) (f : Function) (T : Signature) (sort : Term) → IfErr (function_level T sort) (Caused S f)
 level-caused S f T (Sort J) = by (nat_lt greatest_level J) refl

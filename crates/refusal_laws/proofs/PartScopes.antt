@@ -9,8 +9,9 @@ use Rattle.function_lines.specs.Conditions.{IsFunctionOver}
 use Rattle.function_lines.specs.FunctionMade.{session_at}
 use Rattle.resolve.specs.Functions.{Function}
 use Rattle.theory.specs.Signatures.{Signature}
-use Rattle.refusal_laws.specs.Parts.{IsPartOf, own, helper, with_own}
+use Rattle.refusal_laws.specs.Parts.{IsPartOf, own, helper}
 use Rattle.written_functions.proofs.PartScopes.{IsWalkable, helper-walkable}
+use Rattle.written_functions.specs.Clauses.{with_own}
 
 pub part-walkable : (S : Signature) (f : Function) (k : ℕ) (part : Opened) (clauses : Clauses) → IsFunctionOver (with_own S f) f → IsPartOf S f k part clauses
     → IsWalkable (with_own S f) part clauses

@@ -37,11 +37,12 @@ use Rattle.function_session.specs.Laws.{inner}
 use Rattle.leaf_terms.specs.RecursionMade.{made_at}
 use Rattle.resolve.specs.Functions.{Function}
 use Rattle.refusal_laws.specs.Causes.{Caused, IsPartAt, of_split}
-use Rattle.refusal_laws.specs.Parts.{IsTreeStart, from_columns, from_order, own, with_own}
+use Rattle.refusal_laws.specs.Parts.{IsTreeStart, from_columns, from_order, own}
 use Rattle.refusal_laws.proofs.Chains.{Refuses, halts-caused, next-refuses, refused, walking-caused}
 use Rattle.refusal_laws.proofs.Ends.{end-caused}
 use Rattle.refusal_laws.proofs.PartScopes.{part-walkable}
 use Rattle.refusal_laws.proofs.WalkCauses.{AreHelpers, GivesHelpers, all-from, all-listed, clauses-caused, halting-is, splits-any}
+use Rattle.written_functions.specs.Clauses.{with_own}
 
 -- ---- trees
 

@@ -36,11 +36,12 @@ use Rattle.function_lines.specs.FunctionMade.{session_at}
 use Rattle.function_session.specs.Laws.{inner, inner_of, inner_right}
 use Rattle.resolve.specs.Functions.{Function}
 use Rattle.refusal_laws.specs.Causes.{Caused, IsPartAt, another_type, no_sort, no_type, of_walk, too_high}
-use Rattle.refusal_laws.specs.Parts.{clause_lists, helper, with_own}
+use Rattle.refusal_laws.specs.Parts.{helper}
 use Rattle.refusal_laws.proofs.Chains.{Refuses, granted-caused, halts-caused, next-refuses, splits-is, walking-caused}
 use Rattle.refusal_laws.proofs.Ends.{end-caused}
 use Rattle.refusal_laws.proofs.PartScopes.{part-walkable}
 use Rattle.written_functions.proofs.PartScopes.{clause-resolved}
+use Rattle.written_functions.specs.Clauses.{with_own, parts_of}
 
 -- ---- numbers
 
@@ -58,15 +59,15 @@ second-part (x ∷ xs) ys i a e =
 
 -- the lists of clauses of a function, from number `next` on
 abbrev AreListed : Function → (next : ℕ) → List Clauses → Type 0
-AreListed f next lists = (i : ℕ) (cs : Clauses) → slice_get lists i ≡ Some cs → slice_get (clause_lists f) (next + i) ≡ Some cs
+AreListed f next lists = (i : ℕ) (cs : Clauses) → slice_get lists i ≡ Some cs → slice_get (parts_of f) (next + i) ≡ Some cs
 
-listed-first : (f : Function) (next : ℕ) (cs : Clauses) (lists : List Clauses) → AreListed f next (cs ∷ lists) → slice_get (clause_lists f) next ≡ Some cs
+listed-first : (f : Function) (next : ℕ) (cs : Clauses) (lists : List Clauses) → AreListed f next (cs ∷ lists) → slice_get (parts_of f) next ≡ Some cs
 listed-first f next cs lists h =
-    transport (λ n. slice_get (clause_lists f) n ≡ Some cs) (let same : next + 0 ≡ next = omega arith in same) (h 0 cs refl)
+    transport (λ n. slice_get (parts_of f) n ≡ Some cs) (let same : next + 0 ≡ next = omega arith in same) (h 0 cs refl)
 
 listed-rest : (f : Function) (next : ℕ) (cs : Clauses) (lists : List Clauses) → AreListed f next (cs ∷ lists) → AreListed f (next + 1) lists
 listed-rest f next cs lists h =
-    λ i c e. transport (λ n. slice_get (clause_lists f) n ≡ Some c) (let same : next + suc i ≡ next + 1 + i = omega arith in same) (h (suc i) c e)
+    λ i c e. transport (λ n. slice_get (parts_of f) n ≡ Some c) (let same : next + suc i ≡ next + 1 + i = omega arith in same) (h (suc i) c e)
 
 listed-left : (f : Function) (next : ℕ) (xs ys : List Clauses) → AreListed f next (xs ++ ys) → AreListed f next xs
 listed-left f next xs ys h = λ i c e. h i c (first-part xs ys i c e)
@@ -74,11 +75,11 @@ listed-left f next xs ys h = λ i c e. h i c (first-part xs ys i c e)
 listed-right : (f : Function) (next count : ℕ) (xs ys : List Clauses) → count ≡ length xs → AreListed f next (xs ++ ys) → AreListed f (next + count) ys
 listed-right f next count xs ys same h =
     λ i c e.
-    transport (λ n. slice_get (clause_lists f) n ≡ Some c) (let moved : next + (length xs + i) ≡ next + count + i = omega (arith, same) in moved)
+    transport (λ n. slice_get (parts_of f) n ≡ Some c) (let moved : next + (length xs + i) ≡ next + count + i = omega (arith, same) in moved)
     (h (length xs + i) c (second-part xs ys i c e))
 
 pub all-listed : (f : Function) → AreListed f 1 (inner f.clauses)
-all-listed f = λ i c e. transport (λ n. slice_get (clause_lists f) n ≡ Some c) (let same : suc i ≡ 1 + i = omega arith in same) e
+all-listed f = λ i c e. transport (λ n. slice_get (parts_of f) n ≡ Some c) (let same : suc i ≡ 1 + i = omega arith in same) e
 
 -- the clauses of a part from a number on
 abbrev AreFrom : (all : Clauses) → (number : ℕ) → Clauses → Type 0

@@ -40,14 +40,15 @@ use Rattle.elaboration.specs.Refusals.{FailingCall, Part, Refusal, ill_typed, le
 use Rattle.elaboration.specs.Walking.{Given, Opened, greatest_level, walk_clauses}
 use Rattle.function_lines.specs.FunctionMade.{session_at}
 use Rattle.resolve.specs.Functions.{Function}
-use Rattle.refusal_laws.specs.Parts.{IsPartOf, IsTreeStart, clause_lists, with_own}
+use Rattle.refusal_laws.specs.Parts.{IsPartOf, IsTreeStart}
+use Rattle.written_functions.specs.Clauses.{with_own, parts_of}
 
 -- ---- where it ends
 
 -- part k of a function with its clauses, which are the k-th list of clauses in the text
 pub record IsPartAt (S : Signature) (f : Function) (k : ℕ) (part : Opened) (clauses : Clauses) : Type 0 where
   pub is : IsPartOf S f k part clauses
-  pub listed : slice_get (clause_lists f) k ≡ Some clauses
+  pub listed : slice_get (parts_of f) k ≡ Some clauses
 
 -- What ends the own walk of a clause of the part, or the tree of its clauses.
 pub data EndCause (S : Signature) (f : Function) (k : ℕ) (part : Opened) (clauses : Clauses) (e : TreeStop) : Type 0 where

@@ -15,7 +15,7 @@ use Rattle.resolve.specs.Functions.{Function, function, resolve_fun}
 use Rattle.surface_syntax.specs.Trees.{Decl}
 use Rattle.tree_translation.specs.Recursion.{order_of, ordered_telescope}
 use Rattle.refusal_laws.specs.Causes.{AreFailing, Caused, IsDenied, IsEnd, IsIllTyped, IsMismatch, IsUncovered}
-use Rattle.refusal_laws.specs.Parts.{with_own}
+use Rattle.written_functions.specs.Clauses.{with_own}
 
 -- what is said of each refusal of a resolved function, as the code elaborates it
 abbrev pub OfRefusals : (Signature → Function → Refusal → Type 0) → Type 0

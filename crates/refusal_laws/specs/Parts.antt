@@ -1,8 +1,7 @@
 -- The parts of a function by clauses: the function itself, and a helper for each `with`.
-use Rattle.std.specs.Prelude.{◌≡◌, ◌<◌, ℕ, Option, Some, Ok, List, ◌∷◌, length}
+use Rattle.std.specs.Prelude.{◌≡◌, ◌<◌, ℕ, Option, Some, Ok, List, length}
 use Rattle.theory.specs.Terms.{Term}
 use Rattle.theory.specs.Signatures.{Signature}
-use Rattle.theory.specs.WellFormed.{provisional}
 use Rattle.core_terms.specs.CaseTrees.{Walk}
 use Rattle.core_terms.specs.Clauses.{Clauses, Is, With}
 use Rattle.core_terms.specs.Patterns.{Pats}
@@ -16,16 +15,8 @@ use Rattle.elaboration.specs.Functions.{own_part, recursion_in}
 use Rattle.elaboration.specs.Refusals.{owner_of}
 use Rattle.elaboration.specs.Walking.{Opened, Opening, open_over, opened}
 use Rattle.function_lines.specs.FunctionMade.{session_at}
-use Rattle.function_session.specs.Laws.{inner}
 use Rattle.resolve.specs.Functions.{Function}
-
--- the signature over which a function's clauses are: the function is a provisional constant after the entries of S
-abbrev pub with_own : Signature → Function → Signature
-with_own S f = provisional S f.name f.type
-
--- the clauses of each part: those of the function, and then those inside each `with`, in the order of the text
-abbrev pub clause_lists : Function → List Clauses
-clause_lists f = f.clauses ∷ inner f.clauses
+use Rattle.written_functions.specs.Clauses.{with_own}
 
 -- Part k with its clauses. Part 0 is the function itself. The scrutinee of a clause opens a helper over the clause's own walk: its clauses
 -- are those inside the `with`.

@@ -40,7 +40,7 @@ use Rattle.clause_reports.specs.Reports.{Reference, Reported, order_in, report_o
 use Rattle.clause_reports.proofs.Keeping.{Grows, grows_on, grows_same, weaker}
 use Rattle.clause_reports.proofs.ReportKeeping.{GrowsBy, report-grows}
 use Rattle.plan_drafts.specs.Laws.{IsPlanFor}
-use Rattle.plan_laws.specs.Laws.{BeginsClosed, IsPlanOf, PlanIsOfFunction, PlanIsPlanned}
+use Rattle.plan_laws.specs.Laws.{IsPlanOf, PlanIsOfFunction, PlanIsPlanned}
 use Rattle.plan_laws.specs.MadePlans.{PlanIsMade}
 use Rattle.plan_laws.proofs.Answering.{if-ok}
 use Rattle.plan_laws.proofs.ExactPlans.{domains-low}
@@ -57,6 +57,7 @@ use Rattle.report_laws.proofs.LeafSites.{leaves-over, own-over}
 use Rattle.report_laws.proofs.MadeReports.{report-is_made}
 use Rattle.report_laws.proofs.NamedEntries.{defined-on}
 use Rattle.report_laws.proofs.OwnWalks.{own-walk}
+use Rattle.order_scopes.specs.Laws.{BeginsClosed}
 
 pub ready-of : (S : Signature) → IsWellFormed S → HasPrelude S → IsReady S
 ready-of S formed first = record {

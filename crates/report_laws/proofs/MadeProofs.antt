@@ -37,10 +37,10 @@ use Rattle.run_laws.proofs.AnsweredSplits.{IsSplitOver, branch-run, branch-there
 use Rattle.run_laws.proofs.MadeSplits.{split-only_deep, split_names-only_deep}
 use Rattle.run_laws.proofs.RunEnds.{end-low}
 use Rattle.function_entries.specs.CodeNumbering.{names_at, numbered, places_of}
-use Rattle.clause_reports.specs.Equations.{Equation, part_at, part_name}
+use Rattle.clause_reports.specs.Equations.{Equation, part_at, part_name, closed_type}
 use Rattle.clause_reports.specs.ProofTerms.{all_proof_names, candidate, goal_node, proof_names, proof_term, proof_terms}
 use Rattle.clause_reports.specs.ProofWalks.{Place, Proof, Ends, Splits, Proofs, nil, cons}
-use Rattle.proof_terms.specs.CodeProofs.{all_names_made, body_made, candidate_made, candidate_with, goal_type, name_made, names_made, proof_made, proofs_made, table_made}
+use Rattle.proof_terms.specs.CodeProofs.{all_names_made, body_made, candidate_made, candidate_with, name_made, names_made, proof_made, proofs_made, table_made}
 use Rattle.proof_terms.proofs.ProofsMade.{candidate-is}
 use Rattle.proof_walks.specs.PlaceScopes.{IsScopedPlace}
 use Rattle.report_laws.proofs.WalkedProofs.{AreFrom, AreProofs, IsProof, from-first, from-next}
@@ -275,7 +275,7 @@ candidate-deep S name L e proof =
     (and_then-deep (names_made S L proof []) _ (names-deep S L proof []) (λ names. ok-deep _)) (λ table.
     and_then-deep (body_made S (number_in (length S.entries) table) L e proof) _
     (and_then-deep (proof_made S (number_in (length S.entries) table) L proof) _ (proof-deep S (number_in (length S.entries) table) L proof) (λ t. ok-deep _)) (λ body.
-    numbered-deep name (length S.entries) table (goal_type L e) body))
+    numbered-deep name (length S.entries) table (closed_type L e) body))
 
 -- ---- the candidate
 
@@ -305,10 +305,10 @@ module _ (S : Signature) (ready : IsReady S) (plan : Plan) (k clause : ℕ) (e :
       let number = number_in base table in
       let body = functions e.context (proof_term S number L proof) in
       let low : height (proof_term S number L proof) ≤ 2000 =
-      (low-functions e.context (proof_term S number L proof) (body-low name base table (goal_type L e) body d h)).1 in
+      (low-functions e.context (proof_term S number L proof) (body-low name base table (closed_type L e) body d h)).1 in
       ap (λ (r : Result (List (List ℕ)) Stop). and_then (and_then r (λ names. Ok (with_names [] names))) (candidate_with S name L e proof))
       (names-there S ready L number proof is low [])
-      ∙ (ap (λ (r : Result Term Stop). and_then (and_then r (λ t. Ok (functions e.context t))) (numbered name base table (goal_type L e)))
+      ∙ (ap (λ (r : Result Term Stop). and_then (and_then r (λ t. Ok (functions e.context t))) (numbered name base table (closed_type L e)))
       (proof-there S ready L number proof is low)
       ∙ h)
 
@@ -327,5 +327,5 @@ module _ (S : Signature) (ready : IsReady S) (plan : Plan) (k clause : ℕ) (e :
           let base = length S.entries in
           let table = with_names [] (proof_names S L proof) in
           let body = functions e.context (proof_term S (number_in base table) L proof) in
-          let second : y ≡ Deep = numbered-deep (name_made (part_name plan k) clause) base table (goal_type L e) body y is_meant in
+          let second : y ≡ Deep = numbered-deep (name_made (part_name plan k) clause) base table (closed_type L e) body y is_meant in
           ap (λ (e : Stop). Err e) (first ∙ sym second)

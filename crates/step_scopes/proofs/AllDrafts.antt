@@ -25,10 +25,11 @@ use Rattle.draft_scopes.specs.Laws.{IsOrdered}
 use Rattle.draft_scopes.proofs.RenumberedDrafts.{motive_scoped}
 use Rattle.own_scopes.proofs.PlainFunctions.{plain_function_scoped}
 use Rattle.own_scopes.proofs.RecursiveFunctions.{recursive_function_scoped}
-use Rattle.step_scopes.specs.Laws.{IsReadyFor, BeginsClosed, DraftsScopedAfterPrelude, HelperScoped, StepScoped}
+use Rattle.step_scopes.specs.Laws.{IsReadyFor, DraftsScopedAfterPrelude, HelperScoped, StepScoped}
 use Rattle.step_scopes.proofs.BelowTypes.{below-there, below-last, with_below-there}
 use Rattle.step_scopes.proofs.PartDrafts.{IsRootOf, part-draft}
 use Rattle.step_scopes.proofs.PlanOrders.{order-there, plan-ordered}
+use Rattle.order_scopes.specs.Laws.{BeginsClosed}
 
 -- ---- the step
 

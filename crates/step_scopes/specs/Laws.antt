@@ -1,16 +1,16 @@
 -- Scopes of all entries of a function.
-use Rattle.std.specs.Prelude.{◌≡◌, ℕ, ◌+◌, true, Some, Ok, List, length, slice_get, All}
+use Rattle.std.specs.Prelude.{◌≡◌, ℕ, ◌+◌, Some, Ok, List, slice_get, All}
 use Rattle.theory.specs.Prelude.{prelude}
 use Rattle.theory.specs.Signatures.{Signature, IsPrefix}
 use Rattle.core_sig.specs.Drafts.{Draft}
 use Rattle.core_sig.specs.ScopedDrafts.{IsScopedDraft}
 use Rattle.unification.specs.ScopedStates.{IsReady}
-use Rattle.order_scopes.specs.Laws.{begins_closed}
 use Rattle.tree_translation.specs.Conditions.{with_function, IsPlanned}
 use Rattle.tree_translation.specs.Entries.{helper_entry, step_entry, translate}
-use Rattle.tree_translation.specs.Plans.{Plan, Part, own_part}
-use Rattle.tree_translation.specs.Recursion.{Recursion, order_of, ordered_telescope, recursion_of}
+use Rattle.tree_translation.specs.Plans.{Plan, Part}
+use Rattle.tree_translation.specs.Recursion.{Recursion, recursion_of}
 use Rattle.draft_scopes.specs.Laws.{IsOrdered}
+use Rattle.order_scopes.specs.Laws.{BeginsClosed}
 
 -- What is asked beyond a plan: the signature begins with the prelude, and it is ready together with the function.
 pub record IsReadyFor (S : Signature) (plan : Plan) : Type 0 where
@@ -18,11 +18,7 @@ pub record IsReadyFor (S : Signature) (plan : Plan) : Type 0 where
   pub first : IsPrefix (prelude S.has_k) S
   pub planned : IsPlanned S plan
 
--- the telescope in the order of recursion begins with a type over no variables
-abbrev pub BeginsClosed : Signature → Plan → Type 0
-BeginsClosed S plan = (let tele = (own_part plan).tele in begins_closed (ordered_telescope tele (order_of (length tele) (recursion_of S plan)))) ≡ true
-
--- Then its types are each over those before it, and the goal is over them.
+-- Where the telescope begins with a type over no variables in the order of recursion, its types are each over those before it, and the goal is over them.
 abbrev pub PlanOrdered : Type 0
 PlanOrdered = (S : Signature) (plan : Plan) (r : Recursion) → IsPlanned S plan → recursion_of S plan ≡ Some r → BeginsClosed S plan → IsOrdered S plan r
 

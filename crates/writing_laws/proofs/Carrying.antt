@@ -19,7 +19,6 @@ use Rattle.clause_reports.specs.DraftEntering.{Mention, Eliminates, AssumesK, Na
 use Rattle.clause_reports.specs.Equations.{part_named}
 use Rattle.clause_reports.specs.Generated.{Generated, name_of, generated_by, generated_draft}
 use Rattle.clause_reports.specs.Stops.{Halts, Reporting, answers, or_halts, or_rejected, entering}
-use Rattle.draft_entering.specs.Conditions.{IsDefinition}
 use Rattle.draft_entering.specs.Depths.{entry_own_name}
 use Rattle.draft_entering.specs.Tables.{IsListed, names_by, IsMadeOf}
 use Rattle.draft_entering.proofs.TableLookups.{found-listed, generated-made}

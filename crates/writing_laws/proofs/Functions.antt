@@ -21,16 +21,15 @@ use Rattle.function_entries.specs.CodeEntries.{translate_made}
 use Rattle.translation_laws.proofs.MadeEntries.{translate_made-is_entries}
 use Rattle.clause_reports.specs.DraftEntering.{enter_draft_of, enter_needed, enter_mention, Names}
 use Rattle.clause_reports.specs.Equations.{part_named}
-use Rattle.clause_reports.specs.Reports.{Reported}
 use Rattle.clause_reports.specs.Stops.{ReportStop}
 use Rattle.draft_checks.specs.Checks.{enterable, unmarked}
 use Rattle.clause_lines.specs.CodeReports.{report_made}
 use Rattle.elaboration.specs.Functions.{ClauseLine, Lines, own_part}
-use Rattle.elaboration.specs.Refusals.{Owner, Halts, Elaborating, answers, or_halts, owner_of, or_no_report, reporting}
+use Rattle.elaboration.specs.Refusals.{Owner, Halts, answers, or_halts, owner_of, or_no_report, reporting}
 use Rattle.elaboration.specs.Walking.{Session, Walked, walk_clauses}
 use Rattle.function_plans.specs.CodePlans.{chosen_made, parts_made, plan_made}
 use Rattle.function_lines.specs.FunctionMade.{level_of, session_at, plan_over, checked_entered, draft_entered, drafts_entered, values_name, values_entered, translated, plan_entered, clause_line, reference_of, clause_reported, walks_reported, parts_reported, function_made}
-use Rattle.writing_laws.proofs.Carrying.{Any, any, skip, EntryIs, DraftIs, After, Keeps, enter_draft-is, enter_needed-is, enter_mention-is}
+use Rattle.writing_laws.proofs.Carrying.{skip, DraftIs, After, Keeps, enter_draft-is, enter_needed-is, enter_mention-is}
 use Rattle.writing_laws.proofs.Reporting.{Told, ordered-made, report-is}
 
 halting-has : {A : Type 0} (Q : A → Type 0) (r : Result A Stop) → IfOk r Q → IfOk (or_halts r) Q

@@ -1,12 +1,11 @@
 -- What enters a signature shows no term that is too high to be read.
-use Rattle.std.proofs.Common.{◌≡◌, ◌⊎◌, inl, inr, ℕ, zero, suc, ◌+◌, ◌≤◌, ◌<◌, ◌^◌, Bool, true, false, List, [], ◌∷◌, length, zip, All, Option, Some, None, Result, Ok, Err, IfOk, refl, sym, ap, ap₂, ◌∙◌, subst, arith}
+use Rattle.std.proofs.Common.{◌≡◌, ◌⊎◌, inl, inr, ℕ, zero, suc, ◌+◌, ◌≤◌, ◌<◌, ◌^◌, Bool, true, false, List, [], ◌∷◌, length, zip, All, Option, Some, None, Result, Ok, Err, IfOk, refl, sym, ap, ap₂, ◌∙◌, subst}
 use Rattle.std.specs.Prelude.{nat_lt, ◌&&◌, position}
 use Rattle.std.proofs.lemmas.List.Elements.{All-nil, All-cons}
-use Rattle.theory.specs.Terms.{Term, Sort, Const, Var, height, top}
+use Rattle.theory.specs.Terms.{Term, Sort, Const, height, top}
 use Rattle.theory.specs.Eliminators.{eliminator_type}
 use Rattle.theory.specs.Families.{Constructor, Family, family_head}
 use Rattle.theory.specs.Telescopes.{Context, Telescope, context_behind, products, applied, weaken_by}
-use Rattle.theory.specs.Prelude.{prelude}
 use Rattle.theory.specs.Signatures.{Entry, FamilyOf, EliminatorAt, AxiomKAt, Definition, Signature, IsEntryAt, axiom_k_type}
 use Rattle.theory.specs.WellFormed.{pushed}
 use Rattle.theory.proofs.Pushing.{entry_of-pushed}
@@ -19,12 +18,12 @@ use Rattle.core_terms.proofs.LeadingProducts.{products-of_parts}
 use Rattle.core_sig.specs.Instances.{is_eliminator, is_axiom_k}
 use Rattle.core_sig.specs.Raw.{RawConstructor, RawFamily, raw_names}
 use Rattle.core_text.specs.RawEntries.{type_shown, constructor_type_shown}
-use Rattle.kernel_reduce.specs.Reduction.{charge, nesting, whnf_of}
+use Rattle.kernel_reduce.specs.Reduction.{charge, nesting}
 use Rattle.kernel_reduce.proofs.Answers.{if_low-has}
-use Rattle.kernel_check.specs.Checking.{infer_form, infer_of, infer_sort_of, check_of, compared}
+use Rattle.kernel_check.specs.Checking.{infer_form, infer_of, infer_sort_of, check_of}
 use Rattle.kernel_check.specs.Laws.{IfYes}
 use Rattle.family_check.specs.Asking.{sort_in, type_in}
-use Rattle.family_check.specs.Entering.{Entered, are_new, declare_of, enter_instance, unless_there, instance_of, axiom_k_of, check_definition, define_of}
+use Rattle.family_check.specs.Entering.{are_new, declare_of, enter_instance, unless_there, instance_of, axiom_k_of, check_definition, define_of}
 use Rattle.family_check.specs.Families.{Role, level_in, levels_of, family_level, declare_type, on_targets, declare_constructor, declare_constructors, declare_family}
 use Rattle.family_check.specs.Families.Role.{Parameter, Index, ArgumentOf}
 use Rattle.family_check.specs.Families as families
@@ -37,7 +36,7 @@ use Rattle.family_check.proofs.Shapes.{IsShaped, targets-shaped, telescope-of, a
 use Rattle.family_check.proofs.Zips.{zip-firsts}
 use Rattle.program_laws.specs.CoreFiles.{IsLowEntry}
 use Rattle.writing_laws.specs.Writing.{AreLow}
-use Rattle.writing_laws.proofs.Carrying.{Any, any, skip, After}
+use Rattle.writing_laws.proofs.Carrying.{skip, After}
 
 -- ---- terms
 

@@ -1,7 +1,7 @@
 -- The name of a family or a function with `!` and more after it is one that a core file may declare, where what follows its
 -- last `!` is neither that of an eliminator nor that of K.
-use Rattle.std.proofs.Common.{◌≡◌, ◌⊎◌, inl, inr, ℕ, zero, suc, ◌+◌, ◌*◌, ◌/◌, ◌%◌, ◌<◌, Bool, true, false, cond, List, [], ◌∷◌, ◌++◌, length, drop, refl, sym, ap, ap₂, ◌∙◌, subst, append_assoc, arith}
-use Rattle.std.specs.Prelude.{◌==◌, ◌||◌, ◌&&◌, nat_lt, if◌then◌else◌, Option, Some, None, option_and_then, bytes_eq, codes, decimal}
+use Rattle.std.proofs.Common.{◌≡◌, ◌⊎◌, inl, inr, ℕ, zero, suc, ◌+◌, ◌/◌, ◌%◌, ◌<◌, Bool, true, false, List, [], ◌∷◌, ◌++◌, length, drop, refl, sym, ap, ap₂, ◌∙◌, subst, append_assoc, arith}
+use Rattle.std.specs.Prelude.{◌==◌, ◌||◌, nat_lt, if◌then◌else◌, Option, Some, None, option_and_then, bytes_eq, codes, decimal}
 use Rattle.std.specs.Fmt.{digits, digits_onto, digit_glyph}
 use Rattle.std.specs.List.{list_all, list_any}
 use Rattle.std.specs.Option.{is_some}
@@ -9,7 +9,6 @@ use Rattle.std.specs.Str.{is_utf8, chars, encode_utf8_all, IsUtf8}
 use Rattle.std.proofs.Math.Seq.{drop-append_seam}
 use Rattle.std.proofs.lemmas.Bool.{and_parts, and_from, false≢true, eq-eqb}
 use Rattle.std.proofs.lemmas.Bool.Decides.{nat_tests}
-use Rattle.std.proofs.lemmas.Fmt.{decimal_digit}
 use Rattle.std.proofs.lemmas.List.Folds.{list_any-append}
 use Rattle.std.proofs.lemmas.Str.{IsUtf8-from_is_utf8, encodes-chars, chars-append}
 use Rattle.unicode_ident.specs.Ident.{is_xid_continue}
@@ -24,12 +23,11 @@ use Rattle.surface_syntax.specs.declared.token.TokenKind.TheVariants.{Plain, Dot
 use Rattle.surface_syntax.proofs.TokenLaws.{first_found}
 use Rattle.core_text.specs.DeclaredNames.{shape_by, shape_of, is_generated, is_eliminator_name, is_axiom_k_name}
 use Rattle.core_text.specs.NameRuns.{is_name_char, are_name_chars}
-use Rattle.core_text.specs.PlainNames.{IsPlainName}
 use Rattle.core_text.specs.Reading.{first}
 use Rattle.core_text.specs.SymbolLookup.{number_at_end, before_end}
 use Rattle.core_text.specs.WrittenEntries.{IsDeclarableName}
 use Rattle.core_text.proofs.SymbolsRead.{number-read, word-read, same-bytes}
-use Rattle.core_text.proofs.WholeRuns.{chars-join, number-chars}
+use Rattle.core_text.proofs.WholeRuns.{chars-join}
 
 -- the name holds `!`
 abbrev pub holds_mark : List ℕ → Bool

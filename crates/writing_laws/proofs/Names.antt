@@ -1,34 +1,29 @@
 -- What enters a signature has names that a core file may declare.
-use Rattle.std.proofs.Common.{◌≡◌, ◌⊎◌, inl, inr, ℕ, zero, suc, ◌+◌, ◌*◌, ◌/◌, ◌%◌, ◌<◌, ◌≤◌, Bool, true, false, cond, nat_lt, List, [], ◌∷◌, ◌++◌, length, map, All, Option, Some, None, Result, Ok, Err, IfOk, refl, sym, ap, ap₂, ◌∙◌, subst, append_assoc, arith}
-use Rattle.std.specs.Prelude.{◌==◌, ◌||◌, ◌&&◌, if◌then◌else◌, get_or, slice_get, position, codes, decimal}
+use Rattle.std.proofs.Common.{◌≡◌, ◌⊎◌, inl, inr, ℕ, zero, suc, ◌+◌, ◌*◌, ◌/◌, ◌%◌, ◌<◌, ◌≤◌, Bool, true, false, cond, nat_lt, List, [], ◌∷◌, ◌++◌, length, map, All, Option, Some, None, refl, sym, ap, ◌∙◌, subst, append_assoc, arith}
+use Rattle.std.specs.Prelude.{◌==◌, ◌||◌, ◌&&◌, if◌then◌else◌, get_or, position, codes, decimal}
 use Rattle.std.specs.Fmt.{digits, digits_onto, digit_glyph}
-use Rattle.std.specs.List.{range_with_len}
 use Rattle.std.specs.Str.{is_utf8, chars}
 use Rattle.std.proofs.lemmas.Bool.Decides.{nat_tests}
 use Rattle.std.proofs.lemmas.Fmt.{decimal_digit}
-use Rattle.std.proofs.lemmas.List.Elements.{All-nil, All-cons, All-append}
-use Rattle.std.proofs.lemmas.Option.{slice_get_within, slice_get-get_or}
+use Rattle.std.proofs.lemmas.List.Elements.{All-nil, All-cons}
 use Rattle.unicode_ident.proofs.Computing.{unicode_ident}
 use lib.Utf8.{encode}
 use Rattle.theory.specs.Terms.{Term, top}
 use Rattle.theory.specs.Eliminators.{eliminator_type}
 use Rattle.theory.specs.Families.{Constructor, Family}
-use Rattle.theory.specs.Prelude.{prelude, empty_family, equality_family, unit_family, pair_family, at_levels, level_text}
+use Rattle.theory.specs.Prelude.{prelude, level_text}
 use Rattle.theory.specs.Signatures.{Entry, FamilyOf, EliminatorAt, AxiomKAt, Definition, Signature, IsEntryAt, names_of, axiom_k_type}
 use Rattle.theory.specs.WellFormed.{pushed}
-use Rattle.theory.proofs.Lists.{some_is}
 use Rattle.theory.proofs.Pushing.{entry_of-pushed}
-use Rattle.core_terms.proofs.Answers.{Answers, and_next-has}
+use Rattle.core_terms.proofs.Answers.{Answers}
 use Rattle.core_sig.specs.Drafts.{generated_name}
 use Rattle.core_sig.specs.Instances.{is_eliminator, is_axiom_k}
-use Rattle.core_sig.specs.Raw.{RawFamily, raw_names}
 use Rattle.core_text.specs.NameRuns.{are_name_chars}
-use Rattle.core_text.specs.PlainNames.{IsPlainName, HasPlainFamily, HasPlainNames, NamesStayPlain, PreludeHasPlainNames}
-use Rattle.core_text.specs.Reading.{first}
+use Rattle.core_text.specs.PlainNames.{IsPlainName, HasPlainFamily, HasPlainNames, NamesStayPlain}
 use Rattle.core_text.specs.WrittenEntries.{IsDeclarableName}
 use Rattle.core_text.proofs.WholeRuns.{chars-join, number-chars}
 use Rattle.family_check.specs.Asking.{sort_in, type_in}
-use Rattle.family_check.specs.Entering.{Entered, entered, are_new, check_definition, enter_instance, unless_there, instance_of, axiom_k_of, define_of}
+use Rattle.family_check.specs.Entering.{are_new, check_definition, enter_instance, unless_there, instance_of, axiom_k_of, define_of}
 use Rattle.family_check.specs.Entering as entering
 use Rattle.family_check.specs.Outcomes.{OfType, OfBody}
 use Rattle.noconf_gen.specs.NoConfusionTypes.{constructor_mark, constructor_name}
@@ -39,9 +34,9 @@ use Rattle.clause_reports.specs.Generated as gen
 use Rattle.clause_reports.specs.Generated.{Generated, name_of}
 use Rattle.draft_entering.specs.Tables.{IsListed}
 use Rattle.proof_terms.specs.CodeProofs.{name_made}
-use Rattle.writing_laws.proofs.Carrying.{any, skip, After, if-ok}
-use Rattle.writing_laws.proofs.Marks.{holds_mark, unmarked-join, decimal-unmarked, IsStem, IsSegment, declarable}
-use Rattle.writing_laws.proofs.Stems.{level-is, equality-stem, unit-stem, pair-stem, empty-stem, words-chars, case-chars, below-chars, aux-chars, rec-chars, all-chars, nct-chars, noconf-chars, point-chars, direct-chars, acyclic-chars, left-chars, motive-chars, step-chars, helper-chars, proof-chars, mark-chars, one-mark, level-mark}
+use Rattle.writing_laws.proofs.Carrying.{skip, After}
+use Rattle.writing_laws.proofs.Marks.{holds_mark, unmarked-join, decimal-unmarked, IsStem, declarable}
+use Rattle.writing_laws.proofs.Stems.{equality-stem, case-chars, below-chars, aux-chars, rec-chars, all-chars, nct-chars, noconf-chars, point-chars, direct-chars, acyclic-chars, left-chars, motive-chars, step-chars, helper-chars, proof-chars, mark-chars, one-mark, level-mark}
 
 -- ---- digits
 

@@ -1,5 +1,5 @@
 -- What the entering of a draft keeps is kept by the report of a clause.
-use Rattle.std.proofs.Common.{◌≡◌, ℕ, zero, suc, Bool, true, false, cond, List, [], ◌∷◌, ◌++◌, length, map, get_or, Result, Ok, Err, IfOk, refl}
+use Rattle.std.proofs.Common.{ℕ, Bool, true, false, cond, List, [], ◌∷◌, ◌++◌, length, map, get_or, Result, Ok, Err, IfOk}
 use Rattle.theory.specs.Terms.{Term}
 use Rattle.theory.specs.Telescopes.{Telescope}
 use Rattle.theory.specs.Signatures.{Signature, Definition}
@@ -14,19 +14,19 @@ use Rattle.tree_translation.specs.Naming.{Naming, drafted_in_order, mentions, nu
 use Rattle.tree_translation.specs.Plans.{Plan}
 use Rattle.function_entries.specs.CodeNumbering.{names_at, numbered, places_of}
 use Rattle.clause_reports.specs.DraftEntering.{enter_draft_of}
-use Rattle.clause_reports.specs.Equations.{Equation, part_name, pats_of}
+use Rattle.clause_reports.specs.Equations.{Equation, part_name, pats_of, closed_type}
 use Rattle.clause_reports.specs.ProofWalks.{Place, Proof, leaves_in}
 use Rattle.clause_reports.specs.Reports.{Reference, Reported, some_absurd}
 use Rattle.clause_reports.specs.Reports as reports
 use Rattle.clause_reports.specs.Shadows.{TreeLeaf, vector_of, leaves_of}
-use Rattle.clause_reports.specs.Stops.{Halts, ReportStop, Reporting, answers, or_halts, halting}
+use Rattle.clause_reports.specs.Stops.{Halts, ReportStop, answers, or_halts, halting}
 use Rattle.clause_equations.specs.CodeEquations.{equation_made}
 use Rattle.draft_checks.specs.Checks.{enterable}
 use Rattle.draft_entering.specs.Depths.{own_name}
-use Rattle.proof_terms.specs.CodeProofs.{body_made, goal_type, name_made, table_made}
+use Rattle.proof_terms.specs.CodeProofs.{body_made, name_made, table_made}
 use Rattle.proof_walks.specs.Starts.{walk_made}
 use Rattle.clause_lines.specs.CodeReports.{PlannedClause, Judgement, Known, Candidate, in_plan, equation_converts, converts_at_leaves, if_shadowed, both_match, at_matched, at_vector_made, at_place, is_earlier, shadowed_among, shadowed_made, denies, on_entered, entering_made, candidate_of, proof_judged, unless_converts, equation_judged, judged, on_judged, report_made}
-use Rattle.writing_laws.proofs.Carrying.{Any, any, skip, halts-has, EntryIs, DraftIs, After, Keeps, enter_draft-is}
+use Rattle.writing_laws.proofs.Carrying.{Any, any, skip, halts-has, DraftIs, After, Keeps, enter_draft-is}
 
 -- ---- drafts with a name
 
@@ -66,7 +66,7 @@ module _ (D Own : List ℕ → Type 0) (Few : ℕ → Type 0) (P : Signature →
       let name = name_made (part_name c.plan c.number) c.clause in
       and_then-has Any (DraftIs D) (table_made S c.part.level proof) _ (any (table_made S c.part.level proof)) (λ table u.
       and_then-has Any (DraftIs D) (body_made S (number_in (length S.entries) table) c.part.level e proof) _ (any (body_made S (number_in (length S.entries) table) c.part.level e proof)) (λ body v.
-      renumbered-made D name (length S.entries) table (goal_type c.part.level e) body (keeps.proof c.plan.name c.number c.clause h.0 h.1)))
+      renumbered-made D name (length S.entries) table (closed_type c.part.level e) body (keeps.proof c.plan.name c.number c.clause h.0 h.1)))
 
   -- ---- shadowed clauses
 

@@ -1,13 +1,13 @@
 -- What definitions, families and instances keep is kept by a declaration that is accepted.
-use Rattle.std.proofs.Common.{◌≡◌, ℕ, suc, ◌<◌, Bool, true, false, List, [], ◌∷◌, ◌++◌, length, map, Result, Ok, Err, IfOk, refl, sym, ap, subst}
+use Rattle.std.proofs.Common.{◌≡◌, ℕ, suc, ◌<◌, Bool, true, false, List, [], ◌∷◌, ◌++◌, length, Result, Ok, Err, IfOk, refl, sym, ap, subst}
 use Rattle.std.specs.Prelude.{◌||◌, if◌then◌else◌, is_some, bytes_eq}
 use Rattle.std.specs.List.{list_any}
-use Rattle.theory.specs.Terms.{Term, Fam, Const}
+use Rattle.theory.specs.Terms.{Fam, Const}
 use Rattle.theory.specs.Signatures.{Signature}
 use Rattle.core_terms.specs.Answers.{and_then}
-use Rattle.core_terms.proofs.Answers.{Answers, and_then-has, and_then-is}
+use Rattle.core_terms.proofs.Answers.{Answers, and_then-has}
 use Rattle.core_sig.specs.Names.{find}
-use Rattle.core_sig.specs.Raw.{RawConstructor, RawFamily, raw_names}
+use Rattle.core_sig.specs.Raw.{RawConstructor, RawFamily}
 use Rattle.core_text.specs.RawEntries.{RawEntry, RawFamilyOf, RawEliminator, RawAxiomK, RawDefinition}
 use Rattle.surface_syntax.specs.Trees as surf
 use Rattle.surface_syntax.specs.declared.tree.Word.{Word}
@@ -27,7 +27,7 @@ use Rattle.elab_session.specs.Declaring.{Declared}
 use Rattle.elab_session.specs.Entering.{checked}
 use Rattle.elab_session.proofs.Resolved.{declare-has, or_unresolved-has}
 use Rattle.elab_session.specs.declared.refusal.Refusal.{Refusal}
-use Rattle.function_session.specs.Elaborating.{Elaborated, Refused, without_lines, on_lines, on_function, enter_function, elaborate_of}
+use Rattle.function_session.specs.Elaborating.{without_lines, on_lines, on_function, enter_function, elaborate_of}
 use Rattle.word_laws.specs.Words.{Each}
 use Rattle.writing_laws.proofs.Carrying.{Any, any, After, Keeps}
 use Rattle.writing_laws.proofs.Functions.{FunctionFew, function-keeps}

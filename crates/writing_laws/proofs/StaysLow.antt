@@ -1,5 +1,5 @@
 -- Declarations that are accepted show no term that is too high.
-use Rattle.std.proofs.Common.{◌≡◌, ℕ, ◌<◌, ◌≤◌, ◌^◌, List, [], ◌∷◌, Result, Ok, Err, IfOk, subst, arith}
+use Rattle.std.proofs.Common.{◌^◌, List, [], ◌∷◌, Result, Ok, Err, IfOk, subst, arith}
 use Rattle.std.proofs.lemmas.Option.{slice_get_within}
 use Rattle.theory.specs.Prelude.{prelude}
 use Rattle.theory.specs.Signatures.{Signature}
@@ -9,7 +9,7 @@ use Rattle.resolve.specs.declared.stop.ResolveStop.{ResolveStop}
 use Rattle.tree_translation.specs.Plans.{Plan}
 use Rattle.elaboration.specs.Refusals.{Refusal}
 use Rattle.function_lines.specs.FunctionMade.{plan_over}
-use Rattle.function_session.specs.Elaborating.{Elaborated, Refused, elaborate_of}
+use Rattle.function_session.specs.Elaborating.{Elaborated, Refused}
 use Rattle.word_laws.specs.Words.{Each}
 use Rattle.writing_laws.specs.Writing.{AreLow, HasFewParameters, EntriesStayLow}
 use Rattle.writing_laws.proofs.Carrying.{Any, Keeps}

@@ -1,7 +1,6 @@
 -- Names of the families of the prelude, and of what is generated for a family.
-use Rattle.std.proofs.Common.{◌≡◌, inl, inr, ℕ, zero, suc, ◌+◌, ◌<◌, ◌≤◌, ◌&&◌, Bool, true, false, cond, nat_lt, List, [], ◌∷◌, ◌++◌, length, refl, sym, ap, ap₂, ◌∙◌, subst, append_assoc, arith}
-use Rattle.std.specs.Prelude.{◌==◌, nat_le, codes, decimal, get_or}
-use Rattle.std.specs.List.{list_all}
+use Rattle.std.proofs.Common.{◌≡◌, inl, inr, ℕ, zero, suc, ◌+◌, ◌<◌, ◌&&◌, Bool, true, false, List, [], ◌∷◌, ◌++◌, length, refl, sym, ap₂, ◌∙◌, subst, append_assoc, arith}
+use Rattle.std.specs.Prelude.{◌==◌, nat_le, codes, decimal}
 use Rattle.std.specs.Str.{is_utf8, chars}
 use Rattle.std.proofs.lemmas.Str.{IsUtf8-from_is_utf8, chars-append}
 use Rattle.unicode_ident.proofs.Computing.{unicode_ident}
@@ -13,7 +12,6 @@ use Rattle.surface_syntax.specs.Spelling.{byte_len, is_keyword}
 use Rattle.surface_syntax.specs.Tokens.{IsName, letter, IsNumber, naught, digits, Spells, plain, dotted}
 use Rattle.surface_syntax.specs.declared.token.TokenKind.TheVariants.{Plain, Dotted}
 use Rattle.core_text.specs.NameRuns.{are_name_chars}
-use Rattle.core_text.specs.Reading.{first}
 use Rattle.core_text.specs.WrittenEntries.{IsDeclarableName}
 use Rattle.core_text.proofs.WholeRuns.{chars-join}
 use Rattle.writing_laws.proofs.Marks.{holds_mark, unmarked-join, IsStem, IsSegment, declarable}

@@ -1,15 +1,14 @@
 -- What the declarations of a text give can be written in a core file.
-use Rattle.std.proofs.Common.{◌≡◌, ◌⊎◌, inl, inr, ℕ, zero, suc, ◌+◌, ◌<◌, ◌≤◌, ◌^◌, Bool, true, false, List, [], ◌∷◌, ◌++◌, length, map, drop, All, Option, Some, None, Result, Ok, Err, IfOk, refl, sym, ap, ◌∙◌, subst, arith}
-use Rattle.std.specs.Prelude.{◌==◌, get_or, slice_get, codes}
-use Rattle.std.specs.List.{list_any, range_with_len}
+use Rattle.std.proofs.Common.{◌≡◌, inl, ℕ, zero, suc, ◌+◌, ◌<◌, ◌≤◌, ◌^◌, Bool, true, false, List, [], ◌∷◌, ◌++◌, map, drop, All, Some, Result, Ok, IfOk, refl, sym, ap, ◌∙◌, subst, arith}
+use Rattle.std.specs.Prelude.{get_or, slice_get, codes}
+use Rattle.std.specs.List.{range_with_len}
 use Rattle.std.proofs.lemmas.List.Elements.{All-nil, All-cons, All-append}
 use Rattle.std.proofs.lemmas.Option.{slice_get_within, slice_get-get_or}
 use Rattle.theory.specs.Terms.{top}
 use Rattle.theory.specs.Families.{Constructor, Family}
 use Rattle.theory.specs.Prelude.{prelude, empty_family, equality_family, unit_family, pair_family, at_levels, level_text}
-use Rattle.theory.specs.Signatures.{Entry, FamilyOf, EliminatorAt, Signature, IsEntryAt, names_of}
+use Rattle.theory.specs.Signatures.{Entry, FamilyOf, EliminatorAt, Signature}
 use Rattle.theory.proofs.Lists.{some_is}
-use Rattle.core_terms.proofs.Answers.{Answers}
 use Rattle.core_sig.specs.Raw.{RawConstructor, RawFamily, raw_names}
 use Rattle.core_text.specs.NameRuns.{are_name_chars}
 use Rattle.core_text.specs.PlainNames.{NamesStayPlain, PreludeHasPlainNames}
@@ -18,14 +17,14 @@ use Rattle.core_text.specs.WrittenEntries.{IsDeclarableName}
 use Rattle.core_text.proofs.WholeRuns.{chars-join}
 use Rattle.surface_syntax.specs.Trees as surf
 use Rattle.surface_syntax.specs.declared.token.TokenKind.TheVariants.{Plain}
-use Rattle.family_check.specs.Entering.{Entered, entered}
+use Rattle.family_check.specs.Entering.{Entered}
 use Rattle.family_check.specs.Entering as entering
-use Rattle.family_check.specs.Laws.{IsAsDeclared, EntersAsDeclared}
+use Rattle.family_check.specs.Laws.{EntersAsDeclared}
 use Rattle.family_check.proofs.AsDeclared.{declare-gives}
 use Rattle.function_session.specs.Elaborating.{Elaborated, Refused, elaborate_of}
 use Rattle.elim_program.specs.Acceptance.{Accepts, end, next}
 use Rattle.word_laws.specs.Words.{Each}
-use Rattle.writing_laws.specs.Writing.{AreLow, HasFewParameters, EntriesStayLow, IsSurfaceName, IsOrdinary, AcceptedIsWritable}
+use Rattle.writing_laws.specs.Writing.{AreLow, HasFewParameters, IsSurfaceName, IsOrdinary, AcceptedIsWritable}
 use Rattle.writing_laws.proofs.Carrying.{After, if-ok}
 use Rattle.writing_laws.proofs.Marks.{holds_mark, unmarked-join, IsStem}
 use Rattle.writing_laws.proofs.Names.{IsPart, AreParts, HasStems, AreNamed, motive-named, step-named, helper-named, proof-named, generated-named, named-pushed, define-named, eliminator-named, axiom_k-named}

@@ -50,7 +50,7 @@ use Rattle.written_functions.proofs.Numbers.{AreUnder, scoped-under}
 use Rattle.written_functions.proofs.PlanClauses.{IsPlaced, columns-are, placed-pats, placed-side}
 use Rattle.written_functions.proofs.PlanGiven.{IsPlanGiven, clauses-listed, helper-made}
 use Rattle.written_functions.proofs.Walked as walked
-use Rattle.written_functions.proofs.Walked.{IsOneGiven, IsSideOf}
+use Rattle.written_functions.proofs.Walked.{IsSideOf}
 
 -- ---- terms that are numbered anew
 

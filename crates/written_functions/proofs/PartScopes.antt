@@ -1,5 +1,5 @@
 -- What the walks and trees of a part ask: it is scoped, and its clauses have one pattern for each of its columns.
-use Rattle.std.proofs.Common.{◌≡◌, ℕ, zero, suc, ◌+◌, cond, Bool, true, false, Some, Result, Ok, Err, IfOk, [], ◌∷◌, length, reverse, refl, sym, ap, ◌∙◌, subst as transport, arith}
+use Rattle.std.proofs.Common.{◌≡◌, ℕ, zero, suc, ◌+◌, cond, Bool, true, false, Some, Result, Ok, Err, IfOk, [], length, reverse, refl, sym, ap, ◌∙◌, subst as transport, arith}
 use Rattle.std.proofs.lemmas.List.{length-reverse}
 use Rattle.std.specs.List.{All}
 use Rattle.theory.specs.Terms.{Term, free_of}

@@ -21,9 +21,8 @@ use Rattle.tree_translation.proofs.Drafting.{IsInOrder, in_order-is, places_of}
 use Rattle.tree_translation.specs.Naming.{Naming, number_among, number_in, with_names}
 use Rattle.tree_translation.specs.Plans.{Plan}
 use Rattle.clause_reports.proofs.Keeping.{Any, any}
-use Rattle.clause_reports.proofs.ProvedTypes.{closed_type}
 use Rattle.clause_reports.specs.DraftEntering.{enter_all, enter_entry, enter_needed, mentioned}
-use Rattle.clause_reports.specs.Equations.{Equation, equation_of, part_at, pats_of}
+use Rattle.clause_reports.specs.Equations.{Equation, equation_of, part_at, pats_of, closed_type}
 use Rattle.clause_reports.specs.ProofTerms.{candidate, proof_name, proof_names, proof_term}
 use Rattle.clause_reports.specs.ProofWalks.{Place, Proof, leaves_in, walk_of}
 use Rattle.clause_reports.specs.Reports.{Absurd, Line, Proved, Reference, Reported, at_leaf, at_vector, equation_report, if_shadowed, on_candidate, order_in, report_of, reported, shadowed, some_absurd, unless_converts}

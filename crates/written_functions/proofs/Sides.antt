@@ -20,8 +20,7 @@ use Rattle.tree_translation.specs.Naming.{motive_name, step_name}
 use Rattle.tree_translation.specs.Plans.{Plan, own_part}
 use Rattle.tree_translation.specs.Recursion.{Recursion, parameters_at, recursion_of, scrutinee_at, terms_at}
 use Rattle.tree_translation.specs.RightSides.{is_helper}
-use Rattle.clause_reports.proofs.ProvedTypes.{closed_type}
-use Rattle.clause_reports.specs.Equations.{Equation, Site, all_shown, equation_of, in_signature, last_argument, left_side, number_of, own_number, part_at, part_name, pats_of, right_side, shown, shown_built, side_of, values_of_recursion, walk_site}
+use Rattle.clause_reports.specs.Equations.{Equation, Site, all_shown, equation_of, in_signature, last_argument, left_side, number_of, own_number, part_at, part_name, pats_of, right_side, shown, shown_built, side_of, values_of_recursion, walk_site, closed_type}
 use Rattle.clause_reports.specs.Generated.{all_name}
 use Rattle.clause_reports.specs.Reports.{Reference}
 use Rattle.equation_laws.proofs.LeftShowing.{IsAt, equation-is}

@@ -18,7 +18,7 @@ use Rattle.elab_session.proofs.Resolved.{prelude-stays}
 use Rattle.clause_reports.proofs.Keeping.{Grows, grows_on, grows_same}
 use Rattle.clause_reports.proofs.Lines as found
 use Rattle.clause_reports.proofs.ReportKeeping.{GrowsBy, report-grows}
-use Rattle.clause_reports.specs.Equations.{part_at, part_named, pats_of}
+use Rattle.clause_reports.specs.Equations.{part_at, part_named, pats_of, closed_type}
 use Rattle.clause_reports.specs.Reports.{Absurd, Definitional, Line, Proved, Reference, Reported, Shadowed, equation_report, report_of, reported, shown_leaf, some_absurd}
 use Rattle.clause_reports.specs.Shadows.{leaves_of}
 use Rattle.clause_reports.specs.Stops.{ReportStop, answers}
@@ -140,9 +140,9 @@ module _ (S Own : Signature) (f : Function) (plan : Plan) (h : IsPlanGiven S f p
       let by = proved n refl in
       let level = (part_at plan k).level in
       let entry : IsEntryAt T n
-      (Definition (part_named f.name c.part ++ codes "!c" ++ decimal (c.number + 1)) (written.closed level by.given) by.body) =
+      (Definition (part_named f.name c.part ++ codes "!c" ++ decimal (c.number + 1)) (closed_type level by.given) by.body) =
       (prefix_keeps more).entry n _
-      (transport (λ name. IsEntryAt V n (Definition name (written.closed level by.given) by.body)) (proof-named k number c p.part p.own_number) by.entry) in
+      (transport (λ name. IsEntryAt V n (Definition name (closed_type level by.given) by.body)) (proof-named k number c p.part p.own_number) by.entry) in
       record {
         equation = by.given;
         of = has-equation S f plan h U b.before k number w c p none by.given by.is;

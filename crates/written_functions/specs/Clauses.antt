@@ -1,7 +1,7 @@
 -- What is said of the clauses of a function, in words of the function as it is written and of the theory.
 use Rattle.std.specs.Prelude.{◌≡◌, ◌<◌, ◌-◌, ℕ, zero, suc, ◌+◌, nat_lt, cond, true, Option, Some, option_and_then, List, [], ◌∷◌, ◌++◌, All, codes, decimal, length, map, slice_get, Ok}
 use Rattle.theory.specs.Terms.{Term, Sort, Const}
-use Rattle.theory.specs.Telescopes.{Telescope, applied, products, variables}
+use Rattle.theory.specs.Telescopes.{Telescope, applied, variables}
 use Rattle.theory.specs.Conversion.{Converts}
 use Rattle.theory.specs.Signatures.{Signature, Definition, IsEntryAt, IsPrefix, equation}
 use Rattle.theory.specs.WellFormed.{IsDefinition, first_entries, provisional}
@@ -14,13 +14,17 @@ use Rattle.tele_eq.specs.ReflexivityLaws.{EachConverts}
 use Rattle.case_trees.specs.OwnWalks.{own_walk_of}
 use Rattle.case_trees.specs.Places.{clause_at}
 use Rattle.case_trees.specs.Points.{under_solution}
-use Rattle.clause_reports.specs.Equations.{Equation, number_of, part_named}
+use Rattle.clause_reports.specs.Equations.{Equation, number_of, part_named, closed_type}
 use Rattle.clause_reports.specs.Reports.{Line, Definitional, Proved, Shadowed, Absurd, shown_leaf, some_absurd}
 use Rattle.clause_reports.specs.Shadows.{leaves_of}
 use Rattle.elaboration.specs.Functions.{ClauseLine, after_domains, first_domains}
 use Rattle.function_session.specs.Laws.{inner}
 use Rattle.resolve.specs.Functions.{Function}
 use Rattle.written_functions.specs.Fitting.{AllFit, AnyDot, IsTaken}
+
+-- the signature over which a function's clauses are: the function is a provisional constant after the entries of S
+abbrev pub with_own : Signature → Function → Signature
+with_own S f = provisional S f.name f.type
 
 -- ---- the clauses
 
@@ -75,7 +79,7 @@ start_of f (suc k) = f.helpers (suc k)
 
 -- the entries before the function, and the function as a constant
 abbrev pub with_constant : FunctionAt → Signature
-with_constant f = provisional f.before f.function.name f.function.type
+with_constant f = with_own f.before f.function
 
 -- the number of part k in a signature: the function, or helper k
 abbrev pub part_number : Signature → FunctionAt → (k : ℕ) → ℕ
@@ -155,18 +159,14 @@ pub record IsDefinitional (S : Signature) (f : FunctionAt) (c : Placed) : Type 0
   pub of : HasEquation S f c equation
   pub converts : Converts S equation.left equation.right
 
--- the equation as a type, closed by products over its context
-abbrev pub closed : (level : ℕ) → Equation → Term
-closed level e = products e.context (equation level e.type e.left e.right)
-
 -- proved: entry n of T is a definition under the clause's name, whose type is the equation, letter for letter, also by the typing rules
 pub record IsProved (S : Signature) (f : FunctionAt) (c : Placed) (T : Signature) (n : ℕ) : Type 0 where
   pub equation : Equation
   pub of : HasEquation S f c equation
   pub level : ℕ
   pub body : Term
-  pub entry : IsEntryAt T n (Definition (part_named f.function.name c.part ++ codes "!c" ++ decimal (c.number + 1)) (closed level equation) body)
-  pub typed : IsDefinition (first_entries T n) (closed level equation) body
+  pub entry : IsEntryAt T n (Definition (part_named f.function.name c.part ++ codes "!c" ++ decimal (c.number + 1)) (closed_type level equation) body)
+  pub typed : IsDefinition (first_entries T n) (closed_type level equation) body
 
 -- At the terms of a leaf the clause has an equation over the leaf's context, whose sides convert. The variables have the terms that they
 -- have there, up to conversion.
