@@ -1,4 +1,4 @@
--- Whatever is declared, its entries are let in one by one.
+-- Whatever is declared, its entries are accepted one by one.
 use Rattle.std.proofs.Common.{ℕ, [], IfOk, arith}
 use Rattle.theory.specs.Signatures.{Signature}
 use Rattle.surface_syntax.specs.Trees as surf

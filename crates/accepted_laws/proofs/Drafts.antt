@@ -1,4 +1,4 @@
--- Where a draft enters, each new entry is let in by itself.
+-- Where a draft enters, each new entry is accepted by itself.
 use Rattle.std.proofs.Common.{◌≡◌, ℕ, zero, suc, ◌≤◌, Bool, true, false, cond, Option, Some, None, List, [], ◌∷◌, length, Result, Ok, Err, IfOk, refl, arith}
 use Rattle.theory.specs.Families.{Family}
 use Rattle.theory.specs.Signatures.{Signature, Entry, FamilyOf, EliminatorAt, AxiomKAt, Definition}
@@ -48,7 +48,7 @@ module _ (fuel : ℕ) where
 
   -- ---- generated entries
 
-  -- an entering by entries that are let in
+  -- an entering by entries that are accepted by themselves
   abbrev AllChecked : Entering → Type 0
   AllChecked enter = (S : Signature) (d : Draft) (left : ℕ) → left ≤ fuel → Within fuel (CheckedTo fuel S) (enter S d left)
 

@@ -1,4 +1,4 @@
--- A declared family is the one that its line shows, and so is let in.
+-- A declared family is the one that its line shows, and so is accepted.
 use Rattle.std.proofs.Common.{◌≡◌, ℕ, ◌≤◌, List, [], ◌∷◌, map, length, Result, Ok, Err, IfOk, refl, sym, ap, ap₂, ◌∙◌, subst as transport, arith}
 use Rattle.theory.specs.Terms.{Term, Sort, Pi}
 use Rattle.theory.specs.Telescopes.{Telescope, products}

@@ -1,4 +1,4 @@
--- The entries of a function by clauses are let in one by one.
+-- The entries of a function by clauses are accepted one by one.
 use Rattle.std.proofs.Common.{ℕ, ◌+◌, ◌≤◌, Option, Some, None, List, [], ◌∷◌, length, Result, Ok, Err, IfOk, arith}
 use Rattle.theory.specs.Signatures.{Signature}
 use Rattle.theory.specs.WellFormed.{provisional}

@@ -1,4 +1,4 @@
--- A report adds entries that are let in one by one.
+-- A report adds entries that are accepted one by one.
 use Rattle.std.proofs.Common.{ℕ, ◌≤◌, Bool, true, false, cond, ◌&&◌, Option, Some, None, List, Result, Ok, Err, IfOk, arith}
 use Rattle.theory.specs.Terms.{Term}
 use Rattle.theory.specs.Telescopes.{Telescope}

@@ -1,4 +1,4 @@
--- One entry that is let in, and what is put one after the other.
+-- One entry that is accepted, and entries that are accepted one after the other.
 use Rattle.std.proofs.Common.{◌≡◌, ◌⊎◌, inl, inr, ℕ, ◌+◌, ◌-◌, ◌≤◌, Bool, true, false, ◌&&◌, nat_lt, position, Option, Some, None, List, [], ◌∷◌, Result, Ok, Err, IfOk, refl, sym, ap, ◌∙◌, subst as transport, arith}
 use Rattle.theory.specs.Terms.{Term, top}
 use Rattle.theory.specs.Eliminators.{eliminator_type}

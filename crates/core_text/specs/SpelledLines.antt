@@ -20,7 +20,7 @@ HasLowTerms (RawEliminator g m) = Unit {0}
 HasLowTerms (RawAxiomK i m) = Unit {0}
 HasLowTerms (RawDefinition name type body) = IsLow type × IsLow body
 
--- A term is too high, or one inside it is too deep, which is so only where the former is higher than 2,000.
+-- A term is too high, or one inside it is too deep; the second comes only where the whole term is higher than 2,000.
 abbrev pub IsTooDeepOrHigh : RawEntry → Result (Option (RawEntry × ℕ)) CoreTextStop → Type 0
 IsTooDeepOrHigh raw r = (HasLowTerms raw → ⊥) × (at : ℕ) × (r ≡ Err (Nested at))
 

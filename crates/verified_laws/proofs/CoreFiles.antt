@@ -65,7 +65,7 @@ head-within k text = go (has_head false text) refl (has_head true text) refl
 -- ---- one entry
 
 module _ (fuel : ℕ) (W : Signature) (checked : Checked fuel (prelude W.has_k) W) where
-  -- what is added is let in
+  -- what is added is accepted
   let-in : (S : Signature) (e : Entry) → IsPrefix (pushed S e) W → length (prelude W.has_k).entries ≤ length S.entries → LetsIn S fuel e
   let-in S e longer le =
       transport (λ T. LetsIn T fuel e) (cut_to_prefix S W (prefix_transitive S (pushed S e) W (push_is_longer S e) longer))

@@ -1,4 +1,4 @@
--- Entry by entry, what is let in.
+-- Entries that the checker accepts one by one.
 use Rattle.std.proofs.Common.{◌≡◌, ◌⊎◌, inl, inr, ℕ, ◌≤◌, List, [], ◌∷◌, length, refl, sym, ap, subst as transport, arith}
 use Rattle.std.proofs.lemmas.List.{take-append-le, take_at}
 use Rattle.std.proofs.lemmas.Option.{slice_get_within}
@@ -16,7 +16,7 @@ first-pushed S e n le = ap (with_entries S) (sym (take-append-le n S.entries (e 
 all-pushed : (S : Signature) (e : Entry) (n : ℕ) → n ≡ length S.entries → S ≡ first_entries (pushed S e) n
 all-pushed S e n place = ap (with_entries S) (sym (take_at S.entries (e ∷ []) n (sym place)))
 
--- each entry after those of P is let in after the entries before it
+-- each entry after those of P is accepted after the entries before it
 pub each-in : {fuel : ℕ} {P T : Signature} → Checked fuel P T → (n : ℕ) (e : Entry) → length P.entries ≤ n → IsEntryAt T n e
     → LetsIn (first_entries T n) fuel e
 each-in {fuel} {P} unchanged n e le at = let lt = slice_get_within P.entries n e at in absurd (omega arith)

@@ -1,4 +1,4 @@
--- Where no declaration of a text is refused, each entry is let in by itself.
+-- Where no declaration of a text is refused, each entry is accepted by itself.
 use Rattle.std.proofs.Common.{◌≡◌, true, false, [], ◌∷◌, Result, Ok, Err, IfOk}
 use Rattle.std.proofs.lemmas.Bool.{true≢false}
 use Rattle.theory.specs.Signatures.{Signature}

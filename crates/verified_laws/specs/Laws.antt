@@ -24,7 +24,7 @@ abbrev pub signature_after : (fuel : ℕ) → Signature → List Decl → Signat
 signature_after fuel S [] = S
 signature_after fuel S (d ∷ ds) = signature_after fuel (after S (elaborate_of S fuel d)) ds
 
--- Where no declaration is refused, the checker lets in each new entry by itself.
+-- Where no declaration is refused, the checker accepts each new entry by itself.
 abbrev pub TextIsChecked : Type 0
 TextIsChecked =
     (fuel : ℕ) (S : Signature) (ds : List Decl) → (declarations fuel S ds).refused ≡ false → Checked fuel S (signature_after fuel S ds)
@@ -57,7 +57,7 @@ pub record AreNames (W : Signature) (names : List (List ℕ)) : Type 0 where
 abbrev pub EachIsNamed : Type 0
 EachIsNamed = (k : Bool) (text : List ℕ) (W : Signature) (names : List (List ℕ)) → IsFileOf k text W names → AreNames W names
 
--- Each entry of such a text is verified, where the checker lets it in by itself.
+-- Each entry of such a text is verified, where the checker accepts it by itself.
 abbrev pub CoreFileIsVerified : Type 0
 CoreFileIsVerified =
     (fuel : ℕ) (k : Bool) (text : List ℕ) (W : Signature) (names : List (List ℕ)) → IsFileOf k text W names → Checked fuel (prelude W.has_k) W
