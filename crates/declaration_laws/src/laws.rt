@@ -1,5 +1,5 @@
 //! Each declaration of a session is made as is meant.
-ghost use Rattle.declaration_laws.specs.Laws.{DeclarationIsMeant, DeclarationStaysUnmarked, DeclaredFunctionIsMeant};
+ghost use Rattle.declaration_laws.specs.Laws.{DeclarationIsMeant, DeclarationStaysUnmarked, DeclaredFunctionIsMeant, TextIsMeant, WordsAreUnmarked};
 
 use report_laws::laws::function_is_meant;
 
@@ -17,7 +17,19 @@ pub fn declaration_is_meant()
     declared_function_is_meant();
 }
 
-/// No definition and no function adds a family or constructor whose name holds a `!`.
+/// No declaration adds a family or constructor whose name holds a `!`, where none that it declares does.
 pub fn declaration_stays_unmarked()
     ensures { DeclarationStaysUnmarked }
 {}
+
+/// No name of a family or constructor that a text declares holds a `!`.
+pub fn words_are_unmarked()
+    ensures { WordsAreUnmarked }
+{}
+
+/// So the declarations of a text are made as is meant, one after the other from the prelude on.
+pub fn text_is_meant()
+    ensures { TextIsMeant }
+{
+    declaration_is_meant();
+}
