@@ -1,5 +1,5 @@
 -- A family whose names hold no `!` leaves the names of families and constructors without marks.
-use Rattle.std.proofs.Common.{◌≡◌, ℕ, Bool, true, false, ◌&&◌, ◌||◌, if◌then◌else◌, not, List, [], ◌∷◌, ◌++◌, map, length, Ok, Err, Result, IfOk, refl, sym, ap, ap₂, subst as transport}
+use Rattle.std.proofs.Common.{◌≡◌, ℕ, Bool, true, false, ◌||◌, if◌then◌else◌, not, List, [], ◌∷◌, ◌++◌, map, length, Ok, Err, IfOk, refl, sym, ap, ap₂, subst as transport}
 use Rattle.std.specs.Prelude.{is_some, bytes_eq}
 use Rattle.std.specs.List.{list_any}
 use Rattle.theory.specs.Families.{Constructor, Family}
@@ -19,7 +19,7 @@ use Rattle.resolve.specs.Resolving.{resolve}
 use Rattle.resolve.specs.declared.stop.ResolveStop.{ResolveStop}
 use Rattle.resolve.specs.declared.stop.ResolveStop.TheVariants.{Duplicate}
 use Rattle.clause_reports.proofs.Keeping.{Any, any, weaker}
-use Rattle.draft_checks.specs.Checks.{all_unmarked, are_unmarked, is_unmarked_entry, unmarked}
+use Rattle.draft_checks.specs.Checks.{are_unmarked, is_unmarked_entry, unmarked}
 use Rattle.draft_entering.specs.FreeNames.{is_marked}
 use Rattle.family_check.specs.Entering.{Entered}
 use Rattle.family_check.specs.Laws.{EntersAsDeclared}
