@@ -18,9 +18,9 @@ use Rattle.core_text.specs.RawEntries.{RawEntry, RawFamilyOf, RawEliminator, Raw
 use Rattle.core_text.specs.ReadBack.{IsSpelled, AreSpelled, IsFoundFamily}
 use Rattle.core_text.specs.Reading.{Reading, wrong, after}
 use Rattle.core_text.specs.SpelledLines.{IsLow, HasLowTerms, IsSpelledOutcome, SpelledLinesAreRead}
-use Rattle.core_text.specs.Spellings.{raw_line, with_name, IsFamilyOver, IsEntryOver}
+use Rattle.core_text.specs.Spellings.{raw_line, IsFamilyOver, IsEntryOver}
 use Rattle.core_text.specs.SymbolLookup.{entry_symbol, found_symbol, symbol}
-use Rattle.core_text.specs.SymbolNames.{own_name, name_at}
+use Rattle.core_text.specs.SymbolNames.{own_name, name_at, with_name}
 use Rattle.core_text.specs.TermText.{spelled, term_text}
 use Rattle.core_text.specs.declared.stop.CoreTextStop.{CoreTextStop}
 use Rattle.core_text.specs.declared.stop.CoreTextStop.TheVariants.{NotCoreText}

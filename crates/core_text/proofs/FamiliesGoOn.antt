@@ -11,9 +11,9 @@ use Rattle.core_text.specs.EntryText.{parameters_text, constructors_text}
 use Rattle.core_text.specs.LineReading.{nested, whole_term, after_item, collected, parameter_at, no_parameter, next_parameter, parameters_at, constructor_at, separated, next_constructor, constructors_at, family_after, family_at}
 use Rattle.core_text.specs.RawEntries.{RawFamilyOf}
 use Rattle.core_text.specs.Reading.{Reading, first, and_then, after, past}
-use Rattle.core_text.specs.Spellings.{with_name, IsTermOver, AreTypesOver, IsNewName, AreConstructorsOver, IsFamilyOver}
+use Rattle.core_text.specs.Spellings.{IsTermOver, AreTypesOver, IsNewName, AreConstructorsOver, IsFamilyOver}
 use Rattle.core_text.specs.SymbolLookup.{symbol}
-use Rattle.core_text.specs.SymbolNames.{own_name, name_at}
+use Rattle.core_text.specs.SymbolNames.{own_name, name_at, with_name}
 use Rattle.core_text.specs.TermText.{term_text}
 use Rattle.core_text.proofs.Completions.{Meets, IsFront, front-less, meets-if, meets-wrong, meets-then, meets-on, meets-word, meets-after}
 use Rattle.core_text.proofs.FreshNames.{fresh, letters-for, fresh-name}

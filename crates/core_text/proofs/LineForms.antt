@@ -7,8 +7,8 @@ use Rattle.theory.specs.Signatures.{Signature, Entry, FamilyOf, EliminatorAt, Ax
 use Rattle.core_sig.specs.Raw.{RawConstructor, RawFamily}
 use Rattle.core_text.specs.EntryText.{parameters_text, constructors_text, line_text, entry_line}
 use Rattle.core_text.specs.RawEntries.{RawEntry, RawFamilyOf, RawEliminator, RawAxiomK, RawDefinition, entry_shown}
-use Rattle.core_text.specs.Spellings.{raw_line, with_name}
-use Rattle.core_text.specs.SymbolNames.{name_at}
+use Rattle.core_text.specs.Spellings.{raw_line}
+use Rattle.core_text.specs.SymbolNames.{name_at, with_name}
 use Rattle.core_text.specs.TermText.{term_text}
 
 -- ---- constructors

@@ -1,11 +1,10 @@
 -- What a line says by its spelling: its names and numbers may be there. Neither the height of its terms nor the question
 -- whether a family shows a record belongs to the spelling.
 use Rattle.std.specs.Prelude.{◌≡◌, ℕ, ◌+◌, ◌≤◌, Bool, true, false, List, [], ◌∷◌, ◌++◌, length}
-use Rattle.theory.specs.Terms.{Term, Sort, free_of}
+use Rattle.theory.specs.Terms.{Term, free_of}
 use Rattle.theory.specs.Telescopes.{Telescope}
-use Rattle.theory.specs.Signatures.{Signature, Definition}
+use Rattle.theory.specs.Signatures.{Signature}
 use Rattle.theory.specs.SignatureScopes.{IsFamilyNumber}
-use Rattle.theory.specs.WellFormed.{pushed}
 use Rattle.core_sig.specs.Raw.{RawConstructor, RawFamily}
 use Rattle.core_text.specs.DeclaredNames.{shape_of, may_declare}
 use Rattle.core_text.specs.EntryText.{line_text}
@@ -13,17 +12,14 @@ use Rattle.core_text.specs.LineReading.{levels_left, identities_left}
 use Rattle.core_text.specs.NameRuns.{are_name_chars}
 use Rattle.core_text.specs.RawEntries.{RawEntry, RawFamilyOf, RawEliminator, RawAxiomK, RawDefinition}
 use Rattle.core_text.specs.Reading.{is_left}
+use Rattle.core_text.specs.SymbolNames.{with_name}
 use Rattle.core_text.specs.WrittenEntries.{HasSymbols}
 use Rattle.core_text.specs.declared.declared_names.Shape.TheVariants.{Declarable}
 use Rattle.core_text.specs.declared.instances.Series.TheVariants.{Elim, AxiomK}
 
 -- ---- the line that says it after other entries
 
--- The entries, with one more after them that has the name: in the line of a family, the family itself.
-abbrev pub with_name : Signature → List ℕ → Signature
-with_name S name = pushed S (Definition name (Sort 0) (Sort 0))
-
--- the line that says `raw` after the entries S
+-- The line that says `raw` after the entries S. That of a family names the family itself.
 abbrev pub raw_line : Signature → RawEntry → List ℕ
 raw_line S (RawFamilyOf raw) = line_text (with_name S raw.name) (RawFamilyOf raw)
 raw_line S raw = line_text S raw

@@ -1,7 +1,18 @@
 -- The names by which core text writes the symbols of a signature.
 use Rattle.std.specs.Prelude.{ℕ, List, [], ◌++◌, slice_get, Option, None, Some, codes, decimal}
+use Rattle.theory.specs.Terms.{Sort}
 use Rattle.theory.specs.Families.{Constructor}
 use Rattle.theory.specs.Signatures.{Entry, FamilyOf, Definition, Signature}
+use Rattle.theory.specs.WellFormed.{pushed}
+
+-- The entries, with one more after them that has the name and no constructors: what is being declared.
+abbrev pub with_name : Signature → List ℕ → Signature
+with_name S name = pushed S (Definition name (Sort 0) (Sort 0))
+
+-- the same where something with a name is being declared
+abbrev pub with_own : Signature → Option (List ℕ) → Signature
+with_own S (Some name) = with_name S name
+with_own S None = S
 
 -- the name of an entry that is a definition or a family; any other number has none
 abbrev pub own_name : Option Entry → List ℕ

@@ -52,9 +52,9 @@ fn write_entry(out: &mut Vec<u8>, sig: &Signature, at: u32, entry: &Entry) -> Re
             write(out, b"def ")?;
             write(out, name.as_slice())?;
             write(out, b" : ")?;
-            write_term(out, sig, ty, false)?;
+            write_term(out, sig, None, ty, false)?;
             write(out, b" = ")?;
-            write_term(out, sig, body, false)
+            write_term(out, sig, None, body, false)
         }
     }
 }

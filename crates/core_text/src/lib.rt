@@ -39,4 +39,4 @@ pub use laws::{
 };
 pub use stop::CoreTextStop;
 pub use term_printer::print_term;
-pub use texts::{context_text, reason_text, spaced_text};
+pub use texts::{context_text, context_text_with, reason_text, reason_text_with, spaced_text};

@@ -1,5 +1,6 @@
-ghost use Rattle.std.specs.Prelude.{◌≡◌};
-ghost use Rattle.core_text.specs.SymbolNames.{name_at, constructor_name_at};
+ghost use Rattle.std.specs.Prelude.{◌≡◌, ℕ, List, Option};
+ghost use Rattle.std.specs.Option.{option_copied};
+ghost use Rattle.core_text.specs.SymbolNames.{name_at, constructor_name_at, with_own};
 
 use core_sig::{Entry, Signature};
 
@@ -14,9 +15,19 @@ pub(crate) fn name_at(sig: &Signature, at: u32) -> &[u8]
     }
 }
 
-/// The name of a constructor of the family with the number.
+/// The same where something with the name `own` is being declared, which has the next number.
+pub(crate) fn name_with<'a>(sig: &'a Signature, own: Option<&'a [u8]>, at: u32) -> &'a [u8]
+    ensures { result.now ≡ name_at (with_own sig.now (option_copied own.entry)) at }
+{
+    match own {
+        Some(name) if at == sig.len() => name,
+        _ => name_at(sig, at),
+    }
+}
+
+/// The name of a constructor of the family with the number. What is being declared has none.
 pub(crate) fn constructor_name_at(sig: &Signature, family: u32, con: u32) -> &[u8]
-    ensures { result.now ≡ constructor_name_at sig.now family con }
+    ensures { (own : Option (List ℕ)) → result.now ≡ constructor_name_at (with_own sig.now own) family con }
 {
     match sig.entry(family) {
         Some(Entry::Family(family)) => match family.cons.as_slice().get(con as usize) {

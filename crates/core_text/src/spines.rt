@@ -16,7 +16,7 @@ pub(crate) fn write_spaced(out: &mut Vec<u8>, sig: &Signature, terms: &[Term]) -
 {
     for t in terms {
         write(out, b" ")?;
-        write_term(out, sig, t, false)?;
+        write_term(out, sig, None, t, false)?;
     }
     Ok(())
 }

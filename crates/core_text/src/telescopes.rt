@@ -20,7 +20,7 @@ pub(crate) fn write_parameters(
 {
     for ty in params {
         write(out, b" (")?;
-        write_term(out, sig, ty, false)?;
+        write_term(out, sig, None, ty, false)?;
         write(out, b")")?;
     }
     Ok(())
@@ -33,7 +33,7 @@ pub(crate) fn open_products(out: &mut Vec<u8>, sig: &Signature, args: &[Arg]) ->
 {
     for arg in args {
         write(out, b"(")?;
-        write_term(out, sig, &arg.ty, false)?;
+        write_term(out, sig, None, &arg.ty, false)?;
         write(out, b" -> ")?;
     }
     Ok(())
