@@ -11,6 +11,7 @@ use Rattle.surface_syntax.specs.declared.tree.Word.{Word}
 use Rattle.resolve.specs.Families.{family}
 use Rattle.resolve.specs.Resolving.{resolve_term}
 use Rattle.family_check.specs.Laws.{IsAsDeclared}
+use Rattle.elab_session.specs.Adding.{IsAdded}
 use Rattle.elab_session.specs.Declaring.{Declared, accepted_as, declare_of}
 use Rattle.elab_session.specs.Entering.{CanEnter, enter_of}
 use Rattle.elab_session.specs.Sessions.{IsReady}
@@ -57,6 +58,10 @@ DeclaresAsWritten =
 
 abbrev pub EnterExtends : Type 0
 EnterExtends = (S : Signature) (fuel : ℕ) (raw : RawEntry) → IfOk (enter_of S fuel raw) (λ x. IsPrefix S x.signature)
+
+-- an entry that is accepted is added
+abbrev pub EnterAdds : Type 0
+EnterAdds = (S : Signature) (fuel : ℕ) (raw : RawEntry) → IfOk (enter_of S fuel raw) (λ x. IsAdded S raw x.signature)
 
 abbrev pub EnterKeepsReady : Type 0
 EnterKeepsReady =

@@ -1,3 +1,4 @@
+pub mod Adding
 pub mod Declaring
 pub mod Entering
 pub mod Laws

@@ -1,5 +1,5 @@
 //! What a declaration keeps, and what is accepted.
-ghost use Rattle.elab_session.specs.Laws.{DeclareExtends, DeclareKeepsReady, DeclaresAsWritten, EnterExtends, EnterKeepsReady};
+ghost use Rattle.elab_session.specs.Laws.{DeclareExtends, DeclareKeepsReady, DeclaresAsWritten, EnterAdds, EnterExtends, EnterKeepsReady};
 
 /// Earlier entries stay.
 pub fn declare_extends()
@@ -19,6 +19,11 @@ pub fn declares_as_written()
 /// Earlier entries stay where an entry of a core file enters.
 pub fn enter_extends()
     ensures { EnterExtends }
+{}
+
+/// An entry of a core file that is accepted is added, unless it is an instance that is there.
+pub fn enter_adds()
+    ensures { EnterAdds }
 {}
 
 /// The signature of a session stays well formed, settled, and begins with the prelude.

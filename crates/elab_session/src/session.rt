@@ -6,6 +6,7 @@ ghost use Rattle.surface_syntax.specs.TreeMeanings.{decl_of};
 ghost use Rattle.core_sig.specs.Kinds.{HasEntryKinds};
 ghost use Rattle.core_sig.specs.Meanings.{entry_of};
 ghost use Rattle.core_text.specs.RawEntries.{entry_shown};
+ghost use Rattle.elab_session.specs.Adding.{IsAdded};
 ghost use Rattle.elab_session.specs.Declaring as spec;
 ghost use Rattle.elab_session.specs.Entering.{CanEnter, Enters, enter_of};
 ghost use Rattle.elab_session.specs.Laws.{IsAsWritten};
@@ -72,7 +73,8 @@ impl Session {
         declare(self.alloc, &mut self.sig, self.fuel, d)
     }
 
-    /// Adds an entry of a core file and answers its number. After a refusal the session is as it was.
+    /// Adds an entry of a core file and answers its number, also where it is an instance that is there already. After a refusal
+    /// the session is as it was.
     pub fn enter(&mut self, entry: Entry) -> Result<u32, Refusal>
         requires entry { CanEnter self.old.signature (entry_shown (length self.old.signature.entries) (entry_of entry)) }
         requires kinds { HasEntryKinds (length self.old.signature.entries) entry }
@@ -80,6 +82,7 @@ impl Session {
         ensures err { OnErr result (self.new ≡ self.old) }
         ensures fuel { self.new.fuel ≡ self.old.fuel }
         ensures longer { IsPrefix self.old.signature self.new.signature }
+        ensures added { IfOk result (λ _. IsAdded self.old.signature (entry_shown (length self.old.signature.entries) (entry_of entry)) self.new.signature) }
         ensures ready { IsReady self.new.signature }
     {
         enter_entry(self.alloc, &mut self.sig, self.fuel, entry)

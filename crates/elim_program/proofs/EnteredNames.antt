@@ -32,7 +32,7 @@ use Rattle.draft_entering.specs.Conditions.{IsDefinition}
 use Rattle.draft_entering.specs.Depths.{entry_own_name}
 use Rattle.draft_entering.specs.Tables.{IsListed, names_by, IsMadeOf}
 use Rattle.draft_entering.proofs.TableLookups.{found-listed, generated-made}
-use Rattle.elim_program.proofs.Adding.{define-enters, instance-enters}
+use Rattle.elab_session.proofs.Adding.{define-enters, instance-enters}
 use Rattle.elim_program.proofs.SessionInLine.{NamesIn, has-names, each-last, context-in, reason-in, level-in}
 use Rattle.elim_program.proofs.TokensInLine.{Each}
 

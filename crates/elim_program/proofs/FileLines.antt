@@ -11,16 +11,16 @@ use Rattle.core_text.specs.declared.stop.CoreTextStop.{CoreTextStop}
 use Rattle.core_text.proofs.Feeds.{both}
 use Rattle.family_check.specs.Entering.{Entered}
 use Rattle.family_check.specs.Outcomes.{FamilyStop}
+use Rattle.elab_session.specs.Adding.{Adds, family, eliminator, axiom_k, definition, IsAdded}
 use Rattle.elab_session.specs.Entering.{answered, checked, enter_of, refused}
 use Rattle.elab_session.specs.declared.refusal.Refusal.{Refusal}
+use Rattle.elab_session.proofs.Adding.{enter-adds}
 use Rattle.elim_program.specs.declared.text_stop.TextStop.{TextStop}
 use Rattle.elim_program.specs.declared.text_stop.TextStop.TheVariants as stop
 use Rattle.elim_program.specs.declared.words.Command.{Command}
 use Rattle.elim_program.specs.Outputs.{accepted_line, compiled, followed}
 use Rattle.elim_program.specs.Refusals.{refusal_line, stop_line}
 use Rattle.elim_program.specs.Verifies.{after_entry, after_head, entries, entry_block, file_block, next_block, read_name, unread, verified_line}
-use Rattle.elim_program.specs.VerifyHeadline.{Adds, family, eliminator, axiom_k, definition}
-use Rattle.elim_program.proofs.Adding.{adds-read}
 use Rattle.elim_program.proofs.Lines.{third, first_line, not_empty, after_heads, if_ok}
 use Rattle.elim_program.proofs.ReadInLine.{IsRead, is-read}
 use Rattle.elim_program.proofs.RefusalsInLine.{refusal-in, stop-in}
@@ -99,8 +99,8 @@ entries-plain text fuel (suc most) S from names = go (entry_from S text from) re
             → Each IsPlain (followed (entry_block (read_name S raw) r) (entries text fuel most (after_entry S r) to)).lines
         answer (Err why) is read in_line = (refusal-plain (read_name S raw) why (name-in S raw names read) in_line, tt)
         answer (Ok x) is read in_line =
-            let added = if_ok (λ y. Adds S raw y.signature) (enter_of S fuel raw) x is (adds-read S fuel raw read.missing) in
-            (verified-plain (read_name S raw) (name-in S raw names read), rec x.signature to (added-in S x.signature raw names read added))
+            let accepted = if_ok (λ y. IsAdded S raw y.signature) (enter_of S fuel raw) x is (enter-adds S fuel raw) in
+            (verified-plain (read_name S raw) (name-in S raw names read), rec x.signature to (added-in S x.signature raw names read (accepted.added read.missing)))
 
 file-plain : (command : Command) (text : Option (List ℕ)) → Each IsPlain (file_block command text).lines
 file-plain command None = (stop-plain stop.TooLong, tt)

@@ -1,6 +1,5 @@
 pub mod Accepted
 mod AcceptedWords
-mod Adding
 mod Asking
 mod CommandWalks
 mod ElaboratedInLine

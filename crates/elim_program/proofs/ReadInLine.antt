@@ -28,6 +28,7 @@ use Rattle.core_text.specs.declared.stop.CoreTextStop.{CoreTextStop}
 use Rattle.core_text.proofs.Feeds.{both}
 use Rattle.core_text.proofs.Outcomes.{Ensures, ensures-then, ensures-if, ensures-past}
 use Rattle.core_text.proofs.TermOutcomes.{IsLevel, read_level-within}
+use Rattle.elab_session.specs.Adding.{has_instance}
 use Rattle.elim_program.proofs.RefusalsInLine.{join}
 use Rattle.elim_program.proofs.TokensInLine.{all-in, encodes-in, feed-continues}
 
@@ -92,12 +93,6 @@ name-in S own found rest = shape-in (may_declare S own found (take (run_len rest
 
 -- Lines.
 
--- the instance is none of the signature's
-abbrev pub IsMissing : Signature → RawEntry → Type 0
-IsMissing S (RawEliminator n m) = list_any (is_eliminator n m) S.entries ≡ false
-IsMissing S (RawAxiomK i m) = list_any (is_axiom_k i m) S.entries ≡ false
-IsMissing S _ = Unit {0}
-
 -- the names that an entry brings
 abbrev pub names_read : RawEntry → List (List ℕ)
 names_read (RawFamilyOf raw) = raw_names raw
@@ -105,7 +100,7 @@ names_read (RawDefinition name type body) = name ∷ []
 names_read _ = []
 
 pub record IsRead (S : Signature) (raw : RawEntry) : Type 0 where
-  pub missing : IsMissing S raw
+  pub missing : has_instance S raw ≡ false
   pub names : AreInLine (names_read raw)
 
 abbrev Read : Signature → RawEntry → List ℕ → Type 0
@@ -126,7 +121,7 @@ definition-read S rest =
     ensures-then NameIn (Read S) (new_name S [] [] rest) _ (name-in S [] [] rest)
     (λ name r1 named. any-then (Read S) (term_after (whole_term S []) (codes " : ") 0 r1) _
     (λ type r2. any-then (Read S) (term_after (whole_term S []) (codes " = ") 0 r2) _
-    (λ body r3. ended-read S (RawDefinition name type body) r3 (record { missing = tt; names = (named, tt) }))))
+    (λ body r3. ended-read S (RawDefinition name type body) r3 (record { missing = refl; names = (named, tt) }))))
 
 -- a level that is left is one of those that were asked for
 left-at : (left : ℕ → Bool) (n k v : ℕ) → is_left (level_list left n k) v ≡ true → left (n + v) ≡ true
@@ -216,7 +211,7 @@ family-read S rest =
     (λ r4. ensures-then AreNamed (Read S) (constructors_at S name (length parameters) r4) _
     (collected-in (next_constructor S name (length parameters)) (next-in S name (length parameters)) (length r4) [] r4 tt)
     (λ constructors end list. ended-read S (RawFamilyOf (record { name = name; parameters = parameters; type = type; constructors = constructors })) end
-    (record { missing = tt; names = (own, list) }))))))
+    (record { missing = refl; names = (own, list) }))))))
 
 line-read : (S : Signature) (rest : List ℕ) → Ensures (Read S) (line_at S [] rest)
 line-read S rest =

@@ -10,9 +10,12 @@ use Rattle.core_text.specs.RawEntries.{RawEntry}
 use Rattle.core_text.specs.declared.stop.CoreTextStop.{CoreTextStop}
 use Rattle.core_text.proofs.EntryOutcomes.{what-is-read}
 use Rattle.family_check.specs.Entering.{Entered}
+use Rattle.elab_session.specs.Adding.{Adds, family, eliminator, axiom_k, definition, IsAdded}
 use Rattle.elab_session.specs.Entering.{enter_of}
 use Rattle.elab_session.specs.Sessions.{IsReady}
 use Rattle.elab_session.specs.declared.refusal.Refusal.{Refusal}
+use Rattle.elab_session.proofs.Adding.{enter-adds}
+use Rattle.elab_session.proofs.Entered.{enter-ready}
 use Rattle.elab_session.proofs.PreludeReady.{prelude-ready}
 use Rattle.elim_program.specs.declared.text_stop.TextStop.TheVariants as stop
 use Rattle.elim_program.specs.declared.words.Command.{Command}
@@ -21,9 +24,9 @@ use Rattle.elim_program.specs.Outputs.{Output, followed, head_lines}
 use Rattle.elim_program.specs.Refusals.{refusal_line, stop_line}
 use Rattle.elim_program.specs.Texts.{limited}
 use Rattle.elim_program.specs.Verifies.{after_entry, after_head, entries, entry_block, file_block, next_block, read_name, unread, verified_line}
-use Rattle.elim_program.specs.VerifyHeadline.{Adds, family, eliminator, axiom_k, definition, Holds, head, entry, IsVerified}
+use Rattle.elim_program.specs.VerifyHeadline.{Holds, head, entry, IsVerified}
 use Rattle.elim_program.specs.Words.{verify_asked}
-use Rattle.elim_program.proofs.Adding.{adds-read, ready-read}
+use Rattle.elim_program.proofs.Entries.{can-enter}
 use Rattle.elim_program.proofs.FileHeads.{is-head}
 use Rattle.elim_program.proofs.Lines.{third, first_line, not_empty, not_one, after_heads, if_ok}
 use Rattle.elim_program.proofs.OneOutput.{not-both-asked, same-command, work-no-verify}
@@ -73,9 +76,9 @@ found k text fuel (suc most) S from earlier above below name b e =
         answer (Err why) same e = absurd (not_one (refusal_line (read_name S raw) why) (verified_line name) above below (λ k. omega (arith, k)) e)
         answer (Ok x) same e =
             let what = what-is-read S text from raw to b.within is in
-            let adds = if_ok (λ y. Adds S raw y.signature) (enter_of S fuel raw) x same (adds-read S fuel raw (is-read S text from raw to is).missing) in
-            let ready = if_ok (λ y. IsReady y.signature) (enter_of S fuel raw) x same (ready-read S fuel raw b.ready what.0) in
-            place above e (onward k text S x.signature from to earlier raw b is adds ready what.2)
+            let accepted = if_ok (λ y. IsAdded S raw y.signature) (enter_of S fuel raw) x same (enter-adds S fuel raw) in
+            let ready = if_ok (λ y. IsReady y.signature) (enter_of S fuel raw) x same (enter-ready S fuel raw b.ready (can-enter S raw what.0)) in
+            place above e (onward k text S x.signature from to earlier raw b is (accepted.added (is-read S text from raw to is).missing) ready what.2)
           where
             place : (above : List (List ℕ)) → verified_line (read_name S raw) ∷ (entries text fuel most x.signature to).lines ≡ above ++ verified_line name ∷ below
                 → IsBefore k text x.signature to (earlier ++ verified_line (read_name S raw) ∷ []) → IsFound k text (earlier ++ above) name

@@ -1,15 +1,11 @@
 -- What the verified entries of a core file are.
-use Rattle.std.specs.Prelude.{◌≡◌, ℕ, Bool, IsTrue, List, [], ◌∷◌, ◌++◌, map, length, Some, Ok}
-use Rattle.theory.specs.Terms.{Term}
-use Rattle.theory.specs.Families.{Family}
+use Rattle.std.specs.Prelude.{◌≡◌, ℕ, Bool, IsTrue, List, [], ◌∷◌, ◌++◌, map, Some, Ok}
 use Rattle.theory.specs.Prelude.{prelude}
-use Rattle.theory.specs.Signatures.{EliminatorAt, AxiomKAt, Definition, FamilyOf, Signature}
-use Rattle.theory.specs.WellFormed.{pushed}
-use Rattle.core_sig.specs.Raw.{RawFamily}
+use Rattle.theory.specs.Signatures.{Signature}
 use Rattle.core_text.specs.EntryReading.{entry_from}
 use Rattle.core_text.specs.Heads.{head_of}
-use Rattle.core_text.specs.RawEntries.{RawEntry, RawFamilyOf, RawEliminator, RawAxiomK, RawDefinition}
-use Rattle.family_check.specs.Laws.{IsAsDeclared}
+use Rattle.core_text.specs.RawEntries.{RawEntry}
+use Rattle.elab_session.specs.Adding.{Adds}
 use Rattle.elab_session.specs.Sessions.{IsReady}
 use Rattle.elim_program.specs.declared.words.Command.{Command}
 use Rattle.elim_program.specs.DefinedOutputs.{IsOutput}
@@ -17,13 +13,6 @@ use Rattle.elim_program.specs.Lines.{lines_of, text_of}
 use Rattle.elim_program.specs.Outputs.{Output, head_lines}
 use Rattle.elim_program.specs.Verifies.{read_name, verified_line}
 use Rattle.elim_program.specs.Words.{verify_asked}
-
--- the signature S with one entry more, the one that was read; the levels that a family keeps are not read
-pub data Adds (S : Signature) : RawEntry → Signature → Type 0 where
-  family : (raw : RawFamily) (f : Family) → IsAsDeclared (length S.entries) raw f → Adds S (RawFamilyOf raw) (pushed S (FamilyOf f))
-  eliminator : (n m : ℕ) → Adds S (RawEliminator n m) (pushed S (EliminatorAt n m))
-  axiom_k : (i m : ℕ) → Adds S (RawAxiomK i m) (pushed S (AxiomKAt i m))
-  definition : (name : List ℕ) (type body : Term) → Adds S (RawDefinition name type body) (pushed S (Definition name type body))
 
 -- The core text up to an offset has the signature: the prelude, with axiom K where the head says so and `k` allows it, and
 -- after it the entries that are read one by one, which have the names.

@@ -28,11 +28,12 @@ use Rattle.core_text.specs.PlainNames.{HasPlainNames, IsPlainName, HasPlainFamil
 use Rattle.core_text.specs.RawEntries.{entry_shown, family_shown, constructor_line}
 use Rattle.core_text.specs.ReadBack.{EntryReadsBack, EntriesAreReadBack}
 use Rattle.core_text.specs.WrittenEntries.{MayFollow, EntriesThatFollow}
+use Rattle.elab_session.specs.Adding.{Adds, family, eliminator, axiom_k, definition}
 use Rattle.elim_program.specs.Headline.{is_core, core_lines, Shows, none, more}
 use Rattle.elim_program.specs.Lines.{text_of}
 use Rattle.elim_program.specs.Outputs.{line_of, entry_lines, head_lines}
 use Rattle.elim_program.specs.Verifies.{read_name}
-use Rattle.elim_program.specs.VerifyHeadline.{Adds, family, eliminator, axiom_k, definition, Holds, head, entry}
+use Rattle.elim_program.specs.VerifyHeadline.{Holds, head, entry}
 use Rattle.program_laws.specs.CoreFiles.{IsCoreFile}
 
 first-of : {A : Type 0} (b : Bool) (x y : A) → b ≡ true → (if b then x else y) ≡ x

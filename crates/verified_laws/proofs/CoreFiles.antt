@@ -15,13 +15,14 @@ use Rattle.core_text.specs.Heads.{head as head_text, head_of, head_stop, has_hea
 use Rattle.core_text.specs.RawEntries.{RawEntry, RawFamilyOf, RawEliminator, RawAxiomK, RawDefinition}
 use Rattle.core_text.specs.declared.stop.CoreTextStop.TheVariants.{NotCoreText}
 use Rattle.family_check.specs.Entering.{declare_of, entered, entered_at}
+use Rattle.elab_session.specs.Adding.{Adds, family, eliminator, axiom_k, definition}
 use Rattle.elab_session.specs.Entering.{answered, enter_of, refused}
 use Rattle.accepted_laws.specs.Checked.{LetsIn, Checked}
 use Rattle.accepted_laws.proofs.Families.{family-is}
 use Rattle.elim_program.specs.DefinedOutputs.{IsOutput, verifies}
 use Rattle.elim_program.specs.Outputs.{Block, block, compiled, followed}
 use Rattle.elim_program.specs.Verifies.{after_entry, after_head, file_block, entries, entry_block, next_block, read_name, verified_line}
-use Rattle.elim_program.specs.VerifyHeadline.{Adds, family, eliminator, axiom_k, definition, Holds, head, entry}
+use Rattle.elim_program.specs.VerifyHeadline.{Holds, head, entry}
 use Rattle.elim_program.specs.Texts.{limited}
 use Rattle.elim_program.specs.Words.{verify_asked}
 use Rattle.elim_program.proofs.Entries.{bound_is_enough}
