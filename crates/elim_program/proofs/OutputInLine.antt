@@ -31,7 +31,7 @@ use Rattle.elim_program.specs.Texts as texts
 use Rattle.elim_program.specs.Texts.{Gives, too_long, not_utf8, bad_token, tokens, limited, read, unless_unbuilt}
 use Rattle.elim_program.specs.Unbuilt.{unbuilt}
 use Rattle.elim_program.specs.Verifies.{file_block, verified_line}
-use Rattle.elim_program.specs.VerifyHeadline.{IsVerifyHeadline, VerifyHeadline}
+use Rattle.elim_program.specs.VerifyHeadline.{IsVerifyHeadline, SaysVerified, VerifiedIsReady, VerifyHeadline}
 use Rattle.elim_program.specs.WorkTexts.{summary_line, work_text}
 use Rattle.elim_program.specs.Works.{none_counted, on_worked, with_accepted, work_block, worked, worked_block}
 use Rattle.elim_program.proofs.Accepted.{accepted}
@@ -156,12 +156,19 @@ acceptance_of_front words bytes text out is front above below name line =
 pub headline_of_front : (words : List (List ℕ)) (bytes text : List ℕ) (out : Output) → IsOutput words bytes out → IsFront text (text_of out.lines) → IsHeadline words bytes text
 headline_of_front words bytes text out is front above below name line = shown words bytes above name (acceptance_of_front words bytes text out is front above below name line)
 
-pub verify_headline_of_front : (words : List (List ℕ)) (bytes text : List ℕ) (out : Output) → IsOutput words bytes out → IsFront text (text_of out.lines) → IsVerifyHeadline words bytes text
-verify_headline_of_front words bytes text out is front command asks above below name line =
+verified_of_front : (words : List (List ℕ)) (bytes text : List ℕ) (out : Output) → IsOutput words bytes out → IsFront text (text_of out.lines) → SaysVerified words bytes text
+verified_of_front words bytes text out is front command asks above below name line =
     let more = lines-front text front.0 in
     let whole : out.lines ≡ above ++ verified_line name ∷ (below ++ more.0) =
     sym (lines-text out.lines (output-in words bytes out is)) ∙ ap lines_of front.1 ∙ more.1 ∙ ap (λ ls. ls ++ more.0) line ∙ append_assoc above (verified_line name ∷ below) more.0 in
     verified words bytes out command above (below ++ more.0) name is asks whole
+
+pub verify_headline_of_front : (words : List (List ℕ)) (bytes text : List ℕ) (out : Output) → IsOutput words bytes out → IsFront text (text_of out.lines) → IsVerifyHeadline words bytes text
+verify_headline_of_front words bytes text out is front command asks above below name line =
+    (verified_of_front words bytes text out is front command asks above below name line).verified
+
+pub verified_is_ready : VerifiedIsReady
+verified_is_ready words bytes out is text rest whole = verified_of_front words bytes text out is (rest, whole)
 
 pub verify_headline : VerifyHeadline
 verify_headline words bytes out is = verify_headline_of_front words bytes (text_of out.lines) out is ([], sym (append-nil (text_of out.lines)))

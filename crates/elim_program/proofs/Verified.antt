@@ -24,7 +24,7 @@ use Rattle.elim_program.specs.Outputs.{Output, followed, head_lines}
 use Rattle.elim_program.specs.Refusals.{refusal_line, stop_line}
 use Rattle.elim_program.specs.Texts.{limited}
 use Rattle.elim_program.specs.Verifies.{after_entry, after_head, entries, entry_block, file_block, next_block, read_name, unread, verified_line}
-use Rattle.elim_program.specs.VerifyHeadline.{Holds, head, entry, IsVerified}
+use Rattle.elim_program.specs.VerifyHeadline.{Holds, head, entry, IsVerifiedReady}
 use Rattle.elim_program.specs.Words.{verify_asked}
 use Rattle.elim_program.proofs.Entries.{can-enter}
 use Rattle.elim_program.proofs.FileHeads.{is-head}
@@ -107,15 +107,18 @@ has-k k text U at names (entry S T from to before raw held read adds) is = has-k
     same (axiom_k i m) h = h
     same (definition name type body) h = h
 
-as_verified : (k : Bool) (text : List ℕ) (above : List (List ℕ)) (name : List ℕ) → IsFound k text above name → IsVerified k text (head_lines k ++ above) name
+as_verified : (k : Bool) (text : List ℕ) (above : List (List ℕ)) (name : List ℕ) → IsFound k text above name → IsVerifiedReady k text (head_lines k ++ above) name
 as_verified k text above name f = record {
-  signature = f.signature;
-  offset = f.offset;
-  names = f.known.names;
-  held = f.known.held;
+  verified = record {
+    signature = f.signature;
+    offset = f.offset;
+    names = f.known.names;
+    held = f.known.held;
+    formed = f.known.ready.well_formed;
+    has_k = has-k k text f.signature f.offset f.known.names f.known.held;
+    lines = append_assoc (head_lines k) above (verified_line name ∷ []) ∙ ap (λ ls. head_lines k ++ ls) f.known.lines;
+  };
   ready = f.known.ready;
-  has_k = has-k k text f.signature f.offset f.known.names f.known.held;
-  lines = append_assoc (head_lines k) above (verified_line name ∷ []) ∙ ap (λ ls. head_lines k ++ ls) f.known.lines;
 }
 
 file-found : (k : Bool) (fuel : ℕ) (text : List ℕ) (above below : List (List ℕ)) (name : List ℕ) → (after_head fuel text (head_of k text)).lines ≡ above ++ verified_line name ∷ below → IsFound k text above name
@@ -143,12 +146,12 @@ text-found command bytes above below name e = go (nat_lt 1048576 (length bytes))
     go false e = file-found command.k command.fuel bytes above below name e
 
 pub verified : (words : List (List ℕ)) (bytes : List ℕ) (out : Output) (command : Command) (above below : List (List ℕ)) (name : List ℕ) → IsOutput words bytes out → verify_asked words ≡ Some command →
-    out.lines ≡ above ++ verified_line name ∷ below → IsVerified command.k bytes above name
+    out.lines ≡ above ++ verified_line name ∷ below → IsVerifiedReady command.k bytes above name
 unfolding third
 verified words bytes out command above below name (refused_words none nothing other) asks e = absurd (let k = sym nothing ∙ asks in cc)
 verified words bytes out command above below name (compiles other answer first gives) asks e = absurd (not-both-asked words other command first asks)
 verified words bytes out command above below name (works work answer first gives) asks e = absurd (let k = sym (work-no-verify words work first) ∙ asks in cc)
 verified words bytes out command above below name (verifies other is) asks e =
     let b = after_heads other.k (file_block other (limited bytes)).lines above below (verified_line name) (λ k. omega (arith, k)) (λ k. omega (arith, k)) e in
-    subst (λ c. IsVerified c.k bytes above name) (same-command (verify_asked words) other command is asks)
-    (subst (λ ls. IsVerified other.k bytes ls name) (sym b.1) (as_verified other.k bytes b.0 name (text-found other bytes b.0 below name b.2)))
+    subst (λ c. IsVerifiedReady c.k bytes above name) (same-command (verify_asked words) other command is asks)
+    (subst (λ ls. IsVerifiedReady other.k bytes ls name) (sym b.1) (as_verified other.k bytes b.0 name (text-found other bytes b.0 below name b.2)))

@@ -2,6 +2,7 @@
 use Rattle.std.specs.Prelude.{◌≡◌, ℕ, Bool, IsTrue, List, [], ◌∷◌, ◌++◌, map, Some, Ok}
 use Rattle.theory.specs.Prelude.{prelude}
 use Rattle.theory.specs.Signatures.{Signature}
+use Rattle.theory.specs.WellFormed.{IsWellFormed}
 use Rattle.core_text.specs.EntryReading.{entry_from}
 use Rattle.core_text.specs.Heads.{head_of}
 use Rattle.core_text.specs.RawEntries.{RawEntry}
@@ -28,7 +29,7 @@ pub record IsVerified (k : Bool) (text : List ℕ) (above : List (List ℕ)) (na
   pub offset : ℕ
   pub names : List (List ℕ)
   pub held : Holds k text signature offset names
-  pub ready : IsReady signature
+  pub formed : IsWellFormed signature
   pub has_k : IsTrue signature.has_k → IsTrue k
   pub lines : above ++ verified_line name ∷ [] ≡ head_lines k ++ map verified_line names
 
@@ -37,6 +38,21 @@ abbrev pub IsVerifyHeadline : List (List ℕ) → List ℕ → List ℕ → Type
 IsVerifyHeadline words bytes text =
     (command : Command) → verify_asked words ≡ Some command → (above below : List (List ℕ)) (name : List ℕ)
     → lines_of text ≡ above ++ verified_line name ∷ below → IsVerified command.k bytes above name
+
+-- The same, and the signature is one that a session may have.
+pub record IsVerifiedReady (k : Bool) (text : List ℕ) (above : List (List ℕ)) (name : List ℕ) : Type 0 where
+  pub verified : IsVerified k text above name
+  pub ready : IsReady verified.signature
+
+abbrev pub SaysVerified : List (List ℕ) → List ℕ → List ℕ → Type 0
+SaysVerified words bytes text =
+    (command : Command) → verify_asked words ≡ Some command → (above below : List (List ℕ)) (name : List ℕ)
+    → lines_of text ≡ above ++ verified_line name ∷ below → IsVerifiedReady command.k bytes above name
+
+-- that holds of each output that is defined, and of what is written of it
+abbrev pub VerifiedIsReady : Type 0
+VerifiedIsReady =
+    (words : List (List ℕ)) (bytes : List ℕ) (out : Output) → IsOutput words bytes out → (text rest : List ℕ) → text_of out.lines ≡ text ++ rest → SaysVerified words bytes text
 
 -- the headline of each output that is defined
 abbrev pub VerifyHeadline : Type 0

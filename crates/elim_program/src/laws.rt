@@ -3,7 +3,7 @@ ghost use Rattle.elim_program.specs.Acceptance.{Acceptance, AcceptedIsShown};
 ghost use Rattle.elim_program.specs.DefinedOutputs.{HasOneOutput};
 ghost use Rattle.elim_program.specs.Headline.{Headline};
 ghost use Rattle.elim_program.specs.Verifies.{BoundIsEnough};
-ghost use Rattle.elim_program.specs.VerifyHeadline.{VerifyHeadline};
+ghost use Rattle.elim_program.specs.VerifyHeadline.{VerifiedIsReady, VerifyHeadline};
 ghost use Rattle.elim_program.specs.WorkLaws.{WorkCountsOutput};
 
 /// Where a line says that a declaration is accepted, the elaborator accepts it over the signature that the declarations before it gave.
@@ -30,6 +30,11 @@ pub fn bound_is_enough()
 /// rules.
 pub fn verify_headline()
     ensures { VerifyHeadline }
+{}
+
+/// Where a line says that an entry of a core file is verified, its signature is also one that a session may have.
+pub fn verified_is_ready()
+    ensures { VerifiedIsReady }
 {}
 
 /// What is written and the status are a function of the words and the bytes.

@@ -98,7 +98,7 @@ pub without_k : WithoutK
 without_k words bytes above name shown off = without words bytes above name shown off
 
 pub verified_without_k : VerifiedWithoutK
-verified_without_k text above name verified = well_formed_without_k verified.signature verified.ready.well_formed (flag verified.signature.has_k verified.has_k)
+verified_without_k text above name verified = well_formed_without_k verified.signature verified.formed (flag verified.signature.has_k verified.has_k)
   where
     flag : (b : Bool) → (IsTrue b → IsTrue false) → b ≡ false
     flag true h = absurd (true≢false (sym (h refl)))
