@@ -1,0 +1,77 @@
+//! What is refused, by definition, is never refused for want of memory.
+ghost use Rattle.memory_laws.specs.Laws.{AxiomKForeseen, CheckForeseen, ConvertibleForeseen, DeclareNeedsNoMemory, DefinitionForeseen, ElaborateNeedsNoMemory, EliminatorForeseen, EnterNeedsNoMemory, FamilyForeseen, FunctionForeseen, InferForeseen, InferSortForeseen, NormalForeseen, SubtypeForeseen, WhnfForeseen};
+
+/// A head form is refused for want of units or for a height alone.
+pub fn whnf_is_foreseen()
+    ensures { WhnfForeseen }
+{}
+
+/// So is a normal form.
+pub fn normal_is_foreseen()
+    ensures { NormalForeseen }
+{}
+
+/// So is whether terms are convertible.
+pub fn convertible_is_foreseen()
+    ensures { ConvertibleForeseen }
+{}
+
+/// So is whether a term is below another one.
+pub fn subtype_is_foreseen()
+    ensures { SubtypeForeseen }
+{}
+
+/// So is the type of a term, beside what the checker denies.
+pub fn infer_is_foreseen()
+    ensures { InferForeseen }
+{}
+
+/// So is the sort of a type.
+pub fn infer_sort_is_foreseen()
+    ensures { InferSortForeseen }
+{}
+
+/// So is whether a term has a wanted type.
+pub fn check_is_foreseen()
+    ensures { CheckForeseen }
+{}
+
+/// A family is refused for want of units, for a height, or for a cause of its own.
+pub fn family_is_foreseen()
+    ensures { FamilyForeseen }
+{}
+
+/// So is a definition.
+pub fn definition_is_foreseen()
+    ensures { DefinitionForeseen }
+{}
+
+/// So is an eliminator, and never for a name.
+pub fn eliminator_is_foreseen()
+    ensures { EliminatorForeseen }
+{}
+
+/// So is axiom K.
+pub fn axiom_k_is_foreseen()
+    ensures { AxiomKForeseen }
+{}
+
+/// An entry of a core file that may enter is never refused for want of memory.
+pub fn enter_needs_no_memory()
+    ensures { EnterNeedsNoMemory }
+{}
+
+/// A function by clauses is refused for want of units, for a height, or for a cause of its own.
+pub fn function_is_foreseen()
+    ensures { FunctionForeseen }
+{}
+
+/// A definition or a family is never refused for want of memory.
+pub fn declare_needs_no_memory()
+    ensures { DeclareNeedsNoMemory }
+{}
+
+/// No declaration is.
+pub fn elaborate_needs_no_memory()
+    ensures { ElaborateNeedsNoMemory }
+{}
