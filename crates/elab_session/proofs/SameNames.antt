@@ -1,18 +1,20 @@
 -- Over signatures that give every number the same name, texts are the same.
-use Rattle.std.proofs.Common.{◌≡◌, ℕ, zero, suc, Bool, true, false, List, [], ◌∷◌, ◌++◌, map, length, slice_get, refl, ap, ap₂, sym, ◌∙◌}
+use Rattle.std.proofs.Common.{◌≡◌, ℕ, zero, suc, Bool, true, false, List, [], ◌∷◌, ◌++◌, slice_get, refl, ap, ap₂, sym}
 use Rattle.std.specs.Prelude.{codes}
 use Rattle.theory.specs.Terms.{Term}
 use Rattle.theory.specs.Terms.Term.{Var, Sort, Pi, Lam, App, Let, Const, Fam, Con, Elim, AxiomK}
 use Rattle.theory.specs.Families.{Family}
-use Rattle.theory.specs.Signatures.{Entry, FamilyOf, Signature}
+use Rattle.theory.specs.Signatures.{Entry, FamilyOf, Definition, Signature}
 use Rattle.theory.specs.WellFormed.{pushed}
 use Rattle.core_terms.specs.Verdicts.{Denial, Reason}
 use Rattle.core_terms.specs.Verdicts.Reason.{Mismatch, NotAProduct, NotASort, NoSuchInstance, LevelTooHigh}
-use Rattle.core_sig.specs.Meanings.{constructor_of, family_of}
-use Rattle.core_sig.specs.declared.family.Family as code
-use Rattle.core_text.specs.SymbolNames.{constructor_name_at, constructor_name_in, eliminator_name, name_at, own_constructor_name, own_name}
+use Rattle.core_sig.specs.Raw.{RawFamily}
+use Rattle.family_check.specs.Families.{family_without}
+use Rattle.family_check.specs.Outcomes.{Site, OfType, OfBody, OfParameter, OfConstructor}
+use Rattle.family_check.specs.Scopes.{site_signature, with_raw}
+use Rattle.core_text.specs.SymbolNames.{constructor_name_at, constructor_name_in, eliminator_name, name_at, own_constructor_name, own_name, with_name, with_own}
 use Rattle.core_text.specs.TermText.{enclosed, spelled}
-use Rattle.elab_session.specs.Refusals.{ill_typed}
+use Rattle.elab_session.specs.Refusals.{ill_typed, own_at}
 use Rattle.core_text.specs.ContextText.{reason_text, types_text}
 use Rattle.elab_session.specs.declared.refusal.PartName.{PartName}
 use Rattle.elab_session.specs.declared.refusal.Refusal.TheVariants.{IllTyped}
@@ -57,29 +59,29 @@ pub ill_typed-same : (S T : Signature) → HaveSameNames S T → (part : PartNam
 ill_typed-same S T h part d =
     ap₂ (λ x y. IllTyped part d.place x y) (ap (λ x. codes "[" ++ x ++ codes "]") (types-same S T h [] d.ctx)) (reason-same S T h d.reason)
 
-module _ (f g : Family) (named : f.name ≡ g.name) (bare : f.constructors ≡ []) (same : g.constructors ≡ []) where
-  last-named : (es : List Entry) (n : ℕ) → own_name (slice_get (es ++ FamilyOf f ∷ []) n) ≡ own_name (slice_get (es ++ FamilyOf g ∷ []) n)
-  last-named [] zero = named
+module _ (name : List ℕ) (f : Family) (named : f.name ≡ name) (bare : f.constructors ≡ []) where
+  last-named : (es : List Entry) (n : ℕ) → own_name (slice_get (es ++ Definition name (Sort 0) (Sort 0) ∷ []) n) ≡ own_name (slice_get (es ++ FamilyOf f ∷ []) n)
+  last-named [] zero = sym named
   last-named [] (suc n) = refl
   last-named (e ∷ es) zero = refl
   last-named (e ∷ es) (suc n) = last-named es n
 
   constructors-named : (es : List Entry) (n c : ℕ)
-      → constructor_name_in (slice_get (es ++ FamilyOf f ∷ []) n) c ≡ constructor_name_in (slice_get (es ++ FamilyOf g ∷ []) n) c
-  constructors-named [] zero c = ap (λ cs. own_constructor_name (slice_get cs c)) (bare ∙ sym same)
+      → constructor_name_in (slice_get (es ++ Definition name (Sort 0) (Sort 0) ∷ []) n) c ≡ constructor_name_in (slice_get (es ++ FamilyOf f ∷ []) n) c
+  constructors-named [] zero c = sym (ap (λ cs. own_constructor_name (slice_get cs c)) bare)
   constructors-named [] (suc n) c = refl
   constructors-named (e ∷ es) zero c = refl
   constructors-named (e ∷ es) (suc n) c = constructors-named es n c
 
-  -- the family at the end has no constructors in either signature
-  pub bare-names : (S : Signature) → HaveSameNames (pushed S (FamilyOf f)) (pushed S (FamilyOf g))
+  -- a name alone does for a family without constructors
+  bare-names : (S : Signature) → HaveSameNames (with_name S name) (pushed S (FamilyOf f))
   bare-names S = record { entries = last-named S.entries; constructors = constructors-named S.entries }
 
--- what is denied over the signature with a family that has only its name is denied over any with that family, without
--- constructors, at its end
-pub bare-denied : (S T : Signature) (b : code.Family) (f : Family) (name : List ℕ) → b.name ≡ name → b.cons ≡ [] → T ≡ pushed S (FamilyOf (family_of b))
-    → f.name ≡ name → f.constructors ≡ [] → (part : PartName) (d : Denial) → ill_typed T part d ≡ ill_typed (pushed S (FamilyOf f)) part d
-bare-denied S T b f name named bare is same none part d =
-    ap (λ U. ill_typed U part d) is
-    ∙ ill_typed-same (pushed S (FamilyOf (family_of b))) (pushed S (FamilyOf f))
-    (bare-names (family_of b) f (named ∙ sym same) (ap (λ cs. map (constructor_of (length b.params)) cs) bare) none S) part d
+-- a part of a family is denied over the signature that it is checked over
+pub part-denied : (S : Signature) (name : List ℕ) (raw : RawFamily) → raw.name ≡ name → (site : Site) (part : PartName) (d : Denial)
+    → ill_typed (with_own S (own_at name site)) part d ≡ ill_typed (site_signature S raw site) part d
+part-denied S name raw named OfType part d = refl
+part-denied S name raw named OfBody part d = refl
+part-denied S name raw named (OfParameter k) part d = refl
+part-denied S name raw named (OfConstructor n) part d =
+    ill_typed-same (with_name S name) (with_raw S raw) (bare-names name (family_without raw [] 0) named refl S) part d

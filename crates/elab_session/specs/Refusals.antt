@@ -46,6 +46,11 @@ part_of names OfBody = Body
 part_of names (OfParameter k) = Param k
 part_of names (OfConstructor n) = Con (name_in names n)
 
+-- the name of the family that is being declared, where the texts of a part name it: constructors alone do
+abbrev pub own_at : List ℕ → Site → Option (List ℕ)
+own_at name (OfConstructor n) = Some name
+own_at name _ = None
+
 -- the checker denies a part, over the signature S
 abbrev pub ill_typed : Signature → PartName → Denial → Refusal
 ill_typed S part d = IllTyped part d.place (context_text S d.ctx) (reason_text S d.reason)

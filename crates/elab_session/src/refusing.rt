@@ -2,13 +2,14 @@ ghost use Rattle.std.specs.Prelude.{◌≡◌, Ok};
 ghost use Rattle.std.specs.Option.{option_copied};
 ghost use Rattle.core_terms.specs.Answers.{Gives, Unless};
 ghost use Rattle.core_terms.specs.Meanings.{denial_of};
+ghost use Rattle.core_text.specs.SymbolNames.{with_own};
 ghost use Rattle.family_check.specs.Meanings.{site_of, stop_of};
 ghost use Rattle.elab_session.specs.Refusals as spec;
 
 use crate::{PartName, Refusal};
 use core_sig::Signature;
 use core_terms::{Denial, Name, Stop, copy_name};
-use core_text::{context_text, reason_text};
+use core_text::{context_text_with, reason_text_with};
 use family_check::{FamilyStop, Site};
 use std::alloc::Global;
 use surface_syntax::Word;
@@ -45,17 +46,18 @@ fn part_of(alloc: Global, names: &[Name], site: Site) -> Result<PartName, Stop>
     }
 }
 
-/// The checker denies a part.
+/// The checker denies a part. `own` is the name of what is being declared, where the texts name it.
 fn ill_typed(
     alloc: Global,
     sig: &Signature,
+    own: Option<&[u8]>,
     part: PartName,
     denial: Denial,
 ) -> Result<Refusal, Stop>
-    ensures { Gives (λ refusal. refusal) result (Ok (spec.ill_typed sig.now part (denial_of denial))) }
+    ensures { Gives (λ refusal. refusal) result (Ok (spec.ill_typed (with_own sig.now (option_copied own.entry)) part (denial_of denial))) }
 {
-    let ctx = context_text(alloc, sig, denial.ctx.as_slice())?;
-    let reason = reason_text(alloc, sig, &denial.reason)?;
+    let ctx = context_text_with(alloc, sig, own, denial.ctx.as_slice())?;
+    let reason = reason_text_with(alloc, sig, own, &denial.reason)?;
     Ok(Refusal::IllTyped {
         part,
         place: denial.place,
@@ -64,18 +66,19 @@ fn ill_typed(
     })
 }
 
-/// The checker denies what is written at the site.
+/// The checker denies what is written at the site. `own` is the name of what is being declared, where the texts name it.
 pub(crate) fn denied_part(
     alloc: Global,
     sig: &Signature,
+    own: Option<&[u8]>,
     names: &[Name],
     site: Site,
     denial: Denial,
 ) -> Result<Refusal, Stop>
-    ensures { Gives (λ refusal. refusal) result (Ok (spec.ill_typed sig.now (spec.part_of names.now (site_of site)) (denial_of denial))) }
+    ensures { Gives (λ refusal. refusal) result (Ok (spec.ill_typed (with_own sig.now (option_copied own.entry)) (spec.part_of names.now (site_of site)) (denial_of denial))) }
 {
     let part = part_of(alloc, names, site)?;
-    ill_typed(alloc, sig, part, denial)
+    ill_typed(alloc, sig, own, part, denial)
 }
 
 /// The declared name is not new.
@@ -101,7 +104,7 @@ fn unentered(
 {
     match stop {
         FamilyStop::Stop(stop) => Ok(stopped(fuel, stop)),
-        FamilyStop::Denied { part, denial } => denied_part(alloc, sig, names, part, denial),
+        FamilyStop::Denied { part, denial } => denied_part(alloc, sig, None, names, part, denial),
         FamilyStop::NotPositive(number, k) => {
             Ok(Refusal::NotPositive(name_in(alloc, names, number)?, k))
         }

@@ -11,4 +11,4 @@ returns-clause-answer c =
     c.in-Err.ensures.err
     (c.as_slice-in-Err.ensures ∙ (ok_is c.in-Ok.ensures ∙ ap (λ cs. map (λ k. k.name) (map raw_constructor_of cs)) c.as_slice.ensures))
     (ap (λ t. word t c.args.start) c.in_ok-copy_name.ensures) c.in-Err.ensures.answer
-    (c.refuse_family.ensures.answer (raw_of c.args.raw) (sym c.in_ok-copy_name.ensures))
+    (c.refuse_family.ensures (raw_of c.args.raw) (sym c.in_ok-copy_name.ensures))
