@@ -1,22 +1,21 @@
 -- What the program writes for a text is what is meant.
-use Rattle.std.proofs.Common.{◌≡◌, ◌⊎◌, inl, inr, ℕ, Bool, false, List, [], ◌∷◌, Option, Some, Result, Ok, Err, IfOk, refl, ap, ◌∙◌, subst as transport}
+use Rattle.std.proofs.Common.{◌≡◌, inl, inr, ℕ, Bool, false, List, [], ◌∷◌, Result, Ok, Err, IfOk, refl, ap, ◌∙◌, subst as transport}
 use Rattle.theory.specs.Prelude.{prelude}
 use Rattle.theory.specs.Signatures.{Signature}
 use Rattle.surface_syntax.specs.Grammar.{limit}
 use Rattle.surface_syntax.specs.Trees.{Decl}
 use Rattle.function_session.specs.Elaborating.{Elaborated, Refused, elaborate_of}
 use Rattle.declaration_laws.specs.Laws.{AreMeant, BeginClosed, TextIsMeant}
-use Rattle.elim_program.specs.DefinedOutputs.{IsOutput, compiles, works}
+use Rattle.elim_program.specs.DefinedOutputs.{compiles, works}
 use Rattle.elim_program.specs.Outputs.{Output, after, compiled, declarations, declared_block, followed, text_block}
-use Rattle.elim_program.specs.Runs.{Follows, Wrote, nothing, output}
+use Rattle.elim_program.specs.Runs.{Follows, nothing, output}
 use Rattle.elim_program.specs.Texts.{Answer, Gives}
 use Rattle.elim_program.specs.WorkTexts.{work_text}
 use Rattle.elim_program.specs.Works.{none_counted, on_worked, with_accepted, work_output, worked, worked_block}
-use Rattle.elim_program.specs.declared.status.Status.{Status}
 use Rattle.elim_program.proofs.OneOutput.{one_output}
 use Rattle.elim_program.proofs.Reading.{is-read}
-use Rattle.meaning_laws.specs.Laws.{CompiledIsMeant, LinesAreMeant, RunIsMeant, WorkIsMeant, WritesFrom}
-use Rattle.meaning_laws.specs.Meant.{Counted, Flags, TextBeginsClosed, Workload, compiled_meant, declarations_meant, text_meant, work_meant, worked_meant}
+use Rattle.meaning_laws.specs.Laws.{CompiledIsMeant, LinesAreMeant, RunIsMeant, WorkIsMeant}
+use Rattle.meaning_laws.specs.Meant.{Counted, Flags, TextBeginsClosed, Workload, declarations_meant, text_meant, work_meant, worked_meant}
 
 -- ---- one declaration after the other
 
