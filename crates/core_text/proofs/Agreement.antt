@@ -29,15 +29,15 @@ pub record Stopped {A : Type 0} (f : List ℕ → Reading A) (rest : List ℕ) (
   pub size : length back ≡ left
   pub refused : Refused (λ y. f (front ++ y)) back
 
-abbrev pub Told : {A : Type 0} → Bool → (List ℕ → Reading A) → List ℕ → Reading A → Type 0
-Told ahead f rest (Ok p) = Passed ahead f rest p.0 p.1
-Told ahead f rest (Err (Wrong left)) = Stopped f rest left
-Told ahead f rest (Err (Nested left)) = Unit {0}
-Told ahead f rest (Err Memory) = Unit {0}
+abbrev pub Reread : {A : Type 0} → Bool → (List ℕ → Reading A) → List ℕ → Reading A → Type 0
+Reread ahead f rest (Ok p) = Passed ahead f rest p.0 p.1
+Reread ahead f rest (Err (Wrong left)) = Stopped f rest left
+Reread ahead f rest (Err (Nested left)) = Unit {0}
+Reread ahead f rest (Err Memory) = Unit {0}
 
 -- f reads every text as each text that agrees with it
 pub record Alike {A : Type 0} (ahead : Bool) (f : List ℕ → Reading A) : Type 0 where
-  pub told : (rest : List ℕ) → Told ahead f rest (f rest)
+  pub reread : (rest : List ℕ) → Reread ahead f rest (f rest)
 
 -- no byte is passed over
 abbrev pub StaysAt : {A : Type 0} → List ℕ → Reading A → Type 0
@@ -62,36 +62,36 @@ refused-map f g z go (by_character k) = by_character (λ y same. go y same (k y 
 refused-map f g z go (by_name some k) = by_name some (λ y same. go y (same-named z y some same).character (k y same))
 
 -- where reading is wrong at its first byte
-pub stopped-here : {A : Type 0} (ahead : Bool) (f : List ℕ → Reading A) (rest : List ℕ) (m : Reading A) → m ≡ wrong rest → Refused f rest → Told ahead f rest m
+pub stopped-here : {A : Type 0} (ahead : Bool) (f : List ℕ → Reading A) (rest : List ℕ) (m : Reading A) → m ≡ wrong rest → Refused f rest → Reread ahead f rest m
 stopped-here ahead f rest m is refused =
-    subst (Told ahead f rest) (sym is) (record { front = []; back = rest; is = refl; size = refl; refused = refused })
+    subst (Reread ahead f rest) (sym is) (record { front = []; back = rest; is = refl; size = refl; refused = refused })
 
 -- ---- the same text, read by a function that answers the same
 
-pub told-same : {A : Type 0} (ahead : Bool) (f g : List ℕ → Reading A) (rest : List ℕ) (m : Reading A) → ((x : List ℕ) → f x ≡ g x) → Told ahead f rest m → Told ahead g rest m
-told-same ahead f g rest (Ok p) same t = record {
+pub reread-same : {A : Type 0} (ahead : Bool) (f g : List ℕ → Reading A) (rest : List ℕ) (m : Reading A) → ((x : List ℕ) → f x ≡ g x) → Reread ahead f rest m → Reread ahead g rest m
+reread-same ahead f g rest (Ok p) same t = record {
   front = t.front;
   is = t.is;
   again = λ y k. sym (same (t.front ++ y)) ∙ t.again y k;
 }
-told-same ahead f g rest (Err (Wrong left)) same t = record {
+reread-same ahead f g rest (Err (Wrong left)) same t = record {
   front = t.front;
   back = t.back;
   is = t.is;
   size = t.size;
   refused = refused-map (λ y. f (t.front ++ y)) (λ y. g (t.front ++ y)) t.back (λ y k e. sym (same (t.front ++ y)) ∙ e) t.refused;
 }
-told-same ahead f g rest (Err (Nested left)) same t = tt
-told-same ahead f g rest (Err Memory) same t = tt
+reread-same ahead f g rest (Err (Nested left)) same t = tt
+reread-same ahead f g rest (Err Memory) same t = tt
 
 pub alike-same : {A : Type 0} (ahead : Bool) (f g : List ℕ → Reading A) → ((x : List ℕ) → f x ≡ g x) → Alike ahead f → Alike ahead g
 alike-same ahead f g same alike = record {
-  told = λ rest. subst (Told ahead g rest) (same rest) (told-same ahead f g rest (f rest) same (alike.told rest));
+  reread = λ rest. subst (Reread ahead g rest) (same rest) (reread-same ahead f g rest (f rest) same (alike.reread rest));
 }
 
 -- no more bytes are left than there were
-pub told-within : {A : Type 0} (ahead : Bool) (f : List ℕ → Reading A) (rest : List ℕ) (a : A) (r : List ℕ) → Passed ahead f rest a r → length r ≤ length rest
-told-within ahead f rest a r t = omega (arith, ap length t.is, length-append t.front r)
+pub reread-within : {A : Type 0} (ahead : Bool) (f : List ℕ → Reading A) (rest : List ℕ) (a : A) (r : List ℕ) → Passed ahead f rest a r → length r ≤ length rest
+reread-within ahead f rest a r t = omega (arith, ap length t.is, length-append t.front r)
 
 pub stopped-within : {A : Type 0} (f : List ℕ → Reading A) (rest : List ℕ) (left : ℕ) → Stopped f rest left → left ≤ length rest
 stopped-within f rest left t = omega (arith, ap length t.is, length-append t.front t.back, t.size)
@@ -112,12 +112,12 @@ Joins needs ahead r (Err (Wrong left)) = (v s y : List ℕ) → r ≡ v ++ s →
 Joins needs ahead r (Err (Nested left)) = Unit {0}
 Joins needs ahead r (Err Memory) = Unit {0}
 
-told-join : {A B : Type 0} (needs ahead : Bool) (g : List ℕ → Reading A) (h : A → List ℕ → Reading B) (rest : List ℕ) → Told needs g rest (g rest)
-    → ((a : A) (r : List ℕ) → g rest ≡ Ok (a, r) → Told ahead (h a) r (h a r) × Joins needs ahead r (h a r))
-    → Told ahead (λ x. and_then (g x) h) rest (and_then (g rest) h)
-told-join needs ahead g h rest first_part next = by (g rest) refl first_part
+reread-join : {A B : Type 0} (needs ahead : Bool) (g : List ℕ → Reading A) (h : A → List ℕ → Reading B) (rest : List ℕ) → Reread needs g rest (g rest)
+    → ((a : A) (r : List ℕ) → g rest ≡ Ok (a, r) → Reread ahead (h a) r (h a r) × Joins needs ahead r (h a r))
+    → Reread ahead (λ x. and_then (g x) h) rest (and_then (g rest) h)
+reread-join needs ahead g h rest first_part next = by (g rest) refl first_part
   where
-    on : (a : _) (r : List ℕ) → Passed needs g rest a r → (m : Reading _) → Told ahead (h a) r m → Joins needs ahead r m → Told ahead (λ x. and_then (g x) h) rest m
+    on : (a : _) (r : List ℕ) → Passed needs g rest a r → (m : Reading _) → Reread ahead (h a) r m → Joins needs ahead r m → Reread ahead (λ x. and_then (g x) h) rest m
     on a r t (Ok q) u joins = record {
       front = t.front ++ u.front;
       is = t.is ∙ (ap (λ s. t.front ++ s) u.is ∙ sym (append_assoc t.front u.front q.1));
@@ -137,7 +137,7 @@ told-join needs ahead g h rest first_part next = by (g rest) refl first_part
     on a r t (Err (Nested left)) u joins = tt
     on a r t (Err Memory) u joins = tt
 
-    by : (m : Reading _) → g rest ≡ m → Told needs g rest m → Told ahead (λ x. and_then (g x) h) rest (and_then m h)
+    by : (m : Reading _) → g rest ≡ m → Reread needs g rest m → Reread ahead (λ x. and_then (g x) h) rest (and_then m h)
     by (Ok p) e t = let k = next p.0 p.1 e in on p.0 p.1 t (h p.0 p.1) k.0 k.1
     by (Err (Wrong left)) e t = record {
       front = t.front;
@@ -149,11 +149,11 @@ told-join needs ahead g h rest first_part next = by (g rest) refl first_part
     by (Err (Nested left)) e t = tt
     by (Err Memory) e t = tt
 
-pub told-then : {A B : Type 0} (ahead : Bool) (g : List ℕ → Reading A) (h : A → List ℕ → Reading B) (rest : List ℕ) → Told true g rest (g rest)
-    → ((a : A) (r : List ℕ) → g rest ≡ Ok (a, r) → Told ahead (h a) r (h a r) × StartsAt r (h a r) × (ahead ≡ false → MovesAt r (h a r)))
-    → Told ahead (λ x. and_then (g x) h) rest (and_then (g rest) h)
-told-then {A} {B} ahead g h rest first_part next =
-    told-join true ahead g h rest first_part (λ a r e. let k = next a r e in (k.0, joins r (h a r) k.1 k.2))
+pub reread-then : {A B : Type 0} (ahead : Bool) (g : List ℕ → Reading A) (h : A → List ℕ → Reading B) (rest : List ℕ) → Reread true g rest (g rest)
+    → ((a : A) (r : List ℕ) → g rest ≡ Ok (a, r) → Reread ahead (h a) r (h a r) × StartsAt r (h a r) × (ahead ≡ false → MovesAt r (h a r)))
+    → Reread ahead (λ x. and_then (g x) h) rest (and_then (g rest) h)
+reread-then {A} {B} ahead g h rest first_part next =
+    reread-join true ahead g h rest first_part (λ a r e. let k = next a r e in (k.0, joins r (h a r) k.1 k.2))
   where
     joins : (r : List ℕ) (m : Reading B) → StartsAt r m → (ahead ≡ false → MovesAt r m) → Joins true ahead r m
     joins r (Ok q) starts moves = λ v y is same needs. same-ahead ahead r v q.1 y is starts moves same
@@ -166,10 +166,10 @@ told-then {A} {B} ahead g h rest first_part next =
     joins r (Err Memory) starts moves = tt
 
 -- where the first part is known by its own bytes, whatever comes after it
-pub told-next : {A B : Type 0} (ahead : Bool) (g : List ℕ → Reading A) (h : A → List ℕ → Reading B) (rest : List ℕ) → Told false g rest (g rest)
-    → ((a : A) (r : List ℕ) → g rest ≡ Ok (a, r) → Told ahead (h a) r (h a r))
-    → Told ahead (λ x. and_then (g x) h) rest (and_then (g rest) h)
-told-next {A} {B} ahead g h rest first_part next = told-join false ahead g h rest first_part (λ a r e. (next a r e, joins r (h a r)))
+pub reread-next : {A B : Type 0} (ahead : Bool) (g : List ℕ → Reading A) (h : A → List ℕ → Reading B) (rest : List ℕ) → Reread false g rest (g rest)
+    → ((a : A) (r : List ℕ) → g rest ≡ Ok (a, r) → Reread ahead (h a) r (h a r))
+    → Reread ahead (λ x. and_then (g x) h) rest (and_then (g rest) h)
+reread-next {A} {B} ahead g h rest first_part next = reread-join false ahead g h rest first_part (λ a r e. (next a r e, joins r (h a r)))
   where
     joins : (r : List ℕ) (m : Reading B) → Joins false ahead r m
     joins r (Ok q) = λ v y is same needs. absurd (cc)
@@ -179,5 +179,5 @@ told-next {A} {B} ahead g h rest first_part next = told-join false ahead g h res
 
 pub alike-then : {A B : Type 0} (ahead : Bool) (g : List ℕ → Reading A) (h : A → List ℕ → Reading B) → Alike true g → ((a : A) → Alike ahead (h a)) → ((a : A) (r : List ℕ) → StartsAt r (h a r)) → ((a : A) (r : List ℕ) → ahead ≡ false → MovesAt r (h a r)) → Alike ahead (λ x. and_then (g x) h)
 alike-then ahead g h first_part next starts moves = record {
-  told = λ rest. told-then ahead g h rest (first_part.told rest) (λ a r e. ((next a).told r, starts a r, moves a r));
+  reread = λ rest. reread-then ahead g h rest (first_part.reread rest) (λ a r e. ((next a).reread r, starts a r, moves a r));
 }

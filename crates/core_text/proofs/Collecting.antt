@@ -1,9 +1,8 @@
 -- Items that are read one after the other, one turn at a time.
-use Rattle.std.proofs.Common.{◌≡◌, ℕ, zero, suc, ◌-◌, ◌<◌, List, [], ◌∷◌, ◌++◌, length, refl, ap, ◌∙◌, arith}
-use Rattle.std.specs.Prelude.{Ok, Err, Option, Some, None}
+use Rattle.std.proofs.Common.{◌≡◌, ℕ, zero, suc, ◌-◌, ◌<◌, List, [], ◌∷◌, ◌++◌, ap, ◌∙◌, arith}
+use Rattle.std.specs.Prelude.{Ok, Option, Some, None}
 use Rattle.core_text.specs.Reading.{Reading, and_then}
 use Rattle.core_text.specs.LineReading.{after_item, collected}
-use Rattle.core_text.specs.declared.halt.Halt.TheVariants.{Wrong}
 
 less-one : (k : ℕ) → suc k - 1 ≡ k
 less-one k = omega arith

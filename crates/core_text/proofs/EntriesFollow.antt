@@ -1,39 +1,39 @@
--- An entry that may follow others is read back.
-use Rattle.std.proofs.Common.{◌≡◌, ◌≢◌, inl, inr, ℕ, suc, ◌+◌, ◌<◌, ◌≤◌, ◌^◌, Bool, true, false, List, [], ◌∷◌, ◌++◌, map, length, drop, take, refl, sym, ap, ◌∙◌, subst, arith}
-use Rattle.std.specs.Prelude.{not, ◌==◌, ◌&&◌, ◌||◌, nat_lt, if◌then◌else◌, Option, Some, None, option_and_then, slice_get, Ok, All, AllPairs, bytes_eq, codes}
+-- What may be in a line over a signature is spelled right there, and an entry that may follow others is read back.
+use Rattle.std.proofs.Common.{◌≡◌, ◌≢◌, inl, inr, ℕ, suc, ◌+◌, ◌<◌, ◌≤◌, ◌^◌, Bool, true, false, List, [], ◌∷◌, ◌++◌, map, length, refl, sym, ap, ◌∙◌, subst, arith}
+use Rattle.std.specs.Prelude.{◌==◌, ◌&&◌, ◌||◌, nat_lt, if◌then◌else◌, Option, Some, None, option_and_then, slice_get, All, AllPairs, bytes_eq, codes}
 use Rattle.std.specs.List.{list_any}
 use Rattle.std.specs.Option.{is_some}
 use Rattle.std.proofs.lemmas.Bool.{false≢true, and_from}
 use Rattle.std.proofs.lemmas.Bool.Decides.{nat_tests}
-use Rattle.std.proofs.lemmas.List.{length-append}
 use Rattle.std.proofs.lemmas.List.Elements.{All-nil, All-cons, All-head, All-tail}
 use Rattle.std.proofs.lemmas.List.Folds.{list_any-append}
 use Rattle.std.proofs.lemmas.Slice.Eq.{bytes_eq-Decides}
 use Rattle.theory.specs.Terms.{Term, Var, Sort, Pi, Lam, App, Let, Const, Fam, Con, Elim, AxiomK, free_of, height, top}
 use Rattle.theory.specs.Telescopes.{Telescope}
-use Rattle.theory.specs.Families.{Constructor, Family}
 use Rattle.theory.specs.Signatures.{Signature, Entry, FamilyOf, EliminatorAt, AxiomKAt, Definition, IsEntryAt, names_of, names}
+use Rattle.theory.specs.SignatureScopes.{IsFamilyNumber}
 use Rattle.core_sig.specs.Names.{find}
 use Rattle.core_sig.specs.Raw.{RawConstructor}
 use Rattle.core_sig.specs.declared.entry.Found.{Found}
 use Rattle.core_sig.specs.declared.entry.Found.TheVariants.{Entry as FoundEntry, Con as FoundCon}
 use Rattle.core_sig.proofs.NameLists.{differs}
-use Rattle.core_text.specs.DeclaredNames.{is_eliminator_name, is_axiom_k_name, is_new, may_declare, by_shape, shape_of}
+use Rattle.core_text.specs.DeclaredNames.{is_eliminator_name, is_axiom_k_name}
+use Rattle.core_text.specs.EntryParts.{IsTermWith, AreTypesWith, AreConstructorsWith, IsEntryWith, EachTerm, IsLow, HasLowTerms}
 use Rattle.core_text.specs.PlainNames.{IsPlainName, HasPlainFamily, HasPlainNames, HasSpelledNames}
-use Rattle.core_text.specs.RawEntries.{type_shown, constructor_type_shown, constructor_line}
-use Rattle.core_text.specs.ReadBack.{IsSpelled, AreSpelled, MayDeclare, IsReadBack, AreReadBack, ConstructorsReadBack, FamilyReadsBack, IsFoundFamily}
+use Rattle.core_text.specs.RawEntries.{RawEntry, RawFamilyOf, RawEliminator, RawAxiomK, RawDefinition, constructor_line, entry_shown}
+use Rattle.core_text.specs.ReadBack.{IsSpelled, AreSpelled, MayDeclare, IsFoundFamily, IsSpelledEntry}
 use Rattle.core_text.specs.ReadLaws.{AreFresh}
-use Rattle.core_text.specs.Reading.{wrong}
+use Rattle.core_text.specs.Spellings.{HasSymbols, IsNewName, IsEntryOver}
 use Rattle.core_text.specs.SymbolLookup.{number_at_end, before_end, entry_symbol, found_symbol, eliminator_into, eliminator_symbol, axiom_k_at, axiom_k_symbol, or_else, symbol}
 use Rattle.core_text.specs.SymbolNames.{own_name, constructor_name_in, name_at, constructor_name_at, eliminator_name}
-use Rattle.core_text.specs.WrittenEntries.{HasSymbols, IsWrittenTerm, AreWrittenTypes, IsDeclarableName, IsWrittenFamily, EntriesThatFollow}
-use Rattle.core_text.proofs.NamesSpelled.{names-are-spelled, spelled-by, all-at}
+use Rattle.core_text.specs.WrittenEntries.{IsDeclarableName, HasFewParameters, EntriesThatFollow}
+use Rattle.core_text.proofs.LineForms.{names-shown}
 use Rattle.core_text.proofs.NamesFound.{family-found}
-use Rattle.core_text.proofs.NumbersBack.{drop-word}
+use Rattle.core_text.proofs.NamesSpelled.{names-are-spelled, spelled-by, all-at}
+use Rattle.core_text.proofs.NewNames.{new-plain, new-unknown, new-read, new-name}
+use Rattle.core_text.proofs.Over.{IsTermOver, AreTypesOver, AreConstructorsOver}
 use Rattle.core_text.proofs.SymbolOutcomes.{Has}
 use Rattle.core_text.proofs.SymbolsRead.{same-bytes, find-named}
-use Rattle.core_text.proofs.TermsBack.{take-word}
-use Rattle.core_text.proofs.WholeRuns.{whole-run, no-brace}
 
 -- ---- a new name stands for nothing
 
@@ -174,126 +174,167 @@ module _ (T S : Signature) (has : Has S T) (spelled : HasSpelledNames T) (look :
       (keep (eliminator_name (name_at T k) m) (Elim k m) (spelled.eliminators k m symbols.0.0 symbols.0.1 symbols.1))
   term-spelled (AxiomK i m) n symbols free low = keep _ (AxiomK i m) (spelled.axiom_k i m symbols.0 symbols.1)
 
--- ---- names that are declared
+-- ---- names that are new
 
-pub may-declare : (T : Signature) (own : List ℕ) (found : List RawConstructor) (name : List ℕ) → IsDeclarableName name → find T name ≡ None → bytes_eq name own ≡ false → list_any (λ c. bytes_eq name c.name) found ≡ false → MayDeclare T own found name
-may-declare T own found name is unknown other others = record {
-  reads = λ rest stops.
-      ap (λ k. by_shape (shape_of (take k (name ++ rest))) (may_declare T own found (take k (name ++ rest))) (take k (name ++ rest)) (name ++ rest)) (whole-run name rest is.plain.chars stops.run)
-      ∙ (ap (λ w. by_shape (shape_of w) (may_declare T own found w) w (name ++ rest)) (take-word name rest)
-      ∙ (ap (λ s. by_shape s (may_declare T own found name) name (name ++ rest)) is.shape
-      ∙ (ap (λ b. if b then Ok (name, drop (length name) (name ++ rest)) else wrong (name ++ rest)) may
-      ∙ ap (λ r. Ok (name, r)) (drop-word name rest))));
-  no_brace = λ rest. no-brace name rest is.plain.chars is.plain.some;
-}
-  where
-    may : may_declare T own found name ≡ true
-    may =
-        and_from (not (is_eliminator_name name)) (not (is_axiom_k_name name) && is_new T own found name) (ap not is.plain.no_eliminator)
-        (and_from (not (is_axiom_k_name name)) (is_new T own found name) (ap not is.plain.no_axiom_k)
-        (and_from (not (is_some (find T name))) (not (bytes_eq name own) && not (list_any (λ c. bytes_eq name c.name) found)) (ap (λ o. not (is_some o)) unknown)
-        (and_from (not (bytes_eq name own)) (not (list_any (λ c. bytes_eq name c.name) found)) (ap not other) (ap not others))))
+-- the name is in none of the constructors so far
+abbrev Fresh : List RawConstructor → RawConstructor → Type 0
+Fresh found c = list_any (λ x. bytes_eq c.name x.name) found ≡ false
+
+abbrev named : List RawConstructor → List (List ℕ)
+named cs = map (λ c. c.name) cs
+
+all-fresh : (cs : List RawConstructor) → All (Fresh []) cs
+all-fresh [] = All-nil (Fresh [])
+all-fresh (c ∷ cs) = All-cons (Fresh []) c cs refl (all-fresh cs)
+
+more-fresh : (found : List RawConstructor) (c : RawConstructor) (cs : List RawConstructor) → All (Fresh found) cs → All (λ name. c.name ≢ name) (named cs) → All (Fresh (found ++ c ∷ [])) cs
+more-fresh found c [] fresh other = All-nil (Fresh (found ++ c ∷ []))
+more-fresh found c (d ∷ cs) fresh other =
+    All-cons (Fresh (found ++ c ∷ [])) d cs
+    (list_any-append (λ x. bytes_eq d.name x.name) found (c ∷ [])
+    ∙ (ap (λ b. b || (bytes_eq d.name c.name || false)) (All-head (Fresh found) d cs fresh)
+    ∙ ap (λ b. b || false) (differs d.name c.name (λ same. All-head (λ name. c.name ≢ name) d.name (named cs) other (sym same)))))
+    (more-fresh found c cs (All-tail (Fresh found) d cs fresh) (All-tail (λ name. c.name ≢ name) d.name (named cs) other))
 
 not-empty : (name : List ℕ) → 0 < length name → bytes_eq name [] ≡ false
 not-empty [] some = absurd (omega arith)
 not-empty (b ∷ name) some = refl
 
--- ---- whole entries
+new-constructors : (T : Signature) (Known : Term → Type 0) (own : List ℕ) (p : ℕ) (cs found : List RawConstructor) → All (Fresh found) cs → AllPairs (λ x y. x ≢ y) (named cs) → All (λ name. own ≢ name) (named cs) → All (λ name. find T name ≡ None) (named cs) → AreConstructorsWith Known (λ before. IsDeclarableName) p found cs → AreConstructorsWith Known (IsNewName T own) p found cs
+new-constructors T Known own p [] found fresh distinct others unknown are = tt
+new-constructors T Known own p (c ∷ cs) found fresh distinct others unknown are = (
+  new-name T own found c.name are.0 (All-head (λ name. find T name ≡ None) c.name (named cs) unknown)
+      (differs c.name own (λ same. All-head (λ name. own ≢ name) c.name (named cs) others (sym same))) (All-head (Fresh found) c cs fresh),
+  are.1,
+  new-constructors T Known own p cs (found ++ c ∷ [])
+      (more-fresh found c cs (All-tail (Fresh found) c cs fresh) (λ k d lt. distinct 0 (suc k) d (omega arith) (omega (arith, lt))))
+      (λ i j d lt within. distinct (suc i) (suc j) d (omega arith) (omega (arith, within)))
+      (All-tail (λ name. own ≢ name) c.name (named cs) others)
+      (All-tail (λ name. find T name ≡ None) c.name (named cs) unknown) are.2,
+)
 
-no-own : (T S : Signature) → false ≡ true → IsSpelled (symbol T []) (name_at S (length T.entries)) (Fam (length T.entries))
-no-own T S e = absurd (false≢true e)
+new-alone : (T : Signature) (name : List ℕ) (more : List (List ℕ)) → AreFresh T (name ∷ more) → IsDeclarableName name → IsNewName T [] [] name
+new-alone T name more fresh is =
+    new-name T [] [] name is (All-head (λ x. find T x ≡ None) name more fresh.unknown) (not-empty name is.plain.some) refl
 
-module _ (T S : Signature) (has : Has S T) (spelled : HasSpelledNames T) where
-  term-back : (n : ℕ) (t : Term) → n < 2 ^ 32 → IsWrittenTerm T false n t → IsReadBack T S [] n t
-  term-back n t few is = record {
-    spelled = term-spelled T S has spelled (symbol T []) false (λ name t is. is) (no-own T S) t n is.symbols is.free (omega (arith, few, is.low));
+-- an entry whose names may be declared and are fresh
+abbrev IsDeclared : Signature → RawEntry → Type 0
+IsDeclared T raw = IsEntryWith (HasSymbols T) (λ own found. IsDeclarableName) (IsFamilyNumber T) T raw
+
+new-entry : (T : Signature) (n : ℕ) (e : Entry) → AreFresh T (names_of e) → IsDeclared T (entry_shown n e) → IsEntryOver T (entry_shown n e)
+new-entry T n (FamilyOf f) fresh is =
+    let cs = map (constructor_line n f) f.constructors in
+    let new : AreFresh T (f.name ∷ named cs) = subst (AreFresh T) (sym (names-shown n f)) fresh in
+    record {
+      name = new-alone T f.name (named cs) new is.name;
+      parameters = is.parameters;
+      type = is.type;
+      constructors =
+          new-constructors T (HasSymbols T true) f.name (length f.parameters) cs [] (all-fresh cs)
+          (λ i j d lt within. new.distinct (suc i) (suc j) d (omega arith) (omega (arith, within)))
+          (λ k d lt. new.distinct 0 (suc k) d (omega arith) (omega (arith, lt)))
+          (All-tail (λ x. find T x ≡ None) f.name (named cs) new.unknown) is.constructors;
+    }
+new-entry T n (EliminatorAt g m) fresh is = is
+new-entry T n (AxiomKAt i m) fresh is = is
+new-entry T n (Definition name type body) fresh is = (new-alone T name [] fresh is.0, is.1, is.2)
+
+-- ---- what may be there is spelled right
+
+-- a term whose variables can be written
+abbrev pub IsShort : Term → Type 0
+IsShort t = height t ≤ 2 ^ 32
+
+-- S has the family, after the entries of T, which has few parameters
+abbrev pub IsAfter : Signature → Signature → RawEntry → Type 0
+IsAfter T S (RawFamilyOf raw) = (length raw.parameters < 2 ^ 32) × (name_at S (length T.entries) ≡ raw.name)
+IsAfter T S _ = Unit {0}
+
+module _ (T S : Signature) (distinct : AllPairs (λ x y. x ≢ y) (names T)) (plain : HasPlainNames T) (has : Has S T) where
+  known : HasSpelledNames T
+  known = names-are-spelled T distinct plain
+
+  term-right : (n : ℕ) (t : Term) → n < 2 ^ 32 → IsShort t → IsTermOver T false n t → IsTermWith (AreSpelled S (symbol T [])) n t
+  term-right n t few short is = record {
+    symbols = term-spelled T S has known (symbol T []) false (λ name t is. is) (λ e. absurd (false≢true e)) t n is.symbols is.free (omega (arith, few, short));
     free = is.free;
-    low = is.low;
   }
 
-  types-back : (tele found : Telescope) → length found + length tele < 2 ^ 32 → AreWrittenTypes T (length found) tele → AreReadBack T S found tele
-  types-back [] found few are = tt
-  types-back (a ∷ tele) found few are =
-      let longer = length-append found (a ∷ []) in
-      let one : length found + 1 ≡ length (found ++ a ∷ []) = omega (arith, longer) in
-      (term-back (length found) a (omega (arith, few)) are.0, types-back tele (found ++ a ∷ []) (omega (arith, few, longer)) (subst (λ k. AreWrittenTypes T k tele) one are.1))
+  types-right : (tele : Telescope) (n : ℕ) → n + length tele < 2 ^ 32 → All IsShort tele → AreTypesOver T n tele → AreTypesWith (AreSpelled S (symbol T [])) n tele
+  types-right [] n few short are = tt
+  types-right (a ∷ tele) n few short are =
+      (term-right n a (omega (arith, few)) (All-head IsShort a tele short) are.0, types-right tele (n + 1) (omega (arith, few)) (All-tail IsShort a tele short) are.1)
 
-  -- constructors of the family f, whose name is in no entry
-  module _ (f : Family) (few : length f.parameters < 2 ^ 32) (keep : (name : List ℕ) (t : Term) → IsSpelled (symbol T []) name t → IsSpelled (symbol T f.name) name t) (own : IsSpelled (symbol T f.name) (name_at S (length T.entries)) (Fam (length T.entries))) where
-    abbrev Fresh : List RawConstructor → Constructor → Type 0
-    Fresh found c = list_any (λ x. bytes_eq c.name x.name) found ≡ false
+  -- constructors of the family `own`, which is after the entries
+  module _ (own : List ℕ) (p : ℕ) (few : p < 2 ^ 32) (new : IsNewName T [] [] own) (here : name_at S (length T.entries) ≡ own) where
+    own-plain : IsPlainName own
+    own-plain = new-plain T [] [] own new
 
-    more-fresh : (found : List RawConstructor) (c : Constructor) (cs : List Constructor) → All (Fresh found) cs → All (λ name. c.name ≢ name) (map (λ d. d.name) cs) → All (Fresh (found ++ constructor_line (length T.entries) f c ∷ [])) cs
-    more-fresh found c [] fresh other = All-nil (Fresh (found ++ constructor_line (length T.entries) f c ∷ []))
-    more-fresh found c (d ∷ cs) fresh other =
-        All-cons (Fresh (found ++ constructor_line (length T.entries) f c ∷ [])) d cs
-        (list_any-append (λ x. bytes_eq d.name x.name) found (constructor_line (length T.entries) f c ∷ [])
-        ∙ (ap (λ b. b || (bytes_eq d.name c.name || false)) (All-head (Fresh found) d cs fresh)
-        ∙ ap (λ b. b || false) (differs d.name c.name (λ same. All-head (λ name. c.name ≢ name) d.name (map (λ d. d.name) cs) other (sym same)))))
-        (more-fresh found c cs (All-tail (Fresh found) d cs fresh) (All-tail (λ name. c.name ≢ name) d.name (map (λ d. d.name) cs) other))
+    unknown : symbol T [] own ≡ None
+    unknown = own-unknown T distinct plain own own-plain (new-unknown T [] [] own new)
 
-    constructors-back : (cs : List Constructor) (found : List RawConstructor) → All (Fresh found) cs → AllPairs (λ x y. x ≢ y) (map (λ d. d.name) cs) → All (λ name. f.name ≢ name) (map (λ d. d.name) cs) → All IsDeclarableName (map (λ d. d.name) cs) → All (λ name. find T name ≡ None) (map (λ d. d.name) cs) → All (λ c. IsWrittenTerm T true (length f.parameters) (constructor_type_shown (length T.entries) f c)) cs → ConstructorsReadBack T S (length T.entries) f found cs
-    constructors-back [] found fresh distinct others names unknown types = tt
-    constructors-back (c ∷ cs) found fresh distinct others names unknown types =
-        let type = All-head (λ c. IsWrittenTerm T true (length f.parameters) (constructor_type_shown (length T.entries) f c)) c cs types in (
-          may-declare T f.name found c.name (All-head IsDeclarableName c.name (map (λ d. d.name) cs) names) (All-head (λ name. find T name ≡ None) c.name (map (λ d. d.name) cs) unknown)
-              (differs c.name f.name (λ same. All-head (λ name. f.name ≢ name) c.name (map (λ d. d.name) cs) others (sym same))) (All-head (Fresh found) c cs fresh),
+    itself : IsSpelled (symbol T own) (name_at S (length T.entries)) (Fam (length T.entries))
+    itself =
+        subst (λ x. IsSpelled (symbol T own) x (Fam (length T.entries))) (sym here)
+        (spelled-by (symbol T own) own (Fam (length T.entries)) own-plain.chars own-plain.some own-plain.no_sort own-plain.no_let (own-found T own own-plain.some))
+
+    constructors-right : (cs found : List RawConstructor) → All IsShort (map (λ c. c.type) cs) → AreConstructorsOver T own p found cs → AreConstructorsWith (AreSpelled S (symbol T own)) (MayDeclare T own) p found cs
+    constructors-right [] found short are = tt
+    constructors-right (c ∷ cs) found short are =
+        let type = are.1 in
+        let low = All-head IsShort c.type (map (λ c. c.type) cs) short in (
+          new-read T own found c.name are.0,
           record {
-            spelled = term-spelled T S has spelled (symbol T f.name) true keep (λ e. own) (constructor_type_shown (length T.entries) f c) (length f.parameters) type.symbols type.free (omega (arith, few, type.low));
+            symbols = term-spelled T S has known (symbol T own) true (λ x t so. still-spelled T own x t unknown so) (λ e. itself) c.type p type.symbols type.free (omega (arith, few, low));
             free = type.free;
-            low = type.low;
           },
-          constructors-back cs (found ++ constructor_line (length T.entries) f c ∷ [])
-              (more-fresh found c cs (All-tail (Fresh found) c cs fresh) (λ k d lt. distinct 0 (suc k) d (omega arith) (omega (arith, lt))))
-              (λ i j d lt within. distinct (suc i) (suc j) d (omega arith) (omega (arith, within)))
-              (All-tail (λ name. f.name ≢ name) c.name (map (λ d. d.name) cs) others)
-              (All-tail IsDeclarableName c.name (map (λ d. d.name) cs) names)
-              (All-tail (λ name. find T name ≡ None) c.name (map (λ d. d.name) cs) unknown)
-              (All-tail (λ c. IsWrittenTerm T true (length f.parameters) (constructor_type_shown (length T.entries) f c)) c cs types),
+          constructors-right cs (found ++ c ∷ []) (All-tail IsShort c.type (map (λ c. c.type) cs) short) are.2,
         )
 
-all-fresh : (cs : List Constructor) → All (λ c. list_any {X = RawConstructor} (λ x. bytes_eq c.name x.name) [] ≡ false) cs
-all-fresh [] = All-nil (λ c. list_any {X = RawConstructor} (λ x. bytes_eq c.name x.name) [] ≡ false)
-all-fresh (c ∷ cs) = All-cons (λ c. list_any {X = RawConstructor} (λ x. bytes_eq c.name x.name) [] ≡ false) c cs refl (all-fresh cs)
+  found-right : (g : ℕ) → IsFamilyNumber T g → IsFoundFamily T (name_at S g) g
+  found-right g is =
+      subst (λ name. IsFoundFamily T name g) (ap own_name is.1 ∙ sym (ap own_name (has g (FamilyOf is.0) is.1))) (record {
+        found = ap (λ name. found_symbol T (find T name)) (ap own_name is.1) ∙ (ap (found_symbol T) (family-found T distinct g is.0 is.1) ∙ ap (entry_symbol g) is.1);
+        run = (known.families g is.0 is.1).run;
+      })
 
-family-back : (T S : Signature) → AllPairs (λ x y. x ≢ y) (names T) → HasPlainNames T → Has S T → (f : Family) → IsEntryAt S (length T.entries) (FamilyOf f) → AreFresh T (names_of (FamilyOf f)) → IsWrittenFamily T (length T.entries) f → FamilyReadsBack T S (length T.entries) f
-family-back T S distinct plain has f at fresh is =
-    let spelled = names-are-spelled T distinct plain in
-    let rest = map (λ c. c.name) f.constructors in
-    let name = All-head IsDeclarableName f.name rest is.names in
-    let unknown = All-head (λ x. find T x ≡ None) f.name rest fresh.unknown in
-    let none = own-unknown T distinct plain f.name name.plain unknown in
-    let here : f.name ≡ name_at S (length T.entries) = sym (ap own_name at) in
-    let p = name.plain in
-    let own = spelled-by (symbol T f.name) f.name (Fam (length T.entries)) p.chars p.some p.no_sort p.no_let (own-found T f.name p.some) in
-    record {
-      name = may-declare T [] [] f.name name unknown (not-empty f.name p.some) refl;
-      parameters = types-back T S has spelled f.parameters [] (omega (arith, is.few)) is.parameters;
-      type = term-back T S has spelled (length f.parameters) (type_shown f) is.few is.type;
-      constructors =
-          constructors-back T S has spelled f is.few (λ x t so. still-spelled T f.name x t none so) (subst (λ x. IsSpelled (symbol T f.name) x (Fam (length T.entries))) here own)
-          f.constructors [] (all-fresh f.constructors) (λ i j d lt within. fresh.distinct (suc i) (suc j) d (omega arith) (omega (arith, within)))
-          (λ k d lt. fresh.distinct 0 (suc k) d (omega arith) (omega (arith, lt)))
-          (All-tail IsDeclarableName f.name rest is.names) (All-tail (λ x. find T x ≡ None) f.name rest fresh.unknown) is.constructors;
-      record_shown = is.record_shown;
-    }
+  pub entry-right : (raw : RawEntry) → IsAfter T S raw → EachTerm IsShort raw → IsEntryOver T raw → IsSpelledEntry T S raw
+  entry-right (RawFamilyOf raw) after short is = record {
+    name = new-read T [] [] raw.name is.name;
+    parameters = types-right raw.parameters 0 (omega (arith, after.0)) short.0 is.parameters;
+    type = term-right (length raw.parameters) raw.type after.0 short.1 is.type;
+    constructors = constructors-right raw.name (length raw.parameters) after.0 is.name after.1 raw.constructors [] short.2 is.constructors;
+  }
+  entry-right (RawEliminator g m) after short is = (found-right g is.0, is.1)
+  entry-right (RawAxiomK i m) after short is = is
+  entry-right (RawDefinition name type body) after short is =
+      (new-read T [] [] name is.0, term-right 0 type (omega arith) short.0 is.1, term-right 0 body (omega arith) short.1 is.2)
+
+-- ---- entries that may follow
+
+all-short : (terms : List Term) → All IsLow terms → All IsShort terms
+all-short [] low = All-nil IsShort
+all-short (t ∷ terms) low =
+    let one = All-head IsLow t terms low in All-cons IsShort t terms (omega (arith, one)) (all-short terms (All-tail IsLow t terms low))
+
+low-short : (raw : RawEntry) → HasLowTerms raw → EachTerm IsShort raw
+low-short (RawFamilyOf raw) low =
+    (all-short raw.parameters low.0, omega (arith, low.1), all-short (map (λ c. c.type) raw.constructors) low.2)
+low-short (RawEliminator g m) low = tt
+low-short (RawAxiomK i m) low = tt
+low-short (RawDefinition name type body) low = (omega (arith, low.0), omega (arith, low.1))
+
+after-at : (T S : Signature) (e : Entry) → IsEntryAt S (length T.entries) e → HasFewParameters e → IsAfter T S (entry_shown (length T.entries) e)
+after-at T S (FamilyOf f) at few = (few, ap own_name at)
+after-at T S (EliminatorAt g m) at few = tt
+after-at T S (AxiomKAt i m) at few = tt
+after-at T S (Definition name type body) at few = tt
 
 pub entries-that-follow : EntriesThatFollow
-entries-that-follow T S (FamilyOf f) distinct plain has at fresh is = family-back T S distinct plain has f at fresh is
-entries-that-follow T S (EliminatorAt g m) distinct plain has at fresh is =
-    let spelled = names-are-spelled T distinct plain in
-    let family = spelled.families g is.0.0 is.0.1 in
-    let same : name_at T g ≡ name_at S g = ap own_name is.0.1 ∙ sym (ap own_name (has g (FamilyOf is.0.0) is.0.1)) in (
-      subst (λ name. IsFoundFamily T name g) same (record {
-        found = ap (λ name. found_symbol T (find T name)) (ap own_name is.0.1) ∙ (ap (found_symbol T) (family-found T distinct g is.0.0 is.0.1) ∙ ap (entry_symbol g) is.0.1);
-        run = family.run;
-      }),
-      is.1,
-    )
-entries-that-follow T S (AxiomKAt i m) distinct plain has at fresh is = is
-entries-that-follow T S (Definition name type body) distinct plain has at fresh is =
-    let spelled = names-are-spelled T distinct plain in (
-      may-declare T [] [] name is.0 (All-head (λ x. find T x ≡ None) name [] fresh.unknown) (not-empty name is.0.plain.some) refl,
-      term-back T S has spelled 0 type (omega arith) is.1,
-      term-back T S has spelled 0 body (omega arith) is.2,
-    )
+entries-that-follow T S e distinct plain has at fresh is =
+    let raw = entry_shown (length T.entries) e in
+    record {
+      spelled = entry-right T S distinct plain has raw (after-at T S e at is.few) (low-short raw is.low) (new-entry T (length T.entries) e fresh is.over);
+      low = is.low;
+      shown = is.shown;
+    }

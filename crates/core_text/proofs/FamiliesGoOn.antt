@@ -11,7 +11,7 @@ use Rattle.core_text.specs.EntryText.{parameters_text, constructors_text}
 use Rattle.core_text.specs.LineReading.{nested, whole_term, after_item, collected, parameter_at, no_parameter, next_parameter, parameters_at, constructor_at, separated, next_constructor, constructors_at, family_after, family_at}
 use Rattle.core_text.specs.RawEntries.{RawFamilyOf}
 use Rattle.core_text.specs.Reading.{Reading, first, and_then, after, past}
-use Rattle.core_text.specs.Spellings.{IsTermOver, AreTypesOver, IsNewName, AreConstructorsOver, IsFamilyOver}
+use Rattle.core_text.specs.Spellings.{IsNewName}
 use Rattle.core_text.specs.SymbolLookup.{symbol}
 use Rattle.core_text.specs.SymbolNames.{own_name, name_at, with_name}
 use Rattle.core_text.specs.TermText.{term_text}
@@ -20,10 +20,11 @@ use Rattle.core_text.proofs.FreshNames.{fresh, letters-for, fresh-name}
 use Rattle.core_text.proofs.LinesGoOn.{Goes, Read, line-front, ended-meets, whole-meets}
 use Rattle.core_text.proofs.LinesBack.{nested-is, separator, parameters-long}
 use Rattle.core_text.proofs.NamesGoOn.{Named, name-meets}
+use Rattle.core_text.proofs.Over.{IsTermOver, AreTypesOver, AreConstructorsOver, IsFamilyOver, over-sort, types-more, constructors-more}
 use Rattle.core_text.proofs.SymbolOutcomes.{Has}
 use Rattle.core_text.proofs.SymbolsOver.{own-symbol-over}
 use Rattle.core_text.proofs.SymbolsRead.{symbol-written}
-use Rattle.core_text.proofs.TermFronts.{IsText, over-sort}
+use Rattle.core_text.proofs.TermFronts.{IsText}
 use Rattle.core_text.proofs.TermsGoOn.{term-meets}
 use Rattle.core_text.proofs.WordsRead.{first-is}
 
@@ -56,22 +57,6 @@ raw_family name parameters type constructors = record { name = name; parameters 
 
 abbrev raw_constructor : List ℕ → Term → RawConstructor
 raw_constructor name type = record { name = name; type = type }
-
--- constructors after those before them
-types-more : (S : Signature) (n : ℕ) (found : List Term) (a : Term) → AreTypesOver S n found → IsTermOver S false (n + length found) a → AreTypesOver S n (found ++ a ∷ [])
-types-more S n [] a are is = (subst (λ k. IsTermOver S false k a) (none n) is, tt)
-  where
-    none : (n : ℕ) → n + 0 ≡ n
-    none n = omega arith
-types-more S n (b ∷ found) a are is = (are.0, types-more S (n + 1) found a are.1 (subst (λ k. IsTermOver S false k a) (more n (length found)) is))
-  where
-    more : (n k : ℕ) → n + suc k ≡ n + 1 + k
-    more n k = omega arith
-
-constructors-more : (S : Signature) (own : List ℕ) (p : ℕ) (before found : List RawConstructor) (c : RawConstructor) → AreConstructorsOver S own p before found → IsNewName S own (before ++ found) c.name → IsTermOver S true p c.type → AreConstructorsOver S own p before (found ++ c ∷ [])
-constructors-more S own p before [] c are new over = (subst (λ f. IsNewName S own f c.name) (append-nil before) new, over, tt)
-constructors-more S own p before (d ∷ found) c are new over =
-    (are.0, are.1, constructors-more S own p (before ++ d ∷ []) found c are.2 (subst (λ f. IsNewName S own f c.name) (sym (append_assoc before (d ∷ []) found)) new) over)
 
 parameters-append : (T : Signature) (xs : List Term) (a : Term) → parameters_text T (xs ++ a ∷ []) ≡ parameters_text T xs ++ (codes " (" ++ (term_text T a ++ codes ")"))
 parameters-append T [] a = simp (append_assoc, append-nil)
@@ -238,7 +223,7 @@ module _ (S : Signature) (name : List ℕ) (new : IsNewName S [] [] name) where
 
       own-meets : (rest : List ℕ) → Meets (λ t r. (rest ≡ term_text T t ++ r) × IsTermOver S true p t) (IsText T S true p) rest (whole_term S name p rest)
       own-meets rest =
-          term-meets T S true (symbol S name) (symbol-written T S name has (λ some. own)) (own-symbol-over S name) nested p rest (omega (arith, nested-is))
+          term-meets T S true (symbol S name) (symbol-written T S name has (λ some. own)) (λ x t e. (own-symbol-over S name x t e).over) nested p rest (omega (arith, nested-is))
 
       -- after what separates it from the others
       constructor-meets : (found : List RawConstructor) (rest : List ℕ) → Constructors found → whole ≡ (body found ++ separator found) ++ rest → Meets (NextConstructor found) (Goes S) whole (constructor_at S name p found rest)

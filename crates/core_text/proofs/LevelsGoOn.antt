@@ -11,8 +11,8 @@ use Rattle.core_text.specs.LineReading.{level_list, levels_left, some_level_left
 use Rattle.core_text.specs.Reading.{wrong, is_digit, with_digit, is_left, some_left, begins_level, one_digit, level_from, read_level}
 use Rattle.core_text.specs.declared.instances.Series.TheVariants.{Elim, AxiomK}
 use Rattle.core_text.proofs.Completions.{IsFront, front-less, Meets, meets-if, meets-wrong}
-use Rattle.core_text.proofs.TermOutcomes.{lt-told}
 use Rattle.core_text.proofs.WordsRead.{digit-bounds, decimal-one, decimal-more}
+use Rattle.core_text.proofs.Outcomes.{lt-is}
 
 -- ---- whether some level is left
 
@@ -127,7 +127,7 @@ module _ (levels : List Bool) (V : List ℕ → Type 0) (text whole : List ℕ) 
       by false left e =
           let bounds = digit-bounds b digit in
           let parts = and_parts (nat_lt 0 (b - 48)) (some_left levels (10 * (b - 48)) 10) e in
-          let some = lt-told 0 (b - 48) parts.0 in
+          let some = lt-is 0 (b - 48) parts.0 in
           let found = some-of levels (10 * (b - 48)) 10 parts.1 in
           let v = found.0 in
           let front : v / 10 ≡ b - 48 = omega (arith, found.2, found.3) in
@@ -157,7 +157,7 @@ module _ (levels : List Bool) (V : List ℕ → Type 0) (text whole : List ℕ) 
           let inner = and_parts (nat_lt 0 (b - 48)) (is_left levels (with_digit (b - 48) c)) parts.1 in
           let one = digit-bounds b digit in
           let other = digit-bounds c parts.0 in
-          (decimal-one b (c ∷ rest) digit ∙ decimal-more (b - 48) c rest parts.0 (lt-told 0 (b - 48) inner.0) (omega (arith, one.1, other.1)), inner.1)
+          (decimal-one b (c ∷ rest) digit ∙ decimal-more (b - 48) c rest parts.0 (lt-is 0 (b - 48) inner.0) (omega (arith, one.1, other.1)), inner.1)
 
   pub level-meets : (rest : List ℕ) → whole ≡ text ++ rest → IsFront V text → Meets (Levelled rest) V whole (read_level levels rest)
   level-meets [] at start = meets-wrong (Levelled []) V text [] whole at start

@@ -32,10 +32,11 @@ pub mod NumbersAgree
 pub mod NumbersBack
 pub mod NumbersGoOn
 pub mod Outcomes
+pub mod Over
 mod PlaceExamples
 pub mod PlacesBefore
 pub mod PlacesFirst
-pub mod PlacesTold
+pub mod PlacesRefused
 pub mod PreludePlain
 pub mod ProductTexts
 pub mod ReadClauses
@@ -44,6 +45,7 @@ pub mod RecordTexts
 pub mod RunChars
 pub mod RunSteps
 pub mod Sharing
+pub mod ScopedOver
 pub mod SpineTexts
 pub mod SurfacePlain
 pub mod SymbolForms

@@ -2,11 +2,13 @@
 use Rattle.std.proofs.Common.{◌≡◌, ℕ, ◌+◌, ◌≤◌, List, [], ◌∷◌, ◌++◌, length, refl, ap, append_assoc, append-nil, arith}
 use Rattle.std.specs.Prelude.{codes, decimal}
 use Rattle.std.proofs.lemmas.List.{length-append}
+use Rattle.std.proofs.lemmas.Simd.{map-map}
 use Rattle.theory.specs.Terms.{Term}
-use Rattle.theory.specs.Signatures.{Signature, Entry, FamilyOf, EliminatorAt, AxiomKAt, Definition}
-use Rattle.core_sig.specs.Raw.{RawConstructor, RawFamily}
+use Rattle.theory.specs.Families.{Family}
+use Rattle.theory.specs.Signatures.{Signature, Entry, FamilyOf, EliminatorAt, AxiomKAt, Definition, names_of}
+use Rattle.core_sig.specs.Raw.{RawConstructor, RawFamily, raw_names}
 use Rattle.core_text.specs.EntryText.{parameters_text, constructors_text, line_text, entry_line}
-use Rattle.core_text.specs.RawEntries.{RawEntry, RawFamilyOf, RawEliminator, RawAxiomK, RawDefinition, entry_shown}
+use Rattle.core_text.specs.RawEntries.{RawEntry, RawFamilyOf, RawEliminator, RawAxiomK, RawDefinition, constructor_line, entry_shown, family_shown}
 use Rattle.core_text.specs.Spellings.{raw_line}
 use Rattle.core_text.specs.SymbolNames.{name_at, with_name}
 use Rattle.core_text.specs.TermText.{term_text}
@@ -48,6 +50,10 @@ line-shown S n (FamilyOf f) = refl
 line-shown S n (EliminatorAt g m) = refl
 line-shown S n (AxiomKAt i m) = refl
 line-shown S n (Definition name type body) = refl
+
+-- it declares the names of the entry
+pub names-shown : (n : ℕ) (f : Family) → raw_names (family_shown n f) ≡ names_of (FamilyOf f)
+names-shown n f = ap (λ ns. f.name ∷ ns) (map-map (λ (c : RawConstructor). c.name) (constructor_line n f) f.constructors)
 
 abbrev pub grouped : Signature → RawEntry → List ℕ
 grouped S (RawFamilyOf raw) =

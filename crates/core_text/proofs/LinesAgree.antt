@@ -14,13 +14,13 @@ use Rattle.core_text.specs.SymbolLookup.{symbol}
 use Rattle.core_text.specs.TermReading.{term_after}
 use Rattle.core_text.specs.declared.halt.Halt.TheVariants.{Memory, Nested, Wrong}
 use Rattle.core_text.specs.declared.instances.Series.TheVariants.{Elim, AxiomK}
-use Rattle.core_text.proofs.Agreement.{Told, Alike, StartsAt, MovesAt, refused-map, told-same, told-then, told-next, alike-then}
+use Rattle.core_text.proofs.Agreement.{Reread, Alike, StartsAt, MovesAt, refused-map, reread-same, reread-then, reread-next, alike-then}
 use Rattle.core_text.proofs.Characters.{Same, first-same}
 use Rattle.core_text.proofs.NewNamesAgree.{alike-new, alike-family}
 use Rattle.core_text.proofs.NumbersAgree.{alike-level}
 use Rattle.core_text.proofs.NumbersBack.{begins-word}
 use Rattle.core_text.proofs.TermsAgree.{alike-read, begins-front}
-use Rattle.core_text.proofs.WordsAgree.{told-shift, told-first, told-byte, alike-word, part-starts, word-starts, word-moves, alike-here}
+use Rattle.core_text.proofs.WordsAgree.{reread-shift, reread-first, reread-byte, alike-word, part-starts, word-starts, word-moves, alike-here}
 use Rattle.core_text.proofs.WordsRead.{word-is}
 
 -- ---- items that are read one after the other
@@ -60,41 +60,41 @@ module _ {A : Type 0} (next : List A → List ℕ → Reading (Option A)) (none 
   moved-from found rest o r e = subst (MovesAt rest) e (moves found rest)
 
   -- where it holds of shorter texts
-  whole-step : ((found : List A) → Alike false (next found)) → (found : List A) (rest : List ℕ) → ((others : List A) (r : List ℕ) → length r < length rest → Told false (all_of others) r (all_of others r)) → Told false (all_of found) rest (all_of found rest)
+  whole-step : ((found : List A) → Alike false (next found)) → (found : List A) (rest : List ℕ) → ((others : List A) (r : List ℕ) → length r < length rest → Reread false (all_of others) r (all_of others r)) → Reread false (all_of found) rest (all_of found rest)
   whole-step alike found rest shorter =
-      subst (Told false (all_of found) rest) (all-step found rest)
-      (told-same false (λ x. and_then (next found x) (after_item all_of found)) (all_of found) rest (and_then (next found rest) (after_item all_of found)) (all-step found)
-      (told-next false (next found) (after_item all_of found) rest ((alike found).told rest) (λ o r e. by o r (moved-from found rest o r e))))
+      subst (Reread false (all_of found) rest) (all-step found rest)
+      (reread-same false (λ x. and_then (next found x) (after_item all_of found)) (all_of found) rest (and_then (next found rest) (after_item all_of found)) (all-step found)
+      (reread-next false (next found) (after_item all_of found) rest ((alike found).reread rest) (λ o r e. by o r (moved-from found rest o r e))))
     where
-      by : (o : Option A) (r : List ℕ) → length r < length rest → Told false (after_item all_of found o) r (after_item all_of found o r)
-      by None r less = (alike-here false found).told r
+      by : (o : Option A) (r : List ℕ) → length r < length rest → Reread false (after_item all_of found o) r (after_item all_of found o r)
+      by None r less = (alike-here false found).reread r
       by (Some a) r less = shorter (found ++ a ∷ []) r less
 
   -- fuel bounds the number of bytes
-  whole-told : ((found : List A) → Alike false (next found)) → (fuel : ℕ) (found : List A) (rest : List ℕ) → length rest ≤ fuel → Told false (all_of found) rest (all_of found rest)
-  whole-told alike zero found rest le = whole-step alike found rest (λ others r less. absurd (omega arith))
-  whole-told alike (suc fuel) found rest le = whole-step alike found rest (λ others r less. whole-told alike fuel others r (omega arith))
+  whole-reread : ((found : List A) → Alike false (next found)) → (fuel : ℕ) (found : List A) (rest : List ℕ) → length rest ≤ fuel → Reread false (all_of found) rest (all_of found rest)
+  whole-reread alike zero found rest le = whole-step alike found rest (λ others r less. absurd (omega arith))
+  whole-reread alike (suc fuel) found rest le = whole-step alike found rest (λ others r less. whole-reread alike fuel others r (omega arith))
 
   all-starts : ((found : List A) (h : Option A → List ℕ → Reading (List A)) (r : List ℕ) → StartsAt r (and_then (next found r) h)) → (found : List A) (r : List ℕ) → StartsAt r (all_of found r)
   all-starts starts found r = subst (StartsAt r) (all-step found r) (starts found (after_item all_of found) r)
 
-  told-step : ((found : List A) → Alike true (next found)) → ((found : List A) (h : Option A → List ℕ → Reading (List A)) (r : List ℕ) → StartsAt r (and_then (next found r) h)) → (found : List A) (rest : List ℕ) → ((others : List A) (r : List ℕ) → length r < length rest → Told true (all_of others) r (all_of others r)) → Told true (all_of found) rest (all_of found rest)
-  told-step alike starts found rest shorter =
-      subst (Told true (all_of found) rest) (all-step found rest)
-      (told-same true (λ x. and_then (next found x) (after_item all_of found)) (all_of found) rest (and_then (next found rest) (after_item all_of found)) (all-step found)
-      (told-then true (next found) (after_item all_of found) rest ((alike found).told rest) (λ o r e. (by o r (moved-from found rest o r e), begin o r, λ no. absurd (cc)))))
+  reread-step : ((found : List A) → Alike true (next found)) → ((found : List A) (h : Option A → List ℕ → Reading (List A)) (r : List ℕ) → StartsAt r (and_then (next found r) h)) → (found : List A) (rest : List ℕ) → ((others : List A) (r : List ℕ) → length r < length rest → Reread true (all_of others) r (all_of others r)) → Reread true (all_of found) rest (all_of found rest)
+  reread-step alike starts found rest shorter =
+      subst (Reread true (all_of found) rest) (all-step found rest)
+      (reread-same true (λ x. and_then (next found x) (after_item all_of found)) (all_of found) rest (and_then (next found rest) (after_item all_of found)) (all-step found)
+      (reread-then true (next found) (after_item all_of found) rest ((alike found).reread rest) (λ o r e. (by o r (moved-from found rest o r e), begin o r, λ no. absurd (cc)))))
     where
       begin : (o : Option A) (r : List ℕ) → StartsAt r (after_item all_of found o r)
       begin None r = inr refl
       begin (Some a) r = all-starts starts (found ++ a ∷ []) r
 
-      by : (o : Option A) (r : List ℕ) → length r < length rest → Told true (after_item all_of found o) r (after_item all_of found o r)
-      by None r less = (alike-here true found).told r
+      by : (o : Option A) (r : List ℕ) → length r < length rest → Reread true (after_item all_of found o) r (after_item all_of found o r)
+      by None r less = (alike-here true found).reread r
       by (Some a) r less = shorter (found ++ a ∷ []) r less
 
-  all-told : ((found : List A) → Alike true (next found)) → ((found : List A) (h : Option A → List ℕ → Reading (List A)) (r : List ℕ) → StartsAt r (and_then (next found r) h)) → (fuel : ℕ) (found : List A) (rest : List ℕ) → length rest ≤ fuel → Told true (all_of found) rest (all_of found rest)
-  all-told alike starts zero found rest le = told-step alike starts found rest (λ others r less. absurd (omega arith))
-  all-told alike starts (suc fuel) found rest le = told-step alike starts found rest (λ others r less. all-told alike starts fuel others r (omega arith))
+  all-reread : ((found : List A) → Alike true (next found)) → ((found : List A) (h : Option A → List ℕ → Reading (List A)) (r : List ℕ) → StartsAt r (and_then (next found r) h)) → (fuel : ℕ) (found : List A) (rest : List ℕ) → length rest ≤ fuel → Reread true (all_of found) rest (all_of found rest)
+  all-reread alike starts zero found rest le = reread-step alike starts found rest (λ others r less. absurd (omega arith))
+  all-reread alike starts (suc fuel) found rest le = reread-step alike starts found rest (λ others r less. all-reread alike starts fuel others r (omega arith))
 
 -- ---- the parts of lines
 
@@ -137,34 +137,34 @@ module _ (S : Signature) (own : List ℕ) where
       alike-then false (whole_term S own n) closing (alike-whole n)
       (λ a. alike-word false (codes ")") (λ end. Ok (Some a, end)) (alike-here false (Some a)))
       (λ a r. word-starts 41 [] (λ end. Ok (Some a, end)) r (omega arith))
-      (λ a r so. word-moves false 41 [] (λ end. Ok (Some a, end)) r (λ end. (alike-here false (Some a)).told end))
+      (λ a r so. word-moves false 41 [] (λ end. Ok (Some a, end)) r (λ end. (alike-here false (Some a)).reread end))
 
   alike-no-parameter : Alike false no_parameter
   alike-no-parameter = alike-word false (codes ": ") (λ end. Ok (None, end)) (alike-here false None)
 
   no-parameter-moves : (r : List ℕ) → MovesAt r (no_parameter r)
-  no-parameter-moves r = word-moves false 58 (32 ∷ []) (λ end. Ok (None, end)) r (λ end. (alike-here {A = Option Term} false None).told end)
+  no-parameter-moves r = word-moves false 58 (32 ∷ []) (λ end. Ok (None, end)) r (λ end. (alike-here {A = Option Term} false None).reread end)
 
   -- after the space
   abbrev parameter_or_end : ℕ → List ℕ → Reading (Option Term)
   parameter_or_end n r = if first r == 40 then parameter_at S own n (drop 1 r) else no_parameter r
 
-  parameter-told : (n : ℕ) (rest : List ℕ) → Told false (parameter_or_end n) rest (parameter_or_end n rest)
-  parameter-told n rest =
-      told-byte false 40 (parameter_at S own n) no_parameter rest (omega arith) (λ r is. (alike-parameter n).told r) (λ e. alike-no-parameter.told rest) (λ so. no-parameter-moves rest)
+  parameter-reread : (n : ℕ) (rest : List ℕ) → Reread false (parameter_or_end n) rest (parameter_or_end n rest)
+  parameter-reread n rest =
+      reread-byte false 40 (parameter_at S own n) no_parameter rest (omega arith) (λ r is. (alike-parameter n).reread r) (λ e. alike-no-parameter.reread rest) (λ so. no-parameter-moves rest)
 
   alike-next-parameter : (n : ℕ) → Alike false (next_parameter S own n)
-  alike-next-parameter n = alike-word false (codes " ") (parameter_or_end n) (record { told = parameter-told n })
+  alike-next-parameter n = alike-word false (codes " ") (parameter_or_end n) (record { reread = parameter-reread n })
 
   abbrev next_of : List Term → List ℕ → Reading (Option Term)
   next_of found r = next_parameter S own (length found) r
 
   next_of-moves : (found : List Term) (r : List ℕ) → MovesAt r (next_of found r)
-  next_of-moves found r = word-moves false 32 [] (parameter_or_end (length found)) r (λ x. parameter-told (length found) x)
+  next_of-moves found r = word-moves false 32 [] (parameter_or_end (length found)) r (λ x. parameter-reread (length found) x)
 
   alike-parameters : Alike false (parameters_at S own)
   alike-parameters = record {
-    told = λ rest. whole-told next_of (λ found. refl) next_of-moves (λ found. alike-next-parameter (length found)) (length rest) [] rest (omega arith);
+    reread = λ rest. whole-reread next_of (λ found. refl) next_of-moves (λ found. alike-next-parameter (length found)) (length rest) [] rest (omega arith);
   }
 
   -- what begins with the parameters begins with a space
@@ -194,23 +194,23 @@ module _ (S : Signature) (own : List ℕ) where
     abbrev constructor_or_end : List RawConstructor → List ℕ → Reading (Option RawConstructor)
     constructor_or_end found r = if first r == 125 then Ok (None, drop 1 r) else after (separated found r) (constructor_at S own p found)
 
-    constructor-told : (found : List RawConstructor) (rest : List ℕ) → Told true (constructor_or_end found) rest (constructor_or_end found rest)
-    constructor-told found rest =
-        told-byte true 125 (λ x. Ok (None, x)) (λ x. after (separated found x) (constructor_at S own p found)) rest (omega arith)
-        (λ r is. (alike-here true None).told r) (λ e. (alike-separated found found).told rest) (λ no. absurd (cc))
+    constructor-reread : (found : List RawConstructor) (rest : List ℕ) → Reread true (constructor_or_end found) rest (constructor_or_end found rest)
+    constructor-reread found rest =
+        reread-byte true 125 (λ x. Ok (None, x)) (λ x. after (separated found x) (constructor_at S own p found)) rest (omega arith)
+        (λ r is. (alike-here true None).reread r) (λ e. (alike-separated found found).reread rest) (λ no. absurd (cc))
 
     alike-next-constructor : (found : List RawConstructor) → Alike true (next_constructor S own p found)
-    alike-next-constructor found = alike-word true (codes " ") (constructor_or_end found) (record { told = constructor-told found })
+    alike-next-constructor found = alike-word true (codes " ") (constructor_or_end found) (record { reread = constructor-reread found })
 
     next-starts : {B : Type 0} (found : List RawConstructor) (h : Option RawConstructor → List ℕ → Reading B) (r : List ℕ) → StartsAt r (and_then (next_constructor S own p found r) h)
     next-starts found h r = part-starts 32 [] (λ m. and_then (after m (constructor_or_end found)) h) r (omega arith) (λ e. refl)
 
     next-moves : (found : List RawConstructor) (r : List ℕ) → MovesAt r (next_constructor S own p found r)
-    next-moves found r = word-moves true 32 [] (constructor_or_end found) r (λ x. constructor-told found x)
+    next-moves found r = word-moves true 32 [] (constructor_or_end found) r (λ x. constructor-reread found x)
 
     alike-constructors : Alike true (constructors_at S own p)
     alike-constructors = record {
-      told = λ rest. all-told (next_constructor S own p) (λ found. refl) next-moves alike-next-constructor (λ found h r. next-starts found h r) (length rest) [] rest (omega arith);
+      reread = λ rest. all-reread (next_constructor S own p) (λ found. refl) next-moves alike-next-constructor (λ found h r. next-starts found h r) (length rest) [] rest (omega arith);
     }
 
 -- ---- families
@@ -238,7 +238,7 @@ module _ (S : Signature) (own : List ℕ) where
   alike-family-at : Alike true (family_at S own)
   alike-family-at =
       alike-then true (new_name S own []) (λ name r1. and_then (parameters_at S own r1) (type_and_more name)) (alike-new S own [])
-      (λ name. record { told = λ r. told-next true (parameters_at S own) (type_and_more name) r ((alike-parameters S own).told r) (λ parameters r2 e. (alike-type name parameters).told r2) })
+      (λ name. record { reread = λ r. reread-next true (parameters_at S own) (type_and_more name) r ((alike-parameters S own).reread r) (λ parameters r2 e. (alike-type name parameters).reread r2) })
       (λ name r. parameters-start S own (type_and_more name) r) (λ name r no. absurd (cc))
 
 -- ---- instances
@@ -305,15 +305,15 @@ module _ (S : Signature) (own : List ℕ) where
   alike-data : Alike true data_line
   alike-data = alike-word true (codes "data ") (family_at S own) (alike-family-at S own)
 
-  k-told : (k : Bool) (rest : List ℕ) → Told true (k_or_data k) rest (k_or_data k rest)
-  k-told true rest =
-      told-first true 97 k_line data_line rest (λ e. (alike-word true (codes "axiomk ") (axiom_k_line S) (alike-axiom-k S)).told rest) (λ e. alike-data.told rest) (λ no. absurd (cc)) (λ no. absurd (cc))
-  k-told false rest = alike-data.told rest
+  k-reread : (k : Bool) (rest : List ℕ) → Reread true (k_or_data k) rest (k_or_data k rest)
+  k-reread true rest =
+      reread-first true 97 k_line data_line rest (λ e. (alike-word true (codes "axiomk ") (axiom_k_line S) (alike-axiom-k S)).reread rest) (λ e. alike-data.reread rest) (λ no. absurd (cc)) (λ no. absurd (cc))
+  k-reread false rest = alike-data.reread rest
 
-  other-told : (k : Bool) (rest : List ℕ) → Told true (other_line k) rest (other_line k rest)
-  other-told k rest =
-      told-first true 101 (λ x. after (past (codes "elim ") x) (eliminator_at S)) (k_or_data k) rest
-      (λ e. (alike-word true (codes "elim ") (eliminator_at S) (alike-eliminator S)).told rest) (λ e. k-told k rest) (λ no. absurd (cc)) (λ no. absurd (cc))
+  other-reread : (k : Bool) (rest : List ℕ) → Reread true (other_line k) rest (other_line k rest)
+  other-reread k rest =
+      reread-first true 101 (λ x. after (past (codes "elim ") x) (eliminator_at S)) (k_or_data k) rest
+      (λ e. (alike-word true (codes "elim ") (eliminator_at S) (alike-eliminator S)).reread rest) (λ e. k-reread k rest) (λ no. absurd (cc)) (λ no. absurd (cc))
 
   -- of the letters that begin a definition it takes one
   other-at : (k : Bool) (x : List ℕ) → other_line k (100 ∷ 101 ∷ x) ≡ Err (Wrong (1 + length x))
@@ -350,10 +350,10 @@ module _ (S : Signature) (own : List ℕ) where
       apart : (m : Reading RawEntry) → m ≡ Err (Wrong (1 + length x)) → m ≡ Ok (a, y) → ⊥
       apart m is stops = absurd (cc)
 
-  line-told : (k : Bool) (rest : List ℕ) → Told true (line_by k) rest (line_by k rest)
-  line-told k rest = by (begins (codes "de") rest) refl
+  line-reread : (k : Bool) (rest : List ℕ) → Reread true (line_by k) rest (line_by k rest)
+  line-reread k rest = by (begins (codes "de") rest) refl
     where
-      on : begins (codes "de") rest ≡ false → (m : Reading RawEntry) → Told true (other_line k) rest m → Told true (line_by k) rest m
+      on : begins (codes "de") rest ≡ false → (m : Reading RawEntry) → Reread true (other_line k) rest m → Reread true (line_by k) rest m
       on none (Ok p) t = record {
         front = t.front;
         is = t.is;
@@ -370,16 +370,16 @@ module _ (S : Signature) (own : List ℕ) where
       on none (Err (Nested left)) t = tt
       on none (Err Memory) t = tt
 
-      by : (b : Bool) → begins (codes "de") rest ≡ b → Told true (line_by k) rest (if b then after (past (codes "def ") rest) (definition_at S own) else other_line k rest)
+      by : (b : Bool) → begins (codes "de") rest ≡ b → Reread true (line_by k) rest (if b then after (past (codes "def ") rest) (definition_at S own) else other_line k rest)
       by true e =
           let x = drop 2 rest in
           let text : rest ≡ 100 ∷ 101 ∷ x = word-is (codes "de") rest e in
-          subst (λ r. Told true (line_by k) r (after (past (codes "def ") r) (definition_at S own))) (sym text)
-          (subst (λ m. Told true (line_by k) (codes "de" ++ x) (after m (definition_at S own))) (sym (definition-word x))
-          (told-shift true (λ y. after (past (codes "f ") y) (definition_at S own)) (line_by k) (codes "de") x (after (past (codes "f ") x) (definition_at S own))
+          subst (λ r. Reread true (line_by k) r (after (past (codes "def ") r) (definition_at S own))) (sym text)
+          (subst (λ m. Reread true (line_by k) (codes "de" ++ x) (after m (definition_at S own))) (sym (definition-word x))
+          (reread-shift true (λ y. after (past (codes "f ") y) (definition_at S own)) (line_by k) (codes "de") x (after (past (codes "f ") x) (definition_at S own))
           (λ y. ap (λ b. if b then after (past (codes "def ") (100 ∷ 101 ∷ y)) (definition_at S own) else other_line k (100 ∷ 101 ∷ y)) (begins-word (codes "de") y) ∙ ap (λ m. after m (definition_at S own)) (definition-word y))
-          ((alike-word true (codes "f ") (definition_at S own) (alike-definition S own)).told x)))
-      by false e = on e (other_line k rest) (other-told k rest)
+          ((alike-word true (codes "f ") (definition_at S own) (alike-definition S own)).reread x)))
+      by false e = on e (other_line k rest) (other-reread k rest)
 
   pub alike-line : Alike true (line_at S own)
-  alike-line = record { told = λ rest. line-told S.has_k rest }
+  alike-line = record { reread = λ rest. line-reread S.has_k rest }

@@ -12,7 +12,7 @@ use Rattle.core_text.specs.LineReading.{nested, whole_term, ended, definition_at
 use Rattle.core_text.specs.NameRuns.{run_len}
 use Rattle.core_text.specs.RawEntries.{RawEntry, RawEliminator, RawAxiomK, RawDefinition}
 use Rattle.core_text.specs.Reading.{and_then, past, is_left, read_level}
-use Rattle.core_text.specs.Spellings.{raw_line, IsTermOver, IsNewName, IsEntryOver}
+use Rattle.core_text.specs.Spellings.{raw_line, IsNewName, IsEntryOver}
 use Rattle.core_text.specs.SymbolLookup.{symbol, found_symbol}
 use Rattle.core_text.specs.SymbolNames.{name_at}
 use Rattle.core_text.specs.TermReading.{term_after}
@@ -23,10 +23,11 @@ use Rattle.core_text.proofs.LevelsGoOn.{SomeLeft, NoneLeft, some-or-none, level-
 use Rattle.core_text.proofs.LineForms.{grouped_line, grouped_line-is}
 use Rattle.core_text.proofs.LinesBack.{nested-is}
 use Rattle.core_text.proofs.NamesGoOn.{Named, name-meets}
-use Rattle.core_text.proofs.SymbolOutcomes.{Has, found_symbol-is}
-use Rattle.core_text.proofs.SymbolsOver.{symbol-over}
+use Rattle.core_text.proofs.Over.{IsTermOver, over-sort}
+use Rattle.core_text.proofs.SymbolOutcomes.{Has}
+use Rattle.core_text.proofs.SymbolsOver.{family-number, symbol-over}
 use Rattle.core_text.proofs.SymbolsRead.{found_symbol-written, symbol-written}
-use Rattle.core_text.proofs.TermFronts.{IsText, over-sort}
+use Rattle.core_text.proofs.TermFronts.{IsText}
 use Rattle.core_text.proofs.TermsGoOn.{term-meets}
 
 -- ---- whole texts
@@ -62,7 +63,7 @@ ended-meets S whole front raw rest at text over =
 
 pub whole-meets : (T S : Signature) → Has T S → (n : ℕ) (rest : List ℕ) → n < 2 ^ 33 → Meets (λ t r. (rest ≡ term_text T t ++ r) × IsTermOver S false n t) (IsText T S false n) rest (whole_term S [] n rest)
 whole-meets T S has n rest few =
-    term-meets T S false (symbol S []) (symbol-written T S [] has (λ e. absurd (false≢true e))) (symbol-over S) nested n rest (omega (arith, nested-is))
+    term-meets T S false (symbol S []) (symbol-written T S [] has (λ e. absurd (false≢true e))) (λ name t e. (symbol-over S name t e).over) nested n rest (omega (arith, nested-is))
 
 -- ---- definitions
 
@@ -135,7 +136,7 @@ module _ (S : Signature) where
       let k = run_len rest in
       let name = take k rest in
       found-meets rest name (drop k rest) (found_symbol S (find S name)) (sym (take-append-drop k rest))
-      (λ t e. found_symbol-written S S Itself name t e false) (λ g e. (found_symbol-is S S Itself name (Fam g) e).entries)
+      (λ t e. found_symbol-written S S Itself name t e false) (λ g e. family-number S name g e)
 
   pub eliminator-meets : (rest : List ℕ) → Meets (Read S (codes "elim " ++ rest)) (Goes S) (codes "elim " ++ rest) (eliminator_at S rest)
   eliminator-meets rest =

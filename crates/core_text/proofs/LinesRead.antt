@@ -1,5 +1,5 @@
 -- What is read as an entry is the line of the entry.
-use Rattle.std.proofs.Common.{◌≡◌, ℕ, zero, suc, ◌+◌, ◌-◌, ◌<◌, ◌≤◌, ◌^◌, Bool, true, false, List, [], ◌∷◌, ◌++◌, map, length, drop, take, refl, sym, ap, ap₂, ◌∙◌, subst, append_assoc, append-nil, arith}
+use Rattle.std.proofs.Common.{◌≡◌, ℕ, zero, suc, ◌+◌, ◌-◌, ◌<◌, ◌≤◌, ◌^◌, Bool, true, false, List, [], ◌∷◌, ◌++◌, length, drop, take, refl, sym, ap, ap₂, ◌∙◌, subst, append_assoc, append-nil, arith}
 use Rattle.std.specs.Prelude.{◌==◌, ◌&&◌, not, nat_lt, if◌then◌else◌, Result, Ok, Err, Option, Some, None, codes, decimal}
 use Rattle.std.proofs.lemmas.Bool.{false≢true, and_from}
 use Rattle.std.proofs.lemmas.Bool.Decides.{nat_tests}
@@ -11,9 +11,9 @@ use Rattle.theory.proofs.Lists.{slice_get-last, slice_get-longer}
 use Rattle.core_sig.specs.Names.{find}
 use Rattle.core_sig.specs.Raw.{RawConstructor, RawFamily}
 use Rattle.core_text.specs.DeclaredNames.{may_declare, by_shape, new_name, shape_of}
-use Rattle.core_text.specs.EntryReading.{after_notes, shows_entry, shown_by, entry_at, with_offset, entry_from}
+use Rattle.core_text.specs.EntryReading.{after_notes, shows_entry, shown_by, entry_at, with_offset}
 use Rattle.core_text.specs.EntryText.{parameters_text, constructors_text, line_text, entry_line}
-use Rattle.core_text.specs.LineLaws.{AreNotes, no_note, note, Stands, LinesAreRead}
+use Rattle.core_text.specs.LineLaws.{AreNotes, no_note, note, HasLine, LinesAreRead}
 use Rattle.core_text.specs.LineReading.{nested, whole_term, ended, definition_at, family_found, family_name, levels_left, identities_left, eliminator_at, axiom_k_line, after_item, collected, parameter_at, no_parameter, next_parameter, parameters_at, constructor_at, separated, next_constructor, constructors_at, family_after, family_at, line_at}
 use Rattle.core_text.specs.Lines.{is_in_line}
 use Rattle.core_text.specs.NameRuns.{run_len}
@@ -376,8 +376,8 @@ lines-are-read S text from e to small within is = by (after_notes false (drop fr
     pair-is : {a b : RawEntry × ℕ} → ◌≡◌ {A = Result (Option (RawEntry × ℕ)) CoreTextStop} (Ok (Some a)) (Ok (Some b)) → a ≡ b
     pair-is eq = cc
 
-    stands : (rest r : List ℕ) → Before (drop from text) rest → rest ≡ entry_line (pushed S e) n e ++ r → length text - length r ≡ to → Stands S text from e to
-    stands rest r before line last =
+    at-line : (rest r : List ℕ) → Before (drop from text) rest → rest ≡ entry_line (pushed S e) n e ++ r → length text - length r ≡ to → HasLine S text from e to
+    at-line rest r before line last =
         let whole : text ≡ (take from text ++ (before.notes ++ entry_line (pushed S e) n e)) ++ r =
         sym (take-append-drop from text) ∙ (ap (λ s. take from text ++ s) (before.is ∙ ap (λ s. before.notes ++ s) line) ∙ joined) in
         record {
@@ -394,14 +394,14 @@ lines-are-read S text from e to small within is = by (after_notes false (drop fr
             four : (a b c d : List ℕ) → a ++ (b ++ (c ++ d)) ≡ (a ++ (b ++ c)) ++ d
             four a b c d = simp append_assoc
 
-    entry : (rest : List ℕ) → Before (drop from text) rest → (m : Reading (Option RawEntry)) → Ensures (IsLine S e rest) m → with_offset (length text) m ≡ Ok (Some (entry_shown n e, to)) → Stands S text from e to
+    entry : (rest : List ℕ) → Before (drop from text) rest → (m : Reading (Option RawEntry)) → Ensures (IsLine S e rest) m → with_offset (length text) m ≡ Ok (Some (entry_shown n e, to)) → HasLine S text from e to
     entry rest before (Ok (None, r)) so same = absurd (cc)
     entry rest before (Ok (Some x, r)) so same =
         let pair : (x, length text - length r) ≡ (entry_shown n e, to) = pair-is same in
-        stands rest r before (so (ap (λ p. Some p.0) pair)) (ap offset-of pair)
+        at-line rest r before (so (ap (λ p. Some p.0) pair)) (ap offset-of pair)
     entry rest before (Err h) so same = absurd (cc)
 
-    by : (m : Result (List ℕ) Halt) → after_notes false (drop from text) ≡ m → with_offset (length text) (after m (entry_at S)) ≡ Ok (Some (entry_shown n e, to)) → Stands S text from e to
+    by : (m : Result (List ℕ) Halt) → after_notes false (drop from text) ≡ m → with_offset (length text) (after m (entry_at S)) ≡ Ok (Some (entry_shown n e, to)) → HasLine S text from e to
     by (Ok rest) notes same =
         let before = notes-read false (drop from text) rest notes in
         let short : length rest < 2 ^ 33 = omega (arith, small, length-drop from text, ap length before.is, length-append before.notes rest) in

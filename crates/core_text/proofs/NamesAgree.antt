@@ -5,18 +5,18 @@ use Rattle.std.proofs.lemmas.List.{take-append-drop, length-take-le, take_at, dr
 use Rattle.core_text.specs.NameRuns.{run_len}
 use Rattle.core_text.specs.Reading.{Reading, wrong, first}
 use Rattle.core_text.specs.declared.halt.Halt.TheVariants.{Memory, Nested, Wrong}
-use Rattle.core_text.proofs.Agreement.{Refused, by_character, by_name, Told, Alike, StartsAt, refused-map, same-ahead, stopped-here}
+use Rattle.core_text.proofs.Agreement.{Refused, by_character, by_name, Reread, Alike, StartsAt, refused-map, same-ahead, stopped-here}
 use Rattle.core_text.proofs.RunChars.{run}
 use Rattle.core_text.proofs.Characters.{Same, run-within, run-again, no-run-same, same-named}
 
 -- after the bytes v, g reads as f does where the character is the same
-pub told-past : {A : Type 0} (f g : List ℕ → Reading A) (v r : List ℕ) (m : Reading A) → ((y : List ℕ) → Same r y → g (v ++ y) ≡ f y) → StartsAt r m → Told true f r m → Told true g (v ++ r) m
-told-past f g v r (Ok p) same starts t = record {
+pub reread-past : {A : Type 0} (f g : List ℕ → Reading A) (v r : List ℕ) (m : Reading A) → ((y : List ℕ) → Same r y → g (v ++ y) ≡ f y) → StartsAt r m → Reread true f r m → Reread true g (v ++ r) m
+reread-past f g v r (Ok p) same starts t = record {
   front = v ++ t.front;
   is = ap (λ s. v ++ s) t.is ∙ sym (append_assoc v t.front p.1);
   again = λ y k. ap g (append_assoc v t.front y) ∙ (same (t.front ++ y) (same-ahead true r t.front p.1 y t.is starts (λ no. absurd (cc)) k) ∙ t.again y k);
 }
-told-past f g v r (Err (Wrong left)) same starts t = record {
+reread-past f g v r (Err (Wrong left)) same starts t = record {
   front = v ++ t.front;
   back = t.back;
   is = ap (λ s. v ++ s) t.is ∙ sym (append_assoc v t.front t.back);
@@ -28,8 +28,8 @@ told-past f g v r (Err (Wrong left)) same starts t = record {
     at : (first r < 128) ⊎ (left ≡ length r) → (first r < 128) ⊎ (length t.back ≡ length r)
     at (inl low) = inl low
     at (inr stays) = inr (t.size ∙ stays)
-told-past f g v r (Err (Nested left)) same starts t = tt
-told-past f g v r (Err Memory) same starts t = tt
+reread-past f g v r (Err (Nested left)) same starts t = tt
+reread-past f g v r (Err Memory) same starts t = tt
 
 -- what comes after the run at the front
 abbrev pub after_run : List ℕ → List ℕ
@@ -66,17 +66,17 @@ pub data NameTells {A : Type 0} (N : List ℕ → List ℕ → List ℕ → Read
   goes_on : (f : List ℕ → Reading A) → Alike true f → ((r : List ℕ) → StartsAt r (f r)) → ((r x : List ℕ) → N name r x ≡ f r) → NameTells N name
   is_wrong : ((r x : List ℕ) → N name r x ≡ wrong x) → NameTells N name
 
-pub told-named : {A : Type 0} (N : List ℕ → List ℕ → List ℕ → Reading A) (rest : List ℕ) → NameTells N (run rest) → Told true (λ x. N (run x) (after_run x) x) rest (N (run rest) (after_run rest) rest)
-told-named {A = A} N rest (goes_on f alike starts is) =
-    subst (Told true F rest) (sym (is (after_run rest) rest))
-    (subst (λ x. Told true F x (f (after_run rest))) (take-append-drop (run_len rest) rest)
-    (told-past f F (run rest) (after_run rest) (f (after_run rest))
+pub reread-named : {A : Type 0} (N : List ℕ → List ℕ → List ℕ → Reading A) (rest : List ℕ) → NameTells N (run rest) → Reread true (λ x. N (run x) (after_run x) x) rest (N (run rest) (after_run rest) rest)
+reread-named {A = A} N rest (goes_on f alike starts is) =
+    subst (Reread true F rest) (sym (is (after_run rest) rest))
+    (subst (λ x. Reread true F x (f (after_run rest))) (take-append-drop (run_len rest) rest)
+    (reread-past f F (run rest) (after_run rest) (f (after_run rest))
     (λ y same. let again = run-is-again rest y same in ap₂ (λ a b. N a b (run rest ++ y)) again.name again.past ∙ is y (run rest ++ y))
-    (starts (after_run rest)) (alike.told (after_run rest))))
+    (starts (after_run rest)) (alike.reread (after_run rest))))
   where
     F : List ℕ → Reading A
     F x = N (run x) (after_run x) x
-told-named {A = A} N rest (is_wrong is) =
+reread-named {A = A} N rest (is_wrong is) =
     stopped-here true F rest (F rest) (is (after_run rest) rest)
     (refused-named F rest (λ y same. ap (λ a. N a (after_run y) y) same ∙ is (after_run y) y))
   where

@@ -26,9 +26,9 @@ use Rattle.core_text.specs.Reading.{Reading, wrong, first}
 use Rattle.core_text.specs.SymbolLookup.{found_symbol}
 use Rattle.core_text.specs.declared.declared_names.Shape.{Shape}
 use Rattle.core_text.specs.declared.declared_names.Shape.TheVariants.{Declarable, Underscore, Malformed}
-use Rattle.core_text.proofs.Agreement.{by_character, Told, Alike, told-same}
+use Rattle.core_text.proofs.Agreement.{by_character, Reread, Alike, reread-same}
 use Rattle.core_text.proofs.Characters.{Same, char-same, is-run, run-within}
-use Rattle.core_text.proofs.NamesAgree.{after_run, NameTells, goes_on, is_wrong, told-named}
+use Rattle.core_text.proofs.NamesAgree.{after_run, NameTells, goes_on, is_wrong, reread-named}
 use Rattle.core_text.proofs.RunChars.{run, run-parts, run-chars}
 use Rattle.core_text.proofs.RunSteps.{run_more, run_end}
 use Rattle.core_text.proofs.TermsBack.{some-char}
@@ -219,8 +219,8 @@ module _ (S : Signature) (own : List ℕ) (found : List RawConstructor) where
       by false f = is_wrong (λ r x. ap₂ (λ s b. on_shape s b name r x) e f)
 
   -- the place is after the `_`
-  line-told : (rest : List ℕ) → shape_of (run rest) ≡ Underscore → Told true (new_name S own found) rest (new_name S own found rest)
-  line-told rest e =
+  line-reread : (rest : List ℕ) → shape_of (run rest) ≡ Underscore → Reread true (new_name S own found) rest (new_name S own found rest)
+  line-reread rest e =
       let name = run rest in
       let line = shape-line (chars name) (sym (shape-is name (run-chars rest)) ∙ e) in
       let z = encodes line.others ++ after_run rest in
@@ -230,8 +230,8 @@ module _ (S : Signature) (own : List ℕ) (found : List RawConstructor) where
       let whole : 95 ∷ line.others ≡ 95 ∷ chars (run z) = sym line.is ∙ (ap (λ x. chars (run x)) text ∙ line-chars z) in
       let others : line.others ≡ chars (run z) = ap (drop 1) whole in
       let alone : goes (chars (run z)) ≡ false = ap goes (sym others) ∙ line.alone in
-      subst (λ x. Told true (new_name S own found) x (new_name S own found x)) (sym text)
-      (subst (Told true (new_name S own found) (95 ∷ z)) (sym (past-line z alone))
+      subst (λ x. Reread true (new_name S own found) x (new_name S own found x)) (sym text)
+      (subst (Reread true (new_name S own found) (95 ∷ z)) (sym (past-line z alone))
       (record { front = 95 ∷ []; back = z; is = refl; size = refl; refused = by_character (λ y same. past-line y (sym (goes-same z y same) ∙ alone)) }))
     where
       past-line : (y : List ℕ) → goes (chars (run y)) ≡ false → new_name S own found (95 ∷ y) ≡ wrong y
@@ -239,17 +239,17 @@ module _ (S : Signature) (own : List ℕ) (found : List RawConstructor) where
           let shape : shape_of (run (95 ∷ y)) ≡ Underscore = shape-is (run (95 ∷ y)) (run-chars (95 ∷ y)) ∙ (ap (λ cs. shape_by (piece cs) cs) (line-chars y) ∙ line-shape (chars (run y)) alone) in
           ap (λ s. by_shape s (may_declare S own found (run (95 ∷ y))) (run (95 ∷ y)) (95 ∷ y)) shape
 
-  new-told : (rest : List ℕ) → Told true (new_name S own found) rest (new_name S own found rest)
-  new-told rest = by (shape-tells (run rest) (shape_of (run rest)) refl)
+  new-reread : (rest : List ℕ) → Reread true (new_name S own found) rest (new_name S own found rest)
+  new-reread rest = by (shape-tells (run rest) (shape_of (run rest)) refl)
     where
-      by : (shape_of (run rest) ≡ Underscore) ⊎ NameTells on_new (run rest) → Told true (new_name S own found) rest (new_name S own found rest)
-      by (inl e) = line-told rest e
+      by : (shape_of (run rest) ≡ Underscore) ⊎ NameTells on_new (run rest) → Reread true (new_name S own found) rest (new_name S own found rest)
+      by (inl e) = line-reread rest e
       by (inr tells) =
-          subst (Told true (new_name S own found) rest) (new-is rest)
-          (told-same true (λ x. on_new (run x) (after_run x) x) (new_name S own found) rest (on_new (run rest) (after_run rest) rest) new-is (told-named on_new rest tells))
+          subst (Reread true (new_name S own found) rest) (new-is rest)
+          (reread-same true (λ x. on_new (run x) (after_run x) x) (new_name S own found) rest (on_new (run rest) (after_run rest) rest) new-is (reread-named on_new rest tells))
 
   pub alike-new : Alike true (new_name S own found)
-  alike-new = record { told = new-told }
+  alike-new = record { reread = new-reread }
 
 -- ---- names of families
 
@@ -262,4 +262,4 @@ module _ (S : Signature) where
   family-tells name o e = is_wrong (λ r x. ap (λ o. family_found o x r) e)
 
   pub alike-family : Alike true (family_name S)
-  alike-family = record { told = λ rest. told-named on_family rest (family-tells (run rest) (found_symbol S (find S (run rest))) refl) }
+  alike-family = record { reread = λ rest. reread-named on_family rest (family-tells (run rest) (found_symbol S (find S (run rest))) refl) }

@@ -4,9 +4,9 @@ use Rattle.std.specs.Prelude.{◌&&◌, nat_lt, if◌then◌else◌, Ok, Err}
 use Rattle.theory.specs.Terms.{Term}
 use Rattle.core_text.specs.Reading.{Reading, wrong, and_then, is_digit, with_digit, index_from, read_index, is_left, begins_level, one_digit, level_from, read_level}
 use Rattle.core_text.specs.TermReading.{as_term}
-use Rattle.core_text.proofs.Agreement.{by_character, Told, Alike, alike-same, alike-then}
+use Rattle.core_text.proofs.Agreement.{by_character, Reread, Alike, alike-same, alike-then}
 use Rattle.core_text.proofs.Characters.{Same, one-same, none-same}
-use Rattle.core_text.proofs.WordsAgree.{told-shift, alike-here}
+use Rattle.core_text.proofs.WordsAgree.{reread-shift, alike-here}
 
 pub led-same : (b : ℕ) (rest y : List ℕ) → Same (b ∷ rest) y → y ≡ b ∷ drop 1 y
 led-same b rest y same = by y (one-same (b ∷ rest) y same)
@@ -17,11 +17,11 @@ led-same b rest y same = by y (one-same (b ∷ rest) y same)
 
 -- a reading that the first byte decides, which is passed over or refused
 pub alike-led : {A : Type 0} (test : ℕ → Bool) (G : ℕ → List ℕ → Reading A) (R : List ℕ → Reading A) → R [] ≡ wrong [] → ((b : ℕ) (y : List ℕ) → R (b ∷ y) ≡ (if test b then G b y else wrong (b ∷ y))) → ((b : ℕ) → Alike true (G b)) → Alike true R
-alike-led test G R none some alike = record { told = at }
+alike-led test G R none some alike = record { reread = at }
   where
-    by : (b : ℕ) (rest : List ℕ) (c : Bool) → test b ≡ c → Told true R (b ∷ rest) (if c then G b rest else wrong (b ∷ rest))
+    by : (b : ℕ) (rest : List ℕ) (c : Bool) → test b ≡ c → Reread true R (b ∷ rest) (if c then G b rest else wrong (b ∷ rest))
     by b rest true e =
-        told-shift true (G b) R (b ∷ []) rest (G b rest) (λ y. some b y ∙ ap (λ c. if c then G b y else wrong (b ∷ y)) e) ((alike b).told rest)
+        reread-shift true (G b) R (b ∷ []) rest (G b rest) (λ y. some b y ∙ ap (λ c. if c then G b y else wrong (b ∷ y)) e) ((alike b).reread rest)
     by b rest false e = record {
       front = [];
       back = b ∷ rest;
@@ -30,26 +30,26 @@ alike-led test G R none some alike = record { told = at }
       refused = by_character (λ y same. subst (λ x. R x ≡ wrong x) (sym (led-same b rest y same)) (some b (drop 1 y) ∙ ap (λ c. if c then G b (drop 1 y) else wrong (b ∷ drop 1 y)) e));
     }
 
-    at : (rest : List ℕ) → Told true R rest (R rest)
+    at : (rest : List ℕ) → Reread true R rest (R rest)
     at [] =
-        subst (Told true R []) (sym none)
+        subst (Reread true R []) (sym none)
         (record { front = []; back = []; is = refl; size = refl; refused = by_character (λ y same. subst (λ x. R x ≡ wrong x) (sym (none-same y same)) none) })
-    at (b ∷ rest) = subst (Told true R (b ∷ rest)) (sym (some b rest)) (by b rest (test b) refl)
+    at (b ∷ rest) = subst (Reread true R (b ∷ rest)) (sym (some b rest)) (by b rest (test b) refl)
 
 -- ---- numbers
 
 abbrev indexed : ℕ → ℕ → List ℕ → Reading ℕ
 indexed n v x = Ok (index_from n v x)
 
-index-told : (n v : ℕ) (rest : List ℕ) → Told true (indexed n v) rest (indexed n v rest)
-index-told n v [] = record { front = []; is = refl; again = λ y same. subst (λ x. indexed n v x ≡ Ok (v, x)) (sym (none-same y (same refl))) refl }
-index-told n v (b ∷ rest) = by (index-told n (with_digit v b) rest) (is_digit b && (nat_lt 0 v && nat_lt (with_digit v b) n)) refl
+index-small : (n v : ℕ) (rest : List ℕ) → Reread true (indexed n v) rest (indexed n v rest)
+index-small n v [] = record { front = []; is = refl; again = λ y same. subst (λ x. indexed n v x ≡ Ok (v, x)) (sym (none-same y (same refl))) refl }
+index-small n v (b ∷ rest) = by (index-small n (with_digit v b) rest) (is_digit b && (nat_lt 0 v && nat_lt (with_digit v b) n)) refl
   where
     step : Bool → List ℕ → Reading ℕ
     step c y = Ok (if c then index_from n (with_digit v b) y else (v, b ∷ y))
 
-    by : Told true (indexed n (with_digit v b)) rest (indexed n (with_digit v b) rest) → (c : Bool) → (is_digit b && (nat_lt 0 v && nat_lt (with_digit v b) n)) ≡ c → Told true (indexed n v) (b ∷ rest) (step c rest)
-    by longer true e = told-shift true (indexed n (with_digit v b)) (indexed n v) (b ∷ []) rest (indexed n (with_digit v b) rest) (λ y. ap (λ c. step c y) e) longer
+    by : Reread true (indexed n (with_digit v b)) rest (indexed n (with_digit v b) rest) → (c : Bool) → (is_digit b && (nat_lt 0 v && nat_lt (with_digit v b) n)) ≡ c → Reread true (indexed n v) (b ∷ rest) (step c rest)
+    by longer true e = reread-shift true (indexed n (with_digit v b)) (indexed n v) (b ∷ []) rest (indexed n (with_digit v b) rest) (λ y. ap (λ c. step c y) e) longer
     by longer false e = record {
       front = [];
       is = refl;
@@ -59,7 +59,7 @@ index-told n v (b ∷ rest) = by (index-told n (with_digit v b) rest) (is_digit 
 pub alike-index : (n : ℕ) → Alike true (read_index n)
 alike-index n =
     alike-led (λ b. is_digit b && nat_lt (b - 48) n) (λ b x. indexed n (b - 48) x) (read_index n) refl (λ b y. refl)
-    (λ b. record { told = index-told n (b - 48) })
+    (λ b. record { reread = index-small n (b - 48) })
 
 -- ---- levels
 
@@ -71,27 +71,27 @@ module _ (levels : List Bool) (d : ℕ) where
   digit-wrong y e = ap (λ c. if c then Ok (d, y) else wrong y) e
 
   -- where one digit is read
-  one-told : (rest : List ℕ) → ((y : List ℕ) → Same rest y → level_from levels d y ≡ one_digit levels d y) → Told true (level_from levels d) rest (one_digit levels d rest)
-  one-told rest same = by (is_left levels d) refl
+  one-reread : (rest : List ℕ) → ((y : List ℕ) → Same rest y → level_from levels d y ≡ one_digit levels d y) → Reread true (level_from levels d) rest (one_digit levels d rest)
+  one-reread rest same = by (is_left levels d) refl
     where
-      by : (c : Bool) → is_left levels d ≡ c → Told true (level_from levels d) rest (if c then Ok (d, rest) else wrong rest)
+      by : (c : Bool) → is_left levels d ≡ c → Reread true (level_from levels d) rest (if c then Ok (d, rest) else wrong rest)
       by true e = record { front = []; is = refl; again = λ y k. same y (k refl) ∙ digit-read y e }
       by false e = record { front = []; back = rest; is = refl; size = refl; refused = by_character (λ y k. same y k ∙ digit-wrong y e) }
 
-  level-told : (rest : List ℕ) → Told true (level_from levels d) rest (level_from levels d rest)
-  level-told [] = one-told [] (λ y same. subst (λ x. level_from levels d x ≡ one_digit levels d x) (sym (none-same y same)) refl)
-  level-told (b ∷ rest) = by (is_digit b && (nat_lt 0 d && is_left levels (with_digit d b))) refl
+  level-reread : (rest : List ℕ) → Reread true (level_from levels d) rest (level_from levels d rest)
+  level-reread [] = one-reread [] (λ y same. subst (λ x. level_from levels d x ≡ one_digit levels d x) (sym (none-same y same)) refl)
+  level-reread (b ∷ rest) = by (is_digit b && (nat_lt 0 d && is_left levels (with_digit d b))) refl
     where
-      by : (c : Bool) → (is_digit b && (nat_lt 0 d && is_left levels (with_digit d b))) ≡ c → Told true (level_from levels d) (b ∷ rest) (if c then Ok (with_digit d b, rest) else one_digit levels d (b ∷ rest))
+      by : (c : Bool) → (is_digit b && (nat_lt 0 d && is_left levels (with_digit d b))) ≡ c → Reread true (level_from levels d) (b ∷ rest) (if c then Ok (with_digit d b, rest) else one_digit levels d (b ∷ rest))
       by true e = record { front = b ∷ []; is = refl; again = λ y k. ap (λ c. if c then Ok (with_digit d b, y) else one_digit levels d (b ∷ y)) e }
       by false e =
-          one-told (b ∷ rest)
+          one-reread (b ∷ rest)
           (λ y same. subst (λ x. level_from levels d x ≡ one_digit levels d x) (sym (led-same b rest y same)) (ap (λ c. if c then Ok (with_digit d b, drop 1 y) else one_digit levels d (b ∷ drop 1 y)) e))
 
 pub alike-level : (levels : List Bool) → Alike true (read_level levels)
 alike-level levels =
     alike-led (λ b. is_digit b && begins_level levels (b - 48)) (λ b x. level_from levels (b - 48) x) (read_level levels) refl (λ b y. refl)
-    (λ b. record { told = level-told levels (b - 48) })
+    (λ b. record { reread = level-reread levels (b - 48) })
 
 -- ---- numbers as terms
 

@@ -1,12 +1,11 @@
 -- A number that is read is one that may be there. Where a byte is wrong, the bytes before it begin the text of such a number.
-use Rattle.std.proofs.Common.{◌≡◌, ℕ, zero, suc, ◌-◌, ◌^◌, ◌<◌, ◌≤◌, Bool, true, false, List, [], ◌∷◌, ◌++◌, length, refl, append-nil, arith}
+use Rattle.std.proofs.Common.{◌≡◌, ℕ, ◌-◌, ◌^◌, ◌<◌, ◌≤◌, Bool, true, false, List, [], ◌∷◌, ◌++◌, refl, append-nil}
 use Rattle.std.specs.Prelude.{◌&&◌, nat_lt, if◌then◌else◌, Ok, Err, decimal}
-use Rattle.std.proofs.lemmas.Bool.{and_parts, false≢true}
+use Rattle.std.proofs.lemmas.Bool.{and_parts}
 use Rattle.core_text.specs.Reading.{Reading, wrong, is_digit, with_digit, index_from, read_index, is_left, read_level}
 use Rattle.core_text.proofs.Completions.{Meets, IsFront, meets-if, meets-wrong, meets-ensures}
 use Rattle.core_text.proofs.LevelsGoOn.{level-meets}
-use Rattle.core_text.proofs.Outcomes.{Ensures, ensures-if}
-use Rattle.core_text.proofs.TermOutcomes.{lt-told}
+use Rattle.core_text.proofs.Outcomes.{Ensures, ensures-if, lt-is}
 use Rattle.core_text.proofs.WordsRead.{index-read}
 
 -- nothing is said of what is read
@@ -34,14 +33,14 @@ index-below n v (b ∷ rest) lt = by (λ less. index-below n (with_digit v b) re
     by : (with_digit v b < n → (index_from n (with_digit v b) rest).0 < n) → (c : Bool) → (is_digit b && (nat_lt 0 v && nat_lt (with_digit v b) n)) ≡ c → (if c then index_from n (with_digit v b) rest else (v, b ∷ rest)).0 < n
     by longer true e =
         let parts = and_parts (is_digit b) (nat_lt 0 v && nat_lt (with_digit v b) n) e in
-        longer (lt-told (with_digit v b) n (and_parts (nat_lt 0 v) (nat_lt (with_digit v b) n) parts.1).1)
+        longer (lt-is (with_digit v b) n (and_parts (nat_lt 0 v) (nat_lt (with_digit v b) n) parts.1).1)
     by longer false e = lt
 
-index-told : (n : ℕ) (rest : List ℕ) → Ensures (λ v r. v < n) (read_index n rest)
-index-told n [] = tt
-index-told n (b ∷ rest) =
+index-small : (n : ℕ) (rest : List ℕ) → Ensures (λ v r. v < n) (read_index n rest)
+index-small n [] = tt
+index-small n (b ∷ rest) =
     ensures-if (λ v r. v < n) (is_digit b && nat_lt (b - 48) n) (Ok (index_from n (b - 48) rest)) (wrong (b ∷ rest))
-    (λ e. index-below n (b - 48) rest (lt-told (b - 48) n (and_parts (is_digit b) (nat_lt (b - 48) n) e).1)) (λ e. tt)
+    (λ e. index-below n (b - 48) rest (lt-is (b - 48) n (and_parts (is_digit b) (nat_lt (b - 48) n) e).1)) (λ e. tt)
 
 zero-text : (n : ℕ) → 0 < n → IsFront (IsIndexText n) []
 zero-text n some = (decimal 0, (0, refl, some))
@@ -55,7 +54,7 @@ index-place n (b ∷ rest) some =
 pub index-meets : (n : ℕ) (rest : List ℕ) → 0 < n → n ≤ 2 ^ 64 → Meets (ReadsIndex n rest) (IsIndexText n) rest (read_index n rest)
 index-meets n rest some le =
     meets-ensures Any (ReadsIndex n rest) (IsIndexText n) rest (read_index n rest)
-    (both (λ v r. rest ≡ decimal v ++ r) (λ v r. v < n) (read_index n rest) (index-read n rest le) (index-told n rest)) (index-place n rest some)
+    (both (λ v r. rest ≡ decimal v ++ r) (λ v r. v < n) (read_index n rest) (index-read n rest le) (index-small n rest)) (index-place n rest some)
 
 -- ---- levels
 
@@ -71,9 +70,3 @@ IsLevelText levels text = (v : ℕ) × (text ≡ decimal v) × (is_left levels v
 pub level-text-meets : (levels : List Bool) (v : ℕ) (rest : List ℕ) → is_left levels v ≡ true → Meets (ReadsLevel levels rest) (IsLevelText levels) rest (read_level levels rest)
 level-text-meets levels v rest left =
     level-meets levels (IsLevelText levels) [] rest (λ w is. ([], (w, append-nil (decimal w), is))) rest refl (decimal v, (v, refl, left))
-
--- a level that is left is one of the list
-pub left-below : (levels : List Bool) (v : ℕ) → is_left levels v ≡ true → v < length levels
-left-below [] v left = absurd (false≢true left)
-left-below (b ∷ levels) zero left = omega arith
-left-below (b ∷ levels) (suc v) left = let lt = left-below levels v left in omega arith

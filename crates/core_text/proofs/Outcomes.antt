@@ -1,9 +1,11 @@
 -- What holds of what is read, if anything is.
-use Rattle.std.proofs.Common.{◌≡◌, ℕ, ◌-◌, ◌≤◌, Bool, true, false, List, length, drop, refl, arith}
-use Rattle.std.specs.Prelude.{◌==◌, if◌then◌else◌, Ok, Err}
+use Rattle.std.proofs.Common.{◌≡◌, ℕ, zero, suc, ◌-◌, ◌<◌, ◌≤◌, Bool, true, false, List, [], ◌∷◌, length, drop, refl, arith}
+use Rattle.std.specs.Prelude.{◌==◌, nat_le, nat_lt, if◌then◌else◌, Ok, Err}
+use Rattle.std.proofs.lemmas.Bool.{false≢true}
+use Rattle.std.proofs.lemmas.Bool.Decides.{nat_tests}
 use Rattle.std.proofs.lemmas.List.{length-drop}
 use Rattle.core_text.specs.Heads.{shared}
-use Rattle.core_text.specs.Reading.{Reading, and_then, after, past}
+use Rattle.core_text.specs.Reading.{Reading, and_then, after, past, is_left}
 use Rattle.core_text.specs.declared.halt.Halt.TheVariants.{Wrong}
 
 abbrev pub Ensures : {A : Type 0} → (A → List ℕ → Type 0) → Reading A → Type 0
@@ -28,3 +30,17 @@ ensures-past Q word rest next k = by (shared rest word == length word)
 -- the same where only the number of bytes matters
 pub ensures-after : {B : Type 0} (Q : B → List ℕ → Type 0) (n : ℕ) (word rest : List ℕ) (next : List ℕ → Reading B) → length rest ≤ n → ((r : List ℕ) → length r ≤ n → Ensures Q (next r)) → Ensures Q (after (past word rest) next)
 ensures-after Q n word rest next short k = ensures-past Q word rest next (λ r is. k r (omega arith))
+
+-- ---- what tests of numbers say
+
+pub lt-is : (a b : ℕ) → nat_lt a b ≡ true → a < b
+lt-is a b e = grind (arith, nat_tests)
+
+pub le-is : (a b : ℕ) → nat_le a b ≡ true → a ≤ b
+le-is a b e = grind (arith, nat_tests)
+
+-- a level that is left is one of the list
+pub left-below : (levels : List Bool) (v : ℕ) → is_left levels v ≡ true → v < length levels
+left-below [] v left = absurd (false≢true left)
+left-below (b ∷ levels) zero left = omega arith
+left-below (b ∷ levels) (suc v) left = let lt = left-below levels v left in omega arith

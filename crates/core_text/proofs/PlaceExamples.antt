@@ -14,9 +14,10 @@ use Rattle.core_text.specs.LineLaws.{no_note}
 use Rattle.core_text.specs.LineReading.{nested}
 use Rattle.core_text.specs.Places.{GoesOn, first_character, first_name, IsPlace}
 use Rattle.core_text.specs.RawEntries.{RawFamilyOf, RawDefinition, shows_record}
-use Rattle.core_text.specs.Spellings.{raw_line, IsTermOver, IsNewName, IsFamilyOver}
+use Rattle.core_text.specs.Spellings.{raw_line, IsNewName}
 use Rattle.core_text.specs.declared.stop.CoreTextStop.TheVariants.{NotCoreText}
 use Rattle.core_text.proofs.PlacesFirst.{places-are-first}
+use Rattle.core_text.proofs.Over.{IsTermOver, IsFamilyOver}
 
 abbrev nothing : Signature
 nothing = record { entries = []; has_k = false }

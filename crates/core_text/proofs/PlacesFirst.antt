@@ -11,7 +11,7 @@ use Rattle.core_text.specs.RawEntries.{RawEntry}
 use Rattle.core_text.proofs.Completions.{Meets}
 use Rattle.core_text.proofs.LinesGoOn.{Goes, Read}
 use Rattle.core_text.proofs.PlacesBefore.{line-meets, place-reached, deep-place-reached}
-use Rattle.core_text.proofs.PlacesTold.{ReadsNoRecord, places-told}
+use Rattle.core_text.proofs.PlacesRefused.{ReadsNoRecord, places-refused}
 
 -- the line of a family that shows no record
 no-record : (S : Signature) (rest : List ℕ) → length rest < 2 ^ 32 → ReadsNoRecord S rest → IsNoRecord S rest
@@ -26,7 +26,7 @@ no-record S rest short none = by (line_at S [] rest) (line-meets S rest short) (
 pub places-are-first : PlacesAreFirst
 places-are-first S text from p short le e =
     let reached = place-reached S text from le p short e in
-    record { reached = reached; told = by (places-told S text from p le e reached.past reached.within) }
+    record { reached = reached; refused = by (places-refused S text from p le e reached.past reached.within) }
   where
     by : IsWrongCharacter S text from p ⊎ IsWrongName S text from p ⊎ ReadsNoRecord S (drop p text) → IsWrongCharacter S text from p ⊎ IsWrongName S text from p ⊎ IsNoRecord S (drop p text)
     by (inl character) = inl character

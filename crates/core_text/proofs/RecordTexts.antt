@@ -156,7 +156,7 @@ constructors-more n p test raws raw cons c before last tests =
     map-append (constructor_shown n p) cons (c ∷ [])
     ∙ (ap₂ ◌++◌ (before parts.0) (ap (λ k. k ∷ []) (last (both _ _ parts.1).0)) ∙ sym (map-append raw_constructor_of raws (raw ∷ [])))
 
-constructors-shown : (n : ℕ) (f : Family) (cons : List Constructor) → All (λ c. HaveKinds n (family_of f) 0 c.args) cons → map (constructor_line n (family_of f)) (map (constructor_of (length f.params)) cons) ≡ map (constructor_shown n (length f.params)) cons
+pub constructors-shown : (n : ℕ) (f : Family) (cons : List Constructor) → All (λ c. HaveKinds n (family_of f) 0 c.args) cons → map (constructor_line n (family_of f)) (map (constructor_of (length f.params)) cons) ≡ map (constructor_shown n (length f.params)) cons
 constructors-shown n f [] kinds = refl
 constructors-shown n f (c ∷ cons) kinds =
     ap₂ ◌∷◌ (ap (raw_with c.name) (shown-is n f c (All-head Kinds c cons kinds))) (constructors-shown n f cons (All-tail Kinds c cons kinds))

@@ -18,9 +18,9 @@ use Rattle.core_text.specs.Reading.{is_digit, with_digit}
 use Rattle.core_text.specs.SymbolLookup.{number_at_end, before_end, entry_symbol, found_symbol, eliminator_into, eliminator_symbol, axiom_k_at, axiom_k_symbol, or_else, symbol}
 use Rattle.core_text.specs.SymbolNames.{own_name, own_constructor_name, constructor_name_in, name_at, constructor_name_at}
 use Rattle.core_text.specs.TermText.{spelled}
-use Rattle.core_text.proofs.SymbolOutcomes.{Has, some-is, find-stands}
+use Rattle.core_text.proofs.SymbolOutcomes.{Has, some-is, find-constructor}
 use Rattle.core_text.proofs.WordsRead.{decimal-one, decimal-more}
-use Rattle.core_text.proofs.TermOutcomes.{le-told}
+use Rattle.core_text.proofs.Outcomes.{le-is}
 
 pub same-bytes : (x y : List ℕ) → bytes_eq x y ≡ true → x ≡ y
 same-bytes x y e = (bytes_eq-Decides x y).0 e
@@ -113,9 +113,9 @@ two-numbers : (x y : ℕ) → is_digit x ≡ true → (x == 48) ≡ false → is
 two-numbers x y first other second =
     let parts = and_parts (nat_le 48 x) (nat_le x 57) first in
     let ends = and_parts (nat_le 48 y) (nat_le y 57) second in
-    let low = le-told 48 x parts.0 in
-    let high = le-told x 57 parts.1 in
-    let under = le-told y 57 ends.1 in
+    let low = le-is 48 x parts.0 in
+    let high = le-is x 57 parts.1 in
+    let under = le-is y 57 ends.1 in
     let some : 0 < x - 48 = grind (arith, nat_tests) in
     ap (λ r. r ++ y ∷ []) (one-number x first) ∙ (decimal-more (x - 48) y [] second some (omega arith) ∙ append-none (decimal (with_digit (x - 48) y)))
   where
@@ -147,7 +147,7 @@ number-read (b ∷ bytes) p e =
     two digit so =
         let parts = and_parts (nat_le 2 n) (is_digit other && not (other == 48)) so in
         let digits = and_parts (is_digit other) (not (other == 48)) parts.1 in
-        let long = le-told 2 n parts.0 in
+        let long = le-is 2 n parts.0 in
         let place : suc (n - 2) ≡ n - 1 = omega arith in
         two-split (n - 2) (b ∷ bytes) (omega arith)
         ∙ (ap (λ k. take (n - 2) (b ∷ bytes) ++ other ∷ slice_index (b ∷ bytes) k ∷ []) place
@@ -188,14 +188,14 @@ entry-written T n (Some (Definition own type body)) name at is t e = subst (IsWr
 entry-written T n (Some _) name at is t e = absurd (cc)
 
 found-written : (T S : Signature) → Has T S → (o : Option Found) (name : List ℕ) → ((found : Found) → o ≡ Some found → found_name S found ≡ name) → ((f c : ℕ) → o ≡ Some (FoundCon f c) → IsConstructorNumber S f c) → (t : Term) → found_symbol S o ≡ Some t → IsWritten T name t
-found-written T S has None name is stands t e = absurd (cc)
-found-written T S has (Some (FoundEntry n)) name is stands t e = entry-written T n (slice_get S.entries n) name (has n) (is (FoundEntry n) refl) t e
-found-written T S has (Some (FoundCon f c)) name is stands t e =
-    let at = stands f c refl in
+found-written T S has None name is within t e = absurd (cc)
+found-written T S has (Some (FoundEntry n)) name is within t e = entry-written T n (slice_get S.entries n) name (has n) (is (FoundEntry n) refl) t e
+found-written T S has (Some (FoundCon f c)) name is within t e =
+    let at = within f c refl in
     subst (IsWritten T name) (some-is e) (λ b. ap (λ o. constructor_name_in o c) (has f (FamilyOf at.0) at.1) ∙ (sym (ap (λ o. constructor_name_in o c) at.1) ∙ is (FoundCon f c) refl))
 
 pub found_symbol-written : (T S : Signature) → Has T S → (name : List ℕ) (t : Term) → found_symbol S (find S name) ≡ Some t → IsWritten T name t
-found_symbol-written T S has name t e = found-written T S has (find S name) name (find-named S name) (find-stands S name) t e
+found_symbol-written T S has name t e = found-written T S has (find S name) name (find-named S name) (find-constructor S name) t e
 
 through : {A : Type 0} (P : Type 0) (f : A → Option Term) (o : Option A) (t : Term) → ((a : A) → o ≡ Some a → f a ≡ Some t → P) → option_and_then f o ≡ Some t → P
 through P f None t k e = absurd (cc)

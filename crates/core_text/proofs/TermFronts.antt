@@ -1,12 +1,12 @@
 -- Terms that may be at a place, and fronts of their texts: each part that is missing is completed by `Type 0`.
-use Rattle.std.proofs.Common.{◌≡◌, ℕ, ◌+◌, Bool, true, List, ◌++◌, sym, ap, ◌∙◌, subst, append_assoc, arith}
+use Rattle.std.proofs.Common.{◌≡◌, ℕ, ◌+◌, Bool, true, List, ◌++◌, sym, ap, ◌∙◌, subst, append_assoc}
 use Rattle.std.specs.Prelude.{codes}
 use Rattle.theory.specs.Terms.{Term, Sort, Pi, Lam, App, Let}
 use Rattle.theory.specs.Signatures.{Signature}
 use Rattle.core_text.specs.Reading.{Reading, and_then, after, past}
-use Rattle.core_text.specs.Spellings.{IsTermOver}
 use Rattle.core_text.specs.TermText.{spelled, term_text}
 use Rattle.core_text.proofs.Completions.{Meets, IsFront, front-less, meets-then, meets-after}
+use Rattle.core_text.proofs.Over.{IsTermOver, over-sort, over-pi, over-lam, over-app, over-let}
 
 -- the text of a term over n variables, written over T, with the symbols of S
 abbrev pub IsText : Signature → Signature → Bool → ℕ → List ℕ → Type 0
@@ -15,29 +15,6 @@ IsText T S own n text = (t : Term) × (text ≡ term_text T t) × IsTermOver S o
 -- such a term is read, whose text is at the front
 abbrev pub ReadsTerm : Signature → Signature → Bool → ℕ → List ℕ → Term → List ℕ → Type 0
 ReadsTerm T S own n rest t r = (rest ≡ term_text T t ++ r) × IsTermOver S own n t
-
--- ---- forms whose parts may be there
-
-pub over-sort : (S : Signature) (own : Bool) (n : ℕ) → IsTermOver S own n (Sort 0)
-over-sort S own n = record { symbols = omega arith; free = omega arith }
-
-pub over-more : (S : Signature) (own : Bool) (n : ℕ) (t : Term) → IsTermOver S own 0 t → IsTermOver S own n t
-over-more S own n t f = record { symbols = f.symbols; free = omega (arith, f.free) }
-
-pub over-pi : (S : Signature) (own : Bool) (n : ℕ) (a b : Term) → IsTermOver S own n a → IsTermOver S own (n + 1) b → IsTermOver S own n (Pi a b)
-over-pi S own n a b f g = record { symbols = (f.symbols, g.symbols); free = omega (arith, f.free, g.free) }
-
-pub over-lam : (S : Signature) (own : Bool) (n : ℕ) (a b : Term) → IsTermOver S own n a → IsTermOver S own (n + 1) b → IsTermOver S own n (Lam a b)
-over-lam S own n a b f g = record { symbols = (f.symbols, g.symbols); free = omega (arith, f.free, g.free) }
-
-pub over-app : (S : Signature) (own : Bool) (n : ℕ) (f a : Term) → IsTermOver S own n f → IsTermOver S own n a → IsTermOver S own n (App f a)
-over-app S own n f a g h = record { symbols = (g.symbols, h.symbols); free = omega (arith, g.free, h.free) }
-
-pub over-let : (S : Signature) (own : Bool) (n : ℕ) (a t b : Term) → IsTermOver S own n a → IsTermOver S own n t → IsTermOver S own (n + 1) b → IsTermOver S own n (Let a t b)
-over-let S own n a t b f g h = record {
-  symbols = (f.symbols, g.symbols, h.symbols);
-  free = omega (arith, f.free, g.free, h.free);
-}
 
 module _ (T S : Signature) (own : Bool) where
   -- ---- fronts

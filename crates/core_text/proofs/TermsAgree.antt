@@ -10,15 +10,15 @@ use Rattle.core_text.specs.NameRuns.{run_len}
 use Rattle.core_text.specs.Reading.{Reading, wrong, first, and_then, after, begins, read_index, read_level}
 use Rattle.core_text.specs.TermReading.{most, sort_levels, limited, closed_by, as_term, known, variable_at, sort_at, named, is_application, read_term, term_at, term_after, function_at, let_at, product_from, argument_of, after_argument, arguments_from, spine_from, after_first, enclosed_at}
 use Rattle.core_text.specs.declared.halt.Halt.TheVariants.{Memory, Nested, Wrong}
-use Rattle.core_text.proofs.Agreement.{Refused, by_character, by_name, Told, Alike, StaysAt, StartsAt, refused-map, told-within, stopped-within, alike-then}
+use Rattle.core_text.proofs.Agreement.{Refused, by_character, by_name, Reread, Alike, StaysAt, StartsAt, refused-map, reread-within, stopped-within, alike-then}
 use Rattle.core_text.proofs.Characters.{Same, SameName, first-same, same-named}
-use Rattle.core_text.proofs.NamesAgree.{NameTells, goes_on, is_wrong, told-named}
+use Rattle.core_text.proofs.NamesAgree.{NameTells, goes_on, is_wrong, reread-named}
 use Rattle.core_text.proofs.NumbersAgree.{led-same, alike-index, alike-level, alike-as}
 use Rattle.core_text.proofs.NumbersBack.{past-word, begins-word}
 use Rattle.core_text.proofs.RunSteps.{run_more}
 use Rattle.core_text.proofs.TermsBack.{some-char}
 use Rattle.core_text.proofs.WholeRuns.{letters, let-run}
-use Rattle.core_text.proofs.WordsAgree.{told-shift, told-first, told-byte, alike-word, part-starts, word-starts, alike-here, alike-wrong, alike-nested, alike-if}
+use Rattle.core_text.proofs.WordsAgree.{reread-shift, reread-first, reread-byte, alike-word, part-starts, word-starts, alike-here, alike-wrong, alike-nested, alike-if}
 use Rattle.core_text.proofs.WordsRead.{word-is, first-is}
 
 -- ---- leaves
@@ -29,12 +29,12 @@ alike-sort = alike-word true (codes " ") (λ r. as_term Sort (read_level sort_le
 sort-starts : (r : List ℕ) → StartsAt r (sort_at r)
 sort-starts r = word-starts 32 [] (λ r. as_term Sort (read_level sort_levels r)) r (omega arith)
 
-variable-told : (n : ℕ) (rest : List ℕ) → (first rest == 37) ≡ true → Told true (variable_at n) rest (variable_at n rest)
-variable-told zero rest e = (alike-wrong true).told rest
-variable-told (suc n) rest e =
-    subst (λ x. Told true (variable_at (suc n)) x (variable_at (suc n) x)) (sym (first-is 37 rest (omega arith) e))
-    (told-shift true (λ x. as_term Var (read_index (suc n) x)) (variable_at (suc n)) (37 ∷ []) (drop 1 rest) (as_term Var (read_index (suc n) (drop 1 rest))) (λ y. refl)
-    ((alike-as Var (read_index (suc n)) (alike-index (suc n))).told (drop 1 rest)))
+variable-reread : (n : ℕ) (rest : List ℕ) → (first rest == 37) ≡ true → Reread true (variable_at n) rest (variable_at n rest)
+variable-reread zero rest e = (alike-wrong true).reread rest
+variable-reread (suc n) rest e =
+    subst (λ x. Reread true (variable_at (suc n)) x (variable_at (suc n) x)) (sym (first-is 37 rest (omega arith) e))
+    (reread-shift true (λ x. as_term Var (read_index (suc n) x)) (variable_at (suc n)) (37 ∷ []) (drop 1 rest) (as_term Var (read_index (suc n) (drop 1 rest))) (λ y. refl)
+    ((alike-as Var (read_index (suc n)) (alike-index (suc n))).reread (drop 1 rest)))
 
 module _ (look : List ℕ → Option Term) where
   -- how reading goes on after a name
@@ -49,8 +49,8 @@ module _ (look : List ℕ → Option Term) where
       by false e (Some t) f = goes_on (λ r. Ok (t, r)) (alike-here true t) (λ r. inr refl) (λ r x. ap₂ (λ b o. if b then sort_at r else known o x r) e f)
       by false e None f = is_wrong (λ r x. ap₂ (λ b o. if b then sort_at r else known o x r) e f)
 
-  named-told : (rest : List ℕ) → Told true (λ x. named look (run_len x) x) rest (named look (run_len rest) rest)
-  named-told rest = told-named on_name rest (name-tells (take (run_len rest) rest))
+  named-reread : (rest : List ℕ) → Reread true (λ x. named look (run_len x) x) rest (named look (run_len rest) rest)
+  named-reread rest = reread-named on_name rest (name-tells (take (run_len rest) rest))
 
 -- ---- the ends of forms
 
@@ -162,7 +162,7 @@ module _ (inner : ℕ → List ℕ → Reading Term) (alike : (n : ℕ) → Alik
   alike-arguments zero f n = alike-nested true length
   alike-arguments (suc k) f n =
       alike-then true (argument_of inner f n) (after_argument inner more) (alike-argument f n)
-      (λ t. record { told = λ rest. told-byte true 32 (more t) (closed_by t) rest (omega arith) (λ r is. (alike-arguments k t n).told r) (λ e. (alike-closed t).told rest) (λ no. absurd (cc)) })
+      (λ t. record { reread = λ rest. reread-byte true 32 (more t) (closed_by t) rest (omega arith) (λ r is. (alike-arguments k t n).reread r) (λ e. (alike-closed t).reread rest) (λ no. absurd (cc)) })
       (λ t r. starts t r (first r == 32) refl) (λ t r no. absurd (cc))
     where
       more : Term → List ℕ → Reading Term
@@ -181,7 +181,7 @@ module _ (inner : ℕ → List ℕ → Reading Term) (alike : (n : ℕ) → Alik
 
   alike-either : (a : Term) (n : ℕ) → Alike true (arrow_or_spine a n)
   alike-either a n = record {
-    told = λ rest. told-first true 45 (product_from inner a n) (spine_from inner a n) rest (λ e. (alike-product a n).told rest) (λ e. (alike-spine a n).told rest) (λ no. absurd (cc)) (λ no. absurd (cc));
+    reread = λ rest. reread-first true 45 (product_from inner a n) (spine_from inner a n) rest (λ e. (alike-product a n).reread rest) (λ e. (alike-spine a n).reread rest) (λ no. absurd (cc)) (λ no. absurd (cc));
   }
 
   alike-past : (a : Term) (n : ℕ) → Alike true (after_first inner a n)
@@ -201,8 +201,8 @@ module _ (inner : ℕ → List ℕ → Reading Term) (alike : (n : ℕ) → Alik
   let-then : (n : ℕ) (x : List ℕ) → LetThen x (first_and_more n (108 ∷ 101 ∷ 116 ∷ 32 ∷ x))
   let-then n x = by (inner n (108 ∷ 101 ∷ 116 ∷ 32 ∷ x)) (let_in n x)
     where
-      within : (a : Term) (m : Reading Term) → Told true (arrow_or_spine a n) x m → LetThen x m
-      within a (Ok p) t = told-within true (arrow_or_spine a n) x p.0 p.1 t
+      within : (a : Term) (m : Reading Term) → Reread true (arrow_or_spine a n) x m → LetThen x m
+      within a (Ok p) t = reread-within true (arrow_or_spine a n) x p.0 p.1 t
       within a (Err (Wrong left)) t = inl (stopped-within (arrow_or_spine a n) x left t)
       within a (Err (Nested left)) t = tt
       within a (Err Memory) t = tt
@@ -210,7 +210,7 @@ module _ (inner : ℕ → List ℕ → Reading Term) (alike : (n : ℕ) → Alik
       by : (m : Reading Term) → LetAt x m → LetThen x (and_then m (λ a r. after_first inner a n r))
       by (Ok p) is =
           subst (λ r. LetThen x (after_first inner p.0 n r)) (sym is)
-          (subst (λ m. LetThen x (after m (arrow_or_spine p.0 n))) (sym (past-word (codes " ") x)) (within p.0 (arrow_or_spine p.0 n x) ((alike-either p.0 n).told x)))
+          (subst (λ m. LetThen x (after m (arrow_or_spine p.0 n))) (sym (past-word (codes " ") x)) (within p.0 (arrow_or_spine p.0 n x) ((alike-either p.0 n).reread x)))
       by (Err (Wrong left)) is = inr is
       by (Err (Nested left)) is = tt
       by (Err Memory) is = tt
@@ -279,8 +279,8 @@ module _ (inner : ℕ → List ℕ → Reading Term) (alike : (n : ℕ) → Alik
       by true e = let some = l-run z e in by_name some (λ y same. other-first n y (other some y same) ∙ by_run some refused y same)
       by false e = refused-map (first_and_more n) (let_or_first n) z (λ y same is. other-first n y (no-l y (ap (λ b. b == 108) (sym (first-same z y same)) ∙ e)) ∙ is) refused
 
-  let-told : (n : ℕ) (rest : List ℕ) → Told true (let_or_first n) rest (let_or_first n rest)
-  let-told n rest = by (begins (codes "let ") rest) refl
+  let-reread : (n : ℕ) (rest : List ℕ) → Reread true (let_or_first n) rest (let_or_first n rest)
+  let-reread n rest = by (begins (codes "let ") rest) refl
     where
       stopped : (v z : List ℕ) → begins (codes "let ") rest ≡ false → rest ≡ v ++ z → Refused (λ y. first_and_more n (v ++ y)) z → Refused (λ y. let_or_first n (v ++ y)) z
       stopped [] z none is refused = refused-start n z (ap (begins (codes "let ")) (sym is) ∙ none) refused
@@ -288,7 +288,7 @@ module _ (inner : ℕ → List ℕ → Reading Term) (alike : (n : ℕ) → Alik
           refused-map (λ y. first_and_more n ((b ∷ v) ++ y)) (λ y. let_or_first n ((b ∷ v) ++ y)) z
           (λ y same e. other-first n ((b ∷ v) ++ y) (no-let-stopped n rest (b ∷ v) z y none is (omega arith) e) ∙ e) refused
 
-      on : begins (codes "let ") rest ≡ false → (m : Reading Term) → Told true (first_and_more n) rest m → Told true (let_or_first n) rest m
+      on : begins (codes "let ") rest ≡ false → (m : Reading Term) → Reread true (first_and_more n) rest m → Reread true (let_or_first n) rest m
       on none (Ok p) t = record {
         front = t.front;
         is = t.is;
@@ -298,22 +298,22 @@ module _ (inner : ℕ → List ℕ → Reading Term) (alike : (n : ℕ) → Alik
       on none (Err (Nested left)) t = tt
       on none (Err Memory) t = tt
 
-      by : (b : Bool) → begins (codes "let ") rest ≡ b → Told true (let_or_first n) rest (if b then let_at inner n (drop 4 rest) else first_and_more n rest)
+      by : (b : Bool) → begins (codes "let ") rest ≡ b → Reread true (let_or_first n) rest (if b then let_at inner n (drop 4 rest) else first_and_more n rest)
       by true e =
-          subst (λ x. Told true (let_or_first n) x (let_at inner n (drop 4 rest))) (sym (word-is (codes "let ") rest e))
-          (told-shift true (let_at inner n) (let_or_first n) (codes "let ") (drop 4 rest) (let_at inner n (drop 4 rest))
-          (λ y. ap (λ b. if b then let_at inner n y else first_and_more n (codes "let " ++ y)) (begins-word (codes "let ") y)) ((alike-let n).told (drop 4 rest)))
-      by false e = on e (first_and_more n rest) ((alike-first n).told rest)
+          subst (λ x. Reread true (let_or_first n) x (let_at inner n (drop 4 rest))) (sym (word-is (codes "let ") rest e))
+          (reread-shift true (let_at inner n) (let_or_first n) (codes "let ") (drop 4 rest) (let_at inner n (drop 4 rest))
+          (λ y. ap (λ b. if b then let_at inner n y else first_and_more n (codes "let " ++ y)) (begins-word (codes "let ") y)) ((alike-let n).reread (drop 4 rest)))
+      by false e = on e (first_and_more n rest) ((alike-first n).reread rest)
 
   alike-enclosed : (n : ℕ) → Alike true (enclosed_at inner n)
   alike-enclosed n = record {
-    told = λ rest. told-byte true 92 (function_at inner n) (let_or_first n) rest (omega arith) (λ r is. (alike-function n).told r) (λ e. let-told n rest) (λ no. absurd (cc));
+    reread = λ rest. reread-byte true 92 (function_at inner n) (let_or_first n) rest (omega arith) (λ r is. (alike-function n).reread r) (λ e. let-reread n rest) (λ no. absurd (cc));
   }
 
   alike-term : (look : List ℕ → Option Term) (n : ℕ) → Alike true (term_at inner look n)
   alike-term look n = record {
-    told = λ rest. told-byte true 40 (enclosed_at inner n) (λ x. if first x == 37 then variable_at n x else named look (run_len x) x) rest (omega arith) (λ r is. (alike-enclosed n).told r)
-        (λ e. told-first true 37 (variable_at n) (λ x. named look (run_len x) x) rest (λ f. variable-told n rest f) (λ f. named-told look rest) (λ no. absurd (cc)) (λ no. absurd (cc))) (λ no. absurd (cc));
+    reread = λ rest. reread-byte true 40 (enclosed_at inner n) (λ x. if first x == 37 then variable_at n x else named look (run_len x) x) rest (omega arith) (λ r is. (alike-enclosed n).reread r)
+        (λ e. reread-first true 37 (variable_at n) (λ x. named look (run_len x) x) rest (λ f. variable-reread n rest f) (λ f. named-reread look rest) (λ no. absurd (cc)) (λ no. absurd (cc))) (λ no. absurd (cc));
   }
 
 -- ---- whole terms

@@ -6,15 +6,16 @@ use Rattle.theory.specs.Terms.{Term, Var, Sort, Pi, Lam, App, Let, height}
 use Rattle.theory.specs.Signatures.{Signature}
 use Rattle.core_text.specs.NameRuns.{run_len}
 use Rattle.core_text.specs.Reading.{Reading, wrong, first, and_then, begins, read_index, is_left, read_level}
-use Rattle.core_text.specs.Spellings.{IsTermOver}
 use Rattle.core_text.specs.TermReading.{most, sort_levels, limited, closed_by, as_term, known, variable_at, sort_at, named, is_application, read_term, term_after, function_at, let_at, product_from, argument_of, after_argument, arguments_from, spine_from, after_first, enclosed_at}
 use Rattle.core_text.specs.TermText.{spelled, term_text}
 use Rattle.core_text.specs.declared.halt.Halt.TheVariants.{Memory, Nested, Wrong}
 use Rattle.core_text.proofs.Completions.{Meets, IsFront, whole-front, front-less, begun-past, meets-if, meets-wrong, meets-deep, meets-then, meets-word}
-use Rattle.core_text.proofs.NumbersGoOn.{index-meets, level-text-meets, left-below}
+use Rattle.core_text.proofs.NumbersGoOn.{index-meets, level-text-meets}
+use Rattle.core_text.proofs.Outcomes.{left-below}
+use Rattle.core_text.proofs.Over.{IsTermOver, over-sort, over-more, over-pi, over-lam, over-app, over-let}
 use Rattle.core_text.proofs.SymbolsRead.{same-bytes}
 use Rattle.core_text.proofs.SpineTexts.{spelled-alone}
-use Rattle.core_text.proofs.TermFronts.{IsText, ReadsTerm, over-sort, over-more, over-pi, over-lam, over-app, over-let, text-front, lam-front, lam-body-front, pi-front, pi-body-front, app-front, let-front, let-value-front, let-body-front, then-term, after-term}
+use Rattle.core_text.proofs.TermFronts.{IsText, ReadsTerm, text-front, lam-front, lam-body-front, pi-front, pi-body-front, app-front, let-front, let-value-front, let-body-front, then-term, after-term}
 use Rattle.core_text.proofs.TermsRead.{WritesNames}
 use Rattle.core_text.proofs.WordsRead.{first-is, word-is}
 

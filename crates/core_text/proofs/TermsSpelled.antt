@@ -1,13 +1,14 @@
 -- A term that is spelled is read back, whatever its height, unless it is too deep or too high.
-use Rattle.std.proofs.Common.{◌≡◌, ℕ, zero, suc, ◌+◌, ◌≤◌, false, List, [], ◌∷◌, ◌++◌, length, drop, refl, sym, ap, ap₂, ◌∙◌, subst, append_assoc, arith}
+use Rattle.std.proofs.Common.{◌≡◌, ℕ, zero, suc, ◌+◌, false, List, [], ◌∷◌, ◌++◌, length, drop, refl, sym, ap, ap₂, ◌∙◌, subst, append_assoc, arith}
 use Rattle.std.specs.Prelude.{◌==◌, if◌then◌else◌, Option, codes, All}
 use Rattle.std.proofs.lemmas.List.Elements.{All-head, All-tail, All-push}
-use Rattle.theory.specs.Terms.{Term, Var, Sort, Pi, Lam, App, Let, Const, Fam, Con, Elim, AxiomK, free_of}
+use Rattle.theory.specs.Terms.{Term, Var, Sort, Pi, Lam, App, Let, Const, Fam, Con, Elim, AxiomK}
 use Rattle.theory.specs.Telescopes.{applied}
 use Rattle.theory.specs.Spines.{head_of, spine_of}
 use Rattle.theory.specs.Signatures.{Signature}
 use Rattle.theory.proofs.Bounds.{applied-parts}
 use Rattle.theory.proofs.Spines.{applied-spine}
+use Rattle.core_text.specs.EntryParts.{IsTermWith}
 use Rattle.core_text.specs.ReadBack.{Stops, AreSpelled}
 use Rattle.core_text.specs.Reading.{Reading, wrong, first, and_then, after}
 use Rattle.core_text.specs.SymbolNames.{name_at, constructor_name_at, eliminator_name, axiom_k_name}
@@ -20,9 +21,8 @@ use Rattle.core_text.proofs.TermsBack.{stops-space, stops-close, text-begins, sy
 -- ---- compound terms, where `inner` reads what is inside unless it is too deep or too high
 
 -- a term over n variables that is spelled
-pub record IsSpelledTerm (S : Signature) (look : List ℕ → Option Term) (n : ℕ) (t : Term) : Type 0 where
-  pub spelled : AreSpelled S look t
-  pub free : free_of t ≤ n
+abbrev pub IsSpelledTerm : Signature → (List ℕ → Option Term) → ℕ → Term → Type 0
+IsSpelledTerm S look n t = IsTermWith (AreSpelled S look) n t
 
 -- a reading of such terms, each before what stops names and numbers
 abbrev pub ReadsSpelled : Signature → (List ℕ → Option Term) → (ℕ → List ℕ → Reading Term) → Type 0
@@ -52,7 +52,7 @@ module _ (S : Signature) (look : List ℕ → Option Term) (inner : ℕ → List
   -- after the parenthesis of a product or an application
   open-spelled : (a : Term) (n : ℕ) (rest : List ℕ) (t : Term) (end : List ℕ) → IsSpelledTerm S look n a → OrNested (Unit {0}) (after_first inner a n (32 ∷ rest)) t end → OrNested (Unit {0}) (enclosed_at inner n (term_text S a ++ 32 ∷ rest)) t end
   open-spelled a n rest t end fa h =
-      let starts = text-begins S look a fa.spelled in
+      let starts = text-begins S look a fa.symbols in
       let bytes = term_text S a ++ 32 ∷ rest in
       or-same (enclosed_at inner n bytes) (and_then (inner n bytes) (λ a r. after_first inner a n r))
       (ap₂ (λ c d. if c then function_at inner n (drop 1 bytes) else (if d then let_at inner n (drop 4 bytes) else and_then (inner n bytes) (λ a r. after_first inner a n r))) (starts.no_function (32 ∷ rest)) (starts.no_let (32 ∷ rest) (stops-space rest)))
@@ -82,7 +82,7 @@ module _ (S : Signature) (look : List ℕ → Option Term) (inner : ℕ → List
   application-spelled : (h a : Term) (spine : List Term) (n : ℕ) (rest : List ℕ) → is_application h ≡ false → IsSpelledTerm S look n h → IsSpelledTerm S look n a → All (IsSpelledTerm S look n) spine → OrNested (Unit {0}) (enclosed_at inner n (term_text S h ++ (spaced S (a ∷ spine) ++ 41 ∷ rest))) (applied (App h a) spine) rest
   application-spelled h a spine n rest head fh fa all =
       let tail = term_text S a ++ (spaced S spine ++ 41 ∷ rest) in
-      let starts = text-begins S look a fa.spelled in
+      let starts = text-begins S look a fa.symbols in
       or-same (enclosed_at inner n (term_text S h ++ (spaced S (a ∷ spine) ++ 41 ∷ rest))) (enclosed_at inner n (term_text S h ++ 32 ∷ tail))
       (ap (λ r. enclosed_at inner n (term_text S h ++ 32 ∷ r)) (append_assoc (term_text S a) (spaced S spine) (41 ∷ rest)))
       (open-spelled h n tail (applied (App h a) spine) rest fh
@@ -100,8 +100,8 @@ enclosed-spelled look room n text rest t end is h =
 
 parts-spelled : (S : Signature) (look : List ℕ → Option Term) (n : ℕ) (f a : Term) → IsSpelledTerm S look n (App f a) → IsSpelledTerm S look n f × IsSpelledTerm S look n a
 parts-spelled S look n f a fit = (
-  record { spelled = fit.spelled.0; free = omega (arith, fit.free) },
-  record { spelled = fit.spelled.1; free = omega (arith, fit.free) },
+  record { symbols = fit.symbols.0; free = omega (arith, fit.free) },
+  record { symbols = fit.symbols.1; free = omega (arith, fit.free) },
 )
 
 application-form : (S : Signature) (look : List ℕ → Option Term) (room : ℕ) → ReadsSpelled S look (read_term look room) → (f a : Term) (n : ℕ) (rest : List ℕ) → IsSpelledTerm S look n (App f a) → OrNested (Unit {0}) (read_term look (suc room) n (term_text S (App f a) ++ rest)) (App f a) rest
@@ -130,33 +130,33 @@ application-form S look room back f a n rest fit =
 
 form-spelled : (S : Signature) (look : List ℕ → Option Term) (room : ℕ) → ReadsSpelled S look (read_term look room) → (t : Term) (n : ℕ) (rest : List ℕ) → IsSpelledTerm S look n t → Stops rest → OrNested (Unit {0}) (read_term look (suc room) n (term_text S t ++ rest)) t rest
 form-spelled S look room back (Var v) n rest fit stops =
-    is_read (variable-form look room n v (term_text S (Var v) ++ rest) rest refl (omega (arith, fit.free)) fit.spelled stops)
+    is_read (variable-form look room n v (term_text S (Var v) ++ rest) rest refl (omega (arith, fit.free)) fit.symbols stops)
 form-spelled S look room back (Sort i) n rest fit stops =
-    is_read (sort-form look room n i (term_text S (Sort i) ++ rest) rest refl fit.spelled stops)
+    is_read (sort-form look room n i (term_text S (Sort i) ++ rest) rest refl fit.symbols stops)
 form-spelled S look room back (Pi a b) n rest fit stops =
     enclosed-spelled look room n (term_text S (Pi a b) ++ rest) (term_text S a ++ (codes " -> " ++ (term_text S b ++ 41 ∷ rest))) (Pi a b) rest (product-text S a b rest)
     (product-spelled S look (read_term look room) back a b n rest
-    (record { spelled = fit.spelled.0; free = omega (arith, fit.free) }) (record { spelled = fit.spelled.1; free = omega (arith, fit.free) }))
+    (record { symbols = fit.symbols.0; free = omega (arith, fit.free) }) (record { symbols = fit.symbols.1; free = omega (arith, fit.free) }))
 form-spelled S look room back (Lam a b) n rest fit stops =
     let bytes = term_text S a ++ (codes " . " ++ (term_text S b ++ 41 ∷ rest)) in
     enclosed-spelled look room n (term_text S (Lam a b) ++ rest) (92 ∷ bytes) (Lam a b) rest (function-text S a b rest)
     (or-same (enclosed_at (read_term look room) n (92 ∷ bytes)) (function_at (read_term look room) n bytes) (backslash (read_term look room) n bytes)
     (function-spelled S look (read_term look room) back a b n rest
-    (record { spelled = fit.spelled.0; free = omega (arith, fit.free) }) (record { spelled = fit.spelled.1; free = omega (arith, fit.free) })))
+    (record { symbols = fit.symbols.0; free = omega (arith, fit.free) }) (record { symbols = fit.symbols.1; free = omega (arith, fit.free) })))
 form-spelled S look room back (App f a) n rest fit stops = application-form S look room back f a n rest fit
 form-spelled S look room back (Let a t b) n rest fit stops =
     let bytes = term_text S a ++ (codes " = " ++ (term_text S t ++ (codes " . " ++ (term_text S b ++ 41 ∷ rest)))) in
     enclosed-spelled look room n (term_text S (Let a t b) ++ rest) (codes "let " ++ bytes) (Let a t b) rest (let-text S a t b rest)
     (or-same (enclosed_at (read_term look room) n (codes "let " ++ bytes)) (let_at (read_term look room) n bytes) (let-word (read_term look room) n bytes)
     (let-spelled S look (read_term look room) back a t b n rest
-    (record { spelled = fit.spelled.0; free = omega (arith, fit.free) })
-    (record { spelled = fit.spelled.1; free = omega (arith, fit.free) })
-    (record { spelled = fit.spelled.2; free = omega (arith, fit.free) })))
-form-spelled S look room back (Const c) n rest fit stops = is_read (symbol-back look (name_at S c) (Const c) room n rest fit.spelled stops)
-form-spelled S look room back (Fam c) n rest fit stops = is_read (symbol-back look (name_at S c) (Fam c) room n rest fit.spelled stops)
-form-spelled S look room back (Con f c) n rest fit stops = is_read (symbol-back look (constructor_name_at S f c) (Con f c) room n rest fit.spelled stops)
-form-spelled S look room back (Elim f m) n rest fit stops = is_read (symbol-back look (eliminator_name (name_at S f) m) (Elim f m) room n rest fit.spelled stops)
-form-spelled S look room back (AxiomK i m) n rest fit stops = is_read (symbol-back look (axiom_k_name i m) (AxiomK i m) room n rest fit.spelled stops)
+    (record { symbols = fit.symbols.0; free = omega (arith, fit.free) })
+    (record { symbols = fit.symbols.1; free = omega (arith, fit.free) })
+    (record { symbols = fit.symbols.2; free = omega (arith, fit.free) })))
+form-spelled S look room back (Const c) n rest fit stops = is_read (symbol-back look (name_at S c) (Const c) room n rest fit.symbols stops)
+form-spelled S look room back (Fam c) n rest fit stops = is_read (symbol-back look (name_at S c) (Fam c) room n rest fit.symbols stops)
+form-spelled S look room back (Con f c) n rest fit stops = is_read (symbol-back look (constructor_name_at S f c) (Con f c) room n rest fit.symbols stops)
+form-spelled S look room back (Elim f m) n rest fit stops = is_read (symbol-back look (eliminator_name (name_at S f) m) (Elim f m) room n rest fit.symbols stops)
+form-spelled S look room back (AxiomK i m) n rest fit stops = is_read (symbol-back look (axiom_k_name i m) (AxiomK i m) room n rest fit.symbols stops)
 
 -- whatever room there is for terms inside
 pub terms-spelled : (S : Signature) (look : List ℕ → Option Term) (room : ℕ) → ReadsSpelled S look (read_term look room)

@@ -7,8 +7,7 @@ use Rattle.std.proofs.lemmas.Fmt.{decimal_digit, decimal_step}
 use Rattle.core_text.specs.Heads.{shared}
 use Rattle.core_text.specs.Reading.{Reading, first, begins, after, past, wrong, is_digit, with_digit, index_from, read_index, is_left, begins_level, one_digit, level_from, read_level}
 use Rattle.core_text.specs.declared.halt.Halt.TheVariants.{Wrong}
-use Rattle.core_text.proofs.Outcomes.{Ensures, ensures-if}
-use Rattle.core_text.proofs.TermOutcomes.{lt-told, le-told}
+use Rattle.core_text.proofs.Outcomes.{Ensures, ensures-if, lt-is, le-is}
 
 -- ---- words
 
@@ -42,7 +41,7 @@ first-is b (x ∷ rest) some e = let here : x ≡ b = grind (arith, nat_tests) i
 -- ---- numbers
 
 pub digit-bounds : (b : ℕ) → is_digit b ≡ true → (48 ≤ b) × (b ≤ 57)
-digit-bounds b e = let parts = and_parts (nat_le 48 b) (nat_le b 57) e in (le-told 48 b parts.0, le-told b 57 parts.1)
+digit-bounds b e = let parts = and_parts (nat_le 48 b) (nat_le b 57) e in (le-is 48 b parts.0, le-is b 57 parts.1)
 
 pub decimal-one : (b : ℕ) (rest : List ℕ) → is_digit b ≡ true → b ∷ rest ≡ decimal (b - 48) ++ rest
 decimal-one b rest digit =
@@ -68,8 +67,8 @@ index-spelled n v (b ∷ rest) le =
     by longer true e =
         let parts = and_parts (is_digit b) (nat_lt 0 v && nat_lt (with_digit v b) n) e in
         let bounds = and_parts (nat_lt 0 v) (nat_lt (with_digit v b) n) parts.1 in
-        let less = lt-told (with_digit v b) n bounds.1 in
-        decimal-more v b rest parts.0 (lt-told 0 v bounds.0) (omega (arith, less, le)) ∙ longer
+        let less = lt-is (with_digit v b) n bounds.1 in
+        decimal-more v b rest parts.0 (lt-is 0 v bounds.0) (omega (arith, less, le)) ∙ longer
     by longer false e = refl
 
 pub index-read : (n : ℕ) (rest : List ℕ) → n ≤ 2 ^ 64 → Ensures (λ v r. rest ≡ decimal v ++ r) (read_index n rest)
@@ -92,7 +91,7 @@ two-levels levels b (c ∷ rest) digit =
   where
     both : (is_digit c ≡ true) × ((nat_lt 0 (b - 48) && is_left levels (with_digit (b - 48) c)) ≡ true) → b ∷ c ∷ rest ≡ decimal (with_digit (b - 48) c) ++ rest
     both parts =
-        let some = lt-told 0 (b - 48) (and_parts (nat_lt 0 (b - 48)) (is_left levels (with_digit (b - 48) c)) parts.1).0 in
+        let some = lt-is 0 (b - 48) (and_parts (nat_lt 0 (b - 48)) (is_left levels (with_digit (b - 48) c)) parts.1).0 in
         let one = digit-bounds b digit in
         let two = digit-bounds c parts.0 in
         decimal-one b (c ∷ rest) digit ∙ decimal-more (b - 48) c rest parts.0 some (omega (arith, one.1, two.1))

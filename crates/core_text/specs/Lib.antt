@@ -2,6 +2,7 @@
 pub mod TermText
 pub mod EntryText
 pub mod RawEntries
+pub mod EntryParts
 pub mod SymbolNames
 pub mod ContextText
 pub mod Heads

@@ -14,7 +14,7 @@ pub data AreNotes : List ℕ → Type 0 where
 
 -- After its first bytes the text has lines that begin with `#` and then the line of the entry, written over the entries S
 -- and itself, which ends where `to` says.
-pub record Stands (S : Signature) (text : List ℕ) (from : ℕ) (e : Entry) (to : ℕ) : Type 0 where
+pub record HasLine (S : Signature) (text : List ℕ) (from : ℕ) (e : Entry) (to : ℕ) : Type 0 where
   pub notes : List ℕ
   pub others : List ℕ
   pub are_notes : AreNotes notes
@@ -25,7 +25,7 @@ pub record Stands (S : Signature) (text : List ℕ) (from : ℕ) (e : Entry) (to
 abbrev pub LinesAreRead : Type 0
 LinesAreRead =
     (S : Signature) (text : List ℕ) (from : ℕ) (e : Entry) (to : ℕ) → length text < 2 ^ 32 → from ≤ length text →
-    entry_from S text from ≡ Ok (Some (entry_shown (length S.entries) e, to)) → Stands S text from e to
+    entry_from S text from ≡ Ok (Some (entry_shown (length S.entries) e, to)) → HasLine S text from e to
 
 -- Lines that begin with `#` are passed over.
 abbrev pub NotesArePassedOver : Type 0

@@ -1,6 +1,6 @@
 -- Reading a line: its first word says which entry it is. `own` is the name of the family that is being declared, and
 -- nothing at the beginning of a line.
-use Rattle.std.specs.Prelude.{ℕ, zero, suc, ◌+◌, ◌==◌, Bool, false, not, ◌&&◌, if◌then◌else◌, List, [], ◌∷◌, ◌++◌, length, take, drop, codes, Option, Some, None, Result, Ok}
+use Rattle.std.specs.Prelude.{ℕ, zero, suc, ◌+◌, ◌==◌, Bool, not, ◌&&◌, if◌then◌else◌, List, [], ◌∷◌, ◌++◌, length, take, drop, codes, Option, Some, None, Result, Ok}
 use Rattle.std.specs.List.{list_any}
 use Rattle.theory.specs.Terms.{Term, Fam, top}
 use Rattle.theory.specs.Signatures.{Entry, Signature}

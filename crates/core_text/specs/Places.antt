@@ -9,7 +9,7 @@ use Rattle.core_text.specs.LineReading.{levels_left, identities_left}
 use Rattle.core_text.specs.NameRuns.{width, run_len}
 use Rattle.core_text.specs.RawEntries.{RawEntry, RawFamilyOf, shows_record}
 use Rattle.core_text.specs.Reading.{first, is_left}
-use Rattle.core_text.specs.Spellings.{raw_line, IsFamilyOver, IsEntryOver}
+use Rattle.core_text.specs.Spellings.{raw_line, IsEntryOver}
 use Rattle.core_text.specs.SymbolNames.{name_at}
 use Rattle.core_text.specs.declared.instances.Series.TheVariants.{Elim}
 use Rattle.core_text.specs.declared.stop.CoreTextStop.TheVariants.{Nested, NotCoreText}
@@ -67,7 +67,7 @@ IsWrongName S text from p =
 pub record IsNoRecord (S : Signature) (rest : List ℕ) : Type 0 where
   pub raw : RawFamily
   pub past : List ℕ
-  pub over : IsFamilyOver S raw
+  pub over : IsEntryOver S (RawFamilyOf raw)
   pub line : rest ≡ raw_line S (RawFamilyOf raw) ++ past
   pub none : shows_record (length S.entries) raw ≡ false
 
@@ -81,7 +81,7 @@ pub record IsReached (S : Signature) (text : List ℕ) (from p : ℕ) : Type 0 w
 
 pub record IsPlace (S : Signature) (text : List ℕ) (from p : ℕ) : Type 0 where
   pub reached : IsReached S text from p
-  pub told : IsWrongCharacter S text from p ⊎ IsWrongName S text from p ⊎ IsNoRecord S (drop p text)
+  pub refused : IsWrongCharacter S text from p ⊎ IsWrongName S text from p ⊎ IsNoRecord S (drop p text)
 
 -- The place of a refusal is the first one from which no core file over the entries goes on: before it one does, and what
 -- is there is refused whatever follows it.

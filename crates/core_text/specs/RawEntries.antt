@@ -1,5 +1,5 @@
 -- What a line says, before a record is made of a family: its type and those of its constructors as they are written.
-use Rattle.std.specs.Prelude.{ℕ, ◌+◌, nat_lt, zero, suc, Bool, false, ◌&&◌, if◌then◌else◌, List, [], ◌∷◌, map, length, Option, Some, None}
+use Rattle.std.specs.Prelude.{ℕ, ◌+◌, nat_lt, zero, suc, Bool, false, ◌&&◌, if◌then◌else◌, List, map, length, Option, Some, None}
 use Rattle.std.specs.List.{list_all}
 use Rattle.std.specs.Option.{is_some}
 use Rattle.theory.specs.Terms.{Term, Sort, Pi, App, top}

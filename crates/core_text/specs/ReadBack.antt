@@ -1,23 +1,20 @@
 -- What is printed is read back: the conditions under which names are told apart from what follows them, and the laws.
-use Rattle.std.specs.Prelude.{◌≡◌, ℕ, ◌+◌, ◌<◌, ◌≤◌, ◌^◌, ◌==◌, true, false, List, [], ◌∷◌, ◌++◌, length, codes, bytes_eq, Option, Some, Ok}
+use Rattle.std.specs.Prelude.{◌≡◌, ℕ, ◌+◌, ◌<◌, ◌≤◌, ◌^◌, ◌==◌, true, false, cond, List, [], ◌++◌, length, codes, bytes_eq, Option, Some, Ok}
 use Rattle.theory.specs.Terms.{Term, Var, Sort, Pi, Lam, App, Let, Const, Fam, Con, Elim, AxiomK, free_of, height, top}
-use Rattle.theory.specs.Telescopes.{Telescope}
-use Rattle.theory.specs.Families.{Constructor, Family}
-use Rattle.theory.specs.Signatures.{Signature, Entry, FamilyOf, EliminatorAt, AxiomKAt, Definition}
+use Rattle.theory.specs.Signatures.{Signature, Entry}
 use Rattle.core_sig.specs.Names.{find}
 use Rattle.core_sig.specs.Raw.{RawConstructor}
 use Rattle.core_text.specs.DeclaredNames.{new_name}
-use Rattle.core_text.specs.EntryReading.{entry_from}
+use Rattle.core_text.specs.EntryParts.{IsEntryWith, HasLowTerms}
+use Rattle.core_text.specs.EntryReading.{shows_entry, entry_from}
 use Rattle.core_text.specs.EntryText.{entry_line}
-use Rattle.core_text.specs.LineReading.{levels_left, identities_left}
 use Rattle.core_text.specs.NameRuns.{run_len}
-use Rattle.core_text.specs.RawEntries.{type_shown, constructor_type_shown, constructor_line, entry_shown, family_shown, shows_record}
-use Rattle.core_text.specs.Reading.{first, begins, is_digit, is_left}
+use Rattle.core_text.specs.RawEntries.{RawEntry, RawFamilyOf, entry_shown}
+use Rattle.core_text.specs.Reading.{first, begins, is_digit}
 use Rattle.core_text.specs.SymbolLookup.{symbol, found_symbol}
 use Rattle.core_text.specs.SymbolNames.{name_at, constructor_name_at, eliminator_name, axiom_k_name}
 use Rattle.core_text.specs.TermReading.{read_term}
 use Rattle.core_text.specs.TermText.{term_text}
-use Rattle.core_text.specs.declared.instances.Series.TheVariants.{Elim as ElimSeries, AxiomK as KSeries}
 
 -- no name and no number goes on there
 pub record Stops (rest : List ℕ) : Type 0 where
@@ -64,44 +61,26 @@ pub record MayDeclare (S : Signature) (own : List ℕ) (found : List RawConstruc
   pub reads : (rest : List ℕ) → Stops rest → new_name S own found (name ++ rest) ≡ Ok (name, rest)
   pub no_brace : (rest : List ℕ) → (first (name ++ rest) == 125) ≡ false
 
--- a whole term of an entry over n variables, written over S and read over T, where the family `own` is being declared
-pub record IsReadBack (T S : Signature) (own : List ℕ) (n : ℕ) (t : Term) : Type 0 where
-  pub spelled : AreSpelled S (symbol T own) t
-  pub free : free_of t ≤ n
-  pub low : height t ≤ 2000
-
--- the same of types after those found, each over the variables before it
-abbrev pub AreReadBack : Signature → Signature → Telescope → Telescope → Type 0
-AreReadBack T S found [] = Unit {0}
-AreReadBack T S found (a ∷ tele) = IsReadBack T S [] (length found) a × AreReadBack T S (found ++ a ∷ []) tele
-
--- the same of constructors of family number n after those found
-abbrev pub ConstructorsReadBack : Signature → Signature → ℕ → Family → List RawConstructor → List Constructor → Type 0
-ConstructorsReadBack T S n f found [] = Unit {0}
-ConstructorsReadBack T S n f found (c ∷ constructors) =
-    MayDeclare T f.name found c.name × IsReadBack T S f.name (length f.parameters) (constructor_type_shown n f c)
-    × ConstructorsReadBack T S n f (found ++ constructor_line n f c ∷ []) constructors
-
-pub record FamilyReadsBack (T S : Signature) (n : ℕ) (f : Family) : Type 0 where
-  pub name : MayDeclare T [] [] f.name
-  pub parameters : AreReadBack T S [] f.parameters
-  pub type : IsReadBack T S [] (length f.parameters) (type_shown f)
-  pub constructors : ConstructorsReadBack T S n f [] f.constructors
-  pub record_shown : shows_record n (family_shown n f) ≡ true
-
 -- the name of a family is a whole run that is found as the family
 pub record IsFoundFamily (T : Signature) (name : List ℕ) (n : ℕ) : Type 0 where
   pub found : found_symbol T (find T name) ≡ Some (Fam n)
   pub run : (rest : List ℕ) → Stops rest → run_len (name ++ rest) ≡ length name
 
+-- the name of the family that the line declares, or nothing
+abbrev pub declared_family : RawEntry → List ℕ
+declared_family (RawFamilyOf raw) = raw.name
+declared_family _ = []
+
+-- The line that says it, written over S, is spelled as it is read over T.
+abbrev pub IsSpelledEntry : Signature → Signature → RawEntry → Type 0
+IsSpelledEntry T S raw =
+    IsEntryWith (λ own. AreSpelled S (symbol T (cond own (declared_family raw) []))) (MayDeclare T) (λ g. IsFoundFamily T (name_at S g) g) T raw
+
 -- what an entry needs to be read over the entries T before it, where its line is written over S
-abbrev pub EntryReadsBack : Signature → Signature → Entry → Type 0
-EntryReadsBack T S (FamilyOf f) = FamilyReadsBack T S (length T.entries) f
-EntryReadsBack T S (EliminatorAt g m) = IsFoundFamily T (name_at S g) g × (is_left (levels_left T (ElimSeries g)) m ≡ true)
-EntryReadsBack T S (AxiomKAt i m) =
-    (T.has_k ≡ true) × (is_left (identities_left T) i ≡ true) × (is_left (levels_left T (KSeries i)) m ≡ true)
-EntryReadsBack T S (Definition name type body) =
-    MayDeclare T [] [] name × IsReadBack T S [] 0 type × IsReadBack T S [] 0 body
+pub record EntryReadsBack (T S : Signature) (e : Entry) : Type 0 where
+  pub spelled : IsSpelledEntry T S (entry_shown (length T.entries) e)
+  pub low : HasLowTerms (entry_shown (length T.entries) e)
+  pub shown : shows_entry (length T.entries) (entry_shown (length T.entries) e) ≡ true
 
 -- An entry that is written is read back over the entries before it, whatever follows, with the offset after its line.
 abbrev pub EntriesAreReadBack : Type 0

@@ -1,24 +1,14 @@
 -- A line that is spelled right is refused at no byte of it: it is read, unless a term in it is too deep or too high, or the
 -- line shows no record.
-use Rattle.std.specs.Prelude.{◌≡◌, ◌≢◌, ◌⊎◌, ℕ, ◌+◌, ◌<◌, ◌≤◌, ◌^◌, false, List, ◌++◌, map, length, Option, Some, Result, Ok, Err, All, AllPairs}
-use Rattle.theory.specs.Terms.{Term, height}
+use Rattle.std.specs.Prelude.{◌≡◌, ◌≢◌, ◌⊎◌, ℕ, ◌+◌, ◌<◌, ◌^◌, false, List, ◌++◌, length, Option, Some, Result, Ok, Err, AllPairs}
 use Rattle.theory.specs.Signatures.{Signature, names}
+use Rattle.core_text.specs.EntryParts.{HasLowTerms}
 use Rattle.core_text.specs.EntryReading.{shows_entry, entry_from}
 use Rattle.core_text.specs.PlainNames.{HasPlainNames}
-use Rattle.core_text.specs.RawEntries.{RawEntry, RawFamilyOf, RawEliminator, RawAxiomK, RawDefinition}
+use Rattle.core_text.specs.RawEntries.{RawEntry}
 use Rattle.core_text.specs.Spellings.{raw_line, IsEntryOver}
 use Rattle.core_text.specs.declared.stop.CoreTextStop.{CoreTextStop}
 use Rattle.core_text.specs.declared.stop.CoreTextStop.TheVariants.{Nested, NotCoreText}
-
-abbrev pub IsLow : Term → Type 0
-IsLow t = height t ≤ 2000
-
--- no term of what a line says is higher than 2,000
-abbrev pub HasLowTerms : RawEntry → Type 0
-HasLowTerms (RawFamilyOf raw) = All IsLow raw.parameters × IsLow raw.type × All IsLow (map (λ c. c.type) raw.constructors)
-HasLowTerms (RawEliminator g m) = Unit {0}
-HasLowTerms (RawAxiomK i m) = Unit {0}
-HasLowTerms (RawDefinition name type body) = IsLow type × IsLow body
 
 -- A term is too high, or one inside it is too deep; the second comes only where the whole term is higher than 2,000.
 abbrev pub IsTooDeepOrHigh : RawEntry → Result (Option (RawEntry × ℕ)) CoreTextStop → Type 0

@@ -1,20 +1,19 @@
 -- Entries of a core file one by one.
-use Rattle.std.proofs.Common.{◌≡◌, ◌≢◌, ℕ, zero, suc, ◌+◌, ◌-◌, ◌<◌, ◌≤◌, Bool, true, false, List, [], ◌∷◌, length, map, Option, Some, None, Result, Ok, Err, refl, sym, ap, subst, ◌∙◌, arith}
-use Rattle.std.proofs.lemmas.List.Elements.{All-head}
+use Rattle.std.proofs.Common.{◌≡◌, ◌≢◌, ℕ, zero, suc, ◌+◌, ◌-◌, ◌<◌, ◌≤◌, Bool, true, false, List, [], ◌∷◌, length, Option, Some, None, Result, Ok, Err, refl, sym, ap, subst, ◌∙◌, arith}
 use Rattle.theory.specs.Signatures.{Signature}
-use Rattle.theory.specs.SignatureScopes.{IsScopedTelescope}
 use Rattle.theory.specs.Prelude.{prelude}
-use Rattle.theory.specs.Telescopes.{Telescope}
-use Rattle.core_sig.specs.Names.{find}
 use Rattle.core_sig.specs.Raw.{RawFamily}
 use Rattle.core_sig.specs.Meanings.{entry_of}
 use Rattle.core_sig.specs.declared.entry.Entry as code
 use Rattle.core_text.specs.EntryReading.{ReadsEntry, entry_from}
 use Rattle.core_text.specs.RawEntries.{RawEntry, RawFamilyOf, RawEliminator, RawAxiomK, RawDefinition, entry_shown}
-use Rattle.core_text.specs.ReadLaws.{AreReadTypes, IsReadEntry, IsReadFamily}
+use Rattle.core_text.specs.ReadLaws.{IsReadEntry}
+use Rattle.core_text.specs.Spellings.{IsEntryOver}
 use Rattle.core_text.specs.declared.stop.CoreTextStop.{CoreTextStop}
 use Rattle.core_text.specs.declared.stop.CoreTextStop.TheVariants as core
 use Rattle.core_text.proofs.EntryOutcomes.{what-is-read}
+use Rattle.core_text.proofs.NewNames.{new-unknown}
+use Rattle.core_text.proofs.ScopedOver.{scoped-term, scoped-types, scoped-constructors}
 use Rattle.family_check.specs.Families.{family_without}
 use Rattle.family_check.specs.Scopes.{IsScopedRaw}
 use Rattle.elab_session.specs.Entering.{CanEnter, enter_of}
@@ -28,23 +27,18 @@ use Rattle.elim_program.proofs.Following.{IsWriting, Writes, writing, written_al
 
 -- What is read can enter.
 
-scoped-types : (S : Signature) (n : ℕ) (tele : Telescope) → AreReadTypes S n tele → IsScopedTelescope S n tele
-scoped-types S n [] h = tt
-scoped-types S n (a ∷ tele) h = (h.0.scoped, scoped-types S (n + 1) tele h.1)
-
-pub scoped-raw : (S : Signature) (raw : RawFamily) → IsReadFamily S raw → IsScopedRaw S raw
+pub scoped-raw : (S : Signature) (raw : RawFamily) → IsEntryOver S (RawFamilyOf raw) → IsScopedRaw S raw
 scoped-raw S raw is = record {
   parameters = scoped-types S 0 raw.parameters is.parameters;
-  type = is.type.scoped;
-  constructors = λ i d lt. (is.constructors (family_without raw [] 0) i d lt).scoped;
+  type = scoped-term S (length raw.parameters) raw.type is.type;
+  constructors = scoped-constructors S (family_without raw [] 0) raw.name (length raw.parameters) raw.constructors [] is.constructors;
 }
 
 pub can-enter : (S : Signature) (raw : RawEntry) → IsReadEntry S raw → CanEnter S raw
-can-enter S (RawFamilyOf raw) is =
-    (scoped-raw S raw is, All-head (λ name. find S name ≡ None) raw.name (map (λ c. c.name) raw.constructors) is.names.unknown)
-can-enter S (RawEliminator n m) is = is.0
-can-enter S (RawAxiomK i m) is = is.0
-can-enter S (RawDefinition name type body) is = (is.1.scoped, is.2.scoped)
+can-enter S (RawFamilyOf raw) is = (scoped-raw S raw is.0, new-unknown S [] [] raw.name is.0.name)
+can-enter S (RawEliminator n m) is = is.0.0
+can-enter S (RawAxiomK i m) is = is.0.0
+can-enter S (RawDefinition name type body) is = (scoped-term S 0 type is.0.1, scoped-term S 0 body is.0.2)
 
 -- Core text that is not read.
 

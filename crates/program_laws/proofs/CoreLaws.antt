@@ -1,6 +1,6 @@
 -- The laws of core text that the reading of an output rests on.
 use Rattle.core_text.proofs.EntriesFollow.{entries-that-follow}
-use Rattle.core_text.proofs.LinesBack.{entries-are-read-back}
+use Rattle.core_text.proofs.LinesSpelled.{entries-are-read-back}
 use Rattle.core_text.proofs.NotesBack.{notes-are-passed-over, ends-are-read}
 use Rattle.program_laws.specs.Laws.{OneSignature}
 use Rattle.program_laws.proofs.OneSignature.{from_laws}

@@ -1,8 +1,8 @@
 -- An entry of a well-formed signature may follow those before it in a core file, where its names may be declared and its terms
 -- are not too high.
-use Rattle.std.proofs.Common.{◌≡◌, ℕ, ◌+◌, ◌<◌, ◌≤◌, ◌⊎◌, inl, inr, Bool, true, false, List, [], ◌∷◌, length, get_or, All, refl, sym, ap, subst, ◌∙◌, arith}
+use Rattle.std.proofs.Common.{◌≡◌, ℕ, ◌+◌, ◌<◌, ◌≤◌, ◌⊎◌, inl, inr, Bool, true, false, List, [], ◌∷◌, ◌++◌, map, length, get_or, All, refl, sym, ap, subst, ◌∙◌, arith}
 use Rattle.std.proofs.lemmas.List.{length-take-le}
-use Rattle.std.proofs.lemmas.List.Elements.{All-head, All-tail}
+use Rattle.std.proofs.lemmas.List.Elements.{All-nil, All-cons, All-head, All-tail}
 use Rattle.std.proofs.lemmas.Option.{slice_get_within, none-some}
 use Rattle.theory.specs.Families.{Constructor, Family, without_constructors, constructor_telescope}
 use Rattle.theory.specs.Scopes.{IsTelescopeOver}
@@ -19,9 +19,12 @@ use Rattle.theory.proofs.Scopes.{free_of-products}
 use Rattle.theory.proofs.Scoping.{term_scoped}
 use Rattle.theory.proofs.WellFormedness.{axiom_k_of, first_is_prefix}
 use Rattle.theory.proofs.Widening.{prefix_keeps}
+use Rattle.core_sig.specs.Raw.{RawConstructor}
+use Rattle.core_text.specs.EntryParts.{IsTermWith, AreTypesWith, AreConstructorsWith, IsLow}
 use Rattle.core_text.specs.LineReading.{levels_left, some_level_left, identities_left}
-use Rattle.core_text.specs.WrittenEntries.{HasSymbols, IsWrittenTerm, AreWrittenTypes, IsDeclarableName, IsWrittenFamily, MayFollow}
-use Rattle.core_text.specs.RawEntries.{type_shown, constructor_type_shown}
+use Rattle.core_text.specs.RawEntries.{type_shown, constructor_type_shown, constructor_line}
+use Rattle.core_text.specs.Spellings.{HasSymbols}
+use Rattle.core_text.specs.WrittenEntries.{IsDeclarableName, MayFollow}
 use Rattle.program_laws.specs.CoreFiles.{IsLowEntry, IsWritable}
 use Rattle.program_laws.proofs.CoreFiles.{MayFollowInTurn}
 use Rattle.program_laws.proofs.InstancesLeft.{eliminator-left, axiom_k-left, identity-left}
@@ -113,25 +116,37 @@ own-reach T formed f _ _ (axiom_k i m at made) = by (entry_of-pushed T (FamilyOf
 
 -- ---- terms
 
-types-written : (T : Signature) (n : ℕ) (tele : Telescope) (end : Term) → HasSymbols T false (products tele end) → IsTelescopeOver n tele → All (λ a. height a ≤ 2000) tele → AreWrittenTypes T n tele
-types-written T n [] end h over low = tt
-types-written T n (a ∷ tele) end h over low = (
-  record { symbols = h.0; free = over.0; low = All-head (λ a. height a ≤ 2000) a tele low },
-  types-written T (n + 1) tele end h.1 over.1 (All-tail (λ a. height a ≤ 2000) a tele low),
-)
+types-written : (T : Signature) (n : ℕ) (tele : Telescope) (end : Term) → HasSymbols T false (products tele end) → IsTelescopeOver n tele → AreTypesWith (HasSymbols T false) n tele
+types-written T n [] end h over = tt
+types-written T n (a ∷ tele) end h over = (record { symbols = h.0; free = over.0 }, types-written T (n + 1) tele end h.1 over.1)
 
 symbols-end : (T : Signature) (own : Bool) (tele : Telescope) (end : Term) → HasSymbols T own (products tele end) → HasSymbols T own end
 symbols-end T own [] end h = h
 symbols-end T own (a ∷ tele) end h = symbols-end T own tele end h.1
 
 -- a term after parameters
-end-written : (T U : Signature) (own : Bool) (tele : Telescope) (t : Term) → ((u a : Term) → TypeOf U u a → HasSymbols T own u) → (i : ℕ) → Has U [] (products tele t) (Sort i) → height t ≤ 2000
-    → IsWrittenTerm T own (length tele) t
-end-written T U own tele t reach i d low = record {
+end-written : (T U : Signature) (own : Bool) (tele : Telescope) (t : Term) → ((u a : Term) → TypeOf U u a → HasSymbols T own u) → (i : ℕ) → Has U [] (products tele t) (Sort i) → IsTermWith (HasSymbols T own) (length tele) t
+end-written T U own tele t reach i d = record {
   symbols = symbols-end T own tele t (symbols-term T own reach d);
   free = let e : 0 + length tele ≡ length tele = omega arith in subst (λ k. free_of t ≤ k) e ((free_of-products tele t 0).1 (term_scoped d)).1;
-  low = low;
 }
+
+-- constructors of family number n
+constructors-written : (T : Signature) (n p : ℕ) (f : Family) (cs : List Constructor) (found : List RawConstructor) → All IsDeclarableName (map (λ c. c.name) cs) → All (λ c. IsTermWith (HasSymbols T true) p (constructor_type_shown n f c)) cs
+    → AreConstructorsWith (HasSymbols T true) (λ before. IsDeclarableName) p found (map (constructor_line n f) cs)
+constructors-written T n p f [] found names types = tt
+constructors-written T n p f (c ∷ cs) found names types =
+    let Fits : Constructor → Type 0 = λ k. IsTermWith (HasSymbols T true) p (constructor_type_shown n f k) in (
+      All-head IsDeclarableName c.name (map (λ c. c.name) cs) names,
+      All-head Fits c cs types,
+      constructors-written T n p f cs (found ++ constructor_line n f c ∷ []) (All-tail IsDeclarableName c.name (map (λ c. c.name) cs) names) (All-tail Fits c cs types),
+    )
+
+constructors-low : (n : ℕ) (f : Family) (cs : List Constructor) → All (λ c. height (constructor_type_shown n f c) ≤ 2000) cs → All IsLow (map (λ c. c.type) (map (constructor_line n f) cs))
+constructors-low n f [] low = All-nil IsLow
+constructors-low n f (c ∷ cs) low =
+    All-cons IsLow (constructor_type_shown n f c) (map (λ c. c.type) (map (constructor_line n f) cs)) (All-head (λ k. height (constructor_type_shown n f k) ≤ 2000) c cs low)
+    (constructors-low n f cs (All-tail (λ k. height (constructor_type_shown n f k) ≤ 2000) c cs low))
 
 -- ---- entries
 
@@ -139,22 +154,34 @@ module _ (T : Signature) (formed : IsWellFormed T) where
   entry-follows : (e : Entry) → IsEntry T e → All IsDeclarableName (names_of e) → IsLowEntry (length T.entries) e → MayFollow T e
   unfolding levels_left some_level_left identities_left
   entry-follows _ (family_entry {f} h) names low = record {
-    names = names;
+    over = record {
+      name = All-head IsDeclarableName f.name (map (λ c. c.name) f.constructors) names;
+      parameters = types-written T 0 f.parameters (type_shown f) (symbols-term T false (plain-reach T formed) h.type.1) ((free_of-products f.parameters (type_shown f) 0).1 (term_scoped h.type.1)).0;
+      type = end-written T T false f.parameters (type_shown f) (plain-reach T formed) h.type.0 h.type.1;
+      constructors =
+          constructors-written T (length T.entries) (length f.parameters) f f.constructors [] (All-tail IsDeclarableName f.name (map (λ c. c.name) f.constructors) names)
+          (λ k d lt. (let c = h.constructors k d lt in
+          end-written T (pushed T (FamilyOf (without_constructors f))) true f.parameters (constructor_type_shown (length T.entries) f (get_or f.constructors k d)) (own-reach T formed f) c.type.0 c.type.1));
+    };
+    low = (low.1, low.2, constructors-low (length T.entries) f f.constructors low.3);
     few = low.0;
-    parameters = types-written T 0 f.parameters (type_shown f) (symbols-term T false (plain-reach T formed) h.type.1) ((free_of-products f.parameters (type_shown f) 0).1 (term_scoped h.type.1)).0 low.1;
-    type = end-written T T false f.parameters (type_shown f) (plain-reach T formed) h.type.0 h.type.1 low.2;
-    constructors = λ k d lt. (let c = h.constructors k d lt in
-        end-written T (pushed T (FamilyOf (without_constructors f))) true f.parameters (constructor_type_shown (length T.entries) f (get_or f.constructors k d)) (own-reach T formed f) c.type.0 c.type.1 (low.3 k d lt));
-    record_shown = record-shown (length T.entries) f h.level (λ k d lt. (h.constructors k d lt).targets);
+    shown = record-shown (length T.entries) f h.level (λ k d lt. (h.constructors k d lt).targets);
   }
-  entry-follows _ (eliminator_entry {n} {m} f h) names low = ((f, h.family), eliminator-left T.entries n m h.level h.new)
+  entry-follows _ (eliminator_entry {n} {m} f h) names low =
+      record { over = ((f, h.family), eliminator-left T.entries n m h.level h.new); low = tt; few = tt; shown = refl }
   entry-follows _ (axiom_k_entry {i} {m} h) names low =
-      let left = axiom_k-left T.entries i m h.level h.new in (h.on, identity-left T.entries i m h.identity.level h.level left, left)
-  entry-follows _ (definition_entry {name} {type} {body} h) names low = (
-    All-head IsDeclarableName name [] names,
-    end-written T T false [] type (plain-reach T formed) h.type_sort.0 h.type_sort.1 low.0,
-    record { symbols = symbols-term T false (plain-reach T formed) h.body_type; free = term_scoped h.body_type; low = low.1 },
-  )
+      let left = axiom_k-left T.entries i m h.level h.new in
+      record { over = (h.on, identity-left T.entries i m h.identity.level h.level left, left); low = tt; few = tt; shown = refl }
+  entry-follows _ (definition_entry {name} {type} {body} h) names low = record {
+    over = (
+      All-head IsDeclarableName name [] names,
+      end-written T T false [] type (plain-reach T formed) h.type_sort.0 h.type_sort.1,
+      record { symbols = symbols-term T false (plain-reach T formed) h.body_type; free = term_scoped h.body_type },
+    );
+    low = low;
+    few = tt;
+    shown = refl;
+  }
 
 pub in-turn : (S : Signature) → IsWellFormed S → IsWritable S → MayFollowInTurn S
 in-turn S formed writable = record {

@@ -7,7 +7,7 @@ use Rattle.theory.specs.Signatures.{Signature, IsPrefix}
 use Rattle.theory.proofs.Pushing.{prefix_reflexive, prefix_transitive, push_is_longer}
 use Rattle.surface_syntax.specs.Trees.{Decl}
 use Rattle.core_text.proofs.EntriesFollow.{entries-that-follow}
-use Rattle.core_text.proofs.LinesBack.{entries-are-read-back}
+use Rattle.core_text.proofs.LinesSpelled.{entries-are-read-back}
 use Rattle.core_text.proofs.NamesSpelled.{names-stay-plain}
 use Rattle.core_text.proofs.NotesBack.{notes-are-passed-over, ends-are-read}
 use Rattle.core_text.proofs.PreludePlain.{prelude-plain}

@@ -1,7 +1,7 @@
 -- The lines above one that accepts a declaration are a core file.
 use Rattle.std.proofs.Common.{[], ◌∷◌, ◌++◌, sym, ◌∙◌, append_assoc}
 use Rattle.core_text.proofs.EntriesFollow.{entries-that-follow}
-use Rattle.core_text.proofs.LinesBack.{entries-are-read-back}
+use Rattle.core_text.proofs.LinesSpelled.{entries-are-read-back}
 use Rattle.core_text.proofs.NamesSpelled.{names-stay-plain}
 use Rattle.core_text.proofs.NotesBack.{notes-are-passed-over, ends-are-read}
 use Rattle.core_text.proofs.PreludePlain.{prelude-plain}

@@ -1,4 +1,4 @@
-use Rattle.core_text.proofs.LinesBack.{entries-are-read-back}
+use Rattle.core_text.proofs.LinesSpelled.{entries-are-read-back}
 use Rattle.core_text.proofs.laws.entries_are_read_back.Goals as goal
 
 pub returns : goal.returns

@@ -2,7 +2,7 @@
 -- the same place too; or a family is there that shows no record.
 use Rattle.std.proofs.Common.{◌≡◌, ◌⊎◌, inl, inr, ℕ, ◌+◌, ◌-◌, ◌<◌, ◌≤◌, Bool, true, false, List, [], ◌∷◌, ◌++◌, length, drop, take, refl, sym, ap, ◌∙◌, subst, append_assoc, append-nil, length-append, arith}
 use Rattle.std.specs.Prelude.{◌==◌, not, if◌then◌else◌, Ok, Err, Result, Option, Some, None}
-use Rattle.std.proofs.lemmas.List.{take-append-drop, length-take-le, length-drop, take_at, drop_at}
+use Rattle.std.proofs.lemmas.List.{take-append-drop, length-take-le, take_at, drop_at}
 use Rattle.theory.specs.Signatures.{Signature}
 use Rattle.core_sig.specs.Raw.{RawFamily}
 use Rattle.core_text.specs.EntryReading.{after_notes, shows_entry, shown_by, entry_at, next_entry, with_offset, entry_from}
@@ -14,7 +14,7 @@ use Rattle.core_text.specs.Reading.{Reading, wrong, after}
 use Rattle.core_text.specs.declared.halt.Halt.TheVariants.{Memory, Nested, Wrong}
 use Rattle.core_text.specs.declared.stop.CoreTextStop.{CoreTextStop}
 use Rattle.core_text.specs.declared.stop.CoreTextStop.TheVariants.{NotCoreText}
-use Rattle.core_text.proofs.Agreement.{Refused, by_character, by_name, Told, refused-map}
+use Rattle.core_text.proofs.Agreement.{Refused, by_character, by_name, Reread, refused-map}
 use Rattle.core_text.proofs.Characters.{Same, one-same, none-same, none-one}
 use Rattle.core_text.proofs.LinesAgree.{alike-line}
 
@@ -88,7 +88,7 @@ entry-refused S rest left e = by (notes-at false rest)
     no-entry : (m : Reading (Option RawEntry)) → m ≡ Ok (None, []) → m ≡ Err (Wrong left) → ⊥
     no-entry m is stops = absurd (cc)
 
-    on : (v : List ℕ) (b : ℕ) (r : List ℕ) → rest ≡ v ++ b ∷ r → ((y : List ℕ) → take 1 (b ∷ r) ≡ take 1 y → after_notes false (v ++ y) ≡ Ok y) → (m : Reading RawEntry) → line_at S [] (b ∷ r) ≡ m → Told true (line_at S []) (b ∷ r) m → shown_by (length S.entries) (b ∷ r) m ≡ Err (Wrong left) → EntryRefused S rest left
+    on : (v : List ℕ) (b : ℕ) (r : List ℕ) → rest ≡ v ++ b ∷ r → ((y : List ℕ) → take 1 (b ∷ r) ≡ take 1 y → after_notes false (v ++ y) ≡ Ok y) → (m : Reading RawEntry) → line_at S [] (b ∷ r) ≡ m → Reread true (line_at S []) (b ∷ r) m → shown_by (length S.entries) (b ∷ r) m ≡ Err (Wrong left) → EntryRefused S rest left
     on v b r is again (Ok p) line t shown = at (shows_entry (length S.entries) p.0) refl shown
       where
         at : (c : Bool) → shows_entry (length S.entries) p.0 ≡ c → shown_if p.0 p.1 (b ∷ r) c ≡ Err (Wrong left) → EntryRefused S rest left
@@ -109,7 +109,7 @@ entry-refused S rest left e = by (notes-at false rest)
     by : NotesAt false rest → EntryRefused S rest left
     by (passed v [] is at again) = absurd (no-entry (next_entry S rest) (ap (λ m. after m (entry_at S)) at) e)
     by (passed v (b ∷ r) is at again) =
-        on v b r is again (line_at S [] (b ∷ r)) refl ((alike-line S []).told (b ∷ r)) (ap (λ m. after m (entry_at S)) (sym at) ∙ e)
+        on v b r is again (line_at S [] (b ∷ r)) refl ((alike-line S []).reread (b ∷ r)) (ap (λ m. after m (entry_at S)) (sym at) ∙ e)
     by (unended at) =
         let stops : next_entry S rest ≡ Err (Wrong 0) = ap (λ m. after m (entry_at S)) at in
         refused_at rest [] (sym (append-nil rest)) (size-is 0 (next_entry S rest) stops e)
@@ -143,8 +143,8 @@ again-at S text other from p front back le within c same e =
     ap (λ r. with_offset (length other) (next_entry S r)) rest
     ∙ (ap (with_offset (length other)) e ∙ ap (λ k. Err (NotCoreText k)) place)
 
-place-told : (S : Signature) (text : List ℕ) (from p : ℕ) → from ≤ length text → p ≤ length text → (left : ℕ) → p ≡ length text - left → EntryRefused S (drop from text) left → IsWrongCharacter S text from p ⊎ IsWrongName S text from p ⊎ ReadsNoRecord S (drop p text)
-place-told S text from p le within left place (refused_at front back is size refused) =
+place-refused : (S : Signature) (text : List ℕ) (from p : ℕ) → from ≤ length text → p ≤ length text → (left : ℕ) → p ≡ length text - left → EntryRefused S (drop from text) left → IsWrongCharacter S text from p ⊎ IsWrongName S text from p ⊎ ReadsNoRecord S (drop p text)
+place-refused S text from p le within left place (refused_at front back is size refused) =
     by (cut S text from p front back le is (place ∙ ap (λ k. length text - k) (sym size))) refused
   where
     by : Cut S text from p front back → Refused (λ y. next_entry S (front ++ y)) back → IsWrongCharacter S text from p ⊎ IsWrongName S text from p ⊎ ReadsNoRecord S (drop p text)
@@ -155,7 +155,7 @@ place-told S text from p le within left place (refused_at front back is size ref
           subst (λ z. 0 < run_len z) (sym c.past) some,
           λ other same name. again-at S text other from p front back le within c same (k (drop p other) (sym (name ∙ ap first_name c.past))),
         ))
-place-told S text from p le within left place (no_record front back is size reads) =
+place-refused S text from p le within left place (no_record front back is size reads) =
     let c = cut S text from p front back le is (place ∙ ap (λ k. length text - k) (sym size)) in
     inr (inr (subst (ReadsNoRecord S) (sym c.past) reads))
 
@@ -181,5 +181,5 @@ left-of S text from p e = by (next_entry S (drop from text)) refl e
       refused = entry-refused S (drop from text) left is;
     }
 
-pub places-told : (S : Signature) (text : List ℕ) (from p : ℕ) → from ≤ length text → entry_from S text from ≡ Err (NotCoreText p) → from ≤ p → p ≤ length text → IsWrongCharacter S text from p ⊎ IsWrongName S text from p ⊎ ReadsNoRecord S (drop p text)
-places-told S text from p le e past within = let l = left-of S text from p e in place-told S text from p le within l.left l.place l.refused
+pub places-refused : (S : Signature) (text : List ℕ) (from p : ℕ) → from ≤ length text → entry_from S text from ≡ Err (NotCoreText p) → from ≤ p → p ≤ length text → IsWrongCharacter S text from p ⊎ IsWrongName S text from p ⊎ ReadsNoRecord S (drop p text)
+places-refused S text from p le e past within = let l = left-of S text from p e in place-refused S text from p le within l.left l.place l.refused
