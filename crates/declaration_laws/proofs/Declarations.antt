@@ -20,7 +20,7 @@ use Rattle.declaration_laws.specs.Meant.{enter_meant}
 pub declared-function-meant : FunctionIsMeant → DeclaredFunctionIsMeant
 declared-function-meant meant S fuel x ty clauses f ready marks is closed =
     let scoped = function-scoped S (surf.Fun x ty clauses) f is in
-    let over = provisional-over S f ready.settled ready.prelude scoped in
+    let over = provisional-over S f ready scoped in
     meant S f fuel (record { ready = ready-of S ready.well_formed ready.prelude; with_function = over.ready; resolved = scoped }) ready.well_formed
     ready.prelude marks closed
 

@@ -1,18 +1,16 @@
 -- What holds of the lines that are meant holds of those that are answered.
 use Rattle.std.proofs.Common.{◌≡◌, ℕ, [], ◌∷◌, Ok, Err, IfOk, sym, ap, ◌∙◌, subst as transport, arith}
-use Rattle.theory.specs.Prelude.{prelude}
 use Rattle.theory.specs.Signatures.{Signature, IsPrefix}
 use Rattle.theory.specs.Terms.{Term}
 use Rattle.theory.specs.WellFormed.{IsWellFormed}
-use Rattle.theory.proofs.Pushing.{prefix_transitive}
 use Rattle.kernel_reduce.specs.WellScoped.{AreWellScoped}
 use Rattle.theory.specs.SignatureScopes.{IsScoped, IsScopedSignature}
-use Rattle.draft_entering.specs.Conditions.{Extends}
-use Rattle.draft_entering.proofs.Longer.{extends-prefix}
+use Rattle.elab_session.specs.Sessions.{IsReady}
+use Rattle.elab_session.proofs.Resolved.{prelude-stays}
+use Rattle.entering_laws.proofs.OpenSignatures.{well_formed-settled}
 use Rattle.elaboration.specs.Functions.{Lines}
 use Rattle.clause_reports.specs.Stops.{ReportStop, Reporting}
 use Rattle.elaboration.specs.Refusals.{Elaborating, Owner, Refusal, of_report, reporting}
-use Rattle.family_check.specs.Scopes.{HasPrelude}
 use Rattle.function_lines.proofs.Agreeing.{spent}
 
 abbrev pub Kept : Signature → Lines → Type 0
@@ -21,8 +19,13 @@ Kept S lines = IsPrefix S lines.signature × IsWellFormed lines.signature
 pub told : (S : Signature) (lines : Lines) (left : ℕ) (made : Elaborating Lines) → spent (Ok lines) left ≡ made → IfOk made.0 (Kept S) → IsWellFormed lines.signature
 told S lines left made is h = (transport (λ (m : Elaborating Lines). IfOk m.0 (Kept S)) (sym is) h).1
 
-pub prelude-stays : (S T : Signature) → Extends S T → HasPrelude S → HasPrelude T
-prelude-stays S T h p = transport (λ k. IsPrefix (prelude k) T) (sym h.has_k) (prefix_transitive (prelude S.has_k) S T p (extends-prefix S T h))
+-- the signature of a session that goes on and is well formed is again one that a session may have
+pub longer-ready : (S T : Signature) → IsReady S → IsPrefix S T → IsWellFormed T → IsReady T
+longer-ready S T ready longer well = record {
+  well_formed = well;
+  settled = well_formed-settled T well;
+  prelude = prelude-stays S T ready.prelude longer;
+}
 
 -- a closed type is well scoped in no context
 pub closed-type : (S : Signature) (type : Term) → IsScopedSignature S → IsScoped S 0 type → AreWellScoped S [] (type ∷ [])

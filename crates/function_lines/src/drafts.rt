@@ -2,11 +2,10 @@ ghost use Rattle.std.specs.Prelude.{◌≡◌, ◌≤◌, ◌+◌, IfOk, IsTrue,
 ghost use Rattle.core_sig.specs.Drafts.{draft_of};
 ghost use Rattle.draft_checks.specs.Checks.{unmarked};
 ghost use Rattle.draft_entering.specs.Conditions.{Extends, IsEnterableDraft, IsOpen};
-ghost use Rattle.family_check.specs.Scopes.{HasPrelude};
+ghost use Rattle.elab_session.specs.Sessions.{IsReady};
 ghost use Rattle.function_lines.specs.FunctionMade as spec;
 ghost use Rattle.function_refusals.specs.RefusalMeanings.{Elaborates};
 ghost use Rattle.leaf_terms.specs.PlanMeanings.{plan_of};
-ghost use Rattle.theory.specs.WellFormed.{IsWellFormed};
 
 use crate::refusing::refused;
 use crate::values::values_name;
@@ -174,8 +173,7 @@ fn enter_translated(
 
 /// Whether drafts may enter a well-formed signature.
 fn is_open(sig: &Signature) -> bool
-    requires well_formed { IsWellFormed sig.now }
-    requires prelude { HasPrelude sig.now }
+    requires { IsReady sig.now }
     ensures is { result ≡ unmarked sig.now }
     ensures ready { IsTrue result → IsOpen sig.now }
 {
@@ -189,8 +187,7 @@ pub(crate) fn enter_plan(
     plan: &Plan,
     units: &mut Units,
 ) -> Result<(), Refusal>
-    requires well_formed { IsWellFormed sig.old }
-    requires prelude { HasPrelude sig.old }
+    requires { IsReady sig.old }
     ensures answer { Elaborates (λ _. sig.new) result units.new.left (spec.plan_entered sig.old (plan_of plan.now) units.old.left) }
     ensures sum { units.new.left + units.new.spent ≡ units.old.left + units.old.spent }
     ensures spends { units.new.left ≤ units.old.left }

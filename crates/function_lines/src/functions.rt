@@ -1,16 +1,13 @@
-ghost use Rattle.std.specs.Prelude.{◌≡◌, ◌≤◌, ◌+◌, IfOk, None, OnErr};
-ghost use Rattle.core_sig.specs.Names.{find};
-ghost use Rattle.core_terms.specs.Meanings.{tree_of};
+ghost use Rattle.std.specs.Prelude.{◌≡◌, ◌≤◌, ◌+◌, OnErr};
 ghost use Rattle.draft_entering.specs.Conditions.{Extends};
-ghost use Rattle.family_check.specs.Scopes.{HasPrelude, IsSettled};
+ghost use Rattle.elab_session.specs.Sessions.{IsReady};
+ghost use Rattle.function_lines.specs.Conditions.{IsWorkingOn};
 ghost use Rattle.function_lines.specs.FunctionMade as spec;
 ghost use Rattle.function_lines.specs.LineMeanings.{lines_of};
 ghost use Rattle.function_refusals.specs.RefusalMeanings.{Elaborates};
 ghost use Rattle.leaf_terms.specs.PlanMeanings.{plan_of};
 ghost use Rattle.resolve.specs.PatternMeanings.{fun_of};
-ghost use Rattle.resolve.specs.Scoping.{IsResolvedFunction};
 ghost use Rattle.theory.specs.Signatures.{IsPrefix};
-ghost use Rattle.theory.specs.WellFormed.{IsWellFormed, provisional};
 
 use crate::ClauseLine;
 use crate::drafts::enter_plan;
@@ -31,13 +28,11 @@ fn report_plan(
     plan: &Plan,
     units: &mut Units,
 ) -> Result<Items<ClauseLine>, Refusal>
-    requires well_formed { IsWellFormed sig.old }
-    requires prelude { HasPrelude sig.old }
+    requires { IsReady sig.old }
     ensures answer { Elaborates (lines_of sig.new) result units.new.left (spec.plan_reported (plan_of plan.now) sig.old units.old.left) }
     ensures sum { units.new.left + units.new.spent ≡ units.old.left + units.old.spent }
     ensures spends { units.new.left ≤ units.old.left }
     ensures longer { Extends sig.old sig.new }
-    ensures settled { IfOk result (λ _. IsSettled sig.new) }
 {
     enter_plan(alloc, sig, plan, units)?;
     report_parts(
@@ -58,16 +53,11 @@ fn elaborate(
     f: &FunCore,
     units: &mut Units,
 ) -> Result<Items<ClauseLine>, Refusal>
-    requires well_formed { IsWellFormed sig.old }
-    requires settled { IsSettled sig.old }
-    requires prelude { HasPrelude sig.old }
-    requires new { find sig.old f.now.name ≡ None }
-    requires resolved { IsResolvedFunction sig.old (provisional sig.old f.now.name (tree_of f.now.ty)) (fun_of f.now) }
+    requires { IsWorkingOn sig.old (fun_of f.now) }
     ensures answer { Elaborates (lines_of sig.new) result units.new.left (spec.function_made sig.old (fun_of f.now) units.old.left) }
     ensures sum { units.new.left + units.new.spent ≡ units.old.left + units.old.spent }
     ensures spends { units.new.left ≤ units.old.left }
     ensures longer { Extends sig.old sig.new }
-    ensures settled { IfOk result (λ _. IsSettled sig.new) }
 {
     let level = level_of(alloc, sig, &f.ty, units)?;
     let plan = plan_over(alloc, sig, f, level, units)?;
@@ -85,19 +75,13 @@ pub fn function(
     f: &FunCore,
     units: &mut Units,
 ) -> Result<Items<ClauseLine>, Refusal>
-    requires well_formed { IsWellFormed sig.old }
-    requires settled { IsSettled sig.old }
-    requires prelude { HasPrelude sig.old }
-    requires new { find sig.old f.now.name ≡ None }
-    requires resolved { IsResolvedFunction sig.old (provisional sig.old f.now.name (tree_of f.now.ty)) (fun_of f.now) }
+    requires { IsWorkingOn sig.old (fun_of f.now) }
     ensures answer { Elaborates (lines_of sig.new) result units.new.left (spec.function_made sig.old (fun_of f.now) units.old.left) }
     ensures err { OnErr result (sig.new ≡ sig.old) }
     ensures sum { units.new.left + units.new.spent ≡ units.old.left + units.old.spent }
     ensures spends { units.new.left ≤ units.old.left }
     ensures longer { IsPrefix sig.old sig.new }
-    ensures well_formed { IsWellFormed sig.new }
-    ensures settled { IsSettled sig.new }
-    ensures prelude { HasPrelude sig.new }
+    ensures ready { IsReady sig.new }
 {
     let before = sig.len();
     match elaborate(alloc, sig, f, units) {

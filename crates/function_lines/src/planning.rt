@@ -4,15 +4,13 @@ ghost use Rattle.core_terms.specs.Answers.{Gives};
 ghost use Rattle.core_terms.specs.Meanings.{tree_of};
 ghost use Rattle.core_terms.specs.PatternMeanings.{clauses_of};
 ghost use Rattle.elaboration.specs.Functions as functions;
-ghost use Rattle.family_check.specs.Scopes.{HasPrelude, IsSettled};
-ghost use Rattle.function_lines.specs.Conditions.{IsFunctionOver};
+ghost use Rattle.function_lines.specs.Conditions.{IsFunctionOver, IsWorkingOn};
 ghost use Rattle.function_lines.specs.FunctionMade as made;
 ghost use Rattle.function_refusals.specs.RefusalMeanings.{Elaborates};
 ghost use Rattle.function_walks.specs.Conditions.{IsPartFor};
 ghost use Rattle.function_walks.specs.WalkingMeanings.{opened_of, session_of};
 ghost use Rattle.leaf_terms.specs.PlanMeanings.{plan_of};
 ghost use Rattle.resolve.specs.PatternMeanings.{fun_of};
-ghost use Rattle.resolve.specs.Scoping.{IsResolvedFunction};
 ghost use Rattle.theory.specs.WellFormed.{provisional};
 
 use core_sig::{Entry, Signature};
@@ -105,10 +103,7 @@ pub(crate) fn plan_over(
     level: u8,
     units: &mut Units,
 ) -> Result<Plan, Refusal>
-    requires settled { IsSettled sig.old }
-    requires prelude { HasPrelude sig.old }
-    requires new { find sig.old f.now.name ≡ None }
-    requires resolved { IsResolvedFunction sig.old (provisional sig.old f.now.name (tree_of f.now.ty)) (fun_of f.now) }
+    requires { IsWorkingOn sig.old (fun_of f.now) }
     ensures answer { Elaborates plan_of result units.new.left (made.plan_over sig.old (fun_of f.now) level units.old.left) }
     ensures sum { units.new.left + units.new.spent ≡ units.old.left + units.old.spent }
     ensures spends { units.new.left ≤ units.old.left }

@@ -1,6 +1,5 @@
 -- What a declaration keeps.
 use Rattle.std.proofs.Common.{◌≡◌, ℕ, [], Result, Ok, Err, IfOk, refl, subst as transport}
-use Rattle.theory.specs.Terms.Term.{Const}
 use Rattle.theory.specs.Signatures.{Signature, IsPrefix}
 use Rattle.theory.specs.WellFormed.{IsWellFormed}
 use Rattle.surface_syntax.specs.Trees as surf
@@ -12,14 +11,13 @@ use Rattle.elaboration.specs.Functions.{Lines, function_of}
 use Rattle.elaboration.specs.Refusals as refusal
 use Rattle.elaboration.specs.Refusals.{Elaborating}
 use Rattle.elaboration.proofs.Keeping.{function-keeps}
-use Rattle.family_check.specs.Scopes.{IsSettled}
-use Rattle.kernel_reduce.proofs.WellFormedScopes.{well_formed-scoped, well_formed-whole}
 use Rattle.function_lines.specs.FunctionMade.{function_made}
 use Rattle.function_lines.proofs.FunctionAnswers.{function-answers}
+use Rattle.function_lines.proofs.Results.{longer-ready}
 use Rattle.elab_session.specs.Declaring.{Declared, accepted_as, declare_of}
 use Rattle.elab_session.specs.Sessions.{IsReady}
 use Rattle.elab_session.specs.declared.refusal.Refusal as session
-use Rattle.elab_session.proofs.Resolved.{prelude-stays, together}
+use Rattle.elab_session.proofs.Resolved.{together}
 use Rattle.elab_session.proofs.Written.{declare-extends, declare-ready}
 use Rattle.function_session.specs.Elaborating.{Elaborated, Refused, elaborate_function, enter_function, on_function, on_lines, with_lines, without_lines}
 use Rattle.function_session.specs.Laws.{ElaborateKeepsReady, KeepsReady}
@@ -57,19 +55,6 @@ function-has P S fuel x ty clauses h =
     (made-has (λ l. P (with_lines (accepted_as x.text l.signature) l.lines)) S f fuel (h f is)))
 
 -- ---- what stays
-
-well_formed-settled : (S : Signature) → IsWellFormed S → IsSettled S
-well_formed-settled S h = record {
-  scoped = well_formed-scoped S h;
-  bodies = λ n name type at. well_formed-whole S h n name type (Const n) at refl;
-}
-
-longer-ready : (S T : Signature) → IsReady S → IsPrefix S T → IsWellFormed T → IsReady T
-longer-ready S T ready longer well = record {
-  well_formed = well;
-  settled = well_formed-settled T well;
-  prelude = prelude-stays S T ready.prelude longer;
-}
 
 function-ready : (S : Signature) (fuel : ℕ) (x : Word) (ty : surf.Surf) (clauses : surf.Clauses) → IsReady S
     → IfOk (elaborate_function S fuel x ty clauses) (KeepsReady S)

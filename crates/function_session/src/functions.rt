@@ -1,13 +1,10 @@
-ghost use Rattle.std.specs.Prelude.{◌≡◌, None, OnErr};
-ghost use Rattle.theory.specs.WellFormed.{provisional};
-ghost use Rattle.core_terms.specs.Meanings.{tree_of};
-ghost use Rattle.core_sig.specs.Names.{find};
+ghost use Rattle.std.specs.Prelude.{◌≡◌, OnErr};
 ghost use Rattle.surface_syntax.specs.TreeMeanings.{decl_of};
 ghost use Rattle.resolve.specs.DeclaredNames.{declared_word};
 ghost use Rattle.resolve.specs.Functions.{IsFun, resolve_fun};
 ghost use Rattle.resolve.specs.PatternMeanings.{fun_of};
-ghost use Rattle.resolve.specs.Scoping.{IsResolvedFunction};
 ghost use Rattle.elab_session.specs.Sessions.{IsReady};
+ghost use Rattle.function_lines.specs.Conditions.{IsWorkingOn};
 ghost use Rattle.function_session.specs.Elaborating as spec;
 ghost use Rattle.function_session.specs.Meanings.{Answers};
 
@@ -44,9 +41,7 @@ fn enter_function(
     x: &Word,
     f: &FunCore,
 ) -> Result<Elaborated, Refused>
-    requires ready { IsReady sig.old }
-    requires new { find sig.old f.now.name ≡ None }
-    requires resolved { IsResolvedFunction sig.old (provisional sig.old f.now.name (tree_of f.now.ty)) (fun_of f.now) }
+    requires { IsWorkingOn sig.old (fun_of f.now) }
     ensures answer { Answers sig.new result (spec.enter_function sig.old fuel x.now (fun_of f.now)) }
     ensures err { OnErr result (sig.new ≡ sig.old) }
 {

@@ -108,4 +108,4 @@ declaration-reports S fuel x ty cs ready =
       lines = h.lines;
     })
     (function-reports-over S f fuel ready.well_formed ready.prelude scoped.type.scoped.entries
-    (provisional-over S f ready.settled ready.prelude scoped)))
+    (provisional-over S f ready scoped)))

@@ -56,7 +56,7 @@ function-refused S fuel x ty cs e ready (Ok f) resolved is =
       resolved = resolved;
       cause =
           refusal-is_caused S f fuel e
-          (provisional-over S f ready.settled ready.prelude (function-scoped S (surf.Fun x ty cs) f resolved))
+          (provisional-over S f ready (function-scoped S (surf.Fun x ty cs) f resolved))
           (lines-refused x fuel (function_made S f fuel).0 e is);
     }
 function-refused S fuel x ty cs e ready (Err stop) resolved is = absurd (cc)

@@ -163,7 +163,7 @@ lined S fuel x ty cs ready =
     made-has (IsLined S x ty cs) S x fuel f (λ made made_is.
     weaker (IsTold S f) (λ (l : Lines). IsLined S x ty cs (with_lines (accepted_as x.text l.signature) l.lines)) (function_of S f fuel).0
     (λ l h. record { given = f; resolved = is; lines = l; is = refl; told = h })
-    (function-told S f fuel ready.well_formed ready.prelude scoped.type.scoped.entries (provisional-over S f ready.settled ready.prelude scoped)
+    (function-told S f fuel ready.well_formed ready.prelude scoped.type.scoped.entries (provisional-over S f ready scoped)
     (λ level left e. function-closed S f fuel made level left made_is e))))
 
 ok-same : {A E : Type 0} {a b : A} → ◌≡◌ {A = Result A E} (Ok a) (Ok b) → a ≡ b

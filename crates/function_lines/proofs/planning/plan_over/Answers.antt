@@ -10,7 +10,7 @@ use Rattle.function_lines.proofs.planning.plan_over.Goals as goal
 pub plan_at-made-requires : goal.plan_at-made-requires
 plan_at-made-requires c =
     transport (λ S. IsFunctionOver S (fun_of c.args.f.now)) (sym c.in_ok-own.ensures.ok)
-    (provisional-over c.args.sig.now (fun_of c.args.f.now) c.requires.settled c.requires.prelude c.requires.resolved)
+    (provisional-over c.args.sig.now (fun_of c.args.f.now) c.requires.ready c.requires.resolved)
 
 pub returns-clause-kept : goal.returns-clause-kept
 returns-clause-kept c =

@@ -4,6 +4,9 @@ use Rattle.resolve.specs.PatternMeanings.{fun_of}
 use Rattle.function_session.proofs.Written.{function-scoped}
 use Rattle.function_session.proofs.functions.elaborate_function.Goals as goal
 
-pub enter_function-requires-clause-resolved : goal.enter_function-requires-clause-resolved
-enter_function-requires-clause-resolved c =
-    function-scoped c.args.sig.now (decl_of c.args.d.now) (fun_of c.in_ok-f.f) (sym c.in_ok-f.ensures.answer)
+pub enter_function-requires : goal.enter_function-requires
+enter_function-requires c = record {
+  ready = c.requires.ready;
+  new = c.in_ok-f.ensures.named.new;
+  resolved = function-scoped c.args.sig.now (decl_of c.args.d.now) (fun_of c.in_ok-f.f) (sym c.in_ok-f.ensures.answer);
+}
