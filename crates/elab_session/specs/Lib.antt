@@ -5,4 +5,3 @@ pub mod Laws
 pub mod Meanings
 pub mod Refusals
 pub mod Sessions
-pub mod Shown

@@ -8,8 +8,8 @@ ghost use Rattle.core_sig.specs.Kinds.{HasEntryKinds, HasKinds};
 ghost use Rattle.core_sig.specs.Meanings.{entry_of, family_of};
 ghost use Rattle.core_sig.specs.Raw.{raw_constructor_of, raw_of};
 ghost use Rattle.core_text.specs.RawEntries.{entry_shown, family_shown};
+ghost use Rattle.core_text.specs.Records.{constructor_shown, type_of_constructor};
 ghost use Rattle.elab_session.specs.Meanings.{raw_entry_of};
-ghost use Rattle.elab_session.specs.Shown.{shown, shown_constructor};
 
 use crate::raw_entry::{Definition, RawEntry};
 use core_sig::{Constructor, Entry, Family, RawCon, RawFamily, types_of};
@@ -57,7 +57,7 @@ fn constructors_shown(
     params: u32,
     cons: &[Constructor],
 ) -> Result<Items<RawCon>, Stop>
-    ensures { Gives (map raw_constructor_of) result (Ok (map (shown_constructor number params) cons.now)) }
+    ensures { Gives (map raw_constructor_of) result (Ok (map (constructor_shown number params) cons.now)) }
 {
     let mut shown = Items::new(alloc);
     for con in cons {
@@ -75,7 +75,7 @@ fn constructor_type(
     params: u32,
     con: &Constructor,
 ) -> Result<Term, Stop>
-    ensures { Gives tree_of result (Ok (shown number params con.now)) }
+    ensures { Gives tree_of result (Ok (type_of_constructor number params con.now)) }
 {
     let types = types_of(alloc, con.args.as_slice())?;
     let from = number_of(con.args.as_slice().len())?;

@@ -1,7 +1,7 @@
 use Rattle.std.proofs.Common.{◌≡◌, map, take}
 use Rattle.core_sig.specs.Raw.{raw_constructor_of}
-use Rattle.elab_session.specs.Shown.{shown_constructor}
+use Rattle.core_text.specs.Records.{constructor_shown}
 use Rattle.elab_session.proofs.shown.constructors_shown.Given as goal
 
 abbrev pub invariant-loop-con : goal.invariant-loop-con
-invariant-loop-con l = map raw_constructor_of l.shown ≡ map (shown_constructor l.number l.params) (take l.con-index l.cons)
+invariant-loop-con l = map raw_constructor_of l.shown ≡ map (constructor_shown l.number l.params) (take l.con-index l.cons)
