@@ -68,7 +68,7 @@ ended-tree : {A : Type 0} (S : Signature) (name : List ℕ) (r : Result A TreeSt
 ended-tree S name (Ok a) h = ok
 ended-tree S name (Err e) h = no (ends-tree S name e h.is)
 
-walked : {A : Type 0} (S : Signature) (name : List ℕ) {outcome : Stopping A} → Ends IsForeseenTree outcome → Ends IsForeseenFunction (walking S name outcome)
+pub walked : {A : Type 0} (S : Signature) (name : List ℕ) {outcome : Stopping A} → Ends IsForeseenTree outcome → Ends IsForeseenFunction (walking S name outcome)
 walked S name h = now (ended-tree S name _ h.only)
 
 ends-report : (S : Signature) (owner : Owner) (e : ReportStop) → IsForeseenReport e → IsForeseenFunction (of_report S owner e)
@@ -167,7 +167,7 @@ mutual
 
 -- ---- the plan
 
-position : (s : Session) (choice : Choice) → Only IsForeseenFunction (position_chosen s choice)
+pub position : (s : Session) (choice : Choice) → Only IsForeseenFunction (position_chosen s choice)
 position s NotRecursive = ok
 position s (At j) = ok
 position s (NotSmaller rows) = no tt
@@ -185,7 +185,7 @@ own-tree s w count order left =
 own-part : (s : Session) (r : Option Recursion) (w : Walked) (left : ℕ) → Ends IsForeseenFunction (own_finished_made s r w left)
 own-part s r w left = next (own-tree s w (length w.part.tele) (order_of (length w.part.tele) r) left) (λ t rest. done)
 
-helpers : (s : Session) (r : Option Recursion) (level number : ℕ) (ws : List Walked) (left : ℕ)
+pub helpers : (s : Session) (r : Option Recursion) (level number : ℕ) (ws : List Walked) (left : ℕ)
     → Ends IsForeseenFunction (helpers_finished s r level number ws left)
 helpers s r level number [] left = done
 helpers s r level number (w ∷ ws) left =

@@ -103,11 +103,11 @@ mention h S (Eliminates n m) left = eliminator S n m (family_at S n) left
 mention h S (AssumesK i m) left = with-k S i m S.has_k left
 mention h S (Names name) left = either-ends _ done (generated-enters h S (generated_by S name) left)
 
-all : {enter : Entering} → Enters enter → (S : Signature) (mentions : List Mention) (left : ℕ) → Ends IsForeseenReport (enter_all enter S mentions left)
+pub all : {enter : Entering} → Enters enter → (S : Signature) (mentions : List Mention) (left : ℕ) → Ends IsForeseenReport (enter_all enter S mentions left)
 all h S [] left = done
 all h S (m ∷ mentions) left = next (mention h S m left) (λ T rest. all h T mentions rest)
 
-entry : (S : Signature) (e : Entry) (left : ℕ) → Ends IsForeseenReport (enter_entry S e left)
+pub entry : (S : Signature) (e : Entry) (left : ℕ) → Ends IsForeseenReport (enter_entry S e left)
 entry S (Definition name type body) left = enters S (Definition name type body) (define S name type body left)
 entry S (FamilyOf f) left = now (no tt)
 entry S (EliminatorAt n m) left = now (no tt)
@@ -121,7 +121,7 @@ chain : (count : ℕ) → Enters (enter_chain count)
 chain zero S d left = with-needed (λ T other rest. now (no tt)) S d left
 chain (suc count) S d left = with-needed (chain count) S d left
 
-needed : Enters enter_needed
+pub needed : Enters enter_needed
 needed S d left = chain longest_chain S d left
 
 pub draft-enters : Enters enter_draft_of

@@ -35,7 +35,7 @@ use Rattle.memory_laws.proofs.Clauses.{all-clauses, grants, halted, plan, report
 
 -- ---- the level and the plan
 
-low-level : (S : Signature) (sort : Term) → Only IsForeseenFunction (function_level S sort)
+pub low-level : (S : Signature) (sort : Term) → Only IsForeseenFunction (function_level S sort)
 low-level S (Sort J) = search either
 low-level S (Var n) = ok
 low-level S sort = ok

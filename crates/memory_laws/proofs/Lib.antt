@@ -11,3 +11,4 @@ pub mod Reports
 pub mod Clauses
 pub mod Functions
 pub mod Stated
+pub mod Meant

@@ -114,7 +114,7 @@ again S n x k p left = looked S n x k (none (value_at p.values x)) p left
 -- ---- the walk
 
 mutual
-  walks : (S : Signature) (t : Tree) → Walks (walk_tree S t)
+  pub walks : (S : Signature) (t : Tree) → Walks (walk_tree S t)
   walks S (tree.Leaf clause context goal substitution terms binds) p left = done
   walks S (tree.Split context x n type branches) p left =
       looked S n x (takes S branches) (split S (again S n x (takes S branches))) p left

@@ -49,7 +49,7 @@ mutual
   all-reduce S (pattern.cons pat pats) [] left = done
   all-reduce S pattern.nil terms left = done
 
-vector : (S : Signature) (first second : Pats) (terms : List Term) (left : ℕ) → Ends IsForeseen (vector_of S first second terms left)
+pub vector : (S : Signature) (first second : Pats) (terms : List Term) (left : ℕ) → Ends IsForeseen (vector_of S first second terms left)
 vector S first second terms left = next (all-reduce S first terms left) (all-reduce S second)
 
 -- ---- sides

@@ -15,6 +15,7 @@ use Rattle.surface_syntax.specs.Trees as surf
 use Rattle.elab_session.specs.Declaring.{declare_of}
 use Rattle.elab_session.specs.Entering.{CanEnter, enter_of}
 use Rattle.elab_session.specs.declared.refusal.Refusal.TheVariants.{Memory}
+use Rattle.elaboration.specs.Functions.{function_of}
 use Rattle.function_lines.specs.FunctionMade.{function_made}
 use Rattle.function_session.specs.Elaborating.{Declaration, elaborate_of}
 use Rattle.memory_laws.specs.Foreseen.{IsForeseen, IsForeseenEntry, IsForeseenFunction, IsForeseenInstance}
@@ -65,6 +66,10 @@ EnterNeedsNoMemory = (S : Signature) (fuel : ℕ) (raw : RawEntry) → CanEnter 
 
 abbrev pub FunctionForeseen : Type 0
 FunctionForeseen = (S : Signature) (f : Function) (fuel : ℕ) → IfErr (function_made S f fuel).0 IsForeseenFunction
+
+-- the same of a function as it is meant
+abbrev pub MeantForeseen : Type 0
+MeantForeseen = (S : Signature) (f : Function) (fuel : ℕ) → IfErr (function_of S f fuel).0 IsForeseenFunction
 
 abbrev pub DeclareNeedsNoMemory : Type 0
 DeclareNeedsNoMemory = (S : Signature) (fuel : ℕ) (d : surf.Decl) → declare_of S fuel d ≢ Err Memory

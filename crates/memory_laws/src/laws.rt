@@ -1,5 +1,5 @@
 //! What is refused, by definition, is never refused for want of memory.
-ghost use Rattle.memory_laws.specs.Laws.{AxiomKForeseen, CheckForeseen, ConvertibleForeseen, DeclareNeedsNoMemory, DefinitionForeseen, ElaborateNeedsNoMemory, EliminatorForeseen, EnterNeedsNoMemory, FamilyForeseen, FunctionForeseen, InferForeseen, InferSortForeseen, NormalForeseen, SubtypeForeseen, WhnfForeseen};
+ghost use Rattle.memory_laws.specs.Laws.{AxiomKForeseen, CheckForeseen, ConvertibleForeseen, DeclareNeedsNoMemory, DefinitionForeseen, ElaborateNeedsNoMemory, EliminatorForeseen, EnterNeedsNoMemory, FamilyForeseen, FunctionForeseen, InferForeseen, InferSortForeseen, MeantForeseen, NormalForeseen, SubtypeForeseen, WhnfForeseen};
 
 /// A head form is refused for want of units or for a height alone.
 pub fn whnf_is_foreseen()
@@ -64,6 +64,11 @@ pub fn enter_needs_no_memory()
 /// A function by clauses is refused for want of units, for a height, or for a cause of its own.
 pub fn function_is_foreseen()
     ensures { FunctionForeseen }
+{}
+
+/// So is a function as it is meant, which the code answers unless something is too high.
+pub fn meant_is_foreseen()
+    ensures { MeantForeseen }
 {}
 
 /// A definition or a family is never refused for want of memory.
