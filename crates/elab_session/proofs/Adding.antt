@@ -18,7 +18,7 @@ use Rattle.family_check.specs.Outcomes.{OfType, OfBody, FamilyStop, Outcome}
 use Rattle.family_check.proofs.AsDeclared.{declare-gives}
 use Rattle.family_check.proofs.Outcomes.{if_new-has}
 use Rattle.elab_session.specs.Adding.{Adds, family, eliminator, axiom_k, definition, has_instance, IsAdded}
-use Rattle.elab_session.specs.Entering.{checked, eliminator_in}
+use Rattle.elab_session.specs.Entering.{checked}
 use Rattle.elab_session.specs.Laws.{EnterAdds}
 use Rattle.elab_session.proofs.Entered.{answered-has, eliminator-has}
 

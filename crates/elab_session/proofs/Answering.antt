@@ -1,5 +1,5 @@
 -- What the answer of a call says, from what the calls inside it answered.
-use Rattle.std.proofs.Common.{◌≡◌, ◌≢◌, ℕ, List, Option, Some, None, Result, Ok, Err, IfOk, OnErr, map, refl, sym, ap, ap₂, ◌∙◌, subst as transport}
+use Rattle.std.proofs.Common.{◌≡◌, ◌≢◌, ℕ, List, Option, Some, Result, Ok, Err, IfOk, OnErr, sym, ap, ap₂, ◌∙◌, subst as transport}
 use Rattle.theory.specs.Signatures.{Signature}
 use Rattle.core_terms.specs.Answers.{GivesUnless, and_next}
 use Rattle.core_terms.specs.declared.stop.Stop.TheVariants as memory

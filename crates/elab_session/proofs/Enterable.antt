@@ -1,5 +1,5 @@
 -- What is resolved can enter.
-use Rattle.std.proofs.Common.{◌≡◌, ℕ, List, [], ◌∷◌, length, Result, Ok, Err, IfOk, subst as transport}
+use Rattle.std.proofs.Common.{◌≡◌, List, [], length, Ok, IfOk, subst as transport}
 use Rattle.std.proofs.lemmas.List.Elements.{All-weaker}
 use Rattle.theory.specs.Terms.{Term}
 use Rattle.theory.specs.Signatures.{FamilyOf, Signature}

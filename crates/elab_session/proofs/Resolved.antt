@@ -1,5 +1,5 @@
 -- What holds of what is accepted, from what holds of its parts.
-use Rattle.std.proofs.Common.{◌≡◌, ℕ, length, Result, Ok, Err, IfOk, sym, subst as transport}
+use Rattle.std.proofs.Common.{ℕ, length, Result, Ok, Err, IfOk, sym, subst as transport}
 use Rattle.theory.specs.Prelude.{prelude}
 use Rattle.theory.specs.Signatures.{Entry, Signature, IsPrefix}
 use Rattle.theory.specs.WellFormed.{IsEntry, IsWellFormed, pushed}

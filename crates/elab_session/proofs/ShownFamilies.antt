@@ -2,7 +2,6 @@
 use Rattle.std.proofs.Common.{◌≡◌, ℕ, List, map, length, sym, ap, ap₂, ◌∙◌}
 use Rattle.theory.specs.Terms.{Term}
 use Rattle.theory.specs.Terms.Term.{Sort}
-use Rattle.theory.specs.Families as pure
 use Rattle.theory.specs.Telescopes.{Telescope, products}
 use Rattle.core_terms.specs.Meanings.{tree_of, tele_of}
 use Rattle.core_sig.specs.Kinds.{HasKinds}

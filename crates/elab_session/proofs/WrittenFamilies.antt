@@ -1,5 +1,5 @@
 -- Families that are resolved enter as written.
-use Rattle.std.proofs.Common.{◌≡◌, ℕ, List, Result, Ok, Err, IfOk, ap, subst as transport}
+use Rattle.std.proofs.Common.{◌≡◌, ℕ, List, Ok, IfOk, ap, subst as transport}
 use Rattle.theory.specs.Families.{Family}
 use Rattle.theory.specs.Signatures.{FamilyOf, Signature}
 use Rattle.theory.specs.WellFormed.{IsEntry, IsFamily, IsWellFormed}
