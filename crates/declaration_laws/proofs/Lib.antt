@@ -6,3 +6,4 @@ pub mod UnmarkedEntries
 pub mod UnmarkedFamilies
 pub mod UnmarkedDeclarations
 pub mod Texts
+pub mod FirstTypes

@@ -6,6 +6,7 @@ use Rattle.surface_syntax.specs.Grammar.{limit}
 use Rattle.surface_syntax.specs.Trees.{Decl}
 use Rattle.function_session.specs.Elaborating.{Elaborated, Refused, elaborate_of}
 use Rattle.declaration_laws.specs.Laws.{AreMeant, BeginClosed, TextIsMeant}
+use Rattle.declaration_laws.specs.Orders.{TextsBeginClosed}
 use Rattle.elim_program.specs.DefinedOutputs.{compiles, works}
 use Rattle.elim_program.specs.Outputs.{Output, after, compiled, declarations, declared_block, followed, text_block}
 use Rattle.elim_program.specs.Runs.{Follows, nothing, output}
@@ -14,7 +15,7 @@ use Rattle.elim_program.specs.WorkTexts.{work_text}
 use Rattle.elim_program.specs.Works.{none_counted, on_worked, with_accepted, work_output, worked, worked_block}
 use Rattle.elim_program.proofs.OneOutput.{one_output}
 use Rattle.elim_program.proofs.Reading.{is-read}
-use Rattle.meaning_laws.specs.Laws.{CompiledIsMeant, LinesAreMeant, RunIsMeant, WorkIsMeant}
+use Rattle.meaning_laws.specs.Laws.{CompiledIsMeant, FewIndicesAreMeant, LinesAreMeant, RunIsMeant, WorkIsMeant}
 use Rattle.meaning_laws.specs.Meant.{Counted, Flags, TextBeginsClosed, Workload, declarations_meant, text_meant, work_meant, worked_meant}
 
 -- ---- one declaration after the other
@@ -64,6 +65,10 @@ pub compiled-meant : LinesAreMeant → CompiledIsMeant
 compiled-meant meant words bytes command answer out asks gives closed is =
     one_output words bytes out (compiled command.k (text_block command answer)) is (compiles command answer asks gives)
     ∙ ap (λ b. compiled command.k b) (block-meant meant bytes command answer gives closed)
+
+pub few-indices-meant : CompiledIsMeant → TextsBeginClosed → FewIndicesAreMeant
+few-indices-meant meant begins words bytes command ds out asks gives few is =
+    meant words bytes command (Ok ds) out asks gives (begins command.fuel (prelude command.k) ds few) is
 
 work-output-meant : TextIsMeant → (work : Workload) (answer : Answer) → Gives (work_text work.count) answer → TextBeginsClosed work.fuel false answer
     → work_output work answer ≡ work_meant work answer

@@ -4,6 +4,7 @@ use Rattle.std.specs.Io.KnownBytes.{Appends}
 use Rattle.theory.specs.Prelude.{prelude}
 use Rattle.surface_syntax.specs.Trees.{Decl}
 use Rattle.declaration_laws.specs.Laws.{BeginClosed}
+use Rattle.declaration_laws.specs.Orders.{HaveFewIndices}
 use Rattle.elim_program.specs.DefinedOutputs.{IsOutput}
 use Rattle.elim_program.specs.Outputs.{Output, declarations}
 use Rattle.elim_program.specs.Runs.{Follows, Wrote}
@@ -26,6 +27,12 @@ abbrev pub CompiledIsMeant : Type 0
 CompiledIsMeant =
     (words : List (List ℕ)) (bytes : List ℕ) (command : Flags) (answer : Answer) (out : Output) → asked words ≡ Some command → Gives bytes answer
     → TextBeginsClosed command.fuel command.k answer → IsOutput words bytes out → out ≡ compiled_meant command answer
+
+-- So it is without a condition on functions, where no family that is reached has more than one index.
+abbrev pub FewIndicesAreMeant : Type 0
+FewIndicesAreMeant =
+    (words : List (List ℕ)) (bytes : List ℕ) (command : Flags) (ds : List Decl) (out : Output) → asked words ≡ Some command → Gives bytes (Ok ds)
+    → HaveFewIndices command.fuel (prelude command.k) ds → IsOutput words bytes out → out ≡ compiled_meant command (Ok ds)
 
 -- the same where they ask for `work`, whose text is its own
 abbrev pub WorkIsMeant : Type 0
