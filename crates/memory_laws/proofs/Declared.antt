@@ -15,10 +15,11 @@ use Rattle.family_check.specs.Entering.{Entered}
 use Rattle.family_check.specs.Outcomes.{Site, FamilyStop}
 use Rattle.family_check.specs.Outcomes.FamilyStop.{Stopped, Denied, NotPositive, TooLarge, BadFamily, Duplicate}
 use Rattle.elab_session.specs.Declaring.{declare_of, declare_with, enter_declared, or_unresolved, resolve_definition, resolve_family}
-use Rattle.elab_session.specs.Entering.{CanEnter, answered, answers, checked, eliminator_in, enter_of, enter_with, part_signature, constructor_names, refused}
+use Rattle.elab_session.specs.Entering.{answered, answers, checked, eliminator_in, enter_with, part_signature, constructor_names, refused}
 use Rattle.elab_session.specs.Refusals.{stopped, unentered, unresolved}
 use Rattle.elab_session.specs.declared.refusal.Refusal.{Refusal}
 use Rattle.elab_session.specs.declared.refusal.Refusal.TheVariants.{Memory}
+use Rattle.memory_laws.specs.Laws.{EnterNeedsNoMemory, IsOfFamily}
 use Rattle.memory_laws.specs.Foreseen.{IsForeseen, IsForeseenEntry, IsForeseenInstance, IsForeseenName}
 use Rattle.memory_laws.proofs.Runs.{Only, Ends, ok, no, now, done, next}
 use Rattle.memory_laws.proofs.Families.{declare, define, instance, axiom-k}
@@ -106,20 +107,20 @@ eliminator : (S : Signature) (n m left : ℕ) (f : Family) → slice_get S.entri
 eliminator S n m left f e =
     transport (λ x. Only IsForeseenInstance (eliminator_in S n m x left).0) (sym e) (instance S n f m left).only
 
-enters : (S : Signature) (start fuel : ℕ) (raw : RawEntry) (left : ℕ) → CanEnter S raw → Ends IsForeseenRefusal (enter_with S start fuel raw left)
-enters S start fuel (RawFamilyOf raw) left can = named-enters S start fuel (RawFamilyOf raw) left tt
-enters S start fuel (RawDefinition name type body) left can = named-enters S start fuel (RawDefinition name type body) left tt
-enters S start fuel (RawEliminator n m) left can =
+enters : (S : Signature) (start fuel : ℕ) (raw : RawEntry) (left : ℕ) → IsOfFamily S raw → Ends IsForeseenRefusal (enter_with S start fuel raw left)
+enters S start fuel (RawFamilyOf raw) left is = named-enters S start fuel (RawFamilyOf raw) left tt
+enters S start fuel (RawDefinition name type body) left is = named-enters S start fuel (RawDefinition name type body) left tt
+enters S start fuel (RawEliminator n m) left is =
     now
     (refused-as IsForeseenInstance (refused S start fuel (RawEliminator n m)) (of-instance (part_signature S (RawEliminator n m)) [] fuel)
-    (checked S (RawEliminator n m) left).0 (eliminator S n m left can.0 can.1))
-enters S start fuel (RawAxiomK i m) left can =
+    (checked S (RawEliminator n m) left).0 (eliminator S n m left is.0 is.1))
+enters S start fuel (RawAxiomK i m) left is =
     now
     (refused-as IsForeseenInstance (refused S start fuel (RawAxiomK i m)) (of-instance (part_signature S (RawAxiomK i m)) [] fuel)
     (checked S (RawAxiomK i m) left).0 (axiom-k S i m left).only)
 
-pub enter-needs-no-memory : (S : Signature) (fuel : ℕ) (raw : RawEntry) → CanEnter S raw → enter_of S fuel raw ≢ Err Memory
-enter-needs-no-memory S fuel raw can = never-memory _ (enters S 0 fuel raw fuel can).only.is
+pub enter-needs-no-memory : EnterNeedsNoMemory
+enter-needs-no-memory S fuel raw is = never-memory _ (enters S 0 fuel raw fuel is).only.is
 
 -- ---- declarations
 

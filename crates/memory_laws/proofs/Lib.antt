@@ -12,3 +12,4 @@ pub mod Clauses
 pub mod Functions
 pub mod Stated
 pub mod Meant
+pub mod CoreReading

@@ -1,11 +1,15 @@
 -- What is refused, by definition, is refused for want of units, for a height or for a cause of its own, and never for want of memory.
-use Rattle.std.specs.Prelude.{◌≢◌, ℕ, Bool, Err, IfErr, List}
+use Rattle.std.specs.Prelude.{◌≡◌, ◌≢◌, ◌≤◌, ℕ, Bool, Ok, Err, IfErr, List, length, Some}
 use Rattle.theory.specs.Terms.{Term}
 use Rattle.theory.specs.Telescopes.{Context}
 use Rattle.theory.specs.Families.{Family}
 use Rattle.theory.specs.Signatures.{Signature}
+use Rattle.theory.specs.SignatureScopes.{IsFamilyNumber}
 use Rattle.core_sig.specs.Raw.{RawFamily}
-use Rattle.core_text.specs.RawEntries.{RawEntry}
+use Rattle.core_text.specs.EntryReading.{entry_from}
+use Rattle.core_text.specs.Heads.{head_of}
+use Rattle.core_text.specs.RawEntries.{RawEliminator, RawEntry}
+use Rattle.core_text.specs.declared.stop.CoreTextStop.TheVariants as core
 use Rattle.kernel_reduce.specs.Reduction.{normal_of, whnf_of}
 use Rattle.kernel_reduce.specs.Comparison.{convertible_of, subtype_of}
 use Rattle.kernel_check.specs.Checking.{check_of, infer_of, infer_sort_of}
@@ -13,7 +17,7 @@ use Rattle.family_check.specs.Entering.{axiom_k_of, declare_of as declare_family
 use Rattle.resolve.specs.Functions.{Function}
 use Rattle.surface_syntax.specs.Trees as surf
 use Rattle.elab_session.specs.Declaring.{declare_of}
-use Rattle.elab_session.specs.Entering.{CanEnter, enter_of}
+use Rattle.elab_session.specs.Entering.{enter_of}
 use Rattle.elab_session.specs.declared.refusal.Refusal.TheVariants.{Memory}
 use Rattle.elaboration.specs.Functions.{function_of}
 use Rattle.function_lines.specs.FunctionMade.{function_made}
@@ -58,9 +62,28 @@ EliminatorForeseen = (S : Signature) (n : ℕ) (f : Family) (m left : ℕ) → I
 abbrev pub AxiomKForeseen : Type 0
 AxiomKForeseen = (S : Signature) (i m left : ℕ) → IfErr (axiom_k_of S i m left).0 IsForeseenInstance
 
--- An entry of a core file, where it may enter: the eliminator of what is no family is want of memory by definition.
+-- ---- core files
+
+abbrev pub HeadReadForeseen : Type 0
+HeadReadForeseen = (k : Bool) (text : List ℕ) → head_of k text ≢ Err core.Memory
+
+abbrev pub EntryReadForeseen : Type 0
+EntryReadForeseen = (S : Signature) (text : List ℕ) (from : ℕ) → entry_from S text from ≢ Err core.Memory
+
+-- an eliminator is that of a family
+abbrev pub IsOfFamily : Signature → RawEntry → Type 0
+IsOfFamily S (RawEliminator n m) = IsFamilyNumber S n
+IsOfFamily S raw = Unit {0}
+
+-- The eliminator of what is no family is refused for want of memory by definition, and nothing else is.
 abbrev pub EnterNeedsNoMemory : Type 0
-EnterNeedsNoMemory = (S : Signature) (fuel : ℕ) (raw : RawEntry) → CanEnter S raw → enter_of S fuel raw ≢ Err Memory
+EnterNeedsNoMemory = (S : Signature) (fuel : ℕ) (raw : RawEntry) → IsOfFamily S raw → enter_of S fuel raw ≢ Err Memory
+
+-- so no entry is that is read from a core file
+abbrev pub ReadEntryNeedsNoMemory : Type 0
+ReadEntryNeedsNoMemory =
+    (S : Signature) (text : List ℕ) (from fuel : ℕ) (raw : RawEntry) (to : ℕ) → from ≤ length text → entry_from S text from ≡ Ok (Some (raw, to))
+    → enter_of S fuel raw ≢ Err Memory
 
 -- ---- functions and declarations, whatever the signature is
 

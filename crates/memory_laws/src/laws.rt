@@ -1,5 +1,5 @@
 //! What is refused, by definition, is never refused for want of memory.
-ghost use Rattle.memory_laws.specs.Laws.{AxiomKForeseen, CheckForeseen, ConvertibleForeseen, DeclareNeedsNoMemory, DefinitionForeseen, ElaborateNeedsNoMemory, EliminatorForeseen, EnterNeedsNoMemory, FamilyForeseen, FunctionForeseen, InferForeseen, InferSortForeseen, MeantForeseen, NormalForeseen, SubtypeForeseen, WhnfForeseen};
+ghost use Rattle.memory_laws.specs.Laws.{AxiomKForeseen, CheckForeseen, ConvertibleForeseen, DeclareNeedsNoMemory, DefinitionForeseen, ElaborateNeedsNoMemory, EliminatorForeseen, EnterNeedsNoMemory, EntryReadForeseen, FamilyForeseen, FunctionForeseen, HeadReadForeseen, InferForeseen, InferSortForeseen, MeantForeseen, NormalForeseen, ReadEntryNeedsNoMemory, SubtypeForeseen, WhnfForeseen};
 
 /// A head form is refused for want of units or for a height alone.
 pub fn whnf_is_foreseen()
@@ -56,9 +56,24 @@ pub fn axiom_k_is_foreseen()
     ensures { AxiomKForeseen }
 {}
 
-/// An entry of a core file that may enter is never refused for want of memory.
+/// The head lines of a core file are never refused for want of memory.
+pub fn head_read_is_foreseen()
+    ensures { HeadReadForeseen }
+{}
+
+/// What a core file goes on with is never refused so when it is read.
+pub fn entry_read_is_foreseen()
+    ensures { EntryReadForeseen }
+{}
+
+/// An entry is never refused so, unless it is the eliminator of what is no family.
 pub fn enter_needs_no_memory()
     ensures { EnterNeedsNoMemory }
+{}
+
+/// No entry is that is read from a core file.
+pub fn read_entry_needs_no_memory()
+    ensures { ReadEntryNeedsNoMemory }
 {}
 
 /// A function by clauses is refused for want of units, for a height, or for a cause of its own.
