@@ -17,7 +17,7 @@ pub record IsWrongAt (bytes : List ℕ) (tokens : List Token) (offset : ℕ) : T
   pub flat : NotNested (lexemes_of bytes tokens)
   pub place : offset ≡ offset_of bytes tokens left
 
--- at the offset begins the first that is inside 2,000 others
+-- at the offset begins the first term, pattern or clause that is inside 2,000 others
 pub record IsNestedAt (bytes : List ℕ) (tokens : List Token) (offset : ℕ) : Type 0 where
   pub left : ℕ
   pub nested : IsNested (lexemes_of bytes tokens) left

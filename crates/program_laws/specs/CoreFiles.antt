@@ -9,7 +9,7 @@ use Rattle.core_text.specs.WrittenEntries.{IsDeclarableName}
 use Rattle.core_text.specs.RawEntries.{type_shown, constructor_type_shown}
 use Rattle.elim_program.specs.VerifyHeadline.{Holds}
 
--- The text has a head, after it the entries of the signature, which are read one by one, and no entry more. The levels that a
+-- The text has a head and after it the entries of the signature, which are read one by one, and no further entry. The levels that a
 -- family keeps are not read.
 pub record IsCoreFile (k : Bool) (text : List ℕ) (S : Signature) : Type 0 where
   pub offset : ℕ

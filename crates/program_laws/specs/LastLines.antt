@@ -15,7 +15,7 @@ last_line [] = []
 last_line (line ∷ []) = line
 last_line (line ∷ next ∷ lines) = last_line (next ∷ lines)
 
--- the status that a last line shows: of a refusal, of the words that may be asked, or of a run that is done
+-- the status that a last line shows: that of a refusal, of the usage line, or of a run that is done
 abbrev pub status_by : List ℕ → Status
 status_by line =
     if begins (codes "# refused ") line then status.Refused else (if begins (codes "# usage ") line then status.Usage else status.Done)

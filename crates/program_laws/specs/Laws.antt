@@ -1,4 +1,4 @@
--- Laws above the headline of the program.
+-- Laws that use the headline of the program.
 use Rattle.std.specs.Prelude.{◌≡◌, ◌<◌, ◌++◌, ℕ, false, List, length, None, Ok, IfErr}
 use Rattle.theory.specs.Signatures.{Signature}
 use Rattle.surface_syntax.specs.Parses.{parsed}

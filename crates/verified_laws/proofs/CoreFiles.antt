@@ -30,7 +30,7 @@ use Rattle.verified_laws.specs.Laws.{AcceptedIsVerified, AreNames, CoreFileIsVer
 use Rattle.verified_laws.proofs.LetIn.{each-in, same-k}
 use Rattle.verified_laws.proofs.Texts.{text-checked}
 
--- ---- a head that is read is in the text
+-- ---- a head that is read is the front of the text
 
 shared-within : (xs ys : List ℕ) → shared xs ys ≤ length xs
 shared-within [] ys = omega arith

@@ -19,7 +19,7 @@ LinesAreReports =
     (words : List (List ℕ)) (bytes : List ℕ) (above : List (List ℕ)) (name : List ℕ) → (a : IsAccepted words bytes above name)
     → IsReported a.before a.declaration a.accepted
 
--- The entries that it has, with those before it, can be written in a core file.
+-- Its entries, with those before them, can be written in a core file.
 abbrev pub LinesAreWritable : Type 0
 LinesAreWritable =
     (words : List (List ℕ)) (bytes : List ℕ) (above : List (List ℕ)) (name : List ℕ) → (a : IsAccepted words bytes above name)

@@ -29,7 +29,7 @@ abbrev pub TextIsChecked : Type 0
 TextIsChecked =
     (fuel : ℕ) (S : Signature) (ds : List Decl) → (declarations fuel S ds).refused ≡ false → Checked fuel S (signature_after fuel S ds)
 
--- The text has a head and the entries of W, which are read one by one, and no entry more.
+-- The text has a head and the entries of W, which are read one by one, and no further entry.
 pub record IsFileOf (k : Bool) (text : List ℕ) (W : Signature) (names : List (List ℕ)) : Type 0 where
   pub offset : ℕ
   pub held : Holds k text W offset names
@@ -69,7 +69,7 @@ AcceptedIsVerified =
     (fuel : ℕ) (k verify_k : Bool) (ds : List Decl) (text : List ℕ) (names : List (List ℕ)) → (declarations fuel (prelude k) ds).refused ≡ false
     → IsFileOf verify_k text (signature_after fuel (prelude k) ds) names → after_head fuel text (head_of verify_k text) ≡ block (map verified_line names) false
 
--- The output that is defined where such a file is to be verified: it refuses nothing, and after its head lines has one line for each entry.
+-- The output that is defined for `verify` on such a file: it refuses nothing, and has one line for each entry after its head lines.
 abbrev pub OutputVerifies : Type 0
 OutputVerifies =
     (fuel : ℕ) (k : Bool) (ds : List Decl) (text : List ℕ) (names : List (List ℕ)) (words : List (List ℕ)) → (declarations fuel (prelude k) ds).refused ≡ false

@@ -32,7 +32,7 @@ use Rattle.word_laws.specs.Numbers.{withs_right as written_right, withs_clause a
 use Rattle.writing_laws.specs.Writing.{HasFewParts}
 use Rattle.writing_laws.proofs.Carrying.{any, Any, if-ok, skip}
 
--- ---- how many `with` are in clauses
+-- ---- how many `with` there are in clauses
 
 abbrev mutual
   withs_right : core.Right → ℕ

@@ -1,4 +1,4 @@
--- What a core file asks of the entries after the prelude, and that the declarations of a text keep it.
+-- What a core file asks of the entries after the prelude, and that the declarations of a text meet it.
 use Rattle.std.specs.Prelude.{◌≡◌, ◌<◌, ◌≤◌, ◌^◌, ℕ, Bool, true, List, ◌++◌, length, Ok, IfOk}
 use Rattle.std.specs.Str.{is_utf8, chars}
 use Rattle.theory.specs.Prelude.{prelude}
@@ -23,7 +23,7 @@ abbrev pub HasFewParameters : surf.Decl → Type 0
 HasFewParameters (surf.Data x params ty cons) = length params < 2 ^ 32
 HasFewParameters _ = Unit {0}
 
--- Whatever the checker accepts is low enough for a core file: where no entry shows a term that is too high, none does after a
+-- Whatever the checker accepts is low enough for a core file: if no entry shows a term that is too high, none does after a
 -- declaration that is accepted, and the prelude has no entry after itself.
 abbrev pub EntriesStayLow : Type 0
 EntriesStayLow =
@@ -36,7 +36,7 @@ EntriesStayLow =
 abbrev pub IsSurfaceName : List ℕ → Type 0
 IsSurfaceName name = (is_utf8 name ≡ true) × Spells Plain (chars name) true
 
--- the function has fewer parts, itself and its helpers, than have a name
+-- the function has fewer parts (itself and its helpers) than there are names for them
 abbrev pub HasFewParts : Signature → Function → Type 0
 HasFewParts S f = (level left : ℕ) → IfOk (plan_over S f level left).0 (λ plan. (k : ℕ) → k < length plan.parts → k < 10000000000)
 
