@@ -36,33 +36,33 @@ use Rattle.memory_laws.proofs.Drafts.{drafted-low, halted, halts, only-deep}
 abbrev Walks : Walking → Type 0
 Walks go = (p : Place) (left : ℕ) → Ends IsForeseenReport (go p left)
 
-abbrev Branches-on : Branching → Type 0
-Branches-on branch = (number : ℕ) (arguments : List Term) → Walks (branch number arguments)
+abbrev EachBranch : Branching → Type 0
+EachBranch branch = (number : ℕ) (arguments : List Term) → Walks (branch number arguments)
 
-abbrev Splits-on : Splitting → Type 0
-Splits-on split = (x : ℕ) (type : Term) (m : Member) → Walks (split x type m)
+abbrev EachSplit : Splitting → Type 0
+EachSplit split = (x : ℕ) (type : Term) (m : Member) → Walks (split x type m)
 
 stuck : (t : Term) → Walks (stuck_at t)
 stuck t p left = now (no tt)
 
-member : (n : ℕ) (t : Term) {split : Splitting} → Splits-on split → (x : ℕ) (type : Term) (m : Option Member) → Walks (at_member n t split x type m)
+member : (n : ℕ) (t : Term) {split : Splitting} → EachSplit split → (x : ℕ) (type : Term) (m : Option Member) → Walks (at_member n t split x type m)
 member n t h x type None p left = stuck t p left
 member n t h x type (Some m) p left = either-ends _ (h x type m p left) (stuck t p left)
 
-variable : (S : Signature) (n : ℕ) (t : Term) {split : Splitting} → Splits-on split → (x : Option ℕ) → Walks (at_variable S n t split x)
+variable : (S : Signature) (n : ℕ) (t : Term) {split : Splitting} → EachSplit split → (x : Option ℕ) → Walks (at_variable S n t split x)
 variable S n t h None p left = stuck t p left
 variable S n t h (Some x) p left =
     next (halts (whnf S true left (type_of_variable p.context x))) (λ type rest. member n t h x type (member_of S type) p rest)
 
-other : (S : Signature) (n : ℕ) (t : Term) {split : Splitting} → Splits-on split → Walks (at_other S n t split)
+other : (S : Signature) (n : ℕ) (t : Term) {split : Splitting} → EachSplit split → Walks (at_other S n t split)
 other S n t h p left = next (halts (tidy S left t)) (λ u rest. variable S n t h (variable_in u) p rest)
 
-head : (S : Signature) (n : ℕ) (t : Term) {branch : Branching} {split : Splitting} → Branches-on branch → Splits-on split → (b : Option Built)
+head : (S : Signature) (n : ℕ) (t : Term) {branch : Branching} {split : Splitting} → EachBranch branch → EachSplit split → (b : Option Built)
     → Walks (at_head S n t branch split b)
 head S n t k h None p left = other S n t h p left
 head S n t k h (Some b) p left = either-ends _ (k b.number b.arguments p left) (other S n t h p left)
 
-looked : (S : Signature) (n x : ℕ) {branch : Branching} {split : Splitting} → Branches-on branch → Splits-on split → Walks (at_split S n x branch split)
+looked : (S : Signature) (n x : ℕ) {branch : Branching} {split : Splitting} → EachBranch branch → EachSplit split → Walks (at_split S n x branch split)
 looked S n x k h p left =
     next (halts (whnf S true left (value_at p.values x))) (λ w rest. head S n (value_at p.values x) k h (built_of S w) p rest)
 
@@ -101,14 +101,14 @@ halted-run : {A : Type 0} (r : Result A TreeStop) → Only IsForeseenTree r → 
 halted-run (Ok a) h = ok
 halted-run (Err e) h = no (of-tree e h.is)
 
-split : (S : Signature) {go : Walking} → Walks go → Splits-on (split_variable S go)
+split : (S : Signature) {go : Walking} → Walks go → EachSplit (split_variable S go)
 split S h x type m p left =
     next (now (halted-run _ (all-run S p.context x m 0 m.family.constructors left).only)) (λ runs rest. runs-found h x type p runs rest)
 
-none : (t : Term) → Splits-on (no_splitting t)
+none : (t : Term) → EachSplit (no_splitting t)
 none t x type m p left = stuck t p left
 
-again : (S : Signature) (n x : ℕ) {branch : Branching} → Branches-on branch → Walks (looked_again S n x branch)
+again : (S : Signature) (n x : ℕ) {branch : Branching} → EachBranch branch → Walks (looked_again S n x branch)
 again S n x k p left = looked S n x k (none (value_at p.values x)) p left
 
 -- ---- the walk
@@ -119,7 +119,7 @@ mutual
   walks S (tree.Split context x n type branches) p left =
       looked S n x (takes S branches) (split S (again S n x (takes S branches))) p left
 
-  takes : (S : Signature) (branches : Branches) → Branches-on (take_branch S branches)
+  takes : (S : Signature) (branches : Branches) → EachBranch (take_branch S branches)
   takes S tree.nil number arguments p left = now (no tt)
   takes S (tree.cons branch branches) zero arguments p left = enters S branch arguments p left
   takes S (tree.cons branch branches) (suc number) arguments p left = takes S branches number arguments p left

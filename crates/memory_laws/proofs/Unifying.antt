@@ -301,35 +301,35 @@ turns S s left = all-trials S s s.equations left
 
 -- ---- runs
 
-abbrev Going-on : Going → Type 0
-Going-on go = (s : State) (left : ℕ) → Ends IsForeseen (go s left)
+abbrev GoesOn : Going → Type 0
+GoesOn go = (s : State) (left : ℕ) → Ends IsForeseen (go s left)
 
-nowhere : Going-on run.nowhere
+nowhere : GoesOn run.nowhere
 nowhere s left = now deep
 
-measured : {by-units by-variables by-sizes : Going} → Going-on by-units → Going-on by-variables → Going-on by-sizes → (s : State) (left : ℕ)
-    → Going-on (by_measure by-units by-variables by-sizes s left)
+measured : {by-units by-variables by-sizes : Going} → GoesOn by-units → GoesOn by-variables → GoesOn by-sizes → (s : State) (left : ℕ)
+    → GoesOn (by_measure by-units by-variables by-sizes s left)
 measured h k l s left t rest = either-ends _ (h t rest) (either-ends _ (k t rest) (l t rest))
 
-behind : {go : Going} → Going-on go → (s : State) (found : Option Turn) (left : ℕ) → Ends IsForeseen (after go s found left)
+behind : {go : Going} → GoesOn go → (s : State) (found : Option Turn) (left : ℕ) → Ends IsForeseen (after go s found left)
 behind h s (Some Done) left = done
 behind h s (Some (Goes step t)) left = next (h t left) (λ outcome rest. done)
 behind h s (Some (Fails step u v)) left = done
 behind h s (Some (Sticks why u v)) left = done
 behind h s None left = now deep
 
-one : (S : Signature) {go : State → ℕ → Going} → ((s : State) (left : ℕ) → Going-on (go s left)) → Going-on (one_turn S go)
+one : (S : Signature) {go : State → ℕ → Going} → ((s : State) (left : ℕ) → GoesOn (go s left)) → GoesOn (one_turn S go)
 one S h s left = next (turns S s left) (λ found rest. behind (h s left) s found rest)
 
-sizes : (S : Signature) {by-units by-variables : Going} → Going-on by-units → Going-on by-variables → (size : ℕ) → Going-on (by_size S by-units by-variables size)
+sizes : (S : Signature) {by-units by-variables : Going} → GoesOn by-units → GoesOn by-variables → (size : ℕ) → GoesOn (by_size S by-units by-variables size)
 sizes S h k zero s left = one S (measured h k nowhere) s left
 sizes S h k (suc size) s left = one S (measured h k (sizes S h k size)) s left
 
-variables : (S : Signature) {by-units : Going} → Going-on by-units → (count : ℕ) → Going-on (by_variables S by-units count)
+variables : (S : Signature) {by-units : Going} → GoesOn by-units → (count : ℕ) → GoesOn (by_variables S by-units count)
 variables S h zero s left = sizes S h nowhere (size_of_sides s.equations) s left
 variables S h (suc count) s left = sizes S h (variables S h count) (size_of_sides s.equations) s left
 
-all-units : (S : Signature) (count : ℕ) → Going-on (run.by_units S count)
+all-units : (S : Signature) (count : ℕ) → GoesOn (run.by_units S count)
 all-units S zero s left = variables S nowhere (length s.context) s left
 all-units S (suc count) s left = variables S (all-units S count) (length s.context) s left
 
