@@ -24,6 +24,7 @@ pub mod RefusedBlocks
 mod ReportsInLine
 mod SessionInLine
 pub mod Shown
+mod StopReasons
 pub mod TextLines
 mod TokensInLine
 mod Verified

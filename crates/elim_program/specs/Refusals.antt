@@ -1,5 +1,5 @@
 -- The lines of refusals.
-use Rattle.std.specs.Prelude.{ℕ, List, [], ◌∷◌, ◌++◌, codes, decimal, Option, Some, None}
+use Rattle.std.specs.Prelude.{ℕ, ◌<◌, length, List, [], ◌∷◌, ◌++◌, codes, decimal, Option, Some, None}
 use Rattle.elab_session.specs.declared.refusal.PartName.{PartName}
 use Rattle.elab_session.specs.declared.refusal.PartName.TheVariants.{Ty, Body, Param, Con}
 use Rattle.elab_session.specs.declared.refusal.Refusal.{Refusal}
@@ -18,6 +18,10 @@ stop_text (stop.NotYet offset) = codes "NotYet " ++ decimal offset
 stop_text (stop.Nested offset) = codes "Nested " ++ decimal offset
 stop_text (stop.Syntax offset) = codes "Syntax " ++ decimal offset
 stop_text (stop.NotCoreText offset) = codes "NotCoreText " ++ decimal offset
+
+-- no text is refused without a reason
+abbrev pub StopsHaveReasons : Type 0
+StopsHaveReasons = (e : TextStop) → 0 < length (stop_text e)
 
 abbrev pub stop_line : TextStop → List ℕ
 stop_line e = codes "# refused " ++ stop_text e

@@ -2,6 +2,7 @@
 ghost use Rattle.elim_program.specs.Acceptance.{Acceptance, AcceptedIsShown};
 ghost use Rattle.elim_program.specs.DefinedOutputs.{HasOneOutput};
 ghost use Rattle.elim_program.specs.Headline.{Headline};
+ghost use Rattle.elim_program.specs.Refusals.{StopsHaveReasons};
 ghost use Rattle.elim_program.specs.Verifies.{BoundIsEnough};
 ghost use Rattle.elim_program.specs.VerifyHeadline.{VerifiedIsReady, VerifyHeadline};
 ghost use Rattle.elim_program.specs.WorkLaws.{WorkCountsOutput};
@@ -19,6 +20,11 @@ pub fn accepted_is_shown()
 /// Where a line says that a declaration is accepted, the lines above it show that it has its written type.
 pub fn headline()
     ensures { Headline }
+{}
+
+/// No text is refused without a reason.
+pub fn stops_have_reasons()
+    ensures { StopsHaveReasons }
 {}
 
 /// The bound in the definition of the lines of a core file cuts nothing off.
