@@ -3,6 +3,7 @@ mod bytes;
 mod clauses;
 mod devices;
 mod drafts;
+mod function_sessions;
 mod nesting;
 mod patterns;
 mod ports;

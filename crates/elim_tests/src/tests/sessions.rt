@@ -33,11 +33,13 @@ fn accepts(alloc: Global, session: &mut Session, text: &str) -> Result<bool, Fai
 }
 
 #[test]
-fn go_on_behind_refusals(rt: HostRuntime) -> Result<(), Fail> {
+fn go_on_after_refusals(rt: HostRuntime) -> Result<(), Fail> {
     let alloc = rt.alloc();
     for text in REFUSED {
         let mut session = Session::new(alloc, false, 16)?;
+        let entries = session.signature().len();
         assert!(rt; !accepts(alloc, &mut session, text)?, "{text}");
+        assert_eq!(rt; session.signature().len(), entries, "{text}");
         assert!(rt; accepts(alloc, &mut session, IDENTITY)?, "{text}");
     }
     Ok(())
