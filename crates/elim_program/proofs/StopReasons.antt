@@ -1,5 +1,5 @@
 -- No reason for which a text is refused is empty.
-use Rattle.std.proofs.Common.{ℕ, arith}
+use Rattle.std.proofs.Common.{arith}
 use Rattle.elim_program.specs.Refusals.{StopsHaveReasons}
 use Rattle.elim_program.specs.declared.text_stop.TextStop.TheVariants as stop
 
