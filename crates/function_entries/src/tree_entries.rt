@@ -16,6 +16,7 @@ use crate::trees::tree_term;
 use core_sig::{Draft, Signature};
 use core_terms::{Items, Name, Stop, Term, copy_tele, copy_whole, functions, products};
 use leaf_terms::{Part, Plan, Recursion, Translation};
+use outlines::whole;
 use run_terms::with_names;
 use split_terms::Node;
 use std::alloc::Global;
@@ -44,7 +45,7 @@ fn tree_body(alloc: Global, w: &Translation, node: &Node) -> Result<Term, Stop>
 {
     let body = tree_term(alloc, w, &w.part.tree, node)?;
     let context = copy_tele(alloc, node.ctx.as_slice())?;
-    functions(alloc, context.into_vec(), body)
+    functions(alloc, context.into_vec(), whole(alloc, body)?)
 }
 
 /// The draft of an entry with a tree, whose type and tree are made with the numbers of these names, or Deep.

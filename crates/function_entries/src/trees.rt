@@ -1,17 +1,19 @@
-ghost use Rattle.std.specs.Prelude.{◌≡◌, Ok};
+ghost use Rattle.std.specs.Prelude.{◌≡◌, Ok, map};
 ghost use Rattle.core_terms.specs.Answers.{Gives};
 ghost use Rattle.core_terms.specs.Meanings.{tree_of, tele_of};
 ghost use Rattle.core_terms.specs.TreeMeanings.{branch_of, branches_of, case_tree_of};
+ghost use Rattle.outlines.specs.OutlineMeanings.{outline_of, outlines_of};
 ghost use Rattle.split_terms.specs.NodeMeanings.{node_of};
 ghost use Rattle.leaf_terms.specs.PlaceMeanings.{HasFamily, translation_of};
 ghost use Rattle.function_entries.specs.CodeTrees as spec;
 ghost use Rattle.function_entries.specs.SplitMeanings.{IsWholeSplit, family_of_split};
 
 use crate::nodes::{SplitVariable, next_node, runs_of, split_variable, type_in, variable_count};
-use core_terms::{Branch, Items, Stop, Tele, Term, Tree};
+use core_terms::{Branch, Items, Stop, Term, Tree};
 use leaf_terms::{Translation, leaf_term};
+use outlines::{Outline, Outlines, listed};
 use run_terms::next;
-use split_terms::{Node, split_node};
+use split_terms::{Node, split_outline};
 use std::alloc::Global;
 
 /// The term of a leaf at a node, or Deep.
@@ -23,13 +25,14 @@ fn leaf_at(
     substitution: &[Term],
     terms: &[Term],
     binds: &[Term],
-) -> Result<Term, Stop>
+) -> Result<Outline, Stop>
     requires { HasFamily w.now.sig.now (translation_of w.now).recursion }
-    ensures { Gives tree_of result (spec.leaf_at (translation_of w.now) (node_of node.now) clause (tele_of substitution.now) (tele_of terms.now) (tele_of binds.now)) }
+    ensures { Gives outline_of result (spec.leaf_at (translation_of w.now) (node_of node.now) clause (tele_of substitution.now) (tele_of terms.now) (tele_of binds.now)) }
 {
     let n = variable_count(node)?;
     let hidden = node.hidden.as_slice();
-    leaf_term(alloc, w, n, hidden, clause, substitution, terms, binds)
+    let leaf = leaf_term(alloc, w, n, hidden, clause, substitution, terms, binds)?;
+    Ok(Outline::Whole(leaf))
 }
 
 /// The term of a split at a node, from those of its subtrees, or Deep.
@@ -40,13 +43,13 @@ fn split_with(
     x: u32,
     ty: &Term,
     branches: &[Branch],
-    ends: &[Term],
-) -> Result<Term, Stop>
-    ensures { Gives tree_of result (spec.split_at (translation_of w.now) (node_of node.now) x (tree_of ty.now) (branches_of branches.now) (tele_of ends.now)) }
+    ends: Outlines,
+) -> Result<Outline, Stop>
+    ensures { Gives outline_of result (spec.split_at (translation_of w.now) (node_of node.now) x (tree_of ty.now) (branches_of branches.now) (outlines_of ends)) }
 {
     let runs = runs_of(alloc, branches)?;
     let level = w.part.level;
-    split_node(
+    split_outline(
         alloc,
         w.sig,
         w.naming,
@@ -59,11 +62,11 @@ fn split_with(
     )
 }
 
-/// The term of a tree at a node, or Deep.
+/// The term of a tree at a node, in outline, or Deep.
 #[cycle(terms)]
-pub fn tree_term(alloc: Global, w: &Translation, tree: &Tree, node: &Node) -> Result<Term, Stop>
+pub fn tree_term(alloc: Global, w: &Translation, tree: &Tree, node: &Node) -> Result<Outline, Stop>
     requires { HasFamily w.now.sig.now (translation_of w.now).recursion }
-    ensures { Gives tree_of result (spec.tree_made (translation_of w.now) (case_tree_of tree.now) (node_of node.now)) }
+    ensures { Gives outline_of result (spec.tree_made (translation_of w.now) (case_tree_of tree.now) (node_of node.now)) }
 {
     match tree {
         Tree::Leaf {
@@ -102,13 +105,14 @@ fn split_at(
     x: u32,
     ty: &Term,
     branches: &[Branch],
-) -> Result<Term, Stop>
+) -> Result<Outline, Stop>
     requires { HasFamily w.now.sig.now (translation_of w.now).recursion }
-    ensures { Gives tree_of result (spec.split_made (translation_of w.now) (branches_of branches.now) (node_of node.now) x (tree_of ty.now)) }
+    ensures { Gives outline_of result (spec.split_made (translation_of w.now) (branches_of branches.now) (node_of node.now) x (tree_of ty.now)) }
 {
     let v = split_variable(alloc, w.sig, node, x, ty)?;
     let ends = with_ends(alloc, w, node, &v, 0, branches, Items::new(alloc))?;
-    split_with(alloc, w, node, v.number, ty, branches, ends.as_slice())
+    let ends = listed(alloc, ends.into_vec())?;
+    split_with(alloc, w, node, v.number, ty, branches, ends)
 }
 
 /// Terms, followed by those of the subtrees of branches, the first of which is that of the constructor with this number, or Deep.
@@ -120,11 +124,11 @@ fn with_ends(
     v: &SplitVariable,
     number: u32,
     branches: &[Branch],
-    made: Tele,
-) -> Result<Tele, Stop>
+    made: Items<Outline>,
+) -> Result<Items<Outline>, Stop>
     requires family { HasFamily w.now.sig.now (translation_of w.now).recursion }
     requires whole { IsWholeSplit v.now }
-    ensures { Gives tele_of result (spec.ends_made (translation_of w.now) (branches_of branches.now) (node_of node.now) v.now.number (family_of_split v.now) number (tele_of made)) }
+    ensures { Gives (λ v. map outline_of v) result (spec.ends_made (translation_of w.now) (branches_of branches.now) (node_of node.now) v.now.number (family_of_split v.now) number (map outline_of made)) }
 {
     match branches {
         [] => Ok(made),
@@ -144,11 +148,11 @@ fn with_end(
     v: &SplitVariable,
     number: u32,
     branch: &Branch,
-    mut made: Tele,
-) -> Result<Tele, Stop>
+    mut made: Items<Outline>,
+) -> Result<Items<Outline>, Stop>
     requires family { HasFamily w.now.sig.now (translation_of w.now).recursion }
     requires whole { IsWholeSplit v.now }
-    ensures { Gives tele_of result (spec.end_made (translation_of w.now) (branch_of branch.now) (node_of node.now) v.now.number (family_of_split v.now) number (tele_of made)) }
+    ensures { Gives (λ v. map outline_of v) result (spec.end_made (translation_of w.now) (branch_of branch.now) (node_of node.now) v.now.number (family_of_split v.now) number (map outline_of made)) }
 {
     match branch {
         Branch::Absurd { .. } => Ok(made),

@@ -39,7 +39,7 @@ pub use names::{
 pub use naming::{Naming, constant, place_of, with_name, with_names};
 pub use numbers::{next, sum};
 pub use occurrences::dependants;
-pub use places::{After, Places, level_at, place_in, put};
+pub use places::{After, Places, level_at, place_in, put, put_under};
 pub use placing::{
     all_placed, applied_to_levels_from, applied_to_placed, applied_to_variables_at, placed,
     placed_telescope,

@@ -132,8 +132,9 @@ fn put_variable(
     at(alloc, places, sum(depth, under)?, position as u32)
 }
 
+/// The same, under so many binders of the term's own.
 #[cycle(put)]
-fn put_under(
+pub fn put_under(
     alloc: Global,
     places: Places,
     size: u32,

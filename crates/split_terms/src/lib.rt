@@ -19,4 +19,4 @@ pub use node::Node;
 pub use problems::branch_standing;
 pub use runs::run_term;
 pub use split_naming::split_names;
-pub use splitting::{split_node, split_term};
+pub use splitting::{split_node, split_outline, split_term};

@@ -5,9 +5,12 @@ ghost use Rattle.core_terms.specs.TreeMeanings.{steps_of};
 ghost use Rattle.core_sig.specs.Meanings.{constructor_of, family_of};
 ghost use Rattle.theory.specs.Telescopes as telescopes;
 ghost use Rattle.unification.specs.Records as records;
+ghost use Rattle.tree_translation.specs.RunTerms.{no_term};
 ghost use Rattle.tree_translation.specs.Splits as splits;
 ghost use Rattle.clause_walks.specs.LookMeanings.{member_meant};
+ghost use Rattle.outlines.specs.OutlineMeanings.{outline_of, outlines_of};
 ghost use Rattle.run_terms.specs.CodeNaming.{naming_of};
+ghost use Rattle.run_terms.specs.StandingMeanings.{standing_of};
 ghost use Rattle.split_terms.specs.CodeSplits as spec;
 ghost use Rattle.split_terms.specs.NodeMeanings.{AllFitIn, FitsIn, node_of};
 
@@ -18,8 +21,10 @@ use crate::runs::run_term;
 use clause_walks::Member;
 use core_sig::{Constructor, Signature};
 use core_terms::{Items, Rule, Step, Stop, Tele, Term, functions, number_of, products};
+use outlines::{Outline, Outlines, in_body};
 use run_terms::{
-    Naming, all_raised, argument_items, equations_made, family_items, next, raised, state_term, sum,
+    Naming, Standing, all_raised, argument_items, equations_made, family_items, next, raised,
+    state_term, sum,
 };
 use std::alloc::Global;
 use unifier::variables;
@@ -74,6 +79,23 @@ fn over_arguments(alloc: Global, m: &Member, con: &Constructor, inner: Term) -> 
     functions(alloc, types.into_vec(), inner)
 }
 
+/// The method for a constructor, from the term of its run in outline.
+fn method_around(
+    alloc: Global,
+    m: &Member,
+    con: &Constructor,
+    s: &Standing,
+    inner: Outline,
+) -> Result<Outline, Stop>
+    requires kinds { FitsIn m.now con.now }
+    requires parameters { length m.now.params ≡ length m.now.family.now.params }
+    ensures { Gives outline_of result (Ok (spec.method_with (member_meant m.now) (constructor_of (length m.now.family.now.params) con.now) (standing_of s.now) (outline_of inner))) }
+{
+    let state = state_term(alloc, s, Term::Sort(0))?;
+    let around = over_arguments(alloc, m, con, state)?;
+    in_body(alloc, around, inner)
+}
+
 /// The method for a constructor, whose run has these steps and this end, or Deep.
 pub fn split_method(
     alloc: Global,
@@ -86,18 +108,19 @@ pub fn split_method(
     number: u32,
     con: &Constructor,
     steps: &[Step],
-    end: &Term,
-) -> Result<Term, Stop>
+    end: Outline,
+) -> Result<Outline, Stop>
     requires kinds { FitsIn m.now con.now }
     requires parameters { length m.now.params ≡ length m.now.family.now.params }
-    ensures { Gives tree_of result (spec.method_made sig.now (naming_of naming.entry) level (node_of node.now) (member_meant m.now) x number (constructor_of (length m.now.family.now.params) con.now) (steps_of steps.now) (tree_of end.now)) }
+    ensures { Gives outline_of result (spec.method_made sig.now (naming_of naming.entry) level (node_of node.now) (member_meant m.now) x number (constructor_of (length m.now.family.now.params) con.now) (steps_of steps.now) (outline_of end)) }
 {
     let s = branch_standing(alloc, node, m, x, number, con)?;
     let inner = run_term(alloc, sig, naming, level, end, steps, &s)?;
-    over_arguments(alloc, m, con, state_term(alloc, &s, inner)?)
+    method_around(alloc, m, con, &s, inner)
 }
 
-fn is_last(rule: Rule) -> bool
+/// Whether a state is absurd after a step by such a rule.
+pub fn is_last(rule: Rule) -> bool
     ensures { result ≡ splits.is_last rule }
 {
     matches!(rule, Rule::Conflict(_, _, _) | Rule::Cycle(_))
@@ -114,51 +137,24 @@ pub fn is_absurd(steps: &[Step]) -> bool
     }
 }
 
-/// The ends that are left after a run.
-fn ends_after<'a>(steps: &[Step], ends: &'a [Term]) -> &'a [Term]
-    ensures { tele_of result.now ≡ cond (splits.is_absurd (steps_of steps.now)) (tele_of ends.now) (splits.behind_first (tele_of ends.now)) }
+/// The end of a run, and the ends that are left after it.
+fn end_and_rest(steps: &[Step], ends: Outlines) -> (Outline, Outlines)
+    ensures end { outline_of result.0 ≡ cond (splits.is_absurd (steps_of steps.now)) no_term (splits.first_of (outlines_of ends)) }
+    ensures rest { outlines_of result.1 ≡ cond (splits.is_absurd (steps_of steps.now)) (outlines_of ends) (splits.behind_first (outlines_of ends)) }
 {
-    match ends {
-        [_, rest @ ..] if !is_absurd(steps) => rest,
-        _ => ends,
+    if is_absurd(steps) {
+        return (Outline::Whole(Term::Sort(0)), ends);
     }
-}
-
-/// The method for a constructor, whose run has the first of these ends, or Deep.
-fn method_at(
-    alloc: Global,
-    sig: &Signature,
-    naming: Naming,
-    level: u8,
-    node: &Node,
-    m: &Member,
-    x: u32,
-    number: u32,
-    con: &Constructor,
-    steps: &[Step],
-    ends: &[Term],
-) -> Result<Term, Stop>
-    requires kinds { FitsIn m.now con.now }
-    requires parameters { length m.now.params ≡ length m.now.family.now.params }
-    ensures { Gives tree_of result (spec.method_made sig.now (naming_of naming.entry) level (node_of node.now) (member_meant m.now) x number (constructor_of (length m.now.family.now.params) con.now) (steps_of steps.now) (splits.first_of (tele_of ends.now))) }
-{
     match ends {
-        [] => {
-            let none = Term::Sort(0);
-            split_method(
-                alloc, sig, naming, level, node, m, x, number, con, steps, &none,
-            )
-        }
-        [end, ..] => split_method(
-            alloc, sig, naming, level, node, m, x, number, con, steps, end,
-        ),
+        Outlines::Empty => (Outline::Whole(Term::Sort(0)), Outlines::Empty),
+        Outlines::First(end, rest) => (end, Box::into_inner(rest)),
     }
 }
 
 /// `head` applied to the methods for constructors, the first of which has this number, or Deep: each solved run takes one end.
 pub fn with_methods(
     alloc: Global,
-    head: Term,
+    head: Outline,
     sig: &Signature,
     naming: Naming,
     level: u8,
@@ -168,11 +164,11 @@ pub fn with_methods(
     number: u32,
     cons: &[Constructor],
     runs: &[&[Step]],
-    ends: &[Term],
-) -> Result<Term, Stop>
+    ends: Outlines,
+) -> Result<Outline, Stop>
     requires kinds { AllFitIn m.now cons.now }
     requires parameters { length m.now.params ≡ length m.now.family.now.params }
-    ensures { Gives tree_of result (spec.with_methods (tree_of head) sig.now (naming_of naming.entry) level (node_of node.now) (member_meant m.now) x number (map (constructor_of (length m.now.family.now.params)) cons.now) (map (λ steps. steps_of steps.now) runs.now) (tele_of ends.now)) }
+    ensures { Gives outline_of result (spec.with_methods (outline_of head) sig.now (naming_of naming.entry) level (node_of node.now) (member_meant m.now) x number (map (constructor_of (length m.now.family.now.params)) cons.now) (map (λ steps. steps_of steps.now) runs.now) (outlines_of ends)) }
 {
     let [con, cons @ ..] = cons else {
         return Ok(head);
@@ -180,11 +176,11 @@ pub fn with_methods(
     let [steps, runs @ ..] = runs else {
         return Ok(head);
     };
-    let method = method_at(
-        alloc, sig, naming, level, node, m, x, number, con, steps, ends,
+    let (end, ends) = end_and_rest(steps, ends);
+    let method = split_method(
+        alloc, sig, naming, level, node, m, x, number, con, steps, end,
     )?;
-    let head = Term::new_app(alloc, head, method)?;
-    let ends = ends_after(steps, ends);
+    let head = Outline::new_app(alloc, head, method)?;
     with_methods(
         alloc,
         head,

@@ -3,6 +3,7 @@ ghost use Rattle.core_terms.specs.Answers.{Gives};
 ghost use Rattle.core_terms.specs.Meanings.{tree_of, tele_of};
 ghost use Rattle.core_terms.specs.TreeMeanings.{steps_of};
 ghost use Rattle.clause_walks.specs.LookMeanings.{member_meant};
+ghost use Rattle.outlines.specs.OutlineMeanings.{outline_of, outlines_of};
 ghost use Rattle.run_terms.specs.CodeNaming.{naming_of};
 ghost use Rattle.split_terms.specs.CodeSplits as spec;
 ghost use Rattle.split_terms.specs.NodeMeanings.{IsWhole, named_of, node_of};
@@ -14,6 +15,7 @@ use crate::split_naming::split_names;
 use clause_walks::Member;
 use core_sig::Signature;
 use core_terms::{Items, Name, Step, Stop, Term, applied, checked, copy_tele};
+use outlines::{Outline, Outlines, at_head, first_whole, whole};
 use run_terms::{Naming, case_name, constant, family_items, reflexivities_made, with_names};
 use std::alloc::Global;
 
@@ -35,7 +37,7 @@ fn split_head(
 }
 
 /// `head` applied to the indices, the variable and their reflexivities, or Deep where something in these is too high.
-fn split_end(alloc: Global, m: &Member, x: u32, head: Term) -> Result<Term, Stop>
+fn applied_to_scrutinee(alloc: Global, m: &Member, x: u32, head: Term) -> Result<Term, Stop>
     ensures { Gives tree_of result (spec.split_end (member_meant m.now) x (tree_of head)) }
 {
     let terms = scrutinee(alloc, m, x)?;
@@ -43,6 +45,14 @@ fn split_end(alloc: Global, m: &Member, x: u32, head: Term) -> Result<Term, Stop
     let refls = reflexivities_made(alloc, &items, &terms)?;
     let head = applied(alloc, head, terms.into_vec())?;
     applied(alloc, head, refls.into_vec())
+}
+
+/// The same for a head in outline.
+fn split_end(alloc: Global, m: &Member, x: u32, head: Outline) -> Result<Outline, Stop>
+    ensures { Gives outline_of result (spec.split_end (member_meant m.now) x (outline_of head)) }
+{
+    let around = applied_to_scrutinee(alloc, m, x, Term::Sort(0))?;
+    at_head(alloc, around, head)
 }
 
 /// The term of a split on a variable whose type is this family with all its parameters and indices, or Deep.
@@ -55,13 +65,13 @@ fn split_member(
     m: &Member,
     x: u32,
     runs: &[&[Step]],
-    ends: &[Term],
-) -> Result<Term, Stop>
+    ends: Outlines,
+) -> Result<Outline, Stop>
     requires { IsWhole m.now }
-    ensures { Gives tree_of result (spec.split_member_made sig.now (naming_of naming.entry) level (node_of node.now) (member_meant m.now) x (map (λ steps. steps_of steps.now) runs.now) (tele_of ends.now)) }
+    ensures { Gives outline_of result (spec.split_member_made sig.now (naming_of naming.entry) level (node_of node.now) (member_meant m.now) x (map (λ steps. steps_of steps.now) runs.now) (outlines_of ends)) }
 {
     let motive = split_motive(alloc, node, m, x)?;
-    let head = split_head(alloc, naming, level, m, motive)?;
+    let head = Outline::Whole(split_head(alloc, naming, level, m, motive)?);
     let cons = m.family.cons.as_slice();
     let head = with_methods(
         alloc, head, sig, naming, level, node, m, x, 0, cons, runs, ends,
@@ -69,8 +79,28 @@ fn split_member(
     split_end(alloc, m, x, head)
 }
 
-/// The term of a split node on a variable with this reduced type, or Deep. The steps of the runs come by constructor, and `ends` has one
-/// end for each solved run, over its last context.
+/// The term of a split node on a variable with this reduced type, in outline, or Deep. The steps of the runs come by constructor, and
+/// `ends` has one end for each solved run, over its last context.
+pub fn split_outline(
+    alloc: Global,
+    sig: &Signature,
+    naming: Naming,
+    level: u8,
+    node: &Node,
+    x: u32,
+    ty: &Term,
+    runs: &[&[Step]],
+    ends: Outlines,
+) -> Result<Outline, Stop>
+    ensures { Gives outline_of result (spec.split_node_made sig.now (naming_of naming.entry) level (node_of node.now) x (tree_of ty.now) (map (λ steps. steps_of steps.now) runs.now) (outlines_of ends)) }
+{
+    match type_member(alloc, sig, ty)? {
+        None => Ok(Outline::Whole(Term::Sort(0))),
+        Some(m) => split_member(alloc, sig, naming, level, node, &m, x, runs, ends),
+    }
+}
+
+/// The term of a split node, from ends that are whole terms, or Deep.
 pub fn split_node(
     alloc: Global,
     sig: &Signature,
@@ -84,10 +114,9 @@ pub fn split_node(
 ) -> Result<Term, Stop>
     ensures { Gives tree_of result (spec.split_node_made sig.now (naming_of naming.entry) level (node_of node.now) x (tree_of ty.now) (map (λ steps. steps_of steps.now) runs.now) (tele_of ends.now)) }
 {
-    match type_member(alloc, sig, ty)? {
-        None => Ok(Term::Sort(0)),
-        Some(m) => split_member(alloc, sig, naming, level, node, &m, x, runs, ends),
-    }
+    let ends = first_whole(alloc, ends)?;
+    let outline = split_outline(alloc, sig, naming, level, node, x, ty, runs, ends)?;
+    whole(alloc, outline)
 }
 
 /// The same where these are the names of generated entries, which have the numbers after those of the signature, or Deep where the term is
