@@ -1,4 +1,4 @@
--- The variables and the dots of a clause are at their places in the terms of its pairs.
+-- The variables and the dots of a clause are found at their places in the terms of its pairs.
 use Rattle.std.proofs.Common.{◌≡◌, false, cond, Option, Some, None, List, [], ◌∷◌, ◌++◌, map, refl, ap, ap₂, sym, ◌∙◌, arith}
 use Rattle.std.proofs.lemmas.Bool.{true≢false, or_parts}
 use Rattle.std.proofs.lemmas.List.{map-append}

@@ -1,4 +1,4 @@
--- With one clause alone the terms that are kept are those of its pairs. Its variables and dots are at their places in them.
+-- With one clause alone the terms that are kept are those of its pairs. Its variables and dots are found at their places in them.
 use Rattle.std.proofs.Common.{◌≡◌, true, Option, Some, None, IfOk, List, [], ◌∷◌, ◌++◌, refl, ap, ap₂, sym, subst, ◌∙◌, arith}
 use Rattle.std.proofs.lemmas.Bool.{false≢true}
 use Rattle.theory.specs.Terms.{Term, Con}

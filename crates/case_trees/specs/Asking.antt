@@ -25,8 +25,8 @@ mutual
     there : (pat : Pat) (pats : Pats) (t : Term) (terms : List Term) (at : Pat) (u : Term) → SomeOpenAt S pats terms at u
         → SomeOpenAt S (pattern.cons pat pats) (t ∷ terms) at u
 
--- The patterns of a clause ask for `at` at a point that splits lead to, with its terms as the clause has reduced them. There the
--- tidied term is u.
+-- At a point that splits lead to, with the terms as the clause has reduced them, the patterns of a clause ask for a constructor by the
+-- pattern `at`; the tidied term there is u.
 pub record Asks (S : Signature) (start p : Point) (pats : Pats) (at : Pat) (u : Term) : Type 0 where
   pub node : IsNode S start p
   pub terms : List Term

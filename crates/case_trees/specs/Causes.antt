@@ -63,8 +63,8 @@ pub data CommonCause (S : Signature) (Tried : Pat → ℕ → Type 0) (start : P
       → CommonCause S Tried start clause pats (stop.Forced clause p.context pat u)
 
 mutual
-  -- ClashAt S pat t u v: the pattern asks for the constructor u, and the term has v. The absurd pattern asks for none: both are the
-  -- term's.
+  -- ClashAt S pat t u v: the pattern asks for the constructor u, and the term has v. For the absurd pattern, which asks for none, u
+  -- is v.
   pub data ClashAt (S : Signature) : Pat → Term → Term → Term → Type 0 where
     another : (n number : ℕ) (pats : Pats) (t : Term) (b : Built) → built_of S t ≡ Some b → is_constructor n number b ≡ false
         → ClashAt S (pattern.Con n number pats) t (Con n number) (Con b.n b.number)
@@ -95,7 +95,7 @@ pub data WalkCause (S : Signature) (start : Point) (clause : ℕ) (pats : Pats) 
       → Runs S (problem_of p.context x m number c) (Solved steps context solution)
       → WalkCause S start clause pats (stop.NotAbsurd clause m.n number)
 
--- all clauses are apart from the terms
+-- each clause is apart from the terms
 abbrev pub AllApart : Signature → Clauses → List Term → Type 0
 AllApart S clause.nil terms = Unit {0}
 AllApart S (clause.cons (Is pats binds right) clauses) terms = (are_apart S pats terms ≡ true) × AllApart S clauses terms

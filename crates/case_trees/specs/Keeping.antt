@@ -7,7 +7,8 @@ use Rattle.theory.specs.Signatures.{Signature}
 use Rattle.unification.specs.Built.{Built, built_of}
 use Rattle.case_trees.specs.Pairs.{Pair, Pairs, Builds, Clashes, cons, term_in}
 
--- Where an earlier comparison has left a constructor it stays, and its arguments keep what is found in them; else the new term comes.
+-- If an earlier comparison has left a constructor, it stays, and what is found in its arguments is kept in them. Otherwise the new term
+-- takes the place.
 abbrev pub kept_over : (keep : List Term → List Term) → (new : Term) → Option Built → Term
 kept_over keep new None = new
 kept_over keep new (Some b) = applied (Con b.n b.number) (b.parameters ++ keep b.arguments)

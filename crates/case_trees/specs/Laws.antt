@@ -1,4 +1,4 @@
--- What holds of walks and trees, whatever way they are found.
+-- What holds of walks and trees, however they are found.
 use Rattle.std.specs.Prelude.{◌≡◌, ◌≢◌, ℕ, ◌+◌, ◌-◌, ◌<◌, ◌≤◌, true, false, Some, Ok, Err, IfOk, List, length, map, take, slice_get, All}
 use Rattle.theory.specs.Terms.{Term, Var}
 use Rattle.theory.specs.Substitutions.{inst}
@@ -87,7 +87,7 @@ TreeGoesOn =
 
 -- ---- units
 
--- What a walk comes to, unless it wants units, it comes to with more of them too, and so many more are left.
+-- If a walk does not end for want of units, then with more units it comes to the same, and as many more are left.
 abbrev pub WalkWithMoreUnits : Type 0
 WalkWithMoreUnits =
     (S : Signature) (context : Telescope) (goal : Term) (terms : List Term) (c : Clause) (number left more : ℕ) →
@@ -136,7 +136,7 @@ TreeStopScoped =
     IsGiven S context goal terms → AreClausesFor S terms clauses → (split_of S context goal terms clauses left).0 ≡ Err e →
     IsScopedStop S e
 
--- ---- where walks and trees are
+-- ---- the points of walks and trees
 
 -- A walk ends at a point that splits lead to, with its terms as far as they were compared.
 pub record IsWalkAt (S : Signature) (start : Point) (w : Walk) : Type 0 where
@@ -216,7 +216,7 @@ WalkEnds = OfWalk (λ S start number pats w. IsWalkEnd S pats w)
 abbrev pub WalkBinds : Type 0
 WalkBinds = OfWalk (λ S start number pats w. all_variable_places S pats w.terms ≡ w.binds)
 
--- The dots that are kept are those at places that are there, which mention no variable without a term: what is written, with the
+-- The dots that are kept are those that the terms reach and that mention no variable without a term: what is written, with the
 -- bindings for the clause's variables, and the term there.
 abbrev pub WalkKeepsDots : Type 0
 WalkKeepsDots = OfWalk (λ S start number pats w. w.dots ≡ walked_dots (all_variables_found S pats w.terms) (all_dot_places S pats w.terms))
@@ -227,9 +227,9 @@ WalkKeepsAllDots =
     OfWalk (λ S start number pats w. matches_all S pats w.terms ≡ true →
     w.dots ≡ map (λ d. (under_solution w.binds d.0, d.1)) (all_dot_places S pats w.terms))
 
--- A leaf is one of its clause: its terms are matched by the clause and are apart from every earlier clause of the list, and the terms
--- at the clause's variables are kept from the bindings: each is the binding, or its head form, a constructor, with arguments that are
--- kept so, since an earlier clause was compared there.
+-- A leaf belongs to a clause that matches its terms, and each earlier clause of the list is apart from them. The terms at the clause's
+-- variables are kept from the bindings: each is the binding, or its head form, a constructor, with arguments that are kept so, since an
+-- earlier clause was compared there.
 pub record IsLeafOf (S : Signature) (clauses : Clauses) (number : ℕ) (us bs : List Term) : Type 0 where
   pub pats : Pats
   pub binds : ℕ

@@ -35,8 +35,8 @@ pub data Look (A : Type 0) : Type 0 where
 abbrev pub stuck_at : (clause : ℕ) → StuckRun → TreeStop
 stuck_at clause r = stop.Stuck clause r.context r.left r.right r.why
 
--- No pair was found: the first stuck run says so, and where there was no run, the first pair, which has no variable. There is an open
--- pair, so one of the two is there.
+-- No pair was found. If some run was stuck, the first such run is the reason, and otherwise the first pair, which has no variable. There
+-- is an open pair, so one of the two exists.
 abbrev pub none_found : (stuck forced : Option TreeStop) → TreeStop
 none_found (Some e) forced = e
 none_found None (Some e) = e

@@ -80,7 +80,7 @@ look S clause p pairs pat x left =
 
 -- ---- the end of a walk
 
--- a variable that has no term is given one that nothing reads
+-- a variable without a term is given one that nothing reads
 abbrev pub or_none : Option Term → Term
 or_none (Some t) = t
 or_none None = Sort 0
@@ -145,7 +145,7 @@ one_turn S clause go p pairs left =
     and_next (halting (work_pairs S of_columns pairs left)) (λ worked rest.
     unless_dropped S clause go p worked (first_clash worked) rest)
 
--- where the measure has fallen as far as it can: no turn goes on there
+-- where the measure is used up: no turn goes on from there
 abbrev pub nowhere : Walking
 nowhere p pairs left = answers (Err (stop.Halts Deep)) left
 

@@ -25,7 +25,7 @@ mutual
     nil : Pairs
     cons : Pair → Pairs → Pairs
 
--- the patterns of a clause with as many terms: so it starts
+-- the patterns of a clause with as many terms: the state at the start
 abbrev pub waiting : Pats → List Term → Pairs
 waiting (pattern.cons pat pats) (t ∷ terms) = cons (Waits pat t) (waiting pats terms)
 waiting _ _ = nil

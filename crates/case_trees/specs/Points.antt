@@ -1,4 +1,4 @@
--- Where a walk or a tree is.
+-- The point at which a walk or a tree is.
 use Rattle.std.specs.Prelude.{◌&&◌, cond, List, map, length, take, Result, Ok, Err}
 use Rattle.theory.specs.Terms.{Term}
 use Rattle.theory.specs.Substitutions.{inst, fill}

@@ -133,7 +133,7 @@ by_live S go p (c ∷ live) left = by_first S go p c live (all_open c.pairs) lef
 abbrev pub one_node : Signature → Growing → Growing
 one_node S go p live left = and_next (worked S p live left) (λ node rest. by_live S go node.point node.live rest)
 
--- where the measure has fallen as far as it can: no node is split there
+-- where the measure is used up: no node is split there
 abbrev pub nowhere : Growing
 nowhere p live left = answers (Err (stop.Halts Deep)) left
 

@@ -15,7 +15,7 @@ use Rattle.case_trees.specs.Pairs.{Pair, Pairs, Waits, Binds, Passes, Keeps, Bui
 
 -- ---- heights
 
--- How high a term may be by the number of the terms from it on: a column may be as high as any term,
+-- How high a term may be, by the number of terms from it on: a column may be of any height that a term may have,
 abbrev pub Rooms : Type 0
 Rooms = ℕ → ℕ
 
@@ -26,7 +26,7 @@ of_columns count = most_height
 abbrev pub of_arguments : (room : ℕ) → Rooms
 of_arguments room count = room - count
 
--- A constructor is put where the term is, or is Deep where it is too high there.
+-- A constructor takes the place of the term; it is Deep where it is too high there.
 abbrev pub in_room : (room : ℕ) → Term → Option Built → Result Term Stop
 in_room room w None = Ok w
 in_room room w (Some b) = cond (nat_le (height w) room) (Ok w) (Err Deep)

@@ -21,12 +21,12 @@ pub fn tree_goes_on()
     ensures { TreeGoesOn }
 {}
 
-/// With more units a walk comes to what it came to, unless it wanted units.
+/// With more units a walk comes to the same, unless it ended for want of units.
 pub fn walk_with_more_units()
     ensures { WalkWithMoreUnits }
 {}
 
-/// With more units a tree comes to what it came to, unless it wanted units.
+/// With more units a tree comes to the same, unless it ended for want of units.
 pub fn tree_with_more_units()
     ensures { TreeWithMoreUnits }
 {}
@@ -76,17 +76,17 @@ pub fn walk_leads()
     ensures { WalkLeads }
 {}
 
-/// The substitution of a leaf leads there from the start.
+/// The substitution of a leaf leads from the start to the leaf.
 pub fn leaves_lead()
     ensures { LeavesLead }
 {}
 
-/// A walk is where solved problems lead to.
+/// A walk ends at a point to which solved problems lead.
 pub fn walk_stands()
     ensures { WalkStands }
 {}
 
-/// The terms of a walk are matched by its clause, or a variable has no constructor.
+/// The clause of a walk matches its terms, or a variable has no constructor.
 pub fn walk_ends()
     ensures { WalkEnds }
 {}

@@ -26,7 +26,7 @@ use Rattle.clause_splitting.proofs.Chains.{goes-first, stops-first}
 use Rattle.clause_splitting.proofs.GrowingForms.{live-grown, next-made, with-end, with-more}
 use Rattle.clause_splitting.proofs.NodeCodes.{with-first}
 
--- what is given where no units are spent
+-- an answer for which no units are spent
 pub tells-yields : {A B : Type 0} (f : A → B) (r : Result A TreeStop) (left : ℕ) (meant : Result B stops.TreeStop) → Tells f r meant
     → Yields f r left (answers meant left)
 tells-yields f (Ok a) left meant h = ap (λ m. answers m left) h

@@ -11,7 +11,7 @@ abbrev pub AreKeptLive : Signature → (n : ℕ) → List Live → Type 0
 AreKeptLive S n [] = Unit {0}
 AreKeptLive S n (c ∷ live) = AreKeptPairs S n c.pairs × AreKeptLive S n live
 
--- where a tree is: each pair with a constructor is at a shared term that is one
+-- the state of a tree: each pair with a constructor is at a shared term that is one
 pub record IsNodeAt (S : Signature) (node : Node) : Type 0 where
   pub point : IsKeptPoint S node.point
   pub live : AreKeptLive S (length node.point.context) node.live

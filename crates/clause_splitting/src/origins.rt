@@ -78,7 +78,7 @@ fn order_without(alloc: Global, ctx: &[Term], x: u32) -> Result<Vec<u32>, Stop>
     new_order(alloc, ctx, p, dependants.as_slice())
 }
 
-/// The context after the solution of a variable, whose others are in the given order.
+/// The context after the solution of a variable, where the other variables are in the given order.
 fn context_without(
     alloc: Global,
     ctx: &[Term],

@@ -1,4 +1,4 @@
--- Working keeps low pairs low: a constructor is put where its term is only where it is not too high there.
+-- Working keeps low pairs low: a constructor takes the place of its term only if it is not too high there.
 use Rattle.std.proofs.Common.{◌≡◌, ℕ, ◌+◌, ◌≤◌, nat_le, Bool, true, false, cond, Option, Some, None, Result, Ok, Err, IfOk, List, [], ◌∷◌, ◌++◌, length, refl, subst as transport, arith}
 use Rattle.std.proofs.lemmas.Bool.{and_from}
 use Rattle.std.proofs.lemmas.Bool.Decides.{nat_tests}

@@ -14,7 +14,7 @@ use Rattle.kernel_reduce.specs.Entries.{family_at}
 use Rattle.unifier.specs.Conditions.{AreGiven, most_levels}
 use Rattle.clause_walks.specs.declared.problems.Member.{Member}
 
--- a context after which a constructor's arguments are has at most so many variables
+-- a context that a constructor's arguments follow has at most so many variables
 abbrev pub most_params : ℕ
 most_params = 2147390000
 

@@ -17,7 +17,7 @@ pub record AreKeptPairs (S : Signature) (n : ℕ) (pairs : Pairs) : Type 0 where
   pub low : are_low_pairs pairs ≡ true
   pub few : n ≤ most_levels
 
--- where a walk is: each pair with a constructor is at a shared term that is one
+-- the state of a walk: each pair with a constructor is at a shared term that is one
 pub record IsWalkState (S : Signature) (p : Point) (now : Pairs) : Type 0 where
   pub point : IsKeptPoint S p
   pub pairs : AreKeptPairs S (length p.context) now

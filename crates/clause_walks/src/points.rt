@@ -13,8 +13,8 @@ use unifier::{are_low, variables};
 /// How many variables a context may have; with more, memory is short.
 pub(crate) const MOST_LEVELS: usize = 2147400000;
 
-/// Where a walk or a tree is: the context and the goal there, a term of the context for each variable of the context that was
-/// given, and the terms of the columns, with what clauses were compared with.
+/// The point of a walk or a tree: its context and goal, a term of the context for each variable of the context that was given, and
+/// the terms of the columns, with what clauses were compared with.
 #[derive(Debug, Drop)]
 pub struct Point {
     pub context: Tele,

@@ -125,7 +125,7 @@ fn has_few(f: &Family, con: &Constructor) -> bool
     con.args.as_slice().len() <= 2000 && f.indices.as_slice().len() <= 2000
 }
 
-/// The problem of a constructor, after whose arguments the telescope and the left terms are.
+/// The problem of a constructor; the telescope and the left terms follow its arguments.
 fn problem_from(
     alloc: Global,
     ctx: &[Term],

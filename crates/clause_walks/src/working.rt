@@ -43,7 +43,7 @@ fn room_for(rooms: Rooms, count: usize) -> u32
     }
 }
 
-/// Whether a head form may be there: a constructor that is too high may not.
+/// Whether a head form may take the place: a constructor that is too high may not.
 fn has_room(sig: &Signature, room: u32, w: &Term) -> bool
     requires low { tree.height (tree_of w.now) ≤ 2000 }
     ensures { if_room result (tree_of w.now) ≡ spec.in_room room (tree_of w.now) (built.built_of sig.now (tree_of w.now)) }

@@ -26,7 +26,7 @@ pub fn component_for(alloc: Global, c: &Search, whole: &Term, tuple: Term) -> Re
     }
 }
 
-/// The same among the first `at` arguments of `whole`, of which those that are in `t` are the last.
+/// The same among the first `at` arguments of `whole`, the last of which are in `t`.
 #[cycle(component)]
 fn component_along(
     alloc: Global,

@@ -46,8 +46,7 @@ pub fn is_below(c: &Search, t: &Term) -> bool
     }
 }
 
-/// Whether it is at or below a direct argument among the first `at` arguments of a constructor, of which those that are in `t` are
-/// the last.
+/// Whether it is at or below a direct argument among the first `at` arguments of a constructor, the last of which are in `t`.
 #[cycle(is_below)]
 pub fn is_below_along(c: &Search, args: &[Arg], at: usize, t: &Term) -> bool
     ensures { result ≡ spec.is_below_along (search_of c.now) (map argument_shape args.now) at (tree_of t.now) }

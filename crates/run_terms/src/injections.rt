@@ -35,7 +35,7 @@ fn terms_at(alloc: Global, c: &Comparison, ps: &[Term]) -> Result<Tele, Stop>
     constructor_terms(alloc, built.family, built.number, ps, built.con)
 }
 
-/// What proves each equation of a group, after the equations of the arguments, at parameters that are there, or Deep.
+/// What proves each equation of a group, after the equations of the arguments, at the parameters that the equations have, or Deep.
 fn proofs_after(alloc: Global, c: &Comparison, count: u32, ps: &[Term]) -> Result<Tele, Stop>
     requires kinds { HaveKinds c.now.left.built.family (family_of c.now.left.built.record.now) 0 c.now.left.built.con.now.args }
     requires parameters { length ps.now ≡ length c.now.left.built.record.now.params }

@@ -77,7 +77,7 @@ fn constructor_name(f: &Family, number: u32) -> &[u8]
     name_at(f.cons.as_slice(), number)
 }
 
-/// What is between the family's name and the level: a mark, the constructor's name and a dot.
+/// The part between the family's name and the level: a mark, the constructor's name and a dot.
 fn constructor_mark(alloc: Global, mark: &[u8], name: &[u8]) -> Result<Vec<u8>, Stop>
     ensures { Gives (λ v. v.items) result (Ok (confusion.constructor_mark mark.now name.now)) }
 {

@@ -10,7 +10,7 @@ use Rattle.tree_translation.specs.Recursion.{Recursion}
 use Rattle.tree_translation.specs.RightSides.{Place, with_calls}
 use Rattle.tree_translation.proofs.Samples.{sample, nat_family, Nat, suc_term, own, plan_of}
 
--- a walk in a context of three numbers, of which the last one is nowhere
+-- a walk in a context of three numbers, of which the last one occurs nowhere
 abbrev walk : Walk
 walk = record {
   ctx = Nat ∷ Nat ∷ Nat ∷ [];
@@ -21,13 +21,13 @@ walk = record {
   dots = [];
 }
 
--- The first variable is under a constructor that both have; the second one under its parameter; the third one nowhere.
+-- The first variable occurs under a constructor that both have, the second one as a parameter of another, and the third one nowhere.
 places : mapping walk (suc_term (suc_term (Var 0)) ∷ App (Con 51 0) (Fam 48) ∷ []) (suc_term (Var 5) ∷ Var 7 ∷ [])
     ≡ suc_term (Var 0) ∷ Fam 48 ∷ Sort 0 ∷ []
 unfolding native.Mathlib.Decide.ℕ_discrete
 places = refl
 
--- where the leaf has no constructor, or another one, a later place says
+-- where the leaf has no constructor, or another one, a later place gives the term
 later_places : mapping walk (Var 3 ∷ Con 46 0 ∷ []) (suc_term (Var 5) ∷ Var 7 ∷ []) ≡ Var 5 ∷ Var 7 ∷ Sort 0 ∷ []
 unfolding native.Mathlib.Decide.ℕ_discrete
 later_places = refl

@@ -1,4 +1,4 @@
--- Replaying a run: each step gives the next state, and where it is in the term that is made. No term is reduced for it.
+-- Replaying a run: each step gives the next state, and its place in the term that is made. No term is reduced for it.
 use Rattle.std.specs.Prelude.{ℕ, ◌+◌, Option, Some, None, List, [], ◌∷◌, ◌++◌, length, map, get_or}
 use Rattle.theory.specs.Terms.{Term}
 use Rattle.theory.specs.Signatures.{Signature}

@@ -96,7 +96,7 @@ abbrev pub no_walk : Walk
 no_walk = record { ctx = []; goal = Sort 0; subst = []; terms = []; binds = []; dots = [] }
 
 -- the terms for the variables of a clause's right side: the leaf's bindings, or, for a helper's call over the context of the clause's own
--- walk, what the comparison with the leaf says
+-- walk, what the comparison with the leaf gives
 abbrev pub values_at : Plan → Part → (order : List ℕ) → (clause : ℕ) → (side : Term) → (substitution terms binds : List Term) → List Term
 values_at plan part order clause side substitution terms binds =
     cond (is_helper plan.base (head_of side))
