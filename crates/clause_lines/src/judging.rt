@@ -59,7 +59,7 @@ fn candidate_of(
     candidate(alloc, sig, name, c.part.level, goal_of(e), proof)
 }
 
-/// A proof with its candidate, or Deep where the candidate may not enter.
+/// A proof with its candidate, or Deep if the candidate may not enter.
 fn with_candidate(sig: &Signature, proof: Proof, draft: Draft) -> Result<Judgement, ReportStop>
     requires { AreKeptLeaves sig.now (leaves_in (proof_of proof)) }
     ensures answer { StandsFor IsUnforeseen stop_of judged_of result (spec.with_candidate sig.now (proof_of proof) (draft_of draft)) }

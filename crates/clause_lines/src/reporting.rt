@@ -115,10 +115,10 @@ fn clause_report(
 
 /// The line of clause `clause`, counted from 0, of a part of a plan, whose own walk is given.
 ///
-/// The equation of the clause holds by conversion, or a proof of it, with what the proof needs, is added to the signature. Where the
-/// checker denies the proof itself, and an earlier clause shadows the clause, the signature is as it was, and so it is after an
-/// error. The units that were spent stay spent. It is Deep where the equation, its walk or its proof is Deep, where a side of an equation
-/// names what is no entry, and where the proof may not enter.
+/// The equation of the clause holds by conversion, or a proof of it, with what the proof needs, is added to the signature. If the
+/// checker denies the proof itself, and an earlier clause shadows the clause, the signature stays as it was; so it does after an
+/// error. The units that were spent stay spent. The answer is Deep if the equation, its walk or its proof is Deep, if a side names
+/// what is no entry, or if the proof may not enter.
 pub fn report(
     alloc: Global,
     sig: &mut Signature,

@@ -27,7 +27,7 @@ HasRecursion S plan (Some r) =
     IsDefined S (motive_name plan.name) × (IsDefined S (step_name plan.name)
     × (1 < length plan.parts → IsDefined S (all_name r.family plan.level)))
 
--- The signature `before` was translated over; S has come from it by the plan's entries.
+-- S is a signature that has grown, by the plan's entries, from `before`, over which the plan was translated.
 pub record IsEntered (before S : Signature) (plan : Plan) : Type 0 where
   pub planned : IsPlanned before plan
   pub prefix : IsPrefix before S

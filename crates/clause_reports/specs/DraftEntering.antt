@@ -57,7 +57,7 @@ abbrev pub enter_axiom_k : Signature → (i m : ℕ) → (on : Bool) → ℕ →
 enter_axiom_k S i m true left = with_entry (entering S (AxiomKAt i m) (axiom_k_of S i m left))
 enter_axiom_k S i m false left = answers (Err (Halts Deep)) left
 
--- a generated entry; a name that none has is one of the signature
+-- a generated entry; if no entry is generated under a name, the name is one of the signature
 abbrev pub enter_generated : Entering → Signature → Option Generated → ℕ → Reporting Signature
 enter_generated enter S None left = answers (Ok S) left
 enter_generated enter S (Some g) left =

@@ -37,7 +37,7 @@ part_named function (suc k) = helper_name function (suc k)
 abbrev pub part_name : Plan → (k : ℕ) → List ℕ
 part_name plan k = part_named plan.name k
 
--- the function and its helpers have numbers of the signature in the place of those of the plan
+-- the function and its helpers get the numbers that they have in the signature, in place of those in the plan
 abbrev pub own_number : Signature → Plan → (c : ℕ) → ℕ
 own_number S plan c = cond (nat_lt c plan.base) c (number_of S (part_name plan (c - plan.base)))
 

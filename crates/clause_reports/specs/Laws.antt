@@ -1,4 +1,4 @@
--- What holds of the reports of clauses, in whatever way they are found.
+-- What holds of the reports of clauses, however they are found.
 use Rattle.std.specs.Prelude.{◌≡◌, ◌↔◌, ℕ, suc, ◌<◌, ◌≤◌, true, false, Ok, IfOk, List, All, length, map}
 use Rattle.theory.specs.Terms.{Term, Const}
 use Rattle.theory.specs.Telescopes.{applied}

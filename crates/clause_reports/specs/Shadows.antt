@@ -21,7 +21,8 @@ use Rattle.clause_reports.specs.Stops.{Reporting, answers, or_halts, halting}
 
 -- ---- the vector
 
--- The first leaf at which the sides do not convert and whose clause is an earlier one. The sides are compared first.
+-- The first leaf at which the sides do not convert and whose clause is an earlier one. The sides are compared before the
+-- clauses are.
 abbrev pub earlier_leaf : Signature → (clause : ℕ) → List (ℕ × Place) → ℕ → Reporting (Option (ℕ × Place))
 earlier_leaf S clause [] left = answers (Ok None) left
 earlier_leaf S clause (leaf ∷ leaves) left =

@@ -61,7 +61,7 @@ rejection S e d = record {
   reason = reason_text S d.reason;
 }
 
--- What comes of an entry that does not enter. Names that are new, and levels that fit, leave no other cause than a denial.
+-- Why an entry does not enter. Its names are new and its levels fit, so only a denial is left as the cause.
 abbrev pub not_entered : Signature → Entry → family.FamilyStop → ReportStop
 not_entered S e (family.Stopped stop) = Halts stop
 not_entered S e (family.Denied site d) = Rejected (rejection S e d)

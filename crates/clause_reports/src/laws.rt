@@ -1,7 +1,7 @@
 //! The laws of entering and of reports.
 ghost use Rattle.clause_reports.specs.Laws.{EnteringSpends, EnteringAdds, EnteringKeepsWellFormed, ReportSpends, ReportKeepsWellFormed, DefinitionalConverts, ProvedHasType, ShadowedMatches, AbsurdIsAbsurd};
 
-/// No units are given back where a draft enters.
+/// No units are given back when a draft enters.
 pub fn entering_spends()
     ensures { EnteringSpends }
 {}
@@ -11,7 +11,7 @@ pub fn entering_adds()
     ensures { EnteringAdds }
 {}
 
-/// A well-formed signature stays well formed where a draft enters.
+/// A well-formed signature stays well formed when a draft enters.
 pub fn entering_keeps_well_formed()
     ensures { EnteringKeepsWellFormed }
 {}
@@ -21,7 +21,7 @@ pub fn report_spends()
     ensures { ReportSpends }
 {}
 
-/// A well-formed signature stays well formed where a clause is reported.
+/// A well-formed signature stays well formed when a clause is reported.
 pub fn report_keeps_well_formed()
     ensures { ReportKeepsWellFormed }
 {}

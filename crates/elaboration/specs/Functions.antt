@@ -30,7 +30,7 @@ use Rattle.elaboration.specs.Walking.{Session, Opened, Walked, greatest_level, w
 
 -- ---- the type
 
--- the types of a number of products, and what they end in
+-- the types of a number of products, and the type after them
 abbrev pub first_domains : (count : ℕ) → Term → Telescope
 first_domains zero type = []
 first_domains (suc count) (Pi a b) = a ∷ first_domains count b

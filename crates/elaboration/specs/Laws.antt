@@ -1,4 +1,4 @@
--- What holds of a function by clauses, whatever way its parts are found.
+-- What holds of a function by clauses, however its parts are found.
 use Rattle.std.specs.Prelude.{ℕ, ◌≤◌, IfOk}
 use Rattle.theory.specs.Signatures.{Signature, IsPrefix}
 use Rattle.theory.specs.WellFormed.{IsWellFormed}

@@ -35,7 +35,7 @@ pub record FailingCall : Type 0 where
   pub owner : Owner
   pub call : List ℕ
 
--- What is shown is core text over the signature in which it arose.
+-- The texts that are shown are core text over the signature in which the refusal arose.
 pub data Refusal : Type 0 where
   Halts : Stop → Refusal
   IllTyped : Part → (place context reason : List ℕ) → Refusal

@@ -23,7 +23,7 @@ use Rattle.core_text.specs.ContextText.{context_text}
 use Rattle.core_text.specs.TermText.{term_text}
 use Rattle.elaboration.specs.Refusals.{Owner, owner_of, OfDot, OfSide, OfWith, OfGoal, Refusal, DotMismatch, SelfInType, Elaborating, answers, or_halts, halting, granted, level_too_high, walking}
 
--- the greatest level of a function or helper: what is generated for it has a type then
+-- the greatest level of a function or helper: up to it, what is generated for one has a type
 abbrev pub greatest_level : ℕ
 greatest_level = 12
 
@@ -102,7 +102,7 @@ if_low_level S owner (Sort J) = cond (nat_lt greatest_level J) (Err (level_too_h
 if_low_level S owner sort = Ok 0
 
 -- What opens a helper: the abstraction of the goal and of the types of the context over the scrutinee t, whose product has a level. The
--- helper's columns are those of the clause and the new variable.
+-- columns of the helper are those of the clause and then the new variable.
 pub record Opening : Type 0 where
   pub abstraction : Abstracted
   pub level : ℕ

@@ -6,7 +6,7 @@ pub fn function_spends()
     ensures { FunctionSpends }
 {}
 
-/// A well-formed signature stays well formed where a function is accepted.
+/// A well-formed signature stays well formed when a function is accepted.
 pub fn function_keeps_well_formed()
     ensures { FunctionKeepsWellFormed }
 {}

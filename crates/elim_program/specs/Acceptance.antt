@@ -54,12 +54,12 @@ pub record IsAccepted (words : List (List ℕ)) (bytes : List ℕ) (above : List
   pub so_far : Shows (prelude command.k) before (core_lines earlier)
   pub shown : Shows (prelude command.k) accepted.signature (core_lines lines)
 
--- where a whole line of the text says that a declaration is accepted, it is
+-- if a whole line of the text says that a declaration is accepted, it is accepted as `IsAccepted` says
 abbrev pub SaysAccepted : List (List ℕ) → List ℕ → List ℕ → Type 0
 SaysAccepted words bytes text =
     (above below : List (List ℕ)) (name : List ℕ) → lines_of text ≡ above ++ accepted_line name ∷ below → IsAccepted words bytes above name
 
--- that holds of each output that is defined, and of what is written of it
+-- the same for each output that is defined, and for what was written of it
 abbrev pub Acceptance : Type 0
 Acceptance =
     (words : List (List ℕ)) (bytes : List ℕ) (out : Output) → IsOutput words bytes out → (text rest : List ℕ) → text_of out.lines ≡ text ++ rest → SaysAccepted words bytes text

@@ -13,7 +13,7 @@ k_rule = record (new_rule (codes "k")) { long = Some (codes "k"); action = Some 
 abbrev pub fuel_rule : Rule
 fuel_rule = record (new_rule (codes "fuel")) { long = Some (codes "fuel"); parser = Some (Unsigned 0 18446744073709551615) }
 
--- a mode, `--k`, and `--fuel` with a number; the first word is no program's name
+-- a mode, `--k`, and `--fuel` with a number; the first word is not the program's name
 abbrev pub command_line : App
 command_line =
     let named = new_app (codes "elim") in

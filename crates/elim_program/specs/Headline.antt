@@ -48,7 +48,7 @@ pub record IsShown (words : List (List ℕ)) (bytes : List ℕ) (above : List (L
   pub shown : Shows (prelude k) before (core_lines earlier)
   pub lines : above ≡ head_lines k ++ (earlier ++ (lines_after before after ++ clause_lines after clauses))
 
--- where a whole line of the text says that a declaration is accepted, the lines above it show it
+-- if a whole line of the text says that a declaration is accepted, the lines above show this declaration
 abbrev pub IsHeadline : List (List ℕ) → List ℕ → List ℕ → Type 0
 IsHeadline words bytes text =
     (above below : List (List ℕ)) (name : List ℕ) → lines_of text ≡ above ++ accepted_line name ∷ below → IsShown words bytes above name

@@ -28,9 +28,9 @@ pub record Follows (out : Output) (before after : Option (List ℕ)) (status : S
   pub says : Says status out text
 
 -- A run follows an output that is defined for its words and the bytes, or it ended before it wrote anything: by a fault of
--- the source, or for want of memory. The headlines: where a whole line of what was written says that a declaration is
--- accepted, the lines above it show the declaration; where one says that an entry of a core file is verified, the entries
--- that are verified up to it are a signature by the rules.
+-- the source, or for want of memory. The headlines: if a whole line of what was written says that a declaration is
+-- accepted, the lines above it show the declaration. If one says that an entry of a core file is verified, the entries
+-- verified up to it are a signature by the rules.
 pub data Wrote (words : List (List ℕ)) (bytes : List ℕ) (before after : Option (List ℕ)) (status : Status) : Type 0 where
   nothing : Appends before after [] → (status ≡ ReadFault) ⊎ (status ≡ NoMemory) → Wrote words bytes before after status
   output : (out : Output) → IsOutput words bytes out → (follows : Follows out before after status) → IsHeadline words bytes follows.text → IsVerifyHeadline words bytes follows.text → Wrote words bytes before after status

@@ -42,8 +42,8 @@ abbrev pub unless_unbuilt : Option ℕ → Answer → Answer
 unless_unbuilt (Some offset) answer = Err (stop.NotYet offset)
 unless_unbuilt None answer = answer
 
--- What the bytes give, the first of these that fits: they are too many, they are no UTF-8, a token is none; and else what is
--- not built yet, or what the grammar says of the tokens.
+-- What the bytes give. The first of these decides: they are too many; they are no UTF-8; somewhere there is no token. Otherwise it
+-- is what is not built yet, or what the grammar says of the tokens.
 pub data Gives (bytes : List ℕ) : Answer → Type 0 where
   too_long : limit < length bytes → Gives bytes (Err stop.TooLong)
   not_utf8 : (offset : ℕ) → length bytes ≤ limit → IsValidUpTo bytes offset → Gives bytes (Err (stop.NotUtf8 offset))

@@ -33,7 +33,8 @@ pub record IsVerified (k : Bool) (text : List ℕ) (above : List (List ℕ)) (na
   pub has_k : IsTrue signature.has_k → IsTrue k
   pub lines : above ++ verified_line name ∷ [] ≡ head_lines k ++ map verified_line names
 
--- where a core file is to be verified, and a whole line of the text says that an entry is verified, it is
+-- if a core file is to be verified, and a whole line of the text says that an entry is verified, the core file has such an entry
+-- (`IsVerified`)
 abbrev pub IsVerifyHeadline : List (List ℕ) → List ℕ → List ℕ → Type 0
 IsVerifyHeadline words bytes text =
     (command : Command) → verify_asked words ≡ Some command → (above below : List (List ℕ)) (name : List ℕ)
@@ -49,7 +50,7 @@ SaysVerified words bytes text =
     (command : Command) → verify_asked words ≡ Some command → (above below : List (List ℕ)) (name : List ℕ)
     → lines_of text ≡ above ++ verified_line name ∷ below → IsVerifiedReady command.k bytes above name
 
--- that holds of each output that is defined, and of what is written of it
+-- the same for each output that is defined, and for what was written of it
 abbrev pub VerifiedIsReady : Type 0
 VerifiedIsReady =
     (words : List (List ℕ)) (bytes : List ℕ) (out : Output) → IsOutput words bytes out → (text rest : List ℕ) → text_of out.lines ≡ text ++ rest → SaysVerified words bytes text

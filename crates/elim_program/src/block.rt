@@ -59,7 +59,7 @@ pub(crate) fn refusal_block(alloc: Global, name: &Name, refusal: &Refusal) -> Re
     })
 }
 
-/// The lines where a function is refused for a reason of functions alone.
+/// The lines of a function that is refused for a reason that only functions have.
 pub(crate) fn function_refusal_block(
     alloc: Global,
     name: &Name,

@@ -237,7 +237,7 @@ fn write_rejected(
     write_denial(out, place, ctx, reason)
 }
 
-/// Writes why a walk or a case tree of a function ends, where that is why the function is refused.
+/// Writes why a walk or a case tree of a function ends, if the function is refused for that.
 fn write_ended(out: &mut Vec<u8>, refusal: &Refusal) -> Result<(), AllocError>
     ensures { OnOk result (out.new.items ≡ out.old.items ++ spec.ended_text (refusal_of refusal.now)) }
 {

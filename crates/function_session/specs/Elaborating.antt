@@ -35,7 +35,8 @@ abbrev pub without_lines : Result Declared session.Refusal → Result Elaborated
 without_lines (Ok d) = Ok (with_lines d [])
 without_lines (Err e) = Err (Declaration e)
 
--- Why a function that may spend `fuel` units is refused. Want of units, of height or of memory is no refusal of functions alone.
+-- Why a function that may spend `fuel` units is refused. Want of units, height or memory is never a refusal of functions
+-- alone.
 abbrev pub refused_function : (fuel : ℕ) → refusal.Refusal → Refused
 refused_function fuel (refusal.Halts e) = Declaration (stopped fuel e)
 refused_function fuel e = Function e

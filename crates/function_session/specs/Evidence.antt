@@ -24,8 +24,8 @@ pub record HasConverting (S : Signature) (answer : Result Equation Stop) : Type 
   pub is : answer ≡ Ok given
   pub converts : Converts S given.left given.right
 
--- Entry n of T proves the equation: it is a definition, under the clause's name, of the equation's closed type. The field `entry`
--- says so where the terms of the equation are over the entries of S; `given` and `is` hold in any case.
+-- Entry n of T proves the equation: it is a definition with the name of the clause's proof, and its type is the closed equation. The
+-- field `entry` says so where the terms of the equation are over the entries of S; `given` and `is` hold in any case.
 pub record IsProofEntry (S : Signature) (plan : Plan) (c : Reference) (T : Signature) (n : ℕ) : Type 0 where
   pub given : Equation
   pub is : equation_of S plan c.part c.clause c.walk ≡ Ok given

@@ -12,8 +12,8 @@ use std::alloc::AllocError;
 
 /// Why a declaration is refused.
 ///
-/// `Declaration` is a reason for which definitions and families are refused too; names, units, heights and memory are always one
-/// of these. `Function` is a reason of functions by clauses alone, and never a `Stop`.
+/// `Declaration` is a reason that definitions and families can have too; names, units, heights and memory are always one of
+/// these. `Function` is a reason of functions by clauses alone, and never a `Stop`.
 #[derive(Debug, Drop)]
 pub enum Refused {
     Declaration(elab_session::Refusal),

@@ -22,7 +22,7 @@ use Rattle.function_session.specs.Laws.{inner}
 use Rattle.resolve.specs.Functions.{Function}
 use Rattle.written_functions.specs.Fitting.{AllFit, AnyDot, IsTaken}
 
--- the signature over which a function's clauses are: the function is a provisional constant after the entries of S
+-- the signature over which a function's clauses are read: the function is a provisional constant after the entries of S
 abbrev pub with_own : Signature → Function → Signature
 with_own S f = provisional S f.name f.type
 
@@ -98,7 +98,7 @@ written_in S f terms t =
     let base = length f.before.entries in
     renumbered (λ c. cond (nat_lt c base) c (part_number S f (c - base))) (under_solution terms t)
 
--- A call of helper k at arguments for which its columns are these terms, up to conversion. With recursion there are more arguments.
+-- A call of helper k at arguments that give its columns these terms, up to conversion. With recursion there are more arguments.
 pub record IsCall (S : Signature) (f : FunctionAt) (k : ℕ) (us : List Term) (call : Term) : Type 0 where
   pub arguments : List Term
   pub more : List Term
@@ -159,7 +159,8 @@ pub record IsDefinitional (S : Signature) (f : FunctionAt) (c : Placed) : Type 0
   pub of : HasEquation S f c equation
   pub converts : Converts S equation.left equation.right
 
--- proved: entry n of T is a definition under the clause's name, whose type is the equation, letter for letter, also by the typing rules
+-- proved: entry n of T is a definition with the name of the clause's proof. Its type is the equation, letter for letter, and by the
+-- typing rules its body has this type.
 pub record IsProved (S : Signature) (f : FunctionAt) (c : Placed) (T : Signature) (n : ℕ) : Type 0 where
   pub equation : Equation
   pub of : HasEquation S f c equation

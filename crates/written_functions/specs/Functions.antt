@@ -1,4 +1,4 @@
--- What an accepted function by clauses is, without the way in which it is made.
+-- What an accepted function by clauses is, without how it is made.
 use Rattle.std.specs.Prelude.{◌≡◌, ℕ, Ok, List, []}
 use Rattle.theory.specs.Terms.{Term}
 use Rattle.theory.specs.Signatures.{Definition, Signature, IsPrefix}

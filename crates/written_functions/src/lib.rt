@@ -1,4 +1,4 @@
-//! What an accepted function by clauses is, without the way in which it is made.
+//! What an accepted function by clauses is, without how it is made.
 #![tactic(auto)]
 
 pub mod laws;
