@@ -1,4 +1,4 @@
--- Families of the code whose terms have no variables but those that they are over.
+-- Families of the code whose terms have no variables beyond those that they are over.
 use Rattle.std.proofs.Common.{◌≡◌, ℕ, zero, suc, ◌+◌, ◌<◌, ◌≤◌, List, [], ◌∷◌, ◌++◌, map, take, length, get_or, All, ap, sym, ◌∙◌, subst, subst₂, arith, add-one}
 use Rattle.std.proofs.lemmas.List.{length-map, map-append, length-take-le}
 use Rattle.std.proofs.lemmas.List.Elements.{All-nil, All-push, All-drop, All-map}

@@ -10,7 +10,7 @@ use Rattle.core_sig.specs.declared.entry.Found.TheVariants.{Entry}
 abbrev pub IsDraftNumber : Signature → ℕ → ℕ → ℕ → Type 0
 IsDraftNumber T base count c = ((c < base) × IsConstantNumber T c) ⊎ ((base ≤ c) × (c < base + count))
 
--- each constant is one of a draft, and each family and constructor number has its entry in T
+-- each constant is an entry or a name of the draft, and each family and constructor number has its entry in T
 abbrev pub HasDraftEntries : Signature → ℕ → ℕ → Term → Type 0
 HasDraftEntries T base count (Pi a b) = HasDraftEntries T base count a × HasDraftEntries T base count b
 HasDraftEntries T base count (Lam a b) = HasDraftEntries T base count a × HasDraftEntries T base count b

@@ -4,7 +4,7 @@ use Rattle.std.specs.List.{list_any}
 use Rattle.std.specs.Option.{option_map_or}
 use Rattle.theory.specs.Families.{Argument, Plain, Recursive, Constructor, Family, mentions}
 
--- family number n is in the argument elsewhere than at the end of a recursive argument's type
+-- family number n occurs in the argument, and not only at the end of a recursive argument's type
 abbrev pub offends : ℕ → Argument → Bool
 offends n (Plain type level) = mentions n type
 offends n (Recursive inner targets level) = list_any (mentions n) inner || list_any (mentions n) targets

@@ -29,7 +29,7 @@ pub record Shape : Type 0 where
 abbrev pub types_of : List ArgumentShape → Telescope
 types_of arguments = map (λ a. a.type) arguments
 
--- one thing for a plain argument, another for a recursive one with so many inner arguments
+-- one value for a plain argument, and another for a recursive one, by its number of inner arguments
 abbrev pub by_kind : {B : Type 0} → ArgKind → B → (ℕ → B) → B
 by_kind Plain plain recursive = plain
 by_kind (Recursive count) plain recursive = recursive count
@@ -44,7 +44,7 @@ abbrev pub HaveFewArguments : List ConstructorShape → Type 0
 HaveFewArguments [] = Unit {0}
 HaveFewArguments (c ∷ constructors) = (length c.arguments ≤ 2000) × HaveFewArguments constructors
 
--- at most 2,000 of each: a term over more is too high
+-- at most 2,000 of each: a term with more binders or arguments is too high
 pub record IsFew (f : Shape) : Type 0 where
   pub parameters : length f.parameters ≤ 2000
   pub indices : length f.indices ≤ 2000

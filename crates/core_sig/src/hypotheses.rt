@@ -33,7 +33,7 @@ pub fn applied_to_targets(
     }
 }
 
-/// Where a hypothesis is: the levels of the motive, of its argument and of the first inner argument, and how many indices
+/// The place of a hypothesis: the levels of the motive, of its argument and of the first inner argument, and how many indices
 /// the family has.
 #[derive(Clone, Copy)]
 struct Site {
@@ -43,7 +43,7 @@ struct Site {
     indices: u32,
 }
 
-/// The hypothesis for an argument with the type `ty`, which has `count` inner arguments.
+/// The hypothesis for an argument of the type `ty` with `count` inner arguments.
 fn hypothesis_from(
     alloc: Global,
     runs: &[Run],

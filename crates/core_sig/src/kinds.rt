@@ -10,7 +10,7 @@ use crate::{ArgKind, Family};
 use core_terms::Term;
 
 /// The kind of an argument with the type `ty`, after `at` other arguments, of a constructor of family `fam`. Of the
-/// family's record it reads how many parameters and indices there are. Takes no memory.
+/// family's record it reads only the numbers of parameters and indices. Takes no memory.
 pub fn kind_of(fam: u32, f: &Family, at: u32, ty: &Term) -> ArgKind
     requires { at + length f.now.params + tree.height (tree_of ty.now) < 2 ^ 32 }
     ensures { (g : pure.Family) → length g.parameters ≡ length f.now.params → length g.indices ≡ length f.now.indices → HasKind fam g at result (tree_of ty.now) }

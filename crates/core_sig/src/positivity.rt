@@ -51,7 +51,7 @@ fn offender(fam: u32, con: &Constructor) -> Option<u32>
     None
 }
 
-/// Whether the family occurs in the type elsewhere than at the end of a recursive argument's type.
+/// Whether the family occurs in the type, and not only at the end of a recursive argument's type.
 fn offends(fam: u32, arg: &Arg) -> bool
     ensures { (f : pure.Family) (at : ℕ) → HasKind fam f at arg.now.kind (tree_of arg.now.ty) → result ≡ offends fam (argument_of (length f.parameters) arg.now) }
 {

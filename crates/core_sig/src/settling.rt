@@ -16,7 +16,8 @@ use core_terms::{Items, Stop, Tele, Term, copy_name, copy_whole};
 use std::alloc::Global;
 
 /// The draft's entry with the numbers that its names have in the signature. A name that is no entry's, and a constant
-/// after the names, keeps its number. Where the names are constants of `T`, what is scoped over `T` but for them is scoped over it.
+/// after the names, keeps its number. If the names are constants of `T`, and the draft is scoped over `T` but for its
+/// names, the entry is scoped over `T`.
 pub fn settle(alloc: Global, sig: &Signature, draft: &Draft) -> Result<Entry, Stop>
     ensures answer { Gives entry_of result (Ok (renumbered_entry (settled_number sig.now draft.now.base draft.now.names) (entry_of draft.now.entry))) }
     ensures kinds { (n : ℕ) → HasEntryKinds n draft.now.entry → IfOk result (HasEntryKinds n) }

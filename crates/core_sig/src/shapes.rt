@@ -5,8 +5,8 @@ ghost use Rattle.core_sig.specs.Shapes.{HaveFewArguments, IsFew, argument_shape,
 use crate::{Arg, ArgKind, Constructor, Family};
 use core_terms::MAX_HEIGHT;
 
-/// Whether a family has at most 2,000 parameters, indices, constructors, and arguments of each constructor. A term over
-/// more is too high. Takes no memory.
+/// Whether a family has at most 2,000 parameters, indices, constructors, and arguments of each constructor. A term with
+/// more binders or arguments is too high. Takes no memory.
 pub fn is_few(f: &Family) -> bool
     ensures { IsTrue result ↔ IsFew (shape_of f.now) }
 {

@@ -72,7 +72,7 @@ are_low (t ∷ terms) = is_low t && are_low terms
 abbrev pub bounded_terms : List Term → Result (List Term) Stop
 bounded_terms terms = if are_low terms then Ok terms else Err Deep
 
--- the term that is meant, or Deep only where it is too high under so many binders, or want of memory
+-- The term that is meant; or want of memory; or Deep, but only if the term is too high under so many binders.
 abbrev pub MakesUnder : ℕ → Result code.Term Stop → Term → Type 0
 MakesUnder under (Ok t) meant = tree_of t ≡ meant
 MakesUnder under (Err e) meant = Unless (IsUnforeseen e) ((e ≡ Deep) × (2000 < under + height meant))

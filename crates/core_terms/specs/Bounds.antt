@@ -10,7 +10,6 @@ most_height = 2000
 abbrev pub most_free : ℕ
 most_free = 4294965295
 
--- 3 * 2 ^ 30: so many free variables at most has a term that is put under binders. No index of a term that is made passes 32
--- bits.
+-- 3 * 2 ^ 30: a term that is put under binders has at most so many free variables, so that no index passes 32 bits
 abbrev pub most_inner_variables : ℕ
 most_inner_variables = 3221225472

@@ -4,7 +4,8 @@ use Rattle.theory.specs.Terms.{Term}
 use Rattle.core_terms.specs.Patterns.{Pats}
 
 -- `Is pats binds right` is a clause: its patterns, the number of variables that they bind, and what comes after them.
--- That is a term, a scrutinee with clauses that have one pattern more, or nothing, where a pattern is absurd.
+-- That is a right side; or a `with`, which has a scrutinee and clauses with one pattern more; or nothing, if one of the
+-- patterns is absurd.
 mutual
   pub data Right : Type 0 where
     Side : Term → Right

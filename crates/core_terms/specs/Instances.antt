@@ -1,5 +1,5 @@
--- Instantiation as it is worked out: each value is lifted once, where it is put. The functions are joined to `inst` by a law
--- each.
+-- Instantiation as it is worked out: each value is lifted once, where it is put. For each function a law says that it is
+-- `inst`.
 use Rattle.std.specs.Prelude.{ℕ, ◌+◌, ◌-◌, nat_lt, cond, List, [], ◌∷◌}
 use Rattle.theory.specs.Terms.{Term, Var, Sort, Pi, Lam, App, Let, Const, Fam, Con, Elim, AxiomK, lift}
 use Rattle.theory.specs.Substitutions.{fill}

@@ -49,8 +49,8 @@ abbrev pub bind : Binder → Term → Term → Term
 bind Product a b = Pi a b
 bind Function a b = Lam a b
 
--- (tele) -> end, or \tele. end, over a telescope of a record: each type is over one variable of the record more, and is one
--- binder further in
+-- (tele) -> end, or \tele. end, over a telescope of a record: each type is over one variable of the record more than
+-- the one before it, and one binder further in
 abbrev pub over : (binder : Binder) (runs : List (ℕ × ℕ)) (size depth : ℕ) → Telescope → Term → Term
 over binder runs size depth [] end = end
 over binder runs size depth (a ∷ tele) end =

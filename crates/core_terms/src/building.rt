@@ -112,7 +112,7 @@ pub fn into_spine(alloc: Global, t: Term) -> Result<Vec<Term>, Stop>
     }
 }
 
-/// What is applied at the head of a term.
+/// The head of a term: what its arguments are applied to.
 pub fn head(t: &Term) -> &Term
     ensures { tree_of result.now ≡ head_of (tree_of t.now) }
 {
@@ -122,7 +122,7 @@ pub fn head(t: &Term) -> &Term
     }
 }
 
-/// How many arguments the head is applied to, or 2,001 where these are more.
+/// How many arguments the head is applied to, or 2,001 if there are more than 2,000.
 #[tactic(auto, using(crate::proofs::Builders::length_snoc))]
 pub fn spine_len(t: &Term) -> u32
     ensures { result ≡ min (length (spine_of (tree_of t.now))) 2001 }

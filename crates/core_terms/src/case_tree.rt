@@ -34,8 +34,8 @@ pub enum Origin {
 
 /// What becomes of one constructor at a split.
 ///
-/// Either the equations of its indices are absurd, which the last step shows in the context and at the sides that are
-/// given, or they are solved, and the tree goes on. `origin` has one item for each variable of the new context.
+/// Either the equations of its indices are absurd: the last step shows this, in the context and at the sides that are
+/// given. Or they are solved, and the tree goes on. `origin` has one item for each variable of the new context.
 #[cycle(trees)]
 #[derive(Debug, Drop)]
 pub enum Branch {

@@ -9,7 +9,7 @@ use crate::copying::copy_whole;
 use crate::{MAX_HEIGHT, Stop, Term};
 use std::alloc::Global;
 
-/// So many levels from a level on: `(start, count)`.
+/// A number of levels from a level on: `(start, count)`.
 pub type Run = (u32, u32);
 
 /// The variable with a level, at a depth. The outermost binder has level 0.
@@ -19,7 +19,7 @@ pub fn variable(depth: u32, level: u32) -> Term
     Term::Var((depth as u64).saturating_sub(level as u64 + 1) as u32)
 }
 
-/// Where a level of a record lies among runs of levels.
+/// The level that a level of a record has among runs of levels.
 fn level_at(runs: &[Run], level: u32) -> u64
     ensures is { result ≡ spec.level_at runs.now level }
     ensures bound { result < 2 ^ 33 }

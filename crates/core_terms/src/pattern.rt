@@ -14,7 +14,7 @@ pub enum Pat {
     Absurd,
 }
 
-/// What a clause says: a right side, a `with` of a scrutinee and clauses that have one pattern more, or nothing, where
+/// What a clause says: a right side; or a `with`, which has a scrutinee and clauses with one pattern more; or nothing, if
 /// one of the patterns is absurd.
 #[cycle(clauses)]
 #[derive(Debug, Drop)]

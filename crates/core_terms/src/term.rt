@@ -105,7 +105,7 @@ impl Term {
     }
 }
 
-/// The height of a term whose highest part has height `part`, where both stop after `MAX_HEIGHT`.
+/// The height of a term whose highest part has the height `part`; both numbers stop at `MAX_HEIGHT + 1`.
 pub(crate) fn above(part: u32) -> u32
     requires { part ≤ most_height + 1 }
     ensures { result ≡ min (1 + part) (most_height + 1) }

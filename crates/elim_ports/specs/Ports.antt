@@ -12,12 +12,12 @@ pub record Output : Type 0 where
   pub written : List ℕ
   pub calls : Calls
 
--- a source over a reader: the bytes that the reader has left, where it says them, and how many reads failed
+-- a source over a reader: the bytes that the reader has left, if it shows them, and how many reads failed
 pub record OverReader : Type 0 where
   pub remaining : Option (List ℕ)
   pub faults : ℕ
 
--- a sink over a writer: the bytes that the writer holds, where it says them, and how many writes failed
+-- a sink over a writer: the bytes that the writer holds, if it shows them, and how many writes failed
 pub record OverWriter : Type 0 where
   pub contents : Option (List ℕ)
   pub faults : ℕ

@@ -7,10 +7,10 @@ use crate::PortError;
 
 /// Where bytes go.
 pub trait Sink {
-    // The bytes that were written, where the sink says them.
+    // The bytes that were written, if the sink shows them.
     ghost written: { Self → Option (List ℕ) };
 
-    // How many writes failed; it stays at its last value once it is there.
+    // How many writes failed; it stays at its greatest value once it has reached it.
     ghost faults: { Self → ℕ };
 
     /// Writes bytes from the front of `from`, and answers how many. To take nothing of a piece that is not empty is a

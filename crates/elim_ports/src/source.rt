@@ -8,10 +8,10 @@ use crate::PortError;
 
 /// Where bytes come from.
 pub trait Source {
-    // The bytes still to come, where the source says them.
+    // The bytes still to come, if the source shows them.
     ghost left: { Self → Option (List ℕ) };
 
-    // How many reads failed; it stays at its last value once it is there.
+    // How many reads failed; it stays at its greatest value once it has reached it.
     ghost faults: { Self → ℕ };
 
     /// Moves bytes into the front of `into`, and answers how many. For a slice that is not empty, 0 is the end.

@@ -1,4 +1,4 @@
--- The record of a family in a scoped signature has no variables but those that its parts are over.
+-- The record of a family in a scoped signature has no variables beyond those that its parts are over.
 use Rattle.std.proofs.Common.{ℕ, ◌+◌, ◌≤◌, List, [], ◌∷◌, length}
 use Rattle.std.proofs.lemmas.List.Elements.{All-weaker}
 use Rattle.std.specs.List.{All}

@@ -1,4 +1,4 @@
--- What tests and look-ups say.
+-- What follows from tests and look-ups.
 use Rattle.std.proofs.Common.{◌≡◌, ℕ, Bool, true, false, ◌&&◌, Option, Some, None, option_and_then, slice_get, refl, arith}
 use Rattle.theory.specs.Families.{Family}
 use Rattle.theory.specs.Signatures.{Entry, FamilyOf, EliminatorAt, AxiomKAt, Definition, Signature, IsEntryAt}
@@ -15,6 +15,6 @@ family-in (Some (AxiomKAt i m)) g e = grind arith
 family-in (Some (Definition name type body)) g e = grind arith
 family-in None g e = grind arith
 
--- a family that is found is there
+-- the signature has each family that is found
 pub family-found : (S : Signature) (n : ℕ) (f : Family) → family_at S n ≡ Some f → IsEntryAt S n (FamilyOf f)
 family-found S n f e = family-in (slice_get S.entries n) f e

@@ -12,8 +12,8 @@ use Rattle.kernel_reduce.specs.Steps.{step_of}
 abbrev pub nesting : ℕ
 nesting = 2000
 
--- 3 * 2 ^ 30 - 2000: so many at most has a term that a call is given, which is more than 2 ^ 31. As many binders more as calls
--- may be open be around a term inside.
+-- 3 * 2 ^ 30 - 2000, which is more than 2 ^ 31: a term that a call is given has at most so many free variables. A term inside
+-- may be under as many binders more as calls may be open.
 abbrev pub most_variables : ℕ
 most_variables = 3221223472
 

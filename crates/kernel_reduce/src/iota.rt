@@ -16,7 +16,7 @@ use core_terms::{
 };
 use std::alloc::Global;
 
-/// The recursor at the targets that are in `ty`, which ends in a family at `params` parameters and these targets.
+/// The recursor at the targets in `ty`, which ends in a family at `params` parameters and these targets.
 fn call(
     alloc: Global,
     recursor: &Term,

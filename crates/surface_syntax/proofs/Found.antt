@@ -117,7 +117,7 @@ not_past {front} zs j passes at q = read (result_file (past j) (front ++ zs) (wa
     read : Text (past j) (front ++ zs) → ⊥
     read (text ds file) = at.begins ds file
 
--- from where a run is in a text that has something too deep at a place: that is awaited
+-- from the place of a run in a text that has something too deep at a place: that is awaited
 data Mark (s : m.State) (zs : List Lexeme) (i : ℕ) : Type 0 where
   mark : (d : ℕ) → ahead s ≡ Some d → limit d 0 ≡ false → begun (length zs) s ≡ i → Mark s zs i
 

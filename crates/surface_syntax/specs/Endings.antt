@@ -1,4 +1,4 @@
--- Where a term ends: with the terms around it of which it is the last part, or where it is.
+-- Where a term ends: with the terms around it of which it is the last part, or at its own end.
 use Rattle.std.specs.Prelude.{◌≡◌, ◌<◌, ℕ, ◌+◌, Result, Ok, Err, option_map}
 use Rattle.surface_syntax.specs.Trees as tree
 use Rattle.surface_syntax.specs.Machine as machine
@@ -29,7 +29,7 @@ outside (machine.Body b k) = outside k + 1
 outside (machine.LetBody w a v k) = outside k + 1
 outside _ = 0
 
--- a term around this one ends as this one does, or this one ends where it is
+-- a term around this one ends as this one does, or this one is the last part of no other
 abbrev pub Leads : Result Outward Halt → tree.Surf → machine.Term_in → Type 0
 Leads (Ok (Further t k)) u c = (outside (term_in_of k) < outside c) × ((x : Lexeme) → machine.term_end (surf_of t) (term_in_of k) x ≡ machine.term_end u c x)
 Leads (Ok (Here t e)) u c = (surf_of t ≡ u) × (ending_of e ≡ c)

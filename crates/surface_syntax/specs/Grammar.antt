@@ -60,7 +60,7 @@ module _ (allows : ℕ → ℕ → Bool) where
       end : {d : ℕ} {ts : List Lexeme} → Atoms d ts ts []
       next : {d : ℕ} {ts us rest : List Lexeme} {a : tree.Surf} {args : List tree.Surf} → Atom d ts us a → Atoms d us rest args → Atoms d ts rest (a ∷ args)
 
-  -- `Pat d ts rest p n`: `ts` are a pattern inside `d` other productions in which `( )` is `n` times, and then `rest`
+  -- `Pat d ts rest p n`: `ts` are a pattern inside `d` other productions, and then `rest`; `( )` occurs `n` times in the pattern
   mutual
     pub data Pat : ℕ → List Lexeme → List Lexeme → tree.Pat → ℕ → Type 0 where
       plain : {d : ℕ} {w : Word} {ts : List Lexeme} → May d (x.Plain w ∷ ts) → Pat d (x.Plain w ∷ ts) ts (tree.Name w) 0
@@ -77,7 +77,7 @@ module _ (allows : ℕ → ℕ → Bool) where
       end : {d : ℕ} {ts : List Lexeme} → Pats d ts ts [] 0
       next : {d n m : ℕ} {ts us rest : List Lexeme} {p : tree.Pat} {ps : List tree.Pat} → Pat d ts us p n → Pats d us rest ps m → Pats d ts rest (p ∷ ps) (n + m)
 
-  -- A clause has a right side where no `( )` is in its patterns, and none where it occurs once.
+  -- A clause has a right side if no `( )` is in its patterns, and has none if `( )` occurs once.
   mutual
     pub data Clause : ℕ → List Lexeme → List Lexeme → tree.Clause → Type 0 where
       side : {d : ℕ} {f : Word} {ts us rest : List Lexeme} {ps : List tree.Pat} {t : tree.Surf} → May d (x.Plain f ∷ ts) →

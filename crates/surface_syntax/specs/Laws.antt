@@ -30,6 +30,6 @@ GoesTooDeepWithTheGrammar = (ts : List Lexeme) (n : ℕ) → (run limit Start ts
 abbrev pub NestedComesFirst : Type 0
 NestedComesFirst = (ts : List Lexeme) (n m : ℕ) → GoesWrong ts n → IsNested ts m → n ≤ m
 
--- in a text of the language it is where the first that is inside 2,000 others begins
+-- in a text of the language, the place of a refusal for depth is where the first production that is inside 2,000 others begins
 abbrev pub NestedInAText : Type 0
 NestedInAText = (ts : List Lexeme) (ds : List tree.Decl) (n : ℕ) → File every ts ds → IsNested ts n ↔ IsTooDeepAt ts n

@@ -167,7 +167,7 @@ pub(crate) fn with_binder(
     Ok(telescope)
 }
 
-/// A head after which no pattern is yet.
+/// A head that no pattern follows yet.
 pub(crate) fn behind(alloc: Global, depth: u32, head: Word) -> Headed
     ensures { headed_of result ≡ machine.behind depth head }
 {

@@ -64,7 +64,7 @@ pub(crate) fn clause_end(
     }
 }
 
-/// After the `}` that ends the constructors of a family that others come before.
+/// After the `}` that ends the constructors of a family after others.
 fn next_member_end(families: Families, member: SurfMember) -> Result<Step, Halt>
     ensures { Follows result (machine.to (machine.In_mutual (machine.MembersEnd (record { params = map param_of families.params; members = map member_of families.members ++ member_of member ∷ [] })))) }
 {

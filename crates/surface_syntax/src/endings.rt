@@ -15,7 +15,7 @@ use crate::{Lexeme, Surf, Word};
 use core_terms::Items;
 use std::alloc::Global;
 
-/// Where a term is that is not the last part of another.
+/// The place of a term that is not the last part of another.
 #[derive(Drop)]
 pub(crate) enum Ending {
     Whole(Part),
@@ -28,7 +28,7 @@ pub(crate) enum Ending {
     Scrutinee(Headed, Box<ClausesIn>),
 }
 
-/// A term that ends where another one ends: the one around it, or where it is if it is no last part.
+/// What ends where a term ends: the term around it, or that term itself if it is no last part.
 #[derive(Drop)]
 pub(crate) enum Outward {
     Further(Surf, TermIn),

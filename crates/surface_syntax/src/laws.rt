@@ -26,7 +26,7 @@ pub fn nested_comes_first()
     ensures { NestedComesFirst }
 {}
 
-/// In a text of the language, what is too deep is where the first that is inside 2,000 others begins.
+/// In a text of the language, the place of a refusal for depth is where the first production that is inside 2,000 others begins.
 pub fn nested_in_a_text()
     ensures { NestedInAText }
 {}

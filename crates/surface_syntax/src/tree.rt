@@ -23,7 +23,7 @@ pub enum Surf {
     Pi(Items<Binder>, Box<Surf>),
     Arrow(Box<Surf>, Box<Surf>),
     App(Box<Surf>, Items<Surf>),
-    /// The name, its annotation, its value, and the term in which it is.
+    /// The name, its annotation, its value, and the term in which it holds.
     Let(Word, Box<Surf>, Box<Surf>, Box<Surf>),
     Sort(u8),
     /// A plain or a dotted name.

@@ -57,7 +57,7 @@ is_definition : Entry → Type 0
 is_definition (Definition name type body) = Unit {0}
 is_definition _ = ⊥
 
--- an entry that is no definition is in front of one
+-- an entry other than a definition comes before one that is pushed
 earlier : (S : Signature) (name : List ℕ) (type body : Term) (n : ℕ) (x : Entry) → ¬ (is_definition x) → IsEntryAt (pushed S (Definition name type body)) n x → IsEntryAt S n x
 unfolding is_definition
 earlier S name type body n x other at = elim (entry_of-pushed S (Definition name type body) n x at) [

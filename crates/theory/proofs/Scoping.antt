@@ -14,7 +14,7 @@ use Rattle.theory.proofs.FreeVariables.{free_before_subst}
 use Rattle.theory.proofs.FreeInstances.{free_of-weaken_by, free_of-put}
 use Rattle.theory.proofs.Shifts.{put-is_subst}
 
--- a derivation is in a context
+-- a derivation has a well-formed context
 pub context_of : {S : Signature} {G : Context} {t a : Term} → Has S G t a → IsContext S G
 context_of (variable n context at) = context
 context_of (sort i context limit) = context

@@ -48,8 +48,8 @@ pub data Converts (S : Signature) : Term → Term → Type 0 where
   forwards : {t u v : Term} → Step S t u → Converts S u v → Converts S t v
   backwards : {t u v : Term} → Step S u t → Converts S u v → Converts S t v
 
--- the least transitive relation that contains conversion, the order of sorts, and products with convertible domains
--- over codomains that it relates
+-- the least transitive relation that contains conversion and the order of sorts, and that relates products whose domains
+-- convert and whose codomains it relates
 pub data Below (S : Signature) : Term → Term → Type 0 where
   converts : {a b : Term} → Converts S a b → Below S a b
   sorts : {i j : ℕ} → i ≤ j → Below S (Sort i) (Sort j)

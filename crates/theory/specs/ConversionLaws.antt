@@ -1,4 +1,4 @@
--- The laws of steps, conversion and below: closed under the formers of terms, and kept by `lift` and `subst`.
+-- Laws of steps, conversion and `Below`: the formers of terms keep them, and so do `lift` and `subst`.
 use Rattle.std.specs.Prelude.{ℕ}
 use Rattle.theory.specs.Terms.{Term, Pi, Lam, App, Let, lift, subst}
 use Rattle.theory.specs.Signatures.{Signature, HasClosedBodies}
@@ -25,7 +25,7 @@ ConvertsLets =
     (S : Signature) (a a' t t' b b' : Term) →
     Converts S a a' → Converts S t t' → Converts S b b' → Converts S (Let a t b) (Let a' t' b')
 
--- Where bodies are closed, a lift and a substitution keep steps, conversion and below.
+-- If bodies are closed, a lift and a substitution keep steps, conversion and `Below`.
 
 abbrev pub StepOfLift : Type 0
 StepOfLift =
@@ -40,7 +40,7 @@ ConvertsOfLift =
     (S : Signature) → HasClosedBodies S → (by from : ℕ) (t u : Term) →
     Converts S t u → Converts S (lift t by from) (lift u by from)
 
--- convertible terms with convertible terms put for a variable
+-- the same where convertible terms are put for a variable in convertible terms
 abbrev pub ConvertsOfSubst : Type 0
 ConvertsOfSubst =
     (S : Signature) → HasClosedBodies S → (at : ℕ) (t t' u u' : Term) →

@@ -67,7 +67,7 @@ hypotheses s recursor (Recursive inner targets level ∷ arguments) (u ∷ us) =
     hypothesis s recursor u inner targets ∷ hypotheses (extend s u) recursor arguments us
 hypotheses s recursor _ _ = []
 
--- stands for a variable that no record has
+-- a variable that no record has is replaced by this
 abbrev pub no_variable : ℕ → Term
 no_variable n = Sort 0
 

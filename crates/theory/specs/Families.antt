@@ -71,7 +71,7 @@ constructor_type n f c =
     products f.parameters (products (constructor_telescope n f c)
     (applied (weaken_by (length c.arguments) (family_head n f)) c.targets))
 
--- Positivity: argument types lack the family, but for the end of a recursive argument's type, and so do the targets.
+-- Positivity: neither argument types nor targets mention the family, except that a recursive argument's type ends in it.
 
 -- a symbol of family n occurs in the term
 abbrev pub mentions : ℕ → Term → Bool

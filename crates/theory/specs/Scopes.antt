@@ -1,4 +1,4 @@
--- Records without free variables: each term has no variables but those that it is over.
+-- Records without free variables: each term has no variables beyond those that it is over.
 use Rattle.std.specs.Prelude.{ℕ, ◌+◌, ◌≤◌, List, [], ◌∷◌, length}
 use Rattle.std.specs.List.{All}
 use Rattle.theory.specs.Terms.{free_of}

@@ -12,7 +12,7 @@ use Rattle.theory.specs.WellFormed.{HasLevels, IsConstructor, IsDefinition, IsEn
 abbrev pub PushIsLonger : Type 0
 PushIsLonger = (S : Signature) (e : Entry) → IsPrefix S (pushed S e)
 
--- and so are its first entries of it
+-- and its first entries are a prefix of it
 abbrev pub FirstEntriesArePrefix : Type 0
 FirstEntriesArePrefix = (S : Signature) (n : ℕ) → IsPrefix (first_entries S n) S
 
@@ -76,7 +76,7 @@ SoFarIsTyped = (S : Signature) → IsWellFormedSoFar S → IsTyped S
 abbrev pub EmptyIsWellFormed : Type 0
 EmptyIsWellFormed = (k : Bool) → IsWellFormed (record { entries = []; has_k = k })
 
--- pushing an entry that is well formed over the signature and brings new names
+-- an entry that is well formed over the signature and brings new names may be pushed
 abbrev pub PushIsWellFormed : Type 0
 PushIsWellFormed =
     (S : Signature) (e : Entry) →

@@ -1,5 +1,5 @@
--- Scoping: numbers stand for something. A term is scoped over n variables where each free variable is below n and each
--- constant, family and constructor that it names is in the signature.
+-- A term is scoped over n variables if each free variable is below n and each constant, family and constructor that it
+-- names is in the signature.
 use Rattle.std.specs.Prelude.{◌≡◌, ◌⊎◌, ℕ, ◌+◌, ◌≤◌, ◌<◌, List, [], ◌∷◌, length, All}
 use Rattle.theory.specs.Terms.{Term, Pi, Lam, App, Let, Const, Fam, Con, Elim, free_of, top}
 use Rattle.theory.specs.Telescopes.{Context, Telescope}
@@ -40,7 +40,7 @@ abbrev pub IsScopedTelescope : Signature → ℕ → Telescope → Type 0
 IsScopedTelescope S n [] = Unit {0}
 IsScopedTelescope S n (a ∷ tele) = IsScoped S n a × IsScopedTelescope S (n + 1) tele
 
--- the same of a context, whose types are the other way round
+-- the same of a context, which lists its types from the nearest one on
 abbrev pub IsScopedContext : Signature → Context → Type 0
 IsScopedContext S [] = Unit {0}
 IsScopedContext S (a ∷ G) = IsScoped S (length G) a × IsScopedContext S G
@@ -61,7 +61,7 @@ pub record IsScopedConstructor (S : Signature) (n count : ℕ) (c : Constructor)
   pub targets : All (IsScoped S (n + length c.arguments)) c.targets
   pub target_count : length c.targets ≡ count
 
--- Entry n of S, a family: it is over the entries before it, and its constructors may name the family too.
+-- Entry n of S is a family: its terms are over the entries before it, and its constructors may also name the family.
 pub record IsScopedFamily (S : Signature) (n : ℕ) (f : Family) : Type 0 where
   pub parameters : IsScopedTelescope (first_entries S n) 0 f.parameters
   pub indices : IsScopedTelescope (first_entries S n) (length f.parameters) (index_types f)

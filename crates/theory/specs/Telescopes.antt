@@ -15,7 +15,7 @@ abbrev pub context_behind : Context → Telescope → Context
 context_behind G [] = G
 context_behind G (a ∷ tele) = context_behind (a ∷ G) tele
 
--- the nearest types of a context where `by` types are put in after them
+-- the nearest types of a context, after `by` types are put in beyond them
 abbrev pub lift_context : Context → ℕ → Context
 lift_context [] by = []
 lift_context (a ∷ near) by = lift a by (length near) ∷ lift_context near by

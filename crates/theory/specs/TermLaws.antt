@@ -71,7 +71,7 @@ LiftOfScoped = (t : Term) (by from : ℕ) → free_of t ≤ from → lift t by f
 abbrev pub SubstOfScoped : Type 0
 SubstOfScoped = (t : Term) (at : ℕ) (u : Term) → free_of t ≤ at → subst t at u ≡ t
 
--- a lift moves the bound on the free variables where it moves any of them
+-- a lift raises the bound on the free variables by `by`, if it moves any of them
 abbrev pub FreeOfLift : Type 0
 FreeOfLift =
     (t : Term) (by from : ℕ) →
@@ -82,7 +82,7 @@ abbrev pub FreeOfSubst : Type 0
 FreeOfSubst =
     (t : Term) (at : ℕ) (u : Term) (n : ℕ) → at ≤ n → free_of t ≤ n + 1 → free_of u ≤ n → free_of (subst t at u) ≤ n
 
--- and only such a one
+-- and no other term
 abbrev pub FreeBeforeSubst : Type 0
 FreeBeforeSubst =
     (t : Term) (at : ℕ) (u : Term) (n : ℕ) → at ≤ n → free_of (subst t at u) ≤ n → free_of t ≤ n + 1

@@ -9,11 +9,11 @@ use Rattle.theory.specs.Generation.{Parts}
 use Rattle.theory.specs.Typing.{IsContext, Has, HasSort, IsType}
 use Rattle.theory.specs.WellFormed.{IsTyped}
 
--- a derivation is in a well-formed context
+-- the context of a derivation is well formed
 abbrev pub ContextOfDerivation : Type 0
 ContextOfDerivation = (S : Signature) (G : Context) (t a : Term) → Has S G t a → IsContext S G
 
--- its term has no variables but those of the context
+-- the term of a derivation has no variables but those of the context
 abbrev pub TermScoped : Type 0
 TermScoped = (S : Signature) (G : Context) (t a : Term) → Has S G t a → free_of t ≤ length G
 
@@ -31,7 +31,7 @@ Renames r G D =
     (n : ℕ) (a : Term) → slice_get G n ≡ Some a
     → (b : Term) × (slice_get D (r n) ≡ Some b) × (weaken_by (r n + 1) b ≡ ren r (weaken_by (n + 1) a))
 
--- s puts for each variable of G a term that has in D the instantiated type
+-- s puts for each variable of G a term that has in D the type of the variable, instantiated by s
 abbrev pub Replaces : Signature → (ℕ → Term) → Context → Context → Type 0
 Replaces S s G D = (n : ℕ) (a : Term) → slice_get G n ≡ Some a → Has S D (s n) (inst s (weaken_by (n + 1) a))
 
@@ -77,7 +77,7 @@ TelescopeFormation =
     (S : Signature) (G : Context) (tele : Telescope) (body : Term) →
     IsContext S (context_behind G tele) → HasSort S (context_behind G tele) body → HasSort S G (products tele body)
 
--- and only there
+-- and only in that case
 abbrev pub TelescopeGeneration : Type 0
 TelescopeGeneration =
     (S : Signature) (G : Context) (tele : Telescope) (body : Term) → HasSort S G (products tele body) →

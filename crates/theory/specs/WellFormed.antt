@@ -33,7 +33,7 @@ pub record IsConstructor (S : Signature) (n : ℕ) (f : Family) (c : Constructor
   pub targets : length c.targets ≡ length f.indices
   pub argument_targets : All (HasTargets f) c.arguments
 
--- A family over the signature before it. Its constructors are typed where it has none yet.
+-- A family over the signature before it. Its constructors are typed over an entry of it that has none yet.
 pub record IsFamily (S : Signature) (f : Family) : Type 0 where
   pub level : f.level < top
   pub type : HasSort S [] (family_type f)

@@ -76,7 +76,7 @@ pub fn free_of_lift()
     ensures { FreeOfLift }
 {}
 
-/// A substitution for one of n + 1 variables leaves n.
+/// A substitution for one of n + 1 variables leaves n of them.
 pub fn free_of_subst()
     ensures { FreeOfSubst }
 {}

@@ -1,7 +1,7 @@
 //! The laws of derivations, without confluence, normalisation or subject reduction.
 ghost use Rattle.theory.specs.TypingLaws.{ContextOfDerivation, TermScoped, TypeScoped, BodiesClosed, Renaming, Weakening, WeakeningOfContexts, Instantiation, Substitution, Generation, TelescopeFormation, TelescopeGeneration, Validity, Subsumption, FunctionTypes};
 
-/// A derivation is in a well-formed context.
+/// The context of a derivation is well formed.
 pub fn context_of_derivation()
     ensures { ContextOfDerivation }
 {}
@@ -56,7 +56,7 @@ pub fn telescope_formation()
     ensures { TelescopeFormation }
 {}
 
-/// They have one only there.
+/// They have one only in that case.
 pub fn telescope_generation()
     ensures { TelescopeGeneration }
 {}
