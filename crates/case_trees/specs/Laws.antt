@@ -159,8 +159,8 @@ TreeStands = OfTree (λ S start clauses t. StandsAt S start t)
 abbrev pub SplitsAsked : Type 0
 SplitsAsked = OfTree (λ S start clauses t. EachSplit (IsAskedFor S start clauses) t)
 
--- a substitution has a term for each variable of the starting context: it leads from the first goal and the first terms to those
--- that are there
+-- A substitution has a term for each variable of the starting context. It takes the first goal to the given one, and the first terms to
+-- terms that convert to the given ones.
 pub record LeadsTo (S : Signature) (start : Point) (goal : Term) (s us : List Term) : Type 0 where
   pub whole : length s ≡ length start.context
   pub goal_there : under_solution s start.goal ≡ goal

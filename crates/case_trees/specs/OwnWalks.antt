@@ -42,7 +42,7 @@ own_outcome clause p pairs (Absurd steps context u v) = Err (stop.Impossible cla
 own_outcome clause p pairs (Stuck steps context u v why) =
     Ok (Passed (record { context = context; left = u; right = v; why = why }))
 
--- The pattern's constructor is there, where the pattern is scoped.
+-- If the pattern is scoped, its constructor exists.
 abbrev pub run_own : Signature → (clause : ℕ) → Point → Pairs → (x : ℕ) → Looked → (number : ℕ) → Option Constructor → ℕ → Stopping (Look Turn)
 run_own S clause p pairs x found number None left = answers (Err (stop.WrongConstructor clause p.context found.type)) left
 run_own S clause p pairs x found number (Some c) left =

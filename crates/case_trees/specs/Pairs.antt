@@ -55,7 +55,7 @@ abbrev mutual
   some_clashes nil = false
   some_clashes (cons pair pairs) = clashes pair || some_clashes pairs
 
--- the first of two that is there
+-- the first of two, or the later one if the first is None
 abbrev pub or_later : {A : Type 0} → Option A → Option A → Option A
 or_later (Some a) later = Some a
 or_later None later = later

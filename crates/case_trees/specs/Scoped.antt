@@ -25,7 +25,7 @@ pub record IsScopedPoint (S : Signature) (p : Point) : Type 0 where
   pub terms : All (IsScoped S (length p.context)) p.terms
 
 abbrev mutual
-  -- each constructor in a pattern is there, and each dot is over so many variables of the clause
+  -- the signature has each constructor in a pattern, and each dot is over so many variables of the clause
   pub IsScopedPattern : Signature → (binds : ℕ) → Pat → Type 0
   IsScopedPattern S binds (pattern.Dot written) = IsScoped S binds written
   IsScopedPattern S binds (pattern.Con n number pats) = IsConstructorNumber S n number × AreScopedPatterns S binds pats

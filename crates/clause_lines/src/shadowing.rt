@@ -106,7 +106,7 @@ fn shown(alloc: Global, leaf: TreeLeaf) -> Result<(Tele, Tele), Stop>
     Ok((ctx, copy_tele(alloc, leaf.terms)?))
 }
 
-/// What is shown of leaves, after what is there.
+/// What is shown of leaves, after what was made before.
 fn with_shown(
     alloc: Global,
     leaves: &[TreeLeaf],

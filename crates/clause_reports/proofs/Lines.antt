@@ -1,4 +1,4 @@
--- What a line of a clause says, whatever way it is found.
+-- What a line of a clause says, however it is found.
 use Rattle.std.proofs.Common.{◌≡◌, ◌<◌, subst as transport, refl, ℕ, Bool, true, false, cond, ◌&&◌, nat_lt, IsTrue, Option, Some, None, List, [], ◌∷◌, map, All, Result, Ok, Err, IfOk, arith}
 use Rattle.std.proofs.lemmas.Bool.Decides.{nat_tests}
 use Rattle.std.proofs.lemmas.List.Elements.{All-cons, All-nil}

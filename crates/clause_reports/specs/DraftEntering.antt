@@ -48,7 +48,7 @@ Entering = Signature → Draft → ℕ → Reporting Entered
 abbrev pub with_entry : Reporting Entered → Reporting Signature
 with_entry outcome = and_next outcome (λ e rest. answers (Ok e.signature) rest)
 
--- An instance that is there already gives its number. K enters only where it is on.
+-- An instance that the signature already has gives its number. K enters only if it is on.
 abbrev pub enter_eliminator : Signature → (n m : ℕ) → Option Family → ℕ → Reporting Signature
 enter_eliminator S n m None left = answers (Ok S) left
 enter_eliminator S n m (Some f) left = with_entry (entering S (EliminatorAt n m) (instance_of S n f m left))

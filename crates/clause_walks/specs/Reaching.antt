@@ -100,7 +100,7 @@ abbrev pub wanted_of : (own : Bool) → Pat → Option ℕ
 wanted_of true (pattern.Con n number pats) = Some number
 wanted_of own pat = None
 
--- The pattern's constructor is there, where the pattern is scoped.
+-- If the pattern is scoped, its constructor exists.
 abbrev pub run_wanted : Signature → (clause : ℕ) → Telescope → (x : ℕ) → Looked → (number : ℕ) → Option Constructor → ℕ → Stopping (Look (List Ran))
 run_wanted S clause context x found number None left = answers (Err (stop.WrongConstructor clause context found.type)) left
 run_wanted S clause context x found number (Some c) left = run_all S context x found.member number (c ∷ []) left

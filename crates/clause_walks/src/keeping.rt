@@ -35,7 +35,7 @@ fn keep(alloc: Global, sig: &Signature, pair: &Pair, t: &Term) -> Result<Term, S
     }
 }
 
-/// A constructor that is there stays, and its arguments keep what the pairs were compared with.
+/// A constructor that the term already has stays, and its arguments keep what the pairs were compared with.
 #[cycle(keeping)]
 fn keep_arguments(
     alloc: Global,

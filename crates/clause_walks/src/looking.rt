@@ -33,7 +33,7 @@ pub(crate) enum Arrival {
     Forced(TreeStop),
 }
 
-/// The first of two that is there.
+/// The first of two, or the later one if the first is None.
 fn or_later(first: Option<TreeStop>, later: TreeStop) -> Option<TreeStop>
     ensures { option_map stop_of result ≡ pairs_spec.or_later (option_map stop_of first) (Some (stop_of later)) }
 {

@@ -83,8 +83,8 @@ fn walk_of_clause(
 /// clause has this number in its list.
 ///
 /// At each open pair the run of the pattern's own constructor is solved, until every pattern is worked or an absurd one has been
-/// shown to be so. The walk has where this ends: its context and goal, what stands for the variables of the starting context, the
-/// terms of the columns as far as they were compared, the bindings of the clause, and its dots.
+/// shown to be so. The walk has the point at which this ends: its context and goal, what stands for the variables of the starting
+/// context, the terms of the columns as far as they were compared, the bindings of the clause, and its dots.
 pub fn own_walk(
     alloc: Global,
     sig: &Signature,

@@ -18,7 +18,7 @@ use Rattle.elaboration.specs.Refusals.{Owner, owner_of}
 
 -- ---- one line
 
--- the equation is there, and its sides convert
+-- there is an equation, and its sides convert
 pub record HasConverting (S : Signature) (answer : Result Equation Stop) : Type 0 where
   pub given : Equation
   pub is : answer ≡ Ok given

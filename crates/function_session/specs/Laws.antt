@@ -1,4 +1,4 @@
--- What one declaration keeps, and what is said of what it accepts.
+-- What one declaration keeps, and what holds of the things that it accepts.
 use Rattle.std.specs.Prelude.{◌≡◌, ℕ, ◌+◌, List, [], ◌∷◌, ◌++◌, map, Ok, IfOk}
 use Rattle.theory.specs.Terms.{Term}
 use Rattle.theory.specs.Signatures.{Definition, Signature, IsPrefix}

@@ -49,7 +49,7 @@ fn is_named(names: &[Name], name: &Name) -> bool
     }
 }
 
-/// Names, followed by one more where it is not there yet.
+/// Names, followed by one more if it is not among them yet.
 pub fn with_name(alloc: Global, mut names: Items<Name>, name: &Name) -> Result<Items<Name>, Stop>
     ensures { Gives (λ ns. ns) result (Ok (spec.with_names names (name.now ∷ []))) }
 {

@@ -1,4 +1,4 @@
--- What holds of the entries of a function, whatever way they are made.
+-- What holds of the entries of a function, however they are made.
 use Rattle.std.specs.Prelude.{◌≡◌, ◌≢◌, ◌↔◌, ◌⊎◌, ◌<◌, ℕ, zero, suc, ◌+◌, Option, Some, None, Ok, IfOk, List, [], ◌∷◌, ◌++◌, length, map, slice_get, flat_map, All, AllPairs, Contains, Err}
 use Rattle.std.specs.List.{Any}
 use Rattle.theory.specs.Terms.{Term, Pi, Lam, App, Let, Const, Elim, AxiomK}
@@ -179,7 +179,7 @@ SplitNames =
     IsSplitGiven S node x type runs ends (length names) →
     AddsNames S names (split_term S (length S.entries) L node x type runs ends names).names
 
--- the term of a split node is over the node's context, and names entries and the names that are there then
+-- the term of a split node is over the node's context, the entries of the signature, and the names after its own were added
 abbrev pub SplitScoped : Type 0
 SplitScoped =
     (S : Signature) (L : ℕ) (node : Node) (x : ℕ) (type : Term) (runs : List (List Step)) (ends : List Term) (names : List (List ℕ)) →

@@ -121,7 +121,7 @@ split_names S L node x type runs = member_names S L node x runs (member_of S typ
 
 -- ---- the term of a split node by itself
 
--- names, where those that the term mentions and that are not there yet are added, and the term, or Deep where it is too high
+-- names, to which those that the term mentions are added if they are new, and the term, or Deep if it is too high
 pub record SplitTerm : Type 0 where
   pub names : List (List ℕ)
   pub term : Result Term Stop
