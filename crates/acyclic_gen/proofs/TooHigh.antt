@@ -92,7 +92,7 @@ direct-deep base name n f indices many =
 
 -- ---- D!acyclic
 
--- the method for one of the constructors is in the whole
+-- the head, and the method for one of the constructors, are parts of the whole term
 height-among : (method : ℕ → ConstructorShape → Term) (number : ℕ) (head : Term) (constructors : List ConstructorShape) → height head ≤ height (applied_to_methods method number head constructors)
 height-among method number head [] = omega arith
 height-among method number head (c ∷ constructors) =

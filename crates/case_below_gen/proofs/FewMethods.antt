@@ -36,7 +36,7 @@ few-methods method number head (c ∷ cs) least low =
     let here = least number c in
     ((omega arith, rest.0), omega arith)
 
--- the family's parts, from what is in the scrutinee's scope
+-- the family's parts are few if a function of the scrutinee is low enough
 few-inside : (n depth inside start k : ℕ) (f : Shape) (method : ℕ → ConstructorShape → Term) (head : Term) → ((i : ℕ) (c : ConstructorShape) → length c.arguments ≤ height (method i c)) → length f.parameters ≤ 2000
     → height (scrutinee_over Function n f depth (at_scrutinee inside start k (applied_to_methods method 0 head f.constructors))) ≤ 2000 → IsFew f
 few-inside n depth inside start k f method head least params low =

@@ -1,4 +1,4 @@
--- The test for strict parts says what the relation says.
+-- The test for strict parts decides the relation.
 use native.Mathlib.Decide.{ℕ_discrete}
 use Rattle.std.proofs.Common.{◌≡◌, ◌≢◌, ◌⊎◌, ℕ, zero, suc, ◌+◌, ◌<◌, ◌≤◌, Bool, true, false, ◌&&◌, ◌||◌, ◌==◌, IsTrue, if◌then◌else◌, List, [], ◌∷◌, ◌++◌, length, Option, Some, None, option_map, slice_get, inl, inr, refl, ap, ap₂, sym, ◌∙◌, subst, arith}
 use Rattle.std.specs.Prelude.{option_and_then, ◌↔◌}
@@ -149,7 +149,7 @@ whole-found n f t number c head known whole =
 
 -- ---- along a spine
 
--- argument `at` of those that are in a spine t has the part
+-- one of the first `at` arguments in the spine t has the part
 record HasAt (n : ℕ) (f : Family) (part : Term) (arguments : List ArgumentShape) (at : ℕ) (t : Term) : Type 0 where
   place : ℕ
   r : Term

@@ -43,7 +43,7 @@ abbrev pub in_constructor : Option ConstructorShape → (List ArgumentShape → 
 in_constructor None test = false
 in_constructor (Some c) test = test c.arguments
 
--- `part` is a strict part among the first `at` arguments of a constructor, of which those that are in t are the last
+-- `part` is a strict part among the first `at` arguments of a constructor, the last of which are in t
 abbrev pub has_part_along : (n : ℕ) (f : Shape) (part : Term) → List ArgumentShape → (at : ℕ) → Term → Bool
 has_part_along n f part arguments (suc at) (App g r) =
     has_part_along n f part arguments at g

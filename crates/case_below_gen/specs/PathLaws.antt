@@ -30,7 +30,7 @@ pub record IsArgumentAt (n : ℕ) (f : Family) (ps : List Term) (t r : Term) (in
   pub argument : slice_get us at ≡ Some r
   pub place : before ≡ take at us
 
--- a strict part of t is there with the targets js
+-- t has a strict part with the targets js
 pub data HasPartWith (n : ℕ) (f : Family) (ps : List Term) (part : Term) (js : List Term) : Term → Type 0 where
   itself : {t r : Term} {inner : Telescope} {targets before : List Term} (ts : List Term) → IsArgumentAt n f ps t r inner targets before → length ts ≡ length inner
       → part ≡ applied r ts → js ≡ map (inst (fill no_variable (ps ++ (before ++ ts)))) targets → HasPartWith n f ps part js t

@@ -57,8 +57,8 @@ abbrev pub with_arguments : Option ConstructorShape → Term → (List ArgumentS
 with_arguments None t go = t
 with_arguments (Some c) t go = go c.arguments
 
--- the path among the first `at` arguments of `whole`, of which those that are in t are the last: through the first one from the
--- left that is the part at its inner arguments, or has it inside
+-- the path among the first `at` arguments of `whole`, the last of which are in t: through the first one from the left that is the
+-- part at its inner arguments, or has it inside
 abbrev pub path_along : (d : Descent) (whole : Term) → List ArgumentShape → (at : ℕ) → Term → (b : Term) → Term
 path_along d whole arguments (suc at) (App g r) b =
     if has_part_along d.family d.shape d.part arguments at g

@@ -121,7 +121,7 @@ fn path_of(alloc: Global, d: &Descent, t: &Term, below: Term) -> Result<Term, St
     }
 }
 
-/// The path among the first `at` arguments of `whole`, of which those that are in `t` are the last.
+/// The path among the first `at` arguments of `whole`, the last of which are in `t`.
 #[cycle(path)]
 fn path_along(
     alloc: Global,

@@ -37,8 +37,7 @@ pub fn has_part(fam: u32, f: &Family, part: &Term, t: &Term) -> bool
     }
 }
 
-/// Whether `part` is a strict part among the first `at` arguments of a constructor, of which those that are in `t` are the
-/// last.
+/// Whether `part` is a strict part among the first `at` arguments of a constructor, the last of which are in `t`.
 #[cycle(has_part)]
 pub fn has_part_along(fam: u32, f: &Family, part: &Term, args: &[Arg], at: usize, t: &Term) -> bool
     ensures { result ≡ spec.has_part_along fam (shape_of f.now) (tree_of part.now) (map argument_shape args.now) at (tree_of t.now) }

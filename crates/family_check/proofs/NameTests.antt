@@ -10,12 +10,12 @@ use Rattle.core_sig.specs.declared.raw.RawCon.{RawCon}
 use Rattle.core_sig.proofs.NamesShown.{bytes_eq-swap}
 use Rattle.family_check.specs.Entering.{has_repeat, are_new, is_taken}
 
--- no name is taken, where others come before them
+-- no name is taken, where the names in `before` come first
 abbrev pub are_new_behind : Signature → List (List ℕ) → List (List ℕ) → Bool
 are_new_behind S before [] = true
 are_new_behind S before (name ∷ names) = not (is_taken S before name) && are_new_behind S (before ++ name ∷ []) names
 
--- some of the names comes before
+-- one of the names is among those before
 abbrev meet : List (List ℕ) → List (List ℕ) → Bool
 meet before names = list_any (λ name. list_any (bytes_eq name) before) names
 

@@ -29,7 +29,7 @@ use Rattle.noconf_gen.specs.NoConfusionTypes.{Member, equations_over, motive_typ
 abbrev pub Drafted : Signature → (count n : ℕ) → Term → Type 0
 Drafted S count n t = IsDraftTerm S (length S.entries) count n t
 
--- what no confusion is over: a signature with the prelude, and a family with its levels
+-- the scope of no confusion: a signature with the prelude, and a family with its levels
 pub record IsCompared (S : Signature) (count n : ℕ) (f : Shape) : Type 0 where
   pub first : IsPrefix (prelude S.has_k) S
   pub shape : IsDraftShape S (length S.entries) count n f

@@ -141,7 +141,7 @@ constructor_at constructors number = get_or constructors number (record { argume
 abbrev pub confusion_level : (f : Shape) (m : ℕ) → ℕ
 confusion_level f m = max f.level (m + 1)
 
--- what is between the family's name and the level in the name of an entry for a constructor, as `!nct.c.`
+-- the part between the family's name and the level in the name of an entry for a constructor, as `!nct.c.`
 abbrev pub constructor_mark : (mark constructor : List ℕ) → List ℕ
 constructor_mark mark constructor = mark ++ constructor ++ codes "."
 

@@ -1,4 +1,4 @@
--- The test of a call says what the relation says.
+-- The test of a call decides the relation.
 use Rattle.std.proofs.Common.{◌≡◌, ℕ, Bool, true, false, ◌==◌, nat_le, Option, Some, None, option_and_then, List, [], ◌∷◌, length, slice_get, inl, inr, refl, ap, ap₂, ◌∙◌, subst, arith}
 use Rattle.std.specs.List.{list_all}
 use Rattle.std.specs.Prelude.{◌↔◌}

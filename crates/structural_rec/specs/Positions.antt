@@ -1,5 +1,5 @@
--- Which positions of a telescope admit recursion. Positions count from the outermost type on; at position j, the variable that
--- is at an earlier position i is `variable j i`.
+-- Which positions of a telescope admit recursion. Positions count from the outermost type on; at position j, the variable at
+-- an earlier position i is `variable j i`.
 use Rattle.std.specs.Prelude.{◌≡◌, ◌≢◌, ℕ, zero, suc, ◌+◌, ◌-◌, ◌<◌, Bool, true, false, ◌&&◌, ◌||◌, not, ◌==◌, nat_lt, cond, Option, Some, None, option_map, option_and_then, List, [], ◌∷◌, ◌++◌, length, map, take, drop, slice_get, All, AllPairs}
 use Rattle.std.specs.List.{list_any}
 use Rattle.theory.specs.Terms.{Term, Var, Fam}
@@ -14,7 +14,7 @@ use Rattle.tele_eq.specs.Levels.{is_among}
 
 -- ---- what types mention
 
--- whether terms that are at position j mention the variable at i, before it
+-- whether terms at position j mention the variable at i, before it
 abbrev pub have_position : (j i : ℕ) → List Term → Bool
 have_position j i terms = nat_lt i j && list_any (has_variable (j - (i + 1))) terms
 
@@ -71,7 +71,7 @@ pub record Admits (S : Signature) (tele : List Term) (j : ℕ) (a : Admission) :
 
 -- ---- how they are found
 
--- the position of a term that is at j, where it is a variable before j
+-- the position of a term at j, if it is a variable before j
 abbrev pub position_of : (j : ℕ) → Term → Option ℕ
 position_of j (Var v) = cond (nat_lt v j) (Some (j - (v + 1))) None
 position_of j _ = None

@@ -102,7 +102,7 @@ pub(crate) fn fixed_below(
     fixed_below(tele, j, params, at - 1, found)
 }
 
-/// The position of a term that is at `j`, where it is a variable before `j`.
+/// The position of a term at `j`, if it is a variable before `j`.
 fn position_of(j: u32, t: &Term) -> Option<u32>
     ensures { result ≡ spec.position_of j (tree_of t.now) }
 {
@@ -112,7 +112,7 @@ fn position_of(j: u32, t: &Term) -> Option<u32>
     }
 }
 
-/// The positions of terms that are at `j`, where each is a variable before `j`.
+/// The positions of terms at `j`, if each is a variable before `j`.
 pub(crate) fn positions_of(alloc: Global, j: u32, terms: &[Term]) -> Result<Option<Vec<u32>>, Stop>
     ensures { Gives (option_map (λ v. v.items)) result (Ok (spec.positions_of j (tele_of terms.now))) }
 {
@@ -138,7 +138,7 @@ fn with_position(i: u32, others: Option<Vec<u32>>) -> Result<Option<Vec<u32>>, S
     }
 }
 
-/// Whether no position is there twice.
+/// Whether no position occurs twice.
 pub(crate) fn are_different(positions: &[u32]) -> bool
     ensures { result ≡ spec.are_different positions.now }
 {

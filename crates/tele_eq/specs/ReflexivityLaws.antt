@@ -30,7 +30,7 @@ TransportOfReflexivities =
     (S : Signature) (X : List Item) (j : ℕ) (terms : List Term) → HasIdentities S X → j < length X →
     Converts S (transport X j terms terms (reflexivities X terms)) (term_at terms j)
 
--- congruences at reflexivities convert to the reflexivities of what the terms f are there
+-- congruences at reflexivities convert to the reflexivities of the values of the terms f there
 abbrev pub CongruencesOfReflexivities : Type 0
 CongruencesOfReflexivities =
     (S : Signature) (X Y : List Item) (f terms : List Term) → HasIdentities S X →

@@ -1,5 +1,5 @@
--- What types say of the constructors on both sides of an equation. No rule compares this: in a problem whose sides have the types
--- of their places it holds, since families are injective. That they are is not proved here.
+-- What types say of the constructors on both sides of an equation. No rule compares this: it holds in a problem whose sides have
+-- the types of their places, since families are injective. That they are injective is not proved here.
 use Rattle.std.specs.Prelude.{◌≡◌, ℕ, ◌-◌, List, map, take}
 use Rattle.theory.specs.Terms.{Term}
 use Rattle.theory.specs.Substitutions.{inst, fill}

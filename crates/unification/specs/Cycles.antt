@@ -1,4 +1,4 @@
--- Cycle: one side of the first equation is a variable, which is below constructors on the other side.
+-- Cycle: one side of the first equation is a variable that occurs below constructors on the other side.
 use Rattle.std.specs.Prelude.{ℕ, zero, suc, Bool, true, false, ◌&&◌, ◌==◌, nat_lt, cond, Option, Some, None, option_map, List, ◌∷◌, ◌++◌, Result, Ok, Err}
 use Rattle.theory.specs.Terms.{Term, Var, Con, height}
 use Rattle.theory.specs.Telescopes.{applied}

@@ -96,7 +96,7 @@ pub data IsAbsurd (S : Signature) : State → Step → Type 0 where
   conflict : (s : State) (e : Equation) (A : Term) (b d : Built) → IsBuilt S b → IsBuilt S d → b.n ≡ d.n → b.number ≢ d.number
       → b.family.level ≤ greatest_level → IsFirst S s e A (term_of b) (term_of d)
       → IsAbsurd S s (record { group = 1; rule = Conflict b.n b.number d.number; ty = A; left = term_of b; right = term_of d })
-  -- the left side is a variable, which is below constructors on the right
+  -- the left side is a variable that occurs below constructors on the right
   cycle_left : (s : State) (e : Equation) (n x : ℕ) (A v : Term) → IsFirst S s e A (Var x) v → HasBelow S n x v
       → IsAbsurd S s (record { group = 1; rule = Cycle x; ty = A; left = Var x; right = v })
   -- the other way round

@@ -129,7 +129,7 @@ behind-lower f (p ∷ ps) us = behind-lower (App f p) ps us
 too-high : (room : ℕ) (v t : Term) → nat_le (height v) room ≡ false → height v < height t → within (suc room) (Some t) ≡ Err Deep
 too-high room v t e lt = ap (λ b. cond b (Ok (Some t)) (Err Deep)) (let f : nat_le (height t) (suc room) ≡ false = grind (arith, nat_tests) in f)
 
--- Where what is found is in a term that may be one higher than `room`, it may be no higher than that itself.
+-- What is found is in a term that may be one higher than `room`. So it may itself be no higher than `room`.
 module _ (S : Signature) (n x room : ℕ) where
   abbrev cut : Below
   cut before = search_within S n x room

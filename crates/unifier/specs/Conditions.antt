@@ -125,7 +125,8 @@ ArePlaces (place.Reordered order) = length order.now ≤ most_depth
 ArePlaces (place.Solved s) = IsSolution s
 ArePlaces (place.Behind b) = IsBehind b
 
--- So deep a term may be with what is at these places. The solving term is put itself, with the variables in their new order.
+-- A term with what is at these places may be at most so deep. The solving term itself is put, with the variables in their new
+-- order.
 abbrev pub deepest : Places → ℕ
 deepest (place.Reordered order) = 2147600000
 deepest (place.Solved s) = 2147500000

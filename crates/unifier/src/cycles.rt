@@ -309,7 +309,7 @@ fn reduced_side(
     }
 }
 
-/// A cycle: one side of the equation is a variable, which is below constructors on the other side.
+/// A cycle: one side of the equation is a variable that occurs below constructors on the other side.
 pub(crate) fn cycle_trial(
     alloc: Global,
     sig: &Signature,

@@ -64,7 +64,7 @@ fn variable_at(alloc: Global, solution: Option<Solution>, depth: u32, j: u32) ->
     }
 }
 
-/// Adds `by` to every variable numbered `from` or more. Its height nothing tests.
+/// Adds `by` to every variable numbered `from` or more. Nothing tests the height.
 pub(crate) fn raised(alloc: Global, by: u32, from: u32, t: &Term) -> Result<Term, Stop>
     requires numbers { tree.free_of (tree_of t.now) + tree.height (tree_of t.now) + by < 2 ^ 32 }
     requires binders { from + tree.height (tree_of t.now) < 2 ^ 32 }
@@ -224,7 +224,7 @@ fn put_under(
     }
 }
 
-/// A term over the first `size` variables with what stands for them, at a depth. Its height nothing tests.
+/// A term over the first `size` variables with what stands for them, at a depth. Nothing tests its height.
 pub(crate) fn put(
     alloc: Global,
     places: Places,
