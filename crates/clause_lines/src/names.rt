@@ -6,10 +6,9 @@ ghost use Rattle.leaf_terms.specs.PlanMeanings.{plan_of};
 ghost use Rattle.proof_terms.specs.CodeProofs as spec;
 
 use clause_equations::part_name;
-use core_terms::{Name, Stop};
+use core_terms::{Name, Stop, next};
 use core_text::write_number;
 use leaf_terms::Plan;
-use run_terms::next;
 use std::alloc::Global;
 
 /// A part's name, a mark, and the number of a clause.

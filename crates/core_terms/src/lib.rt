@@ -31,7 +31,7 @@ pub use levels::{Binder, Run, applied_to_places, applied_to_run, bind, over, pla
 pub use lifting::lift;
 pub use low::Low;
 pub use name::{Name, copy_name};
-pub use number::number_of;
+pub use number::{next, number_of, sum};
 pub use pattern::{Clause, Pat, Right};
 pub use stop::Stop;
 pub use substitution::subst;

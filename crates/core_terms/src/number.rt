@@ -1,4 +1,4 @@
-ghost use Rattle.std.specs.Prelude.{◌≡◌, Err, IfOk, OnErr};
+ghost use Rattle.std.specs.Prelude.{◌≡◌, ◌+◌, Err, IfOk, OnErr};
 ghost use Rattle.core_terms.specs.declared.stop.Stop.TheVariants.{Memory};
 
 use crate::Stop;
@@ -12,4 +12,20 @@ pub fn number_of(len: usize) -> Result<u32, Stop>
         Ok(number) => Ok(number),
         Err(_) => Err(Stop::Memory),
     }
+}
+
+/// The sum of two numbers, or Memory where it does not fit 32 bits.
+pub fn sum(a: u32, b: u32) -> Result<u32, Stop>
+    ensures ok { IfOk result (λ n. n ≡ a + b) }
+    ensures memory { OnErr result (result ≡ Err Memory) }
+{
+    number_of(a as usize + b as usize)
+}
+
+/// The next number, or Memory where it does not fit 32 bits.
+pub fn next(a: u32) -> Result<u32, Stop>
+    ensures ok { IfOk result (λ n. n ≡ a + 1) }
+    ensures memory { OnErr result (result ≡ Err Memory) }
+{
+    number_of(a as usize + 1)
 }

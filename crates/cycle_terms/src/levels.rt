@@ -2,8 +2,7 @@ ghost use Rattle.std.specs.Prelude.{◌≡◌, ◌≤◌, ◌+◌, Err, IfOk, On
 ghost use Rattle.core_terms.specs.declared.stop.Stop.TheVariants.{Memory};
 
 use acyclic_gen::Carrier;
-use core_terms::{Stop, number_of};
-use run_terms::{next, sum};
+use core_terms::{Stop, next, number_of, sum};
 
 /// The number itself, or Memory where it is greater than 90,000.
 pub fn near(n: u32) -> Result<u32, Stop>

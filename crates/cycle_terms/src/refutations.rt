@@ -16,10 +16,10 @@ use crate::searching::Search;
 use crate::transports::{carrier_type, transported};
 use acyclic_gen::Carrier;
 use core_sig::Family;
-use core_terms::{Items, Name, Stop, Tele, Term, number_of};
+use core_terms::{Items, Name, Stop, Tele, Term, next, number_of};
 use run_terms::{
-    Naming, Standing, all_placed, direct_name, here, inside, level_at, level_in, next, place_of,
-    placed, reflexivity,
+    Naming, Standing, all_placed, direct_name, here, inside, level_at, level_in, place_of, placed,
+    reflexivity,
 };
 use std::alloc::Global;
 

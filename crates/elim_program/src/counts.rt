@@ -5,7 +5,7 @@ ghost use Rattle.elim_program.specs.Works as spec;
 ghost use Rattle.function_lines.specs.LineMeanings.{clause_line_of};
 
 use clause_lines::Line;
-use core_terms::{Stop, number_of};
+use core_terms::{Stop, next};
 use function_lines::ClauseLine;
 
 /// How many declarations are accepted, and how many clauses have each line.
@@ -29,14 +29,6 @@ pub(crate) fn none_counted() -> Counts
         shadowed: 0,
         absurd: 0,
     }
-}
-
-/// The next number, or Memory where it does not fit.
-fn next(n: u32) -> Result<u32, Stop>
-    ensures ok { IfOk result (λ m. m ≡ n + 1) }
-    ensures memory { OnErr result (result ≡ Err Memory) }
-{
-    number_of(n as usize + 1)
 }
 
 /// Counts a clause.

@@ -12,9 +12,9 @@ ghost use Rattle.walk_checks.specs.CheckMeanings.{opening_of};
 ghost use Rattle.walk_checks.specs.CodeOpening.{renamed_under};
 ghost use Rattle.with_abstraction.specs.Meanings.{abstracted_of};
 
-use core_terms::{Items, Stop, Tele, Term, Walk, applied, copy_whole, number_of};
+use core_terms::{Items, Stop, Tele, Term, Walk, applied, copy_whole, next, number_of, sum};
 use function_walks::{Opened, Session};
-use run_terms::{next, place_in, raised, sum};
+use run_terms::{place_in, raised};
 use std::alloc::Global;
 use walk_checks::Opening;
 use with_abstraction::Abstracted;

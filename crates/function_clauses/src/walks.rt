@@ -21,10 +21,11 @@ use crate::scrutinees::scrutinised;
 use crate::sides::side_walked;
 use crate::single::clause_walked;
 use clause_equations::part_name;
-use core_terms::{Clause, Items, Right, Stop, Term, Units, Walk, number_of};
+use core_terms::{
+    Clause, Items, Right, Stop, Term, Units, Walk, next as next_number, number_of, sum,
+};
 use function_refusals::Refusal;
 use function_walks::{Given, Opened, Session};
-use run_terms::{next as next_number, sum};
 use std::alloc::Global;
 use walk_checks::Site;
 

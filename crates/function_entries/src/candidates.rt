@@ -7,9 +7,9 @@ ghost use Rattle.tree_translation.specs.Naming as naming;
 ghost use Rattle.leaf_terms.specs.PlanMeanings.{plan_of};
 ghost use Rattle.leaf_terms.specs.RecursionMeanings.{recursion_of};
 
-use core_terms::{Items, Name, Stop, number_of};
+use core_terms::{Items, Name, Stop, next, number_of};
 use leaf_terms::{Plan, Recursion, helper_name, motive_name};
-use run_terms::{below_name, next};
+use run_terms::below_name;
 use std::alloc::Global;
 
 /// How many helpers there are.

@@ -15,9 +15,9 @@ ghost use Rattle.function_entries.specs.CodeEntries as spec;
 use crate::own_order::type_count;
 use crate::tree_entries::{node_entry, table_of};
 use core_sig::{Draft, Signature};
-use core_terms::{Items, Name, Stop, Tele, copy_tele, copy_whole};
+use core_terms::{Items, Name, Stop, Tele, copy_tele, copy_whole, next};
 use leaf_terms::{Part, Plan, Recursion, Translation, below_type, helper_name, order_of};
-use run_terms::{Naming, next, raised};
+use run_terms::{Naming, raised};
 use split_terms::Node;
 use std::alloc::Global;
 

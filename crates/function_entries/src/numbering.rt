@@ -7,8 +7,8 @@ ghost use Rattle.tree_translation.specs.Naming as spec;
 ghost use Rattle.function_entries.specs.CodeNumbering as numbering;
 
 use core_sig::{Draft, drafted};
-use core_terms::{Items, Name, Stop, Term, copy_name, copy_whole, number_of};
-use run_terms::{place_in, sum};
+use core_terms::{Items, Name, Stop, Term, copy_name, copy_whole, number_of, sum};
+use run_terms::place_in;
 use std::alloc::Global;
 use tele_eq::is_among;
 

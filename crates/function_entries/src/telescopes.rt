@@ -8,8 +8,8 @@ ghost use Rattle.tele_eq.specs.Items.{each_position};
 ghost use Rattle.tele_eq.specs.Levels as levels;
 ghost use Rattle.tree_translation.specs.Entries as spec;
 
-use core_terms::{Items, Stop, Tele, Term, copy_whole, number_of, variable};
-use run_terms::{next, place_in, raised};
+use core_terms::{Items, Stop, Tele, Term, copy_whole, next, number_of, variable};
+use run_terms::{place_in, raised};
 use std::alloc::Global;
 
 /// Terms, followed by the first `count` of others.

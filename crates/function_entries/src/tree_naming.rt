@@ -8,8 +8,7 @@ ghost use Rattle.function_entries.specs.SplitMeanings.{IsWholeSplit, family_of_s
 
 use crate::nodes::{SplitVariable, next_node, runs_of, split_variable, type_in};
 use core_sig::Signature;
-use core_terms::{Branch, Items, Name, Stop, Term, Tree};
-use run_terms::next;
+use core_terms::{Branch, Items, Name, Stop, Term, Tree, next};
 use split_terms::{Node, split_names};
 use std::alloc::Global;
 

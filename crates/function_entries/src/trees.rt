@@ -9,10 +9,9 @@ ghost use Rattle.function_entries.specs.CodeTrees as spec;
 ghost use Rattle.function_entries.specs.SplitMeanings.{IsWholeSplit, family_of_split};
 
 use crate::nodes::{SplitVariable, next_node, runs_of, split_variable, type_in, variable_count};
-use core_terms::{Branch, Items, Stop, Term, Tree};
+use core_terms::{Branch, Items, Stop, Term, Tree, next};
 use leaf_terms::{Translation, leaf_term};
 use outlines::{Outline, Outlines, listed};
-use run_terms::next;
 use split_terms::{Node, split_outline};
 use std::alloc::Global;
 

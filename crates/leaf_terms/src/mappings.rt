@@ -10,8 +10,8 @@ ghost use Rattle.theory.specs.Terms as tree;
 ghost use Rattle.tree_translation.specs.Mappings as spec;
 
 use crate::below_types::copied_at;
-use core_terms::{Items, Stop, Tele, Term, Walk, copy_whole, head, number_of};
-use run_terms::{next, place_in, terms_joined};
+use core_terms::{Items, Stop, Tele, Term, Walk, copy_whole, head, next, number_of};
+use run_terms::{place_in, terms_joined};
 use std::alloc::Global;
 
 fn are_one_constructor(w: &Term, t: &Term) -> bool

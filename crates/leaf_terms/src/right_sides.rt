@@ -23,8 +23,8 @@ use crate::orders::remaining_positions;
 use crate::paths::{Descent, path_or_below};
 use crate::recursion::Recursion;
 use crate::towers::{or_tower, or_towers};
-use core_terms::{Stop, Tele, Term, applied, copy_whole, number_of};
-use run_terms::{all_raised, below_name, constant, next, place_of, raised};
+use core_terms::{Stop, Tele, Term, applied, copy_whole, next, number_of};
+use run_terms::{all_raised, below_name, constant, place_of, raised};
 use std::alloc::Global;
 
 /// A below value for recursion.

@@ -2,8 +2,8 @@ ghost use Rattle.std.specs.Prelude.{◌≡◌, ◌++◌, Ok, length};
 ghost use Rattle.core_terms.specs.Answers.{Gives};
 ghost use Rattle.outlines.specs.Composing as spec;
 
-use core_terms::{Items, Stop, number_of};
-use run_terms::{level_at, sum};
+use core_terms::{Items, Stop, number_of, sum};
+use run_terms::level_at;
 
 /// Whether all levels are below an end.
 pub fn are_below(end: u32, levels: &[u32]) -> bool

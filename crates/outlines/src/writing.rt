@@ -8,8 +8,8 @@ ghost use Rattle.outlines.specs.OutlineMeanings.{outline_of};
 
 use crate::composing::{are_below, composed};
 use crate::outline::Outline;
-use core_terms::{Items, Stop, Term, number_of};
-use run_terms::{Places, next, put_under, sum};
+use core_terms::{Items, Stop, Term, next, number_of, sum};
+use run_terms::{Places, put_under};
 use std::alloc::Global;
 
 /// A term over variables that have these levels, at a depth and under so many binders of its own.

@@ -4,8 +4,7 @@ ghost use Rattle.core_terms.specs.Meanings.{tree_of, tele_of};
 ghost use Rattle.tele_eq.specs.Items as items;
 ghost use Rattle.clause_reports.specs.ProofWalks as spec;
 
-use core_terms::{Items, Origin, Stop, Tele, Term, copy_whole, number_of};
-use run_terms::next;
+use core_terms::{Items, Origin, Stop, Tele, Term, copy_whole, next, number_of};
 use std::alloc::Global;
 
 /// The term at a position, or Type 0 where there is none.

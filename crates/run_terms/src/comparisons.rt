@@ -14,10 +14,9 @@ ghost use Rattle.run_terms.specs.ComparisonMeanings.{HasMemberKinds, comparison_
 ghost use Rattle.run_terms.specs.StandingMeanings.{equations_of, state_of};
 
 use crate::instances::all_instantiated;
-use crate::numbers::next;
 use crate::state::{Equation, State};
 use core_sig::Signature;
-use core_terms::{Items, Step, Stop, Tele, Term, applied, copy_tele, copy_whole, into_spine};
+use core_terms::{Items, Step, Stop, Tele, Term, applied, copy_tele, copy_whole, into_spine, next};
 use std::alloc::Global;
 use unifier::{Built, built_of, split_spine};
 

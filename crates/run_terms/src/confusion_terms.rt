@@ -13,13 +13,12 @@ use crate::instances::{family_items, items_at};
 use crate::level_lists::{with_all, with_levels};
 use crate::names::noconf_name;
 use crate::naming::{Naming, constant};
-use crate::numbers::{next, sum};
 use crate::placing::{placed, placed_telescope};
 use crate::smallness::{equations_made, reflexivities_made};
 use crate::solution_terms::remaining_goal;
 use crate::standings::{applied_here, applied_to_first, applied_to_further, inside};
 use crate::state::Standing;
-use core_terms::{Items, Stop, Tele, Term, functions, number_of};
+use core_terms::{Items, Stop, Tele, Term, functions, next, number_of, sum};
 use std::alloc::Global;
 
 /// The equations between the two members of a comparison, or Deep where something in them is too high.

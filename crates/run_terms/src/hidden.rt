@@ -7,11 +7,10 @@ ghost use Rattle.tree_translation.specs.Replays as replays;
 ghost use Rattle.run_terms.specs.StandingMeanings.{standing_of};
 
 use crate::level_lists::{joined, with_levels, with_those_without};
-use crate::numbers::sum;
 use crate::places::level_at;
 use crate::placing::placed;
 use crate::state::Standing;
-use core_terms::{Items, Rule, Step, Stop, Term, number_of};
+use core_terms::{Items, Rule, Step, Stop, Term, number_of, sum};
 use std::alloc::Global;
 
 /// The levels of the variables that are not hidden, among `n`.

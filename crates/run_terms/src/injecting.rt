@@ -21,12 +21,11 @@ ghost use Rattle.run_terms.specs.StandingMeanings.{equation_of, equations_of, st
 
 use crate::instances::{all_instantiated, all_raised, at_nearest, items_at};
 use crate::moving::{Sides, moved};
-use crate::numbers::sum;
 use crate::places::{After, Places};
 use crate::standings::after_first;
 use crate::state::{Equation, State};
 use core_sig::Constructor;
-use core_terms::{Items, Stop, Tele, Term, copy_whole, number_of};
+use core_terms::{Items, Stop, Tele, Term, copy_whole, number_of, sum};
 use std::alloc::Global;
 use tele_eq::Item;
 

@@ -11,10 +11,11 @@ ghost use Rattle.theory.specs.Terms as tree;
 ghost use Rattle.unification.specs.Injecting as injecting;
 ghost use Rattle.unification.specs.Records as records;
 
-use crate::numbers::next;
 use crate::raising::raised;
 use core_sig::{Arg, Family};
-use core_terms::{Items, Stop, Tele, Term, applied, applied_to_nearest, copy_whole, number_of};
+use core_terms::{
+    Items, Stop, Tele, Term, applied, applied_to_nearest, copy_whole, next, number_of,
+};
 use std::alloc::Global;
 use tele_eq::Item;
 

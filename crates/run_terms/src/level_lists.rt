@@ -4,9 +4,8 @@ ghost use Rattle.tele_eq.specs.Levels as spec_levels;
 ghost use Rattle.tree_translation.specs.Standings.{levels_from};
 ghost use Rattle.unification.specs.Occurrences as spec;
 
-use crate::numbers::next;
 use crate::places::{level_at, place_in};
-use core_terms::{Items, Stop, number_of};
+use core_terms::{Items, Stop, next, number_of};
 use std::alloc::Global;
 use tele_eq::is_among;
 

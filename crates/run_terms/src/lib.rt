@@ -12,7 +12,6 @@ mod level_lists;
 mod moving;
 mod names;
 mod naming;
-mod numbers;
 mod occurrences;
 mod places;
 mod placing;
@@ -37,7 +36,6 @@ pub use names::{
     rec_name,
 };
 pub use naming::{Naming, constant, place_of, with_name, with_names};
-pub use numbers::{next, sum};
 pub use occurrences::dependants;
 pub use places::{After, Places, level_at, place_in, put, put_under};
 pub use placing::{

@@ -9,10 +9,9 @@ ghost use Rattle.unifier.specs.CodeMoves.{equation_moved};
 ghost use Rattle.run_terms.specs.CodePlaces.{environment_of, side_of};
 ghost use Rattle.run_terms.specs.StandingMeanings.{equation_of, equations_of};
 
-use crate::numbers::next;
 use crate::places::{Places, put};
 use crate::state::Equation;
-use core_terms::{Items, Stop, Tele, Term, copy_whole};
+use core_terms::{Items, Stop, Tele, Term, copy_whole, next};
 use std::alloc::Global;
 use tele_eq::Item;
 use unifier::Solution;

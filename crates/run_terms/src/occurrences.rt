@@ -8,8 +8,7 @@ ghost use Rattle.unification.specs.Occurrences as spec;
 ghost use Rattle.unification.specs.Rules as rules;
 
 use crate::level_lists::{with_levels, with_those_without};
-use crate::numbers::next;
-use core_terms::{Items, Stop, Term};
+use core_terms::{Items, Stop, Term, next};
 use std::alloc::Global;
 
 /// Whether a variable is free in a term. It has the number `n` where the term is.

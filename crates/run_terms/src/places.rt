@@ -6,9 +6,8 @@ ghost use Rattle.tele_eq.specs.Environments as environments;
 ghost use Rattle.tele_eq.specs.Levels as spec_levels;
 ghost use Rattle.run_terms.specs.CodePlaces.{after_environment, environment_of, variables_of};
 
-use crate::numbers::{next, sum};
 use crate::raising::term_at;
-use core_terms::{Stop, Term, copy_whole};
+use core_terms::{Stop, Term, copy_whole, next, sum};
 use std::alloc::Global;
 use unifier::Solution;
 

@@ -5,9 +5,8 @@ ghost use Rattle.core_terms.specs.Meanings.{tree_of, tele_of};
 ghost use Rattle.theory.specs.Telescopes.{applied};
 ghost use Rattle.tree_translation.specs.Standings as spec;
 
-use crate::numbers::next;
 use crate::places::{Places, level_at, put};
-use core_terms::{Items, Stop, Tele, Term, number_of, variable};
+use core_terms::{Items, Stop, Tele, Term, next, number_of, variable};
 use std::alloc::Global;
 
 /// A term over variables that have these levels, at a depth.

@@ -4,8 +4,7 @@ ghost use Rattle.core_terms.specs.Meanings.{tree_of, tele_of};
 ghost use Rattle.tele_eq.specs.Items as items;
 ghost use Rattle.theory.specs.Terms as tree;
 
-use crate::numbers::{next, sum};
-use core_terms::{Stop, Term, copy_whole};
+use core_terms::{Stop, Term, copy_whole, next, sum};
 use std::alloc::Global;
 
 /// Adds `by` to every variable numbered `from` or more. Its height nothing tests.

@@ -16,13 +16,12 @@ ghost use Rattle.run_terms.specs.StandingMeanings.{equations_of, standing_of, st
 
 use crate::level_lists::{joined, with_all, with_level_at, with_levels, with_places};
 use crate::moving::{Sides, moved, new_context, put_terms};
-use crate::numbers::{next, sum};
 use crate::occurrences::{dependants, opposite, others};
 use crate::places::{After, Places, put};
 use crate::standings::{after_first, first_level, inside};
 use crate::state::{Equation, Standing, State};
 use core_sig::equality;
-use core_terms::{Items, Stop, Tele, Term, copy_tele, copy_whole, number_of};
+use core_terms::{Items, Stop, Tele, Term, copy_tele, copy_whole, next, number_of, sum};
 use std::alloc::Global;
 use unifier::Solution;
 

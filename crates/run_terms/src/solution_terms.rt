@@ -15,7 +15,6 @@ use crate::level_lists::{joined, with_level_at};
 use crate::moving::new_context;
 use crate::names::left_name;
 use crate::naming::{Naming, constant};
-use crate::numbers::{next, sum};
 use crate::occurrences::{after_terms, opposite};
 use crate::places::{Places, level_at, place_in};
 use crate::placing::{applied_to_variables_at, placed, placed_telescope};
@@ -25,7 +24,7 @@ use crate::standings::{
 };
 use crate::state::{Equation, Standing};
 use core_sig::equality;
-use core_terms::{Items, Stop, Term, functions, number_of, products};
+use core_terms::{Items, Stop, Term, functions, next, number_of, products, sum};
 use std::alloc::Global;
 use tele_eq::is_among;
 

@@ -8,10 +8,9 @@ ghost use Rattle.tree_translation.specs.Standings as spec;
 ghost use Rattle.run_terms.specs.StandingMeanings.{equations_of, standing_of, state_of};
 
 use crate::level_lists::with_all;
-use crate::numbers::{next, sum};
 use crate::placing::{applied_to_levels_from, applied_to_placed, placed};
 use crate::state::{Equation, Standing, State};
-use core_terms::{Items, Stop, Tele, Term, functions, number_of};
+use core_terms::{Items, Stop, Tele, Term, functions, next, number_of, sum};
 use std::alloc::Global;
 
 /// How many equations are left.

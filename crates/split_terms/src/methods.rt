@@ -20,11 +20,10 @@ use crate::problems::{arguments_at, branch_standing};
 use crate::runs::run_term;
 use clause_walks::Member;
 use core_sig::{Constructor, Signature};
-use core_terms::{Items, Rule, Step, Stop, Tele, Term, functions, number_of, products};
+use core_terms::{Items, Rule, Step, Stop, Tele, Term, functions, next, number_of, products, sum};
 use outlines::{Outline, Outlines, in_body};
 use run_terms::{
-    Naming, Standing, all_raised, argument_items, equations_made, family_items, next, raised,
-    state_term, sum,
+    Naming, Standing, all_raised, argument_items, equations_made, family_items, raised, state_term,
 };
 use std::alloc::Global;
 use unifier::variables;

@@ -19,10 +19,10 @@ use crate::members::with_types;
 use crate::node::Node;
 use clause_walks::Member;
 use core_sig::Constructor;
-use core_terms::{Items, Stop, Tele, Term, copy_tele, number_of};
+use core_terms::{Items, Stop, Tele, Term, copy_tele, number_of, sum};
 use run_terms::{
     Standing, State, all_raised, argument_items, constructor_terms, equations_made, family_items,
-    joined_equations, raised, sum, with_all, with_levels,
+    joined_equations, raised, with_all, with_levels,
 };
 use std::alloc::Global;
 use tele_eq::Item;

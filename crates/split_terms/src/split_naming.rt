@@ -13,8 +13,8 @@ use crate::node::Node;
 use crate::problems::branch_standing;
 use clause_walks::Member;
 use core_sig::{Constructor, Signature};
-use core_terms::{Items, Name, Step, Stop, Term};
-use run_terms::{case_name, next};
+use core_terms::{Items, Name, Step, Stop, Term, next};
+use run_terms::case_name;
 use std::alloc::Global;
 
 /// Names, followed by those of the run of a constructor, or Deep.
