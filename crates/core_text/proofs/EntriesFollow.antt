@@ -19,7 +19,7 @@ use Rattle.core_sig.specs.declared.entry.Found.TheVariants.{Entry as FoundEntry,
 use Rattle.core_sig.proofs.NameLists.{differs}
 use Rattle.core_text.specs.DeclaredNames.{is_eliminator_name, is_axiom_k_name}
 use Rattle.core_text.specs.EntryParts.{IsTermWith, AreTypesWith, AreConstructorsWith, IsEntryWith, EachTerm, IsLow, HasLowTerms}
-use Rattle.core_text.specs.PlainNames.{IsPlainName, HasPlainFamily, HasPlainNames, HasSpelledNames}
+use Rattle.core_text.specs.ReadableNames.{IsReadableName, HasReadableFamily, HasReadableNames, HasSpelledNames}
 use Rattle.core_text.specs.RawEntries.{RawEntry, RawFamilyOf, RawEliminator, RawAxiomK, RawDefinition, constructor_line, entry_shown}
 use Rattle.core_text.specs.ReadBack.{IsSpelled, AreSpelled, MayDeclare, IsFoundFamily, IsSpelledEntry}
 use Rattle.core_text.specs.ReadLaws.{AreFresh}
@@ -46,12 +46,12 @@ through P f None b k e = absurd (cc)
 through P f (Some a) b k e = k a refl e
 
 -- a name that is found as a family holds no `!`
-plain-family : (T : Signature) → HasPlainNames T → (name : List ℕ) (n : ℕ) → found_symbol T (find T name) ≡ Some (Fam n) → list_any (λ b. b == 33) name ≡ false
+plain-family : (T : Signature) → HasReadableNames T → (name : List ℕ) (n : ℕ) → found_symbol T (find T name) ≡ Some (Fam n) → list_any (λ b. b == 33) name ≡ false
 plain-family T has name n e = by (find T name) refl e
   where
     entry : (k : ℕ) → name_at T k ≡ name → (o : Option Entry) → slice_get T.entries k ≡ o → entry_symbol k o ≡ Some (Fam n) → list_any (λ b. b == 33) name ≡ false
     entry k here None at is = absurd (cc)
-    entry k here (Some (FamilyOf f)) at is = subst (λ x. list_any (λ b. b == 33) x ≡ false) (sym (ap own_name at) ∙ here) (all-at HasPlainFamily T.entries k (FamilyOf f) has.families at)
+    entry k here (Some (FamilyOf f)) at is = subst (λ x. list_any (λ b. b == 33) x ≡ false) (sym (ap own_name at) ∙ here) (all-at HasReadableFamily T.entries k (FamilyOf f) has.families at)
     entry k here (Some _) at is = absurd (cc)
 
     by : (o : Option Found) → find T name ≡ o → found_symbol T o ≡ Some (Fam n) → list_any (λ b. b == 33) name ≡ false
@@ -66,7 +66,7 @@ elim-name name family p number word plain =
     ∙ (ap (λ o. is_some (option_and_then (λ family. if list_any (λ b. b == 33) family then None else Some p.1) o)) word
     ∙ ap (λ b. is_some (if b then None else Some p.1)) plain)
 
-no-eliminator : (T : Signature) → AllPairs (λ x y. x ≢ y) (names T) → HasPlainNames T → (name : List ℕ) → IsPlainName name → eliminator_symbol T name ≡ None
+no-eliminator : (T : Signature) → AllPairs (λ x y. x ≢ y) (names T) → HasReadableNames T → (name : List ℕ) → IsReadableName name → eliminator_symbol T name ≡ None
 no-eliminator T distinct has name plain =
     none-is (eliminator_symbol T name)
     (λ t e. through ⊥ (λ p. option_and_then (λ family. eliminator_into p.1 (found_symbol T (find T family))) (before_end (codes "!elim.") p.0)) (number_at_end name) t
@@ -81,7 +81,7 @@ no-eliminator T distinct has name plain =
         by (Some (Fam n)) found is = plain-family T has family n found
         by (Some _) found is = absurd (cc)
 
-no-axiom_k : (name : List ℕ) → IsPlainName name → axiom_k_symbol name ≡ None
+no-axiom_k : (name : List ℕ) → IsReadableName name → axiom_k_symbol name ≡ None
 no-axiom_k name plain =
     none-is (axiom_k_symbol name)
     (λ t e. through ⊥ (λ p. option_and_then (λ equality. option_and_then (λ q. axiom_k_at q.0 q.1 p.1) (number_at_end equality)) (before_end (codes "!k.") p.0)) (number_at_end name) t
@@ -103,7 +103,7 @@ no-axiom_k name plain =
         ∙ (ap (λ o. is_some (option_and_then (λ q. if bytes_eq q.0 (codes "Eq.") then Some p.1 else None) o)) first
         ∙ ap (λ b. is_some (if b then Some p.1 else None)) same))
 
-pub own-unknown : (T : Signature) → AllPairs (λ x y. x ≢ y) (names T) → HasPlainNames T → (own : List ℕ) → IsPlainName own → find T own ≡ None → symbol T [] own ≡ None
+pub own-unknown : (T : Signature) → AllPairs (λ x y. x ≢ y) (names T) → HasReadableNames T → (own : List ℕ) → IsReadableName own → find T own ≡ None → symbol T [] own ≡ None
 own-unknown T distinct has own plain unknown =
     ap (λ o. or_else (found_symbol T o) (or_else (eliminator_symbol T own) (axiom_k_symbol own))) unknown
     ∙ (ap (λ o. or_else o (axiom_k_symbol own)) (no-eliminator T distinct has own plain) ∙ no-axiom_k own plain)
@@ -215,7 +215,7 @@ new-constructors T Known own p (c ∷ cs) found fresh distinct others unknown ar
 
 new-alone : (T : Signature) (name : List ℕ) (more : List (List ℕ)) → AreFresh T (name ∷ more) → IsDeclarableName name → IsNewName T [] [] name
 new-alone T name more fresh is =
-    new-name T [] [] name is (All-head (λ x. find T x ≡ None) name more fresh.unknown) (not-empty name is.plain.some) refl
+    new-name T [] [] name is (All-head (λ x. find T x ≡ None) name more fresh.unknown) (not-empty name is.readable.some) refl
 
 -- an entry whose names may be declared and are fresh
 abbrev IsDeclared : Signature → RawEntry → Type 0
@@ -250,7 +250,7 @@ abbrev pub IsAfter : Signature → Signature → RawEntry → Type 0
 IsAfter T S (RawFamilyOf raw) = (length raw.parameters < 2 ^ 32) × (name_at S (length T.entries) ≡ raw.name)
 IsAfter T S _ = Unit {0}
 
-module _ (T S : Signature) (distinct : AllPairs (λ x y. x ≢ y) (names T)) (plain : HasPlainNames T) (has : Has S T) where
+module _ (T S : Signature) (distinct : AllPairs (λ x y. x ≢ y) (names T)) (plain : HasReadableNames T) (has : Has S T) where
   known : HasSpelledNames T
   known = names-are-spelled T distinct plain
 
@@ -267,7 +267,7 @@ module _ (T S : Signature) (distinct : AllPairs (λ x y. x ≢ y) (names T)) (pl
 
   -- constructors of the family `own`, which is after the entries
   module _ (own : List ℕ) (p : ℕ) (few : p < 2 ^ 32) (new : IsNewName T [] [] own) (here : name_at S (length T.entries) ≡ own) where
-    own-plain : IsPlainName own
+    own-plain : IsReadableName own
     own-plain = new-plain T [] [] own new
 
     unknown : symbol T [] own ≡ None

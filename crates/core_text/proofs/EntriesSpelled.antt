@@ -12,7 +12,7 @@ use Rattle.core_text.specs.EntryParts.{EachTerm}
 use Rattle.core_text.specs.EntryReading.{shows_entry, shown_by, next_entry, with_offset, entry_from}
 use Rattle.core_text.specs.EntryText.{parameters_text, constructors_text, line_text}
 use Rattle.core_text.specs.LineReading.{line_at}
-use Rattle.core_text.specs.PlainNames.{HasPlainNames}
+use Rattle.core_text.specs.ReadableNames.{HasReadableNames}
 use Rattle.core_text.specs.RawEntries.{RawEntry, RawFamilyOf, RawEliminator, RawAxiomK, RawDefinition}
 use Rattle.core_text.specs.Reading.{Reading, wrong}
 use Rattle.core_text.specs.SpelledLines.{IsSpelledOutcome, SpelledLinesAreRead}
@@ -117,7 +117,7 @@ line-is S (RawEliminator g m) = refl
 line-is S (RawAxiomK i m) = refl
 line-is S (RawDefinition name type body) = refl
 
-line-read : (S : Signature) → AllPairs (λ x y. x ≢ y) (names S) → HasPlainNames S → (raw : RawEntry) (rest : List ℕ) → IsEntryOver S raw → length (raw_line S raw) < 2 ^ 32 → Line S (raw_line S raw) raw rest
+line-read : (S : Signature) → AllPairs (λ x y. x ≢ y) (names S) → HasReadableNames S → (raw : RawEntry) (rest : List ℕ) → IsEntryOver S raw → length (raw_line S raw) < 2 ^ 32 → Line S (raw_line S raw) raw rest
 line-read S distinct plain raw rest is short =
     let few = line-short S raw short in
     subst (λ line. Line S line raw rest) (line-is S raw)

@@ -37,7 +37,7 @@ mod PlaceExamples
 pub mod PlacesBefore
 pub mod PlacesFirst
 pub mod PlacesRefused
-pub mod PreludePlain
+pub mod PreludeReadable
 pub mod ProductTexts
 pub mod ReadClauses
 mod ReadingExamples
@@ -47,7 +47,7 @@ pub mod RunSteps
 pub mod Sharing
 pub mod ScopedOver
 pub mod SpineTexts
-pub mod SurfacePlain
+pub mod SurfaceReadable
 pub mod SymbolForms
 pub mod SymbolOutcomes
 pub mod SymbolsOver

@@ -19,7 +19,7 @@ use Rattle.core_sig.specs.declared.entry.Found.TheVariants.{Entry as FoundEntry,
 use Rattle.core_sig.proofs.NewNames.{keys-named}
 use Rattle.core_text.specs.DeclaredNames.{is_eliminator_name, is_axiom_k_name}
 use Rattle.core_text.specs.NameRuns.{are_name_chars}
-use Rattle.core_text.specs.PlainNames.{IsPlainName, HasPlainFamily, HasPlainNames, NamesAreSpelled, NamesStayPlain}
+use Rattle.core_text.specs.ReadableNames.{IsReadableName, HasReadableFamily, HasReadableNames, NamesAreSpelled, NamesStayReadable}
 use Rattle.core_text.specs.ReadBack.{IsSpelled}
 use Rattle.core_text.specs.SymbolLookup.{number_at_end, before_end, entry_symbol, found_symbol, eliminator_into, eliminator_symbol, axiom_k_at, axiom_k_symbol, or_else, symbol}
 use Rattle.core_text.specs.SymbolNames.{own_name, own_constructor_name, constructor_name_in, name_at, constructor_name_at, eliminator_name, axiom_k_name}
@@ -62,11 +62,11 @@ all-at P (y ∷ xs) (suc n) x all e = all-at P xs n x (All-tail P y xs all) e
 -- the names of a signature are all different and plain
 record IsPlain (S : Signature) : Type 0 where
   distinct : AllPairs (λ x y. x ≢ y) (names S)
-  names : HasPlainNames S
+  names : HasReadableNames S
 
-plain-found : (S : Signature) → IsPlain S → (name : List ℕ) (found : Found) → find S name ≡ Some found → IsPlainName name
+plain-found : (S : Signature) → IsPlain S → (name : List ℕ) (found : Found) → find S name ≡ Some found → IsReadableName name
 plain-found S has name found e =
-    key-found IsPlainName name (named 0 S.entries) found (subst (All IsPlainName) (sym (keys-named 0 S.entries)) has.names.plain) e
+    key-found IsReadableName name (named 0 S.entries) found (subst (All IsReadableName) (sym (keys-named 0 S.entries)) has.names.readable) e
 
 plain-spelled : (S : Signature) → IsPlain S → (name : List ℕ) (found : Found) (t : Term) → find S name ≡ Some found → found_symbol S (Some found) ≡ Some t → IsSpelled (symbol S []) name t
 plain-spelled S has name found t is same =
@@ -128,7 +128,7 @@ elim-form family m lt plain =
 elim-found : (S : Signature) → IsPlain S → (n m : ℕ) (f : Family) → IsEntryAt S n (FamilyOf f) → m < top → symbol S [] (eliminator_name f.name m) ≡ Some (Elim n m)
 elim-found S has n m f at lt =
     let name = eliminator_name f.name m in
-    let unknown = not-known S name (λ found e. false≢true (sym (plain-found S has name found e).no_eliminator ∙ elim-form f.name m lt (all-at HasPlainFamily S.entries n (FamilyOf f) has.names.families at))) in
+    let unknown = not-known S name (λ found e. false≢true (sym (plain-found S has name found e).no_eliminator ∙ elim-form f.name m lt (all-at HasReadableFamily S.entries n (FamilyOf f) has.names.families at))) in
     let family : found_symbol S (find S f.name) ≡ Some (Fam n) = ap (found_symbol S) (family-found S has.distinct n f at) ∙ ap (entry_symbol n) at in
     let eliminator : eliminator_symbol S name ≡ Some (Elim n m) =
     ap (option_and_then (λ p. option_and_then (λ family. eliminator_into p.1 (found_symbol S (find S family))) (before_end (codes "!elim.") p.0))) (elim-number f.name m lt)
@@ -236,8 +236,8 @@ names-are-spelled S distinct plain =
 
 -- ---- one entry more
 
-pub names-stay-plain : NamesStayPlain
-names-stay-plain S e has plain family = record {
-  plain = subst (All IsPlainName) (sym (flat_map-append names_of S.entries (e ∷ []))) (All-append IsPlainName (names S) (names_of e ++ []) has.plain (subst (All IsPlainName) (sym (append-nil (names_of e))) plain));
-  families = All-push HasPlainFamily S.entries e has.families family;
+pub names-stay-readable : NamesStayReadable
+names-stay-readable S e has plain family = record {
+  readable = subst (All IsReadableName) (sym (flat_map-append names_of S.entries (e ∷ []))) (All-append IsReadableName (names S) (names_of e ++ []) has.readable (subst (All IsReadableName) (sym (append-nil (names_of e))) plain));
+  families = All-push HasReadableFamily S.entries e has.families family;
 }

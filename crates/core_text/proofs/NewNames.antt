@@ -10,7 +10,7 @@ use Rattle.theory.specs.Signatures.{Signature}
 use Rattle.core_sig.specs.Names.{find}
 use Rattle.core_sig.specs.Raw.{RawConstructor}
 use Rattle.core_text.specs.DeclaredNames.{is_eliminator_name, is_axiom_k_name, is_new, may_declare, by_shape, shape_of}
-use Rattle.core_text.specs.PlainNames.{IsPlainName}
+use Rattle.core_text.specs.ReadableNames.{IsReadableName}
 use Rattle.core_text.specs.ReadBack.{MayDeclare}
 use Rattle.core_text.specs.Reading.{wrong}
 use Rattle.core_text.specs.Spellings.{IsNewName}
@@ -70,7 +70,7 @@ module _ (S : Signature) (own : List ℕ) (found : List RawConstructor) (name : 
   not-here : (not (bytes_eq name own) ≡ true) × (not (list_any (λ c. bytes_eq name c.name) found) ≡ true)
   not-here = and_parts (not (bytes_eq name own)) (not (list_any (λ c. bytes_eq name c.name) found)) not-known.1
 
-  pub new-plain : IsPlainName name
+  pub new-plain : IsReadableName name
   new-plain = record {
     chars = is.chars;
     some = some-bytes name is.shape;
@@ -100,11 +100,11 @@ module _ (S : Signature) (own : List ℕ) (found : List RawConstructor) (name : 
 -- a name that may be declared is new where neither the signature nor the line so far has it
 pub new-name : (S : Signature) (own : List ℕ) (found : List RawConstructor) (name : List ℕ) → IsDeclarableName name → find S name ≡ None → bytes_eq name own ≡ false → list_any (λ c. bytes_eq name c.name) found ≡ false → IsNewName S own found name
 new-name S own found name is unknown other others = record {
-  chars = is.plain.chars;
+  chars = is.readable.chars;
   shape = is.shape;
   may =
-      and_from (not (is_eliminator_name name)) (not (is_axiom_k_name name) && is_new S own found name) (ap not is.plain.no_eliminator)
-      (and_from (not (is_axiom_k_name name)) (is_new S own found name) (ap not is.plain.no_axiom_k)
+      and_from (not (is_eliminator_name name)) (not (is_axiom_k_name name) && is_new S own found name) (ap not is.readable.no_eliminator)
+      (and_from (not (is_axiom_k_name name)) (is_new S own found name) (ap not is.readable.no_axiom_k)
       (and_from (not (is_some (find S name))) (not (bytes_eq name own) && not (list_any (λ c. bytes_eq name c.name) found)) (ap (λ o. not (is_some o)) unknown)
       (and_from (not (bytes_eq name own)) (not (list_any (λ c. bytes_eq name c.name) found)) (ap not other) (ap not others))));
 }

@@ -20,7 +20,7 @@ pub mod LineLaws
 pub mod ReadLaws
 pub mod ReadBack
 pub mod WrittenEntries
-pub mod PlainNames
+pub mod ReadableNames
 pub mod SurfaceNames
 pub mod Spellings
 pub mod SpelledLines

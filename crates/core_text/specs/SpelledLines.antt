@@ -4,7 +4,7 @@ use Rattle.std.specs.Prelude.{◌≡◌, ◌≢◌, ◌⊎◌, ℕ, ◌+◌, ◌
 use Rattle.theory.specs.Signatures.{Signature, names}
 use Rattle.core_text.specs.EntryParts.{HasLowTerms}
 use Rattle.core_text.specs.EntryReading.{shows_entry, entry_from}
-use Rattle.core_text.specs.PlainNames.{HasPlainNames}
+use Rattle.core_text.specs.ReadableNames.{HasReadableNames}
 use Rattle.core_text.specs.RawEntries.{RawEntry}
 use Rattle.core_text.specs.Spellings.{raw_line, IsEntryOver}
 use Rattle.core_text.specs.declared.stop.CoreTextStop.{CoreTextStop}
@@ -22,6 +22,6 @@ IsSpelledOutcome S raw from to r =
 
 abbrev pub SpelledLinesAreRead : Type 0
 SpelledLinesAreRead =
-    (S : Signature) (raw : RawEntry) (before others : List ℕ) → AllPairs (λ x y. x ≢ y) (names S) → HasPlainNames S → IsEntryOver S raw
+    (S : Signature) (raw : RawEntry) (before others : List ℕ) → AllPairs (λ x y. x ≢ y) (names S) → HasReadableNames S → IsEntryOver S raw
     → length (raw_line S raw) < 2 ^ 32
     → IsSpelledOutcome S raw (length before) (length before + length (raw_line S raw)) (entry_from S (before ++ (raw_line S raw ++ others)) (length before))

@@ -7,6 +7,6 @@ use Rattle.surface_syntax.specs.declared.token.TokenKind.TheVariants.{Plain}
 use Rattle.core_text.specs.WrittenEntries.{IsDeclarableName}
 
 -- A core file may declare each plain name of the surface text, and none of them holds a `!`.
-abbrev pub SurfaceNamesArePlain : Type 0
-SurfaceNamesArePlain =
+abbrev pub SurfaceNamesAreReadable : Type 0
+SurfaceNamesAreReadable =
     (name : List ℕ) → is_utf8 name ≡ true → Spells Plain (chars name) true → IsDeclarableName name × (list_any (λ b. b == 33) name ≡ false)

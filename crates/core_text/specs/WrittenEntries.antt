@@ -1,20 +1,20 @@
--- Entries that may follow others in a core file: where the names so far are plain, each of them is read back.
+-- Entries that may follow others in a core file: where the names so far are readable, each of them is read back.
 use Rattle.std.specs.Prelude.{◌≡◌, ◌≢◌, ℕ, ◌<◌, ◌^◌, true, List, length, AllPairs}
 use Rattle.theory.specs.Signatures.{Signature, Entry, FamilyOf, IsEntryAt, names_of, names}
 use Rattle.theory.specs.SignatureScopes.{IsFamilyNumber}
 use Rattle.core_text.specs.DeclaredNames.{shape_of}
 use Rattle.core_text.specs.EntryParts.{IsEntryWith, HasLowTerms}
 use Rattle.core_text.specs.EntryReading.{shows_entry}
-use Rattle.core_text.specs.PlainNames.{IsPlainName, HasPlainNames}
+use Rattle.core_text.specs.ReadableNames.{IsReadableName, HasReadableNames}
 use Rattle.core_text.specs.RawEntries.{entry_shown}
 use Rattle.core_text.specs.ReadBack.{EntryReadsBack}
 use Rattle.core_text.specs.ReadLaws.{AreFresh}
 use Rattle.core_text.specs.Spellings.{HasSymbols}
 use Rattle.core_text.specs.declared.declared_names.Shape.TheVariants.{Declarable}
 
--- a plain name that a core file may declare
+-- a readable name that a core file may declare
 pub record IsDeclarableName (name : List ℕ) : Type 0 where
-  pub plain : IsPlainName name
+  pub readable : IsReadableName name
   pub shape : shape_of name ≡ Declarable
 
 abbrev pub HasFewParameters : Entry → Type 0
@@ -33,6 +33,6 @@ pub record MayFollow (T : Signature) (e : Entry) : Type 0 where
 -- line is written.
 abbrev pub EntriesThatFollow : Type 0
 EntriesThatFollow =
-    (T S : Signature) (e : Entry) → AllPairs (λ x y. x ≢ y) (names T) → HasPlainNames T →
+    (T S : Signature) (e : Entry) → AllPairs (λ x y. x ≢ y) (names T) → HasReadableNames T →
     ((n : ℕ) (x : Entry) → IsEntryAt T n x → IsEntryAt S n x) → IsEntryAt S (length T.entries) e →
     AreFresh T (names_of e) → MayFollow T e → EntryReadsBack T S e

@@ -1,11 +1,11 @@
 ghost use Rattle.core_text.specs.LineLaws.{EndsAreRead, LinesAreRead, NotesArePassedOver};
 ghost use Rattle.core_text.specs.Lines.{LinesAreApart};
 ghost use Rattle.core_text.specs.Places.{NestedPlacesAreReached, PlacesAreFirst};
-ghost use Rattle.core_text.specs.PlainNames.{NamesAreSpelled, NamesStayPlain, PreludeHasPlainNames};
+ghost use Rattle.core_text.specs.ReadableNames.{NamesAreSpelled, NamesStayReadable, PreludeHasReadableNames};
 ghost use Rattle.core_text.specs.ReadBack.{EntriesAreReadBack, TermsAreReadBack};
 ghost use Rattle.core_text.specs.ReadLaws.{WhatIsRead};
 ghost use Rattle.core_text.specs.SpelledLines.{SpelledLinesAreRead};
-ghost use Rattle.core_text.specs.SurfaceNames.{SurfaceNamesArePlain};
+ghost use Rattle.core_text.specs.SurfaceNames.{SurfaceNamesAreReadable};
 ghost use Rattle.core_text.specs.WrittenEntries.{EntriesThatFollow};
 
 /// No line of an entry begins another.
@@ -33,14 +33,14 @@ pub fn lines_are_read()
     ensures { LinesAreRead }
 {}
 
-/// Where names are plain, each symbol is looked up by its name, which is told apart from what follows it.
+/// Where names are readable, each symbol is looked up by its name, which is told apart from what follows it.
 pub fn names_are_spelled()
     ensures { NamesAreSpelled }
 {}
 
-/// Names stay plain with an entry more whose names are plain.
-pub fn names_stay_plain()
-    ensures { NamesStayPlain }
+/// Names stay readable with an entry more whose names are readable.
+pub fn names_stay_readable()
+    ensures { NamesStayReadable }
 {}
 
 /// Lines that begin with `#` are passed over.
@@ -53,19 +53,19 @@ pub fn ends_are_read()
     ensures { EndsAreRead }
 {}
 
-/// The names of the prelude are plain.
-pub fn prelude_has_plain_names()
-    ensures { PreludeHasPlainNames }
+/// The names of the prelude are readable.
+pub fn prelude_has_readable_names()
+    ensures { PreludeHasReadableNames }
 {}
 
-/// An entry that may follow others is read back over them, where their names are plain.
+/// An entry that may follow others is read back over them, where their names are readable.
 pub fn entries_that_follow()
     ensures { EntriesThatFollow }
 {}
 
 /// A core file may declare each plain name of the surface text, and none of them holds a `!`.
-pub fn surface_names_are_plain()
-    ensures { SurfaceNamesArePlain }
+pub fn surface_names_are_readable()
+    ensures { SurfaceNamesAreReadable }
 {}
 
 /// The place of a refusal is the first byte with which no core file over the entries so far goes on.

@@ -33,9 +33,9 @@ pub use entry_reader::read_entry;
 pub use head::read_head;
 pub use laws::{
     ends_are_read, entries_are_read_back, entries_that_follow, lines_are_apart, lines_are_read,
-    names_are_spelled, names_stay_plain, nested_places_are_reached, notes_are_passed_over,
-    places_are_first, prelude_has_plain_names, spelled_lines_are_read, surface_names_are_plain,
-    terms_are_read_back, what_is_read,
+    names_are_spelled, names_stay_readable, nested_places_are_reached, notes_are_passed_over,
+    places_are_first, prelude_has_readable_names, spelled_lines_are_read,
+    surface_names_are_readable, terms_are_read_back, what_is_read,
 };
 pub use stop::CoreTextStop;
 pub use term_printer::print_term;

@@ -4,7 +4,7 @@ use Rattle.theory.specs.Prelude.{prelude}
 use Rattle.theory.specs.Signatures.{Signature}
 use Rattle.surface_syntax.specs.Trees as surf
 use Rattle.surface_syntax.specs.declared.tree.Word.{Word}
-use Rattle.core_text.proofs.SurfacePlain.{surface-names-are-plain}
+use Rattle.core_text.proofs.SurfaceReadable.{surface-names-are-readable}
 use Rattle.resolve.specs.Families.{names_of}
 use Rattle.draft_checks.specs.Checks.{unmarked}
 use Rattle.draft_entering.specs.FreeNames.{is_marked}
@@ -21,7 +21,7 @@ use Rattle.declaration_laws.proofs.UnmarkedDeclarations.{declaration-stays}
 -- ---- names
 
 word-unmarked : (w : Word) → IsPlain w → is_marked w.text ≡ false
-word-unmarked w h = (surface-names-are-plain w.text h.0 h.1).1
+word-unmarked w h = (surface-names-are-readable w.text h.0 h.1).1
 
 names-unmarked : (cons : List surf.Typed) → Each IsTyped cons → Each (λ name. is_marked name ≡ false) (names_of cons)
 names-unmarked [] h = tt

@@ -24,7 +24,7 @@ use Rattle.core_text.specs.Heads.{head_of, has_head, shared}
 use Rattle.core_text.specs.Heads as heads
 use Rattle.core_text.specs.LineLaws.{AreNotes, no_note, note, NotesArePassedOver, EndsAreRead}
 use Rattle.core_text.specs.Lines.{is_in_line, AreInLine}
-use Rattle.core_text.specs.PlainNames.{HasPlainNames, IsPlainName, HasPlainFamily}
+use Rattle.core_text.specs.ReadableNames.{HasReadableNames, IsReadableName, HasReadableFamily}
 use Rattle.core_text.specs.RawEntries.{entry_shown, family_shown, constructor_line}
 use Rattle.core_text.specs.ReadBack.{EntryReadsBack, EntriesAreReadBack}
 use Rattle.core_text.specs.WrittenEntries.{MayFollow, EntriesThatFollow}
@@ -79,7 +79,7 @@ shown-as n (Definition name type body) S at = definition name type body
 
 -- names are plain, and each entry after the prelude may follow those before it
 pub record MayFollowInTurn (S : Signature) : Type 0 where
-  pub plain : HasPlainNames S
+  pub readable : HasReadableNames S
   pub follows : (n : ℕ) (e : Entry) → length (prelude S.has_k).entries ≤ n → IsEntryAt S n e → MayFollow (first_entries S n) e
 
 -- ---- lines that show entries
@@ -111,11 +111,11 @@ module _ (back : EntriesAreReadBack) (follow : EntriesThatFollow) (passed : Note
     parts : (n : ℕ) → take n W.entries ++ drop n W.entries ≡ W.entries
     parts n = take-append-drop n W.entries
 
-    plain-before : (n : ℕ) → HasPlainNames (first_entries W n)
+    plain-before : (n : ℕ) → HasReadableNames (first_entries W n)
     plain-before n = record {
-      plain = all_left IsPlainName (flat_map names_of (take n W.entries)) (flat_map names_of (drop n W.entries))
-          (subst (λ ns. All IsPlainName ns) (ap (λ es. flat_map names_of es) (sym (parts n)) ∙ flat_map-append names_of (take n W.entries) (drop n W.entries)) writable.plain.plain);
-      families = all_left HasPlainFamily (take n W.entries) (drop n W.entries) (subst (λ es. All HasPlainFamily es) (sym (parts n)) writable.plain.families);
+      readable = all_left IsReadableName (flat_map names_of (take n W.entries)) (flat_map names_of (drop n W.entries))
+          (subst (λ ns. All IsReadableName ns) (ap (λ es. flat_map names_of es) (sym (parts n)) ∙ flat_map-append names_of (take n W.entries) (drop n W.entries)) writable.readable.readable);
+      families = all_left HasReadableFamily (take n W.entries) (drop n W.entries) (subst (λ es. All HasReadableFamily es) (sym (parts n)) writable.readable.families);
     }
 
     kept : (n k : ℕ) (x e : Entry) (U : Signature) → IsPrefix U W → IsEntryAt U n e → IsEntryAt (first_entries W n) k x → IsEntryAt U k x

@@ -185,7 +185,7 @@ module _ (T : Signature) (formed : IsWellFormed T) where
 
 pub in-turn : (S : Signature) → IsWellFormed S → IsWritable S → MayFollowInTurn S
 in-turn S formed writable = record {
-  plain = writable.plain;
+  readable = writable.readable;
   follows = λ n e after at.
       let lt = slice_get_within S.entries n e at in
       let size : length (first_entries S n).entries ≡ n = length-take-le n S.entries (omega arith) in

@@ -4,7 +4,7 @@ use Rattle.theory.specs.Prelude.{prelude}
 use Rattle.theory.specs.Signatures.{Entry, FamilyOf, EliminatorAt, AxiomKAt, Definition, Signature, IsEntryAt, names_of}
 use Rattle.theory.specs.Terms.{height}
 use Rattle.core_text.specs.EntryReading.{entry_from}
-use Rattle.core_text.specs.PlainNames.{HasPlainNames}
+use Rattle.core_text.specs.ReadableNames.{HasReadableNames}
 use Rattle.core_text.specs.WrittenEntries.{IsDeclarableName}
 use Rattle.core_text.specs.RawEntries.{type_shown, constructor_type_shown}
 use Rattle.elim_program.specs.VerifyHeadline.{Holds}
@@ -26,9 +26,9 @@ IsLowEntry n (EliminatorAt g m) = Unit {0}
 IsLowEntry n (AxiomKAt i m) = Unit {0}
 IsLowEntry n (Definition name type body) = (height type ≤ 2000) × (height body ≤ 2000)
 
--- Names are plain, those of each entry after the prelude are names that a core file may declare, and its terms are not too
+-- Names are readable, those of each entry after the prelude are names that a core file may declare, and its terms are not too
 -- high for one.
 pub record IsWritable (S : Signature) : Type 0 where
-  pub plain : HasPlainNames S
+  pub readable : HasReadableNames S
   pub names : (n : ℕ) (e : Entry) → length (prelude S.has_k).entries ≤ n → IsEntryAt S n e → All IsDeclarableName (names_of e)
   pub low : (n : ℕ) (e : Entry) → length (prelude S.has_k).entries ≤ n → IsEntryAt S n e → IsLowEntry n e

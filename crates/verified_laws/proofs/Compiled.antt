@@ -8,10 +8,10 @@ use Rattle.theory.proofs.Pushing.{prefix_reflexive, prefix_transitive, push_is_l
 use Rattle.surface_syntax.specs.Trees.{Decl}
 use Rattle.core_text.proofs.EntriesFollow.{entries-that-follow}
 use Rattle.core_text.proofs.LinesSpelled.{entries-are-read-back}
-use Rattle.core_text.proofs.NamesSpelled.{names-stay-plain}
+use Rattle.core_text.proofs.NamesSpelled.{names-stay-readable}
 use Rattle.core_text.proofs.NotesBack.{notes-are-passed-over, ends-are-read}
-use Rattle.core_text.proofs.PreludePlain.{prelude-plain}
-use Rattle.core_text.proofs.SurfacePlain.{surface-names-are-plain}
+use Rattle.core_text.proofs.PreludeReadable.{prelude-readable}
+use Rattle.core_text.proofs.SurfaceReadable.{surface-names-are-readable}
 use Rattle.elab_session.specs.Sessions.{IsReady}
 use Rattle.elab_session.proofs.PreludeReady.{prelude-ready}
 use Rattle.function_session.specs.Elaborating.{Elaborated, Refused, elaborate_of}
@@ -92,7 +92,7 @@ accepts fuel S (d ∷ ds) accepted = by (elaborate_of S fuel d) refl (λ T. acce
 text-writable : (bytes : List ℕ) (fuel : ℕ) (k : Bool) (ds : List Decl) → Gives bytes (Ok ds) → (declarations fuel (prelude k) ds).refused ≡ false
     → IsWritable (signature_after fuel (prelude k) ds)
 text-writable bytes fuel k ds gives accepted =
-    accepted-writable names-stay-plain prelude-plain surface-names-are-plain bytes ds ds [] k fuel (signature_after fuel (prelude k) ds) gives (sym (append-nil ds))
+    accepted-writable names-stay-readable prelude-readable surface-names-are-readable bytes ds ds [] k fuel (signature_after fuel (prelude k) ds) gives (sym (append-nil ds))
     (accepts fuel (prelude k) ds accepted)
 
 -- ---- outputs with status `Done`

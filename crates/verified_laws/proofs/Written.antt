@@ -2,10 +2,10 @@
 use Rattle.std.proofs.Common.{[], ◌∷◌, ◌++◌, sym, ◌∙◌, append_assoc}
 use Rattle.core_text.proofs.EntriesFollow.{entries-that-follow}
 use Rattle.core_text.proofs.LinesSpelled.{entries-are-read-back}
-use Rattle.core_text.proofs.NamesSpelled.{names-stay-plain}
+use Rattle.core_text.proofs.NamesSpelled.{names-stay-readable}
 use Rattle.core_text.proofs.NotesBack.{notes-are-passed-over, ends-are-read}
-use Rattle.core_text.proofs.PreludePlain.{prelude-plain}
-use Rattle.core_text.proofs.SurfacePlain.{surface-names-are-plain}
+use Rattle.core_text.proofs.PreludeReadable.{prelude-readable}
+use Rattle.core_text.proofs.SurfaceReadable.{surface-names-are-readable}
 use Rattle.elim_program.proofs.Accepted.{accepts-more}
 use Rattle.program_laws.proofs.OneSignature.{core-of-lines}
 use Rattle.writing_laws.proofs.Writables.{accepted-writable}
@@ -13,7 +13,7 @@ use Rattle.verified_laws.specs.AcceptedLines.{LinesAreCoreFiles, LinesAreWritabl
 
 pub lines_are_writable : LinesAreWritable
 lines_are_writable words bytes above name a =
-    accepted-writable names-stay-plain prelude-plain surface-names-are-plain bytes a.decls (a.front ++ a.declaration ∷ []) a.back a.command.k a.command.fuel a.accepted.signature a.text
+    accepted-writable names-stay-readable prelude-readable surface-names-are-readable bytes a.decls (a.front ++ a.declaration ∷ []) a.back a.command.k a.command.fuel a.accepted.signature a.text
     (a.in_text ∙ sym (append_assoc a.front (a.declaration ∷ []) a.back)) (accepts-more a.command.fuel a.declaration a.accepted a.reached a.elaborated)
 
 pub lines_are_core_files : LinesAreCoreFiles

@@ -232,7 +232,7 @@ declarable stem more front seg is all some ends h name same =
     let made = stem ++ 33 ∷ more in
     let holds = inner-mark stem more in
     subst IsDeclarableName (sym same) (record {
-      plain = record {
+      readable = record {
         chars = with-mark stem more is all;
         some = some-in stem;
         no_sort = other-word made (codes "Type") holds refl;

@@ -19,7 +19,7 @@ use Rattle.core_terms.proofs.Answers.{Answers}
 use Rattle.core_sig.specs.Drafts.{generated_name}
 use Rattle.core_sig.specs.Instances.{is_eliminator, is_axiom_k}
 use Rattle.core_text.specs.NameRuns.{are_name_chars}
-use Rattle.core_text.specs.PlainNames.{IsPlainName, HasPlainFamily, HasPlainNames, NamesStayPlain}
+use Rattle.core_text.specs.ReadableNames.{IsReadableName, HasReadableFamily, HasReadableNames, NamesStayReadable}
 use Rattle.core_text.specs.WrittenEntries.{IsDeclarableName}
 use Rattle.core_text.proofs.WholeRuns.{chars-join, number-chars}
 use Rattle.family_check.specs.Asking.{sort_in, type_in}
@@ -170,7 +170,7 @@ part-mark f h c word number m lt all none no_elim no_k =
 pub record AreNamed (S : Signature) : Type 0 where
   pub stems : (n : ℕ) (f : Family) → IsEntryAt S n (FamilyOf f) → HasStems f
   pub names : (n : ℕ) (e : Entry) → length (prelude S.has_k).entries ≤ n → IsEntryAt S n e → All IsDeclarableName (names_of e)
-  pub plain : HasPlainNames S
+  pub readable : HasReadableNames S
 
 pub generated-named : (S : Signature) (g : Generated) → AreNamed S → IsListed S g → IsDeclarableName (name_of g)
 generated-named S (gen.Case n f m) named at = level-mark f.name 99 (codes "ase.") m (named.stems n f at.0).own at.1 case-chars refl refl refl
@@ -184,14 +184,14 @@ generated-named S (gen.Direct n f) named at = one-mark f.name (codes "direct") (
 generated-named S (gen.Acyclic n f) named at = one-mark f.name (codes "acyclic") (named.stems n f at).own acyclic-chars (omega arith) (record { unmarked = refl; no_elim = refl; no_k = refl })
 generated-named S (gen.Left i m) named at = level-mark (codes "Eq." ++ level_text i) 108 (codes "eft.") m (equality-stem i at.0) at.1 left-chars refl refl refl
 
-all-plain : (names : List (List ℕ)) → All IsDeclarableName names → All IsPlainName names
-all-plain names all = λ k d lt. (all k d lt).plain
+all-plain : (names : List (List ℕ)) → All IsDeclarableName names → All IsReadableName names
+all-plain names all = λ k d lt. (all k d lt).readable
 
-pub named-pushed : NamesStayPlain → (S : Signature) (e : Entry) → AreNamed S → All IsDeclarableName (names_of e) → HasPlainFamily e → ((f : Family) → e ≡ FamilyOf f → HasStems f) → AreNamed (pushed S e)
+pub named-pushed : NamesStayReadable → (S : Signature) (e : Entry) → AreNamed S → All IsDeclarableName (names_of e) → HasReadableFamily e → ((f : Family) → e ≡ FamilyOf f → HasStems f) → AreNamed (pushed S e)
 named-pushed stay S e named own family stems = record {
   stems = λ n f at. stem n f (entry_of-pushed S e n (FamilyOf f) at);
   names = λ n x after at. name n x after (entry_of-pushed S e n x at);
-  plain = stay S e named.plain (all-plain (names_of e) own) family;
+  readable = stay S e named.readable (all-plain (names_of e) own) family;
 }
   where
     stem : (n : ℕ) (f : Family) → IsEntryAt S n (FamilyOf f) ⊎ ((n ≡ length S.entries) × (e ≡ FamilyOf f)) → HasStems f
@@ -202,7 +202,7 @@ named-pushed stay S e named own family stems = record {
     name n x after (inl earlier) = named.names n x after earlier
     name n x after (inr last) = subst (λ y. All IsDeclarableName (names_of y)) last.1 own
 
-module _ (stay : NamesStayPlain) where
+module _ (stay : NamesStayReadable) where
   pub define-named : (S : Signature) (name : List ℕ) (type body : Term) (left : ℕ) → AreNamed S → IsDeclarableName name → Answers (After AreNamed) (define_of S name type body left)
   define-named S name type body left named h =
       if_new (are_new S (name ∷ []))
@@ -214,7 +214,7 @@ module _ (stay : NamesStayPlain) where
           named-pushed stay S (Definition name type body) named (All-cons IsDeclarableName name [] h (All-nil IsDeclarableName)) tt (λ f is. absurd (cc))))
       if_new false = tt
 
-  instance-named : (S : Signature) (e : Entry) → names_of e ≡ [] → HasPlainFamily e → ((f : Family) → e ≡ FamilyOf f → HasStems f) → AreNamed S → (fits : Bool) (type : Term) (there : Option ℕ) (left : ℕ)
+  instance-named : (S : Signature) (e : Entry) → names_of e ≡ [] → HasReadableFamily e → ((f : Family) → e ≡ FamilyOf f → HasStems f) → AreNamed S → (fits : Bool) (type : Term) (there : Option ℕ) (left : ℕ)
       → Answers (After AreNamed) (unless_there S there (enter_instance S e fits type) left)
   instance-named S e none family stems named fits type (Some n) left = named
   instance-named S e none family stems named true type None left =

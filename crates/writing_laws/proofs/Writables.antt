@@ -11,8 +11,8 @@ use Rattle.theory.specs.Signatures.{Entry, FamilyOf, EliminatorAt, Signature}
 use Rattle.theory.proofs.Lists.{some_is}
 use Rattle.core_sig.specs.Raw.{RawConstructor, RawFamily, raw_names}
 use Rattle.core_text.specs.NameRuns.{are_name_chars}
-use Rattle.core_text.specs.PlainNames.{NamesStayPlain, PreludeHasPlainNames}
-use Rattle.core_text.specs.SurfaceNames.{SurfaceNamesArePlain}
+use Rattle.core_text.specs.ReadableNames.{NamesStayReadable, PreludeHasReadableNames}
+use Rattle.core_text.specs.SurfaceNames.{SurfaceNamesAreReadable}
 use Rattle.core_text.specs.WrittenEntries.{IsDeclarableName}
 use Rattle.core_text.proofs.WholeRuns.{chars-join}
 use Rattle.surface_syntax.specs.Trees as surf
@@ -63,24 +63,24 @@ stems-at es all n f at =
     let same : get_or es n (EliminatorAt 0 0) ≡ FamilyOf f = some_is (sym (slice_get-get_or es n (EliminatorAt 0 0) lt) ∙ at) in
     subst StemsIn same (all n (EliminatorAt 0 0) lt)
 
-prelude-named : PreludeHasPlainNames → (k : Bool) → AreNamed (prelude k)
+prelude-named : PreludeHasReadableNames → (k : Bool) → AreNamed (prelude k)
 prelude-named begins k = record {
   stems = λ n f at. stems-at (prelude k).entries (prelude-stems k) n f at;
   names = λ n e after at. (let lt = slice_get_within (prelude k).entries n e at in absurd (omega arith));
-  plain = begins k;
+  readable = begins k;
 }
 
 -- ---- declarations
 
-module _ (stay : NamesStayPlain) (begins : PreludeHasPlainNames) (surface : SurfaceNamesArePlain) where
+module _ (stay : NamesStayReadable) (begins : PreludeHasReadableNames) (surface : SurfaceNamesAreReadable) where
   surface-declarable : (x : List ℕ) → IsSurfaceName x → IsDeclarableName x
   surface-declarable x h = (surface x h.0 h.1).0
 
   stem-of : (x : List ℕ) → IsSurfaceName x → IsStem x
-  stem-of x h = record { all_chars = (surface-declarable x h).plain.chars; of = Plain; kind = inl refl; spelled = h.1 }
+  stem-of x h = record { all_chars = (surface-declarable x h).readable.chars; of = Plain; kind = inl refl; spelled = h.1 }
 
   part-of : (x : List ℕ) → IsSurfaceName x → IsPart x
-  part-of x h = record { all_chars = (surface-declarable x h).plain.chars; unmarked = (surface x h.0 h.1).1 }
+  part-of x h = record { all_chars = (surface-declarable x h).readable.chars; unmarked = (surface x h.0 h.1).1 }
 
   names-declarable : (raws : List RawConstructor) → Each (λ c. IsSurfaceName c.name) raws → All IsDeclarableName (map (λ c. c.name) raws)
   names-declarable [] h = All-nil IsDeclarableName
@@ -160,4 +160,4 @@ module _ (stay : NamesStayPlain) (begins : PreludeHasPlainNames) (surface : Surf
   accepted-writable bytes decls front back k fuel T gives parts accepts =
       let all = subst (λ ds. Each (λ d. (U : Signature) → IsOrdinary U d) ds) parts (text-ordinary bytes decls gives) in
       let r = led fuel (prelude k) front T (front-ordinary front back all) accepts (prelude-named begins k) (entries-stay-low.0 k) in
-      record { plain = r.0.plain; names = r.0.names; low = r.1 }
+      record { readable = r.0.readable; names = r.0.names; low = r.1 }

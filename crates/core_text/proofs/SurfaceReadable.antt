@@ -19,7 +19,7 @@ use Rattle.surface_syntax.specs.declared.token.TokenKind.TheVariants.{Plain}
 use Rattle.surface_syntax.proofs.TokenLaws.{spelled_piece}
 use Rattle.core_text.specs.DeclaredNames.{shape_by, shape_of, is_generated, is_eliminator_name, is_axiom_k_name}
 use Rattle.core_text.specs.NameRuns.{is_name_char}
-use Rattle.core_text.specs.SurfaceNames.{SurfaceNamesArePlain}
+use Rattle.core_text.specs.SurfaceNames.{SurfaceNamesAreReadable}
 use Rattle.core_text.specs.SymbolLookup.{number_at_end, before_end}
 use Rattle.core_text.specs.declared.declared_names.Shape.TheVariants.{Declarable, Malformed}
 use Rattle.core_text.proofs.SymbolsRead.{same-bytes, number-read, word-read}
@@ -155,13 +155,13 @@ whole-shape name text spells =
     ap (λ b. if b then shape_by (piece cs) cs else Malformed) text
     ∙ (ap (λ found. shape_by found cs) (spelled_piece spells) ∙ ap (λ b. if b || is_generated (drop (length cs) cs) then Declarable else Malformed) equal)
 
-pub surface-names-are-plain : SurfaceNamesArePlain
-surface-names-are-plain name text spells =
+pub surface-names-are-readable : SurfaceNamesAreReadable
+surface-names-are-readable name text spells =
     let view = plain-view Plain (chars name) true spells refl in
     let goes = name-goes-on (chars name) view.0 in
     let unmarked : marked name ≡ false = ap marked (sym (encodes-chars name (IsUtf8-from_is_utf8 name text))) ∙ chars-unmarked (chars name) goes in (
       record {
-        plain = record {
+        readable = record {
           chars = and_from (is_utf8 name) (list_all is_name_char (chars name)) text (all-names (chars name) goes);
           some = some-bytes name (some-name (chars name) view.0);
           no_sort = no-key-word name (codes "Type") key-words.0 view.1;

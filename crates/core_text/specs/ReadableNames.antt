@@ -12,9 +12,9 @@ use Rattle.core_text.specs.ReadBack.{IsSpelled}
 use Rattle.core_text.specs.SymbolLookup.{symbol}
 use Rattle.core_text.specs.SymbolNames.{name_at, constructor_name_at, eliminator_name, axiom_k_name}
 
--- A plain name has characters that can be in a name, and is neither of the two words that begin a term otherwise. It is not
+-- A readable name has characters that can be in a name, and is neither of the two words that begin a term otherwise. It is not
 -- written as an eliminator of a family whose name holds no `!`, nor as K.
-pub record IsPlainName (name : List ℕ) : Type 0 where
+pub record IsReadableName (name : List ℕ) : Type 0 where
   pub chars : are_name_chars name ≡ true
   pub some : 0 < length name
   pub no_sort : bytes_eq name (codes "Type") ≡ false
@@ -23,15 +23,15 @@ pub record IsPlainName (name : List ℕ) : Type 0 where
   pub no_axiom_k : is_axiom_k_name name ≡ false
 
 -- the name of a family holds no `!`
-abbrev pub HasPlainFamily : Entry → Type 0
-HasPlainFamily (FamilyOf f) = list_any (λ b. b == 33) f.name ≡ false
-HasPlainFamily _ = Unit {0}
+abbrev pub HasReadableFamily : Entry → Type 0
+HasReadableFamily (FamilyOf f) = list_any (λ b. b == 33) f.name ≡ false
+HasReadableFamily _ = Unit {0}
 
--- All names are plain, and those of families hold no `!`. A file may declare `a!b!elim.3`: beside a family `a!b` that name
+-- All names are readable, and those of families hold no `!`. A file may declare `a!b!elim.3`: beside a family `a!b` that name
 -- would stand for the definition, and the eliminator would have no text of its own.
-pub record HasPlainNames (S : Signature) : Type 0 where
-  pub plain : All IsPlainName (names S)
-  pub families : All HasPlainFamily S.entries
+pub record HasReadableNames (S : Signature) : Type 0 where
+  pub readable : All IsReadableName (names S)
+  pub families : All HasReadableFamily S.entries
 
 -- Each symbol of the signature is looked up by its name, which is told apart from what follows it.
 pub record HasSpelledNames (S : Signature) : Type 0 where
@@ -41,14 +41,14 @@ pub record HasSpelledNames (S : Signature) : Type 0 where
   pub eliminators : (n m : ℕ) (f : Family) → IsEntryAt S n (FamilyOf f) → m < top → IsSpelled (symbol S []) (eliminator_name (name_at S n) m) (Elim n m)
   pub axiom_k : (i m : ℕ) → i < top → m < top → IsSpelled (symbol S []) (axiom_k_name i m) (AxiomK i m)
 
--- Symbols are known by their names where these are plain and all different.
+-- Symbols are known by their names where these are readable and all different.
 abbrev pub NamesAreSpelled : Type 0
-NamesAreSpelled = (S : Signature) → AllPairs (λ x y. x ≢ y) (names S) → HasPlainNames S → HasSpelledNames S
+NamesAreSpelled = (S : Signature) → AllPairs (λ x y. x ≢ y) (names S) → HasReadableNames S → HasSpelledNames S
 
--- Names stay plain with an entry more.
-abbrev pub NamesStayPlain : Type 0
-NamesStayPlain = (S : Signature) (e : Entry) → HasPlainNames S → All IsPlainName (names_of e) → HasPlainFamily e → HasPlainNames (pushed S e)
+-- Names stay readable with an entry more.
+abbrev pub NamesStayReadable : Type 0
+NamesStayReadable = (S : Signature) (e : Entry) → HasReadableNames S → All IsReadableName (names_of e) → HasReadableFamily e → HasReadableNames (pushed S e)
 
--- The names of the prelude are plain.
-abbrev pub PreludeHasPlainNames : Type 0
-PreludeHasPlainNames = (k : Bool) → HasPlainNames (prelude k)
+-- The names of the prelude are readable.
+abbrev pub PreludeHasReadableNames : Type 0
+PreludeHasReadableNames = (k : Bool) → HasReadableNames (prelude k)

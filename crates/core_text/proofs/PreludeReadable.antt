@@ -16,7 +16,7 @@ use Rattle.theory.specs.Signatures.{Entry, FamilyOf, names_of}
 use Rattle.theory.specs.Prelude.{level_text, empty_family, equality_family, unit_family, pair_family, at_levels}
 use Rattle.theory.proofs.Lists.{both, only}
 use Rattle.core_text.specs.NameRuns.{are_name_chars}
-use Rattle.core_text.specs.PlainNames.{IsPlainName, HasPlainFamily, PreludeHasPlainNames}
+use Rattle.core_text.specs.ReadableNames.{IsReadableName, HasReadableFamily, PreludeHasReadableNames}
 use Rattle.core_text.specs.SymbolLookup.{number_at_end, before_end}
 use Rattle.core_text.proofs.SymbolForms.{number-at-end}
 use Rattle.core_text.proofs.WholeRuns.{chars-join, number-chars}
@@ -32,7 +32,7 @@ level-is i small = by (nat_lt i 10) refl
         let two : 10 ≤ i = grind (arith, nat_tests) in
         sym (decimal_step i two (omega arith) ∙ ap (λ ds. ds ++ (48 + i % 10) ∷ []) (decimal_digit (i / 10) (omega arith)))
 
-dotted-plain : (before : List ℕ) (i : ℕ) → i < top → are_name_chars (before ++ 46 ∷ []) ≡ true → bytes_eq ((before ++ 46 ∷ []) ++ level_text i) (codes "Type") ≡ false → bytes_eq ((before ++ 46 ∷ []) ++ level_text i) (codes "let") ≡ false → before_end (codes "!elim.") (before ++ 46 ∷ []) ≡ None → before_end (codes "!k.") (before ++ 46 ∷ []) ≡ None → IsPlainName ((before ++ 46 ∷ []) ++ level_text i)
+dotted-plain : (before : List ℕ) (i : ℕ) → i < top → are_name_chars (before ++ 46 ∷ []) ≡ true → bytes_eq ((before ++ 46 ∷ []) ++ level_text i) (codes "Type") ≡ false → bytes_eq ((before ++ 46 ∷ []) ++ level_text i) (codes "let") ≡ false → before_end (codes "!elim.") (before ++ 46 ∷ []) ≡ None → before_end (codes "!k.") (before ++ 46 ∷ []) ≡ None → IsReadableName ((before ++ 46 ∷ []) ++ level_text i)
 dotted-plain before i lt word no_sort no_let no_elim no_k =
     let text = level-is i (omega arith) in
     let number : number_at_end ((before ++ 46 ∷ []) ++ level_text i) ≡ Some (before ++ 46 ∷ [], i) = ap (λ ds. number_at_end ((before ++ 46 ∷ []) ++ ds)) text ∙ number-at-end before 46 i refl (omega arith) in
@@ -69,30 +69,30 @@ word-no-mark word i none = list_any-append (λ b. b == 33) word (level_text i) �
 -- ---- entries
 
 record IsPlainEntry (e : Entry) : Type 0 where
-  names : All IsPlainName (names_of e)
-  family : HasPlainFamily e
+  names : All IsReadableName (names_of e)
+  family : HasReadableFamily e
 
 empty-plain : IsPlainEntry (FamilyOf empty_family)
 empty-plain = record {
-  names = only IsPlainName (codes "Empty") (record { chars = words.0; some = omega arith; no_sort = refl; no_let = refl; no_eliminator = refl; no_axiom_k = refl });
+  names = only IsReadableName (codes "Empty") (record { chars = words.0; some = omega arith; no_sort = refl; no_let = refl; no_eliminator = refl; no_axiom_k = refl });
   family = refl;
 }
 
 equality-plain : (i : ℕ) → i < top → IsPlainEntry (FamilyOf (equality_family i))
 equality-plain i lt = record {
-  names = both IsPlainName (codes "Eq." ++ level_text i) (codes "refl." ++ level_text i) (dotted-plain (codes "Eq") i lt words.1 refl refl refl refl) (dotted-plain (codes "refl") i lt words.2 refl refl refl refl);
+  names = both IsReadableName (codes "Eq." ++ level_text i) (codes "refl." ++ level_text i) (dotted-plain (codes "Eq") i lt words.1 refl refl refl refl) (dotted-plain (codes "refl") i lt words.2 refl refl refl refl);
   family = word-no-mark (codes "Eq.") i refl;
 }
 
 unit-plain : (i : ℕ) → i < top → IsPlainEntry (FamilyOf (unit_family i))
 unit-plain i lt = record {
-  names = both IsPlainName (codes "Unit." ++ level_text i) (codes "unit." ++ level_text i) (dotted-plain (codes "Unit") i lt words.3 refl refl refl refl) (dotted-plain (codes "unit") i lt words.4 refl refl refl refl);
+  names = both IsReadableName (codes "Unit." ++ level_text i) (codes "unit." ++ level_text i) (dotted-plain (codes "Unit") i lt words.3 refl refl refl refl) (dotted-plain (codes "unit") i lt words.4 refl refl refl refl);
   family = word-no-mark (codes "Unit.") i refl;
 }
 
 pair-plain : (i : ℕ) → i < top → IsPlainEntry (FamilyOf (pair_family i))
 pair-plain i lt = record {
-  names = both IsPlainName (codes "Pair." ++ level_text i) (codes "pair." ++ level_text i) (dotted-plain (codes "Pair") i lt words.5 refl refl refl refl) (dotted-plain (codes "pair") i lt words.6 refl refl refl refl);
+  names = both IsReadableName (codes "Pair." ++ level_text i) (codes "pair." ++ level_text i) (dotted-plain (codes "Pair") i lt words.5 refl refl refl refl) (dotted-plain (codes "pair") i lt words.6 refl refl refl refl);
   family = word-no-mark (codes "Pair.") i refl;
 }
 
@@ -103,15 +103,15 @@ levels-plain f each from (suc n) le =
 
 -- ---- all of them
 
-names-plain : (es : List Entry) → All IsPlainEntry es → All IsPlainName (flat_map names_of es)
-names-plain [] all = All-nil IsPlainName
+names-plain : (es : List Entry) → All IsPlainEntry es → All IsReadableName (flat_map names_of es)
+names-plain [] all = All-nil IsReadableName
 names-plain (e ∷ es) all =
-    All-append IsPlainName (names_of e) (flat_map names_of es) (All-head IsPlainEntry e es all).names (names-plain es (All-tail IsPlainEntry e es all))
+    All-append IsReadableName (names_of e) (flat_map names_of es) (All-head IsPlainEntry e es all).names (names-plain es (All-tail IsPlainEntry e es all))
 
-families-plain : (es : List Entry) → All IsPlainEntry es → All HasPlainFamily es
-families-plain [] all = All-nil HasPlainFamily
+families-plain : (es : List Entry) → All IsPlainEntry es → All HasReadableFamily es
+families-plain [] all = All-nil HasReadableFamily
 families-plain (e ∷ es) all =
-    All-cons HasPlainFamily e es (All-head IsPlainEntry e es all).family (families-plain es (All-tail IsPlainEntry e es all))
+    All-cons HasReadableFamily e es (All-head IsPlainEntry e es all).family (families-plain es (All-tail IsPlainEntry e es all))
 
 entries-plain : All IsPlainEntry (FamilyOf empty_family ∷ (at_levels equality_family ++ (at_levels unit_family ++ at_levels pair_family)))
 entries-plain =
@@ -119,8 +119,8 @@ entries-plain =
     (All-append IsPlainEntry (at_levels equality_family) (at_levels unit_family ++ at_levels pair_family) (levels-plain equality_family equality-plain 0 top (omega arith))
     (All-append IsPlainEntry (at_levels unit_family) (at_levels pair_family) (levels-plain unit_family unit-plain 0 top (omega arith)) (levels-plain pair_family pair-plain 0 top (omega arith))))
 
-pub prelude-plain : PreludeHasPlainNames
-prelude-plain k = record {
-  plain = names-plain (FamilyOf empty_family ∷ (at_levels equality_family ++ (at_levels unit_family ++ at_levels pair_family))) entries-plain;
+pub prelude-readable : PreludeHasReadableNames
+prelude-readable k = record {
+  readable = names-plain (FamilyOf empty_family ∷ (at_levels equality_family ++ (at_levels unit_family ++ at_levels pair_family))) entries-plain;
   families = families-plain (FamilyOf empty_family ∷ (at_levels equality_family ++ (at_levels unit_family ++ at_levels pair_family))) entries-plain;
 }
