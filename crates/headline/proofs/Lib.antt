@@ -1,0 +1,3 @@
+mod Accepted
+mod Full
+mod Runs

@@ -1,0 +1,5 @@
+use Rattle.headline.proofs.Runs.{has-run}
+use Rattle.headline.proofs.running.run.Goals as goal
+
+pub returns-clause-runs : goal.returns-clause-runs
+returns-clause-runs g c = has-run c.full_headline.ensures _ _ _ _ _ c.run.ensures.runs

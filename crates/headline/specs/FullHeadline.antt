@@ -1,0 +1,52 @@
+-- All that follows from a line that accepts a declaration.
+use Rattle.std.specs.Prelude.{◌≡◌, ℕ, false, List, ◌∷◌, ◌++◌}
+use Rattle.elim_program.specs.Acceptance.{IsAccepted}
+use Rattle.elim_program.specs.DefinedOutputs.{IsOutput}
+use Rattle.elim_program.specs.Headline.{IsShown}
+use Rattle.elim_program.specs.Lines.{lines_of, text_of}
+use Rattle.elim_program.specs.Outputs.{Output, accepted_line}
+use Rattle.program_laws.specs.CoreFiles.{IsCoreFile}
+use Rattle.program_laws.specs.WithoutK.{AreWithoutK}
+use Rattle.verified_laws.specs.AcceptedLines.{IsReported}
+
+-- What is shown is what the elaborator accepts: the same declaration of the text, over the same entries, with the same signature after it
+-- and the same clauses.
+pub record IsOfTheSame (words : List (List ℕ)) (bytes : List ℕ) (above : List (List ℕ)) (name : List ℕ) (shown : IsShown words bytes above name)
+    (accepted : IsAccepted words bytes above name) : Type 0 where
+  pub k : shown.k ≡ accepted.command.k
+  pub decls : shown.decls ≡ accepted.decls
+  pub declaration : shown.declaration ≡ accepted.declaration
+  pub before : shown.before ≡ accepted.before
+  pub after : shown.after ≡ accepted.accepted.signature
+  pub clauses : shown.clauses ≡ accepted.accepted.lines
+
+-- The headline, and what more is known of the same declaration.
+-- `core_file`: the lines above are a core file. What is read from it, entry by entry up to its end, is the signature after the
+-- declaration, except for the levels that a family keeps.
+-- `without_k`: where the prelude does not have axiom K, no line above is that of an instance of K, and no entry holds K.
+-- `accepted`: the elaborator accepts the declaration with these clauses; the leaves of each clause that is shadowed are those of the tree
+-- in the function's plan.
+-- `reported`: the line of each clause is the clause's report.
+pub record IsFullyShown (words : List (List ℕ)) (bytes : List ℕ) (above : List (List ℕ)) (name : List ℕ) : Type 0 where
+  pub shown : IsShown words bytes above name
+  pub core_file : IsCoreFile shown.k (text_of above) shown.after
+  pub without_k : shown.k ≡ false → AreWithoutK above shown.after
+  pub accepted : IsAccepted words bytes above name
+  pub same : IsOfTheSame words bytes above name shown accepted
+  pub reported : IsReported accepted.before accepted.declaration accepted.accepted
+
+-- if a whole line of the text says that a declaration is accepted, all of this is known of it
+abbrev pub IsFullHeadline : List (List ℕ) → List ℕ → List ℕ → Type 0
+IsFullHeadline words bytes text =
+    (above below : List (List ℕ)) (name : List ℕ) → lines_of text ≡ above ++ accepted_line name ∷ below → IsFullyShown words bytes above name
+
+-- the same for each output that is defined, and for what was written of it
+abbrev pub FullHeadline : Type 0
+FullHeadline =
+    (words : List (List ℕ)) (bytes : List ℕ) (out : Output) → IsOutput words bytes out → (text rest : List ℕ) → text_of out.lines ≡ text ++ rest → IsFullHeadline words bytes text
+
+-- the headline is about what the elaborator accepts
+abbrev pub AcceptedIsTheShown : Type 0
+AcceptedIsTheShown =
+    (words : List (List ℕ)) (bytes : List ℕ) (above : List (List ℕ)) (name : List ℕ) (accepted : IsAccepted words bytes above name)
+    → (shown : IsShown words bytes above name) × IsOfTheSame words bytes above name shown accepted

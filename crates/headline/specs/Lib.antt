@@ -1,0 +1,2 @@
+pub mod FullHeadline
+pub mod Runs

@@ -1,0 +1,24 @@
+-- What a run did.
+use Rattle.std.specs.Prelude.{◌≡◌, ℕ, List, [], Option, IfSome, ◌⊎◌}
+use Rattle.std.specs.Io.KnownBytes.{Appends}
+use Rattle.elim_program.specs.declared.status.Status.{Status}
+use Rattle.elim_program.specs.declared.status.Status.TheVariants.{ReadFault, NoMemory}
+use Rattle.elim_program.specs.DefinedOutputs.{IsOutput}
+use Rattle.elim_program.specs.Outputs.{Output}
+use Rattle.elim_program.specs.Runs.{Follows}
+use Rattle.elim_program.specs.VerifyHeadline.{IsVerifyHeadline}
+use Rattle.headline.specs.FullHeadline.{IsFullHeadline}
+
+-- A run follows an output that is defined for its words and the bytes, or it ended before it wrote anything: by a fault of
+-- the source, or for want of memory. If a whole line of what was written says that a declaration is accepted, all is known of it
+-- (`IsFullyShown`). If one says that an entry of a core file is verified, the entries verified up to it are a signature by the rules.
+pub data HasWritten (words : List (List ℕ)) (bytes : List ℕ) (before after : Option (List ℕ)) (status : Status) : Type 0 where
+  nothing : Appends before after [] → (status ≡ ReadFault) ⊎ (status ≡ NoMemory) → HasWritten words bytes before after status
+  output : (out : Output) → IsOutput words bytes out → (follows : Follows out before after status) → IsFullHeadline words bytes follows.text
+      → IsVerifyHeadline words bytes follows.text → HasWritten words bytes before after status
+
+-- the bytes are those that the source had left, where they are known
+pub record HasRun (words : List (List ℕ)) (left before after : Option (List ℕ)) (status : Status) : Type 0 where
+  pub bytes : List ℕ
+  pub known : IfSome left (λ known. bytes ≡ known)
+  pub written : HasWritten words bytes before after status

@@ -1,0 +1,28 @@
+//! The laws of the lines that accept a declaration.
+ghost use Rattle.headline.specs.FullHeadline.{AcceptedIsTheShown, FullHeadline};
+
+use elim_program::laws::{acceptance, accepted_is_shown};
+use program_laws::laws::{gives_by_the_grammar, without_k};
+use verified_laws::lines::{lines_are_core_files, lines_are_reports};
+use written_functions::laws::functions_are_by_clauses;
+
+/// What the elaborator accepts is what the headline says of it.
+pub fn accepted_is_the_shown()
+    ensures { AcceptedIsTheShown }
+{
+    accepted_is_shown();
+    gives_by_the_grammar();
+    functions_are_by_clauses();
+}
+
+/// Where a line says that a declaration is accepted, all is known of it: the headline, and that the lines above are one core file,
+/// without K unless the words ask for it, and that the elaborator accepts this declaration with these lines.
+pub fn full_headline()
+    ensures { FullHeadline }
+{
+    acceptance();
+    accepted_is_the_shown();
+    lines_are_core_files();
+    lines_are_reports();
+    without_k();
+}

@@ -1,0 +1,34 @@
+ghost use Rattle.std.specs.Prelude.{◌≡◌, ◌≢◌, map, IsTrue, not, string_bytes};
+ghost use Rattle.core_terms.specs.Count.{Rose};
+ghost use Rattle.elim_program.specs.Runs.{IsWhole};
+ghost use Rattle.elim_program.specs.Words.{asks_for_source};
+ghost use Rattle.headline.specs.Runs.{HasRun};
+
+use crate::laws::full_headline;
+use elim_ports::{Sink, Source};
+use elim_program::Status;
+use std::alloc::Global;
+
+/// Compiles the text of `source`, or verifies the core file that it holds, or counts the clauses of a text of its own, as the
+/// words ask for, and writes the lines to `sink`.
+///
+/// `words` are those after the program's name. The source is read whole before the first write; for `work`, or where the words
+/// are not accepted, it is not read.
+pub fn run<S: Source, K: Sink>(
+    alloc: Global,
+    words: &[String],
+    source: &mut S,
+    sink: &mut K,
+) -> Status
+    // What was written follows a defined output, or nothing was written. Of each whole line `# accepted NAME` all is known that
+    // `IsFullyShown` has. Each whole line `# verified NAME` has its headline.
+    ensures runs { HasRun (map string_bytes words.now) (S.left source.old) (K.written sink.old) (K.written sink.new) result }
+    ensures read_fault { result ≡ Status.ReadFault → Rose (S.faults source.old) (S.faults source.new) }
+    ensures write_fault { result ≡ Status.WriteFault → Rose (K.faults sink.old) (K.faults sink.new) }
+    ensures complete { (Rose (S.faults source.old) (S.faults source.new) → ⊥) → (Rose (K.faults sink.old) (K.faults sink.new) → ⊥) → result ≢ Status.NoMemory
+        → IsWhole (map string_bytes words.now) (S.left source.old) (K.written sink.old) (K.written sink.new) result }
+    ensures unread { IsTrue (not (asks_for_source (map string_bytes words.now))) → source.new ≡ source.old }
+{
+    full_headline();
+    elim_program::run(alloc, words, source, sink)
+}
