@@ -1,5 +1,5 @@
 -- Lists of terms of the code that are cut and joined, and the trees that they stand for.
-use Rattle.std.proofs.Common.{◌≡◌, ℕ, zero, suc, ◌-◌, ◌≤◌, List, [], ◌∷◌, ◌++◌, length, take, drop, refl, ap, sym, ◌∙◌, append_assoc, arith}
+use Rattle.std.proofs.Common.{◌≡◌, ℕ, zero, suc, ◌-◌, ◌≤◌, List, [], ◌∷◌, ◌++◌, length, take, drop, refl, ap, ◌∙◌, arith}
 use Rattle.std.proofs.lemmas.List.{map-append, length-drop}
 use Rattle.core_terms.specs.Meanings.{tree_of, tele_of}
 use Rattle.core_terms.specs.declared.term.Term as code
@@ -26,12 +26,6 @@ tele_behind n xs =
 
 pub tele_append : (xs ys : List code.Term) → tele_of (xs ++ ys) ≡ tele_of xs ++ tele_of ys
 tele_append xs ys = map-append tree_of xs ys
-
--- one term more
-pub tele_pushed : (xs ys zs : List code.Term) (t : code.Term) → tele_of xs ≡ tele_of ys ++ tele_of zs → tele_of (xs ++ t ∷ []) ≡ tele_of ys ++ tele_of (zs ++ t ∷ [])
-tele_pushed xs ys zs t h =
-    tele_append xs (t ∷ []) ∙ (ap (λ us. us ++ tree_of t ∷ []) h
-    ∙ (append_assoc (tele_of ys) (tele_of zs) (tree_of t ∷ []) ∙ ap (λ us. tele_of ys ++ us) (sym (tele_append zs (t ∷ [])))))
 
 pub ruleset cut_laws = (tele_take, tele_behind)
 

@@ -8,7 +8,7 @@ use Rattle.theory.proofs.Lists.{some_is}
 use Rattle.core_terms.specs.Answers.{and_next, and_then, is_low, are_low}
 use Rattle.core_terms.specs.Patterns.{Pat, Pats}
 use Rattle.core_terms.specs.Clauses as clause
-use Rattle.core_terms.specs.Clauses.{Clause, Clauses, Right, Is}
+use Rattle.core_terms.specs.Clauses.{Clauses, Right, Is}
 use Rattle.core_terms.specs.CaseTrees as tree
 use Rattle.core_terms.specs.CaseTrees.{Tree, Branch, Branches}
 use Rattle.core_terms.specs.declared.stop.Stop.{Stop}
@@ -25,7 +25,7 @@ use Rattle.case_trees.specs.Working.{of_columns, work_pairs}
 use Rattle.case_trees.specs.Keeping.{keep_all}
 use Rattle.case_trees.specs.Points.{Point, bounded_point, start_at, under_solution, moved_point, solution_for, point_keeping}
 use Rattle.case_trees.specs.Stops as stop
-use Rattle.case_trees.specs.Stops.{TreeStop, Halts, Stopping, or_halts, halting, answers}
+use Rattle.case_trees.specs.Stops.{TreeStop, Halts, or_halts, halting, answers}
 use Rattle.case_trees.specs.Looking.{Look, Found, Passed, Looked, Ran, look_at_type, first_found, run_all}
 use Rattle.case_trees.specs.OwnWalks.{or_none}
 use Rattle.case_trees.specs.Trees.{Live, Node, Growing, all_live, patterns_left, unless_dropped, worked, as_split, look, moved_live, solved_node, branch_by, grow_branches, by_first, by_live, one_node, nowhere, by_patterns, split_of}
@@ -46,7 +46,7 @@ use Rattle.case_trees.proofs.KeptTerms.{all-trans, all-same}
 use Rattle.case_trees.proofs.SharedTerms.{HaveKept, all-kept-on, all-long, some-clash-apart}
 use Rattle.case_trees.proofs.Comparing.{all-compare}
 use Rattle.case_trees.proofs.LeftClauses as clauses_left
-use Rattle.case_trees.proofs.LeftClauses.{AreLeft, all-left, left-on, left-moved, none-left, IsFirst, first-left, same-patterns}
+use Rattle.case_trees.proofs.LeftClauses.{AreLeft, all-left, left-on, left-moved, none-left, first-left, same-patterns}
 
 -- what is uncovered is apart from every clause
 abbrev pub UncoveredApart : Signature → Clauses → TreeStop → Type 0
@@ -273,14 +273,6 @@ leaves_match = λ S context goal terms clauses left given for.
     (split_of S context goal terms clauses left).0
     (λ t each. each-leaf (LeafMatches S (start_at context goal terms) clauses) (λ number ctx goal' substitution us binds. IsLeafOf S clauses number us binds)
     (λ number ctx goal' substitution us binds h. h.0) t each) (tree-matches S context goal terms clauses left given for)
-
--- an uncovered vector is apart from every clause
-pub uncovered-apart : (S : Signature) (context : Telescope) (goal : Term) (terms : List Term) (clauses : Clauses) (left : ℕ) (new : Telescope) (us : List Term)
-    → IsGiven S context goal terms → AreClausesFor S terms clauses → (split_of S context goal terms clauses left).0 ≡ Err (stop.Uncovered new us)
-    → AllApart S clauses us
-uncovered-apart S context goal terms clauses left new us given for e =
-    transport (Holds (EachLeaf (LeafMatches S (start_at context goal terms) clauses)) (UncoveredApart S clauses)) e
-    (tree-matches S context goal terms clauses left given for)
 
 unmatched : (S : Signature) (pats : Pats) (us : List Term) → are_apart S pats us ≡ true → matches_all S pats us ≡ false
 unmatched S pats us far = by (matches_all S pats us) refl

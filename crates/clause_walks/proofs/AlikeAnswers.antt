@@ -73,15 +73,6 @@ pub and_next-goes : {A C D E : Type 0} (Q : C → D → Type 0) (one : SpentOr E
     → ((a : A) (next : ℕ) → RunAlike Q (go a next) (further a next)) → RunAlike Q (and_next one go) (and_next one further)
 and_next-goes Q one go further k = on_answer-goes Q one.0 one.1 go further k
 
-on_answer-equal : {A C E : Type 0} (one : Result A E) (left : ℕ) (go further : A → ℕ → SpentOr E C)
-    → ((a : A) (next : ℕ) → go a next ≡ further a next) → on_answer one left go ≡ on_answer one left further
-on_answer-equal (Ok a) left go further k = k a left
-on_answer-equal (Err e) left go further k = refl
-
-pub and_next-equal : {A C E : Type 0} (one : SpentOr E A) (go further : A → ℕ → SpentOr E C)
-    → ((a : A) (next : ℕ) → go a next ≡ further a next) → and_next one go ≡ and_next one further
-and_next-equal one go further k = on_answer-equal one.0 one.1 go further k
-
 -- ---- tests, and refusals by another name
 
 pub cond-alike : {A B E : Type 0} (R : A → B → Type 0) (test other_test : Bool) (a : A) (b : B) (e : E) → test ≡ other_test → R a b

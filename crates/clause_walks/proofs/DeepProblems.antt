@@ -229,10 +229,3 @@ one-ends S context x m number c q left mid o made run =
     let same : q ≡ problem_of context x m number c = problem-is context x m number c q made in
     ap (λ (p : Problem). (Ok (run_end (length c.arguments) p o), mid)) same
     ∙ ap (λ r. and_next r (λ o rest. (Ok (run_end (length c.arguments) (problem_of context x m number c) o), rest))) (run ∙ ap (λ p. unify_of S p left) same)
-
-pub one-refused : (S : Signature) (context : Telescope) (x : ℕ) (m : Member) (number : ℕ) (c : Constructor) (q : Problem) (left mid : ℕ) (e : Stop)
-    → ◌≡◌ {A = Result Problem Stop} (Ok q) (problem_made context x m number c) → ◌≡◌ {A = Spent Outcome} (Err e, mid) (unify_of S q left)
-    → ◌≡◌ {A = Spent RunEnd} (Err e, mid) (run_one S context x m number c left)
-one-refused S context x m number c q left mid e made run =
-    let same : q ≡ problem_of context x m number c = problem-is context x m number c q made in
-    ap (λ r. and_next r (λ o rest. (Ok (run_end (length c.arguments) (problem_of context x m number c) o), rest))) (run ∙ ap (λ p. unify_of S p left) same)

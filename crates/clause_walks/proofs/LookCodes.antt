@@ -1,7 +1,7 @@
 -- What the code looks at, and what it reaches, is scoped.
-use Rattle.std.proofs.Common.{◌≡◌, ℕ, ◌+◌, ◌≤◌, ◌<◌, Bool, true, false, cond, Option, Some, None, IfOk, Result, Ok, Err, List, [], ◌∷◌, length, sym, ap, ◌∙◌, subst as transport, arith}
+use Rattle.std.proofs.Common.{◌≡◌, ℕ, ◌≤◌, ◌<◌, Bool, true, false, cond, Option, Some, None, IfOk, Result, Ok, Err, List, [], ◌∷◌, length, sym, ap, ◌∙◌, subst as transport, arith}
 use Rattle.std.proofs.lemmas.List.{length-map}
-use Rattle.theory.specs.Terms.{Term, Var}
+use Rattle.theory.specs.Terms.{Term}
 use Rattle.theory.specs.Telescopes.{Telescope}
 use Rattle.theory.specs.Signatures.{Signature}
 use Rattle.theory.specs.SignatureScopes.{IsScoped}
@@ -68,13 +68,6 @@ head-given S n delta t (Ok u) few form scoped = record { scoped = scoped; low = 
 head-given S n delta t (Err e) few form scoped = tt
 
 -- ---- open pairs
-
--- the first pair and the others
-pub open-variable : (S : Signature) (n x : ℕ) (t : Term) → IsScoped S n t → t ≡ Var x → x < n
-open-variable S n x t h e =
-    let variable : IsScoped S n (Var x) = transport (IsScoped S n) e h in
-    let le : x + 1 ≤ n = variable.variables in
-    omega arith
 
 open-pairs : (S : Signature) (n : ℕ) (pairs : List (Pat × Term)) → AreScopedOpen S n pairs → AllPairs (λ pair. IsScoped S n pair.1) pairs
 open-pairs S n [] h = tt

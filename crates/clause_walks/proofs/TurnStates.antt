@@ -1,20 +1,16 @@
 -- What the parts of a turn are asked about.
-use Rattle.std.proofs.Common.{◌≡◌, ℕ, ◌+◌, ◌≤◌, true, Option, Some, None, List, [], ◌∷◌, ap, sym, subst as transport}
+use Rattle.std.proofs.Common.{◌≡◌, ℕ, ◌≤◌, true, Option, Some, None, List, [], ◌∷◌, ap, sym, subst as transport}
 use Rattle.theory.specs.Terms.{Term, height}
 use Rattle.theory.specs.Signatures.{Signature}
 use Rattle.theory.specs.SignatureScopes.{IsScoped}
 use Rattle.core_terms.specs.Answers.{is_low, are_low}
 use Rattle.core_terms.specs.Patterns.{Pat}
-use Rattle.unification.specs.Outcomes.{Outcome, Solved, Absurd, Stuck}
-use Rattle.unification.specs.ScopedStates.{IsScopedOutcome}
 use Rattle.case_trees.specs.Pairs.{Pair, Pairs, Waits, Binds, Passes, Keeps, Builds, Clashes, nil, cons, or_later, clash_in, first_clash, all_open, is_low_pair, are_low_pairs}
 use Rattle.case_trees.proofs.Looks.{AllPairs}
 use Rattle.case_trees.proofs.WalkStanding.{all-open-scoped}
 use Rattle.unifier.proofs.LowTerms.{and-parts, low-height}
 use Rattle.clause_walks.specs.OpenPairs.{AreScopedOpen}
-use Rattle.clause_walks.specs.PairConditions.{AreKeptPairs, IsSolving}
-use Rattle.clause_walks.specs.ReachedRuns.{IsRunEnd}
-use Rattle.clause_walks.specs.Reaching.{RunEnd}
+use Rattle.clause_walks.specs.PairConditions.{AreKeptPairs}
 
 as-open : (S : Signature) (n : ℕ) (pairs : List (Pat × Term)) → AllPairs (λ pair. IsScoped S n pair.1) pairs → AreScopedOpen S n pairs
 as-open S n [] h = tt
@@ -51,12 +47,3 @@ mutual
 -- the term of a clash
 pub clash-low : (S : Signature) (n : ℕ) (pairs : Pairs) (clash : Pat × Term) → AreKeptPairs S n pairs → Some clash ≡ first_clash pairs → height clash.1 ≤ 2000
 clash-low S n pairs clash h e = low-height clash.1 (first-is_low pairs clash (sym e) h.low)
-
--- what a run solves
-pub run-solving : (S : Signature) (n : ℕ) (r : RunEnd) → IsRunEnd S n r → IsSolving S r.outcome
-run-solving S n r h = by r.outcome h.outcome
-  where
-    by : (outcome : Outcome) → IsScopedOutcome S (n + r.arguments) outcome → IsSolving S outcome
-    by (Solved steps context solution) k = record { context = k.1; solution = k.2 }
-    by (Absurd steps context u v) k = tt
-    by (Stuck steps context u v why) k = tt

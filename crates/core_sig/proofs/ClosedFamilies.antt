@@ -1,21 +1,18 @@
 -- Families of the code whose terms have no variables beyond those that they are over.
-use Rattle.std.proofs.Common.{◌≡◌, ℕ, zero, suc, ◌+◌, ◌<◌, ◌≤◌, List, [], ◌∷◌, ◌++◌, map, take, length, get_or, All, ap, sym, ◌∙◌, subst, subst₂, arith, add-one}
+use Rattle.std.proofs.Common.{◌≡◌, ℕ, zero, suc, ◌+◌, ◌<◌, ◌≤◌, List, [], ◌∷◌, ◌++◌, map, take, length, get_or, All, ap, sym, ◌∙◌, subst, arith, add-one}
 use Rattle.std.proofs.lemmas.List.{length-map, map-append, length-take-le}
-use Rattle.std.proofs.lemmas.List.Elements.{All-nil, All-push, All-drop, All-map}
+use Rattle.std.proofs.lemmas.List.Elements.{All-nil, All-push, All-drop}
 use Rattle.std.proofs.Math.Seq.{take-suc}
 use Rattle.theory.specs.Terms.{Term, free_of}
 use Rattle.theory.specs.Terms.Term.{Pi, App}
 use Rattle.theory.specs.Spines.{spine_of}
 use Rattle.theory.specs.Telescopes.{Telescope}
-use Rattle.theory.specs.Scopes.{IsTelescopeOver, IsArgumentOver, AreArgumentsOver, IsConstructorOver, IsClosedFamily}
-use Rattle.core_terms.specs.Meanings.{tree_of, tele_of}
-use Rattle.core_sig.specs.Meanings.{domains, behind, argument_with, argument_of, constructor_of, family_of}
+use Rattle.theory.specs.Scopes.{IsTelescopeOver, IsArgumentOver, AreArgumentsOver}
+use Rattle.core_terms.specs.Meanings.{tree_of}
+use Rattle.core_sig.specs.Meanings.{domains, behind, argument_with, argument_of}
 use Rattle.core_sig.specs.declared.family.ArgKind.{ArgKind}
 use Rattle.core_sig.specs.declared.family.ArgKind.TheVariants.{Plain, Recursive}
 use Rattle.core_sig.specs.declared.family.Arg.{Arg}
-use Rattle.core_sig.specs.declared.family.Constructor.{Constructor}
-use Rattle.core_sig.specs.declared.family.Family.{Family}
-use Rattle.core_sig.proofs.Arguments.{index_types-of}
 
 -- a telescope with one type more
 over-push : (n : ℕ) (tele : Telescope) (a : Term) → IsTelescopeOver n tele → free_of a ≤ n + length tele → IsTelescopeOver n (tele ++ a ∷ [])
@@ -58,21 +55,3 @@ pub arguments-over : (p n : ℕ) (args : List Arg) → IsTelescopeOver n (map (�
 arguments-over p n [] all = tt
 arguments-over p n (a ∷ args) all =
     (argument-over p (tree_of a.ty) a.level a.kind n all.0, arguments-over p (n + 1) args all.1)
-
--- a constructor, and a family, of which each list was looked at
-pub closed-constructor : (p : ℕ) (c : Constructor) → IsTelescopeOver p (map (λ a. tree_of a.ty) c.args) → All (λ t. free_of t ≤ p + length c.args) (tele_of c.targets) → IsConstructorOver p (constructor_of p c)
-closed-constructor p c args targets = record {
-  arguments = arguments-over p p c.args args;
-  targets = subst (λ k. All (λ t. free_of t ≤ p + k) (tele_of c.targets)) (sym (length-map c.args (argument_of p))) targets;
-}
-
-pub closed-family : (f : Family) → IsTelescopeOver 0 (tele_of f.params) → IsTelescopeOver (length f.params) (map (λ a. tree_of a.ty) f.indices) → All (λ c. IsConstructorOver (length f.params) (constructor_of (length f.params) c)) f.cons → IsClosedFamily (family_of f)
-closed-family f params indices cons = record {
-  parameters = params;
-  indices = subst₂ IsTelescopeOver (sym counted) (sym (index_types-of f)) indices;
-  constructors = subst (λ p. All (IsConstructorOver p) (map (constructor_of (length f.params)) f.cons)) (sym counted)
-      (All-map (IsConstructorOver (length f.params)) (constructor_of (length f.params)) f.cons cons);
-}
-  where
-    counted : length (tele_of f.params) ≡ length f.params
-    counted = length-map f.params tree_of

@@ -1,5 +1,5 @@
 -- The first place at which a test along entries passes.
-use Rattle.std.proofs.Common.{◌≡◌, ℕ, ◌+◌, Bool, false, position, Option, List, [], ◌∷◌, Some, None, refl, sym, ap, ◌∙◌, arith}
+use Rattle.std.proofs.Common.{◌≡◌, ℕ, ◌+◌, Bool, position, List, [], ◌∷◌, refl, sym, ap, ◌∙◌, arith}
 use Rattle.std.specs.List.{list_any, position_from}
 use Rattle.std.specs.Option.{is_some}
 use Rattle.std.proofs.lemmas.Iterator.Adapters.{position_from-zero}
@@ -15,12 +15,5 @@ some-from p i (x ∷ xs) = grind (arith, some-from p (i + 1) xs)
 -- a place is there exactly where the test passes at all
 pub some-position : (p : Entry → Bool) (xs : List Entry) → is_some (position p xs) ≡ list_any p xs
 some-position p xs = ap is_some (position_from-zero p xs) ∙ some-from p 0 xs
-
-pub none-position : (p : Entry → Bool) (xs : List Entry) → list_any p xs ≡ false → position p xs ≡ None
-none-position p xs none = absent (position p xs) (some-position p xs ∙ none)
-  where
-    absent : (o : Option ℕ) → is_some o ≡ false → o ≡ None
-    absent None h = refl
-    absent (Some n) h = absurd (grind arith)
 
 pub ruleset place_laws = (from-zero, some-position)

@@ -8,7 +8,6 @@ use Rattle.theory.specs.Terms.Term.{Var, Sort, Pi, Lam, App, Let, Const, Fam, Co
 use Rattle.theory.specs.Telescopes.{Telescope, products, functions, applied}
 use Rattle.theory.specs.Signatures.{Signature, Definition, IsPrefix}
 use Rattle.theory.specs.SignatureScopes.{IsConstantNumber, HasEntries, IsScoped}
-use Rattle.theory.proofs.FreeVariables.{free_of-lift}
 use Rattle.theory.proofs.ScopedTerms.{HasNumbers, keeps-numbers}
 use Rattle.theory.proofs.Widening.{prefix_keeps}
 use Rattle.core_terms.specs.Levels.{variable, level_at, place_var, place_under, place, bind, over, run}
@@ -135,12 +134,6 @@ entries-lifted T base count (Elim n m) by from h = h
 entries-lifted T base count (Var v) by from h = tt
 entries-lifted T base count (Sort i) by from h = tt
 entries-lifted T base count (AxiomK i m) by from h = tt
-
-pub lift-draft : {T : Signature} {base count n : ℕ} {t : Term} (by from : ℕ) → IsDraftTerm T base count n t → IsDraftTerm T base count (n + by) (lift t by from)
-lift-draft {T} {base} {count} {n} {t} by from h = record {
-  variables = grind (arith, nat_tests, free_of-lift t by from, h.variables);
-  entries = entries-lifted T base count t by from h.entries;
-}
 
 -- ---- terms that are placed
 

@@ -1,5 +1,5 @@
 -- The prelude, entry by entry.
-use Rattle.std.proofs.Common.{◌≡◌, ℕ, ◌+◌, ◌*◌, ◌<◌, ◌≤◌, List, [], ◌∷◌, ◌++◌, map, take, length, Some, slice_get, All, refl, ap, ap₂, sym, ◌∙◌, subst, subst₂, Bool, add-one}
+use Rattle.std.proofs.Common.{◌≡◌, ℕ, ◌+◌, ◌*◌, ◌<◌, ◌≤◌, List, [], ◌∷◌, ◌++◌, map, take, length, Some, slice_get, All, refl, ap, ap₂, sym, ◌∙◌, subst, Bool, add-one}
 use Rattle.std.proofs.lemmas.List.{length-take-le}
 use Rattle.std.proofs.lemmas.Option.{slice_get_within, get_or_from_slice_get}
 use Rattle.std.proofs.Math.Seq.{take-suc}
@@ -58,12 +58,6 @@ pub so_far-at : (k : Bool) (m : ℕ) (S : Signature) → m ≤ length (prelude k
 so_far-at k m S le so_far =
     let are = first-are k m S le so_far in
     so_far ∙ ap₂ (λ j n. first_entries (prelude j) n) (sym are.0) (sym are.1)
-
--- and which one is next
-pub next-at : (k : Bool) (m : ℕ) (S : Signature) (e : Entry) → m ≤ length (prelude k).entries → S ≡ first_entries (prelude k) m → IsEntryAt (prelude k) m e → IsEntryAt (prelude S.has_k) (length S.entries) e
-next-at k m S e le so_far at =
-    let are = first-are k m S le so_far in
-    subst₂ (λ j n. IsEntryAt (prelude j) n e) (sym are.0) (sym are.1) at
 
 -- a family with one constructor of two plain arguments that are variables has the kinds of its types
 pub pair_kinds : (n : ℕ) (f : Family) (con : Constructor) (a b : Arg) (v w i j : ℕ) → f.indices ≡ [] → f.cons ≡ con ∷ [] → con.args ≡ a ∷ b ∷ [] → a ≡ record { ty = Code.Var v; level = i; kind = Plain } → b ≡ record { ty = Code.Var w; level = j; kind = Plain } → HasKinds n f

@@ -17,7 +17,7 @@ use Rattle.theory.proofs.Widening.{prefix_keeps}
 use Rattle.core_terms.specs.Levels.{variable, place, bind, over, run}
 use Rattle.core_terms.specs.declared.levels.Binder.{Binder}
 use Rattle.core_terms.specs.declared.levels.Binder.TheVariants.{Product}
-use Rattle.core_sig.specs.ByLevels.{family_at, motive_type, goal_type, applied_to_targets, hypothesis_from, hypothesis_type, hypotheses_over, conclusion}
+use Rattle.core_sig.specs.ByLevels.{family_at, motive_type, applied_to_targets, hypothesis_from, hypothesis_type, hypotheses_over, conclusion}
 use Rattle.core_sig.specs.DraftScopes.{IsDraftTerm}
 use Rattle.core_sig.specs.EntryTerms.{EachInTelescope}
 use Rattle.core_sig.specs.FamilyShapes.{argument_shapes, family_shape}
@@ -171,19 +171,6 @@ motive_type-draft n f m depth is low =
     let k = length f.indices in
     types-over-draft Product ((0, p) ∷ (depth, k) ∷ []) p depth f.indices (Pi (family_at n p (depth + k) depth k) (Sort m)) (one-list p depth k low) is.indices
     (pi-draft (family_at-draft n p (depth + k) depth k is.family (omega arith) (omega arith)) (sort-draft m))
-
-pub goal_type-draft : {T : Signature} {base count : ℕ} (n : ℕ) (f : Shape) (motive depth : ℕ) → IsDraftShape T base count n f → length f.parameters ≤ depth → motive < depth → IsDraftTerm T base count depth (goal_type n f motive depth)
-goal_type-draft {T} {base} {count} n f motive depth is low motive-low =
-    let p = length f.parameters in
-    let k = length f.indices in
-    let inside = depth + k in
-    types-over-draft Product ((0, p) ∷ (depth, k) ∷ []) p depth f.indices
-    (Pi (family_at n p inside depth k) (App (applied (variable (inside + 1) motive) (run (inside + 1) depth k)) (variable (inside + 1) inside)))
-    (one-list p depth k low) is.indices
-    (pi-draft (family_at-draft n p inside depth k is.family (omega arith) (omega arith))
-    (app-draft
-    (at-run-draft (variable (inside + 1) motive) (inside + 1) depth k (omega arith) (variable-draft motive (omega arith)))
-    (variable-draft inside (omega arith))))
 
 pub targets-draft : {T : Signature} {base count : ℕ} (runs : List (ℕ × ℕ)) (size depth : ℕ) (head : Term) (k : ℕ) (t : Term) → AreBelow runs size depth 0 → IsDraftTerm T base count depth head → IsDraftTerm T base count size t → IsDraftTerm T base count depth (applied_to_targets runs size depth head k t)
 targets-draft runs size depth head (suc k) (App f a) h hh ht =

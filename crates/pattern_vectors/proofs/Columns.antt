@@ -149,14 +149,3 @@ apart-found S n number pats t m k count is family same = go (built_of S t) refl 
         counted b e counts false is = refl
         counted b e counts true is =
             ap (has_apart S (pats_of pats)) (last-arguments S t b (length pats) e (grind (arith, nat_tests)))
-
-pub enough-arguments : (S : Signature) (t : Term) (m k count : ℕ) → Some (record { family = m; number = k; arguments = count }) ≡ option_map numbers_in (built_of S t)
-    → count ≤ length (spine_of t)
-enough-arguments S t m k count is = go (built_of S t) refl is
-  where
-    go : (o : Option Built) → built_of S t ≡ o → Some (record { family = m; number = k; arguments = count }) ≡ option_map numbers_in o → count ≤ length (spine_of t)
-    go None e is = absurd (grind arith)
-    go (Some b) e is =
-        let at = found S t b e in
-        let counts : count ≡ length b.arguments = grind arith in
-        omega (arith, at.whole, ap length at.arguments, length-drop (length b.family.parameters) (spine_of t), counts)

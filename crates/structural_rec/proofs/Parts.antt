@@ -4,7 +4,6 @@ use Rattle.std.specs.Prelude.{◌↔◌, Result}
 use Rattle.theory.specs.Terms.{Term, lift, height}
 use Rattle.theory.specs.Families.{Family}
 use Rattle.theory.specs.Signatures.{Signature, FamilyOf, IsEntryAt}
-use Rattle.theory.specs.SignatureScopes.{IsFamilyNumber}
 use Rattle.theory.proofs.Heights.{height-lift}
 use Rattle.core_terms.specs.Answers.{bounded}
 use Rattle.core_terms.specs.declared.stop.Stop.{Stop}
@@ -30,9 +29,6 @@ part-is S n part t result f at h =
     let decides = part-decides n f part t in
     same-tests result (has_part n (family_shape n f) part t) (λ r. decides.1 (known.0 r)) (λ r. known.1 (decides.0 r))
     ∙ ap (part_in n part t) (sym at)
-
-pub is-family : (S : Signature) (n : ℕ) (f : Family) → family_at S n ≡ Some f → IsFamilyNumber S n
-is-family S n f at = (f, family-found S n f at)
 
 -- a term that is not too high stays so under binders
 pub lifted-low : (t : Term) (by : ℕ) → height t ≤ 2000 → ◌≡◌ {A = Result Term Stop} (bounded (lift t by 0)) (Ok (lift t by 0))

@@ -16,10 +16,10 @@ use Rattle.theory.proofs.PreludeWellFormed.{equality_at}
 use Rattle.core_sig.specs.DraftScopes.{HasDraftEntries, IsDraftTerm}
 use Rattle.core_sig.specs.EntryTerms.{EachInTelescope}
 use Rattle.tele_eq.specs.Items.{Item}
-use Rattle.tele_eq.specs.TelescopicEquality.{equations, transport as transport_at, elimination, reflexivities}
+use Rattle.tele_eq.specs.TelescopicEquality.{equations, elimination, reflexivities}
 use Rattle.tele_eq.specs.Congruences.{congruences}
 use Rattle.tele_eq.specs.ScopeLaws.{HasAllIdentities, AreScopedItems}
-use Rattle.tele_eq.proofs.ScopeLaws.{scoped_equations, scoped_reflexivities, scoped_transport, scoped_congruences, scoped_elimination}
+use Rattle.tele_eq.proofs.ScopeLaws.{scoped_equations, scoped_reflexivities, scoped_congruences, scoped_elimination}
 
 -- ---- a signature with the names of a draft
 
@@ -164,13 +164,6 @@ pub draft-reflexivities : (S : Signature) (count n : ℕ) (X : List Item) (terms
 draft-reflexivities S count n X terms first items all =
     from-all S count n (reflexivities X terms)
     (scoped_reflexivities (with_names S count) n X terms (identities S count first) (to-items S count n X items) (to-all S count n terms all))
-
-pub draft-transport : (S : Signature) (count n : ℕ) (X : List Item) (j : ℕ) (left right eqs : List Term) → IsPrefix (prelude S.has_k) S → AreDraftItems S count n X
-    → All (IsDraftTerm S (length S.entries) count n) left → All (IsDraftTerm S (length S.entries) count n) right → All (IsDraftTerm S (length S.entries) count n) eqs
-    → IsDraftTerm S (length S.entries) count n (transport_at X j left right eqs)
-draft-transport S count n X j left right eqs first items l r e =
-    from-scoped S count n (transport_at X j left right eqs)
-    (scoped_transport (with_names S count) n X j left right eqs (identities S count first) (to-items S count n X items) (to-all S count n left l) (to-all S count n right r) (to-all S count n eqs e))
 
 pub draft-congruences : (S : Signature) (count n : ℕ) (X Y : List Item) (f left right eqs : List Term) → IsPrefix (prelude S.has_k) S → AreDraftItems S count n X → AreDraftItems S count n Y
     → All (IsDraftTerm S (length S.entries) count (n + length X)) f → All (IsDraftTerm S (length S.entries) count n) left → All (IsDraftTerm S (length S.entries) count n) right

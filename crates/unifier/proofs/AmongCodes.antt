@@ -97,14 +97,6 @@ kept-at (o ∷ old) (m ∷ new) (suc at) u lt is same =
     tail : take (suc at + 1) (m ∷ new) ≡ take (suc at + 1) (o ∷ old) → take (at + 1) new ≡ take (at + 1) old
     tail e = ap (drop 1) (let n : suc at + 1 ≡ suc (at + 1) = omega arith in rw n at e)
 
-pub kept-before : (old new : List code.Term) (at : ℕ) → take (at + 1) new ≡ take (at + 1) old → take at new ≡ take at old
-kept-before old new at e = sym (take-less new at) ∙ (ap (take at) e ∙ take-less old at)
-  where
-    take-less : (us : List code.Term) (at : ℕ) → take at (take (at + 1) us) ≡ take at us
-    take-less us zero = refl
-    take-less [] (suc at) = let n : suc at + 1 ≡ suc (at + 1) = omega arith in rw n refl
-    take-less (u ∷ us) (suc at) = let n : suc at + 1 ≡ suc (at + 1) = omega arith in rw n (ap (λ ws. u ∷ ws) (take-less us at))
-
 pub written-at : (us : List code.Term) (at : ℕ) (w : code.Term) → at < length us → drop at (tele_of (set us at w)) ≡ tree_of w ∷ drop (at + 1) (tele_of us)
 written-at [] at w lt = absurd (omega arith)
 written-at (u ∷ us) zero w lt = refl

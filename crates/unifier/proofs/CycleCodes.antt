@@ -96,9 +96,6 @@ pub arguments-apart : (S : Signature) (n : ℕ) (t : Term) (b : Built) → IsOf 
 arguments-apart S n t b h apart =
     ap (direct_arguments n) (of-built S t b h) ∙ other-family b.family n (direct_among (from_code b t).constructor.arguments (from_code b t).arguments) [] apart
 
-pub arguments-none : (S : Signature) (n : ℕ) (t : Term) → built_of S t ≡ None → direct_arguments n (built_of S t) ≡ []
-arguments-none S n t e = ap (direct_arguments n) e
-
 pub direct-same : (S : Signature) (t : Term) (b : Built) (p : pure.Built) → built_of S t ≡ Some p → IsBuiltAs b p → direct_among p.constructor.arguments p.arguments ≡ direct_in b t
 direct-same S t b p e is =
     let h = of-pure S t b p e is in

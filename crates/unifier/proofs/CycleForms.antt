@@ -49,11 +49,6 @@ form-other S n x below t left h =
 search-form : (S : Signature) (n x room : ℕ) (t : Term) (left : ℕ) → search_within S n x room t left ≡ bounded_by room (in_form S n x (whole S n x) t left)
 search-form S n x room t left = ap (bounded_by room) (search-goes_on S n x t left)
 
--- the variable itself
-pub search-variable : (S : Signature) (n x room : ℕ) (t : Term) (left : ℕ) → variable_in t ≡ Some x → search_within S n x room t left ≡ answered (within room (Some t)) left
-search-variable S n x room t left e =
-    search-form S n x room t left ∙ ap (bounded_by room) (form-variable S n x (whole S n x) t left e)
-
 search-other : (S : Signature) (n x room : ℕ) (t : Term) (left : ℕ) (o : Option Built) → variable_in t ≢ Some x → built_of S t ≡ o
     → search_within S n x room t left ≡ bounded_by room (below_constructor S n (whole S n x) o left)
 search-other S n x room t left o h e =

@@ -126,10 +126,6 @@ wanted-family S n k m l p is e test =
     some-is : {A : Type 0} {a b : A} → ◌≡◌ {A = Option A} (Some a) (Some b) → a ≡ b
     some-is e = cc
 
-pub wanted-indices : (S : Signature) (n k : ℕ) (m : Membership) (l : Term) (p : pure.Built) → IsGroupOf S n k m → built_of S l ≡ Some p → IsTrue (p.n == m.number) → length p.family.indices ≡ k
-wanted-indices S n k m l p is e test =
-    ap (λ (f : Family). length f.indices) (wanted-family S n k m l p is e test) ∙ (count-indices m.record.now k [] ∙ is.indices)
-
 pub wanted-parameters : (S : Signature) (n k : ℕ) (m : Membership) (l : Term) (p : pure.Built) → IsGroupOf S n k m → built_of S l ≡ Some p → IsTrue (p.n == m.number) → length p.family.parameters ≡ length m.params
 wanted-parameters S n k m l p is e test =
     ap (λ (f : Family). length f.parameters) (wanted-family S n k m l p is e test) ∙ (count-parameters m.record.now k [] ∙ sym is.count)

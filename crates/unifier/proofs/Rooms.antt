@@ -106,15 +106,6 @@ put-proof order size depth i A B t u r er eB eu lowA lowt freeA freet le =
     let k = height-reordered order size depth t in
     rw (er, eB, eu) (omega arith, omega arith, le, tt)
 
--- the same of a term that stays
-pub put-same : (depth i : ℕ) (A u r : Term) → r ≡ reflexivity i A u → IsOver depth A → IsOver depth u → ArePut depth (r ∷ [])
-put-same depth i A u r e h k =
-    let ha = h.0 in
-    let fa = h.1 in
-    let hu = k.0 in
-    let fu = k.1 in
-    rw e (omega arith, omega arith, h.2, tt)
-
 pub put-room : (n by : ℕ) (terms : List Term) → ArePut n terms → by ≤ 2147500000 → HaveRoomFor by terms
 put-room n by [] h le = tt
 put-room n by (t ∷ terms) h le = let k = h.1 in let l = h.2 in (h.0, omega arith, put-room n by terms h.3 le)

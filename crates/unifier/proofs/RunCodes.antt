@@ -108,7 +108,3 @@ end-there s Done h = (_, refl)
 end-there s (Goes step t) h = absurd (h step t refl)
 end-there s (Fails step u v) h = (_, refl)
 end-there s (Sticks why u v) h = (_, refl)
-
--- the steps after others, once there is one more
-pub steps-more : (steps : List Step) (step : Step) (outcome : Outcome) → behind_steps (steps ++ step ∷ []) outcome ≡ behind_steps steps (before step outcome)
-steps-more steps step outcome = behind-more steps step outcome

@@ -29,10 +29,6 @@ lacks-of_code ctx n x p moved t r en ep em er =
     em ∙ ap (λ k. dependants (tele_of ctx) (k - (x + 1))) (sym (length-map ctx tree_of)) in
     er ∙ (ap (λ k. not (has_level k (p ∷ moved) t)) many ∙ ap₂ (λ k levels. not (has_level (length (tele_of ctx)) (k ∷ levels) t)) level others)
 
-pub dependants-of_code : (ctx slice : List code.Term) (x p : ℕ) → slice ≡ ctx → p ≡ length slice - (x + 1)
-    → dependants (tele_of slice) p ≡ dependants (tele_of ctx) (length ctx - (x + 1))
-dependants-of_code ctx slice x p es ep = rw (ep, es)
-
 -- a variable that is scoped
 pub variable-within : (t : Term) (n x : ℕ) → variable_in t ≡ Some x → free_of t ≤ n → x < n
 variable-within (Var y) n x e h = let k : y ≡ x = cc in omega arith

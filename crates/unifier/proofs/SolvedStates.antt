@@ -3,7 +3,7 @@ use Rattle.std.proofs.Common.{◌≡◌, ℕ, ◌+◌, List, [], ◌∷◌, leng
 use Rattle.theory.specs.Terms.{Term}
 use Rattle.theory.specs.Signatures.{reflexivity}
 use Rattle.core_terms.specs.Levels.{variable}
-use Rattle.core_terms.specs.Meanings.{tree_of, tele_of}
+use Rattle.core_terms.specs.Meanings.{tree_of}
 use Rattle.core_terms.specs.declared.term.Term as code
 use Rattle.tele_eq.specs.Environments.{Environment}
 use Rattle.unification.specs.Heights.{bounded_state}
@@ -33,6 +33,3 @@ solved-is s i p A solution es el eo = rw (es, el, eo)
 pub none-before : (made : List equation.Equation) (more equations : List Equation) → made ≡ [] → equations ≡ equations_of made ++ more
     → equations ≡ more
 none-before made more equations em e = e ∙ ap (λ xs. equations_of xs ++ more) em
-
-pub types-before : (made : List code.Term) (more tele : List Term) → made ≡ [] → tele ≡ tele_of made ++ more → tele ≡ more
-types-before made more tele em e = e ∙ ap (λ xs. tele_of xs ++ more) em
