@@ -31,7 +31,9 @@ use Rattle.tree_translation.specs.Recursion.{Recursion, order_of, ordered_telesc
 use Rattle.resolve.specs.Functions.{Function, function}
 use Rattle.elaboration.specs.Functions.{first_domains, own_part, recursion_in}
 use Rattle.order_scopes.specs.Laws.{begins_closed}
+use Rattle.function_clauses.proofs.OwnParts.{domains-scoped}
 use Rattle.order_scopes.proofs.OrderLengths.{IsRecursion, of-position}
+use Rattle.order_scopes.proofs.OrderedScopes.{type-there}
 use Rattle.function_session.specs.Elaborating.{Elaborated, Refused}
 use Rattle.function_session.proofs.Written.{function-scoped}
 use Rattle.declaration_laws.specs.Laws.{BeginClosed}
@@ -39,11 +41,6 @@ use Rattle.declaration_laws.specs.Meant.{elaborate_meant}
 use Rattle.declaration_laws.specs.Orders.{FewIndicesBeginClosed, FirstIndicesMentionNone, FunctionsBeginClosed, HasFewIndices, HaveFewIndices, MentionsNone, TextsBeginClosed}
 
 -- ---- a type that mentions no variable
-
-type-there : (S : Signature) (n j : ℕ) (tele : Telescope) → IsScopedTelescope S n tele → IsScoped S (n + j) (term_at tele j)
-type-there S n j [] h = sort-scoped 0
-type-there S n zero (a ∷ tele) h = scoped_over_more S n (n + 0) a (omega arith) h.0
-type-there S n (suc j) (a ∷ tele) h = scoped_over_more S (n + 1 + j) (n + suc j) (term_at tele j) (omega arith) (type-there S (n + 1) j tele h.1)
 
 type-in : (tele : Telescope) (p v : ℕ) → has_variable v (term_at tele p) ≡ true → in_type v (slice_get tele p) ≡ true
 type-in [] p v h = absurd (false≢true h)
@@ -175,11 +172,6 @@ order-closed S T tele (Some j) scoped first = by (recursion_in T tele (Some j)) 
         recursion-closed S T tele (length tele) r.position r.admission scoped first is.admits
 
 -- ---- functions
-
-domains-scoped : (S : Signature) (n count : ℕ) (type : Term) → IsScoped S n type → IsScopedTelescope S n (first_domains count type)
-domains-scoped S n zero type h = tt
-domains-scoped S n (suc count) (Pi a b) h = let parts = scoped-pi h in (parts.0, domains-scoped S (n + 1) count b parts.1)
-domains-scoped S n (suc count) _ h = tt
 
 pub functions-closed : FunctionsBeginClosed
 functions-closed S x ty clauses f level is first position =

@@ -15,7 +15,7 @@ use Rattle.resolve.specs.Scoping.{AreClauses, IsResolvedFunction}
 use Rattle.unification.proofs.ScopedRecords.{variables-scoped}
 use Rattle.unification.specs.ScopedStates.{IsReady}
 
-domains-scoped : (S : Signature) (n count : ℕ) (type : Term) → IsScoped S n type → IsScopedTelescope S n (first_domains count type)
+pub domains-scoped : (S : Signature) (n count : ℕ) (type : Term) → IsScoped S n type → IsScopedTelescope S n (first_domains count type)
 domains-scoped S n zero type h = tt
 domains-scoped S n (suc count) (Pi a b) h = let parts = scoped-pi h in (parts.0, domains-scoped S (n + 1) count b parts.1)
 domains-scoped S n (suc count) _ h = tt

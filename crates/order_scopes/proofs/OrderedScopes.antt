@@ -22,7 +22,7 @@ use Rattle.tree_translation.specs.Recursion.{ordered_telescope, ordered_term}
 use Rattle.order_scopes.specs.Laws.{OrderedScoped, begins_closed}
 use Rattle.order_scopes.proofs.OrderLengths.{order-counted}
 
-type-there : (S : Signature) (n j : ℕ) (tele : Telescope) → IsScopedTelescope S n tele → IsScoped S (n + j) (term_at tele j)
+pub type-there : (S : Signature) (n j : ℕ) (tele : Telescope) → IsScopedTelescope S n tele → IsScoped S (n + j) (term_at tele j)
 type-there S n j [] h = sort-scoped 0
 type-there S n zero (a ∷ tele) h = scoped_over_more S n (n + 0) a (omega arith) h.0
 type-there S n (suc j) (a ∷ tele) h = scoped_over_more S (n + 1 + j) (n + suc j) (term_at tele j) (omega arith) (type-there S (n + 1) j tele h.1)
