@@ -1,6 +1,6 @@
 -- A type that the checker finds holds no K.
-use Rattle.std.proofs.Common.{◌≡◌, ℕ, zero, suc, ◌+◌, nat_lt, Bool, true, false, Option, Some, None, IfSome, Result, Ok, Err, ◌∷◌, slice_get}
-use Rattle.theory.specs.Terms.{Term, top, lift, subst}
+use Rattle.std.proofs.Common.{ℕ, zero, suc, ◌+◌, nat_lt, Bool, true, false, Option, Some, None, IfSome, Result, Ok, Err, ◌∷◌, slice_get}
+use Rattle.theory.specs.Terms.{Term, top, subst}
 use Rattle.theory.specs.Terms.Term.{Var, Sort, Pi, Lam, App, Let, Const, Fam, Con, Elim, AxiomK}
 use Rattle.theory.specs.Telescopes.{Context}
 use Rattle.theory.specs.Signatures.{Signature, TypeOf}
@@ -14,7 +14,7 @@ use Rattle.kernel_check.specs.Checking.{Asks, Checks, typed, on_verdict, if_type
 use Rattle.kernel_check.specs.Symbols.{symbol_type}
 use Rattle.kernel_check.proofs.SymbolTypes.{symbol-type_of}
 use Rattle.k_laws.specs.Lacking.{Lack, SignatureLacks}
-use Rattle.k_laws.proofs.Runs.{Gives, Ends, Found, Any, any, anyhow, ok, no, some, none, now, done, refused, next, either, low, charged, if-low}
+use Rattle.k_laws.proofs.Runs.{Gives, Ends, anyhow, ok, no, now, done, refused, next, either, low, charged, if-low}
 use Rattle.k_laws.proofs.Terms.{lifted, substituted, at}
 use Rattle.k_laws.proofs.Kernel.{whnf}
 

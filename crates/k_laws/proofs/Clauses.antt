@@ -1,5 +1,5 @@
 -- The walks of all clauses of a function, and its helpers, are over terms without K.
-use Rattle.std.proofs.Common.{◌≡◌, ℕ, ◌+◌, ◌-◌, nat_lt, Bool, true, false, cond, Result, Ok, Err, List, [], ◌∷◌, ◌++◌, length, map, reverse, refl, sym, subst as transport}
+use Rattle.std.proofs.Common.{◌≡◌, ℕ, ◌+◌, ◌-◌, Result, Ok, Err, List, [], ◌∷◌, ◌++◌, length, map, reverse, refl, sym, subst as transport}
 use Rattle.theory.specs.Terms.{Term}
 use Rattle.theory.specs.Terms.Term.{Var}
 use Rattle.theory.specs.Substitutions.{inst}
@@ -13,17 +13,16 @@ use Rattle.core_terms.specs.Clauses.{Clause, Clauses, Right, Is}
 use Rattle.core_terms.specs.Verdicts.{Verdict}
 use Rattle.core_terms.specs.Verdicts.Verdict.{Yes, No}
 use Rattle.core_terms.specs.declared.stop.Stop.{Stop}
-use Rattle.kernel_check.specs.Checking.{check_of, infer_of, infer_sort_of}
+use Rattle.kernel_check.specs.Checking.{check_of, infer_sort_of}
 use Rattle.kernel_reduce.specs.Reduction.{nesting}
-use Rattle.case_trees.specs.OwnWalks.{own_walk_of}
 use Rattle.case_trees.specs.Points.{under_solution}
 use Rattle.case_trees.specs.Stops.{Stopping, TreeStop}
-use Rattle.with_abstraction.specs.Abstractions.{Abstracted, abstract_over_of}
+use Rattle.with_abstraction.specs.Abstractions.{Abstracted}
 use Rattle.clause_reports.specs.Equations.{part_named}
 use Rattle.elaboration.specs.Refusals.{Elaborating, OfGoal, OfSide, OfWith, Owner, Part, Refusal, answers, granted, halting, or_ends, or_halts, or_ill_typed, owner_of, walking}
-use Rattle.elaboration.specs.Walking.{Given, Opened, Opening, Session, Walked, after_dots, and_level, check_dot, helper_terms, if_low_level, joined, open_over, opened, variable_in, walk_clause, walk_clauses, walk_right, with_given, without_self}
+use Rattle.elaboration.specs.Walking.{Given, Opened, Opening, Session, Walked, after_dots, and_level, check_dot, if_low_level, joined, open_over, opened, variable_in, walk_clause, walk_clauses, walk_right, with_given, without_self}
 use Rattle.k_laws.specs.Lacking.{Lack, SignatureLacks}
-use Rattle.k_laws.proofs.Runs.{Gives, Ends, Any, any, anyhow, ok, no, now, done, refused, next, either, low}
+use Rattle.k_laws.proofs.Runs.{Gives, Ends, Any, anyhow, ok, no, now, done, next, either, low}
 use Rattle.k_laws.proofs.Terms.{instantiated, mapped, appended, flipped}
 use Rattle.k_laws.proofs.Checker.{VerdictLacks, infer}
 use Rattle.k_laws.proofs.Points.{put-in}

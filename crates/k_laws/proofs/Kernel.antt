@@ -1,5 +1,5 @@
 -- Reduction keeps terms without K.
-use Rattle.std.proofs.Common.{◌≡◌, ℕ, zero, suc, ◌+◌, Bool, true, false, cond, ◌==◌, ◌&&◌, Option, Some, None, option_map, option_and_then, IfSome, List, [], ◌∷◌, length, take, drop, slice_get, refl, subst as transport}
+use Rattle.std.proofs.Common.{◌≡◌, ℕ, zero, suc, ◌+◌, Bool, false, ◌==◌, ◌&&◌, Option, Some, None, option_map, option_and_then, IfSome, List, [], ◌∷◌, length, take, drop, slice_get, refl}
 use Rattle.theory.specs.Terms.{Term}
 use Rattle.theory.specs.Terms.Term.{Var, Pi, Lam, App, Let, Const, Con, Elim, AxiomK}
 use Rattle.theory.specs.Spines.{head_of, spine_of}
@@ -16,7 +16,7 @@ use Rattle.kernel_reduce.proofs.LookUps.{family-found}
 use Rattle.kernel_reduce.proofs.StepLaws.{body-in}
 use Rattle.k_laws.specs.Lacking.{Lack, ConstructorLacks, ConstructorsLack, SignatureLacks}
 use Rattle.k_laws.proofs.Runs.{Found, Ends, some, none, now, done, refused, next, either-found, low, if-low}
-use Rattle.k_laws.proofs.Terms.{substituted, first, rest, at, head, spine}
+use Rattle.k_laws.proofs.Terms.{substituted, first, rest, at, spine}
 use Rattle.k_laws.proofs.Records.{constructor, iota}
 
 -- ---- what an option leads to

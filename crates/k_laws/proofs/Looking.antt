@@ -1,10 +1,9 @@
 -- What is found of an open pair: the family of a variable, and the runs of its constructors, with solutions without K.
-use Rattle.std.proofs.Common.{◌≡◌, ℕ, ◌+◌, ◌==◌, true, Option, Some, None, option_and_then, Result, Ok, Err, List, [], ◌∷◌, length}
+use Rattle.std.proofs.Common.{ℕ, ◌+◌, ◌==◌, true, Option, Some, None, Result, Ok, Err, List, [], ◌∷◌}
 use Rattle.theory.specs.Terms.{Term}
 use Rattle.theory.specs.Telescopes.{Telescope}
 use Rattle.theory.specs.Families.{Constructor}
 use Rattle.theory.specs.Signatures.{Signature}
-use Rattle.theory.specs.AxiomKLaws.{LacksAxiomK}
 use Rattle.core_terms.specs.Answers.{Spent}
 use Rattle.core_terms.specs.Patterns as pattern
 use Rattle.core_terms.specs.Patterns.{Pat}
@@ -13,10 +12,10 @@ use Rattle.unification.specs.Outcomes.{Outcome, Solved, Absurd, Stuck}
 use Rattle.unification.specs.Solutions.{variable_in}
 use Rattle.unification.specs.States.{Problem}
 use Rattle.case_trees.specs.Looking.{Further, Look, Found as There, Passed, Looked, Ran, at_open, behind_look, first_found, if_expected, look_at_type, looked_at, run_all, unless_stuck, with_run}
-use Rattle.case_trees.specs.Problems.{Member, member_of, type_of_variable, problem_of}
+use Rattle.case_trees.specs.Problems.{Member, type_of_variable, problem_of}
 use Rattle.case_trees.specs.Stops.{TreeStop, Stopping, halting, or_halts}
 use Rattle.k_laws.specs.Lacking.{Lack, ConstructorsLack, SignatureLacks}
-use Rattle.k_laws.proofs.Runs.{Gives, Ends, Found, Any, any, anyhow, ok, no, some, none, now, done, refused, next, either-found}
+use Rattle.k_laws.proofs.Runs.{Gives, Ends, Found, anyhow, ok, no, some, none, now, done, refused, next, either-found}
 use Rattle.k_laws.proofs.Kernel.{and-found, whnf}
 use Rattle.k_laws.proofs.Solving.{OutcomeLacks, MemberLacks, member, problem, unify, variable-type}
 

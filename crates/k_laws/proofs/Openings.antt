@@ -1,5 +1,5 @@
 -- The telescope of a helper, abstracted over a scrutinee, holds no K where the context and the scrutinee's type hold none.
-use Rattle.std.proofs.Common.{◌≡◌, ℕ, ◌+◌, ◌-◌, Bool, true, false, cond, Ok, List, [], ◌∷◌, ◌++◌, length}
+use Rattle.std.proofs.Common.{ℕ, ◌+◌, ◌-◌, false, List, [], ◌∷◌, ◌++◌, length}
 use Rattle.theory.specs.Terms.{Term, lift, lift_var}
 use Rattle.theory.specs.Terms.Term.{Var, Sort, Pi, Lam, App, Let, Const, Fam, Con, Elim, AxiomK}
 use Rattle.theory.specs.Telescopes.{Telescope}
@@ -15,7 +15,7 @@ use Rattle.with_abstraction.specs.NormalForms.{NormalForms, normal_forms_of, pla
 use Rattle.with_abstraction.specs.Occurrences.{is_occurrence, without, without_under}
 use Rattle.with_abstraction.specs.Orders.{arranged, behind, in_front}
 use Rattle.k_laws.specs.Lacking.{Lack, SignatureLacks}
-use Rattle.k_laws.proofs.Runs.{Ends, Any, anyhow, now, done, next, if-low}
+use Rattle.k_laws.proofs.Runs.{Ends, Any, anyhow, done, next, if-low}
 use Rattle.k_laws.proofs.Terms.{one, lifted, placed, appended, at-position}
 use Rattle.k_laws.proofs.Kernel.{normal}
 use Rattle.k_laws.proofs.States.{reordered-lacks}

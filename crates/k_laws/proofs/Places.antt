@@ -1,9 +1,8 @@
 -- The walk of a clause's terms through a tree comes to places without K, whatever the tree is.
-use Rattle.std.proofs.Common.{◌≡◌, ℕ, zero, suc, ◌+◌, ◌==◌, Bool, true, false, cond, Option, Some, None, IfSome, Result, Ok, Err, List, [], ◌∷◌, ◌++◌, length, map, take}
+use Rattle.std.proofs.Common.{ℕ, zero, suc, true, Option, Some, None, IfSome, Result, Ok, Err, List, [], ◌∷◌, ◌++◌, length, map, take}
 use Rattle.theory.specs.Terms.{Term}
 use Rattle.theory.specs.Telescopes.{Telescope}
 use Rattle.theory.specs.Signatures.{Signature}
-use Rattle.theory.specs.AxiomKLaws.{LacksAxiomK}
 use Rattle.core_terms.specs.Answers.{Spent}
 use Rattle.core_terms.specs.CaseTrees as tree
 use Rattle.core_terms.specs.CaseTrees.{Branch, Branches, Tree}
@@ -16,10 +15,10 @@ use Rattle.unification.specs.Solutions.{variable_in}
 use Rattle.case_trees.specs.Looking.{Look, Found as There, Passed, Ran}
 use Rattle.case_trees.specs.Problems.{Member, member_of, type_of_variable}
 use Rattle.case_trees.specs.Stops.{TreeStop}
-use Rattle.clause_reports.specs.ProofWalks.{Branching, Ends as Leaf, Place, Proof, Proofs, Splits, Splitting, Walking, all_leaves, at_head, at_member, at_origin, at_other, at_split, at_variable, bounded_place, cons, enter_branch, leaves_in, looked_again, moved_place, nil, no_splitting, or_halted, solved_branch, solved_branches, split_variable, stuck_at, take_branch, value_at, walk_tree, with_runs}
+use Rattle.clause_reports.specs.ProofWalks.{Branching, Place, Proof, Proofs, Splitting, Walking, all_leaves, at_head, at_member, at_origin, at_other, at_split, at_variable, bounded_place, enter_branch, leaves_in, looked_again, moved_place, no_splitting, or_halted, solved_branch, solved_branches, split_variable, stuck_at, take_branch, value_at, walk_tree, with_runs}
 use Rattle.clause_reports.specs.Stops.{Reporting, halting, or_halts}
 use Rattle.k_laws.specs.Lacking.{Lack, SignatureLacks}
-use Rattle.k_laws.proofs.Runs.{Gives, Ends, Any, any, anyhow, ok, no, now, done, refused, next, either, either-ends}
+use Rattle.k_laws.proofs.Runs.{Gives, Ends, Any, anyhow, ok, no, now, done, refused, next, either, either-ends}
 use Rattle.k_laws.proofs.Terms.{first}
 use Rattle.k_laws.proofs.Kernel.{whnf}
 use Rattle.k_laws.proofs.Solving.{OutcomeLacks, MemberLacks, member, variable-type}

@@ -1,8 +1,7 @@
 -- The plan of a function holds no K: none is in the walks of its clauses, or at the leaves of its trees.
-use Rattle.std.proofs.Common.{◌≡◌, ℕ, zero, suc, ◌+◌, Option, Some, None, Result, Ok, Err, List, [], ◌∷◌, length, get_or}
+use Rattle.std.proofs.Common.{ℕ, zero, suc, ◌+◌, Option, List, [], ◌∷◌, length, get_or}
 use Rattle.theory.specs.Terms.{Term}
 use Rattle.theory.specs.Terms.Term.{Var, Sort, Pi, Lam, App, Let, Const, Fam, Con, Elim, AxiomK}
-use Rattle.theory.specs.Telescopes.{Telescope}
 use Rattle.theory.specs.Signatures.{Signature}
 use Rattle.theory.specs.WellFormed.{provisional}
 use Rattle.theory.specs.AxiomKLaws.{LacksAxiomK}
@@ -16,7 +15,7 @@ use Rattle.unification.specs.Solving.{reordered}
 use Rattle.tree_translation.specs.Entries.{ordered_variables}
 use Rattle.tree_translation.specs.Plans.{Part, Plan, no_part}
 use Rattle.tree_translation.specs.Recursion.{Recursion, order_of, ordered_telescope, ordered_term}
-use Rattle.clause_reports.specs.Equations.{part_at, part_named}
+use Rattle.clause_reports.specs.Equations.{part_named}
 use Rattle.elaboration.specs.Functions.{finished, first_domains, helper_level, helpers_finished, own_finished, own_part, plan_of, position_chosen, recursion_in}
 use Rattle.elaboration.specs.Refusals.{answers}
 use Rattle.elaboration.specs.Walking.{Session, Walked}
@@ -27,7 +26,7 @@ use Rattle.k_laws.proofs.Signatures.{provisional-lacks}
 use Rattle.k_laws.proofs.States.{context-lacks, reordered-lacks}
 use Rattle.k_laws.proofs.Trees.{TreeLacks, tree-grows}
 use Rattle.k_laws.proofs.Resolved.{FunctionLacks}
-use Rattle.k_laws.proofs.Clauses.{HelpersLack, WalkedLacks, WalksLack, all-clauses, walked}
+use Rattle.k_laws.proofs.Clauses.{HelpersLack, OpenedLacks, WalkedLacks, WalksLack, all-clauses, walked}
 
 -- the tree and the walks of a part
 pub record PartLacks (part : Part) : Type 0 where
@@ -102,7 +101,7 @@ planned S all f level left h =
     let s : Session = record { signature = provisional S f.name f.type; name = f.name; own = length S.entries } in
     let part = own_part f level in
     let each = provisional-lacks S all f.name f.type h.type in
-    let start = record { tele = domains f.arity f.type h.type; terms = nearest f.arity } in
+    let start : OpenedLacks part = record { tele = domains f.arity f.type h.type; terms = nearest f.arity } in
     next (all-clauses s each 0 part 0 1 f.clauses left start h.clauses) (λ given rest k.
     next {P = Any} (anyhow (answers (position_chosen s (choose S part.tele s.own given.uses)) rest)) (λ position more p.
     next

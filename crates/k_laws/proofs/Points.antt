@@ -1,5 +1,5 @@
 -- The points of walks and trees, and the pairs of clauses: their terms, whatever they were compared with, hold no K.
-use Rattle.std.proofs.Common.{◌≡◌, ℕ, ◌+◌, true, cond, Option, Some, None, IfSome, Ok, Err, IfOk, List, [], ◌∷◌, ◌++◌, length, map, take, sym, subst as transport}
+use Rattle.std.proofs.Common.{◌≡◌, ℕ, true, Option, Some, None, IfSome, IfOk, List, [], ◌∷◌, ◌++◌, map, sym, subst as transport}
 use Rattle.std.proofs.lemmas.List.{map-append}
 use Rattle.theory.specs.Terms.{Term}
 use Rattle.theory.specs.Terms.Term.{Con}
@@ -10,11 +10,10 @@ use Rattle.theory.specs.Signatures.{Signature}
 use Rattle.theory.specs.AxiomKLaws.{LacksAxiomK}
 use Rattle.core_terms.specs.Patterns as pattern
 use Rattle.core_terms.specs.Patterns.{Pat, Pats}
-use Rattle.core_terms.specs.declared.stop.Stop.{Stop}
 use Rattle.unification.specs.Built.{Built, built_of}
 use Rattle.case_trees.specs.Pairs.{Pair, Pairs, Waits, Binds, Passes, Keeps, Builds, Clashes, nil, cons, waiting, term_in, terms_in, unbound, all_unbound, bound_in, all_bound}
 use Rattle.case_trees.specs.Keeping.{kept_over, unless_built, keep, keep_all}
-use Rattle.case_trees.specs.Points.{Point, bounded_point, bounded_pairs, moved_point, moved_pairs, point_keeping, solution_for, under_solution}
+use Rattle.case_trees.specs.Points.{Point, bounded_point, bounded_pairs, moved_point, moved_pairs, point_keeping, under_solution}
 use Rattle.case_trees.specs.Working.{Rooms, work_pairs}
 use Rattle.case_trees.specs.OwnWalks.{or_none}
 use Rattle.case_trees.proofs.Shapes.{terms-moved}
@@ -22,7 +21,7 @@ use Rattle.case_trees.proofs.Workings as work
 use Rattle.case_trees.proofs.Workings.{ReducesTo, Works, WorkAll, Becomes, AllBecome, all-become}
 use Rattle.k_laws.specs.Lacking.{Lack, SignatureLacks}
 use Rattle.k_laws.proofs.Runs.{Gives, Ends, ok, no, either, weaker}
-use Rattle.k_laws.proofs.Terms.{instantiated, solved, mapped, appended, first, applies, spine-in}
+use Rattle.k_laws.proofs.Terms.{instantiated, solved, mapped, appended, applies, spine-in}
 use Rattle.k_laws.proofs.Kernel.{whnf}
 use Rattle.k_laws.proofs.Trials.{BuiltLacks, built}
 

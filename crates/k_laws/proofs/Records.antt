@@ -1,11 +1,11 @@
 -- What a family's record brings at terms without K has none: the types of a constructor's arguments, its targets, and the right side of
 -- iota.
-use Rattle.std.proofs.Common.{◌≡◌, ℕ, zero, suc, ◌+◌, Option, Some, None, List, [], ◌∷◌, ◌++◌, length, map, slice_get}
+use Rattle.std.proofs.Common.{ℕ, zero, suc, ◌+◌, List, [], ◌∷◌, ◌++◌, length, map, slice_get}
 use Rattle.theory.specs.Terms.{Term}
-use Rattle.theory.specs.Terms.Term.{Var, Pi, Lam, App, Fam, Con, Elim}
+use Rattle.theory.specs.Terms.Term.{Var, App, Fam, Con, Elim}
 use Rattle.theory.specs.Substitutions.{weaken, ups, inst, extend, fill}
 use Rattle.theory.specs.Telescopes.{Telescope, applied, variables, weaken_by}
-use Rattle.theory.specs.Families.{Argument, Plain, Recursive, Constructor, Family, recursive_type, argument_type, argument_types, level_of}
+use Rattle.theory.specs.Families.{Argument, Plain, Recursive, Constructor, recursive_type, argument_type, argument_types, level_of}
 use Rattle.theory.specs.Eliminators.{no_variable, hypothesis, hypotheses, iota_right}
 use Rattle.theory.specs.AxiomKLaws.{LacksAxiomK}
 use Rattle.tele_eq.specs.Items.{Item}
@@ -53,9 +53,11 @@ terms-over n number ps c h k =
     let parameters : ℕ → Term = λ v. weaken_by count (fill no_variable ps v) in
     let each : EachLacks parameters = λ v. renamed (λ i. i + count) (fill no_variable ps v) (solved ps h v) in
     appended (map (inst (fill parameters (variables count))) c.targets) (applied (weaken_by count (applied (Con n number) ps)) (variables count) ∷ [])
-    (instances (fill parameters (variables count)) c.targets (filled parameters (variables count) each (nearest count)) k.targets)
-    (applies (weaken_by count (applied (Con n number) ps)) (variables count)
-    (renamed (λ i. i + count) (applied (Con n number) ps) (applies (Con n number) ps tt h)) (nearest count), tt)
+    (instances (fill parameters (variables count)) c.targets (filled parameters (variables count) each (nearest count)) k.targets) (
+      applies (weaken_by count (applied (Con n number) ps)) (variables count)
+          (renamed (λ i. i + count) (applied (Con n number) ps) (applies (Con n number) ps tt h)) (nearest count),
+      tt,
+    )
 
 -- one of several constructors
 pub constructor : (cs : List Constructor) (number : ℕ) → ConstructorsLack cs → Found ConstructorLacks (slice_get cs number)

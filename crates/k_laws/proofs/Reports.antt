@@ -1,21 +1,20 @@
 -- The line of a clause shows no K, where the plan and the signature hold none.
-use Rattle.std.proofs.Common.{◌≡◌, ℕ, ◌+◌, ◌==◌, nat_lt, Bool, true, false, ◌&&◌, cond, Option, Some, None, IfSome, Result, Ok, Err, List, [], ◌∷◌, ◌++◌, length, map}
+use Rattle.std.proofs.Common.{ℕ, ◌==◌, nat_lt, Bool, true, false, cond, Option, Some, None, IfSome, Result, Ok, Err, List, [], ◌∷◌, ◌++◌, map}
 use Rattle.theory.specs.Terms.{Term}
 use Rattle.theory.specs.Telescopes.{Telescope}
 use Rattle.theory.specs.Signatures.{Signature}
 use Rattle.core_terms.specs.Answers.{bounded}
 use Rattle.core_terms.specs.CaseTrees as tree
 use Rattle.core_terms.specs.CaseTrees.{Branch, Branches, Tree, Walk}
-use Rattle.core_terms.specs.Patterns.{Pats}
 use Rattle.core_sig.specs.Drafts.{Draft}
 use Rattle.core_sig.specs.Settling.{renumbered_entry, settled_number}
 use Rattle.family_check.specs.Entering.{Entered}
 use Rattle.kernel_reduce.specs.Comparison.{convertible_of}
 use Rattle.kernel_reduce.specs.Reduction.{nesting}
-use Rattle.case_trees.specs.Standing.{EachLeaf, EachLeafIn, EachLeafOf}
-use Rattle.tree_translation.specs.Plans.{Part, Plan}
+use Rattle.case_trees.specs.Standing.{EachLeafIn, EachLeafOf}
+use Rattle.tree_translation.specs.Plans.{Plan}
 use Rattle.clause_reports.specs.DraftEntering.{enter_all, enter_entry, enter_needed, mentioned}
-use Rattle.clause_reports.specs.Equations.{Equation, Site, equation_at, equation_of, left_side, part_at, pats_of, right_side, side_of, walk_site}
+use Rattle.clause_reports.specs.Equations.{Equation, equation_of, left_side, part_at, pats_of, right_side, side_of, walk_site}
 use Rattle.clause_reports.specs.ProofTerms.{candidate}
 use Rattle.clause_reports.specs.ProofWalks.{Place, Proof, first_place, leaves_in}
 use Rattle.clause_reports.specs.Reports.{Reference, Reported, at_leaf, at_vector, equation_report, if_shadowed, on_candidate, order_in, report_of, shadowed, shown_leaf, unless_converts, with_candidate}

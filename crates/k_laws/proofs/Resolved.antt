@@ -1,5 +1,5 @@
 -- Resolved terms hold no K: no name stands for it.
-use Rattle.std.proofs.Common.{◌≡◌, ℕ, ◌+◌, Bool, true, false, List, [], ◌∷◌, length, Option, Some, None, option_map, IfSome, Result, Ok, Err, bytes_eq, slice_get}
+use Rattle.std.proofs.Common.{ℕ, ◌+◌, Bool, true, false, List, [], ◌∷◌, length, Option, Some, None, option_map, IfSome, bytes_eq, slice_get}
 use Rattle.std.specs.Prelude.{if◌then◌else◌}
 use Rattle.theory.specs.Terms as tree
 use Rattle.theory.specs.Terms.{Term}

@@ -1,7 +1,7 @@
 -- A well-formed signature without K holds no symbol of it, and neither does one with a provisional definition more.
 use Rattle.std.proofs.Common.{◌≡◌, ℕ, zero, suc, ◌⊎◌, inl, inr, false, Some, List, [], ◌∷◌, length, map, slice_get, refl, sym, subst as transport}
 use Rattle.theory.specs.Terms.{Term}
-use Rattle.theory.specs.Terms.Term.{Var, Pi, Lam, App, Let, Const, Fam, Con, Elim, AxiomK}
+use Rattle.theory.specs.Terms.Term.{Var, Pi, Lam, App, Let, Const, AxiomK}
 use Rattle.theory.specs.Substitutions.{weaken, ups, inst}
 use Rattle.theory.specs.Telescopes.{Telescope, products, applied, weaken_by}
 use Rattle.theory.specs.Families.{Argument, Plain, Recursive, Constructor, Family, recursive_type, argument_types, family_head, constructor_telescope, constructor_type}

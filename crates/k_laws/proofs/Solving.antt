@@ -1,5 +1,5 @@
 -- The problem of a constructor is over terms without K, and so is its solution.
-use Rattle.std.proofs.Common.{◌≡◌, ℕ, zero, suc, ◌+◌, ◌-◌, ◌==◌, Bool, true, false, cond, Option, Some, None, IfSome, Result, Ok, Err, IfOk, List, [], ◌∷◌, ◌++◌, length, map, take, drop, refl, sym, ap, subst as transport}
+use Rattle.std.proofs.Common.{ℕ, ◌+◌, ◌-◌, ◌==◌, Option, IfSome, Result, Ok, Err, IfOk, List, [], ◌∷◌, length, map, sym, ap, subst as transport}
 use Rattle.theory.specs.Terms.{Term, lift}
 use Rattle.theory.specs.Terms.Term.{Var, Fam}
 use Rattle.theory.specs.Spines.{head_of, spine_of}
@@ -14,10 +14,10 @@ use Rattle.tele_eq.specs.TelescopicEquality.{equations}
 use Rattle.unification.specs.Injecting.{lifted}
 use Rattle.unification.specs.Outcomes as outcome
 use Rattle.unification.specs.Outcomes.{Outcome, before}
-use Rattle.unification.specs.Records.{argument_items, constructor_terms}
+use Rattle.unification.specs.Records.{argument_items}
 use Rattle.unification.specs.Runs as run
 use Rattle.unification.specs.Runs.{Run, behind_step, end_of, run_of, unify_of}
-use Rattle.unification.specs.States.{State, Problem, starting}
+use Rattle.unification.specs.States.{State, Problem}
 use Rattle.unification.specs.Turns.{Turn, Done, Goes, Fails, Sticks}
 use Rattle.unification.proofs.RunLaws.{runs-end}
 use Rattle.unification.proofs.RunProperties.{unify-has}

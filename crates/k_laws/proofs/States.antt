@@ -1,15 +1,14 @@
 -- The states of unification after a rule: a context, sides of equations and a solution without K. The types of equations and of their
 -- places are never put into any of these.
-use Rattle.std.proofs.Common.{◌≡◌, ℕ, zero, suc, ◌+◌, ◌-◌, ◌==◌, Bool, true, false, cond, Ok, IfOk, List, [], ◌∷◌, ◌++◌, length, map, drop}
+use Rattle.std.proofs.Common.{ℕ, zero, suc, ◌+◌, ◌==◌, List, [], ◌∷◌, ◌++◌, length, drop}
 use Rattle.theory.specs.Terms.{Term}
-use Rattle.theory.specs.Telescopes.{Telescope, variables}
+use Rattle.theory.specs.Telescopes.{Telescope}
 use Rattle.theory.specs.Families.{Family, Constructor}
 use Rattle.theory.specs.Signatures.{reflexivity}
 use Rattle.theory.specs.AxiomKLaws.{LacksAxiomK}
 use Rattle.core_terms.specs.Levels.{variable}
 use Rattle.tele_eq.specs.Items.{Item, term_at}
 use Rattle.tele_eq.specs.Environments.{Environment, put}
-use Rattle.tele_eq.specs.Levels.{place_in}
 use Rattle.tele_eq.specs.TelescopicEquality.{equations}
 use Rattle.unification.specs.States.{Equation, State, Problem, equations_at, starting}
 use Rattle.unification.specs.Moving.{over_first, behind, moved}
@@ -18,7 +17,7 @@ use Rattle.unification.specs.Solving.{reordered, solved, new_context, solved_sta
 use Rattle.unification.specs.Injecting.{group_proofs, injected_state}
 use Rattle.unification.specs.Records.{argument_items, constructor_terms}
 use Rattle.k_laws.specs.Lacking.{Lack}
-use Rattle.k_laws.proofs.Terms.{PlacesLack, one, placed, mapped, appended, at-position, nearest}
+use Rattle.k_laws.proofs.Terms.{PlacesLack, one, placed, mapped, at-position, nearest}
 
 abbrev pub SidesLack : List Equation → Type 0
 SidesLack [] = Unit {0}

@@ -1,15 +1,15 @@
 -- What is made of terms without K has none: by lifting, by renaming, by putting terms for variables, as a head with its spine, in lists.
-use Rattle.std.proofs.Common.{◌≡◌, ℕ, zero, suc, ◌+◌, ◌-◌, ◌==◌, nat_lt, Bool, true, false, cond, Option, Some, None, List, [], ◌∷◌, ◌++◌, length, map, take, drop, reverse, slice_get, get_or, subst as transport}
+use Rattle.std.proofs.Common.{ℕ, zero, suc, ◌+◌, ◌-◌, ◌==◌, nat_lt, Bool, true, false, cond, List, [], ◌∷◌, ◌++◌, map, take, drop, reverse, slice_get}
 use mathlib.Core.List.{reverse_aux}
-use Rattle.theory.specs.Terms.{Term, lift, subst_var, subst}
+use Rattle.theory.specs.Terms.{Term, lift, subst}
 use Rattle.theory.specs.Terms.Term.{Var, Sort, Pi, Lam, App, Let, Const, Fam, Con, Elim, AxiomK}
-use Rattle.theory.specs.Substitutions.{up, ren, weaken, ups, inst, extend, fill}
-use Rattle.theory.specs.Telescopes.{Telescope, products, applied, variables, weaken_by, inst_telescope}
+use Rattle.theory.specs.Substitutions.{up, ren, ups, inst, extend, fill}
+use Rattle.theory.specs.Telescopes.{Telescope, products, applied, variables, inst_telescope}
 use Rattle.theory.specs.Eliminators.{no_variable}
 use Rattle.theory.specs.Spines.{head_of, spine_of}
 use Rattle.theory.specs.AxiomKLaws.{LacksAxiomK}
 use Rattle.tele_eq.specs.Items.{term_at}
-use Rattle.tele_eq.specs.Environments.{Environment, put_variable, put_under, put}
+use Rattle.tele_eq.specs.Environments.{Environment, put_under, put}
 use Rattle.k_laws.specs.Lacking.{Lack}
 use Rattle.k_laws.proofs.Runs.{Found, some, none}
 

@@ -1,28 +1,26 @@
 -- The tree of clauses over terms without K has none at its leaves.
-use Rattle.std.proofs.Common.{◌≡◌, ℕ, zero, suc, ◌+◌, Bool, true, false, cond, Option, Some, None, Result, Ok, Err, List, [], ◌∷◌, map}
+use Rattle.std.proofs.Common.{ℕ, zero, suc, ◌+◌, Bool, true, false, cond, None, List, [], ◌∷◌}
 use Rattle.theory.specs.Terms.{Term}
 use Rattle.theory.specs.Telescopes.{Telescope}
 use Rattle.theory.specs.Signatures.{Signature}
-use Rattle.core_terms.specs.CaseTrees as tree
-use Rattle.core_terms.specs.CaseTrees.{Tree, Branch, Branches}
+use Rattle.core_terms.specs.CaseTrees.{Tree}
 use Rattle.core_terms.specs.Clauses as clause
 use Rattle.core_terms.specs.Clauses.{Clauses, Is}
 use Rattle.core_terms.specs.Patterns.{Pat}
-use Rattle.core_terms.specs.declared.stop.Stop.{Stop}
 use Rattle.unification.specs.Outcomes.{Outcome, Solved, Absurd, Stuck}
 use Rattle.case_trees.specs.Looking.{Look, Found as There, Passed, Looked, Ran}
-use Rattle.case_trees.specs.Pairs.{Pairs, all_open, some_clashes, waiting}
+use Rattle.case_trees.specs.Pairs.{all_open, some_clashes}
 use Rattle.case_trees.specs.Points.{Point, moved_point, moved_pairs, solution_for, start_at}
 use Rattle.case_trees.specs.Standing.{EachLeaf, EachLeafIn, EachLeafOf}
 use Rattle.case_trees.specs.Trees as grown
 use Rattle.case_trees.specs.Trees.{Growing, Live, Node, SplitAt, all_live, as_split, branch_by, by_first, by_live, by_patterns, grow_branches, moved_live, one_node, patterns_left, solved_node, split_at, split_of, unless_dropped, worked}
 use Rattle.case_trees.specs.Working.{of_columns}
 use Rattle.k_laws.specs.Lacking.{Lack, SignatureLacks}
-use Rattle.k_laws.proofs.Runs.{Gives, Ends, ok, no, now, done, refused, next, and-then}
+use Rattle.k_laws.proofs.Runs.{Gives, Ends, ok, now, done, refused, next, and-then}
 use Rattle.k_laws.proofs.Terms.{first}
 use Rattle.k_laws.proofs.Solving.{OutcomeLacks}
 use Rattle.k_laws.proofs.Points.{PairsLack, PointLacks, keeping, low-pairs, low-point, pairs-moved, point-moved, waits, worked-pairs}
-use Rattle.k_laws.proofs.Looking.{LookHas, LookedLacks, RunsLack, all-run, found-first, halted, halts, type-looked}
+use Rattle.k_laws.proofs.Looking.{LookHas, RunsLack, all-run, found-first, halted, halts, type-looked}
 
 -- ---- clauses that are left
 

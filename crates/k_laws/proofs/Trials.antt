@@ -1,23 +1,22 @@
 -- A turn of unification that goes on leads to a state without K.
-use Rattle.std.proofs.Common.{◌≡◌, ℕ, zero, suc, ◌+◌, ◌-◌, ◌==◌, Bool, true, false, cond, Option, Some, None, IfSome, Result, Ok, Err, IfOk, List, [], ◌∷◌, length, take, drop, slice_get, refl}
+use Rattle.std.proofs.Common.{ℕ, zero, suc, ◌+◌, ◌-◌, ◌==◌, Bool, true, false, cond, Option, Some, None, IfSome, Result, List, [], ◌∷◌, length, slice_get}
 use Rattle.theory.specs.Terms.{Term}
-use Rattle.theory.specs.Terms.Term.{Var, Sort, Pi, Lam, App, Let, Const, Fam, Con, Elim, AxiomK}
+use Rattle.theory.specs.Terms.Term.{Var, Con}
 use Rattle.theory.specs.Spines.{head_of, spine_of}
 use Rattle.theory.specs.Signatures.{Signature}
 use Rattle.theory.specs.AxiomKLaws.{LacksAxiomK}
-use Rattle.core_terms.specs.Answers.{Spent}
 use Rattle.core_terms.specs.CaseTrees.{Step}
 use Rattle.core_terms.specs.declared.stop.Stop.{Stop}
 use Rattle.kernel_reduce.specs.Entries.{family_at}
 use Rattle.kernel_reduce.specs.Reduction.{nesting, whnf_of}
 use Rattle.kernel_reduce.specs.Tidying.{tidy_of}
-use Rattle.unification.specs.Built.{Built, with_all, with_spine, built_of, is_fitting, has_no_indices}
-use Rattle.unification.specs.Constructors.{where_fits, both_heads, right_head, heads, with_built, with_heads, on_constructors, conflict_step, injection_step, same_constructor, constructor_turn, constructor_trial}
-use Rattle.unification.specs.Cycles.{is_acyclic, cycle_at, cycle_search, cycle_step, left_variable, right_variable, left_constructor, left_form, cycle_trial}
+use Rattle.unification.specs.Built.{Built, with_spine, built_of, is_fitting, has_no_indices}
+use Rattle.unification.specs.Constructors.{where_fits, both_heads, right_head, with_built, with_heads, on_constructors, conflict_step, injection_step, same_constructor, constructor_turn, constructor_trial}
+use Rattle.unification.specs.Cycles.{is_acyclic, cycle_at, cycle_search, cycle_step, right_variable, left_constructor, left_form, cycle_trial}
 use Rattle.unification.specs.Deletions.{delete, deletion_step, if_convertible, deletion_trial}
-use Rattle.unification.specs.Groups.{Membership, membership_of, group_turn, if_holds, on_membership, last_trial, group_trial, group_trials}
+use Rattle.unification.specs.Groups.{Membership, membership_of, group_turn, if_holds, on_membership, last_trial, group_trials}
 use Rattle.unification.specs.Heights.{injection_made}
-use Rattle.unification.specs.Solutions.{variable_in, if_free, is_free_of, solution_from, solves, state_solved, side_solved, turn_by, solve_side, right_step, left_step, solve_sides, with_variable, solution_trial}
+use Rattle.unification.specs.Solutions.{variable_in, if_free, solves, state_solved, turn_by, solve_side, right_step, left_step, solve_sides, with_variable, solution_trial}
 use Rattle.unification.specs.Solving.{solved_state, deleted_state}
 use Rattle.unification.specs.States.{Equation, State}
 use Rattle.unification.specs.Sticking.{stuck_trial}
@@ -28,7 +27,7 @@ use Rattle.unification.specs.declared.why.Why.{Why}
 use Rattle.unification.proofs.MovedStates.{injection_made-has}
 use Rattle.unification.proofs.ScopedEquations.{bounded_state-has}
 use Rattle.k_laws.specs.Lacking.{Lack, SignatureLacks}
-use Rattle.k_laws.proofs.Runs.{Gives, Ends, Found, Any, any, anyhow, ok, no, some, none, now, done, refused, next, and-then, either-ends, either-found}
+use Rattle.k_laws.proofs.Runs.{Gives, Ends, Found, Any, anyhow, ok, some, none, now, done, next, and-then, either-ends, either-found}
 use Rattle.k_laws.proofs.Terms.{first, rest, spine}
 use Rattle.k_laws.proofs.Kernel.{and-found, whnf, tidy, normal}
 use Rattle.k_laws.proofs.States as state

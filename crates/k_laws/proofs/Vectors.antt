@@ -1,5 +1,5 @@
 -- The vector of a shadowed clause: terms without K, reduced as far as two clauses look into them.
-use Rattle.std.proofs.Common.{◌≡◌, ℕ, Bool, true, false, cond, Option, Some, None, IfSome, Ok, List, [], ◌∷◌, ◌++◌}
+use Rattle.std.proofs.Common.{ℕ, true, Option, Some, None, IfSome, List, [], ◌∷◌, ◌++◌}
 use Rattle.theory.specs.Terms.{Term}
 use Rattle.theory.specs.Terms.Term.{Con}
 use Rattle.theory.specs.Signatures.{Signature}

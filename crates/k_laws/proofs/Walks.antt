@@ -1,5 +1,5 @@
 -- The walk of a clause through its own patterns ends at terms without K.
-use Rattle.std.proofs.Common.{◌≡◌, ℕ, zero, suc, Bool, true, false, cond, Option, Some, None, IfSome, Result, Ok, Err, List, [], ◌∷◌, map, slice_get}
+use Rattle.std.proofs.Common.{ℕ, zero, suc, Option, Some, None, IfSome, List, [], ◌∷◌, slice_get}
 use Rattle.theory.specs.Terms.{Term}
 use Rattle.theory.specs.Telescopes.{Telescope}
 use Rattle.theory.specs.Families.{Constructor}
@@ -13,13 +13,13 @@ use Rattle.unification.specs.Outcomes.{Outcome, Solved, Absurd, Stuck}
 use Rattle.case_trees.specs.Looking.{Look, Found as There, Passed, Looked, Ran, run_all}
 use Rattle.case_trees.specs.OwnWalks as own
 use Rattle.case_trees.specs.OwnWalks.{Turn, Goes, Ends as Over, Walking, absurd_outcome, at_pairs, behind_turn, bounded_walk, by_patterns, first_solved, no_constructor, one_turn, own_outcome, own_walk_of, run_own, run_pattern, solved_pairs, unless_dropped, walk_at, walk_from}
-use Rattle.case_trees.specs.Pairs.{Pairs, all_bound, all_left, all_open, first_clash, waiting}
+use Rattle.case_trees.specs.Pairs.{Pairs, all_left, all_open, first_clash, waiting}
 use Rattle.case_trees.specs.Points.{Point, moved_point, moved_pairs, solution_for, start_at}
 use Rattle.case_trees.specs.Problems.{problem_of}
-use Rattle.case_trees.specs.Stops.{TreeStop, answers}
+use Rattle.case_trees.specs.Stops.{answers}
 use Rattle.case_trees.specs.Working.{of_columns}
 use Rattle.k_laws.specs.Lacking.{Lack, ConstructorLacks, SignatureLacks}
-use Rattle.k_laws.proofs.Runs.{Gives, Ends, Any, anyhow, ok, no, now, done, refused, next, and-then, either}
+use Rattle.k_laws.proofs.Runs.{Gives, Ends, Any, anyhow, ok, no, now, refused, next, and-then, either}
 use Rattle.k_laws.proofs.Terms.{first}
 use Rattle.k_laws.proofs.Records.{constructor}
 use Rattle.k_laws.proofs.Solving.{OutcomeLacks, problem, unify}
