@@ -14,14 +14,10 @@ use Rattle.kernel_check.specs.Checking.{Asks, Checks, typed, on_verdict, if_type
 use Rattle.kernel_check.specs.Symbols.{symbol_type}
 use Rattle.kernel_check.proofs.SymbolTypes.{symbol-type_of}
 use Rattle.k_laws.specs.Lacking.{Lack, SignatureLacks}
+use Rattle.k_laws.specs.Walking.{VerdictLacks}
 use Rattle.k_laws.proofs.Runs.{Gives, Ends, anyhow, ok, no, now, done, refused, next, either, low, charged, if-low}
 use Rattle.k_laws.proofs.Terms.{lifted, substituted, at}
 use Rattle.k_laws.proofs.Kernel.{whnf}
-
--- the type, where there is one, holds no K
-abbrev pub VerdictLacks : Verdict → Type 0
-VerdictLacks (Yes type) = LacksAxiomK type
-VerdictLacks (No denial) = Unit {0}
 
 abbrev GoesOn : (Term → ℕ → Spent Verdict) → Type 0
 GoesOn go = (type : Term) (left : ℕ) → LacksAxiomK type → Ends VerdictLacks (go type left)

@@ -22,11 +22,12 @@ use Rattle.clause_reports.specs.Equations.{part_named}
 use Rattle.elaboration.specs.Refusals.{Elaborating, OfGoal, OfSide, OfWith, Owner, Part, Refusal, answers, granted, halting, or_ends, or_halts, or_ill_typed, owner_of, walking}
 use Rattle.elaboration.specs.Walking.{Given, Opened, Opening, Session, Walked, after_dots, and_level, check_dot, if_low_level, joined, open_over, opened, variable_in, walk_clause, walk_clauses, walk_right, with_given, without_self}
 use Rattle.k_laws.specs.Lacking.{Lack, SignatureLacks}
+use Rattle.k_laws.specs.Walking.{VerdictLacks, WalkLacks}
 use Rattle.k_laws.proofs.Runs.{Gives, Ends, Any, anyhow, ok, no, now, done, next, either, low}
 use Rattle.k_laws.proofs.Terms.{instantiated, mapped, appended, flipped}
-use Rattle.k_laws.proofs.Checker.{VerdictLacks, infer}
+use Rattle.k_laws.proofs.Checker.{infer}
 use Rattle.k_laws.proofs.Points.{put-in}
-use Rattle.k_laws.proofs.Walks.{WalkLacks, own-walk}
+use Rattle.k_laws.proofs.Walks.{own-walk}
 use Rattle.k_laws.proofs.Openings.{AbstractedLacks, abstracts}
 use Rattle.k_laws.proofs.Resolved.{ClauseLacks, ClausesLack, RightLacks}
 

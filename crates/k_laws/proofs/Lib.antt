@@ -19,3 +19,4 @@ pub mod Clauses
 pub mod Plans
 pub mod Reports
 pub mod Declarations
+pub mod Stated

@@ -15,9 +15,10 @@ use Rattle.case_trees.specs.Looking.{Further, Look, Found as There, Passed, Look
 use Rattle.case_trees.specs.Problems.{Member, type_of_variable, problem_of}
 use Rattle.case_trees.specs.Stops.{TreeStop, Stopping, halting, or_halts}
 use Rattle.k_laws.specs.Lacking.{Lack, ConstructorsLack, SignatureLacks}
+use Rattle.k_laws.specs.Walking.{OutcomeLacks}
 use Rattle.k_laws.proofs.Runs.{Gives, Ends, Found, anyhow, ok, no, some, none, now, done, refused, next, either-found}
 use Rattle.k_laws.proofs.Kernel.{and-found, whnf}
-use Rattle.k_laws.proofs.Solving.{OutcomeLacks, MemberLacks, member, problem, unify, variable-type}
+use Rattle.k_laws.proofs.Solving.{MemberLacks, member, problem, unify, variable-type}
 
 pub halted : {A : Type 0} {P : A → Type 0} {r : Result A Stop} → Gives P r → Gives P (or_halts r)
 halted {A} {P} {r} h = by r h

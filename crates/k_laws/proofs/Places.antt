@@ -18,10 +18,11 @@ use Rattle.case_trees.specs.Stops.{TreeStop}
 use Rattle.clause_reports.specs.ProofWalks.{Branching, Place, Proof, Proofs, Splitting, Walking, all_leaves, at_head, at_member, at_origin, at_other, at_split, at_variable, bounded_place, enter_branch, leaves_in, looked_again, moved_place, no_splitting, or_halted, solved_branch, solved_branches, split_variable, stuck_at, take_branch, value_at, walk_tree, with_runs}
 use Rattle.clause_reports.specs.Stops.{Reporting, halting, or_halts}
 use Rattle.k_laws.specs.Lacking.{Lack, SignatureLacks}
+use Rattle.k_laws.specs.Walking.{OutcomeLacks}
 use Rattle.k_laws.proofs.Runs.{Gives, Ends, Any, anyhow, ok, no, now, done, refused, next, either, either-ends}
 use Rattle.k_laws.proofs.Terms.{first}
 use Rattle.k_laws.proofs.Kernel.{whnf}
-use Rattle.k_laws.proofs.Solving.{OutcomeLacks, MemberLacks, member, variable-type}
+use Rattle.k_laws.proofs.Solving.{MemberLacks, member, variable-type}
 use Rattle.k_laws.proofs.Points.{all-put}
 use Rattle.k_laws.proofs.Looking.{LookHas, RunsLack, all-run}
 

@@ -20,11 +20,12 @@ use Rattle.elaboration.specs.Functions.{finished, first_domains, helper_level, h
 use Rattle.elaboration.specs.Refusals.{answers}
 use Rattle.elaboration.specs.Walking.{Session, Walked}
 use Rattle.k_laws.specs.Lacking.{Lack, SignatureLacks}
+use Rattle.k_laws.specs.Walking.{TreeLacks}
 use Rattle.k_laws.proofs.Runs.{Ends, Any, anyhow, done, next}
 use Rattle.k_laws.proofs.Terms.{nearest}
 use Rattle.k_laws.proofs.Signatures.{provisional-lacks}
 use Rattle.k_laws.proofs.States.{context-lacks, reordered-lacks}
-use Rattle.k_laws.proofs.Trees.{TreeLacks, tree-grows}
+use Rattle.k_laws.proofs.Trees.{tree-grows}
 use Rattle.k_laws.proofs.Resolved.{FunctionLacks}
 use Rattle.k_laws.proofs.Clauses.{HelpersLack, OpenedLacks, WalkedLacks, WalksLack, all-clauses, walked}
 

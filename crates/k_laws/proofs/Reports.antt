@@ -22,11 +22,10 @@ use Rattle.clause_reports.specs.Shadows.{TreeLeaf, convert_at_all, earlier_leaf,
 use Rattle.clause_reports.specs.Stops.{Halts, Rejected, Rejection, ReportStop, Stuck, answers, halting, or_halts}
 use Rattle.k_laws.specs.Lacking.{Lack, SignatureLacks}
 use Rattle.k_laws.specs.Lines.{LeavesLack, LineLacks}
+use Rattle.k_laws.specs.Walking.{LeafLacks, TreeLacks, WalkLacks}
 use Rattle.k_laws.proofs.Runs.{Gives, Ends, Any, any, anyhow, ok, no, now, done, refused, next, and-then, either-ends}
-use Rattle.k_laws.proofs.Trees.{LeafLacks, TreeLacks}
 use Rattle.k_laws.proofs.Places.{PlaceLacks, PlacesLack, halted, halts, walks}
 use Rattle.k_laws.proofs.Vectors.{vector}
-use Rattle.k_laws.proofs.Walks.{WalkLacks}
 use Rattle.k_laws.proofs.Plans.{PlanLacks, a-part}
 
 -- ---- the leaves of a clause

@@ -24,21 +24,16 @@ use Rattle.unification.proofs.RunProperties.{unify-has}
 use Rattle.unification.proofs.ScopedEquations.{start-is}
 use Rattle.case_trees.specs.Problems.{Member, member_with, member_at, member_of, type_of_variable, problem_of}
 use Rattle.k_laws.specs.Lacking.{Lack, ConstructorLacks, ConstructorsLack, SignatureLacks}
+use Rattle.k_laws.specs.Walking.{OutcomeLacks, ProblemLacks}
 use Rattle.k_laws.proofs.Runs.{Ends, Found, some, none, either-found}
 use Rattle.k_laws.proofs.Terms as term
 use Rattle.k_laws.proofs.Terms.{appended, mapped, first, rest, spine, at-position}
 use Rattle.k_laws.proofs.Records.{argument-types, terms-over}
 use Rattle.k_laws.proofs.Kernel.{and-found, family}
-use Rattle.k_laws.proofs.States.{StateLacks, ProblemLacks, starts}
+use Rattle.k_laws.proofs.States.{StateLacks, starts}
 use Rattle.k_laws.proofs.Trials.{MayGo, turns}
 
 -- ---- outcomes
-
--- the context and the terms of a solution
-abbrev pub OutcomeLacks : Outcome → Type 0
-OutcomeLacks (outcome.Solved steps context solution) = Lack context × Lack solution
-OutcomeLacks (outcome.Absurd steps context u v) = Unit {0}
-OutcomeLacks (outcome.Stuck steps context u v why) = Unit {0}
 
 before-lacks : (step : Step) (o : Outcome) → OutcomeLacks o → OutcomeLacks (before step o)
 before-lacks step (outcome.Solved steps context solution) h = h

@@ -17,6 +17,7 @@ use Rattle.unification.specs.Solving.{reordered, solved, new_context, solved_sta
 use Rattle.unification.specs.Injecting.{group_proofs, injected_state}
 use Rattle.unification.specs.Records.{argument_items, constructor_terms}
 use Rattle.k_laws.specs.Lacking.{Lack}
+use Rattle.k_laws.specs.Walking.{ProblemLacks}
 use Rattle.k_laws.proofs.Terms.{PlacesLack, one, placed, mapped, at-position, nearest}
 
 abbrev pub SidesLack : List Equation → Type 0
@@ -27,11 +28,6 @@ pub record StateLacks (s : State) : Type 0 where
   pub context : Lack s.context
   pub sides : SidesLack s.equations
   pub solution : Lack s.solution
-
-pub record ProblemLacks (p : Problem) : Type 0 where
-  pub context : Lack p.context
-  pub left : Lack p.left
-  pub right : Lack p.right
 
 -- ---- equations
 

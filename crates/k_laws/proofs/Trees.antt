@@ -3,7 +3,6 @@ use Rattle.std.proofs.Common.{ℕ, zero, suc, ◌+◌, Bool, true, false, cond, 
 use Rattle.theory.specs.Terms.{Term}
 use Rattle.theory.specs.Telescopes.{Telescope}
 use Rattle.theory.specs.Signatures.{Signature}
-use Rattle.core_terms.specs.CaseTrees.{Tree}
 use Rattle.core_terms.specs.Clauses as clause
 use Rattle.core_terms.specs.Clauses.{Clauses, Is}
 use Rattle.core_terms.specs.Patterns.{Pat}
@@ -11,14 +10,14 @@ use Rattle.unification.specs.Outcomes.{Outcome, Solved, Absurd, Stuck}
 use Rattle.case_trees.specs.Looking.{Look, Found as There, Passed, Looked, Ran}
 use Rattle.case_trees.specs.Pairs.{all_open, some_clashes}
 use Rattle.case_trees.specs.Points.{Point, moved_point, moved_pairs, solution_for, start_at}
-use Rattle.case_trees.specs.Standing.{EachLeaf, EachLeafIn, EachLeafOf}
+use Rattle.case_trees.specs.Standing.{EachLeafIn, EachLeafOf}
 use Rattle.case_trees.specs.Trees as grown
 use Rattle.case_trees.specs.Trees.{Growing, Live, Node, SplitAt, all_live, as_split, branch_by, by_first, by_live, by_patterns, grow_branches, moved_live, one_node, patterns_left, solved_node, split_at, split_of, unless_dropped, worked}
 use Rattle.case_trees.specs.Working.{of_columns}
 use Rattle.k_laws.specs.Lacking.{Lack, SignatureLacks}
+use Rattle.k_laws.specs.Walking.{LeafLacks, OutcomeLacks, TreeLacks}
 use Rattle.k_laws.proofs.Runs.{Gives, Ends, ok, now, done, refused, next, and-then}
 use Rattle.k_laws.proofs.Terms.{first}
-use Rattle.k_laws.proofs.Solving.{OutcomeLacks}
 use Rattle.k_laws.proofs.Points.{PairsLack, PointLacks, keeping, low-pairs, low-point, pairs-moved, point-moved, waits, worked-pairs}
 use Rattle.k_laws.proofs.Looking.{LookHas, RunsLack, all-run, found-first, halted, halts, type-looked}
 
@@ -78,13 +77,6 @@ looks S all number context h pat x left =
     next (all-run S all context x found.member 0 found.member.family.constructors rest h k k.constructors) (λ runs end l. done (split-look x found runs l)))
 
 -- ---- the tree
-
--- the context and the terms of a leaf
-abbrev pub LeafLacks : (number : ℕ) → Telescope → (goal : Term) → (substitution terms binds : List Term) → Type 0
-LeafLacks number context goal substitution terms binds = Lack context × Lack terms
-
-abbrev pub TreeLacks : Tree → Type 0
-TreeLacks t = EachLeaf LeafLacks t
 
 abbrev Grows : Growing → Type 0
 Grows go = (p : Point) (live : List Live) (left : ℕ) → PointLacks p → LiveLack live → Ends TreeLacks (go p live left)

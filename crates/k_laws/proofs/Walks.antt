@@ -5,7 +5,6 @@ use Rattle.theory.specs.Telescopes.{Telescope}
 use Rattle.theory.specs.Families.{Constructor}
 use Rattle.theory.specs.Signatures.{Signature}
 use Rattle.core_terms.specs.Answers.{and_next}
-use Rattle.core_terms.specs.CaseTrees.{Walk}
 use Rattle.core_terms.specs.Clauses.{Clause, Is}
 use Rattle.core_terms.specs.Patterns as pattern
 use Rattle.core_terms.specs.Patterns.{Pat}
@@ -19,18 +18,13 @@ use Rattle.case_trees.specs.Problems.{problem_of}
 use Rattle.case_trees.specs.Stops.{answers}
 use Rattle.case_trees.specs.Working.{of_columns}
 use Rattle.k_laws.specs.Lacking.{Lack, ConstructorLacks, SignatureLacks}
+use Rattle.k_laws.specs.Walking.{OutcomeLacks, WalkLacks}
 use Rattle.k_laws.proofs.Runs.{Gives, Ends, Any, anyhow, ok, no, now, refused, next, and-then, either}
 use Rattle.k_laws.proofs.Terms.{first}
 use Rattle.k_laws.proofs.Records.{constructor}
-use Rattle.k_laws.proofs.Solving.{OutcomeLacks, problem, unify}
+use Rattle.k_laws.proofs.Solving.{problem, unify}
 use Rattle.k_laws.proofs.Points.{PairsLack, PointLacks, all-bound, keeping, low-pairs, low-point, pairs-moved, point-moved, waits, worked-pairs}
 use Rattle.k_laws.proofs.Looking.{LookHas, LookedLacks, found-first, halted, halts, type-looked}
-
--- the context, the terms and the bindings of a walk
-pub record WalkLacks (w : Walk) : Type 0 where
-  pub context : Lack w.ctx
-  pub terms : Lack w.terms
-  pub binds : Lack w.binds
 
 abbrev TurnLacks : Turn → Type 0
 TurnLacks (Goes p pairs) = PointLacks p × PairsLack pairs
