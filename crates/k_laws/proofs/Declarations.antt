@@ -1,6 +1,6 @@
 -- The lines of a declaration that is accepted show no K where it is off.
 use Rattle.std.proofs.Common.{◌≡◌, ℕ, ◌+◌, false, Option, Some, None, List, [], ◌∷◌, Result, Ok, Err, IfOk, subst, ◌∙◌}
-use Rattle.theory.specs.Signatures.{Signature, IsPrefix}
+use Rattle.theory.specs.Signatures.{Signature}
 use Rattle.theory.specs.WellFormed.{IsWellFormed}
 use Rattle.core_terms.specs.CaseTrees.{Walk}
 use Rattle.core_sig.specs.Drafts.{Draft}
@@ -8,30 +8,29 @@ use Rattle.kernel_check.specs.Checking.{infer_sort_of}
 use Rattle.kernel_reduce.specs.Reduction.{nesting}
 use Rattle.family_check.specs.Scopes.{HasPrelude}
 use Rattle.surface_syntax.specs.Trees as surf
-use Rattle.surface_syntax.specs.declared.tree.Word.{Word}
-use Rattle.resolve.specs.Functions.{Function, function}
+use Rattle.resolve.specs.Functions.{Function}
 use Rattle.tree_translation.specs.Entries.{translate}
 use Rattle.tree_translation.specs.Plans.{Part, Plan}
 use Rattle.tree_translation.specs.Recursion.{Recursion}
-use Rattle.clause_reports.specs.DraftEntering.{Names, enter_draft_of, enter_mention, enter_needed}
+use Rattle.clause_reports.specs.DraftEntering.{Names, enter_needed}
 use Rattle.clause_reports.specs.Equations.{part_named}
 use Rattle.clause_reports.specs.Generated.{all_name}
-use Rattle.clause_reports.specs.Reports.{Reference, Reported, report_of}
+use Rattle.clause_reports.specs.Reports.{Reference, Reported}
 use Rattle.clause_reports.specs.Stops.{ReportStop, Reporting}
 use Rattle.clause_reports.proofs.Keeping.{Grows, GrowsTo, enter_mention-grows, enter_needed-grows, entering-grows, grows_on, grows_same}
 use Rattle.clause_reports.proofs.ReportKeeping.{GrowsBy, report-grows}
-use Rattle.elab_session.specs.Declaring.{Declared, accepted_as, declare_of}
+use Rattle.elab_session.specs.Declaring.{Declared, declare_of}
 use Rattle.elab_session.specs.Sessions.{IsReady}
 use Rattle.elab_session.specs.declared.refusal.Refusal as session
 use Rattle.elab_session.proofs.Resolved.{prelude-stays}
 use Rattle.elaboration.specs.Functions.{Following, Lines, enter_drafts, enter_plan, enter_values, first_domains, function_level, function_of, recursion_in, report_parts, report_walks}
 use Rattle.elaboration.specs.Refusals.{OfType, Owner, answers, granted, or_halts, or_no_report, owner_of, reporting}
-use Rattle.function_session.specs.Elaborating.{Elaborated, elaborate_of, with_lines, without_lines}
-use Rattle.function_session.proofs.Keeping.{function-has, without_lines-has}
+use Rattle.function_session.specs.Elaborating.{Elaborated, without_lines}
+use Rattle.function_session.proofs.Keeping.{function-has}
 use Rattle.k_laws.specs.Lacking.{SignatureLacks}
 use Rattle.k_laws.specs.Laws.{LinesLackAxiomK}
 use Rattle.k_laws.specs.Lines.{LinesLack}
-use Rattle.k_laws.proofs.Runs.{Gives, Ends, Any, any, anyhow, ok, no, now, done, next, weaker}
+use Rattle.k_laws.proofs.Runs.{Gives, Ends, Any, anyhow, ok, no, now, done, next, weaker}
 use Rattle.k_laws.proofs.Signatures.{well-formed-lacks}
 use Rattle.k_laws.proofs.Resolved.{FunctionLacks, function-lacks}
 use Rattle.k_laws.proofs.Clauses.{WalksLack}
