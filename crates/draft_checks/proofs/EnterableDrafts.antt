@@ -1,8 +1,9 @@
 -- A draft that is found to be one that may enter is such a draft.
-use Rattle.std.proofs.Common.{◌≡◌, inl, inr, ℕ, ◌-◌, ◌≤◌, ◌==◌, Bool, true, false, ◌&&◌, ◌||◌, nat_lt, cond, Option, Some, None, List, [], ◌∷◌, All, length, slice_get, IsTrue, Result, Ok, Err, IfOk, refl, sym, ap₂, ◌∙◌, subst as transport, arith}
+use Rattle.std.proofs.Common.{◌≡◌, inl, inr, ℕ, ◌-◌, ◌≤◌, ◌==◌, Bool, true, false, ◌&&◌, ◌||◌, nat_lt, cond, Option, Some, None, List, [], ◌∷◌, All, length, slice_get, IsTrue, Result, Ok, Err, IfOk, refl, sym, ◌∙◌, subst as transport, arith}
 use Rattle.std.specs.Option.{is_some}
 use Rattle.std.proofs.lemmas.Bool.Decides.{nat_tests}
 use Rattle.std.proofs.lemmas.List.Elements.{All-cons, All-nil}
+use Rattle.std.proofs.lemmas.Bool.{and_parts, and_from}
 use Rattle.theory.specs.Terms.{Term, free_of, height}
 use Rattle.theory.specs.Terms.Term.{Var, Sort, Pi, Lam, App, Let, Const, Fam, Con, Elim, AxiomK}
 use Rattle.theory.specs.Signatures.{Entry, Signature}
@@ -23,10 +24,6 @@ use Rattle.draft_entering.specs.Conditions.{IsDefined, IsDefinition, IsEnterable
 use Rattle.draft_checks.specs.Checks.{has_draft_entries, is_definition_found, is_draft_entry, is_draft_number, is_draft_term, name_enters, names_enter}
 use Rattle.draft_checks.specs.Laws.{EnterableMayEnter}
 
-both : (a b : Bool) → (a && b) ≡ true → (a ≡ true) × (b ≡ true)
-both true b h = (refl, h)
-both false b h = absurd (grind arith)
-
 -- ---- terms
 
 number-tells : (S : Signature) (base count c : ℕ) → is_draft_number S base count c ≡ true → IsDraftNumber S base count c
@@ -38,17 +35,17 @@ number-tells S base count c h = go (nat_lt c base) refl h
 
 pub draft-entries-tell : (S : Signature) (base count : ℕ) (t : Term) → has_draft_entries S base count t ≡ true → HasDraftEntries S base count t
 draft-entries-tell S base count (Pi a b) h =
-    let p = both (has_draft_entries S base count a) (has_draft_entries S base count b) h in
+    let p = and_parts (has_draft_entries S base count a) (has_draft_entries S base count b) h in
     (draft-entries-tell S base count a p.0, draft-entries-tell S base count b p.1)
 draft-entries-tell S base count (Lam a b) h =
-    let p = both (has_draft_entries S base count a) (has_draft_entries S base count b) h in
+    let p = and_parts (has_draft_entries S base count a) (has_draft_entries S base count b) h in
     (draft-entries-tell S base count a p.0, draft-entries-tell S base count b p.1)
 draft-entries-tell S base count (App f a) h =
-    let p = both (has_draft_entries S base count f) (has_draft_entries S base count a) h in
+    let p = and_parts (has_draft_entries S base count f) (has_draft_entries S base count a) h in
     (draft-entries-tell S base count f p.0, draft-entries-tell S base count a p.1)
 draft-entries-tell S base count (Let a t b) h =
-    let p = both (has_draft_entries S base count a) (has_draft_entries S base count t && has_draft_entries S base count b) h in
-    let q = both (has_draft_entries S base count t) (has_draft_entries S base count b) p.1 in
+    let p = and_parts (has_draft_entries S base count a) (has_draft_entries S base count t && has_draft_entries S base count b) h in
+    let q = and_parts (has_draft_entries S base count t) (has_draft_entries S base count b) p.1 in
     (draft-entries-tell S base count a p.0, draft-entries-tell S base count t q.0, draft-entries-tell S base count b q.1)
 draft-entries-tell S base count (Const c) h = number-tells S base count c h
 draft-entries-tell S base count (Fam n) h = entries-tell S (Fam n) h
@@ -61,8 +58,8 @@ draft-entries-tell S base count (AxiomK i m) h = tt
 -- a term that is found to be one of a draft is so, and is not too high
 term-tells : (S : Signature) (base count : ℕ) (t : Term) → is_draft_term S base count t ≡ true → IsDraftTerm S base count 0 t × (height t ≤ 2000)
 term-tells S base count t h =
-    let p = both (free_of t == 0) (is_low t && has_draft_entries S base count t) h in
-    let q = both (is_low t) (has_draft_entries S base count t) p.1 in
+    let p = and_parts (free_of t == 0) (is_low t && has_draft_entries S base count t) h in
+    let q = and_parts (is_low t) (has_draft_entries S base count t) p.1 in
     (record { variables = grind (arith, nat_tests); entries = draft-entries-tell S base count t q.1 }, grind (arith, nat_tests))
 
 -- ---- entries
@@ -74,7 +71,7 @@ pub record IsDraftEntry (S : Signature) (base count : ℕ) (e : Entry) : Type 0 
 
 entry-tells : (S : Signature) (base count : ℕ) (e : Entry) → is_draft_entry S base count e ≡ true → IsDraftEntry S base count e
 entry-tells S base count (Definition name type body) h =
-    let p = both (is_draft_term S base count type) (is_draft_term S base count body) h in
+    let p = and_parts (is_draft_term S base count type) (is_draft_term S base count body) h in
     let a = term-tells S base count type p.0 in
     let b = term-tells S base count body p.1 in
     record { definition = tt; scoped = (a.0, b.0); low = (a.1, b.1) }
@@ -103,23 +100,20 @@ name-tells S name h = go (is_definition_found S (find S name)) refl h
 pub names-tell : (S : Signature) (names : List (List ℕ)) → names_enter S names ≡ true → All (IsEnterable S) names
 names-tell S [] h = All-nil (IsEnterable S)
 names-tell S (name ∷ names) h =
-    let p = both (name_enters S name) (names_enter S names) h in
+    let p = and_parts (name_enters S name) (names_enter S names) h in
     All-cons (IsEnterable S) name names (name-tells S name p.0) (names-tell S names p.1)
 
 pub may-enter : EnterableMayEnter
 may-enter S d h =
-    let p = both (is_draft_entry S d.base (length d.names) d.entry) (names_enter S d.names) h in
+    let p = and_parts (is_draft_entry S d.base (length d.names) d.entry) (names_enter S d.names) h in
     let e = entry-tells S d.base (length d.names) d.entry p.0 in
     record { definition = e.definition; scoped = e.scoped; low = e.low; names = names-tell S d.names p.1 }
-
-both-hold : (a b : Bool) → a ≡ true → b ≡ true → (a && b) ≡ true
-both-hold a b h k = ap₂ (λ x y. x && y) h k
 
 -- the same where the entry is tested before the names
 pub tested-tells : (S : Signature) (d : Draft) (names : List (List ℕ)) → names ≡ d.names → is_draft_entry S d.base (length names) d.entry ≡ true
     → (r : Result Bool Stop) → Gives (λ b. b) r (Ok (names_enter S names)) → IfOk r (λ yes. IsTrue yes → IsEnterableDraft S d)
 tested-tells S d names same entry (Ok b) is =
-    λ yes. may-enter S d (both-hold (is_draft_entry S d.base (length d.names) d.entry) (names_enter S d.names)
+    λ yes. may-enter S d (and_from (is_draft_entry S d.base (length d.names) d.entry) (names_enter S d.names)
     (transport (λ ns. is_draft_entry S d.base (length ns) d.entry ≡ true) same entry)
     (transport (λ ns. names_enter S ns ≡ true) same (sym (ok_is is) ∙ yes)))
 tested-tells S d names same entry (Err e) is = tt

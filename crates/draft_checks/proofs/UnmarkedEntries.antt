@@ -1,6 +1,6 @@
 -- Names without marks, entry by entry.
-use Rattle.std.proofs.Common.{◌≡◌, ℕ, zero, suc, ◌+◌, ◌<◌, ◌≤◌, Bool, true, false, ◌&&◌, not, List, [], ◌∷◌, All, length, drop, slice_get, refl, sym, ap, ◌∙◌, arith}
-use Rattle.std.proofs.lemmas.Bool.{not-true}
+use Rattle.std.proofs.Common.{◌≡◌, ℕ, zero, suc, ◌+◌, ◌<◌, ◌≤◌, true, false, ◌&&◌, not, List, [], ◌∷◌, All, length, drop, slice_get, refl, sym, ap, ◌∙◌, arith}
+use Rattle.std.proofs.lemmas.Bool.{not-true, and_parts}
 use Rattle.std.proofs.lemmas.List.{drop_all}
 use Rattle.std.proofs.lemmas.List.Elements.{All-cons, All-nil}
 use Rattle.theory.specs.Families.{Constructor}
@@ -11,10 +11,6 @@ use Rattle.entering_laws.specs.Laws.{IsUnmarked}
 use Rattle.entering_laws.proofs.OpenSignatures.{well_formed-open}
 use Rattle.draft_checks.specs.Checks.{all_unmarked, are_unmarked, is_unmarked_at, is_unmarked_entry, unmarked}
 use Rattle.draft_checks.specs.Laws.{UnmarkedIsOpen}
-
-both : (a b : Bool) → (a && b) ≡ true → (a ≡ true) × (b ≡ true)
-both true b h = (refl, h)
-both false b h = absurd (grind arith)
 
 -- ---- from an entry on
 
@@ -41,12 +37,12 @@ last-entry n entries le = ap all_unmarked (drop_all n entries le)
 constructors-tell : (cs : List Constructor) → are_unmarked cs ≡ true → All (λ c. is_marked c.name ≡ false) cs
 constructors-tell [] h = All-nil (λ c. is_marked c.name ≡ false)
 constructors-tell (c ∷ cs) h =
-    let p = both (not (is_marked c.name)) (are_unmarked cs) h in
+    let p = and_parts (not (is_marked c.name)) (are_unmarked cs) h in
     All-cons (λ k. is_marked k.name ≡ false) c cs (not-true (is_marked c.name) p.0) (constructors-tell cs p.1)
 
 entry-tells : (e : Entry) → is_unmarked_entry e ≡ true → HasUnmarkedNames e
 entry-tells (FamilyOf f) h =
-    let p = both (not (is_marked f.name)) (are_unmarked f.constructors) h in
+    let p = and_parts (not (is_marked f.name)) (are_unmarked f.constructors) h in
     (not-true (is_marked f.name) p.0, constructors-tell f.constructors p.1)
 entry-tells (EliminatorAt n m) h = tt
 entry-tells (AxiomKAt i m) h = tt
@@ -55,7 +51,7 @@ entry-tells (Definition name type body) h = tt
 entries-tell : (entries : List Entry) → all_unmarked entries ≡ true → All HasUnmarkedNames entries
 entries-tell [] h = All-nil HasUnmarkedNames
 entries-tell (e ∷ entries) h =
-    let p = both (is_unmarked_entry e) (all_unmarked entries) h in
+    let p = and_parts (is_unmarked_entry e) (all_unmarked entries) h in
     All-cons HasUnmarkedNames e entries (entry-tells e p.0) (entries-tell entries p.1)
 
 pub unmarked-tells : (S : Signature) → unmarked S ≡ true → IsUnmarked S
