@@ -68,10 +68,10 @@ earlier S clause (leaf ∷ places) left h =
     either-ends holds (earlier S clause places rest h.1)
     (either-ends (nat_lt leaf.0 clause) (done {P = FoundLacks} {a = Some leaf} h.0) (earlier S clause places rest h.1)))
 
-if-it-holds : (S : Signature) (r : Rejection) (number : ℕ) (context : Telescope) (terms : List Term) (leaves : List TreeLeaf) (holds : Bool) → Lack context → Lack terms
-    → LeavesLack (map shown_leaf leaves) → Gives ReportedLacks (if_shadowed S r number context terms leaves holds)
-if-it-holds S r number context terms leaves true h k l = ok (h, k, l)
-if-it-holds S r number context terms leaves false h k l = no
+if-it-holds : (S : Signature) (r : Rejection) (number : ℕ) (context : Telescope) (terms : List Term) (found : List TreeLeaf) (holds : Bool) → Lack context → Lack terms
+    → LeavesLack (map shown_leaf found) → Gives ReportedLacks (if_shadowed S r number context terms found holds)
+if-it-holds S r number context terms found true h k l = ok (h, k, l)
+if-it-holds S r number context terms found false h k l = no
 
 module _ (S : Signature) (all : SignatureLacks S) (plan : Plan) (c : Reference) (h : PlanLacks plan) where
   its-leaves : LeavesLack (map shown_leaf (leaves_of c.clause (part_at plan c.part).tree))
