@@ -27,6 +27,6 @@ fn main(rt: HostRuntime) -> ExitCode {
     };
     let mut source = StdSource::new(rt.stdin());
     let mut sink = StdSink::new(rt.stdout());
-    let status = elim_program::run(rt.alloc(), words.as_slice(), &mut source, &mut sink);
+    let status = headline::run(rt.alloc(), words.as_slice(), &mut source, &mut sink);
     ExitCode::from(status.code())
 }
