@@ -1,11 +1,10 @@
 -- What the elaborator accepts is what the headline says of it.
-use Rattle.std.proofs.Common.{◌≡◌, ℕ, Bool, true, false, List, [], ◌∷◌, ◌++◌, codes, Ok, IfOk, refl, sym, ap, subst, ◌∙◌, arith}
+use Rattle.std.proofs.Common.{◌≡◌, ℕ, Bool, true, false, List, ◌∷◌, ◌++◌, codes, Ok, IfOk, refl, sym, ap, subst, ◌∙◌, arith}
 use Rattle.std.specs.Prelude.{Contains, IsTrue, is_some, slice_get}
 use Rattle.std.proofs.lemmas.List.Elements.{Contains-append_right}
 use Rattle.theory.specs.Signatures.{Definition, FamilyOf, Signature}
 use Rattle.theory.specs.WellFormed.{pushed}
 use Rattle.surface_syntax.specs.Trees as surf
-use Rattle.surface_syntax.specs.declared.tree.Word.{Word}
 use Rattle.elab_session.specs.Declaring.{Declared, accepted_as}
 use Rattle.elab_session.specs.Sessions.{IsReady}
 use Rattle.function_session.specs.Elaborating.{Elaborated, declared_of, elaborate_of}
