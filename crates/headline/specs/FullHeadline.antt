@@ -5,6 +5,7 @@ use Rattle.elim_program.specs.DefinedOutputs.{IsOutput}
 use Rattle.elim_program.specs.Headline.{IsShown}
 use Rattle.elim_program.specs.Lines.{lines_of, text_of}
 use Rattle.elim_program.specs.Outputs.{Output, accepted_line}
+use Rattle.k_laws.specs.Lines.{LinesLack}
 use Rattle.program_laws.specs.CoreFiles.{IsCoreFile}
 use Rattle.program_laws.specs.WithoutK.{AreWithoutK}
 use Rattle.verified_laws.specs.AcceptedLines.{IsReported}
@@ -23,14 +24,15 @@ pub record IsOfTheSame (words : List (List ℕ)) (bytes : List ℕ) (above : Lis
 -- The headline, and what more is known of the same declaration.
 -- `core_file`: the lines above are a core file. What is read from it, entry by entry up to its end, is the signature after the
 -- declaration, except for the levels that a family keeps.
--- `without_k`: where the prelude does not have axiom K, no line above is that of an instance of K, and no entry holds K.
+-- `without_k`: where the prelude does not have axiom K, no line above is that of an instance of K, and no entry and no line of a clause
+-- holds K.
 -- `accepted`: the elaborator accepts the declaration with these clauses; the leaves of each clause that is shadowed are those of the tree
 -- in the function's plan.
 -- `reported`: the line of each clause is the clause's report.
 pub record IsFullyShown (words : List (List ℕ)) (bytes : List ℕ) (above : List (List ℕ)) (name : List ℕ) : Type 0 where
   pub shown : IsShown words bytes above name
   pub core_file : IsCoreFile shown.k (text_of above) shown.after
-  pub without_k : shown.k ≡ false → AreWithoutK above shown.after
+  pub without_k : shown.k ≡ false → AreWithoutK above shown.after × LinesLack shown.clauses
   pub accepted : IsAccepted words bytes above name
   pub same : IsOfTheSame words bytes above name shown accepted
   pub reported : IsReported accepted.before accepted.declaration accepted.accepted

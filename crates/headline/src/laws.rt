@@ -2,6 +2,7 @@
 ghost use Rattle.headline.specs.FullHeadline.{AcceptedIsTheShown, FullHeadline};
 
 use elim_program::laws::{acceptance, accepted_is_shown};
+use k_laws::laws::lines_lack_axiom_k;
 use program_laws::laws::{gives_by_the_grammar, without_k};
 use verified_laws::lines::{lines_are_core_files, lines_are_reports};
 use written_functions::laws::functions_are_by_clauses;
@@ -25,4 +26,5 @@ pub fn full_headline()
     lines_are_core_files();
     lines_are_reports();
     without_k();
+    lines_lack_axiom_k();
 }
