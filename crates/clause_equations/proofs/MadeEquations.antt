@@ -22,7 +22,7 @@ left-is S plan zero pats site = refl
 left-is S plan (suc k) pats site =
     sym (applied-append (Const (number_of S (part_name plan (suc k)))) site.substitution (last_argument S plan (recursion_of S plan) site.terms))
 
-equation-at-is : (S : Signature) (plan : Plan) (k : ℕ) (pats : Pats) (side : Term) (site : Site)
+pub equation-at-is : (S : Signature) (plan : Plan) (k : ℕ) (pats : Pats) (side : Term) (site : Site)
     → code.equation_at S plan (recursion_of S plan) k pats side site ≡ pure.equation_at S plan k pats side site
 equation-at-is S plan k pats side site =
     ap (λ t. and_then (bounded t) (λ u.
@@ -30,7 +30,7 @@ equation-at-is S plan k pats side site =
     (left-is S plan k pats site)
 
 -- what is found, where it is looked for in a low telescope
-found-low : (S : Signature) (tele : Telescope) (position : Option ℕ) → (is_none position || are_low tele) ≡ true
+pub found-low : (S : Signature) (tele : Telescope) (position : Option ℕ) → (is_none position || are_low tele) ≡ true
     → made_at S tele position ≡ Ok (option_and_then (recursion_at S tele) position)
 found-low S tele None e = refl
 found-low S tele (Some j) e = rw e refl

@@ -1,8 +1,9 @@
 -- Where the first of two calls answers something, the second does so too: how this goes from parts to what is made of them.
-use Rattle.std.proofs.Common.{◌≡◌, ℕ, Bool, true, false, cond, Result, Ok, Err, IfOk, refl, sym, ap, subst as transport, arith}
+use Rattle.std.proofs.Common.{◌≡◌, ℕ, Bool, true, false, cond, Result, Ok, Err, IfOk, refl, sym, ap, subst as transport}
 use Rattle.core_terms.specs.Answers.{SpentOr, and_next, on_answer}
 use Rattle.core_terms.specs.declared.stop.Stop.{Stop}
 use Rattle.clause_reports.specs.Stops.{answers, or_halts}
+use Rattle.draft_entering.proofs.NamedDrafts.{err-ok}
 
 abbrev pub spent : {A E : Type 0} → Result A E → ℕ → SpentOr E A
 spent r n = (r, n)
@@ -10,11 +11,8 @@ spent r n = (r, n)
 abbrev pub Follows : {A E : Type 0} → (made meant : SpentOr E A) → Type 0
 Follows {A} {E} made meant = (a : A) (left : ℕ) → ◌≡◌ {A = SpentOr E A} made (Ok a, left) → ◌≡◌ {A = SpentOr E A} meant (Ok a, left)
 
-err-ok : {A E : Type 0} {e : E} {a : A} → Err e ≡ Ok a → ⊥
-err-ok h = grind arith
-
 -- a refusal is no answer
-no-answer : {A E : Type 0} (e : E) (a : A) (n left : ℕ) → spent (Err e) n ≡ spent (Ok a) left → ⊥
+pub no-answer : {A E : Type 0} (e : E) (a : A) (n left : ℕ) → spent (Err e) n ≡ spent (Ok a) left → ⊥
 no-answer e a n left h = err-ok (ap (λ o. o.0) h)
 
 pub follows-same : {A E : Type 0} (made : SpentOr E A) → Follows made made

@@ -5,5 +5,4 @@ pub mod OtherDenials
 pub mod PartsAnswered
 pub mod ReducedPlaces
 pub mod ReportsAnswered
-pub mod SameEquations
 pub mod ShadowsAnswered

@@ -1,5 +1,6 @@
 -- What is compared and what is reduced has entries, and few variables.
-use Rattle.std.proofs.Common.{◌≡◌, ℕ, ◌≤◌, Bool, true, false, ◌&&◌, [], ◌∷◌, length, refl, arith}
+use Rattle.std.proofs.Common.{◌≡◌, ℕ, ◌≤◌, true, [], ◌∷◌, length, arith}
+use Rattle.std.proofs.lemmas.Bool.{and_parts}
 use Rattle.theory.specs.Terms.{Term}
 use Rattle.theory.specs.Signatures.{Signature}
 use Rattle.theory.specs.SignatureScopes.{IsScopedSignature}
@@ -13,13 +14,9 @@ use Rattle.proof_walks.specs.PlaceScopes.{IsKeptPlace, is_scoped}
 use Rattle.proof_walks.proofs.ScopeTests.{term-tells}
 use Rattle.clause_lines.specs.CodeReports.{can_be_compared}
 
-both : (a b : Bool) → (a && b) ≡ true → (a ≡ true) × (b ≡ true)
-both true b h = (refl, h)
-both false b h = absurd (grind arith)
-
 pub compared-reduce : (S : Signature) (n : ℕ) (u v : Term) → IsScopedSignature S → n ≤ most_levels → can_be_compared S n u v ≡ true → CanReduce S (u ∷ v ∷ [])
 compared-reduce S n u v scoped few h =
-    let p = both (is_scoped S n u) (is_scoped S n v) h in
+    let p = and_parts (is_scoped S n u) (is_scoped S n v) h in
     record {
       signature = scoped;
       terms = scoped-more S n most_variables (u ∷ v ∷ []) (omega (arith, few)) (term-tells S n u p.0, (term-tells S n v p.1, tt));

@@ -17,9 +17,9 @@ use Rattle.clause_reports.specs.Reports as pure
 use Rattle.clause_reports.specs.Reports.{Reference, order_in, at_leaf, at_vector, shadowed}
 use Rattle.clause_reports.specs.Shadows.{TreeLeaf, convert_at_all, earlier_leaf, equation_at_leaf, leaves_of, vector_of}
 use Rattle.clause_reports.specs.Stops.{Rejection, Reporting, Halts, Rejected, answers, or_halts, halting}
+use Rattle.clause_equations.proofs.MadeEquations.{equation-at-is}
 use Rattle.clause_lines.specs.CodeReports.{in_plan, can_be_compared, equation_converts, order_at, equation_there, converts_at_all, converts_with, converts_at_leaves, if_shadowed, both_match, at_matched, at_vector_made, at_place, place_converts, shadowed_among, shadowed_made}
 use Rattle.clause_lines.proofs.Following.{Follows, spent, follows-as, follows-if, follows-next, follows-same, follows-twice, halts-follow, refused}
-use Rattle.clause_lines.proofs.SameEquations.{equation-same}
 
 -- ---- sides
 
@@ -30,7 +30,7 @@ converting-follows S e left =
 
 -- ---- leaves
 
-order-is : (S : Signature) (plan : Plan) (k : ℕ) → order_at k plan (part_at plan k) (recursion_of S plan) ≡ order_in S plan k
+pub order-is : (S : Signature) (plan : Plan) (k : ℕ) → order_at k plan (part_at plan k) (recursion_of S plan) ≡ order_in S plan k
 order-is S plan zero = refl
 order-is S plan (suc k) = refl
 
@@ -39,7 +39,7 @@ there-follows : (S : Signature) (plan : Plan) (c : Reference) (order : List ℕ)
     (answers (or_halts (equation_at_leaf S plan c.part c.clause order c.walk l)) left)
 there-follows S plan c order l left =
     halts-follow (equation_there S (in_plan plan c) (recursion_of S plan) order l) (equation_at_leaf S plan c.part c.clause order c.walk l) left
-    (λ e is. sym (equation-same S plan c.part (pats_of (part_at plan c.part) c.clause) (side_of (part_at plan c.part) c.clause)
+    (λ e is. sym (equation-at-is S plan c.part (pats_of (part_at plan c.part) c.clause) (side_of (part_at plan c.part) c.clause)
     (leaf_site order c.walk l.context l.goal l.substitution l.terms l.binds)) ∙ is)
 
 all-follow : (S : Signature) (plan : Plan) (c : Reference) (order : List ℕ) (leaves : List TreeLeaf) (left : ℕ)

@@ -31,8 +31,8 @@ pub record Grows (S T : Signature) : Type 0 where
   pub prefix : IsPrefix S T
   pub keeps : IsWellFormed S → HasPrelude S → IsWellFormed T
 
-prelude-stays : (S T : Signature) → IsPrefix S T → HasPrelude S → HasPrelude T
-prelude-stays S T more h =
+pub prelude-on : (S T : Signature) → IsPrefix S T → HasPrelude S → HasPrelude T
+prelude-on S T more h =
     transport (λ k. IsPrefix (prelude k) T) (sym more.has_k) (prefix_transitive (prelude S.has_k) S T h more)
 
 pub grows_same : (S : Signature) → Grows S S
@@ -41,7 +41,7 @@ grows_same S = record { prefix = prefix_reflexive S; keeps = λ h p. h }
 pub grows_on : (S T U : Signature) → Grows S T → Grows T U → Grows S U
 grows_on S T U first second = record {
   prefix = prefix_transitive S T U first.prefix second.prefix;
-  keeps = λ h p. second.keeps (first.keeps h p) (prelude-stays S T first.prefix p);
+  keeps = λ h p. second.keeps (first.keeps h p) (prelude-on S T first.prefix p);
 }
 
 pub weaker : {A E : Type 0} (P Q : A → Type 0) (r : Result A E) → ((a : A) → P a → Q a) → IfOk r P → IfOk r Q
@@ -50,6 +50,11 @@ weaker P Q (Err e) k h = tt
 
 abbrev pub Any : {A : Type 0} → A → Type 0
 Any a = Unit {0}
+
+-- what two facts of an answer give
+pub weaker-of-two : {A E : Type 0} (P Q Z : A → Type 0) (r : Result A E) → IfOk r P → IfOk r Q → ((a : A) → P a → Q a → Z a) → IfOk r Z
+weaker-of-two P Q Z (Ok a) p q k = k a p q
+weaker-of-two P Q Z (Err e) p q k = tt
 
 pub any : {A E : Type 0} (r : Result A E) → IfOk r Any
 any (Ok a) = tt
@@ -64,7 +69,7 @@ gathered : {E : Type 0} (S : Signature) (r : Result Entered E) → IfOk r (λ e.
 gathered S (Ok e) prefix keeps = record { prefix = prefix; keeps = keeps }
 gathered S (Err e) prefix keeps = tt
 
-rejected-has : (P : Entered → Type 0) (S : Signature) (e : Entry) (r : Result Entered FamilyStop) → IfOk r P → IfOk (or_rejected S e r) P
+pub rejected-has : (P : Entered → Type 0) (S : Signature) (e : Entry) (r : Result Entered FamilyStop) → IfOk r P → IfOk (or_rejected S e r) P
 rejected-has P S e (Ok a) h = h
 rejected-has P S e (Err cause) h = tt
 

@@ -29,7 +29,7 @@ shadowed-matches before S plan c left entered reference =
     (h.before, h.own, h.other, h.shown, h.converts, h.same)) (report-says S plan c left)
 
 -- a clause with `( )` has the line Absurd
-absurd-line : (S : Signature) (plan : Plan) (c : Reference) (left : ℕ)
+pub absurd-line : (S : Signature) (plan : Plan) (c : Reference) (left : ℕ)
     → Answers (λ r. some_absurd (pats_of (part_at plan c.part) c.clause) ≡ true → r.line ≡ Absurd) (report_of S plan c left)
 absurd-line S plan c left = by (some_absurd (pats_of (part_at plan c.part) c.clause))
   where

@@ -11,7 +11,7 @@ use Rattle.core_sig.specs.Drafts.{Draft}
 use Rattle.core_sig.specs.Settling.{renumbered, renumbered_entry, settled_number}
 use Rattle.family_check.specs.Entering.{Entered, define_of, check_definition, are_new}
 use Rattle.family_check.specs.Asking.{sort_in, type_in}
-use Rattle.family_check.specs.Outcomes.{FamilyStop, OfType, OfBody}
+use Rattle.family_check.specs.Outcomes.{OfType, OfBody}
 use Rattle.family_check.proofs.Outcomes.{if_new-has}
 use Rattle.unification.proofs.Cases.{first-of_two}
 use Rattle.tree_translation.specs.Naming.{Naming, number_among, number_in, with_names}
@@ -22,8 +22,8 @@ use Rattle.clause_reports.specs.Equations.{Equation, part_at, closed_type}
 use Rattle.clause_reports.specs.Laws.{IsOver}
 use Rattle.clause_reports.specs.ProofTerms.{candidate, proof_name, proof_names, proof_term}
 use Rattle.clause_reports.specs.ProofWalks.{Proof}
-use Rattle.clause_reports.specs.Stops.{ReportStop, or_rejected}
-use Rattle.clause_reports.proofs.Keeping.{Grows, GrowsTo, grows_on, enter_entry-grows, Any, any}
+use Rattle.clause_reports.specs.Stops.{ReportStop}
+use Rattle.clause_reports.proofs.Keeping.{Grows, GrowsTo, grows_on, enter_entry-grows, Any, any, rejected-has}
 
 -- ---- numbering anew
 
@@ -73,13 +73,9 @@ define-there S name type body left =
     and_next-has Any (IsThere (Definition name type body)) (type_in S OfBody [] body type rest) _ (any (type_in S OfBody [] body type rest).0) (λ found end v.
     slice_get-last S.entries (Definition name type body))))
 
-not_rejected : (P : Entered → Type 0) (S : Signature) (e : Entry) (r : Result Entered FamilyStop) → IfOk r P → IfOk (or_rejected S e r) P
-not_rejected P S e (Ok a) h = h
-not_rejected P S e (Err cause) h = tt
-
-enter_entry-there : (S : Signature) (e : Entry) (left : ℕ) → Answers (IsThere e) (enter_entry S e left)
+pub enter_entry-there : (S : Signature) (e : Entry) (left : ℕ) → Answers (IsThere e) (enter_entry S e left)
 enter_entry-there S (Definition name type body) left =
-    not_rejected (IsThere (Definition name type body)) S (Definition name type body) (define_of S name type body left).0 (define-there S name type body left)
+    rejected-has (IsThere (Definition name type body)) S (Definition name type body) (define_of S name type body left).0 (define-there S name type body left)
 enter_entry-there S (FamilyOf f) left = tt
 enter_entry-there S (EliminatorAt n m) left = tt
 enter_entry-there S (AxiomKAt i m) left = tt

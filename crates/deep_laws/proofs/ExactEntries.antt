@@ -1,7 +1,7 @@
 -- What a plan translates to is made: each entry, and so all of them.
-use Rattle.std.proofs.Common.{◌≡◌, ◌≢◌, ℕ, suc, ◌+◌, ◌≤◌, ◌&&◌, true, cond, Option, Some, None, option_and_then, option_map, IfSome, List, [], ◌∷◌, ◌++◌, length, drop, get_or, slice_get, All, Result, Ok, Err, refl, sym, ap, ap₂, ◌∙◌, subst as transport, append_assoc, arith}
+use Rattle.std.proofs.Common.{◌≡◌, ◌≢◌, ℕ, suc, ◌+◌, ◌≤◌, true, cond, Option, Some, None, option_and_then, option_map, IfSome, List, [], ◌∷◌, ◌++◌, length, drop, get_or, slice_get, All, Result, Ok, Err, refl, sym, ap, ◌∙◌, subst as transport, append_assoc, arith}
 use Rattle.std.proofs.lemmas.Option.{none-some}
-use Rattle.theory.specs.Terms.{Term, Sort, height}
+use Rattle.theory.specs.Terms.{Sort, height}
 use Rattle.theory.specs.Telescopes.{Telescope, functions, products}
 use Rattle.theory.specs.Families.{Family}
 use Rattle.theory.specs.Signatures.{Signature}
@@ -12,7 +12,7 @@ use Rattle.core_terms.specs.declared.stop.Stop.TheVariants.{Deep}
 use Rattle.theory.proofs.Lists.{some_is}
 use Rattle.core_sig.specs.Drafts.{Draft}
 use Rattle.kernel_reduce.specs.Entries.{family_at}
-use Rattle.unifier.specs.Conditions.{AreLow}
+use Rattle.unifier.proofs.LowTerms.{terms-low}
 use Rattle.structural_rec.specs.Positions.{Admission, admission}
 use Rattle.structural_rec.specs.Uses.{Use}
 use Rattle.tree_translation.specs.Conditions.{IsOwnPart, IsPartOf}
@@ -23,7 +23,6 @@ use Rattle.tree_translation.specs.Recursion.{Recursion, order_of, ordered_telesc
 use Rattle.tree_translation.specs.TreeTerms.{tree_names}
 use Rattle.tree_translation.proofs.Drafting.{AreEntries, AreHelpers, entries-are, entries-deep}
 use Rattle.tree_translation.proofs.LevelLists.{length-levels}
-use Rattle.replay_laws.proofs.LowInstances.{height-low}
 use Rattle.replay_laws.proofs.LowParts.{low-products}
 use Rattle.leaf_terms.specs.CallsApart.{CallsStandApart}
 use Rattle.leaf_terms.specs.RecursionMade.{made_at, recursion_made}
@@ -33,28 +32,13 @@ use Rattle.order_scopes.proofs.OrderedScopes.{length-ordered, variables-scoped}
 use Rattle.node_roots.proofs.RootNodes.{helper_node-over, step_node-over}
 use Rattle.entry_laws.proofs.OnlyEntries.{helper-like, step-like}
 use Rattle.translation_laws.proofs.MadeEntries.{translate_made-is_entries, translate_made-only_deep}
-use Rattle.own_scopes.proofs.OwnOrders.{goal-stays, telescope-stays}
+use Rattle.own_scopes.proofs.PlainFunctions.{own-plain}
 use Rattle.step_scopes.proofs.PlanOrders.{order-there, plan-ordered}
 use Rattle.leaf_laws.specs.Laws.{PartIsExact}
 use Rattle.deep_laws.specs.Laws.{IsKeptPlan, TranslateAnswers, TranslateIsExact}
 use Rattle.deep_laws.proofs.MadeParts.{entry-there, numbered-low, part-begins}
 
 -- ---- the own part
-
--- its tree starts from the telescope as it is written, without recursion
-own-plain : (S : Signature) (plan : Plan) (uses : List Use) → recursion_of S plan ≡ None → IsOwnPart S plan uses
-    → IsPartOf S plan uses 0 (own_part plan) (own_part plan).tele (own_part plan).goal (ordered_variables (order_of (length (own_part plan).tele) None) (length (own_part plan).tele))
-own-plain S plan uses none is =
-    let own = own_part plan in
-    let count = length own.tele in
-    let order = order_of count None in
-    let terms = ordered_variables order count in
-    transport (λ tele. IsPartOf S plan uses 0 own tele own.goal terms) (telescope-stays own.tele)
-    (transport (λ goal. IsPartOf S plan uses 0 own (ordered_telescope own.tele order) goal terms) (goal-stays count own.goal)
-    (transport
-    (λ o.
-    IsPartOf S plan uses 0 own (ordered_telescope own.tele (order_of count o)) (ordered_term count (order_of count o) own.goal) (ordered_variables (order_of count o) count))
-    none is))
 
 -- it starts from the order of recursion
 own-ordered : (S : Signature) (plan : Plan) (uses : List Use) (r : Recursion) → recursion_of S plan ≡ Some r → IsOwnPart S plan uses
@@ -80,10 +64,6 @@ later-part (first ∷ parts) j part at = let place : suc j ≡ j + 1 = omega ari
 
 -- ---- recursion
 
-are-low : (ts : List Term) → AreLow ts → are_low ts ≡ true
-are-low [] low = refl
-are-low (t ∷ ts) low = ap₂ ◌&&◌ (height-low t low.0) (are-low ts low.1)
-
 found-at : (S : Signature) (tele : Telescope) (position : Option ℕ) → are_low tele ≡ true → made_at S tele position ≡ Ok (option_and_then (recursion_at S tele) position)
 found-at S tele None low = refl
 found-at S tele (Some j) low = ap (λ b. cond {A = Result (Option Recursion) Stop} b (Ok (recursion_at S tele j)) (Err Deep)) low
@@ -93,7 +73,7 @@ recursion-there : (S : Signature) (plan : Plan) → plan.type ≡ products (own_
     → recursion_made S plan ≡ Ok (recursion_of S plan)
 recursion-there S plan type low =
     let own = own_part plan in
-    found-at S own.tele plan.position (are-low own.tele (low-products own.tele own.goal (transport (λ t. height t ≤ 2000) type low)).0)
+    found-at S own.tele plan.position (terms-low own.tele (low-products own.tele own.goal (transport (λ t. height t ≤ 2000) type low)).0)
 
 function-low : (S : Signature) (plan : Plan) (o : Option Recursion) (d : Draft) → function_entry S plan o ≡ Ok d → height plan.type ≤ 2000
 function-low S plan None d e =

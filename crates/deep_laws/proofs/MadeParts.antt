@@ -44,7 +44,7 @@ use Rattle.deep_laws.proofs.AlikeNames.{tree-names-alike}
 
 -- ---- drafts
 
-bounded-low : (t u : Term) → bounded t ≡ Ok u → height t ≤ 2000
+pub bounded-low : (t u : Term) → bounded t ≡ Ok u → height t ≤ 2000
 bounded-low t u e = by (is_low t) refl e
   where
     by : (b : Bool) → is_low t ≡ b → (let answer : Result Term Stop = cond b (Ok t) (Err Deep) in answer ≡ Ok u) → height t ≤ 2000

@@ -16,6 +16,7 @@ use Rattle.family_check.specs.Entering.{Entered, are_new, entered_at, if_new, en
 use Rattle.family_check.specs.Outcomes.{OfType, OfBody, FamilyStop, Outcome}
 use Rattle.clause_reports.specs.DraftEntering.{Entering, Mention, with_entry, enter_mention, enter_all}
 use Rattle.clause_reports.specs.Stops.{ReportStop, Reporting, not_entered, entering}
+use Rattle.clause_reports.proofs.Keeping.{any}
 use Rattle.draft_entering.specs.Conditions.{IsNoFamily, Extends}
 use Rattle.draft_entering.proofs.Longer.{extends-same, extends-push}
 
@@ -26,10 +27,6 @@ ExtendsTo S e = Extends S e.signature
 
 abbrev Any : {A : Type 0} → A → Type 0
 Any a = Unit {0}
-
-any : {A E : Type 0} (r : Result A E) → IfOk r Any
-any (Ok a) = tt
-any (Err e) = tt
 
 abbrev IsPlain : Entry → Type 0
 IsPlain (FamilyOf f) = ⊥
@@ -126,7 +123,7 @@ refused-signature S e stop r rest outcome same is =
 
 -- ---- one after the other
 
-next-assoc : {A B C E : Type 0} (first : SpentOr E A) (go : A → ℕ → SpentOr E B) (on : B → ℕ → SpentOr E C)
+pub next-assoc : {A B C E : Type 0} (first : SpentOr E A) (go : A → ℕ → SpentOr E B) (on : B → ℕ → SpentOr E C)
     → and_next (and_next first go) on ≡ and_next first (λ a rest. and_next (go a rest) on)
 next-assoc {A} {B} {C} {E} first go on = by first.0
   where

@@ -59,7 +59,7 @@ cut-back S T n h is = λ i. record {
 
 -- ---- names
 
-lookup-some : (name : List ℕ) (xs ys : List (List ℕ × Found)) (f : Found) → lookup (bytes_eq name) xs ≡ Some f → lookup (bytes_eq name) (xs ++ ys) ≡ Some f
+pub lookup-some : (name : List ℕ) (xs ys : List (List ℕ × Found)) (f : Found) → lookup (bytes_eq name) xs ≡ Some f → lookup (bytes_eq name) (xs ++ ys) ≡ Some f
 lookup-some name [] ys f e = absurd (none-some f e)
 lookup-some name (x ∷ xs) ys f e = by (bytes_eq name x.0) (lookup-some name xs ys f) e
   where

@@ -11,6 +11,7 @@ use Rattle.theory.specs.Terms.{Term, height, top}
 use Rattle.theory.specs.Families.{Family}
 use Rattle.theory.specs.Signatures.{Signature, Entry, FamilyOf, EliminatorAt, AxiomKAt, Definition, IsEntryAt}
 use Rattle.theory.proofs.Lists.{some_is}
+use Rattle.theory.proofs.WellFormedness.{same_family}
 use Rattle.core_terms.specs.Answers.{and_then}
 use Rattle.core_terms.specs.declared.stop.Stop.TheVariants.{Deep}
 use Rattle.core_sig.specs.Drafts.{drafted, generated_name}
@@ -156,13 +157,6 @@ found-listed S name g is =
 
 -- ---- by numbers
 
-same-record : (S : Signature) (n : ℕ) (f g : Family) → IsEntryAt S n (FamilyOf f) → IsEntryAt S n (FamilyOf g) → f ≡ g
-same-record S n f g at there = let e : FamilyOf f ≡ FamilyOf g = some_is (sym at ∙ there) in ap record_in e
-  where
-    record_in : Entry → Family
-    record_in (FamilyOf h) = h
-    record_in e = f
-
 lower : (a b m : ℕ) → (nat_le a b && nat_lt (m + 1) top) ≡ true → m + 1 < top
 lower a b m h = let p = and_parts (nat_le a b) (nat_lt (m + 1) top) h in let q = p.1 in grind (arith, nat_tests)
 
@@ -173,7 +167,7 @@ confused : (S : Signature) (n : ℕ) (f : Family) (number m : ℕ) → IsEntryAt
     → nat_lt (max f.level (m + 1) + 1) top ≡ true
     → ((g : Family) × IsEntryAt S n (FamilyOf g) × (number < length g.constructors)) × ((g : Family) → IsEntryAt S n (FamilyOf g) → max g.level (m + 1) + 1 < top)
 confused S n f number m at within h =
-    ((f, at, within), λ g there. transport (λ r. max r.level (m + 1) + 1 < top) (same-record S n f g at there) (below-top (max f.level (m + 1) + 1) h))
+    ((f, at, within), λ g there. transport (λ r. max r.level (m + 1) + 1 < top) (same_family S n f g at there) (below-top (max f.level (m + 1) + 1) h))
 
 apart : (S : Signature) (n : ℕ) (f : Family) → IsEntryAt S n (FamilyOf f) → (has_no_indices f && nat_lt (f.level + 1) top) ≡ true
     → ((g : Family) × IsEntryAt S n (FamilyOf g)) × (HasNoIndices S n × HasPartLevel S n)
@@ -181,8 +175,8 @@ apart S n f at h =
     let p = and_parts (has_no_indices f) (nat_lt (f.level + 1) top) h in (
       (f, at),
       (
-        λ g there. transport (λ r. has_no_indices r ≡ true) (same-record S n f g at there) p.0,
-        λ g there. transport (λ r. r.level + 1 < top) (same-record S n f g at there) (below-top (f.level + 1) p.1),
+        λ g there. transport (λ r. has_no_indices r ≡ true) (same_family S n f g at there) p.0,
+        λ g there. transport (λ r. r.level + 1 < top) (same_family S n f g at there) (below-top (f.level + 1) p.1),
       ),
     )
 

@@ -1,18 +1,10 @@
 -- The helpers that a right side may call are among its names.
-use Rattle.std.proofs.Common.{◌≡◌, ℕ, ◌+◌, ◌-◌, ◌<◌, ◌≤◌, Some, List, [], ◌∷◌, length, drop, slice_get, arith}
-use Rattle.std.proofs.lemmas.Option.{none-some, slice_get_within}
+use Rattle.std.proofs.Common.{◌≡◌, ℕ, ◌+◌, ◌-◌, ◌<◌, Some, [], slice_get, arith}
 use Rattle.tree_translation.specs.Entries.{helper_count, helper_names}
 use Rattle.tree_translation.specs.Naming.{Naming, helper_name}
 use Rattle.tree_translation.specs.Plans.{Plan, Part}
 use Rattle.entry_laws.proofs.OnlyConstants.{Each}
-use Rattle.entry_laws.proofs.OnlyEntries.{each_position-at}
-
-count-parts : (plan : Plan) (k : ℕ) (helper : Part) → slice_get plan.parts k ≡ Some helper → 0 < k → k ≤ helper_count plan
-count-parts plan k helper at high = by plan.parts at
-  where
-    by : (parts : List Part) → slice_get parts k ≡ Some helper → k ≤ length (drop 1 parts)
-    by [] there = absurd (none-some helper there)
-    by (part ∷ parts) there = let low = slice_get_within (part ∷ parts) k helper there in omega arith
+use Rattle.entry_laws.proofs.OnlyEntries.{each_position-at, count-parts}
 
 pub helper-named : (Q : ℕ → Type 0) (number : Naming) (plan : Plan) (at k : ℕ) (helper : Part) → Each (λ name. Q (number name)) (helper_names plan at) → slice_get plan.parts k ≡ Some helper
     → at < k → Q (number (helper_name plan.name k))

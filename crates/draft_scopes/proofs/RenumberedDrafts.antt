@@ -9,6 +9,7 @@ use Rattle.theory.specs.SignatureScopes.{IsConstantNumber, HasEntries, IsScoped,
 use Rattle.core_sig.specs.DraftScopes.{HasDraftEntries, IsDraftTerm}
 use Rattle.core_sig.specs.EntryTerms.{EachTerm}
 use Rattle.core_sig.specs.Settling.{renumbered}
+use Rattle.kernel_reduce.proofs.ScopedTelescopes.{telescope-take}
 use Rattle.tele_eq.specs.Levels.{is_among, place_in}
 use Rattle.unification.proofs.Cases.{below-or_from, first-of_two, second-of_two}
 use Rattle.unification.proofs.Levels.{among-own, place-there}
@@ -122,11 +123,6 @@ in_order-scoped S T name base candidates type term d named e ht hu =
 
 -- ---- the motive
 
-pub take-telescope : (T : Signature) (n k : ℕ) (tele : Telescope) → IsScopedTelescope T n tele → IsScopedTelescope T n (take k tele)
-take-telescope T n zero tele h = tt
-take-telescope T n (suc k) [] h = tt
-take-telescope T n (suc k) (a ∷ tele) h = (h.0, take-telescope T (n + 1) k tele h.1)
-
 pub telescope-after : (S : Signature) (n k : ℕ) (tele : Telescope) → IsScopedTelescope S n tele → IsScopedTelescope S (n + length (take k tele)) (drop k tele)
 telescope-after S n zero tele h = telescope-same S n (n + 0) tele (omega arith) h
 telescope-after S n (suc k) [] h = tt
@@ -147,7 +143,7 @@ motive_scoped S plan r d ordered e =
     let first = length (first_positions r) in
     let goal = ordered_term count order part.goal in
     let total = length-split first tele in
-    let front = take-telescope S 0 first tele ordered.telescope in
+    let front = telescope-take S 0 first tele ordered.telescope in
     let rest = telescope-after S 0 first tele ordered.telescope in
     in_order-scoped S S (motive_name plan.name) plan.base [] (λ number. products (take first tele) (Sort plan.level))
     (λ number. functions (take first tele) (products (drop first tele) goal)) d

@@ -1,5 +1,5 @@
 -- The order of recursion of a function's plan begins with a type over no variables, where each of the function does.
-use Rattle.std.proofs.Common.{◌≡◌, ℕ, true, Option, Some, None, option_and_then, length, Result, Ok, Err, IfOk, refl, sym, ◌∙◌, subst as transport}
+use Rattle.std.proofs.Common.{◌≡◌, ℕ, true, Option, option_and_then, length, Result, Ok, Err, IfOk, refl, sym, ◌∙◌, subst as transport}
 use Rattle.theory.specs.Telescopes.{Telescope}
 use Rattle.theory.specs.Signatures.{Signature}
 use Rattle.theory.specs.WellFormed.{provisional}
@@ -18,6 +18,7 @@ use Rattle.plan_laws.specs.MadePlans.{BeginsAlwaysClosed}
 use Rattle.plan_laws.proofs.Answering.{if-ok, next-has}
 use Rattle.function_plans.proofs.SameChoices.{recursion-same}
 use Rattle.plan_laws.proofs.SameReduction.{not-read}
+use Rattle.plan_laws.proofs.Planned.{recursion-is}
 
 abbrev HasTelescope : Telescope → Part → Type 0
 HasTelescope tele part = part.tele ≡ tele
@@ -44,10 +45,6 @@ plan-there S f level left =
     next-has Q (own_finished s r walked more) _ (λ own end e3.
     next-has Q (helpers_finished s r level 1 given.helpers end) _ (λ helpers last e4.
     if-ok (HasTelescope part.tele) (own_finished s r walked more).0 own e3 (own-there s r walked more)))))
-
-recursion-is : (S : Signature) (tele : Telescope) (position : Option ℕ) → recursion_in S tele position ≡ option_and_then (recursion_at S tele) position
-recursion-is S tele None = refl
-recursion-is S tele (Some j) = refl
 
 pub plan-closed : (S : Signature) (f : Function) (level left : ℕ) → BeginsAlwaysClosed S f level → IfOk (plan_of S f level left).0 (BeginsClosed S)
 plan-closed S f level left closed = by (plan_of S f level left).0 (plan-there S f level left)

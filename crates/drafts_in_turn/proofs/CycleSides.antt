@@ -1,7 +1,7 @@
 -- A cycle that a run ends with has the variable on one side, and on the other a constructor that acyclicity is made for.
-use Rattle.std.proofs.Common.{◌≡◌, ◌⊎◌, inl, inr, ℕ, zero, suc, ◌+◌, ◌==◌, ◌&&◌, Bool, true, false, cond, Option, Some, None, IfSome, option_map, Ok, IfOk, List, [], ◌∷◌, ◌++◌, refl, ap, ◌∙◌, arith}
-use Rattle.std.proofs.lemmas.Bool.{eqb-true}
-use Rattle.theory.specs.Terms.{Term, Var, App, Con, height}
+use Rattle.std.proofs.Common.{◌≡◌, ◌⊎◌, inl, inr, ℕ, zero, suc, ◌+◌, ◌==◌, Bool, true, false, cond, Option, Some, None, IfSome, option_map, Ok, IfOk, List, [], ◌++◌, refl, ap, ◌∙◌}
+use Rattle.std.proofs.lemmas.Bool.{eqb-true, and_parts}
+use Rattle.theory.specs.Terms.{Term, Var, Con, height}
 use Rattle.theory.specs.Spines.{head_of}
 use Rattle.theory.specs.Telescopes.{applied}
 use Rattle.theory.specs.Families.{Family}
@@ -19,8 +19,10 @@ use Rattle.unification.specs.Turns.{Turn}
 use Rattle.unification.proofs.Constructors.{built-is}
 use Rattle.unification.proofs.SpentUnits.{any-answer}
 use Rattle.unification.proofs.Variables.{variable-is}
+use Rattle.case_trees.proofs.Arguments.{head-applied}
 use Rattle.name_laws.proofs.LastSides as sides
 use Rattle.name_laws.proofs.LastSides.{LastSide}
+use Rattle.name_laws.proofs.CycleSides.{variable-found}
 
 -- ---- searches
 
@@ -30,14 +32,6 @@ IsForm n x w = (w ≡ Var x) ⊎ ((number : ℕ) × (head_of w ≡ Con n number)
 
 abbrev Finds : (n x : ℕ) → Search Term → Type 0
 Finds n x search = (left : ℕ) → Answers (λ found. IfSome found (IsForm n x)) (search left)
-
-head-applied : (h : Term) (us : List Term) → head_of (applied h us) ≡ head_of h
-head-applied h [] = refl
-head-applied h (u ∷ us) = head-applied (App h u) us
-
-variable-found : (x : ℕ) (o : Option ℕ) → is_variable x o ≡ true → o ≡ Some x
-variable-found x (Some y) e = ap Some (eqb-true y x e)
-variable-found x None e = absurd (grind arith)
 
 arguments-found : (n x : ℕ) (b : Built) → b.n ≡ n → (search : Search (List Term)) → Finds n x (found_as (with_arguments b) search)
 arguments-found n x b e search left =
@@ -88,10 +82,6 @@ pub record IsAcyclicSide (S : Signature) (t : Term) : Type 0 where
 abbrev pub SideIs : Signature → (x : ℕ) → Term → Type 0
 SideIs S x t = (t ≡ Var x) ⊎ IsAcyclicSide S t
 
-both : (a b : Bool) → (a && b) ≡ true → (a ≡ true) × (b ≡ true)
-both true b h = (refl, h)
-both false b h = absurd (grind arith)
-
 side-found : (S : Signature) (x : ℕ) (t : Term) (o : Option Built) (left : ℕ) → built_of S t ≡ o
     → Answers (λ found. IfSome found (SideIs S x)) (reduced_side S x t o left)
 side-found S x t None left e = tt
@@ -100,7 +90,7 @@ side-found S x t (Some b) left e = by (is_acyclic b) refl
     form : is_acyclic b ≡ true → (w : Term) → IsForm b.n x w → SideIs S x w
     form is w (inl v) = inl v
     form is w (inr (number, head)) =
-        let p = both (has_no_indices b.family) (is_fitting b.family) is in
+        let p = and_parts (has_no_indices b.family) (is_fitting b.family) is in
         inr (record {
           n = b.n;
           number = number;

@@ -1,5 +1,5 @@
 -- A draft that enters is a definition then.
-use Rattle.std.proofs.Common.{◌≡◌, ℕ, Result, Ok, Err, IfOk, List, refl, sym, subst as transport}
+use Rattle.std.proofs.Common.{◌≡◌, ℕ, Ok, Err, IfOk, List, refl, sym, subst as transport}
 use Rattle.theory.specs.Terms.{Term}
 use Rattle.theory.specs.Signatures.{Signature, Entry}
 use Rattle.theory.specs.Signatures.Entry.{AxiomKAt, Definition, EliminatorAt, FamilyOf}
@@ -7,9 +7,9 @@ use Rattle.core_sig.specs.Drafts.{Draft}
 use Rattle.core_sig.specs.Settling.{renumbered_entry, settled_number}
 use Rattle.core_terms.proofs.Answers.{Answers, and_next-has}
 use Rattle.family_check.specs.Entering.{Entered, define_of}
-use Rattle.family_check.specs.Outcomes.{FamilyStop, Outcome}
+use Rattle.family_check.specs.Outcomes.{Outcome}
 use Rattle.clause_reports.specs.DraftEntering.{enter_all, enter_draft_of, enter_entry, enter_needed, mentioned}
-use Rattle.clause_reports.specs.Stops.{or_rejected}
+use Rattle.clause_reports.proofs.Keeping.{rejected-has, any}
 use Rattle.draft_entering.specs.Conditions.{IsDefined}
 use Rattle.draft_entering.proofs.Entered.{define-pushed}
 use Rattle.draft_entering.proofs.Longer.{pushed-defined}
@@ -27,13 +27,9 @@ define-defines S name type body left = by (define_of S name type body left) refl
         transport (λ T. IsDefined T name) (sym d.pushed_on) (pushed-defined S name type body d.new)
     by (Err x, rest) is = tt
 
-not_rejected : (P : Entered → Type 0) (S : Signature) (e : Entry) (r : Result Entered FamilyStop) → IfOk r P → IfOk (or_rejected S e r) P
-not_rejected P S e (Ok a) h = h
-not_rejected P S e (Err cause) h = tt
-
 pub entry-defines : (S : Signature) (e : Entry) (left : ℕ) → Answers (HasIn (name_in e)) (enter_entry S e left)
 entry-defines S (Definition name type body) left =
-    not_rejected (HasIn name) S (Definition name type body) (define_of S name type body left).0 (define-defines S name type body left)
+    rejected-has (HasIn name) S (Definition name type body) (define_of S name type body left).0 (define-defines S name type body left)
 entry-defines S (FamilyOf f) left = tt
 entry-defines S (EliminatorAt n m) left = tt
 entry-defines S (AxiomKAt i m) left = tt
@@ -43,10 +39,6 @@ renumbered-name r (Definition name type body) = refl
 renumbered-name r (FamilyOf f) = refl
 renumbered-name r (EliminatorAt n m) = refl
 renumbered-name r (AxiomKAt i m) = refl
-
-any : {A E : Type 0} (r : Result A E) → IfOk r (λ a. Unit {0})
-any (Ok a) = tt
-any (Err e) = tt
 
 -- the name of the draft is that of a definition
 pub draft-defined : (S : Signature) (d : Draft) (left : ℕ) → IfOk (enter_draft_of S d left).0 (λ e. IsDefined e.signature (name_of d))

@@ -1,6 +1,7 @@
 -- The drafts enter in turn, where each name of a draft can be generated or is that of a draft before it.
-use Rattle.std.proofs.Common.{◌≡◌, inl, inr, ℕ, Bool, true, false, ◌&&◌, ◌||◌, List, [], ◌∷◌, ◌++◌, Result, Ok, Err, IfOk, refl, ap, ap₂, ◌∙◌, arith}
+use Rattle.std.proofs.Common.{◌≡◌, inl, inr, ℕ, Bool, true, ◌&&◌, List, [], ◌∷◌, ◌++◌, Result, Ok, Err, IfOk, refl, ap, ap₂, ◌∙◌}
 use Rattle.std.specs.Option.{is_some}
+use Rattle.std.proofs.lemmas.Bool.{or_right, or_left}
 use Rattle.theory.specs.Signatures.{Signature}
 use Rattle.core_sig.specs.Drafts.{Draft}
 use Rattle.core_sig.specs.Names.{find}
@@ -21,21 +22,13 @@ use Rattle.entry_laws.proofs.GrowingDrafts.{Grows, IsKnown, among-each}
 
 -- ---- a name
 
-or-left : (a b : Bool) → a ≡ true → (a || b) ≡ true
-or-left true b h = refl
-or-left false b h = absurd (grind arith)
-
-or-right : (a b : Bool) → b ≡ true → (a || b) ≡ true
-or-right true b h = refl
-or-right false b h = h
-
 defined-enters : (T : Signature) (name : List ℕ) → IsDefined T name → name_enters T name ≡ true
 defined-enters T name (n, at, (own, type, body, there)) =
     let found : is_definition_found T (find T name) ≡ true = ap (is_definition_found T) at ∙ ap is_constant there in
-    or-left (is_definition_found T (find T name)) (is_some (generated_by T name)) found
+    or_left (is_definition_found T (find T name)) (is_some (generated_by T name)) found
 
-generated-enters : (T : Signature) (name : List ℕ) → IsGeneratedName T name → name_enters T name ≡ true
-generated-enters T name (g, is) = or-right (is_definition_found T (find T name)) (is_some (generated_by T name)) (ap is_some is)
+pub generated-enters : (T : Signature) (name : List ℕ) → IsGeneratedName T name → name_enters T name ≡ true
+generated-enters T name (g, is) = or_right (is_definition_found T (find T name)) (is_some (generated_by T name)) (ap is_some is)
 
 -- a name that is known over S may enter what S has become, where the names before are defined
 known-enters : (S T : Signature) → Extends S T → (known : List (List ℕ)) → Each (IsDefined T) known → (name : List ℕ) → IsKnown (IsGeneratedName S) known name

@@ -9,10 +9,11 @@ use Rattle.function_lines.specs.FunctionMade.{parts_reported, plan_entered, plan
 use Rattle.kernel_check.specs.Checking.{infer_sort_of}
 use Rattle.kernel_reduce.specs.Reduction.{nesting}
 use Rattle.tree_translation.specs.Plans.{Plan}
+use Rattle.draft_entering.proofs.Entered.{next-assoc}
 use Rattle.plan_drafts.specs.Laws.{IsPlanFor}
 use Rattle.plan_laws.specs.MadePlans.{PlanIsMade}
 use Rattle.plan_laws.proofs.Answering.{if-ok}
-use Rattle.made_functions.proofs.Sequences.{next-after, next-same}
+use Rattle.plan_laws.proofs.ExactPlans.{next-same}
 use Rattle.drafts_in_turn.specs.Laws.{FunctionEntersInTurn, FunctionIsMadeInTurn, HasLevel, IsReportedPlan}
 use Rattle.drafts_in_turn.proofs.ClosedOrders.{plan-closed}
 use Rattle.drafts_in_turn.proofs.FamilyLevels.{level-low}
@@ -30,7 +31,7 @@ reported-is S plan left h enters =
 pub made-in_turn : PlanIsMade → FunctionEntersInTurn → FunctionIsMadeInTurn
 made-in_turn plans enters S f fuel is formed first marks closed whole =
     let sorted = granted S OfType (infer_sort_of S nesting [] f.type fuel) in
-    next-after sorted (λ sort rest. answers (function_level S sort) rest) (λ level rest.
+    next-assoc sorted (λ sort rest. answers (function_level S sort) rest) (λ level rest.
     and_next (plan_over S f level rest) (λ plan further. plan_reported plan S further))
     ∙ next-same sorted _ _ (λ sort rest e1.
     next-same (answers (function_level S sort) rest) _ _ (λ level further e2.

@@ -1,8 +1,9 @@
 -- The names that the term of a run may mention can be generated, where the level of its goal is low enough.
-use Rattle.std.proofs.Common.{◌≡◌, inl, inr, ℕ, ◌+◌, ◌<◌, ◌≤◌, ◌&&◌, nat_le, nat_lt, max, Bool, true, Option, Some, None, IfSome, Result, Ok, Err, IfOk, List, [], ◌∷◌, length, refl, sym, ap, ap₂, ◌∙◌, subst as transport, arith}
+use Rattle.std.proofs.Common.{◌≡◌, inl, inr, ℕ, ◌+◌, ◌<◌, ◌≤◌, nat_le, nat_lt, max, true, Option, Some, None, IfSome, Result, Ok, Err, IfOk, List, [], ◌∷◌, length, refl, sym, ap, ◌∙◌, subst as transport, arith}
 use Rattle.std.proofs.lemmas.Bool.Decides.{nat_tests}
 use Rattle.std.proofs.lemmas.Option.{slice_get_within}
 use Rattle.std.proofs.lemmas.Result.{IfOk-at_ok}
+use Rattle.std.proofs.lemmas.Bool.{and_from}
 use Rattle.theory.specs.Terms.{Term, Var, Con, top}
 use Rattle.theory.specs.Spines.{head_of}
 use Rattle.theory.specs.Families.{Family}
@@ -71,16 +72,13 @@ can-analyse S L n f low known =
     let test : nat_lt L top ≡ true = grind (arith, nat_tests, low) in
     listed-named S (made.Case n f L) (known, low) test
 
-both-hold : (a b : Bool) → a ≡ true → b ≡ true → (a && b) ≡ true
-both-hold a b h k = ap₂ (λ x y. x && y) h k
-
 pub can-recur : (S : Signature) (L n : ℕ) (f : Family) → L + 1 < top → f.level ≤ L → IsEntryAt S n (FamilyOf f)
     → IsGeneratedName S (below_name f L) × IsGeneratedName S (rec_name f L)
 can-recur S L n f fits level known =
     let reaches : nat_le f.level L ≡ true = grind (arith, nat_tests, level) in
     let ends : nat_lt (L + 1) top ≡ true = grind (arith, nat_tests, fits) in
     let below : L < top = omega (arith, fits) in
-    let test = both-hold (nat_le f.level L) (nat_lt (L + 1) top) reaches ends in (
+    let test = and_from (nat_le f.level L) (nat_lt (L + 1) top) reaches ends in (
       listed-named S (made.Below n f L) (known, below) test,
       listed-named S (made.Rec n f L) (known, below) test,
     )
@@ -92,10 +90,10 @@ fitting-below : (f : Family) → is_fitting f ≡ true → f.level + 1 < top
 fitting-below f e = grind (arith, nat_tests, e)
 
 can-direct : (S : Signature) (n : ℕ) (f : Family) → IsEntryAt S n (FamilyOf f) → has_no_indices f ≡ true → is_fitting f ≡ true → IsGeneratedName S (direct_name f.name)
-can-direct S n f known plain fits = listed-named S (made.Direct n f) known (both-hold _ _ plain (fitting-low f fits))
+can-direct S n f known plain fits = listed-named S (made.Direct n f) known (and_from _ _ plain (fitting-low f fits))
 
 can-acyclic : (S : Signature) (n : ℕ) (f : Family) → IsEntryAt S n (FamilyOf f) → has_no_indices f ≡ true → is_fitting f ≡ true → IsGeneratedName S (acyclic_name f.name)
-can-acyclic S n f known plain fits = listed-named S (made.Acyclic n f) known (both-hold _ _ plain (fitting-low f fits))
+can-acyclic S n f known plain fits = listed-named S (made.Acyclic n f) known (and_from _ _ plain (fitting-low f fits))
 
 -- ---- rules
 

@@ -1,5 +1,5 @@
 -- Definitions that are resolved enter as written.
-use Rattle.std.proofs.Common.{◌≡◌, ℕ, List, [], ◌∷◌, Result, Ok, Err, IfOk, refl, sym, ap, subst as transport}
+use Rattle.std.proofs.Common.{◌≡◌, ℕ, List, [], Result, Ok, Err, IfOk, sym, ap, subst as transport}
 use Rattle.theory.specs.Terms.{Term}
 use Rattle.theory.specs.Signatures.{Definition, Signature}
 use Rattle.theory.specs.WellFormed.{IsDefinition, IsEntry, IsWellFormed}
@@ -11,16 +11,15 @@ use Rattle.resolve.specs.DeclaredNames.{IsNewName}
 use Rattle.resolve.specs.Families.{declared}
 use Rattle.resolve.specs.Resolving.{resolve_term}
 use Rattle.resolve.proofs.NewNames.{declared-new}
-use Rattle.family_check.specs.Asking.{sort_in, type_in}
-use Rattle.family_check.specs.Entering.{Entered, are_new, check_definition, define_of, entered}
-use Rattle.family_check.specs.Outcomes.{OfType, OfBody, FamilyStop, Outcome}
-use Rattle.core_terms.proofs.Answers.{Answers, and_next-has, and_then-is}
-use Rattle.family_check.proofs.Outcomes.{if_new-has}
+use Rattle.family_check.specs.Entering.{Entered, define_of, entered}
+use Rattle.family_check.specs.Outcomes.{FamilyStop, Outcome}
+use Rattle.core_terms.proofs.Answers.{Answers, and_then-is}
 use Rattle.family_check.proofs.Soundness.{define-keeps}
 use Rattle.elab_session.specs.Declaring.{accepted_as, declare_of, resolve_definition}
 use Rattle.elab_session.specs.Entering.{checked}
 use Rattle.elab_session.specs.Laws.{IsWrittenDefinition}
 use Rattle.elab_session.proofs.Resolved.{declare-has, last-entry, or_unresolved-has, together}
+use Rattle.elab_session.proofs.Adding.{define-enters}
 
 -- a definition that is resolved, part by part
 record IsResolvedDefinition (S : Signature) (x : Word) (ty body : surf.Surf) (raw : RawEntry) : Type 0 where
@@ -54,16 +53,7 @@ any {A} r = go r.0
     go (Ok a) = tt
     go (Err e) = tt
 
--- the entry that enters
-pub define-enters : (S : Signature) (name : List ℕ) (type body : Term) (left : ℕ)
-    → Answers (λ e. e ≡ entered S (Definition name type body)) (define_of S name type body left)
-define-enters S name type body left =
-    if_new-has (λ e. e ≡ entered S (Definition name type body)) (are_new S (name ∷ [])) (check_definition S name type body) left (λ test.
-    and_next-has Any (λ e. e ≡ entered S (Definition name type body)) (sort_in S OfType [] type left) _ (any (sort_in S OfType [] type left)) (λ sort rest u.
-    and_next-has Any (λ e. e ≡ entered S (Definition name type body)) (type_in S OfBody [] body type rest) _ (any (type_in S OfBody [] body type rest)) (λ found end v.
-    refl)))
-
-definition-of : {S : Signature} {name : List ℕ} {type body : Term} → IsEntry S (Definition name type body) → IsDefinition S type body
+pub definition-of : {S : Signature} {name : List ℕ} {type body : Term} → IsEntry S (Definition name type body) → IsDefinition S type body
 definition-of (definition h) = h
 
 entered-written : (S : Signature) (fuel : ℕ) (x : Word) (ty body : surf.Surf) → IsWellFormed S → (type term : Term)

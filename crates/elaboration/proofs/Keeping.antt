@@ -26,7 +26,7 @@ use Rattle.elaboration.specs.Laws.{FunctionKeepsWellFormed}
 abbrev GrowsWith : Signature → Lines → Type 0
 GrowsWith S lines = Grows S lines.signature
 
-no_report-has : {A : Type 0} (P : A → Type 0) (S : Signature) (owner : Owner) (r : Result A ReportStop) → IfOk r P → IfOk (or_no_report S owner r) P
+pub no_report-has : {A : Type 0} (P : A → Type 0) (S : Signature) (owner : Owner) (r : Result A ReportStop) → IfOk r P → IfOk (or_no_report S owner r) P
 no_report-has P S owner (Ok a) h = h
 no_report-has P S owner (Err e) h = tt
 
@@ -38,7 +38,7 @@ enter_drafts-grows S name (d ∷ drafts) left =
     weaker (Grows e.signature) (Grows S) (enter_drafts e.signature name drafts rest).0 (λ U h. grows_on S e.signature U g h)
     (enter_drafts-grows e.signature name drafts rest))
 
-enter_values-grows : (S : Signature) (plan : Plan) (r : Option Recursion) (parts : List Part) (left : ℕ) → Answers (Grows S) (enter_values S plan r parts left)
+pub enter_values-grows : (S : Signature) (plan : Plan) (r : Option Recursion) (parts : List Part) (left : ℕ) → Answers (Grows S) (enter_values S plan r parts left)
 enter_values-grows S plan None parts left = grows_same S
 enter_values-grows S plan (Some r) [] left = grows_same S
 enter_values-grows S plan (Some r) (own ∷ []) left = grows_same S

@@ -47,7 +47,7 @@ helpers_finished-spends s r level number (w ∷ helpers) left =
     and_next-spends (helpers_finished s r level (number + 1) helpers rest) _ rest (helpers_finished-spends s r level (number + 1) helpers rest)
     (λ parts end. omega arith))
 
-plan-spends : (S : Signature) (f : Function) (level left : ℕ) → (plan_of S f level left).1 ≤ left
+pub plan-spends : (S : Signature) (f : Function) (level left : ℕ) → (plan_of S f level left).1 ≤ left
 plan-spends S f level left =
     let s : Session = record { signature = provisional S f.name f.type; name = f.name; own = length S.entries } in
     let part = own_part f level in

@@ -32,6 +32,7 @@ use Rattle.entry_laws.proofs.OnlyConstants.{Each, each-append, each-drop, HasOnl
 use Rattle.entry_laws.proofs.OnlyEquations.{only-equation_of, only-reflexivity}
 use Rattle.entry_laws.proofs.OnlyFamilies.{BuiltOnly}
 use Rattle.entry_laws.proofs.OnlyStates.{StandingOnly, OptionOnly, only-placed, only-all_placed}
+use Rattle.entry_laws.proofs.OnlyPaths.{only-side_variable, only-pair_of}
 
 -- ---- what is said of parts
 
@@ -62,9 +63,6 @@ only-no_part q depth x y direct =
     (HasOnly.of_app (only-applied (Const q.direct) (run depth 0 q.params) (HasOnly.of_const direct) (only-run _ _ _)) (only-unequal_to q depth x))
     (only-point q depth y)
 
-only-pair_of : {Q : ℕ → Type 0} (m : ℕ) (A B : Term) → HasOnly Q A → HasOnly Q B → HasOnly Q (pair_of m A B)
-only-pair_of m A B h k = HasOnly.of_app (HasOnly.of_app HasOnly.of_fam h) k
-
 only-not_within : {Q : ℕ → Type 0} (q : Carrier) (depth : ℕ) (x y : Point) → Q q.direct → HasOnly Q (not_within q depth x y)
 only-not_within q depth x y direct = only-pair_of q.level (unequal q depth x y) (no_part q depth x y) (only-unequal q depth x y) (only-no_part q depth x y direct)
 
@@ -79,10 +77,6 @@ only-side_type First q depth (Within x y) direct = only-unequal q depth x y
 only-side_type Second q depth (Within x y) direct = only-no_part q depth x y direct
 only-side_type First q depth (Several x d ds) direct = only-not_within q depth x (at_level d.argument) direct
 only-side_type Second q depth (Several x d ds) direct = only-none_within q depth x ds direct
-
-only-side_variable : {Q : ℕ → Type 0} (side : Side) → HasOnly Q (side_variable side)
-only-side_variable First = HasOnly.of_var
-only-side_variable Second = HasOnly.of_var
 
 only-projection : {Q : ℕ → Type 0} (side : Side) (q : Carrier) (depth : ℕ) (pairing : Pairing) (pair : Term) → Q q.direct → HasOnly Q pair
     → HasOnly Q (projection side q depth pairing pair)

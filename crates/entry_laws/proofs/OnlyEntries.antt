@@ -63,7 +63,7 @@ each_position-at P f j (suc count) k (Each.more h all) low high = by (j == k) re
     by true e go = let same : j ≡ k = grind (arith, nat_tests) in subst (λ n. P (f n)) same h
     by false e go = go (grind (arith, nat_tests))
 
-count-parts : (plan : Plan) (k : ℕ) (helper : Part) → slice_get plan.parts k ≡ Some helper → 0 < k → k ≤ helper_count plan
+pub count-parts : (plan : Plan) (k : ℕ) (helper : Part) → slice_get plan.parts k ≡ Some helper → 0 < k → k ≤ helper_count plan
 count-parts plan k helper at high = by plan.parts at
   where
     by : (parts : List Part) → slice_get parts k ≡ Some helper → k ≤ length (drop 1 parts)

@@ -149,10 +149,10 @@ pub called-entry : {Q : ℕ → Type 0} (number : Naming) (plan : Plan) (l : Pla
 called-entry {Q} number plan l c low q under arguments all =
     subst (HasOnly Q) (sym (first-of_two c plan.base (applied (Const c) arguments) _ low)) (only-applied (Const c) arguments (HasOnly.of_const q) all)
 
-second-of-same : {A : Type 0} (n k : ℕ) (x y : A) → n ≡ k → cond (n == k) x y ≡ x
+pub second-of-same : {A : Type 0} (n k : ℕ) (x y : A) → n ≡ k → cond (n == k) x y ≡ x
 second-of-same n k x y e = grind (arith, nat_tests)
 
-second-of-other : {A : Type 0} (n k : ℕ) (x y : A) → k < n → cond (n == k) x y ≡ y
+pub second-of-other : {A : Type 0} (n k : ℕ) (x y : A) → k < n → cond (n == k) x y ≡ y
 second-of-other n k x y lt = grind (arith, nat_tests)
 
 -- the function itself

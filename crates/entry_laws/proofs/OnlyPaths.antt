@@ -59,7 +59,7 @@ only-shape n f h = only-constructor_shapes n f f.constructors h.constructors
 
 -- ---- components
 
-only-side_variable : {Q : ℕ → Type 0} (side : Side) → HasOnly Q (side_variable side)
+pub only-side_variable : {Q : ℕ → Type 0} (side : Side) → HasOnly Q (side_variable side)
 only-side_variable First = HasOnly.of_var
 only-side_variable Second = HasOnly.of_var
 
@@ -67,7 +67,7 @@ only-side_of : {Q : ℕ → Type 0} (side : Side) (a b : Term) → HasOnly Q a �
 only-side_of First a b h k = h
 only-side_of Second a b h k = k
 
-only-pair_of : {Q : ℕ → Type 0} (m : ℕ) (A B : Term) → HasOnly Q A → HasOnly Q B → HasOnly Q (pair_of m A B)
+pub only-pair_of : {Q : ℕ → Type 0} (m : ℕ) (A B : Term) → HasOnly Q A → HasOnly Q B → HasOnly Q (pair_of m A B)
 only-pair_of m A B h k = HasOnly.of_app (HasOnly.of_app HasOnly.of_fam h) k
 
 only-projected : {Q : ℕ → Type 0} (side : Side) (m : ℕ) (A B A' B' q : Term) → HasOnly Q A → HasOnly Q B → HasOnly Q A' → HasOnly Q B' → HasOnly Q q

@@ -1,6 +1,5 @@
 -- The term of a leaf is scoped, where the constants of its side are called with numbers of constants.
 use Rattle.std.proofs.Common.{◌≡◌, ℕ, zero, suc, ◌+◌, ◌-◌, ◌<◌, ◌==◌, Bool, true, false, cond, Option, Some, None, List, [], ◌∷◌, ◌++◌, length, drop, sym, subst, arith}
-use Rattle.std.proofs.lemmas.Bool.Decides.{nat_tests}
 use Rattle.std.specs.Option.{option_or}
 use Rattle.theory.specs.Terms.{Term, Var, Sort, Pi, Lam, App, Let, Const, Fam, Con, Elim, AxiomK, lift}
 use Rattle.theory.specs.Substitutions.{ren, up, inst, ups}
@@ -24,6 +23,7 @@ use Rattle.tree_translation.specs.Recursion.{Recursion, terms_at, motive_at, rem
 use Rattle.tree_translation.specs.RightSides.{Place, descent_at, path_or_below, call_by_path, call_in, below_behind, helper_call, constant_at, with_calls}
 use Rattle.entry_laws.proofs.OnlyConstants.{Each, each-append, each-map, each-drop, each-get}
 use Rattle.entry_laws.proofs.OnlyStates.{OptionOnly}
+use Rattle.entry_laws.proofs.OnlyLeaves.{second-of-same, second-of-other}
 use Rattle.entry_scopes.proofs.WholePaths.{Constructors, scoped-path_of}
 use Rattle.entry_scopes.proofs.WholeTerms.{applied-each, const-scoped}
 
@@ -150,12 +150,6 @@ order-there S m order substitution all =
     each-there S m (λ i. term_at substitution (place_in order i)) 0 (length order) (λ i. each-get substitution (place_in order i) (Sort 0) (sort-scoped 0) all)
 
 -- ---- calls
-
-second-of-same : {A : Type 0} (n k : ℕ) (x y : A) → n ≡ k → cond (n == k) x y ≡ x
-second-of-same n k x y e = grind (arith, nat_tests)
-
-second-of-other : {A : Type 0} (n k : ℕ) (x y : A) → k < n → cond (n == k) x y ≡ y
-second-of-other n k x y lt = grind (arith, nat_tests)
 
 module _ (T : Signature) (number : Naming) (plan : Plan) where
   -- the names that recursion brings are constants, and the family has its entries

@@ -1,5 +1,5 @@
 -- The term of a split node is scoped over the node's context, and names entries and the names of its table.
-use Rattle.std.proofs.Common.{◌≡◌, ℕ, zero, suc, ◌+◌, ◌<◌, ◌≤◌, Bool, true, false, cond, Some, IfOk, Result, Ok, Err, List, [], ◌∷◌, ◌++◌, length, map, slice_get, All, refl, sym, ap, subst, ◌∙◌, arith}
+use Rattle.std.proofs.Common.{◌≡◌, ℕ, suc, ◌+◌, ◌<◌, ◌≤◌, Bool, true, false, cond, Some, IfOk, Result, Ok, Err, List, [], ◌∷◌, ◌++◌, length, map, slice_get, All, refl, sym, ap, subst, ◌∙◌, arith}
 use Rattle.std.proofs.lemmas.Bool.{true≢false}
 use Rattle.std.proofs.lemmas.List.{length-append, length-map, append-nil}
 use Rattle.std.proofs.lemmas.List.Elements.{All-nil, All-cons, All-append, All-take, All-drop}
@@ -57,10 +57,6 @@ use Rattle.entry_scopes.proofs.WholeCycles.{HasPrelude, prelude-there}
 use Rattle.entry_scopes.proofs.WholeRuns.{AreConstants, steps-left, last-scoped, run-scoped}
 use Rattle.entry_scopes.proofs.WholeStandings.{widened-scoped, scoped-functions, scoped-products, IsWhole}
 use Rattle.entry_scopes.proofs.WholeTerms.{applied-each, const-scoped, state_term-scoped, here-scoped}
-
-length-variables : (k : ℕ) → length (variables k) ≡ k
-length-variables zero = refl
-length-variables (suc k) = ap suc (length-variables k)
 
 -- a node over a signature with names
 pub record IsNodeIn (T : Signature) (node : Node) : Type 0 where

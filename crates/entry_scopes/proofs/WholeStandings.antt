@@ -12,7 +12,7 @@ use Rattle.theory.specs.Families.{Family}
 use Rattle.theory.specs.Signatures.{Signature, FamilyOf, IsEntryAt}
 use Rattle.theory.specs.SignatureScopes.{HasEntries, IsScoped, IsScopedTelescope, IsScopedConstructor}
 use Rattle.theory.specs.WellFormed.{first_entries}
-use Rattle.theory.proofs.AllOf.{all_at}
+use Rattle.theory.proofs.AllOf.{all_at, all_left}
 use Rattle.theory.proofs.Bounds.{fill-kept}
 use Rattle.theory.proofs.Instantiation.{inst-applied}
 use Rattle.theory.proofs.FreeVariables.{free_of-lift}
@@ -136,10 +136,6 @@ all-unlifted S n k [] all = All-nil (IsScoped S n)
 all-unlifted S n k (t ∷ ts) all =
     All-cons (IsScoped S n) t ts (unlifted S n k t (All-head (IsScoped S (n + k)) (lift t k 0) (lifted k ts) all))
     (all-unlifted S n k ts (All-tail (IsScoped S (n + k)) (lift t k 0) (lifted k ts) all))
-
-all-left : {X : Type 0} (P : X → Type 0) (xs ys : List X) → All P (xs ++ ys) → All P xs
-all-left P [] ys all = All-nil P
-all-left P (x ∷ xs) ys all = All-cons P x xs (All-head P x (xs ++ ys) all) (all-left P xs ys (All-tail P x (xs ++ ys) all))
 
 -- ---- what is seen, over the whole
 
@@ -363,7 +359,7 @@ module _ (S : Signature) (count : ℕ) (ready : IsReady S) where
       let same : length s.context ≡ length (visible n w.hidden) = h.context.count in
       let spine : All (IsScoped S (length s.context + k)) (lifted k ps ++ variables k) =
       subst (All (IsScoped S (length s.context + k))) (ap spine_of form ∙ spine-applied (Fam b.n) (lifted k ps ++ variables k)) (spine-scoped S (length s.context + k) type ht) in
-      let parameters = all-unlifted S (length s.context) k ps (all-left (IsScoped S (length s.context + k)) (lifted k ps) (variables k) spine) in
+      let parameters = all-unlifted S (length s.context) k ps (all_left (IsScoped S (length s.context + k)) (lifted k ps) (variables k) spine) in
       record {
         family = family;
         parameters = all-widening S count n (length s.context) w.hidden ps same parameters;

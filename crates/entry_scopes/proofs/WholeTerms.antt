@@ -10,7 +10,8 @@ use Rattle.theory.specs.Signatures.{Signature, FamilyOf, IsEntryAt, equality, eq
 use Rattle.theory.specs.SignatureScopes.{IsConstantNumber, IsFamilyNumber, IsScoped, IsScopedTelescope}
 use Rattle.theory.proofs.ScopedTerms.{scoped_over_more, var-scoped, sort-scoped, lam-scoped, app-scoped, applied-scoped}
 use Rattle.core_terms.specs.Levels.{variable, run}
-use Rattle.tele_eq.specs.Items.{Item, term_at, each_position}
+use Rattle.kernel_reduce.proofs.ScopedTelescopes.{telescope-take}
+use Rattle.tele_eq.specs.Items.{Item, term_at}
 use Rattle.tele_eq.specs.ScopeLaws.{AreScopedItems}
 use Rattle.tele_eq.specs.TelescopicEquality.{equations, reflexivities}
 use Rattle.tele_eq.proofs.ScopeLaws.{scoped_equations, scoped_reflexivities}
@@ -26,6 +27,7 @@ use Rattle.unification.proofs.MovedEquations.{equations-drop}
 use Rattle.unification.proofs.Occurring.{put-all}
 use Rattle.unification.proofs.ScopedRecords.{length-family_items, family_items-scoped}
 use Rattle.unification.proofs.SolvedContexts.{length-new_context}
+use Rattle.unification.proofs.Counts.{length-types}
 use Rattle.tree_translation.specs.Naming.{Naming, noconf_name}
 use Rattle.tree_translation.specs.Comparisons.{Comparison, member, left_member, right_member, targets, group_equations}
 use Rattle.tree_translation.specs.ConfusionTerms.{confused, compared_equations, inject_term, conflict_term}
@@ -33,6 +35,7 @@ use Rattle.tree_translation.specs.Replays.{level_of_first, kept, solved_standing
 use Rattle.tree_translation.specs.SolutionTerms.{remaining_goal, motive_levels, within, equation_with, solution_motive, solution_method, solution_term, delete_term}
 use Rattle.tree_translation.specs.Standings.{Standing, inside, equation_count, first_equations, further_equations, here, all_here, at_levels, placed, placed_telescope, levels_from, state_term}
 use Rattle.tree_translation.proofs.LevelLists.{length-levels}
+use Rattle.replay_laws.proofs.LowConfusions.{length-each}
 use Rattle.entry_laws.proofs.OnlyConstants.{Each, each-append, each-all}
 use Rattle.entry_laws.proofs.TableNames.{all-each}
 use Rattle.entry_scopes.proofs.DraftSignatures.{with_count, entry-there, ready-there}
@@ -67,19 +70,10 @@ pub types-scoped : (T : Signature) (n k : ℕ) (es : List Equation) → AreScope
 types-scoped T n k [] h = tt
 types-scoped T n k (e ∷ es) h = (h.0.type, telescope-same T (n + (k + 1)) (n + k + 1) (types_as_they_stand es) (omega arith) (types-scoped T n (k + 1) es h.1))
 
-pub length-types : (es : List Equation) → length (types_as_they_stand es) ≡ length es
-length-types [] = refl
-length-types (e ∷ es) = ap suc (length-types es)
-
 pub drop-telescope : (T : Signature) (n k : ℕ) (tele : Telescope) → IsScopedTelescope T n tele → IsScopedTelescope T (n + k) (drop k tele)
 drop-telescope T n zero tele h = telescope-same T n (n + 0) tele (omega arith) h
 drop-telescope T n (suc k) [] h = tt
 drop-telescope T n (suc k) (a ∷ tele) h = telescope-same T (n + 1 + k) (n + suc k) (drop k tele) (omega arith) (drop-telescope T (n + 1) k tele h.1)
-
-take-telescope : (T : Signature) (n k : ℕ) (tele : Telescope) → IsScopedTelescope T n tele → IsScopedTelescope T n (take k tele)
-take-telescope T n zero tele h = tt
-take-telescope T n (suc k) [] h = tt
-take-telescope T n (suc k) (a ∷ tele) h = (h.0, take-telescope T (n + 1) k tele h.1)
 
 -- a type of a scoped telescope
 pub entry-scoped : (T : Signature) (n j : ℕ) (tele : Telescope) → IsScopedTelescope T n tele → IsScoped T (n + j) (term_at tele j)
@@ -96,10 +90,6 @@ bound-types T context levels d (j ∷ order) room h = (
       (scoped_over_more T (0 + j) j (term_at context j) (omega arith) (entry-scoped T 0 j context h)),
   bound-types T context levels (d + 1) order (omega arith) h,
 )
-
-length-each : {A : Type 0} (f : ℕ → A) (j count : ℕ) → length (each_position f j count) ≡ count
-length-each f j zero = refl
-length-each f j (suc count) = ap suc (length-each f (j + 1) count)
 
 -- ---- standings
 
@@ -267,7 +257,7 @@ module _ (S : Signature) (count : ℕ) (ready : IsReady S) (w : Standing) (is : 
 
   take-items : (T : Signature) (n k : ℕ) (X : List Item) → AreScopedItems T n X → AreScopedItems T n (take k X)
   take-items T n k X h = record {
-    types = subst (IsScopedTelescope T n) (take-map k X) (take-telescope T n k (map (λ item. item.type) X) h.types);
+    types = subst (IsScopedTelescope T n) (take-map k X) (telescope-take T n k (map (λ item. item.type) X) h.types);
     levels = All-take (λ item. item.level < top) k X h.levels;
   }
     where

@@ -81,7 +81,7 @@ term_at-scoped S n [] p h = sort-scoped 0
 term_at-scoped S n (t ∷ terms) zero h = All-head (IsScoped S n) t terms h
 term_at-scoped S n (t ∷ terms) (suc p) h = term_at-scoped S n terms p (All-tail (IsScoped S n) t terms h)
 
-terms_at-scoped : (S : Signature) (n : ℕ) (terms : List Term) (positions : List ℕ) → All (IsScoped S n) terms → All (IsScoped S n) (terms_at positions terms)
+pub terms_at-scoped : (S : Signature) (n : ℕ) (terms : List Term) (positions : List ℕ) → All (IsScoped S n) terms → All (IsScoped S n) (terms_at positions terms)
 terms_at-scoped S n terms [] h = All-nil (IsScoped S n)
 terms_at-scoped S n terms (p ∷ positions) h =
     All-cons (IsScoped S n) (term_at terms p) (terms_at positions terms) (term_at-scoped S n terms p h) (terms_at-scoped S n terms positions h)

@@ -36,7 +36,7 @@ pub record IsAt (S : Signature) (plan : Plan) (k : ℕ) (pats : Pats) (side : Te
   pub left : e.left ≡ left_side S plan k pats site
   pub right : e.right ≡ right_side S plan side site
 
-ok-is : {A E : Type 0} {a b : A} → ◌≡◌ {A = Result A E} (Ok a) (Ok b) → a ≡ b
+pub ok-is : {A E : Type 0} {a b : A} → ◌≡◌ {A = Result A E} (Ok a) (Ok b) → a ≡ b
 ok-is e = cc
 
 pub equation-is : (S : Signature) (plan : Plan) (k : ℕ) (pats : Pats) (side : Term) (site : Site) (e : Equation)

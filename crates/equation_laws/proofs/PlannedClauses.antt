@@ -10,7 +10,6 @@ use Rattle.core_terms.specs.CaseTrees.{Walk}
 use Rattle.core_terms.specs.Clauses as clause
 use Rattle.core_terms.specs.Clauses.{Clause, Right, Is}
 use Rattle.core_terms.specs.Patterns.{Pats, nil}
-use Rattle.tele_eq.specs.Items.{each_position}
 use Rattle.structural_rec.specs.Uses.{Use}
 use Rattle.pattern_vectors.proofs.Opens.{as-long-counted}
 use Rattle.case_trees.specs.OwnWalks.{own_walk_of}
@@ -22,6 +21,7 @@ use Rattle.tree_translation.specs.Plans.{Plan, Part, no_part, own_part}
 use Rattle.tree_translation.specs.Recursion.{recursion_of, order_of}
 use Rattle.clause_reports.specs.Equations.{part_at}
 use Rattle.order_scopes.proofs.OrderLengths.{order-long}
+use Rattle.order_scopes.proofs.OrderedScopes.{length-each}
 
 pub record IsClauseThere (before : Signature) (plan : Plan) (at : ℕ) (part : Part) (number : ℕ) (w : Walk) : Type 0 where
   pub pats : Pats
@@ -75,10 +75,6 @@ clause-of before plan uses at part context goal terms h same number w is =
     there before plan uses at part terms same number w is some (fits-at (with_function before plan) terms h.clauses number some h.fitting found)
     (h.each number some found)
 
-length-each_position : {A : Type 0} (f : ℕ → A) (j count : ℕ) → length (each_position f j count) ≡ count
-length-each_position f j zero = refl
-length-each_position f j (suc count) = ap suc (length-each_position f (j + 1) count)
-
 own-long : (before : Signature) (plan : Plan) → IsPlanned before plan
     → length (own_part plan).terms ≡ length (ordered_variables (order_of (length (own_part plan).tele) (recursion_of before plan)) (length (own_part plan).tele))
 own-long before plan h =
@@ -86,7 +82,7 @@ own-long before plan h =
     ∙ (length-variables plan.arity
     ∙ (h.arity
     ∙ (sym (order-long before plan (recursion_of before plan) refl)
-    ∙ sym (length-each_position _ 0 (length (order_of (length (own_part plan).tele) (recursion_of before plan)))))))
+    ∙ sym (length-each _ 0 (length (order_of (length (own_part plan).tele) (recursion_of before plan)))))))
 
 -- a part after the first
 abbrev pub IsPartThere : (before : Signature) (plan : Plan) (uses : List Use) (k : ℕ) → Part → Type 0

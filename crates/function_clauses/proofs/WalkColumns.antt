@@ -1,5 +1,5 @@
 -- A walk ends with as many terms as it begins with.
-use Rattle.std.proofs.Common.{◌≡◌, ℕ, suc, Ok, IfOk, List, [], ◌∷◌, length, map, refl, sym, ap, ◌∙◌, subst as transport}
+use Rattle.std.proofs.Common.{◌≡◌, ℕ, Ok, IfOk, List, [], length, map, sym, ◌∙◌, subst as transport}
 use Rattle.std.proofs.lemmas.List.{length-map}
 use Rattle.theory.specs.Terms.{Term}
 use Rattle.theory.specs.Telescopes.{Telescope}
@@ -12,13 +12,7 @@ use Rattle.case_trees.specs.OwnWalks.{own_walk_of}
 use Rattle.case_trees.specs.Points.{start_at, under_solution}
 use Rattle.case_trees.specs.Scoped.{IsClauseOf}
 use Rattle.case_trees.specs.Stops.{Stopping}
-use Rattle.tele_eq.specs.ReflexivityLaws.{EachConverts}
-
-converts-length : (S : Signature) (ts us : List Term) → EachConverts S ts us → length ts ≡ length us
-converts-length S [] [] h = refl
-converts-length S [] (u ∷ us) h = absurd h
-converts-length S (t ∷ ts) [] h = absurd h
-converts-length S (t ∷ ts) (u ∷ us) h = ap suc (converts-length S ts us h.1)
+use Rattle.unification.proofs.UnderInstances.{each-length}
 
 pub walk-columns : (S : Signature) (context : Telescope) (goal : Term) (terms : List Term) (c : Clause) (number left rest : ℕ) (w : Walk)
     → IsGiven S context goal terms → IsClauseOf S terms c → ◌≡◌ {A = Stopping Walk} (Ok w, rest) (own_walk_of S context goal terms c number left)
@@ -27,4 +21,4 @@ walk-columns S context goal terms (Is pats binds right) number left rest w given
     let leads : LeadsTo S (start_at context goal terms) w.goal w.subst w.terms =
     transport (λ r. IfOk r.0 (λ w. LeadsTo S (start_at context goal terms) w.goal w.subst w.terms)) (sym e)
     (walk_leads S context goal terms pats binds right number left given for) in
-    sym (sym (length-map terms (under_solution w.subst)) ∙ converts-length S (map (under_solution w.subst) terms) w.terms leads.terms_there)
+    sym (sym (length-map terms (under_solution w.subst)) ∙ each-length S (map (under_solution w.subst) terms) w.terms leads.terms_there)

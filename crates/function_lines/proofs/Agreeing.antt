@@ -1,21 +1,15 @@
 -- Where the first of two calls answers something, the second does so too: how this goes from parts to what is made of them.
-use Rattle.std.proofs.Common.{◌≡◌, ℕ, Bool, true, false, cond, Result, Ok, Err, IfOk, refl, sym, ap, subst as transport, arith}
+use Rattle.std.proofs.Common.{◌≡◌, ℕ, Bool, true, false, cond, Result, Ok, Err, IfOk, refl, sym, subst as transport}
 use Rattle.core_terms.specs.Answers.{SpentOr, on_answer, and_next}
 use Rattle.core_terms.specs.declared.stop.Stop.{Stop}
 use Rattle.clause_reports.specs.Stops.{ReportStop, Reporting}
 use Rattle.theory.specs.Signatures.{Signature}
+use Rattle.clause_lines.proofs.Following.{no-answer}
 use Rattle.elaboration.specs.Refusals.{Owner, answers, or_halts, reporting}
 use Rattle.function_lines.specs.Laws.{Agrees}
 
 abbrev pub spent : {A E : Type 0} → Result A E → ℕ → SpentOr E A
 spent r n = (r, n)
-
-err-ok : {A E : Type 0} {e : E} {a : A} → Err e ≡ Ok a → ⊥
-err-ok h = grind arith
-
--- a refusal is no answer
-pub no-answer : {A E : Type 0} (e : E) (a : A) (n left : ℕ) → spent (Err e) n ≡ spent (Ok a) left → ⊥
-no-answer e a n left h = err-ok (ap (λ o. o.0) h)
 
 pub agrees-same : {A E : Type 0} (made : SpentOr E A) → Agrees made made
 agrees-same made a left is = is
@@ -51,14 +45,6 @@ pub agrees-behind : {A B E : Type 0} (r : Result A E) (n : ℕ) (go : A → ℕ 
     → ((a : A) → r ≡ Ok a → Agrees (go a n) meant) → Agrees (on_answer r n go) meant
 agrees-behind (Ok a) n go meant k = k a refl
 agrees-behind (Err e) n go meant k = refused e n meant
-
-pub next-assoc : {A B C E : Type 0} (first : SpentOr E A) (go : A → ℕ → SpentOr E B) (on : B → ℕ → SpentOr E C)
-    → and_next (and_next first go) on ≡ and_next first (λ a rest. and_next (go a rest) on)
-next-assoc {A} {B} {C} {E} first go on = by first.0
-  where
-    by : (r : Result A E) → and_next (on_answer r first.1 go) on ≡ on_answer r first.1 (λ a rest. and_next (go a rest) on)
-    by (Ok a) = refl
-    by (Err e) = refl
 
 pub next-end : {A E : Type 0} (first : SpentOr E A) → and_next first (λ a rest. spent (Ok a) rest) ≡ first
 next-end {A} {E} first = by first.0 first.1

@@ -9,13 +9,14 @@ use Rattle.elaboration.specs.Walking.{walk_clauses}
 use Rattle.elaboration.proofs.Keeping.{function-keeps}
 use Rattle.kernel_check.specs.Checking.{infer_sort_of}
 use Rattle.kernel_reduce.specs.Reduction.{nesting}
+use Rattle.draft_entering.proofs.Entered.{next-assoc}
 use Rattle.resolve.specs.Functions.{Function}
 use Rattle.clause_lines.specs.Laws.{ReportAnswers}
 use Rattle.function_plans.specs.Laws.{PlanAnswers}
 use Rattle.translation_laws.specs.EntryLaws.{TranslateMadeIsEntries}
 use Rattle.function_lines.specs.FunctionMade.{function_made, plan_entered, plan_given, plan_over, plan_reported, session_at}
 use Rattle.function_lines.specs.Laws.{Agrees, FunctionAnswers, FunctionMadeKeeps}
-use Rattle.function_lines.proofs.Agreeing.{agrees-after, agrees-as, agrees-from, agrees-has, agrees-next, agrees-same, next-assoc}
+use Rattle.function_lines.proofs.Agreeing.{agrees-after, agrees-as, agrees-from, agrees-has, agrees-next, agrees-same}
 use Rattle.function_lines.proofs.EnteredPlans.{entered-agrees}
 use Rattle.function_lines.proofs.ReportedParts.{reported-agrees}
 use Rattle.function_lines.proofs.SamePlans.{after-is, walked_of}

@@ -16,9 +16,10 @@ use Rattle.translation_laws.specs.EntryLaws.{TranslateMadeIsEntries}
 use Rattle.tree_translation.specs.Entries.{translate}
 use Rattle.tree_translation.specs.Plans.{Part, Plan}
 use Rattle.tree_translation.specs.Recursion.{Recursion}
+use Rattle.draft_entering.proofs.Entered.{next-assoc}
 use Rattle.function_lines.specs.FunctionMade.{all_entered, checked_entered, draft_entered, drafts_entered, plan_entered, recursion_by_type, translated, values_entered, values_in, values_name}
 use Rattle.function_lines.specs.Laws.{Agrees}
-use Rattle.function_lines.proofs.Agreeing.{agrees-as, agrees-behind, agrees-if, agrees-next, agrees-same, halting-agrees, next-assoc}
+use Rattle.function_lines.proofs.Agreeing.{agrees-as, agrees-behind, agrees-if, agrees-next, agrees-same, halting-agrees}
 
 -- ---- drafts
 
@@ -36,7 +37,7 @@ drafts-agree S name (d ∷ drafts) left =
 
 -- ---- values
 
-values-are : (T : Signature) (plan : Plan) (r : Option Recursion) (parts : List Part) (end : ℕ)
+pub values-are : (T : Signature) (plan : Plan) (r : Option Recursion) (parts : List Part) (end : ℕ)
     → values_entered T plan.name (values_in plan.level parts r) end ≡ enter_values T plan r parts end
 values-are T plan None [] end = refl
 values-are T plan None (own ∷ []) end = refl

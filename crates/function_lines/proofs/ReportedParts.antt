@@ -11,9 +11,10 @@ use Rattle.elaboration.specs.Functions.{ClauseLine, Following, Lines, report_par
 use Rattle.elaboration.specs.Refusals.{Elaborating, Refusal, owner_of, reporting}
 use Rattle.tele_eq.proofs.Growing.{snoc-append}
 use Rattle.tree_translation.specs.Plans.{Part, Plan}
+use Rattle.draft_entering.proofs.Entered.{next-assoc}
 use Rattle.function_lines.specs.FunctionMade.{clause_line, clause_reported, lines_with, parts_reported, reference_of, walks_reported}
 use Rattle.function_lines.specs.Laws.{Agrees}
-use Rattle.function_lines.proofs.Agreeing.{agrees-as, agrees-from, agrees-next, agrees-same, next-assoc, reporting-agrees, spent}
+use Rattle.function_lines.proofs.Agreeing.{agrees-as, agrees-from, agrees-next, agrees-same, reporting-agrees, spent}
 
 -- lines before those that follow
 abbrev pub Made : Type 0
@@ -61,7 +62,7 @@ walks-agree reports plan k number (w ∷ walks) after next h made S left =
     (shifted made (clause_line plan k number r.line) (report_walks plan k (number + 1) walks next r.signature rest))
     (walks-agree reports plan k (number + 1) walks after next h (made ++ clause_line plan k number r.line ∷ []) r.signature rest))))
 
-none-behind : (made : List ClauseLine) → made ++ [] ≡ made
+pub none-behind : (made : List ClauseLine) → made ++ [] ≡ made
 none-behind [] = refl
 none-behind (line ∷ made) = ap (λ ls. line ∷ ls) (none-behind made)
 
@@ -73,7 +74,7 @@ parts-agree reports plan k (part ∷ parts) made S left =
     walks-agree reports plan k 0 part.walks (λ made S left. parts_reported plan (k + 1) parts made S left) (report_parts plan (k + 1) parts)
     (λ made S left. parts-agree reports plan (k + 1) parts made S left) made S left
 
-nothing-before : (outcome : Elaborating Lines) → prefixed [] outcome ≡ outcome
+pub nothing-before : (outcome : Elaborating Lines) → prefixed [] outcome ≡ outcome
 nothing-before outcome = by outcome.0 outcome.1
   where
     by : (r : Result Lines Refusal) (n : ℕ) → on_answer r n (before []) ≡ spent r n

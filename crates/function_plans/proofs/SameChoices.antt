@@ -21,7 +21,7 @@ use Rattle.elaboration.specs.Functions.{recursion_in}
 abbrev pub HaveSame : Signature → Signature → Type 0
 HaveSame S T = (n : ℕ) → family_at S n ≡ family_at T n
 
-same-more : (es : List Entry) (e : Entry) (n : ℕ) → family_in e ≡ None
+pub same-more : (es : List Entry) (e : Entry) (n : ℕ) → family_in e ≡ None
     → option_and_then family_in (slice_get es n) ≡ option_and_then family_in (slice_get (es ++ e ∷ []) n)
 same-more [] e zero h = sym h
 same-more [] e (suc n) h = refl

@@ -1,6 +1,6 @@
 -- Terms that do not name the function are put into a right side in which no call is the argument of another. Still no call is.
 use Rattle.std.proofs.Common.{◌≡◌, ℕ, zero, suc, ◌<◌, ◌==◌, ◌||◌, Bool, true, false, cond, List, [], ◌∷◌, length, get_or, refl, sym, ap, ap₂, ◌∙◌, arith}
-use Rattle.std.proofs.lemmas.Bool.{true≢false}
+use Rattle.std.proofs.lemmas.Bool.{true≢false, or_from}
 use Rattle.std.proofs.lemmas.Bool.Decides.{nat_tests}
 use Rattle.std.proofs.lemmas.List.{length-append}
 use Rattle.std.proofs.lemmas.Option.{slice_get_within}
@@ -32,10 +32,6 @@ record AreFalse (a b : Bool) : Type 0 where
 or-false : (a b : Bool) → (a || b) ≡ false → AreFalse a b
 or-false false b h = record { first = refl; second = h }
 or-false true b h = absurd (true≢false h)
-
-both-false : (a b : Bool) → a ≡ false → b ≡ false → (a || b) ≡ false
-both-false false b h k = k
-both-false true b h k = absurd (true≢false h)
 
 constant-ren : (base : ℕ) (r : ℕ → ℕ) (t : Term) → has_constant base (ren r t) ≡ has_constant base t
 constant-ren base r (Pi a b) = ap₂ ◌||◌ (constant-ren base r a) (constant-ren base (up r) b)
@@ -146,10 +142,10 @@ apart-inst base position s (AxiomK i m) h d = tt
 -- ---- the values of a leaf
 
 only-free : (base : ℕ) (t : Term) → HasOnly (λ c. c < base) t → has_constant base t ≡ false
-only-free base (Pi a b) (HasOnly.of_pi h k) = both-false _ _ (only-free base a h) (only-free base b k)
-only-free base (Lam a b) (HasOnly.of_lam h k) = both-false _ _ (only-free base a h) (only-free base b k)
-only-free base (App f a) (HasOnly.of_app h k) = both-false _ _ (only-free base f h) (only-free base a k)
-only-free base (Let a t b) (HasOnly.of_let h k l) = both-false _ _ (only-free base a h) (both-false _ _ (only-free base t k) (only-free base b l))
+only-free base (Pi a b) (HasOnly.of_pi h k) = or_from _ _ (only-free base a h) (only-free base b k)
+only-free base (Lam a b) (HasOnly.of_lam h k) = or_from _ _ (only-free base a h) (only-free base b k)
+only-free base (App f a) (HasOnly.of_app h k) = or_from _ _ (only-free base f h) (only-free base a k)
+only-free base (Let a t b) (HasOnly.of_let h k l) = or_from _ _ (only-free base a h) (or_from _ _ (only-free base t k) (only-free base b l))
 only-free base (Const c) (HasOnly.of_const low) = apart c base low
   where
     apart : (c base : ℕ) → c < base → (c == base) ≡ false

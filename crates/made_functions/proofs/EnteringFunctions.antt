@@ -13,7 +13,8 @@ use Rattle.clause_reports.specs.DraftEntering.{enter_draft_of}
 use Rattle.clause_reports.specs.Stops.{ReportStop}
 use Rattle.draft_checks.specs.Checks.{enterable, names_enter}
 use Rattle.draft_checks.specs.Laws.{UnmarkedIsOpen}
-use Rattle.draft_entering.specs.Conditions.{Extends, IsOpen}
+use Rattle.draft_entering.specs.Conditions.{IsOpen}
+use Rattle.draft_entering.proofs.Longer.{extends-prefix}
 use Rattle.elaboration.specs.Functions.{first_domains, plan_of}
 use Rattle.entering_laws.specs.Laws.{EnteredIsOpen, StaysOpen}
 use Rattle.tree_translation.specs.Entries.{translate}
@@ -24,9 +25,6 @@ use Rattle.plan_drafts.specs.Laws.{FunctionDraftsTested, FunctionEntriesMade}
 use Rattle.made_functions.specs.Entering.{FunctionEnters, NamesInTurn}
 use Rattle.made_functions.specs.Laws.{EnterInTurn}
 use Rattle.made_functions.proofs.EnteredPlans.{plan-enters}
-
-extends-prefix : (S T : Signature) → Extends S T → IsPrefix S T
-extends-prefix S T h = record { more = h.more; entries = h.entries; has_k = h.has_k }
 
 both-ok : (r : Result Entered ReportStop) (P Q R : Entered → Type 0) → IfOk r P → IfOk r Q → ((e : Entered) → P e → Q e → R e) → IfOk r R
 both-ok (Ok e) P Q R h k go = go e h k

@@ -1,4 +1,3 @@
-pub mod Sequences
 pub mod EnteredPlans
 pub mod EnteringFunctions
 pub mod MadeFunctions

@@ -8,10 +8,11 @@ use Rattle.function_lines.specs.FunctionMade.{parts_reported, plan_over, plan_re
 use Rattle.kernel_check.specs.Checking.{infer_sort_of}
 use Rattle.kernel_reduce.specs.Reduction.{nesting}
 use Rattle.tree_translation.specs.Plans.{Plan}
+use Rattle.draft_entering.proofs.Entered.{next-assoc}
 use Rattle.plan_laws.specs.MadePlans.{PlanIsMade}
 use Rattle.plan_laws.proofs.Answering.{if-ok}
+use Rattle.plan_laws.proofs.ExactPlans.{next-same}
 use Rattle.made_functions.specs.Laws.{FunctionIsMade, IsMadeWhole}
-use Rattle.made_functions.proofs.Sequences.{next-after, next-same}
 
 -- once the plan is there
 reported-is : (S : Signature) (plan : Plan) (left : ℕ) → IsMadeWhole S plan
@@ -25,7 +26,7 @@ reported-is S plan left h =
 pub function-made : PlanIsMade → FunctionIsMade
 function-made plans = λ S f fuel low closed whole.
     let sorted = granted S OfType (infer_sort_of S nesting [] f.type fuel) in
-    next-after sorted (λ sort rest. answers (function_level S sort) rest) (λ level rest.
+    next-assoc sorted (λ sort rest. answers (function_level S sort) rest) (λ level rest.
     and_next (plan_over S f level rest) (λ plan further. plan_reported plan S further))
     ∙ next-same sorted _ _ (λ sort rest e1.
     next-same (answers (function_level S sort) rest) _ _ (λ level further e2.

@@ -1,9 +1,9 @@
 -- A cycle that a run ends with has its variable in its side: it is a strict part there, letter for letter.
-use Rattle.std.proofs.Common.{◌≡◌, ◌⊎◌, inl, inr, ℕ, zero, suc, ◌+◌, ◌==◌, nat_lt, Bool, true, false, cond, Option, Some, None, IfSome, option_map, Ok, IfOk, List, [], ◌∷◌, ◌++◌, length, slice_get, refl, sym, ap, ap₂, ◌∙◌, subst as transport, arith, append_assoc}
+use Rattle.std.proofs.Common.{◌≡◌, ◌⊎◌, inl, inr, ℕ, zero, suc, ◌+◌, ◌==◌, nat_lt, Bool, true, false, cond, Option, Some, None, IfSome, option_map, Ok, IfOk, List, [], ◌∷◌, ◌++◌, length, slice_get, refl, sym, ap, ap₂, ◌∙◌, subst as transport, arith}
 use Rattle.std.proofs.lemmas.Bool.{eqb-true}
-use Rattle.std.proofs.lemmas.List.{append-nil, length-append}
-use Rattle.theory.specs.Terms.{Term, Var, App, Con, height}
-use Rattle.theory.specs.Spines.{head_of, spine_of}
+use Rattle.std.proofs.lemmas.List.{length-append}
+use Rattle.theory.specs.Terms.{Term, Var, Con, height}
+use Rattle.theory.specs.Spines.{spine_of}
 use Rattle.theory.specs.Telescopes.{applied}
 use Rattle.theory.specs.Families.{Argument, Recursive, Family}
 use Rattle.theory.specs.Signatures.{Signature, FamilyOf, IsEntryAt}
@@ -25,6 +25,7 @@ use Rattle.unification.specs.Turns.{Turn}
 use Rattle.unification.proofs.Constructors.{built-is, one-family}
 use Rattle.unification.proofs.SpentUnits.{any-answer}
 use Rattle.unification.proofs.Variables.{variable-is}
+use Rattle.case_trees.proofs.Arguments.{spine-applied, head-applied}
 use Rattle.name_laws.proofs.LastSides as sides
 use Rattle.name_laws.proofs.LastSides.{LastSide}
 
@@ -127,14 +128,6 @@ direct-kind : (a : Argument) → is_direct a ≡ true → kind_of a ≡ Recursiv
 direct-kind (Recursive [] targets level) e = refl
 direct-kind _ e = absurd (grind arith)
 
-head-applied : (h : Term) (us : List Term) → head_of (applied h us) ≡ head_of h
-head-applied h [] = refl
-head-applied h (u ∷ us) = head-applied (App h u) us
-
-spine-applied : (h : Term) (us : List Term) → spine_of (applied h us) ≡ spine_of h ++ us
-spine-applied h [] = sym (append-nil (spine_of h))
-spine-applied h (u ∷ us) = spine-applied (App h u) us ∙ append_assoc (spine_of h) (u ∷ []) us
-
 -- a constructor with an argument in which the variable was found
 part-with_arguments : (S : Signature) (n x : ℕ) (t : Term) (b : Built) → built_of S t ≡ Some b → b.n ≡ n → (ws : List Term)
     → IsAmong S n x b.constructor.arguments b.arguments ws → (f : Family) → IsEntryAt S n (FamilyOf f) → IsStrictPart n f (Var x) (with_arguments b ws)
@@ -169,7 +162,7 @@ part-with_arguments S n x t b e number ws h f there =
           ap₂ slice_get spine (ap (λ k. k + h.at) (sym counted)) ∙ (slice_get-append_right b.parameters ws h.at ∙ h.term_there);
     }
 
-variable-found : (x : ℕ) (o : Option ℕ) → is_variable x o ≡ true → o ≡ Some x
+pub variable-found : (x : ℕ) (o : Option ℕ) → is_variable x o ≡ true → o ≡ Some x
 variable-found x (Some y) e = ap Some (eqb-true y x e)
 variable-found x None e = absurd (grind arith)
 

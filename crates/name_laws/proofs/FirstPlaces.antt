@@ -3,6 +3,7 @@ use Rattle.std.proofs.Common.{◌≡◌, ℕ, ◌==◌, ◌||◌, Bool, true, fa
 use Rattle.std.proofs.lemmas.Bool.{true≢false, eqb-true, eq-eqb}
 use Rattle.std.proofs.lemmas.List.{append-nil}
 use Rattle.tele_eq.specs.Levels.{is_among}
+use Rattle.structural_rec.proofs.Members.{among-later}
 use Rattle.tree_translation.specs.Naming.{once}
 use Rattle.entry_laws.proofs.OnlyConstants.{Each}
 
@@ -43,13 +44,6 @@ same-append xs ys zs ws h k seen =
     ∙ (ap (λ rest. once seen ys ++ rest) (k (seen_with seen (once seen ys))) ∙ sym (once-append seen ys ws)))
 
 -- ---- places that are mentioned again
-
-among-later : (j i : ℕ) (seen : List ℕ) → is_among j seen ≡ true → is_among j (i ∷ seen) ≡ true
-among-later j i seen h = by (i == j)
-  where
-    by : (b : Bool) → (b || is_among j seen) ≡ true
-    by true = refl
-    by false = h
 
 seen-stays : (seen found : List ℕ) (j : ℕ) → is_among j seen ≡ true → is_among j (seen_with seen found) ≡ true
 seen-stays seen [] j h = h

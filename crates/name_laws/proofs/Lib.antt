@@ -1,4 +1,4 @@
-mod CycleSides
+pub mod CycleSides
 mod FirstPlaces
 pub mod LastSides
 mod RunsGo

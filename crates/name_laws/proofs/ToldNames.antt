@@ -5,6 +5,7 @@ use Rattle.std.proofs.lemmas.Bool.Decides.{nat_tests}
 use Rattle.std.proofs.lemmas.List.{length-append}
 use Rattle.std.proofs.lemmas.Slice.Eq.{bytes_eq-Decides}
 use Rattle.theory.specs.Terms.{Term, Var, Sort, Pi, Lam, App, Let, Const, Fam, Con, Elim, AxiomK}
+use Rattle.core_sig.proofs.NamesShown.{bytes_eq-swap}
 use Rattle.tele_eq.specs.Levels.{is_among}
 use Rattle.unification.proofs.Cases.{below-or_from, first-of_two, second-of_two}
 use Rattle.tree_translation.specs.Naming.{Naming, mentions, number_in, once, is_named, place_of, with_names}
@@ -140,15 +141,6 @@ told-append bound number (x ∷ xs) ys =
     ap (λ rest. mentions bound (Const (number x)) ++ rest) (told-append bound number xs ys)
     ∙ sym (append_assoc (mentions bound (Const (number x))) (told bound number xs) (told bound number ys))
 
-test-turned : (xs ys : List ℕ) → bytes_eq xs ys ≡ bytes_eq ys xs
-test-turned xs ys = by (bytes_eq xs ys) refl (bytes_eq ys xs) refl
-  where
-    by : (a : Bool) → bytes_eq xs ys ≡ a → (b : Bool) → bytes_eq ys xs ≡ b → a ≡ b
-    by true e true f = refl
-    by false e false f = refl
-    by true e false f = absurd (true≢false (sym ((bytes_eq-Decides ys xs).1 (sym ((bytes_eq-Decides xs ys).0 e))) ∙ f))
-    by false e true f = absurd (true≢false (sym ((bytes_eq-Decides xs ys).1 (sym ((bytes_eq-Decides ys xs).0 f))) ∙ e))
-
 -- the place of a name that is there is that in the first names
 place-first : (xs ys : List (List ℕ)) (name : List ℕ) → is_named xs name ≡ true → (place_of (xs ++ ys) name ≡ place_of xs name) × (place_of xs name < length xs)
 place-first [] ys name h = absurd (true≢false (sym h))
@@ -159,7 +151,7 @@ place-first (x ∷ xs) ys name h = by (bytes_eq x name) refl (place-first xs ys 
         → (cond b 0 (place_of (xs ++ ys) name + 1) ≡ cond b 0 (place_of xs name + 1)) × (cond b 0 (place_of xs name + 1) < suc (length xs))
     by true e rest k = (refl, omega arith)
     by false e rest k =
-        let r = rest (sym (ap (λ b. b || is_named xs name) (test-turned name x ∙ e)) ∙ k) in
+        let r = rest (sym (ap (λ b. b || is_named xs name) (bytes_eq-swap name x ∙ e)) ∙ k) in
         (ap (λ i. i + 1) r.0, let low = r.1 in omega arith)
 
 -- that of one that is not there follows them
@@ -169,9 +161,9 @@ place-next (x ∷ xs) ys name h = by (bytes_eq x name) refl (place-next xs ys na
   where
     by : (b : Bool) → bytes_eq x name ≡ b → (is_named xs name ≡ false → place_of (xs ++ name ∷ ys) name ≡ length xs)
         → (bytes_eq name x || is_named xs name) ≡ false → cond b 0 (place_of (xs ++ name ∷ ys) name + 1) ≡ suc (length xs)
-    by true e rest k = absurd (true≢false (sym (ap (λ b. b || is_named xs name) (test-turned name x ∙ e)) ∙ k))
+    by true e rest k = absurd (true≢false (sym (ap (λ b. b || is_named xs name) (bytes_eq-swap name x ∙ e)) ∙ k))
     by false e rest k =
-        let r = rest (sym (ap (λ b. b || is_named xs name) (test-turned name x ∙ e)) ∙ k) in omega arith
+        let r = rest (sym (ap (λ b. b || is_named xs name) (bytes_eq-swap name x ∙ e)) ∙ k) in omega arith
 
 -- how far the table has grown: the names from n on are seen
 abbrev AreTold : (n : ℕ) (known : List (List ℕ)) (seen : List ℕ) → Type 0

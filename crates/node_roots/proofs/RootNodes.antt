@@ -29,7 +29,7 @@ use Rattle.node_roots.specs.Laws.{HelperNodeOver, StepNodeOver}
 
 -- ---- levels
 
-none-out : (levels : List ℕ) → without [] levels ≡ levels
+pub none-out : (levels : List ℕ) → without [] levels ≡ levels
 none-out [] = refl
 none-out (j ∷ levels) = ap (λ rest. j ∷ rest) (none-out levels)
 
@@ -268,7 +268,7 @@ below-seen a below tele le = record {
     same = visible-gap a (length tele - a) (length (with_below a below tele)) (length-below a below tele le)
 
 -- nothing is hidden
-own-seen : (tele : Telescope) → IsSeen tele [] tele
+pub own-seen : (tele : Telescope) → IsSeen tele [] tele
 own-seen tele = record {
   count = sym (ap length (none-out (levels_from 0 (length tele))) ∙ length-levels 0 (length tele));
   each = λ j p e.

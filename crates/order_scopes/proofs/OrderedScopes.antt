@@ -91,7 +91,7 @@ pub variables-scoped : (S : Signature) (order : List ℕ) (depth : ℕ) → leng
 variables-scoped S [] depth le = All-nil (IsScoped S depth)
 variables-scoped S (p ∷ order) depth le = variables-there S (p ∷ order) depth (omega arith)
 
-length-each : {A : Type 0} (f : ℕ → A) (j count : ℕ) → length (each_position f j count) ≡ count
+pub length-each : {A : Type 0} (f : ℕ → A) (j count : ℕ) → length (each_position f j count) ≡ count
 length-each f j zero = refl
 length-each f j (suc count) = ap suc (length-each f (j + 1) count)
 

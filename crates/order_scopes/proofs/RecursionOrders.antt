@@ -1,27 +1,20 @@
 -- The order of recursion has each position once.
-use Rattle.std.proofs.Common.{◌≡◌, ◌≢◌, ℕ, zero, suc, ◌+◌, ◌<◌, inl, inr, true, Option, Some, None, option_and_then, length, All, AllPairs, refl, arith}
+use Rattle.std.proofs.Common.{◌≡◌, ◌≢◌, ℕ, zero, suc, ◌+◌, ◌<◌, Option, Some, None, option_and_then, length, All, AllPairs, refl, arith}
 use Rattle.std.proofs.lemmas.List.Elements.{All-nil, All-cons}
 use Rattle.std.proofs.lemmas.List.Kept.{AllPairs-cons}
 use Rattle.theory.specs.Signatures.{Signature}
 use Rattle.theory.specs.Telescopes.{Telescope}
-use Rattle.tele_eq.specs.Levels.{is_among}
-use Rattle.unification.proofs.Levels.{among-cases, each-among}
+use Rattle.unification.proofs.Levels.{each-among}
 use Rattle.structural_rec.specs.Laws.{IsOrder}
 use Rattle.structural_rec.proofs.AdmittingPositions.{admission-decides}
 use Rattle.structural_rec.proofs.RecursionOrders.{order-whole}
 use Rattle.tree_translation.specs.Recursion.{Recursion, recursion_at, order_of}
 use Rattle.tree_translation.specs.Standings.{levels_from}
+use Rattle.tree_translation.proofs.LevelLists.{each-below}
 use Rattle.order_scopes.specs.Laws.{RecursionOrdered}
 use Rattle.order_scopes.proofs.OrderLengths.{IsRecursion, of-position}
 
 -- ---- without recursion
-
-levels-below : (at count i : ℕ) → is_among i (levels_from at count) ≡ true → i < at + count
-levels-below at zero i h = absurd (grind arith)
-levels-below at (suc count) i h = elim (among-cases i at (levels_from (at + 1) count) h) [
-  | inl same ↦ omega arith
-  | inr later ↦ let low : i < at + 1 + count = levels-below (at + 1) count i later in omega arith
-]
 
 levels-above : (x at count : ℕ) → x < at → All (λ k. x ≢ k) (levels_from at count)
 levels-above x at zero lt = All-nil (λ k. x ≢ k)
@@ -36,7 +29,7 @@ levels-once at (suc count) =
 levels-ordered : (count : ℕ) → IsOrder count (levels_from 0 count)
 levels-ordered count = record {
   whole = λ i lt. each-among 0 count i (omega arith) (omega arith);
-  within = λ i among. let low : i < 0 + count = levels-below 0 count i among in omega arith;
+  within = λ i among. let low : i < 0 + count = each-below 0 count i among in omega arith;
   once = levels-once 0 count;
 }
 

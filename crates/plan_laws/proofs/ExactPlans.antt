@@ -23,7 +23,7 @@ use Rattle.function_plans.proofs.SameChoices.{choice-same, recursion-same}
 use Rattle.plan_laws.proofs.SameReduction.{not-read}
 
 -- what follows an answer is the same, where it is the same for that answer
-next-same : {A B E : Type 0} (first : SpentOr E A) (go on : A → ℕ → SpentOr E B)
+pub next-same : {A B E : Type 0} (first : SpentOr E A) (go on : A → ℕ → SpentOr E B)
     → ((a : A) (rest : ℕ) → first.0 ≡ Ok a → go a rest ≡ on a rest) → and_next first go ≡ and_next first on
 next-same {A} {B} {E} first go on h = by first.0 first.1 h
   where

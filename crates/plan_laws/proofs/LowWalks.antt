@@ -1,5 +1,6 @@
 -- What the walks of clauses say of the function is not too high: walks keep their terms low, and right sides are tested.
 use Rattle.std.proofs.Common.{◌≡◌, ℕ, zero, suc, ◌+◌, Bool, true, false, ◌&&◌, cond, Option, Some, None, List, [], ◌∷◌, ◌++◌, length, map, reverse, Result, Ok, Err, IfOk, refl, ap₂, subst as transport}
+use Rattle.std.proofs.lemmas.Bool.{and_parts}
 use Rattle.theory.specs.Terms.{Term}
 use Rattle.theory.specs.Telescopes.{Telescope}
 use Rattle.theory.specs.Signatures.{Signature}
@@ -27,10 +28,6 @@ use Rattle.kernel_reduce.specs.Reduction.{nesting}
 use Rattle.structural_rec.specs.Uses.{Use}
 use Rattle.plan_laws.proofs.Answering.{dots-have, ends-ok, halts-ok, if-ok, next-has}
 
-both-true : (a b : Bool) → (a && b) ≡ true → (a ≡ true) × (b ≡ true)
-both-true true b e = (refl, e)
-both-true false b e = absurd (cc)
-
 -- ---- walks
 
 tree-halts-ok : {A : Type 0} (r : Result A Stop) (a : A) → stop.or_halts r ≡ Ok a → r ≡ Ok a
@@ -44,9 +41,9 @@ bounded-low p next e = by (are_low p.context && (is_low p.goal && (are_low p.sub
         → ◌≡◌ {A = Result Point Stop} (cond b (Ok p) (Err Deep)) (Ok next) → are_low next.terms ≡ true
     by true is k =
         let same : p ≡ next = cc in
-        let first = both-true (are_low p.context) _ is in
-        let second = both-true (is_low p.goal) _ first.1 in
-        let third = both-true (are_low p.substitution) (are_low p.terms) second.1 in
+        let first = and_parts (are_low p.context) _ is in
+        let second = and_parts (is_low p.goal) _ first.1 in
+        let third = and_parts (are_low p.substitution) (are_low p.terms) second.1 in
         transport (λ (q : Point). are_low q.terms ≡ true) same third.1
     by false is k = absurd (cc)
 
@@ -117,7 +114,7 @@ one-use terms body uses h k l = ap₂ (λ (a b : Bool). a && b) (ap₂ (λ (a b 
 uses-both : (first rest : List Use) → are_low_uses first ≡ true → are_low_uses rest ≡ true → are_low_uses (first ++ rest) ≡ true
 uses-both [] rest h k = k
 uses-both (u ∷ first) rest h k =
-    let parts = both-true (are_low u.terms && is_low u.body) (are_low_uses first) h in
+    let parts = and_parts (are_low u.terms && is_low u.body) (are_low_uses first) h in
     ap₂ (λ (a b : Bool). a && b) parts.0 (uses-both first rest parts.1 k)
 
 mutual

@@ -72,7 +72,7 @@ chosen-is s NotRecursive position e = let same : None ≡ position = cc in ap ch
 chosen-is s (At j) position e = let same : Some j ≡ position = cc in ap choice_of same
 chosen-is s (NotSmaller rows) position e = absurd (cc)
 
-recursion-is : (S : Signature) (tele : Telescope) (position : Option ℕ) → recursion_in S tele position ≡ option_and_then (recursion_at S tele) position
+pub recursion-is : (S : Signature) (tele : Telescope) (position : Option ℕ) → recursion_in S tele position ≡ option_and_then (recursion_at S tele) position
 recursion-is S tele None = refl
 recursion-is S tele (Some j) = refl
 

@@ -7,12 +7,13 @@ use Rattle.theory.specs.Signatures.{Signature, Entry, Definition, equality}
 use Rattle.theory.specs.Spines.{head_of, spine_of}
 use Rattle.theory.specs.WellFormed.{provisional}
 use Rattle.core_terms.specs.Answers.{Spent, and_next, is_low}
-use Rattle.kernel_reduce.specs.Entries.{body_in, family_in}
+use Rattle.kernel_reduce.specs.Entries.{body_in}
 use Rattle.kernel_reduce.specs.Identities.{has_k_at, is_identity_there}
 use Rattle.kernel_reduce.specs.Steps.{application_step, awaits_scrutinee, beta_step, contraction, elimination_step, fills, first_of, iota_step, scrutinee_step, step_of}
 use Rattle.kernel_reduce.specs.Reduction.{charge, if_low, normal_children, normal_of, whnf_of, with_unit, without_units}
 use Rattle.kernel_reduce.specs.Comparison.{convertible_of, heads_convertible, on_heads, same, unless_same}
 use Rattle.kernel_reduce.specs.Tidying.{tidy_of}
+use Rattle.function_plans.proofs.SameChoices.{same-more}
 use Rattle.plan_laws.specs.Reading.{AreReadAlike}
 
 module _ (S T : Signature) (alike : AreReadAlike S T) where
@@ -85,13 +86,6 @@ module _ (S T : Signature) (alike : AreReadAlike S T) where
 
 -- ---- a provisional constant at the end
 
-family-more : (es : List Entry) (e : Entry) (n : ℕ) → family_in e ≡ None
-    → option_and_then family_in (slice_get es n) ≡ option_and_then family_in (slice_get (es ++ e ∷ []) n)
-family-more [] e zero h = sym h
-family-more [] e (suc n) h = refl
-family-more (x ∷ es) e zero h = refl
-family-more (x ∷ es) e (suc n) h = family-more es e n h
-
 body-more : (es : List Entry) (name : List ℕ) (type : Term) (c m n : ℕ) → (n ≡ length es → c ≡ m)
     → option_and_then (body_in m) (slice_get es n) ≡ option_and_then (body_in m) (slice_get (es ++ Definition name type (Const c) ∷ []) n)
 body-more [] name type c m zero h =
@@ -103,7 +97,7 @@ body-more (x ∷ es) name type c m (suc n) h = body-more es name type c m n (λ 
 
 pub not-read : (S : Signature) (name : List ℕ) (type : Term) → AreReadAlike S (provisional S name type)
 not-read S name type = record {
-  families = λ n. family-more S.entries (Definition name type (Const (length S.entries))) n refl;
+  families = λ n. same-more S.entries (Definition name type (Const (length S.entries))) n refl;
   bodies = λ n. body-more S.entries name type (length S.entries) n n sym;
   has_k = refl;
 }

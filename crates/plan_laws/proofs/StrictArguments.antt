@@ -1,10 +1,10 @@
 -- A call that fits a position has no call of the function as its argument there: that is a strict part of a term without the function.
 use Rattle.std.proofs.Common.{◌≡◌, ℕ, zero, suc, ◌+◌, ◌==◌, ◌||◌, ◌<◌, Bool, true, false, cond, Some, List, [], ◌∷◌, ◌++◌, length, slice_get, inl, inr, refl, sym, ap, ◌∙◌, subst as transport, append_assoc, arith}
 use Rattle.std.specs.List.{All}
-use Rattle.std.proofs.lemmas.Bool.{or_parts, true≢false}
+use Rattle.std.proofs.lemmas.Bool.{or_parts, true≢false, or_from}
 use Rattle.std.proofs.lemmas.Bool.Decides.{nat_tests}
 use Rattle.std.proofs.lemmas.List.{append-nil, length-append}
-use Rattle.std.proofs.lemmas.List.Elements.{All-cons, All-head, All-nil, All-tail}
+use Rattle.std.proofs.lemmas.List.Elements.{All-head, All-tail}
 use Rattle.std.proofs.lemmas.Option.{none-some, slice_get_within}
 use Rattle.theory.specs.Terms.{Term, Var, Sort, Pi, Lam, App, Let, Const, Fam, Con, Elim, AxiomK, lift}
 use Rattle.theory.specs.Families.{Family}
@@ -14,22 +14,14 @@ use Rattle.theory.specs.Spines.{head_of, spine_of}
 use Rattle.theory.specs.Substitutions.{inst, ups}
 use Rattle.theory.specs.Telescopes.{applied}
 use Rattle.theory.proofs.Lists.{slice_get-last, slice_get-longer, slice_get-pushed, some_is}
+use Rattle.theory.proofs.AllOf.{all_left, all_right}
+use Rattle.case_trees.proofs.Arguments.{head-applied}
 use Rattle.case_below_gen.specs.StrictParts.{IsStrictPart}
 use Rattle.case_below_gen.specs.StrictParts.IsStrictPart.{inside, itself}
 use Rattle.structural_rec.specs.Calls.{Call, calls_in, has_constant}
 use Rattle.structural_rec.specs.Fitting.{Fits}
 use Rattle.structural_rec.specs.Positions.{Admission}
 use Rattle.leaf_terms.specs.CallsApart.{CallsStandApart, is_function}
-
--- ---- lists
-
-pub all-left : {X : Type 0} (P : X → Type 0) (xs ys : List X) → All P (xs ++ ys) → All P xs
-all-left P [] ys h = All-nil P
-all-left P (x ∷ xs) ys h = All-cons P x xs (All-head P x (xs ++ ys) h) (all-left P xs ys (All-tail P x (xs ++ ys) h))
-
-pub all-right : {X : Type 0} (P : X → Type 0) (xs ys : List X) → All P (xs ++ ys) → All P ys
-all-right P [] ys h = h
-all-right P (x ∷ xs) ys h = all-right P xs ys (All-tail P x (xs ++ ys) h)
 
 all-at : {X : Type 0} (P : X → Type 0) (xs : List X) (i : ℕ) (x : X) → All P xs → slice_get xs i ≡ Some x → P x
 all-at P [] i x h e = absurd (none-some x e)
@@ -38,15 +30,11 @@ all-at P (y ∷ xs) (suc i) x h e = all-at P xs i x (All-tail P y xs h) e
 
 -- ---- terms without the function
 
-neither : (a b : Bool) → a ≡ false → b ≡ false → (a || b) ≡ false
-neither false b h k = k
-neither true b h k = absurd (true≢false h)
-
 free-of : (S : Signature) (t : Term) → HasEntries S t → has_constant (length S.entries) t ≡ false
-free-of S (Pi a b) h = neither _ _ (free-of S a h.0) (free-of S b h.1)
-free-of S (Lam a b) h = neither _ _ (free-of S a h.0) (free-of S b h.1)
-free-of S (App f a) h = neither _ _ (free-of S f h.0) (free-of S a h.1)
-free-of S (Let a t b) h = neither _ _ (free-of S a h.0) (neither _ _ (free-of S t h.1) (free-of S b h.2))
+free-of S (Pi a b) h = or_from _ _ (free-of S a h.0) (free-of S b h.1)
+free-of S (Lam a b) h = or_from _ _ (free-of S a h.0) (free-of S b h.1)
+free-of S (App f a) h = or_from _ _ (free-of S f h.0) (free-of S a h.1)
+free-of S (Let a t b) h = or_from _ _ (free-of S a h.0) (or_from _ _ (free-of S t h.1) (free-of S b h.2))
 free-of S (Const c) h = apart c (length S.entries) (slice_get_within S.entries c (Definition h.0 h.1 h.2) h.3)
   where
     apart : (c base : ℕ) → c < base → (c == base) ≡ false
@@ -105,10 +93,6 @@ head-free base (Con n c) h = refl
 head-free base (Elim n m) h = refl
 head-free base (AxiomK i m) h = refl
 
-head-applied : (h : Term) (us : List Term) → head_of (applied h us) ≡ head_of h
-head-applied h [] = refl
-head-applied h (u ∷ us) = head-applied (App h u) us
-
 -- a strict part of a term without the function is no call
 part-free : (base n : ℕ) (f : Family) (part t : Term) → IsStrictPart n f part t → has_constant base t ≡ false → is_function base (head_of part) ≡ false
 part-free base n f part t (itself {r = r} inner is e) h =
@@ -132,7 +116,7 @@ fits-apart S T n count position a terms c scoped fits part at =
 called-whole : (base position under : ℕ) (whole f : Term) → is_function base (head_of f) ≡ true → All (HasNoCallAt base position) (calls_in base under whole f)
     → HasNoCallAt base position (record { under = under; term = whole })
 called-whole base position under whole (App g a) e h =
-    called-whole base position under whole g e (all-left (HasNoCallAt base position) (calls_in base under whole g) (calls_in base under a a) h)
+    called-whole base position under whole g e (all_left (HasNoCallAt base position) (calls_in base under whole g) (calls_in base under a a) h)
 called-whole base position under whole (Const c) e h = by (c == base) e h
   where
     by : (b : Bool) → b ≡ true → All (HasNoCallAt base position) (cond b (record { under = under; term = whole } ∷ []) []) → HasNoCallAt base position (record { under = under; term = whole })
@@ -183,21 +167,21 @@ pub stand-apart : (base position under : ℕ) (s : ℕ → Term) (t whole : Term
     → All (HasNoCallAt base position) (calls_in base under whole (inst s t)) → CallsStandApart base position t
 stand-apart base position under s (Pi a b) whole rest e h = (
   stand-apart base position under s a (inst s a) [] (sym (append-nil (spine_of (inst s a))))
-      (all-left (HasNoCallAt base position) (calls_in base under (inst s a) (inst s a)) (calls_in base (under + 1) (inst (ups s) b) (inst (ups s) b)) h),
+      (all_left (HasNoCallAt base position) (calls_in base under (inst s a) (inst s a)) (calls_in base (under + 1) (inst (ups s) b) (inst (ups s) b)) h),
   stand-apart base position (under + 1) (ups s) b (inst (ups s) b) [] (sym (append-nil (spine_of (inst (ups s) b))))
-      (all-right (HasNoCallAt base position) (calls_in base under (inst s a) (inst s a)) (calls_in base (under + 1) (inst (ups s) b) (inst (ups s) b)) h),
+      (all_right (HasNoCallAt base position) (calls_in base under (inst s a) (inst s a)) (calls_in base (under + 1) (inst (ups s) b) (inst (ups s) b)) h),
 )
 stand-apart base position under s (Lam a b) whole rest e h = (
   stand-apart base position under s a (inst s a) [] (sym (append-nil (spine_of (inst s a))))
-      (all-left (HasNoCallAt base position) (calls_in base under (inst s a) (inst s a)) (calls_in base (under + 1) (inst (ups s) b) (inst (ups s) b)) h),
+      (all_left (HasNoCallAt base position) (calls_in base under (inst s a) (inst s a)) (calls_in base (under + 1) (inst (ups s) b) (inst (ups s) b)) h),
   stand-apart base position (under + 1) (ups s) b (inst (ups s) b) [] (sym (append-nil (spine_of (inst (ups s) b))))
-      (all-right (HasNoCallAt base position) (calls_in base under (inst s a) (inst s a)) (calls_in base (under + 1) (inst (ups s) b) (inst (ups s) b)) h),
+      (all_right (HasNoCallAt base position) (calls_in base under (inst s a) (inst s a)) (calls_in base (under + 1) (inst (ups s) b) (inst (ups s) b)) h),
 )
 stand-apart base position under s (App f a) whole rest e h =
-    let first = all-left (HasNoCallAt base position) (calls_in base under whole (inst s f)) (calls_in base under (inst s a) (inst s a)) h in (
+    let first = all_left (HasNoCallAt base position) (calls_in base under whole (inst s f)) (calls_in base under (inst s a) (inst s a)) h in (
       stand-apart base position under s f whole (inst s a ∷ rest) (e ∙ append_assoc (spine_of (inst s f)) (inst s a ∷ []) rest) first,
       stand-apart base position under s a (inst s a) [] (sym (append-nil (spine_of (inst s a))))
-          (all-right (HasNoCallAt base position) (calls_in base under whole (inst s f)) (calls_in base under (inst s a) (inst s a)) h),
+          (all_right (HasNoCallAt base position) (calls_in base under whole (inst s f)) (calls_in base under (inst s a) (inst s a)) h),
       λ called place.
           not-called base s a
           (called-whole base position under whole (inst s f) (called-in base s f called).head first (inst s a) (slot (sym (called-in base s f called).count) place)),
@@ -209,13 +193,13 @@ stand-apart base position under s (App f a) whole rest e h =
         ∙ slice_get-longer (spine_of (inst s f) ++ inst s a ∷ []) rest position (inst s a)
         (ap (slice_get (spine_of (inst s f) ++ inst s a ∷ [])) (sym place ∙ same) ∙ slice_get-last (spine_of (inst s f)) (inst s a))
 stand-apart base position under s (Let a t b) whole rest e h =
-    let later = all-right (HasNoCallAt base position) (calls_in base under (inst s a) (inst s a)) (calls_in base under (inst s t) (inst s t) ++ calls_in base (under + 1) (inst (ups s) b) (inst (ups s) b)) h in (
+    let later = all_right (HasNoCallAt base position) (calls_in base under (inst s a) (inst s a)) (calls_in base under (inst s t) (inst s t) ++ calls_in base (under + 1) (inst (ups s) b) (inst (ups s) b)) h in (
       stand-apart base position under s a (inst s a) [] (sym (append-nil (spine_of (inst s a))))
-          (all-left (HasNoCallAt base position) (calls_in base under (inst s a) (inst s a)) (calls_in base under (inst s t) (inst s t) ++ calls_in base (under + 1) (inst (ups s) b) (inst (ups s) b)) h),
+          (all_left (HasNoCallAt base position) (calls_in base under (inst s a) (inst s a)) (calls_in base under (inst s t) (inst s t) ++ calls_in base (under + 1) (inst (ups s) b) (inst (ups s) b)) h),
       stand-apart base position under s t (inst s t) [] (sym (append-nil (spine_of (inst s t))))
-          (all-left (HasNoCallAt base position) (calls_in base under (inst s t) (inst s t)) (calls_in base (under + 1) (inst (ups s) b) (inst (ups s) b)) later),
+          (all_left (HasNoCallAt base position) (calls_in base under (inst s t) (inst s t)) (calls_in base (under + 1) (inst (ups s) b) (inst (ups s) b)) later),
       stand-apart base position (under + 1) (ups s) b (inst (ups s) b) [] (sym (append-nil (spine_of (inst (ups s) b))))
-          (all-right (HasNoCallAt base position) (calls_in base under (inst s t) (inst s t)) (calls_in base (under + 1) (inst (ups s) b) (inst (ups s) b)) later),
+          (all_right (HasNoCallAt base position) (calls_in base under (inst s t) (inst s t)) (calls_in base (under + 1) (inst (ups s) b) (inst (ups s) b)) later),
     )
 stand-apart base position under s (Const c) whole rest e h = tt
 stand-apart base position under s (Var v) whole rest e h = tt

@@ -37,6 +37,7 @@ pub record IsWalkingOver (S : Signature) (p : Point) (pairs : Pairs) : Type 0 wh
 pub record IsWalkOver (S : Signature) (w : Walk) : Type 0 where
   pub context : IsScopedTelescope S 0 w.ctx
   pub goal : IsScoped S (length w.ctx) w.goal
+  pub substitution : All (IsScoped S (length w.ctx)) w.subst
   pub terms : All (IsScoped S (length w.ctx)) w.terms
   pub binds : All (IsScoped S (length w.ctx)) w.binds
 
@@ -56,6 +57,7 @@ walk-over_at : (S : Signature) (p : Point) (pairs : Pairs) → IsWalkingOver S p
 walk-over_at S p pairs h = record {
   context = h.scoped.context;
   goal = h.scoped.goal;
+  substitution = h.scoped.substitution;
   terms = h.scoped.terms;
   binds = all-bound-scoped S (length p.context) pairs h.terms;
 }

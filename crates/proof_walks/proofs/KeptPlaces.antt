@@ -114,7 +114,7 @@ branch-kept S p q arguments old values origins h us same made is =
       few = h.few;
     })
 
-moved-scoped : (S : Signature) (p : Place) (context : Telescope) (solution : List Term) → IsScopedPlace S p → IsSolvedIn S context solution
+pub moved-scoped : (S : Signature) (p : Place) (context : Telescope) (solution : List Term) → IsScopedPlace S p → IsSolvedIn S context solution
     → IsScopedPlace S (moved_place p context solution)
 moved-scoped S p context solution h new =
     let n = length p.context in

@@ -33,7 +33,7 @@ pub record IsCounted (k : ℕ) (c : Comparison) : Type 0 where
 
 -- ---- how many there are
 
-length-each : {A : Type 0} (f : ℕ → A) (j count : ℕ) → length (each_position f j count) ≡ count
+pub length-each : {A : Type 0} (f : ℕ → A) (j count : ℕ) → length (each_position f j count) ≡ count
 length-each f j zero = refl
 length-each f j (suc count) = ap suc (length-each f (j + 1) count)
 

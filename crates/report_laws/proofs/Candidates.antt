@@ -1,6 +1,5 @@
 -- The candidate of a clause may enter: its terms are scoped and low, and each of its names can be generated.
-use Rattle.std.proofs.Common.{◌≡◌, inl, inr, ℕ, zero, suc, ◌+◌, ◌-◌, ◌<◌, ◌==◌, nat_lt, Bool, true, false, ◌&&◌, ◌||◌, cond, List, [], ◌∷◌, ◌++◌, length, map, get_or, slice_get, Result, Ok, Err, refl, ap, ap₂, ◌∙◌, subst as transport, arith}
-use Rattle.std.specs.Option.{is_some}
+use Rattle.std.proofs.Common.{◌≡◌, inl, inr, ℕ, ◌+◌, ◌-◌, ◌<◌, ◌==◌, nat_lt, Bool, true, false, ◌&&◌, cond, List, [], ◌∷◌, ◌++◌, length, map, get_or, slice_get, Result, Ok, Err, refl, ap, ap₂, ◌∙◌, subst as transport, arith}
 use Rattle.std.proofs.lemmas.Bool.Decides.{nat_tests}
 use Rattle.theory.specs.Terms.{Term, Var, Sort, Pi, Lam, App, Let, Const, Fam, Con, Elim, AxiomK, free_of, top}
 use Rattle.theory.specs.Telescopes.{functions, products}
@@ -14,29 +13,28 @@ use Rattle.core_terms.specs.declared.stop.Stop.TheVariants.{Deep}
 use Rattle.core_sig.specs.DraftScopes.{HasDraftEntries, IsDraftNumber, IsDraftTerm}
 use Rattle.core_sig.specs.Drafts.{Draft, drafted}
 use Rattle.core_sig.specs.EntryTerms.{EachTerm}
-use Rattle.core_sig.specs.Names.{find}
 use Rattle.core_sig.specs.ScopeTests.{has_constructor, is_constant, is_family}
 use Rattle.core_sig.specs.ScopedDrafts.{IsScopedDraft}
 use Rattle.core_sig.specs.Settling.{renumbered}
 use Rattle.unification.specs.ScopedStates.{IsReady}
-use Rattle.tree_translation.specs.Laws.{IsAmong}
 use Rattle.tree_translation.specs.Naming.{Naming, is_named, mentions, number_among, number_in, once, with_names}
 use Rattle.tree_translation.specs.Plans.{Plan}
 use Rattle.tree_translation.proofs.Drafting.{and_then-ok, in_order-is}
 use Rattle.tree_translation.proofs.NewNames.{named-among, or-true, with-named}
 use Rattle.entry_laws.proofs.OnlyConstants.{Each, HasOnly, each-weaker}
 use Rattle.entry_laws.proofs.TableNames.{IsInTable, draft-names, named-later, place-low}
+use Rattle.entry_laws.proofs.GrowingDrafts.{among-each}
 use Rattle.entry_scopes.proofs.DraftSignatures.{name-number, numbers-there, ready-there, scoped-draft, with_count}
 use Rattle.entry_scopes.proofs.WholeCycles.{prelude-there}
 use Rattle.entry_scopes.proofs.WholeStandings.{scoped-functions, scoped-products}
 use Rattle.entry_scopes.proofs.WholeTerms.{equation-scoped}
 use Rattle.draft_scopes.specs.Laws.{IsNamedOver}
 use Rattle.draft_scopes.proofs.RenumberedDrafts.{in_order-scoped}
-use Rattle.draft_checks.specs.Checks.{enterable, has_draft_entries, is_definition_found, is_draft_entry, is_draft_number, is_draft_term, name_enters, names_enter}
+use Rattle.draft_checks.specs.Checks.{enterable, has_draft_entries, is_draft_entry, is_draft_number, is_draft_term, names_enter}
 use Rattle.draft_entering.specs.Conditions.{IsGeneratedName}
 use Rattle.drafts_in_turn.proofs.RunNames.{IsFitting}
+use Rattle.drafts_in_turn.proofs.EnteringInTurn.{generated-enters}
 use Rattle.clause_reports.specs.Equations.{Equation, part_at}
-use Rattle.clause_reports.specs.Generated.{generated_by}
 use Rattle.clause_reports.specs.Laws.{IsOver}
 use Rattle.clause_reports.specs.ProofTerms.{candidate, proof_name, proof_names, proof_term}
 use Rattle.clause_reports.specs.ProofWalks.{Proof}
@@ -128,21 +126,9 @@ bounded-low t u e = by (is_low t) refl e
     by true is k = is
     by false is k = absurd (cc)
 
-or-right : (a b : Bool) → b ≡ true → (a || b) ≡ true
-or-right true b h = refl
-or-right false b h = h
-
-generated-enters : (S : Signature) (name : List ℕ) → IsGeneratedName S name → name_enters S name ≡ true
-generated-enters S name (g, is) = or-right (is_definition_found S (find S name)) (is_some (generated_by S name)) (ap is_some is)
-
 all-enter : (S : Signature) (names : List (List ℕ)) → Each (IsGeneratedName S) names → names_enter S names ≡ true
 all-enter S [] Each.none = refl
 all-enter S (name ∷ names) (Each.more h rest) = ap₂ (λ (x y : Bool). x && y) (generated-enters S name h) (all-enter S names rest)
-
-among-each : (P : List ℕ → Type 0) (names : List (List ℕ)) (name : List ℕ) → Each P names → IsAmong name names → P name
-among-each P [] name Each.none (k, x, within, at, e) = absurd (omega arith)
-among-each P (y ∷ names) name (Each.more h rest) (zero, x, within, at, e) = transport P (at ∙ e) h
-among-each P (y ∷ names) name (Each.more h rest) (suc k, x, within, at, e) = among-each P names name rest (k, x, omega arith, at, e)
 
 -- a definition by low terms that are scoped passes the tests of its terms
 defined-tested : (S : Signature) (d : Draft) (name : List ℕ) (type body : Term) → d.entry ≡ Definition name type body → is_low type ≡ true → is_low body ≡ true

@@ -1,5 +1,5 @@
 -- Once the entries of a plan have entered, the names of its parts are those of definitions, and so are those of recursion.
-use Rattle.std.proofs.Common.{◌≡◌, ◌⊎◌, inl, inr, ℕ, zero, suc, ◌+◌, ◌<◌, ◌≤◌, ◌==◌, ◌&&◌, nat_le, nat_lt, Bool, true, false, cond, Option, Some, None, option_and_then, List, [], ◌∷◌, length, drop, map, Result, Ok, Err, IfOk, refl, sym, ap, ap₂, ◌∙◌, subst as transport, arith}
+use Rattle.std.proofs.Common.{◌≡◌, ◌⊎◌, inl, inr, ℕ, zero, suc, ◌+◌, ◌<◌, ◌≤◌, ◌==◌, ◌&&◌, nat_le, nat_lt, Bool, true, false, cond, Option, Some, None, List, [], ◌∷◌, length, drop, map, Result, Ok, Err, IfOk, refl, sym, ap, ap₂, ◌∙◌, subst as transport, arith}
 use Rattle.std.proofs.lemmas.Bool.Decides.{nat_tests}
 use Rattle.theory.specs.Terms.{Term, top}
 use Rattle.theory.specs.Telescopes.{Telescope, products}
@@ -23,7 +23,7 @@ use Rattle.tree_translation.specs.Laws.{helpers_down, name_in, name_of, names_in
 use Rattle.tree_translation.specs.Naming.{helper_name, step_name}
 use Rattle.tree_translation.specs.Needed.{is_found}
 use Rattle.tree_translation.specs.Plans.{Part, Plan, own_part}
-use Rattle.tree_translation.specs.Recursion.{Recursion, recursion_at, recursion_of}
+use Rattle.tree_translation.specs.Recursion.{Recursion, recursion_of}
 use Rattle.tree_translation.proofs.EntryNames.{entries_are_these}
 use Rattle.entry_laws.proofs.OnlyConstants.{Each, each-left, each-right, each-weaker}
 use Rattle.entry_laws.proofs.OnlyEntries.{recursion-entry}
@@ -34,16 +34,17 @@ use Rattle.clause_reports.specs.Generated as made
 use Rattle.clause_reports.specs.Generated.{all_name, generated_by, generated_draft}
 use Rattle.clause_reports.specs.Stops as stops
 use Rattle.clause_reports.specs.Stops.{ReportStop}
-use Rattle.clause_reports.proofs.Keeping.{Grows, GrowsTo, any, enter_mention-grows, enter_needed-grows, entering-grows, grows_on, grows_same, weaker}
+use Rattle.clause_reports.proofs.Keeping.{Grows, GrowsTo, any, enter_mention-grows, enter_needed-grows, entering-grows, grows_on, grows_same, weaker, prelude-on}
 use Rattle.draft_entering.specs.Conditions as entering
 use Rattle.draft_entering.specs.Conditions.{IsGeneratedName, IsOpen}
 use Rattle.draft_entering.specs.Depths.{entry_own_name, own_name}
 use Rattle.draft_entering.specs.Tables.{IsMadeOf, names_by}
 use Rattle.draft_entering.proofs.TableLookups.{found-listed, generated-made, listed-named}
 use Rattle.drafts_in_turn.proofs.EnteredDraft.{draft-defined, entry-defines, renumbered-name}
-use Rattle.elab_session.proofs.Resolved.{prelude-stays}
 use Rattle.elaboration.specs.Functions.{enter_drafts, enter_plan, enter_values, first_domains, recursion_in}
-use Rattle.elaboration.specs.Refusals.{Owner, answers, or_halts, or_no_report, owner_of, reporting}
+use Rattle.elaboration.specs.Refusals.{answers, or_halts, owner_of, reporting}
+use Rattle.elaboration.proofs.Keeping.{no_report-has}
+use Rattle.plan_laws.proofs.Planned.{recursion-is}
 use Rattle.entering_laws.specs.Laws.{StaysOpen}
 use Rattle.entering_laws.proofs.EnteredOpen.{entered-open}
 use Rattle.report_laws.proofs.NamedEntries.{defined-on, defined-there}
@@ -56,10 +57,6 @@ pub record HasEntered (S T : Signature) (names : List (List ℕ)) : Type 0 where
   pub well_formed : IsWellFormed T
   pub open_there : IsOpen T
   pub defined : Each (IsDefined T) names
-
-reported-has : {A : Type 0} (P : A → Type 0) (S : Signature) (owner : Owner) (r : Result A ReportStop) → IfOk r P → IfOk (or_no_report S owner r) P
-reported-has P S owner (Ok a) h = h
-reported-has P S owner (Err e) h = tt
 
 -- a draft that enters
 record IsIn (S : Signature) (d : Draft) (e : Entered) : Type 0 where
@@ -82,7 +79,7 @@ drafts-in S name [] left formed is_open = record { grows = grows_same S; well_fo
 drafts-in S name (d ∷ drafts) left formed is_open =
     let Q : Signature → Type 0 = λ T. HasEntered S T (name_of d ∷ map name_of drafts) in
     and_next-has (IsIn S d) Q (reporting S (owner_of name 0) (enter_draft_of S d left)) _
-    (reported-has (IsIn S d) S (owner_of name 0) (enter_draft_of S d left).0 (draft-in S d left formed is_open)) (λ e rest h.
+    (no_report-has (IsIn S d) S (owner_of name 0) (enter_draft_of S d left).0 (draft-in S d left formed is_open)) (λ e rest h.
     weaker (λ T. HasEntered e.signature T (map name_of drafts)) Q (enter_drafts e.signature name drafts rest).0 (λ T k.
     record {
       grows = grows_on S e.signature T h.grows k.grows;
@@ -157,10 +154,6 @@ pub domains-are : (tele : Telescope) (goal : Term) → first_domains (length tel
 domains-are [] goal = refl
 domains-are (a ∷ tele) goal = ap (λ rest. a ∷ rest) (domains-are tele goal)
 
-recursion-in : (S : Signature) (tele : Telescope) (position : Option ℕ) → recursion_in S tele position ≡ option_and_then (recursion_at S tele) position
-recursion-in S tele None = refl
-recursion-in S tele (Some j) = refl
-
 -- with recursion and a helper also the values
 abbrev HasValues : Signature → Plan → List Part → Option Recursion → Type 0
 HasValues T plan (own ∷ helper ∷ helpers) (Some r) = IsDefined T (all_name r.family plan.level)
@@ -177,7 +170,7 @@ module _ (S T : Signature) (plan : Plan) (level : (r : Recursion) → recursion_
   values-in (Some r) (own ∷ helper ∷ helpers) left is =
       let name = all_name r.family plan.level in
       let entered = enter_mention enter_needed T (Names name) left in
-      reported-has (λ U. Grows T U × IsDefined U name) T (owner_of plan.name 0) entered.0
+      no_report-has (λ U. Grows T U × IsDefined U name) T (owner_of plan.name 0) entered.0
       (both entered.0 (enter_mention-grows enter_needed enter_needed-grows T (Names name) left) (mention-defines T name left is_open (level r is)))
     where
       both : (q : Result Signature ReportStop) → IfOk q (Grows T) → IfOk q (λ U. entering.IsDefined U (all_name r.family plan.level))
@@ -238,16 +231,13 @@ pub record HasPlan (S : Signature) (plan : Plan) (T : Signature) : Type 0 where
   pub well_formed : IsWellFormed T
   pub first : HasPrelude T
 
-pub prelude-on : (S T : Signature) → IsPrefix S T → HasPrelude S → HasPrelude T
-prelude-on S T more h = prelude-stays S T h more
-
 module _ (S : Signature) (plan : Plan) (planned : IsPlanned S plan) (formed : IsWellFormed S) (first : HasPrelude S) (is_open : IsOpen S)
     (fits : plan.level + 1 < top) (level : (r : Recursion) → recursion_of S plan ≡ Some r → r.family.level ≤ plan.level) where
   recursion-there : recursion_in S (first_domains plan.arity plan.type) plan.position ≡ recursion_of S plan
   recursion-there =
       ap₂ (λ count type. recursion_in S (first_domains count type) plan.position) planned.arity planned.type
       ∙ (ap (λ tele. recursion_in S tele plan.position) (domains-are (own_part plan).tele (own_part plan).goal)
-      ∙ recursion-in S (own_part plan).tele plan.position)
+      ∙ recursion-is S (own_part plan).tele plan.position)
 
   value-name : (T : Signature) → IsPrefix S T → (r : Recursion) → recursion_of S plan ≡ Some r → IsGeneratedName T (all_name r.family plan.level)
   value-name T more r is =

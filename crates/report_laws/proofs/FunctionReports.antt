@@ -1,9 +1,9 @@
 -- The clauses of a resolved function are reported as is meant, and so the function is made as is meant.
-use Rattle.std.proofs.Common.{◌≡◌, ℕ, suc, ◌+◌, ◌<◌, ◌≤◌, ◌||◌, Bool, true, false, cond, is_none, Option, Some, None, option_and_then, List, [], ◌∷◌, length, slice_get, Result, Ok, Err, IfOk, refl, sym, ap, ap₂, ◌∙◌, subst as transport, arith}
+use Rattle.std.proofs.Common.{◌≡◌, ℕ, suc, ◌+◌, ◌<◌, ◌≤◌, true, is_none, Option, Some, None, List, [], ◌∷◌, length, slice_get, IfOk, refl, sym, ap, ap₂, ◌∙◌, subst as transport, arith}
 use Rattle.std.proofs.lemmas.List.Elements.{All-weaker}
 use Rattle.std.proofs.lemmas.Option.{get_or_from_slice_get, slice_get_within}
+use Rattle.std.proofs.lemmas.Bool.{or_right}
 use Rattle.theory.specs.Terms.{top}
-use Rattle.theory.specs.Telescopes.{Telescope}
 use Rattle.theory.specs.Prelude.{equality_family, prelude}
 use Rattle.theory.specs.Signatures.{FamilyOf, IsPrefix, Signature, equality}
 use Rattle.theory.specs.SignatureScopes.{IsScoped}
@@ -15,8 +15,6 @@ use Rattle.theory.proofs.ScopedTerms.{HasNumbers, keeps-numbers, scoped-wider}
 use Rattle.theory.proofs.Widening.{prefix_keeps}
 use Rattle.core_terms.specs.Answers.{and_next, are_low}
 use Rattle.core_terms.specs.CaseTrees.{Walk}
-use Rattle.core_terms.specs.declared.stop.Stop.{Stop}
-use Rattle.core_terms.specs.declared.stop.Stop.TheVariants.{Deep}
 use Rattle.draft_checks.specs.Laws.{UnmarkedIsOpen}
 use Rattle.elaboration.specs.Functions.{enter_plan, first_domains, function_level, plan_of, report_parts}
 use Rattle.elaboration.specs.Refusals.{Elaborating, OfType, answers, granted}
@@ -30,29 +28,29 @@ use Rattle.kernel_reduce.specs.Reduction.{nesting}
 use Rattle.order_scopes.proofs.OrderLengths.{recursion-tells}
 use Rattle.structural_rec.proofs.AdmittingPositions.{admission-decides}
 use Rattle.tree_translation.specs.Plans.{Part, Plan, no_part, own_part}
-use Rattle.tree_translation.specs.Recursion.{Recursion, recursion_at, recursion_of}
-use Rattle.leaf_terms.specs.RecursionMade.{made_at}
+use Rattle.tree_translation.specs.Recursion.{Recursion, recursion_of}
 use Rattle.unification.specs.ScopedStates.{IsReady}
 use Rattle.clause_reports.specs.Conditions.{HasRecursion, IsEntered}
 use Rattle.clause_reports.specs.Equations.{part_at, part_name}
 use Rattle.clause_reports.specs.Generated.{all_name}
 use Rattle.clause_reports.specs.Reports.{Reference, Reported, order_in, report_of}
-use Rattle.clause_reports.proofs.Keeping.{Grows, grows_on, grows_same, weaker}
+use Rattle.clause_reports.proofs.Keeping.{Grows, grows_on, grows_same, weaker, prelude-on}
 use Rattle.clause_reports.proofs.ReportKeeping.{GrowsBy, report-grows}
+use Rattle.clause_equations.proofs.MadeEquations.{found-low}
+use Rattle.draft_entering.proofs.Entered.{next-assoc}
 use Rattle.plan_drafts.specs.Laws.{IsPlanFor}
 use Rattle.plan_laws.specs.Laws.{IsPlanOf, PlanIsOfFunction, PlanIsPlanned}
 use Rattle.plan_laws.specs.MadePlans.{PlanIsMade}
 use Rattle.plan_laws.proofs.Answering.{if-ok}
-use Rattle.plan_laws.proofs.ExactPlans.{domains-low}
+use Rattle.plan_laws.proofs.ExactPlans.{domains-low, next-same}
 use Rattle.made_functions.specs.Laws.{LinesAreReported, PartsInTurn, WalksInTurn}
-use Rattle.made_functions.proofs.Sequences.{next-after, next-same}
 use Rattle.drafts_in_turn.specs.Laws.{FunctionEntersInTurn, HasLevel}
 use Rattle.drafts_in_turn.proofs.ClosedOrders.{plan-closed}
 use Rattle.drafts_in_turn.proofs.FamilyLevels.{family-level, level-low}
 use Rattle.drafts_in_turn.proofs.PartLevels.{ArePartsLow, part-low, plan-low}
 use Rattle.report_laws.specs.Functions.{FunctionIsMeant, PlanReports}
 use Rattle.report_laws.specs.Reportable.{IsReportable}
-use Rattle.report_laws.proofs.EnteredParts.{HasPlan, domains-are, plan-has, prelude-on}
+use Rattle.report_laws.proofs.EnteredParts.{HasPlan, domains-are, plan-has}
 use Rattle.report_laws.proofs.LeafSites.{leaves-over, own-over}
 use Rattle.report_laws.proofs.MadeReports.{report-is_made}
 use Rattle.report_laws.proofs.NamedEntries.{defined-on}
@@ -86,15 +84,6 @@ entered-on before S T plan more h = record {
   recursion = recursion-on S T plan more (recursion_of before plan) h.recursion;
 }
 
-found-low : (S : Signature) (tele : Telescope) (position : Option ℕ) → (is_none position || are_low tele) ≡ true
-    → made_at S tele position ≡ Ok (option_and_then (recursion_at S tele) position)
-found-low S tele None e = refl
-found-low S tele (Some j) e = ap (λ b. cond {A = Result (Option Recursion) Stop} b (Ok (recursion_at S tele j)) (Err Deep)) e
-
-or-true : (a b : Bool) → b ≡ true → (a || b) ≡ true
-or-true true b h = refl
-or-true false b h = h
-
 -- ---- clauses
 
 -- a plan whose levels are low, with its entries
@@ -112,7 +101,7 @@ module _ (S T : Signature) (plan : Plan) (h : IsGoing S T plan) where
       let w = own-walk S plan entered.planned c.part inside c.clause c.walk own in
       let n = length c.walk.ctx in
       let first = prelude-on T U g.prefix h.has.first in
-      let low = or-true (is_none plan.position) (are_low (own_part plan).tele) h.low in
+      let low = or_right (is_none plan.position) (are_low (own_part plan).tele) h.low in
       let same : part_at plan c.part ≡ part = get_or_from_slice_get plan.parts c.part part no_part at in
       let level : (part_at plan c.part).level ≤ greatest_level =
       transport (λ (p : Part). p.level ≤ greatest_level) (sym same) (part-low plan.parts c.part part h.levels at) in
@@ -202,7 +191,7 @@ plan-same S plan left reports enters =
 pub function-meant : PlanIsMade → FunctionEntersInTurn → PlanReports → FunctionIsMeant
 function-meant plans enters reports S f fuel is formed first marks closed =
     let sorted = granted S OfType (infer_sort_of S nesting [] f.type fuel) in
-    next-after sorted (λ sort rest. answers (function_level S sort) rest) (λ level rest.
+    next-assoc sorted (λ sort rest. answers (function_level S sort) rest) (λ level rest.
     and_next (plan_over S f level rest) (λ plan further. plan_reported plan S further))
     ∙ next-same sorted _ _ (λ sort rest e1.
     next-same (answers (function_level S sort) rest) _ _ (λ level further e2.

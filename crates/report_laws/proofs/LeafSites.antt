@@ -16,9 +16,10 @@ use Rattle.clause_reports.specs.Equations.{Equation, equation_of, leaf_site, par
 use Rattle.clause_reports.specs.Laws.{IsOver}
 use Rattle.clause_reports.specs.Reports.{Reference}
 use Rattle.clause_reports.specs.Shadows.{TreeLeaf, leaves_below, leaves_in_branch, leaves_of}
+use Rattle.plan_laws.proofs.WalkScopes.{IsWalkOver}
 use Rattle.equation_laws.proofs.EquationScopes.{IsScopedSite, site-over, walk-over}
 use Rattle.report_laws.specs.Reportable.{IsLeafOver}
-use Rattle.report_laws.proofs.OwnWalks.{HasScopes, own-walk, part-in}
+use Rattle.report_laws.proofs.OwnWalks.{own-walk, part-in}
 
 -- ---- leaves
 
@@ -64,7 +65,7 @@ leaf-site S order w l h =
       walked = all-each P (mapping w values l.terms) (mapping-there S n w values l.terms solved terms);
     }
 
-walk-site : (S : Signature) (w : Walk) → HasScopes S w → IsScopedSite S (walk_site w)
+walk-site : (S : Signature) (w : Walk) → IsWalkOver S w → IsScopedSite S (walk_site w)
 walk-site S w h =
     let n = length w.ctx in
     record {

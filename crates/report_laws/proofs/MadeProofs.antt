@@ -1,15 +1,14 @@
 -- The term and the names of a proof are made where the term is no higher than a term may be, and so the candidate of a clause is made.
-use Rattle.std.proofs.Common.{◌≡◌, ℕ, ◌+◌, ◌<◌, ◌≤◌, Bool, true, false, cond, Some, None, List, [], ◌∷◌, ◌++◌, length, slice_get, Result, Ok, Err, refl, sym, ap, ◌∙◌, subst as transport, append_assoc, arith}
-use Rattle.theory.specs.Terms.{Term, Sort, height}
+use Rattle.std.proofs.Common.{◌≡◌, ℕ, ◌+◌, ◌<◌, ◌≤◌, true, false, cond, Some, List, [], ◌∷◌, ◌++◌, length, slice_get, Result, Ok, Err, refl, sym, ap, ◌∙◌, subst as transport, append_assoc, arith}
+use Rattle.theory.specs.Terms.{Term, height}
 use Rattle.theory.specs.Telescopes.{Telescope, functions}
 use Rattle.theory.specs.Families.{Constructor}
 use Rattle.theory.specs.Signatures.{Signature}
 use Rattle.theory.specs.SignatureScopes.{IsScoped}
-use Rattle.core_terms.specs.Answers.{and_then, bounded, is_low}
+use Rattle.core_terms.specs.Answers.{and_then, bounded}
 use Rattle.core_terms.specs.CaseTrees.{Step}
 use Rattle.core_terms.specs.declared.stop.Stop.{Stop}
 use Rattle.core_terms.specs.declared.stop.Stop.TheVariants.{Deep}
-use Rattle.core_terms.proofs.Answers.{low-is}
 use Rattle.core_sig.specs.Drafts.{Draft}
 use Rattle.core_sig.specs.Settling.{renumbered}
 use Rattle.core_sig.proofs.DraftTerms.{height-renumbered}
@@ -19,15 +18,15 @@ use Rattle.unification.specs.ScopedStates.{IsReady}
 use Rattle.unifier.specs.Conditions.{AreLow}
 use Rattle.case_trees.specs.Problems.{Member, member_of, problem_of}
 use Rattle.case_trees.specs.Standing.{Runs}
-use Rattle.tree_translation.specs.Conditions.{AreRuns, IsEnd, IsSeen, IsSplit}
+use Rattle.tree_translation.specs.Conditions.{AreRuns, IsEnd, IsSplit}
 use Rattle.tree_translation.specs.Naming.{Naming, case_name, mentions, number_among, number_in, once, with_names}
-use Rattle.tree_translation.specs.Plans.{Part, Plan, no_part}
+use Rattle.tree_translation.specs.Plans.{Plan}
 use Rattle.tree_translation.specs.Splits.{behind_first, branch_standing, is_absurd, on_member, split_member, split_method, split_methods, split_names, split_node}
 use Rattle.tree_translation.specs.Standings.{problem_state}
 use Rattle.tree_translation.proofs.Drafting.{IsDeepAlone, and_then-deep, and_then-ok, drafted-deep, ok-deep}
 use Rattle.tree_translation.proofs.NothingHidden.{number-own, widened-own}
 use Rattle.split_terms.specs.CodeSplits.{split_names_made, split_node_made}
-use Rattle.node_roots.proofs.RootNodes.{helper_node-over}
+use Rattle.node_roots.proofs.RootNodes.{own-seen}
 use Rattle.replay_laws.proofs.LowParts.{low-functions}
 use Rattle.replay_laws.proofs.ReplayedSteps.{after_step-is_step}
 use Rattle.replay_laws.proofs.SeenMembers.{member-count}
@@ -37,6 +36,7 @@ use Rattle.run_laws.proofs.AnsweredSplits.{IsSplitOver, branch-run, branch-there
 use Rattle.run_laws.proofs.MadeSplits.{split-only_deep, split_names-only_deep}
 use Rattle.run_laws.proofs.RunEnds.{end-low}
 use Rattle.function_entries.specs.CodeNumbering.{names_at, numbered, places_of}
+use Rattle.deep_laws.proofs.MadeParts.{bounded-low}
 use Rattle.clause_reports.specs.Equations.{Equation, part_at, part_name, closed_type}
 use Rattle.clause_reports.specs.ProofTerms.{all_proof_names, candidate, goal_node, proof_names, proof_term, proof_terms}
 use Rattle.clause_reports.specs.ProofWalks.{Place, Proof, Ends, Splits, Proofs, nil, cons}
@@ -46,13 +46,6 @@ use Rattle.proof_walks.specs.PlaceScopes.{IsScopedPlace}
 use Rattle.report_laws.proofs.WalkedProofs.{AreFrom, AreProofs, IsProof, from-first, from-next}
 
 -- ---- splits
-
--- nothing is hidden of a place
-pub seen-own : (tele : Telescope) → IsSeen tele [] tele
-seen-own tele =
-    let part : Part = record no_part { tele = tele } in
-    let plan : Plan = record { base = 0; name = []; type = Sort 0; arity = 0; level = 0; position = None; parts = [] } in
-    (helper_node-over plan None part (λ name. 0)).is_seen
 
 pub runs-of : (S : Signature) (p : Place) (x : ℕ) (m : Member) (number : ℕ) (cs : List Constructor) (runs : List (List Step)) (proofs : Proofs)
     → AreProofs S p x m number cs runs proofs → AreRuns S p.context x m number cs runs
@@ -67,7 +60,7 @@ module _ (S : Signature) (ready : IsReady S) (L : ℕ) where
       → member_of S type ≡ Some m → IsSplitOver S (goal_node L p) x type p.context x type m
   split-over p x type m is low scoped found = record {
     ready = ready;
-    is_seen = seen-own p.context;
+    is_seen = own-seen p.context;
     hidden = tt;
     inside = low;
     variable = sym (number-own (length p.context) x low);
@@ -85,7 +78,7 @@ module _ (S : Signature) (ready : IsReady S) (L : ℕ) where
     y = x;
     reduced = type;
     member = m;
-    is_seen = seen-own p.context;
+    is_seen = own-seen p.context;
     inside = low;
     variable = sym (number-own (length p.context) x low);
     type_seen = sym (widened-own (length p.context) type);
@@ -278,13 +271,6 @@ candidate-deep S name L e proof =
     numbered-deep name (length S.entries) table (closed_type L e) body))
 
 -- ---- the candidate
-
-bounded-low : (t u : Term) → bounded t ≡ Ok u → height t ≤ 2000
-bounded-low t u e = by (is_low t) refl e
-  where
-    by : (b : Bool) → is_low t ≡ b → (let answer : Result Term Stop = cond b (Ok t) (Err Deep) in answer ≡ Ok u) → height t ≤ 2000
-    by true is k = low-is t is
-    by false is k = absurd (cc)
 
 -- the term of a draft is low
 body-low : (name : List ℕ) (base : ℕ) (table : List (List ℕ)) (t u : Term) (d : Draft) → numbered name base table t u ≡ Ok d → height u ≤ 2000

@@ -1,21 +1,20 @@
 -- The report of a clause is made as is meant.
 use Rattle.std.proofs.Common.{◌≡◌, ℕ, zero, suc, ◌+◌, Bool, true, false, ◌&&◌, cond, Option, List, [], ◌∷◌, length, All, Result, Ok, Err, refl, sym, ap, ap₂, ◌∙◌, subst as transport}
-use Rattle.std.proofs.lemmas.List.Elements.{All-cons, All-head, All-nil, All-tail}
+use Rattle.std.proofs.lemmas.List.Elements.{All-head, All-tail}
 use Rattle.theory.specs.Terms.{Term}
 use Rattle.theory.specs.Telescopes.{Telescope}
 use Rattle.theory.specs.Signatures.{Signature}
 use Rattle.theory.specs.SignatureScopes.{IsScoped, IsScopedTelescope}
-use Rattle.theory.proofs.ScopedTerms.{sort-scoped}
 use Rattle.core_terms.specs.Answers.{and_next, and_then}
 use Rattle.core_terms.specs.declared.stop.Stop.{Stop}
 use Rattle.core_terms.specs.declared.stop.Stop.TheVariants.{Deep}
 use Rattle.core_sig.specs.Drafts.{Draft}
 use Rattle.kernel_reduce.specs.Comparison.{convertible_of}
 use Rattle.kernel_reduce.specs.Reduction.{nesting}
-use Rattle.tele_eq.specs.Items.{term_at}
 use Rattle.tree_translation.specs.Plans.{Plan, own_part}
 use Rattle.tree_translation.specs.Recursion.{Recursion, order_of, recursion_of, terms_at}
 use Rattle.clause_equations.specs.CodeEquations.{equation_in, equation_made}
+use Rattle.clause_equations.proofs.MadeEquations.{equation-at-is}
 use Rattle.clause_reports.specs.Equations.{Equation, equation_of, part_at, part_name, pats_of, side_of, walk_site}
 use Rattle.clause_reports.specs.ProofTerms.{candidate}
 use Rattle.clause_reports.specs.ProofWalks.{Place, Proof, first_place, first_values, walk_of}
@@ -23,24 +22,26 @@ use Rattle.clause_reports.specs.Reports as pure
 use Rattle.clause_reports.specs.Reports.{Reference, Absurd, order_in, reported, report_of, some_absurd}
 use Rattle.clause_reports.specs.Shadows.{leaves_of}
 use Rattle.clause_reports.specs.Stops.{Halts, ReportStop, Reporting, answers, or_halts, halting}
+use Rattle.draft_entering.proofs.Entered.{next-assoc}
 use Rattle.entry_laws.proofs.OnlyConstants.{each-all}
 use Rattle.equation_laws.proofs.LeftShowing.{equation-is}
+use Rattle.equation_laws.proofs.EquationScopes.{terms_at-scoped}
 use Rattle.proof_walks.specs.PlaceScopes.{IsScopedPlace, are_scoped, is_scoped_place, is_scoped_telescope}
 use Rattle.proof_walks.specs.Starts.{walk_made}
 use Rattle.proof_walks.proofs.WalkLaws.{walk-is-made}
+use Rattle.proof_walks.proofs.ScopeTests.{term-told}
 use Rattle.clause_lines.specs.CodeReports.{Candidate, Judgement, Known, equation_converts, equation_judged, in_plan, on_judged, proof_judged, report_made, sides_judged, unless_converts, with_candidate}
 use Rattle.clause_lines.proofs.NameMarks.{clause-marked, mark_after}
 use Rattle.clause_lines.proofs.ReportsAnswered.{candidate-own}
-use Rattle.clause_lines.proofs.SameEquations.{equation-same}
-use Rattle.made_functions.proofs.Sequences.{next-after, next-same}
 use Rattle.plan_laws.proofs.Answering.{if-ok}
+use Rattle.plan_laws.proofs.ExactPlans.{next-same}
 use Rattle.report_laws.specs.Laws.{ReportIsMade}
 use Rattle.report_laws.specs.Reportable.{IsLeafOver, IsReportable}
 use Rattle.report_laws.proofs.WalkedProofs.{IsProofOver, walk-proves}
 use Rattle.report_laws.proofs.MadeProofs.{candidate-exact}
 use Rattle.report_laws.proofs.Candidates.{candidate-enters}
 use Rattle.report_laws.proofs.EnteredReports.{entering-same}
-use Rattle.report_laws.proofs.ShadowedReports.{converting-same, halts-ok, shadowed-same, term-told}
+use Rattle.report_laws.proofs.ShadowedReports.{converting-same, halts-ok, shadowed-same}
 
 -- ---- the first place
 
@@ -61,16 +62,6 @@ place-told S p h =
     (ap₂ and (term-told S n p.type h.type)
     (ap₂ and (term-told S n p.left h.left)
     (ap₂ and (term-told S n p.right h.right) (ap₂ and (terms-told S n p.terms h.terms) (terms-told S n p.values h.values)))))
-
-term_at-scoped : (S : Signature) (n : ℕ) (ts : List Term) (p : ℕ) → All (IsScoped S n) ts → IsScoped S n (term_at ts p)
-term_at-scoped S n [] p h = sort-scoped 0
-term_at-scoped S n (t ∷ ts) zero h = All-head (IsScoped S n) t ts h
-term_at-scoped S n (t ∷ ts) (suc p) h = term_at-scoped S n ts p (All-tail (IsScoped S n) t ts h)
-
-terms_at-scoped : (S : Signature) (n : ℕ) (ts : List Term) (positions : List ℕ) → All (IsScoped S n) ts → All (IsScoped S n) (terms_at positions ts)
-terms_at-scoped S n ts [] h = All-nil (IsScoped S n)
-terms_at-scoped S n ts (p ∷ positions) h =
-    All-cons (IsScoped S n) (term_at ts p) (terms_at positions ts) (term_at-scoped S n ts p h) (terms_at-scoped S n ts positions h)
 
 module _ (S : Signature) (plan : Plan) (c : Reference) (h : IsReportable S plan c) where
   values-scoped : (k : ℕ) → All (IsScoped S (length c.walk.ctx)) (first_values S plan k c.walk)
@@ -125,7 +116,7 @@ module _ (S : Signature) (plan : Plan) (c : Reference) (h : IsReportable S plan 
   converts-same e is true left = refl
   converts-same e is false left =
       let walked = walk_of S plan c.part c.walk e (part_at plan c.part).tree left in
-      next-after (walk_made S plan c.part c.walk e (part_at plan c.part).tree left) (λ proof rest. answers (proof_judged S (in_plan plan c) e proof) rest)
+      next-assoc (walk_made S plan c.part c.walk e (part_at plan c.part).tree left) (λ proof rest. answers (proof_judged S (in_plan plan c) e proof) rest)
       (on_judged S (in_plan plan c))
       ∙ (ap
       (λ (first : Reporting Proof).
@@ -139,12 +130,12 @@ module _ (S : Signature) (plan : Plan) (c : Reference) (h : IsReportable S plan 
   made-same : equation_made S plan c.part c.clause c.walk ≡ equation_of S plan c.part c.clause c.walk
   made-same =
       ap (λ (r : Result (Option Recursion) Stop). and_then r (equation_in S plan c.part c.clause c.walk)) h.recursion
-      ∙ equation-same S plan c.part (pats_of (part_at plan c.part) c.clause) (side_of (part_at plan c.part) c.clause) (walk_site c.walk)
+      ∙ equation-at-is S plan c.part (pats_of (part_at plan c.part) c.clause) (side_of (part_at plan c.part) c.clause) (walk_site c.walk)
 
   equation-reported : (left : ℕ) → and_next (equation_judged S (in_plan plan c) left) (on_judged S (in_plan plan c)) ≡ pure.equation_report S plan c left
   equation-reported left =
       let meant = equation_of S plan c.part c.clause c.walk in
-      next-after (answers (or_halts (equation_made S plan c.part c.clause c.walk)) left) (sides_judged S (in_plan plan c)) (on_judged S (in_plan plan c))
+      next-assoc (answers (or_halts (equation_made S plan c.part c.clause c.walk)) left) (sides_judged S (in_plan plan c)) (on_judged S (in_plan plan c))
       ∙ (ap
       (λ (r : Result Equation Stop).
       and_next (answers (or_halts r) left) (λ e rest. and_next (sides_judged S (in_plan plan c) e rest) (on_judged S (in_plan plan c))))
@@ -152,7 +143,7 @@ module _ (S : Signature) (plan : Plan) (c : Reference) (h : IsReportable S plan 
       ∙ next-same (answers (or_halts meant) left) _ _ (λ e rest made.
       let is = halts-ok meant e made in
       let over = h.over e is in
-      next-after (equation_converts S e rest) (unless_converts S (in_plan plan c) e) (on_judged S (in_plan plan c))
+      next-assoc (equation_converts S e rest) (unless_converts S (in_plan plan c) e) (on_judged S (in_plan plan c))
       ∙ (ap
       (λ (first : Reporting Bool).
       and_next first (λ holds end. and_next (unless_converts S (in_plan plan c) e holds end) (on_judged S (in_plan plan c))))

@@ -13,6 +13,7 @@ use Rattle.core_sig.specs.declared.entry.Found.TheVariants as found
 use Rattle.core_sig.proofs.NameLists.{named-append}
 use Rattle.clause_reports.specs.Conditions.{IsDefined}
 use Rattle.draft_entering.specs.Conditions as entering
+use Rattle.draft_entering.proofs.Longer.{lookup-some}
 
 -- the entry at a place, if it is a definition, has the name
 abbrev HasName : List ℕ → (k : ℕ) → List Entry → ℕ → Type 0
@@ -78,15 +79,6 @@ defined-there S name (n, at, (own, type, body, there)) =
     }
 
 -- ---- longer signatures
-
-lookup-some : (name : List ℕ) (xs ys : List (List ℕ × Found)) (f : Found) → lookup (bytes_eq name) xs ≡ Some f → lookup (bytes_eq name) (xs ++ ys) ≡ Some f
-lookup-some name [] ys f e = absurd (none-some f e)
-lookup-some name (x ∷ xs) ys f e = by (bytes_eq name x.0) (lookup-some name xs ys f) e
-  where
-    by : (b : Bool) → (lookup (bytes_eq name) xs ≡ Some f → lookup (bytes_eq name) (xs ++ ys) ≡ Some f)
-        → cond b (Some x.1) (lookup (bytes_eq name) xs) ≡ Some f → cond b (Some x.1) (lookup (bytes_eq name) (xs ++ ys)) ≡ Some f
-    by true rest h = h
-    by false rest h = rest h
 
 pub defined-on : (S T : Signature) → IsPrefix S T → (name : List ℕ) → IsDefined S name → IsDefined T name
 defined-on S T more name d = record {

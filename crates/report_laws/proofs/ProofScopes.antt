@@ -11,7 +11,6 @@ use Rattle.core_terms.specs.declared.case_tree.Rule.{Rule}
 use Rattle.core_terms.specs.declared.case_tree.Rule.TheVariants.{SolveRight, SolveLeft, Inject, Conflict, Cycle, Delete}
 use Rattle.core_sig.specs.DraftScopes.{IsDraftTerm}
 use Rattle.unification.specs.Outcomes as outcome
-use Rattle.unification.specs.Occurrences.{without}
 use Rattle.unification.specs.ScopedStates.{IsReady}
 use Rattle.case_trees.specs.Problems.{Member, member_of, problem_of}
 use Rattle.case_trees.specs.Standing.{Runs}
@@ -23,6 +22,7 @@ use Rattle.tree_translation.specs.Replays.{behind_rule, behind_run, behind_step,
 use Rattle.tree_translation.specs.Splits.{branch_standing, member_names, on_member, split_member, split_names}
 use Rattle.tree_translation.specs.Standings.{Standing, levels_from}
 use Rattle.tree_translation.proofs.LevelLists.{length-levels}
+use Rattle.node_roots.proofs.RootNodes.{none-out}
 use Rattle.replay_laws.proofs.TreeNodes.{branch-below, node-after}
 use Rattle.run_laws.proofs.AnsweredSplits.{IsSplitOver, branch-run, whole-member, whole_of}
 use Rattle.entry_laws.proofs.OnlyConstants.{Each, each-left, each-right}
@@ -54,12 +54,8 @@ run-own : (S : Signature) (steps : List Step) (w : Standing) → w.hidden ≡ []
 run-own S [] w e = e
 run-own S (step ∷ steps) w e = run-own S steps (behind_step S w step) (rule-own S w (step_in w step) (step_in w step).rule e)
 
-all-visible : (levels : List ℕ) → without [] levels ≡ levels
-all-visible [] = refl
-all-visible (j ∷ levels) = ap (λ rest. j ∷ rest) (all-visible levels)
-
 visible-long : (n : ℕ) (hidden : List ℕ) → hidden ≡ [] → length (visible n hidden) ≡ n
-visible-long n hidden e = ap (λ h. length (visible n h)) e ∙ (ap length (all-visible (levels_from 0 n)) ∙ length-levels 0 n)
+visible-long n hidden e = ap (λ h. length (visible n h)) e ∙ (ap length (none-out (levels_from 0 n)) ∙ length-levels 0 n)
 
 -- ---- terms
 

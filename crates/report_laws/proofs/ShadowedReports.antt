@@ -1,15 +1,11 @@
 -- What is said of a clause whose candidate is denied is what is meant, where its equation is over the context of each of its leaves.
-use Rattle.std.proofs.Common.{◌≡◌, ◌≤◌, ℕ, zero, suc, nat_le, Bool, true, false, ◌&&◌, not, nat_lt, cond, Option, Some, List, [], ◌∷◌, length, Result, Ok, Err, refl, ap, ap₂, ◌∙◌, arith}
-use Rattle.std.proofs.lemmas.Bool.Decides.{nat_tests}
-use Rattle.theory.specs.Terms.{Term, free_of}
+use Rattle.std.proofs.Common.{◌≡◌, ℕ, Bool, true, false, ◌&&◌, not, nat_lt, cond, Option, Some, List, [], ◌∷◌, length, Result, Ok, Err, refl, ap, ap₂, ◌∙◌}
+use Rattle.theory.specs.Terms.{Term}
 use Rattle.theory.specs.Telescopes.{Telescope}
 use Rattle.theory.specs.Signatures.{Signature}
-use Rattle.theory.specs.SignatureScopes.{IsScoped}
 use Rattle.core_terms.specs.Answers.{and_next}
 use Rattle.core_terms.specs.declared.stop.Stop.{Stop}
 use Rattle.core_terms.specs.declared.stop.Stop.TheVariants.{Deep}
-use Rattle.core_sig.specs.ScopeTests.{has_entries}
-use Rattle.core_sig.proofs.ScopeTests.{entries-told}
 use Rattle.kernel_reduce.specs.Comparison.{convertible_of}
 use Rattle.kernel_reduce.specs.Reduction.{nesting}
 use Rattle.tree_translation.specs.Plans.{Plan}
@@ -22,20 +18,15 @@ use Rattle.clause_reports.specs.Reports as pure
 use Rattle.clause_reports.specs.Reports.{Reference, Reported, order_in, at_leaf, at_vector, shadowed}
 use Rattle.clause_reports.specs.Shadows.{TreeLeaf, convert_at_all, earlier_leaf, equation_at_leaf, leaves_of, vector_of}
 use Rattle.clause_reports.specs.Stops.{Rejection, ReportStop, Reporting, Halts, Rejected, answers, or_halts, halting}
-use Rattle.proof_walks.specs.PlaceScopes.{is_scoped}
-use Rattle.clause_lines.specs.CodeReports.{in_plan, equation_converts, order_at, equation_there, converts_at_all, converts_with, converts_at_leaves, if_shadowed, both_match, at_matched, at_vector_made, at_place, place_converts, shadowed_among, shadowed_made}
-use Rattle.clause_lines.proofs.SameEquations.{equation-same}
-use Rattle.made_functions.proofs.Sequences.{next-after, next-same}
+use Rattle.clause_equations.proofs.MadeEquations.{equation-at-is}
+use Rattle.plan_laws.proofs.ExactPlans.{next-same}
+use Rattle.draft_entering.proofs.Entered.{next-assoc}
+use Rattle.proof_walks.proofs.ScopeTests.{term-told}
+use Rattle.clause_lines.specs.CodeReports.{in_plan, equation_converts, equation_there, converts_at_all, converts_with, converts_at_leaves, if_shadowed, both_match, at_matched, at_vector_made, at_place, place_converts, shadowed_among, shadowed_made}
+use Rattle.clause_lines.proofs.ShadowsAnswered.{order-is}
 use Rattle.report_laws.specs.Reportable.{AreSidesOver, IsLeafOver}
 
 -- ---- tests
-
-pub term-told : (S : Signature) (n : ℕ) (t : Term) → IsScoped S n t → is_scoped S n t ≡ true
-term-told S n t h = go (nat_le (free_of t) n) refl
-  where
-    go : (b : Bool) → nat_le (free_of t) n ≡ b → (b && has_entries S t) ≡ true
-    go true e = entries-told S t h.entries
-    go false e = absurd (let le : free_of t ≤ n = h.variables in grind (arith, nat_tests))
 
 pub converting-same : (S : Signature) (e : Equation) (left : ℕ) → AreSidesOver S e → equation_converts S e left ≡ halting (convertible_of S nesting e.left e.right left)
 converting-same S e left h =
@@ -48,15 +39,11 @@ halts-ok (Err x) a e = absurd (cc)
 
 -- ---- leaves
 
-order-is : (S : Signature) (plan : Plan) (k : ℕ) → order_at k plan (part_at plan k) (recursion_of S plan) ≡ order_in S plan k
-order-is S plan zero = refl
-order-is S plan (suc k) = refl
-
 module _ (S : Signature) (plan : Plan) (c : Reference) (found : recursion_made S plan ≡ Ok (recursion_of S plan)) where
   there-same : (order : List ℕ) (l : TreeLeaf)
       → equation_there S (in_plan plan c) (recursion_of S plan) order l ≡ equation_at_leaf S plan c.part c.clause order c.walk l
   there-same order l =
-      equation-same S plan c.part (pats_of (part_at plan c.part) c.clause) (side_of (part_at plan c.part) c.clause)
+      equation-at-is S plan c.part (pats_of (part_at plan c.part) c.clause) (side_of (part_at plan c.part) c.clause)
       (leaf_site order c.walk l.context l.goal l.substitution l.terms l.binds)
 
   abbrev unless_holds : (others : ℕ → Reporting Bool) → Bool → ℕ → Reporting Bool
@@ -70,7 +57,7 @@ module _ (S : Signature) (plan : Plan) (c : Reference) (found : recursion_made S
       let meant = equation_at_leaf S plan c.part c.clause order c.walk l in
       let ours : ℕ → Reporting Bool = λ rest. converts_at_all S (in_plan plan c) (recursion_of S plan) order leaves rest in
       let theirs : ℕ → Reporting Bool = λ rest. convert_at_all S plan c.part c.clause order c.walk leaves rest in
-      next-after (answers (or_halts made) left) (λ e rest. equation_converts S e rest) (λ holds rest. unless_holds ours holds rest)
+      next-assoc (answers (or_halts made) left) (λ e rest. equation_converts S e rest) (λ holds rest. unless_holds ours holds rest)
       ∙ (ap
       (λ (r : Result Equation Stop).
       and_next (answers (or_halts r) left) (λ e rest. and_next (equation_converts S e rest) (λ holds end. unless_holds ours holds end)))

@@ -1,7 +1,6 @@
 -- What a walk through a tree comes to: its places are scoped, and a split has the runs of all constructors, of which each that is solved
 -- is followed by a proof over its context.
 use Rattle.std.proofs.Common.{◌≡◌, ℕ, zero, suc, ◌+◌, ◌<◌, ◌==◌, ◌&&◌, Bool, true, false, cond, Option, Some, None, Result, Ok, Err, IfOk, List, [], ◌∷◌, length, map, take, slice_get, All, refl, sym, ap, ◌∙◌, subst as transport, arith}
-use Rattle.std.proofs.lemmas.List.Elements.{All-take}
 use Rattle.theory.specs.Terms.{Term}
 use Rattle.theory.specs.Telescopes.{Telescope}
 use Rattle.theory.specs.Families.{Constructor}
@@ -29,13 +28,13 @@ use Rattle.case_trees.specs.Standing.{Runs}
 use Rattle.case_trees.specs.Stops.{TreeStop}
 use Rattle.case_trees.proofs.Answered.{Holds}
 use Rattle.case_trees.proofs.Running.{AllRun, IsNotStuck, RunHas, all-run}
-use Rattle.case_trees.proofs.ScopedPoints.{all-under-scoped, built-parts, under-scoped}
+use Rattle.case_trees.proofs.ScopedPoints.{built-parts}
 use Rattle.case_trees.proofs.ScopedProblems.{member-in, problem-scoped, type_of-scoped}
 use Rattle.clause_reports.specs.ProofWalks.{Place, Proof, Ends, Splits, Proofs, nil, cons, Branching, Splitting, Walking, at_head, at_member, at_other, at_split, at_variable, bounded_place, enter_branch, looked_again, moved_place, no_splitting, or_halted, solved_branch, solved_branches, split_variable, stuck_at, take_branch, value_at, walk_tree, with_runs}
 use Rattle.clause_reports.specs.Stops.{Reporting, answers, halting, or_halts}
 use Rattle.clause_walks.specs.PairConditions.{IsSolvedIn}
 use Rattle.proof_walks.specs.PlaceScopes.{IsScopedPlace}
-use Rattle.proof_walks.proofs.KeptPlaces.{origins-scoped, value-scoped}
+use Rattle.proof_walks.proofs.KeptPlaces.{origins-scoped, value-scoped, moved-scoped}
 
 -- ---- proofs
 
@@ -81,22 +80,6 @@ bounded-is p P h =
     by : (b : Bool) → (let answer : Result Place Stop = cond b (Ok p) (Err Deep) in IfOk answer P)
     by true = h
     by false = tt
-
-moved-scoped : (S : Signature) (p : Place) (context : Telescope) (solution : List Term) → IsScopedPlace S p → IsSolvedIn S context solution
-    → IsScopedPlace S (moved_place p context solution)
-moved-scoped S p context solution h new =
-    let n = length p.context in
-    let m = length context in
-    let own = take n solution in
-    let first = All-take (IsScoped S m) n solution new.solution in
-    record {
-      context = new.context;
-      type = under-scoped S n m own p.type first h.type;
-      left = under-scoped S n m own p.left first h.left;
-      right = under-scoped S n m own p.right first h.right;
-      terms = all-under-scoped S n m own p.terms first h.terms;
-      values = all-under-scoped S n m own p.values first h.values;
-    }
 
 -- the constructors from a number on
 abbrev pub AreFrom : Member → (number : ℕ) → List Constructor → Type 0

@@ -1,5 +1,5 @@
 -- The term and the names of a split node are made, unless the term is too high.
-use Rattle.std.proofs.Common.{◌≡◌, ℕ, zero, suc, ◌+◌, ◌<◌, ◌≤◌, cond, Option, Some, List, [], ◌∷◌, ◌++◌, length, map, slice_get, Result, Ok, Err, refl, sym, ap, ◌∙◌, subst as transport, arith}
+use Rattle.std.proofs.Common.{◌≡◌, ℕ, suc, ◌+◌, ◌<◌, ◌≤◌, cond, Option, Some, List, [], ◌∷◌, ◌++◌, length, map, slice_get, Result, Ok, Err, refl, sym, ap, ◌∙◌, subst as transport, arith}
 use Rattle.std.proofs.lemmas.List.{length-append, length-map}
 use Rattle.theory.specs.Terms.{Term, Var, App, Const, Fam, height, lift}
 use Rattle.theory.specs.Telescopes.{Telescope, applied, products, variables}
@@ -14,7 +14,7 @@ use Rattle.core_terms.specs.CaseTrees.{Step}
 use Rattle.core_terms.specs.declared.stop.Stop.{Stop}
 use Rattle.core_terms.specs.declared.stop.Stop.TheVariants.{Deep}
 use Rattle.core_terms.proofs.Builders.{height-applied}
-use Rattle.tele_eq.specs.Items.{Item, each_position}
+use Rattle.tele_eq.specs.Items.{Item}
 use Rattle.tele_eq.specs.TelescopicEquality.{equations, reflexivities}
 use Rattle.unification.specs.Injecting.{lifted}
 use Rattle.unification.specs.Outcomes.{Outcome, steps_in}
@@ -22,6 +22,7 @@ use Rattle.unification.specs.Records.{argument_items, constructor_terms, family_
 use Rattle.unification.specs.ScopedStates.{IsReady}
 use Rattle.unification.specs.States.{Problem, equations_at, starting, types_as_they_stand}
 use Rattle.unification.proofs.ScopedRecords.{length-family_items}
+use Rattle.unification.proofs.Counts.{length-equations}
 use Rattle.unifier.specs.Conditions.{AreBelow, AreLow}
 use Rattle.case_trees.specs.Problems.{Member, member_of, problem_of}
 use Rattle.case_trees.specs.Standing.{Runs}
@@ -40,7 +41,7 @@ use Rattle.split_terms.specs.CodeRunTerms.{run_made, run_names_made}
 use Rattle.split_terms.specs.CodeSplits.{branch_names_made, member_made, member_names_made, method_made, method_with, methods_names_made, motive_made, motive_with, split_end, split_head, split_member_made, split_option_made, standing_made, standing_with, state_made, with_methods}
 use Rattle.split_terms.proofs.SplitsMade.{in-parts}
 use Rattle.replay_laws.proofs.LowComparisons.{equations-there}
-use Rattle.replay_laws.proofs.LowConfusions.{reflexivities-there}
+use Rattle.replay_laws.proofs.LowConfusions.{reflexivities-there, length-each}
 use Rattle.replay_laws.proofs.LowInstances.{height-low}
 use Rattle.replay_laws.proofs.LowParts.{low-appended, low-applied, low-equations, low-functions, low-placed_telescope, low-products, low-reflexivities}
 use Rattle.replay_laws.proofs.SeenBranches.{branch-widens}
@@ -52,10 +53,6 @@ use Rattle.run_laws.proofs.AnsweredTerms.{run-answers}
 use Rattle.run_laws.proofs.MadeSplits.{split_names-are_these}
 
 -- ---- the parts of a low term
-
-length-each : {A : Type 0} (f : ℕ → A) (j count : ℕ) → length (each_position f j count) ≡ count
-length-each f j zero = refl
-length-each f j (suc count) = ap suc (length-each f (j + 1) count)
 
 -- the type that is split is in the term
 applied-more : (h h' : Term) (us : List Term) → height h ≤ height h' → height (applied h us) ≤ height (applied h' us)
@@ -167,9 +164,6 @@ pub record IsEven (p : Problem) : Type 0 where
   pub few : length p.telescope ≤ 1000
   pub left : length p.left ≡ length p.telescope
   pub right : length p.right ≡ length p.telescope
-
-length-equations : (X : List Item) (us vs : List Term) → length (equations X us vs) ≡ length X
-length-equations X us vs = length-each _ 0 (length X)
 
 problem-even : (S : Signature) (context : Telescope) (x : ℕ) (m : Member) (number : ℕ) (c : Constructor) → IsReady S
     → IsEntryAt S m.n (FamilyOf m.family) → slice_get m.family.constructors number ≡ Some c

@@ -7,14 +7,14 @@ use Rattle.theory.specs.Signatures.{Signature}
 use Rattle.theory.specs.SignatureScopes.{IsConstantNumber, IsScoped, IsScopedTelescope}
 use Rattle.theory.proofs.ScopedTerms.{lift-scoped, scoped_over_more}
 use Rattle.core_terms.specs.Telescopes.{lift_telescope}
-use Rattle.kernel_reduce.proofs.ScopedTelescopes.{telescope-append}
+use Rattle.kernel_reduce.proofs.ScopedTelescopes.{telescope-append, telescope-take}
 use Rattle.tree_translation.specs.Entries.{with_below}
 use Rattle.tree_translation.specs.Naming.{Naming, below_name, motive_name}
 use Rattle.tree_translation.specs.Plans.{Plan, own_part}
 use Rattle.tree_translation.specs.Recursion.{Recursion, below_type, motive_at, parameters_at, scrutinee_at}
 use Rattle.entry_laws.proofs.OnlyConstants.{Each, each-append}
 use Rattle.entry_scopes.proofs.WholeTerms.{applied-each, const-scoped}
-use Rattle.draft_scopes.proofs.RenumberedDrafts.{take-telescope, telescope-after}
+use Rattle.draft_scopes.proofs.RenumberedDrafts.{telescope-after}
 use Rattle.own_scopes.proofs.RecursiveFunctions.{terms-there, parameters-there, motive-there}
 
 pub below-there : (T : Signature) (number : Naming) (plan : Plan) (r : Recursion) (n : ℕ) (terms : List Term) → IsConstantNumber T (number (below_name r.family plan.level))
@@ -37,7 +37,7 @@ pub with_below-there : (T : Signature) (first : ℕ) (below : Term) (tele : Tele
     → IsScopedTelescope T 0 (with_below first below tele)
 with_below-there T first below tele le h there =
     let long : length (take first tele) ≡ first = omega (arith, length-take first tele) in
-    telescope-append T 0 (take first tele) (below ∷ lift_telescope (drop first tele) 1 0) (take-telescope T 0 first tele h) (
+    telescope-append T 0 (take first tele) (below ∷ lift_telescope (drop first tele) 1 0) (telescope-take T 0 first tele h) (
       scoped_over_more T first (0 + length (take first tele)) below (omega arith) there,
       lifted-telescope T (0 + length (take first tele)) 0 (drop first tele) (telescope-after T 0 first tele h),
     )
