@@ -1,5 +1,5 @@
 -- Where a draft enters, each new entry is accepted by itself.
-use Rattle.std.proofs.Common.{◌≡◌, ℕ, zero, suc, ◌≤◌, Bool, true, false, cond, Option, Some, None, List, [], ◌∷◌, length, Result, Ok, Err, IfOk, refl, arith}
+use Rattle.std.proofs.Common.{◌≡◌, ℕ, zero, suc, ◌≤◌, Bool, true, false, cond, Option, Some, None, List, [], ◌∷◌, length, Ok, Err, refl, arith}
 use Rattle.theory.specs.Families.{Family}
 use Rattle.theory.specs.Signatures.{Signature, Entry, FamilyOf, EliminatorAt, AxiomKAt, Definition}
 use Rattle.core_terms.specs.declared.stop.Stop.TheVariants.{Deep}
@@ -9,19 +9,15 @@ use Rattle.core_sig.specs.Settling.{renumbered_entry, settled_number}
 use Rattle.kernel_reduce.specs.Entries.{family_at}
 use Rattle.kernel_reduce.proofs.LookUps.{family-found}
 use Rattle.family_check.specs.Entering.{Entered, instance_of, axiom_k_of, define_of}
-use Rattle.family_check.specs.Outcomes.{FamilyStop, Outcome}
+use Rattle.family_check.specs.Outcomes.{Outcome}
 use Rattle.tree_translation.specs.Needed.{is_found}
 use Rattle.clause_reports.specs.DraftEntering.{Mention, Eliminates, AssumesK, Names, Entering, mentioned, with_entry, enter_eliminator, enter_axiom_k, enter_generated, enter_mention, enter_all, enter_entry, enter_with, enter_chain, longest_chain, enter_needed, enter_draft_of}
 use Rattle.clause_reports.specs.Generated.{Generated, generated_by, generated_draft}
-use Rattle.clause_reports.specs.Stops.{Reporting, Halts, answers, or_halts, or_rejected, entering}
-use Rattle.clause_reports.proofs.Keeping.{Any, any}
+use Rattle.clause_reports.specs.Stops.{Reporting, Halts, answers, or_halts, entering}
+use Rattle.clause_reports.proofs.Keeping.{Any, any, rejected-has}
 use Rattle.accepted_laws.specs.Checked.{Checked, unchanged}
 use Rattle.accepted_laws.specs.Laws.{EnteringIsChecked}
 use Rattle.accepted_laws.proofs.Steps.{CheckedTo, Within, within-next, weaker-within, checked-on, define-checked, instance-checked, axiom_k-checked}
-
-rejected-has : (P : Entered → Type 0) (S : Signature) (e : Entry) (r : Result Entered FamilyStop) → IfOk r P → IfOk (or_rejected S e r) P
-rejected-has P S e (Ok a) h = h
-rejected-has P S e (Err cause) h = tt
 
 module _ (fuel : ℕ) where
   -- an entry that enters, or does not

@@ -1,73 +1,32 @@
 -- The entries of a function by clauses are accepted one by one.
-use Rattle.std.proofs.Common.{ℕ, ◌+◌, ◌≤◌, Option, Some, None, List, [], ◌∷◌, length, Result, Ok, Err, IfOk, arith}
+use Rattle.std.proofs.Common.{ℕ, ◌+◌, ◌≤◌, Option, Some, None, List, [], ◌∷◌, arith}
 use Rattle.theory.specs.Signatures.{Signature}
-use Rattle.theory.specs.WellFormed.{provisional}
 use Rattle.core_terms.specs.CaseTrees.{Walk}
-use Rattle.core_terms.proofs.Answers.{and_next-spends}
 use Rattle.core_sig.specs.Drafts.{Draft}
 use Rattle.kernel_check.specs.Checking.{infer_sort_of}
 use Rattle.kernel_check.proofs.Spending.{infer_sort-spends}
 use Rattle.kernel_reduce.specs.Reduction.{nesting}
 use Rattle.resolve.specs.Functions.{Function}
-use Rattle.structural_rec.specs.Choices.{choose}
-use Rattle.case_trees.specs.Trees.{split_of}
-use Rattle.case_trees.proofs.TreeUnits.{tree_spends}
-use Rattle.tree_translation.specs.Entries.{translate, ordered_variables}
+use Rattle.tree_translation.specs.Entries.{translate}
 use Rattle.tree_translation.specs.Plans.{Plan, Part}
-use Rattle.tree_translation.specs.Recursion.{Recursion, order_of, ordered_telescope, ordered_term}
+use Rattle.tree_translation.specs.Recursion.{Recursion}
 use Rattle.clause_reports.specs.DraftEntering.{enter_draft_of, enter_needed, enter_mention, Names}
 use Rattle.clause_reports.specs.Equations.{part_named}
 use Rattle.clause_reports.specs.Generated.{all_name}
 use Rattle.clause_reports.specs.Reports.{Reference, report_of}
-use Rattle.clause_reports.specs.Stops.{ReportStop, Reporting}
+use Rattle.clause_reports.specs.Stops.{Reporting}
 use Rattle.clause_reports.proofs.Keeping.{Any, any}
-use Rattle.elaboration.specs.Refusals.{Owner, OfType, or_halts, granted, owner_of, or_no_report, reporting, walking}
-use Rattle.elaboration.specs.Walking.{Session, Walked, walk_clauses}
-use Rattle.elaboration.specs.Functions.{Following, Lines, own_part, position_chosen, own_finished, helpers_finished, plan_of, enter_drafts, enter_values, enter_plan, recursion_in, first_domains, function_level, report_walks, report_parts, function_of}
-use Rattle.elaboration.proofs.WalkSpending.{walk_clauses-spends}
+use Rattle.elaboration.specs.Refusals.{Owner, OfType, or_halts, granted, owner_of, reporting}
+use Rattle.elaboration.specs.Functions.{Following, Lines, plan_of, enter_drafts, enter_values, enter_plan, recursion_in, first_domains, function_level, report_walks, report_parts, function_of}
+use Rattle.elaboration.proofs.Keeping.{no_report-has}
+use Rattle.elaboration.proofs.Spending.{plan-spends}
 use Rattle.accepted_laws.specs.Checked.{Checked, unchanged}
 use Rattle.accepted_laws.specs.Laws.{FunctionIsChecked}
 use Rattle.accepted_laws.proofs.Drafts.{draft-within, mention-within}
 use Rattle.accepted_laws.proofs.Reports.{CheckedBy, report-within}
 use Rattle.accepted_laws.proofs.Steps.{CheckedTo, Within, within-next, weaker-within, checked-on, below}
 
--- ---- the units that are left once a plan is made
-
-own_left : (s : Session) (r : Option Recursion) (w : Walked) (left : ℕ) → (own_finished s r w left).1 ≤ left
-own_left s r w left =
-    let count = length w.part.tele in
-    let order = order_of count r in
-    and_next-spends
-    (walking s.signature s.name
-    (split_of s.signature (ordered_telescope w.part.tele order) (ordered_term count order w.part.goal) (ordered_variables order count) w.clauses left))
-    _ left
-    (tree_spends s.signature (ordered_telescope w.part.tele order) (ordered_term count order w.part.goal) (ordered_variables order count) w.clauses left)
-    (λ t rest. omega arith)
-
-helpers_left : (s : Session) (r : Option Recursion) (level number : ℕ) (helpers : List Walked) (left : ℕ) → (helpers_finished s r level number helpers left).1 ≤ left
-helpers_left s r level number [] left = omega arith
-helpers_left s r level number (w ∷ helpers) left =
-    and_next-spends (walking s.signature (part_named s.name number) (split_of s.signature w.part.tele w.part.goal w.part.terms w.clauses left)) _ left
-    (tree_spends s.signature w.part.tele w.part.goal w.part.terms w.clauses left) (λ t rest.
-    and_next-spends (helpers_finished s r level (number + 1) helpers rest) _ rest (helpers_left s r level (number + 1) helpers rest) (λ parts end. omega arith))
-
-plan_left : (S : Signature) (f : Function) (level left : ℕ) → (plan_of S f level left).1 ≤ left
-plan_left S f level left =
-    let s : Session = record { signature = provisional S f.name f.type; name = f.name; own = length S.entries } in
-    let part = own_part f level in
-    and_next-spends (walk_clauses s 0 part 0 1 f.clauses left) _ left (walk_clauses-spends s 0 part 0 1 f.clauses left) (λ given rest.
-    let walked : Walked = record { part = part; clauses = f.clauses; walks = given.walks; sides = given.sides } in
-    and_next-spends (position_chosen s (choose S part.tele s.own given.uses), rest) _ rest (omega arith) (λ position more.
-    let r = recursion_in S part.tele position in
-    and_next-spends (own_finished s r walked more) _ more (own_left s r walked more) (λ own end.
-    and_next-spends (helpers_finished s r level 1 given.helpers end) _ end (helpers_left s r level 1 given.helpers end) (λ helpers last.
-    omega arith))))
-
 -- ---- what enters
-
-no_report-has : {A : Type 0} (P : A → Type 0) (S : Signature) (owner : Owner) (r : Result A ReportStop) → IfOk r P → IfOk (or_no_report S owner r) P
-no_report-has P S owner (Ok a) h = h
-no_report-has P S owner (Err e) h = tt
 
 module _ (fuel : ℕ) where
   -- the signature after lines
@@ -127,7 +86,7 @@ module _ (fuel : ℕ) where
       within-next fuel Any (CheckedWith S) sorted _ (any sorted.0, below sorted.1 left fuel (infer_sort-spends S nesting [] f.type left) le) (λ sort rest less u.
       within-next fuel Any (CheckedWith S) (function_level S sort, rest) _ (any (function_level S sort), less) (λ level more few v.
       let planned = plan_of S f level more in
-      within-next fuel Any (CheckedWith S) planned _ (any planned.0, below planned.1 more fuel (plan_left S f level more) few) (λ plan end fewer w.
+      within-next fuel Any (CheckedWith S) planned _ (any planned.0, below planned.1 more fuel (plan-spends S f level more) few) (λ plan end fewer w.
       within-next fuel (Checked fuel S) (CheckedWith S) (enter_plan S plan end) _ (enter_plan-within S plan end fewer) (λ T last least g.
       weaker-within fuel (CheckedWith T) (CheckedWith S) (report_parts plan 0 plan.parts T last) (λ lines h. checked-on g h)
       (report_parts-within plan 0 plan.parts T last least)))))

@@ -1,5 +1,5 @@
 -- A function that is accepted leaves a signature that has more entries, which are no families.
-use Rattle.std.proofs.Common.{ℕ, ◌+◌, Option, Some, None, List, [], ◌∷◌, Result, Ok, Err, IfOk}
+use Rattle.std.proofs.Common.{ℕ, ◌+◌, Option, Some, None, List, [], ◌∷◌}
 use Rattle.theory.specs.Signatures.{Signature}
 use Rattle.core_terms.specs.CaseTrees.{Walk}
 use Rattle.core_terms.proofs.Answers.{Answers, and_next-has}
@@ -13,24 +13,19 @@ use Rattle.tree_translation.specs.Recursion.{Recursion}
 use Rattle.clause_reports.specs.DraftEntering.{enter_draft_of, enter_needed, enter_mention, Names}
 use Rattle.clause_reports.specs.Generated.{all_name}
 use Rattle.clause_reports.specs.Reports.{Reference, report_of}
-use Rattle.clause_reports.specs.Stops.{ReportStop}
 use Rattle.clause_reports.proofs.Keeping.{weaker, Any, any}
 use Rattle.draft_entering.specs.Conditions.{Extends}
 use Rattle.draft_entering.proofs.Longer.{extends-same, extends-on}
-use Rattle.entering_laws.proofs.EnteredOpen.{ExtendsTo, entering-extends}
-use Rattle.declaration_laws.proofs.ExtendedMentions.{enter_mention-extends, enter_needed-extends}
+use Rattle.entering_laws.proofs.EnteredOpen.{ExtendsTo, entering-extends, enter_mention-extends, enter_needed-extends}
 use Rattle.declaration_laws.proofs.ExtendedReports.{ExtendsBy, report-extends}
-use Rattle.elaboration.specs.Refusals.{Owner, OfType, or_halts, granted, owner_of, or_no_report, reporting}
+use Rattle.elaboration.specs.Refusals.{OfType, or_halts, granted, owner_of, reporting}
 use Rattle.clause_reports.specs.Equations.{part_named}
 use Rattle.elaboration.specs.Functions.{Following, Lines, plan_of, enter_drafts, enter_values, enter_plan, recursion_in, first_domains, function_level, report_walks, report_parts, function_of}
+use Rattle.elaboration.proofs.Keeping.{no_report-has}
 
 -- the signature after lines
 abbrev pub ExtendsWith : Signature → Lines → Type 0
 ExtendsWith S lines = Extends S lines.signature
-
-no_report-has : {A : Type 0} (P : A → Type 0) (S : Signature) (owner : Owner) (r : Result A ReportStop) → IfOk r P → IfOk (or_no_report S owner r) P
-no_report-has P S owner (Ok a) h = h
-no_report-has P S owner (Err e) h = tt
 
 enter_drafts-extends : (S : Signature) (name : List ℕ) (drafts : List Draft) (left : ℕ) → Answers (Extends S) (enter_drafts S name drafts left)
 enter_drafts-extends S name [] left = extends-same S

@@ -1,5 +1,4 @@
 pub mod Declarations
-pub mod ExtendedMentions
 pub mod ExtendedReports
 pub mod ExtendedFunctions
 pub mod UnmarkedEntries

@@ -1,16 +1,10 @@
 -- Entries that are no families leave the names of families and constructors without marks.
-use Rattle.std.proofs.Common.{◌≡◌, true, false, Bool, ◌&&◌, List, [], ◌∷◌, ◌++◌, All, refl, sym, subst as transport, arith}
+use Rattle.std.proofs.Common.{◌≡◌, true, List, [], ◌∷◌, ◌++◌, All, refl, sym, subst as transport}
 use Rattle.std.proofs.lemmas.List.Elements.{All-head, All-tail}
+use Rattle.std.proofs.lemmas.Bool.{and_parts, and_from}
 use Rattle.theory.specs.Signatures.{Entry, FamilyOf, EliminatorAt, AxiomKAt, Definition, Signature}
 use Rattle.draft_checks.specs.Checks.{all_unmarked, is_unmarked_entry, unmarked}
 use Rattle.draft_entering.specs.Conditions.{Extends, IsNoFamily}
-
-both : (a b : Bool) → (a && b) ≡ true → (a ≡ true) × (b ≡ true)
-both true b h = (refl, h)
-both false b h = absurd (grind arith)
-
-pub and-true : (a b : Bool) → a ≡ true → b ≡ true → (a && b) ≡ true
-and-true a b h k = transport (λ x. (x && b) ≡ true) (sym h) k
 
 plain-entry : (e : Entry) → IsNoFamily e → is_unmarked_entry e ≡ true
 plain-entry (FamilyOf f) h = absurd (h f refl)
@@ -21,14 +15,14 @@ plain-entry (Definition name type body) h = refl
 plain-entries : (entries : List Entry) → All IsNoFamily entries → all_unmarked entries ≡ true
 plain-entries [] h = refl
 plain-entries (e ∷ entries) h =
-    and-true (is_unmarked_entry e) (all_unmarked entries) (plain-entry e (All-head IsNoFamily e entries h))
+    and_from (is_unmarked_entry e) (all_unmarked entries) (plain-entry e (All-head IsNoFamily e entries h))
     (plain-entries entries (All-tail IsNoFamily e entries h))
 
 pub more-entries : (entries more : List Entry) → all_unmarked entries ≡ true → all_unmarked more ≡ true → all_unmarked (entries ++ more) ≡ true
 more-entries [] more h k = k
 more-entries (e ∷ entries) more h k =
-    let p = both (is_unmarked_entry e) (all_unmarked entries) h in
-    and-true (is_unmarked_entry e) (all_unmarked (entries ++ more)) p.0 (more-entries entries more p.1 k)
+    let p = and_parts (is_unmarked_entry e) (all_unmarked entries) h in
+    and_from (is_unmarked_entry e) (all_unmarked (entries ++ more)) p.0 (more-entries entries more p.1 k)
 
 pub stays-unmarked : (S T : Signature) → unmarked S ≡ true → Extends S T → unmarked T ≡ true
 stays-unmarked S T h more =

@@ -2,6 +2,7 @@
 use Rattle.std.proofs.Common.{◌≡◌, ℕ, Bool, true, false, ◌||◌, if◌then◌else◌, not, List, [], ◌∷◌, ◌++◌, map, length, Ok, Err, IfOk, refl, sym, ap, ap₂, subst as transport}
 use Rattle.std.specs.Prelude.{is_some, bytes_eq}
 use Rattle.std.specs.List.{list_any}
+use Rattle.std.proofs.lemmas.Bool.{and_from}
 use Rattle.theory.specs.Families.{Constructor, Family}
 use Rattle.theory.specs.Signatures.{FamilyOf, Signature}
 use Rattle.theory.specs.Signatures as signature
@@ -28,7 +29,7 @@ use Rattle.elab_session.specs.Declaring.{declare_of, resolve_family}
 use Rattle.elab_session.specs.Entering.{checked}
 use Rattle.elab_session.proofs.Resolved.{declare-has, or_unresolved-has}
 use Rattle.word_laws.specs.Words.{Each}
-use Rattle.declaration_laws.proofs.UnmarkedEntries.{and-true, more-entries}
+use Rattle.declaration_laws.proofs.UnmarkedEntries.{more-entries}
 
 -- the name holds no `!`
 abbrev IsFree : List ℕ → Type 0
@@ -72,13 +73,13 @@ family-named S x params ty cons =
 
 constructors-free : (cs : List Constructor) → Each IsFree (map (λ (c : Constructor). c.name) cs) → are_unmarked cs ≡ true
 constructors-free [] h = refl
-constructors-free (c ∷ cs) h = and-true (not (is_marked c.name)) (are_unmarked cs) (ap not h.0) (constructors-free cs h.1)
+constructors-free (c ∷ cs) h = and_from (not (is_marked c.name)) (are_unmarked cs) (ap not h.0) (constructors-free cs h.1)
 
 family-free : (f : Family) → Each IsFree (signature.names_of (FamilyOf f)) → is_unmarked_entry (FamilyOf f) ≡ true
-family-free f h = and-true (not (is_marked f.name)) (are_unmarked f.constructors) (ap not h.0) (constructors-free f.constructors h.1)
+family-free f h = and_from (not (is_marked f.name)) (are_unmarked f.constructors) (ap not h.0) (constructors-free f.constructors h.1)
 
 pushed-free : (S : Signature) (f : Family) → Each IsFree (signature.names_of (FamilyOf f)) → unmarked S ≡ true → unmarked (pushed S (FamilyOf f)) ≡ true
-pushed-free S f h plain = more-entries S.entries (FamilyOf f ∷ []) plain (and-true (is_unmarked_entry (FamilyOf f)) true (family-free f h) refl)
+pushed-free S f h plain = more-entries S.entries (FamilyOf f ∷ []) plain (and_from (is_unmarked_entry (FamilyOf f)) true (family-free f h) refl)
 
 entered-free : (S : Signature) (raw : RawFamily) → Each IsFree (raw_names raw) → unmarked S ≡ true → (e : Entered) → EntersAsDeclared S raw e
     → unmarked e.signature ≡ true

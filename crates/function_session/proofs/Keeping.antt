@@ -26,7 +26,7 @@ pub without_lines-has : (P : Elaborated → Type 0) (r : Result Declared session
 without_lines-has P (Ok d) h = h
 without_lines-has P (Err e) h = tt
 
-on_function-has : (P : Elaborated → Type 0) (r : Result Function ResolveStop) (go : Function → Result Elaborated Refused)
+pub on_function-has : (P : Elaborated → Type 0) (r : Result Function ResolveStop) (go : Function → Result Elaborated Refused)
     → ((f : Function) → r ≡ Ok f → IfOk (go f) P) → IfOk (on_function r go) P
 on_function-has P (Ok f) go h = h f refl
 on_function-has P (Err e) go h = tt

@@ -4,7 +4,7 @@ use Rattle.std.proofs.lemmas.Option.{slice_get_within}
 use Rattle.theory.specs.Terms.{Term, Var, Sort, Pi, Lam, App, Let, Const, Fam, Con, Elim, AxiomK}
 use Rattle.theory.specs.Signatures.{Signature, Definition}
 use Rattle.theory.specs.SignatureScopes.{HasEntries}
-use Rattle.theory.specs.WellFormed.{IsDefinition, IsEntry, IsWellFormed, pushed}
+use Rattle.theory.specs.WellFormed.{IsDefinition, IsWellFormed, pushed}
 use Rattle.theory.specs.WellFormed.IsEntry.{definition}
 use Rattle.core_terms.proofs.Answers.{Answers, and_next-has}
 use Rattle.core_terms.specs.declared.stop.Stop.{Stop}
@@ -18,18 +18,18 @@ use Rattle.family_check.proofs.Outcomes.{if_new-has}
 use Rattle.unification.proofs.Cases.{first-of_two}
 use Rattle.tree_translation.specs.Entries.{translate, function_entry}
 use Rattle.tree_translation.specs.Naming.{Naming, number_among, drafted_in_order}
-use Rattle.tree_translation.specs.Plans.{Plan, Part}
+use Rattle.tree_translation.specs.Plans.{Plan}
 use Rattle.tree_translation.specs.Recursion.{Recursion, recursion_of}
 use Rattle.tree_translation.proofs.Drafting.{in_order-is, entries-are}
-use Rattle.tree_translation.proofs.WrittenType.{function-typed, last-is}
-use Rattle.clause_reports.specs.DraftEntering.{enter_all, enter_draft_of, enter_entry, enter_mention, enter_needed, mentioned, Names}
-use Rattle.clause_reports.specs.Generated.{all_name}
+use Rattle.tree_translation.proofs.WrittenType.{function-typed, last-is, entries-kept}
+use Rattle.clause_reports.specs.DraftEntering.{enter_all, enter_draft_of, enter_entry, enter_needed, mentioned}
 use Rattle.clause_reports.specs.Stops as report
-use Rattle.clause_reports.specs.Stops.{ReportStop}
-use Rattle.clause_reports.proofs.Keeping.{Grows, GrowsTo, grows_same, grows_on, weaker, Any, any, entering-grows, enter_all-grows, enter_entry-grows, enter_mention-grows, enter_needed-grows}
-use Rattle.elaboration.specs.Refusals.{Owner, or_halts, or_no_report, owner_of, reporting}
+use Rattle.clause_reports.proofs.Keeping.{Grows, GrowsTo, grows_same, grows_on, weaker, Any, any, entering-grows, enter_all-grows, enter_entry-grows, enter_needed-grows, weaker-of-two}
+use Rattle.elaboration.specs.Refusals.{or_halts, owner_of, reporting}
 use Rattle.elaboration.specs.Functions.{enter_drafts, enter_plan, enter_values, first_domains, recursion_in}
+use Rattle.elaboration.proofs.Keeping.{no_report-has, enter_values-grows}
 use Rattle.elab_session.proofs.Resolved.{last-entry, prelude-stays}
+use Rattle.elab_session.proofs.WrittenDefinitions.{definition-of}
 
 -- ---- terms over a signature are not numbered anew
 
@@ -49,9 +49,6 @@ kept S r same (AxiomK i m) h = refl
 
 settled-kept : (S T : Signature) (names : List (List ℕ)) (t : Term) → HasEntries S t → renumbered (settled_number T (length S.entries) names) t ≡ t
 settled-kept S T names t h = kept S (settled_number T (length S.entries) names) (λ c lt. first-of_two c (length S.entries) c _ lt) t h
-
-among-kept : (S : Signature) (places : List ℕ) (t : Term) → HasEntries S t → renumbered (number_among (length S.entries) places) t ≡ t
-among-kept S places t h = kept S (number_among (length S.entries) places) (λ c lt. first-of_two c (length S.entries) c _ lt) t h
 
 -- ---- the function's draft
 
@@ -82,7 +79,7 @@ function-draft S plan r d at scoped h =
       entry =
           t.entry
           ∙ ap (λ type. Definition plan.name type t.body)
-          (transport (λ base. renumbered (number_among base t.places) plan.type ≡ plan.type) (sym at) (among-kept S t.places plan.type scoped));
+          (transport (λ base. renumbered (number_among base t.places) plan.type ≡ plan.type) (sym at) (entries-kept S t.places plan.type scoped));
       same_base = (function-based S plan r d h).same_base;
     }
 
@@ -128,9 +125,6 @@ own-after S T U name type h g = record {
   entered = grows_on (pushed h.before (Definition name type h.body)) T U h.entered g;
 }
 
-definition-of : {S : Signature} {name : List ℕ} {type body : Term} → IsEntry S (Definition name type body) → IsDefinition S type body
-definition-of (definition h) = h
-
 prelude-grows : (S T : Signature) → Grows S T → HasPrelude S → HasPrelude T
 prelude-grows S T g p = prelude-stays S T p g.prefix
 
@@ -155,15 +149,11 @@ rejected-has : (P : Entered → Type 0) (S : Signature) (name : List ℕ) (type 
 rejected-has P S name type body (Ok e) h = h
 rejected-has P S name type body (Err e) h = tt
 
-both : {A E : Type 0} (P Q Z : A → Type 0) (r : Result A E) → IfOk r P → IfOk r Q → ((a : A) → P a → Q a → Z a) → IfOk r Z
-both P Q Z (Ok a) p q k = k a p q
-both P Q Z (Err e) p q k = tt
-
 definition-enters : (S : Signature) (name : List ℕ) (type body : Term) (left : ℕ)
     → Answers (λ (e : Entered). HasOwn S name type e.signature) (enter_entry S (Definition name type body) left)
 definition-enters S name type body left =
     let d = Definition name type body in
-    both (λ (e : Entered). e ≡ entered S d) (GrowsTo S) (λ (e : Entered). HasOwn S name type e.signature) (enter_entry S d left).0
+    weaker-of-two (λ (e : Entered). e ≡ entered S d) (GrowsTo S) (λ (e : Entered). HasOwn S name type e.signature) (enter_entry S d left).0
     (rejected-has (λ (e : Entered). e ≡ entered S d) S name type body (define_of S name type body left).0 (define-enters S name type body left))
     (enter_entry-grows S d left)
     (λ e is g. record {
@@ -188,10 +178,6 @@ own-enters S T name type d left scoped own =
     (weaker (λ (e : Entered). HasOwn U name type e.signature) P (enter_entry U (Definition name type (renumbered r own.body)) rest).0
     (λ e h. own-before T U e.signature name type g h) (definition-enters U name type (renumbered r own.body) rest)))
 
-no_report-has : {A : Type 0} (P : A → Type 0) (S : Signature) (owner : Owner) (r : Result A ReportStop) → IfOk r P → IfOk (or_no_report S owner r) P
-no_report-has P S owner (Ok a) h = h
-no_report-has P S owner (Err e) h = tt
-
 drafts-enter : (S T : Signature) (function name : List ℕ) (type : Term) (before : List Draft) (last : Draft) (left : ℕ)
     → HasEntries S type → IsOwnDraft (length S.entries) name type last
     → Answers (HasOwn T name type) (enter_drafts T function (before ++ last ∷ []) left)
@@ -207,15 +193,7 @@ drafts-enter S T function name type (d ∷ before) last left scoped own =
     (λ U h. own-before T e.signature U name type g h)
     (drafts-enter S e.signature function name type before last rest scoped own))
 
-values-grow : (S : Signature) (plan : Plan) (r : Option Recursion) (parts : List Part) (left : ℕ) → Answers (Grows S) (enter_values S plan r parts left)
-values-grow S plan None parts left = grows_same S
-values-grow S plan (Some r) [] left = grows_same S
-values-grow S plan (Some r) (own ∷ []) left = grows_same S
-values-grow S plan (Some r) (own ∷ helper ∷ helpers) left =
-    let m = Names (all_name r.family plan.level) in
-    no_report-has (Grows S) S (owner_of plan.name 0) (enter_mention enter_needed S m left).0 (enter_mention-grows enter_needed enter_needed-grows S m left)
-
-halts-is : {A : Type 0} (r : Result A Stop) → IfOk (or_halts r) (λ a. r ≡ Ok a)
+pub halts-is : {A : Type 0} (r : Result A Stop) → IfOk (or_halts r) (λ a. r ≡ Ok a)
 halts-is (Ok a) = refl
 halts-is (Err e) = tt
 
@@ -230,4 +208,4 @@ plan-enters S plan left at scoped =
     and_next-has P P (enter_drafts S plan.name drafts rest) _
     (transport (λ ds. Answers P (enter_drafts S plan.name ds rest)) (sym o.whole)
     (drafts-enter S S plan.name plan.name plan.type o.before o.last rest scoped own)) (λ T end h.
-    weaker (Grows T) P (enter_values T plan r plan.parts end).0 (λ U g. own-after S T U plan.name plan.type h g) (values-grow T plan r plan.parts end)))
+    weaker (Grows T) P (enter_values T plan r plan.parts end).0 (λ U g. own-after S T U plan.name plan.type h g) (enter_values-grows T plan r plan.parts end)))

@@ -38,7 +38,7 @@ pub record HasWalks (count : ℕ) (parts : List Clauses) (given : Given) : Type 
   pub walks : length given.walks ≡ count
   pub helpers : walk_counts given.helpers ≡ map count_of parts
 
-after_dots-has : {A : Type 0} (P : A → Type 0) (S : Signature) (owner : Owner) (context : Telescope) (dots : List (Term × Term)) (next : ℕ → Elaborating A) (left : ℕ)
+pub after_dots-has : {A : Type 0} (P : A → Type 0) (S : Signature) (owner : Owner) (context : Telescope) (dots : List (Term × Term)) (next : ℕ → Elaborating A) (left : ℕ)
     → ((rest : ℕ) → Answers P (next rest)) → Answers P (after_dots S owner context dots next left)
 after_dots-has P S owner context [] next left h = h left
 after_dots-has P S owner context (d ∷ dots) next left h =

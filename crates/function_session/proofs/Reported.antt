@@ -1,5 +1,5 @@
 -- The lines of a plan: one for each walk, in order, over a signature that goes on.
-use Rattle.std.proofs.Common.{◌≡◌, ℕ, ◌+◌, List, [], ◌∷◌, ◌++◌, map, length, Result, Ok, Err, IfOk, refl, ap}
+use Rattle.std.proofs.Common.{◌≡◌, ℕ, ◌+◌, List, [], ◌∷◌, ◌++◌, map, length, Ok, refl, ap}
 use Rattle.std.proofs.lemmas.List.Elements.{All-weaker}
 use Rattle.theory.specs.Conversion.{Converts}
 use Rattle.theory.specs.Signatures.{Signature, IsPrefix}
@@ -10,20 +10,16 @@ use Rattle.tree_translation.specs.Plans.{Plan, Part}
 use Rattle.clause_reports.specs.Equations.{Equation, part_at, part_named}
 use Rattle.clause_reports.specs.Reports.{Line, Definitional, Proved, Shadowed, Absurd, Reference, Reported, order_in, report_of}
 use Rattle.clause_reports.specs.Shadows.{TreeLeaf, equation_at_leaf, leaves_of}
-use Rattle.clause_reports.specs.Stops.{ReportStop}
-use Rattle.clause_reports.proofs.Keeping.{Grows, grows_same, grows_on}
+use Rattle.clause_reports.proofs.Keeping.{Grows, grows_same, grows_on, weaker-of-two}
 use Rattle.clause_reports.proofs.Lines.{Said, report-says}
 use Rattle.clause_reports.proofs.Lines as found
 use Rattle.clause_reports.proofs.ReportKeeping.{GrowsBy, report-grows}
 use Rattle.elaboration.specs.Functions.{ClauseLine, Following, Lines, report_parts, report_walks, with_line}
-use Rattle.elaboration.specs.Refusals.{Owner, or_no_report, owner_of, reporting}
+use Rattle.elaboration.specs.Refusals.{Owner, owner_of, reporting}
+use Rattle.elaboration.proofs.Keeping.{no_report-has}
 use Rattle.function_session.specs.Evidence.{AreLinesOf, HasConverting, Says, line_owner, references, references_from}
 use Rattle.function_session.proofs.Counting.{numbered, numbered_from}
 use Rattle.function_session.proofs.Planned.{part_counts}
-
-no_report-has : {A : Type 0} (P : A → Type 0) (S : Signature) (owner : Owner) (r : Result A ReportStop) → IfOk r P → IfOk (or_no_report S owner r) P
-no_report-has P S owner (Ok a) h = h
-no_report-has P S owner (Err e) h = tt
 
 -- ---- what a line says
 
@@ -102,10 +98,6 @@ one-more S plan c clauses owners r lines g said h = record {
   );
 }
 
-both : {A E : Type 0} (P Q Z : A → Type 0) (r : Result A E) → IfOk r P → IfOk r Q → ((a : A) → P a → Q a → Z a) → IfOk r Z
-both P Q Z (Ok a) p q k = k a p q
-both P Q Z (Err e) p q k = tt
-
 -- a report grows the signature, and says what holds
 pub record Told (S : Signature) (plan : Plan) (c : Reference) (r : Reported) : Type 0 where
   pub grows : Grows S r.signature
@@ -113,7 +105,7 @@ pub record Told (S : Signature) (plan : Plan) (c : Reference) (r : Reported) : T
 
 report-told : (S : Signature) (plan : Plan) (c : Reference) (left : ℕ) → Answers (Told S plan c) (report_of S plan c left)
 report-told S plan c left =
-    both (GrowsBy S) (Said S plan c) (Told S plan c) (report_of S plan c left).0 (report-grows S plan c left) (report-says S plan c left)
+    weaker-of-two (GrowsBy S) (Said S plan c) (Told S plan c) (report_of S plan c left).0 (report-grows S plan c left) (report-says S plan c left)
     (λ r g said. record { grows = g; said = said })
 
 walks-report : (plan : Plan) (k number : ℕ) (walks : List Walk) (next : Following) (clauses : List Reference) (owners : List Owner)

@@ -72,7 +72,7 @@ function-scoped S d f is =
 
 -- ---- functions that are accepted
 
-granted-has : (P : Term → Type 0) (S : Signature) (part : Part) (asked : Result Verdict Stop) → IfOk asked (λ v. IfYes v P) → IfOk (or_ill_typed S part asked) P
+pub granted-has : (P : Term → Type 0) (S : Signature) (part : Part) (asked : Result Verdict Stop) → IfOk asked (λ v. IfYes v P) → IfOk (or_ill_typed S part asked) P
 granted-has P S part (Ok (Yes type)) h = h
 granted-has P S part (Ok (No d)) h = tt
 granted-has P S part (Err e) h = tt
@@ -95,7 +95,7 @@ record IsPlanned (S : Signature) (f : Function) (level left : ℕ) (plan : Plan)
   pub is : IsPlanOf S f plan
   pub planned : (plan_of S f level left).0 ≡ Ok plan
 
-itself : {A E : Type 0} (P Z : A → Type 0) (r : Result A E) → IfOk r P → ((a : A) → P a → r ≡ Ok a → Z a) → IfOk r Z
+pub itself : {A E : Type 0} (P Z : A → Type 0) (r : Result A E) → IfOk r P → ((a : A) → P a → r ≡ Ok a → Z a) → IfOk r Z
 itself P Z (Ok a) p k = k a p refl
 itself P Z (Err e) p k = tt
 

@@ -1,6 +1,5 @@
 -- The lines of a function, and of a declaration.
-use Rattle.std.proofs.Common.{◌≡◌, ℕ, ◌+◌, ◌≤◌, List, [], ◌∷◌, length, length-append, Result, Ok, Err, IfOk, refl, sym, ap, subst as transport, arith}
-use Rattle.theory.specs.Terms.{Term}
+use Rattle.std.proofs.Common.{◌≡◌, ℕ, [], Ok, sym, subst as transport, arith}
 use Rattle.theory.specs.Signatures.{Definition, Signature}
 use Rattle.theory.specs.SignatureScopes.{HasEntries}
 use Rattle.theory.specs.WellFormed.{IsWellFormed, pushed}
@@ -19,7 +18,7 @@ use Rattle.function_lines.proofs.Provisional.{provisional-over}
 use Rattle.function_lines.specs.Conditions.{IsFunctionOver}
 use Rattle.function_session.proofs.Keeping.{function-has}
 use Rattle.function_session.proofs.OwnEntry.{HasOwn, plan-enters}
-use Rattle.function_session.proofs.Written.{function-scoped}
+use Rattle.function_session.proofs.Written.{function-scoped, itself}
 use Rattle.function_session.specs.Elaborating.{with_lines}
 use Rattle.function_session.specs.Evidence.{references_from}
 use Rattle.resolve.specs.Functions.{Function}
@@ -27,19 +26,7 @@ use Rattle.line_laws.specs.Laws.{DeclarationReports, FunctionReports, HasReports
 use Rattle.line_laws.proofs.PlanWalks.{IsPlanScoped, plan-scoped}
 use Rattle.line_laws.proofs.Reports.{AreReports, IsBase, lines-from, parts-report}
 use Rattle.written_functions.specs.Clauses.{with_own}
-
--- what grows is longer
-pushed-longer : (S B T : Signature) (name : List ℕ) (type body : Term) → Grows S B → Grows (pushed B (Definition name type body)) T
-    → length S.entries + 1 ≤ length T.entries
-pushed-longer S B T name type body g h =
-    omega (
-      arith,
-      ap length g.prefix.entries,
-      length-append S.entries g.prefix.more,
-      ap length h.prefix.entries,
-      length-append (pushed B (Definition name type body)).entries h.prefix.more,
-      length-append B.entries (Definition name type body ∷ []),
-    )
+use Rattle.written_functions.proofs.Functions.{pushed-longer}
 
 grown : (S T : Signature) (f : Function) (plan : Plan) → IsPlanScoped S f plan → HasOwn S plan.name plan.type T → Grows S T
 grown S T f plan p h =
@@ -58,10 +45,6 @@ base-there S T f plan p well first h = record {
 record IsKnown (S : Signature) (f : Function) (level left : ℕ) (plan : Plan) : Type 0 where
   scoped : IsPlanScoped S f plan
   planned : (plan_of S f level left).0 ≡ Ok plan
-
-itself : {A E : Type 0} (P Z : A → Type 0) (r : Result A E) → IfOk r P → ((a : A) → P a → r ≡ Ok a → Z a) → IfOk r Z
-itself P Z (Ok a) p k = k a p refl
-itself P Z (Err e) p k = tt
 
 plan-known : (S : Signature) (f : Function) (level left : ℕ) → IsFunctionOver (with_own S f) f → Answers (IsKnown S f level left) (plan_of S f level left)
 plan-known S f level left over =

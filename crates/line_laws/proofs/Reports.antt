@@ -1,10 +1,9 @@
 -- The lines of a plan are the reports of its clauses, and say what they say without more.
-use Rattle.std.proofs.Common.{◌≡◌, ℕ, ◌+◌, ◌<◌, ◌≤◌, Bool, true, false, cond, List, [], ◌∷◌, ◌++◌, length, length-append, Result, Ok, Err, IfOk, refl, ap, subst as transport, arith}
+use Rattle.std.proofs.Common.{◌≡◌, ℕ, ◌+◌, ◌<◌, ◌≤◌, true, List, [], ◌∷◌, ◌++◌, length, length-append, Result, Ok, Err, IfOk, refl, subst as transport, arith}
 use Rattle.std.specs.List.{All}
 use Rattle.std.proofs.lemmas.List.Elements.{All-head, All-tail}
-use Rattle.theory.specs.Terms.{Term}
-use Rattle.theory.specs.Signatures.{Definition, IsPrefix, Signature}
-use Rattle.theory.specs.WellFormed.{IsDefinition, IsEntry, IsWellFormed, definition}
+use Rattle.theory.specs.Signatures.{IsPrefix, Signature}
+use Rattle.theory.specs.WellFormed.{IsWellFormed, definition}
 use Rattle.theory.proofs.Pushing.{prefix_reflexive, prefix_transitive}
 use Rattle.theory.proofs.Widening.{prefix_keeps}
 use Rattle.core_terms.proofs.Answers.{Answers, and_next-has}
@@ -13,14 +12,17 @@ use Rattle.case_trees.specs.Scoped.{IsScopedWalk}
 use Rattle.tree_translation.specs.Plans as plans
 use Rattle.tree_translation.specs.Plans.{Part, Plan}
 use Rattle.elab_session.proofs.Resolved.{prelude-stays}
+use Rattle.elab_session.proofs.WrittenDefinitions.{definition-of}
 use Rattle.clause_reports.proofs.Keeping.{Grows, grows_on, grows_same}
 use Rattle.clause_reports.proofs.Lines as found
 use Rattle.clause_reports.proofs.ReportKeeping.{GrowsBy, report-grows}
 use Rattle.clause_reports.specs.Equations.{part_at, part_named, pats_of}
-use Rattle.clause_reports.specs.Reports.{Absurd, Line, Reference, Reported, equation_report, report_of, reported, some_absurd}
-use Rattle.clause_reports.specs.Stops.{ReportStop, answers}
+use Rattle.clause_reports.specs.Reports.{Absurd, Line, Reference, Reported, report_of, reported, some_absurd}
+use Rattle.clause_reports.specs.Stops.{ReportStop}
+use Rattle.clause_reports.proofs.LineLaws.{absurd-line}
 use Rattle.elaboration.specs.Functions.{ClauseLine, Following, Lines, report_parts, report_walks, with_line}
-use Rattle.elaboration.specs.Refusals.{Owner, or_no_report, owner_of, reporting}
+use Rattle.elaboration.specs.Refusals.{owner_of, reporting}
+use Rattle.elaboration.proofs.Keeping.{no_report-has}
 use Rattle.family_check.specs.Scopes.{HasPrelude}
 use Rattle.function_session.specs.Evidence.{references, references_from}
 use Rattle.resolve.specs.Functions.{Function}
@@ -30,6 +32,7 @@ use Rattle.line_laws.proofs.PlanWalks.{AreScopedWalks, IsPlanScoped}
 use Rattle.written_functions.proofs.Proofs.{IsClosedUnder, IsProvedBy, SaysProved, report-says}
 use Rattle.written_functions.proofs.Sides.{IsWalkUnder, type-under}
 use Rattle.written_functions.specs.Clauses.{with_own}
+use Rattle.written_functions.proofs.Tellings.{prefix-longer}
 
 -- ---- signatures on the way
 
@@ -39,9 +42,6 @@ pub record IsBase (plan : Plan) (U : Signature) : Type 0 where
   pub prelude : HasPrelude U
   pub low : plan.base < length U.entries
 
-prefix-longer : (S T : Signature) → IsPrefix S T → length S.entries ≤ length T.entries
-prefix-longer S T h = omega (arith, ap length h.entries, length-append S.entries h.more)
-
 base-grows : (plan : Plan) (U V : Signature) → Grows U V → IsBase plan U → IsBase plan V
 base-grows plan U V g b = record {
   well = g.keeps b.well b.prelude;
@@ -50,19 +50,6 @@ base-grows plan U V g b = record {
 }
 
 -- ---- one clause
-
--- a clause with `( )` has the line Absurd
-absurd-line : (S : Signature) (plan : Plan) (c : Reference) (left : ℕ)
-    → Answers (λ r. some_absurd (pats_of (part_at plan c.part) c.clause) ≡ true → r.line ≡ Absurd) (report_of S plan c left)
-absurd-line S plan c left = by (some_absurd (pats_of (part_at plan c.part) c.clause))
-  where
-    never : {E : Type 0} (r : Result Reported E) → IfOk r (λ x. false ≡ true → x.line ≡ Absurd)
-    never (Ok x) = λ no. absurd (cc)
-    never (Err e) = tt
-
-    by : (b : Bool) → Answers (λ r. b ≡ true → r.line ≡ Absurd) (cond b (answers (Ok (reported S Absurd)) left) (equation_report S plan c left))
-    by true = λ yes. refl
-    by false = never (equation_report S plan c left).0
 
 -- what is known of a clause's report
 record IsTold (U : Signature) (plan : Plan) (c : Reference) (left : ℕ) (r : Reported) : Type 0 where
@@ -81,9 +68,6 @@ report-told U plan c left under =
         → IfOk r (λ r. some_absurd (pats_of (part_at plan c.part) c.clause) ≡ true → r.line ≡ Absurd) → IfOk r (IsTold U plan c left)
     by (Ok r) is g p s a = record { is = is; grows = g; proved = p; said = s; absurd_line = a }
     by (Err e) is g p s a = tt
-
-definition-of : {S : Signature} {name : List ℕ} {type body : Term} → IsEntry S (Definition name type body) → IsDefinition S type body
-definition-of (definition h) = h
 
 -- an entry that proves the equation has its type by the rules, in each later signature
 proof-in : (U V T : Signature) (plan : Plan) (c : Reference) (n : ℕ) → IsPrefix V T → IsWellFormed T → IsProvedBy U plan c V n → IsProof U plan c T n
@@ -146,10 +130,6 @@ pub record AreReports (U : Signature) (plan : Plan) (cs : List Reference) (lines
 -- ones that follow
 abbrev AllReport : Plan → List Reference → Following → Type 0
 AllReport plan cs next = (U : Signature) (left : ℕ) → IsBase plan U → Answers (AreReports U plan cs) (next U left)
-
-no_report-has : {A : Type 0} (P : A → Type 0) (S : Signature) (owner : Owner) (r : Result A ReportStop) → IfOk r P → IfOk (or_no_report S owner r) P
-no_report-has P S owner (Ok a) h = h
-no_report-has P S owner (Err e) h = tt
 
 one-more : (U : Signature) (plan : Plan) (c : Reference) (cs : List Reference) (left : ℕ) (r : Reported) (lines : Lines) → IsBase plan U
     → IsTold U plan c left r → AreReports r.signature plan cs lines → AreReports U plan (c ∷ cs) (with_line (line_at plan c r.line) lines)

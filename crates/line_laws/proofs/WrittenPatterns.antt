@@ -4,13 +4,10 @@ use Rattle.theory.specs.Signatures.{Signature}
 use Rattle.theory.proofs.Lists.{some_is}
 use Rattle.core_terms.proofs.Answers.{Answers, and_next-has, split-parts}
 use Rattle.core_terms.specs.Clauses as clause
-use Rattle.core_terms.specs.Clauses.{Clauses, Right, Is}
+use Rattle.core_terms.specs.Clauses.{Clauses}
 use Rattle.core_terms.specs.Patterns as pattern
-use Rattle.core_terms.specs.Patterns.{Pats}
 use Rattle.structural_rec.specs.Choices.{choose}
-use Rattle.case_trees.specs.Places.{clause_at}
 use Rattle.case_trees.specs.Trees.{split_of}
-use Rattle.tree_translation.specs.Conditions.{patterns_of}
 use Rattle.tree_translation.specs.Entries.{ordered_variables}
 use Rattle.tree_translation.specs.Plans.{Part, Plan, no_part}
 use Rattle.tree_translation.specs.Recursion.{Recursion, order_of, ordered_telescope, ordered_term}
@@ -29,6 +26,7 @@ use Rattle.refusal_laws.specs.Parts.{own}
 use Rattle.refusal_laws.proofs.WalkCauses.{AreHelpers, GivesHelpers, all-from, all-listed, clauses-caused}
 use Rattle.line_laws.specs.Laws.{HasWrittenPatterns, PatternsAreWritten}
 use Rattle.written_functions.specs.Clauses.{with_own, parts_of}
+use Rattle.written_functions.proofs.PlanClauses.{clause-pats}
 
 -- ---- helpers
 
@@ -84,12 +82,6 @@ part-pats (c ∷ lists) (p ∷ parts) zero cs h e = h.0 ∙ ap patterns_in (some
 part-pats (c ∷ lists) (p ∷ parts) (suc k) cs h e = part-pats lists parts k cs h.1 e
 part-pats [] (p ∷ parts) k cs h e = absurd h
 part-pats (c ∷ lists) [] k cs h e = absurd h
-
-clause-pats : (cs : Clauses) (number binds : ℕ) (pats : Pats) (right : Right) → clause_at cs number ≡ Some (Is pats binds right)
-    → get_or (patterns_in cs) number pattern.nil ≡ pats
-clause-pats clause.nil number binds pats right e = absurd (cc)
-clause-pats (clause.cons (Is ps n r) cs) zero binds pats right e = ap patterns_of (some_is e)
-clause-pats (clause.cons (Is ps n r) cs) (suc number) binds pats right e = clause-pats cs number binds pats right e
 
 -- ---- the plan
 

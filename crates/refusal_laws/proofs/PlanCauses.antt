@@ -1,5 +1,5 @@
 -- The position of recursion and the trees of a function: what they refuse has its cause.
-use Rattle.std.proofs.Common.{◌≡◌, ℕ, ◌+◌, ◌&&◌, Bool, true, false, cond, Option, Some, None, option_and_then, Result, Ok, Err, IfErr, List, [], ◌∷◌, length, refl, sym, ap, ◌∙◌, subst as transport, arith}
+use Rattle.std.proofs.Common.{◌≡◌, ℕ, ◌+◌, ◌&&◌, Bool, true, false, cond, Option, Result, Ok, Err, IfErr, List, [], ◌∷◌, length, refl, sym, ap, ◌∙◌, subst as transport, arith}
 use Rattle.theory.specs.Terms.{Term}
 use Rattle.theory.specs.Telescopes.{Telescope}
 use Rattle.theory.specs.Signatures.{Signature}
@@ -18,7 +18,7 @@ use Rattle.case_trees.specs.Trees.{split_of}
 use Rattle.order_scopes.proofs.RecursionOrders.{recursion-ordered}
 use Rattle.order_scopes.specs.Laws.{begins_closed}
 use Rattle.tree_translation.specs.Entries.{ordered_variables}
-use Rattle.tree_translation.specs.Recursion.{Recursion, order_of, ordered_telescope, ordered_term, recursion_at}
+use Rattle.tree_translation.specs.Recursion.{Recursion, order_of, ordered_telescope, ordered_term}
 use Rattle.clause_reports.proofs.Keeping.{Any}
 use Rattle.clause_reports.specs.Equations.{part_named}
 use Rattle.elaboration.specs.Functions.{helpers_finished, own_finished, own_part, plan_of, position_chosen, recursion_in}
@@ -43,6 +43,7 @@ use Rattle.refusal_laws.proofs.Ends.{end-caused}
 use Rattle.refusal_laws.proofs.PartScopes.{part-walkable}
 use Rattle.refusal_laws.proofs.WalkCauses.{AreHelpers, GivesHelpers, all-from, all-listed, clauses-caused, halting-is, splits-any}
 use Rattle.written_functions.specs.Clauses.{with_own}
+use Rattle.written_functions.proofs.MadeClosed.{in-is}
 
 -- ---- trees
 
@@ -73,11 +74,6 @@ helpers-caused S f r level number (w ∷ helpers) left over h =
     (clauses-for T w.part.terms w.clauses walkable.fitting) (from_columns number w.part h.0.0))) (λ t rest u.
     let others = helpers_finished (session_at S f) r level (number + 1) helpers rest in
     next-refuses Any N others _ (splits-any N others.0 (helpers-caused S f r level (number + 1) helpers rest over h.1)) (λ parts end v. tt))
-
--- the recursion at a position that there may be
-in-is : (T : Signature) (tele : Telescope) (position : Option ℕ) → option_and_then (recursion_at T tele) position ≡ recursion_in T tele position
-in-is T tele None = refl
-in-is T tele (Some j) = refl
 
 own-at : (S : Signature) (f : Function) (level : ℕ) → IsPartAt S f 0 (own_part f level) f.clauses
 own-at S f level = record { is = own level; listed = refl }

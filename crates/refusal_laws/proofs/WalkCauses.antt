@@ -1,11 +1,12 @@
 -- The walks of a function's clauses: what they refuse has its cause, and what they give are the helpers of the function.
-use Rattle.std.proofs.Common.{◌≡◌, inr, ℕ, zero, suc, ◌+◌, ◌<◌, Bool, true, false, cond, nat_lt, Some, Result, Ok, Err, IfOk, IfErr, List, [], ◌∷◌, ◌++◌, length, length-append, reverse, slice_get, refl, sym, ap, ap₂, ◌∙◌, subst as transport, arith}
+use Rattle.std.proofs.Common.{◌≡◌, inr, ℕ, suc, ◌+◌, ◌<◌, Bool, true, false, cond, nat_lt, Some, Result, Ok, Err, IfOk, IfErr, List, [], ◌∷◌, ◌++◌, length, length-append, reverse, slice_get, refl, sym, ap, ap₂, ◌∙◌, subst as transport, arith}
 use Rattle.std.proofs.lemmas.Bool.Decides.{nat_tests}
 use Rattle.std.proofs.lemmas.List.Elements.{All-append, All-cons, All-nil}
 use Rattle.std.specs.List.{All}
 use Rattle.theory.specs.Terms.{Term, Sort}
 use Rattle.theory.specs.Telescopes.{products}
 use Rattle.theory.specs.Signatures.{Signature}
+use Rattle.theory.proofs.Lists.{slice_get-longer}
 use Rattle.core_terms.specs.Answers.{bounded}
 use Rattle.core_terms.proofs.Answers.{Splits, and_next-splits}
 use Rattle.core_terms.specs.CaseTrees.{Walk}
@@ -45,12 +46,6 @@ use Rattle.written_functions.specs.Clauses.{with_own, parts_of}
 
 -- ---- numbers
 
-first-part : {A : Type 0} (xs ys : List A) (i : ℕ) (a : A) → slice_get xs i ≡ Some a → slice_get (xs ++ ys) i ≡ Some a
-first-part [] ys zero a e = absurd (cc)
-first-part [] ys (suc i) a e = absurd (cc)
-first-part (x ∷ xs) ys zero a e = e
-first-part (x ∷ xs) ys (suc i) a e = first-part xs ys i a e
-
 second-part : {A : Type 0} (xs ys : List A) (i : ℕ) (a : A) → slice_get ys i ≡ Some a → slice_get (xs ++ ys) (length xs + i) ≡ Some a
 second-part [] ys i a e = transport (λ n. slice_get ys n ≡ Some a) (let same : i ≡ 0 + i = omega arith in same) e
 second-part (x ∷ xs) ys i a e =
@@ -70,7 +65,7 @@ listed-rest f next cs lists h =
     λ i c e. transport (λ n. slice_get (parts_of f) n ≡ Some c) (let same : next + suc i ≡ next + 1 + i = omega arith in same) (h (suc i) c e)
 
 listed-left : (f : Function) (next : ℕ) (xs ys : List Clauses) → AreListed f next (xs ++ ys) → AreListed f next xs
-listed-left f next xs ys h = λ i c e. h i c (first-part xs ys i c e)
+listed-left f next xs ys h = λ i c e. h i c (slice_get-longer xs ys i c e)
 
 listed-right : (f : Function) (next count : ℕ) (xs ys : List Clauses) → count ≡ length xs → AreListed f next (xs ++ ys) → AreListed f (next + count) ys
 listed-right f next count xs ys same h =

@@ -1,5 +1,5 @@
 -- A function by clauses that is accepted is as it is written.
-use Rattle.std.proofs.Common.{◌≡◌, ℕ, zero, suc, ◌+◌, ◌<◌, ◌≤◌, List, [], ◌∷◌, drop, length, length-append, Result, Ok, Err, IfOk, refl, sym, ap, ◌∙◌, subst as transport, arith}
+use Rattle.std.proofs.Common.{◌≡◌, ℕ, zero, suc, ◌+◌, ◌<◌, ◌≤◌, List, [], ◌∷◌, drop, length, length-append, Ok, Err, IfOk, refl, sym, ap, ◌∙◌, subst as transport, arith}
 use Rattle.theory.specs.Terms.{Term}
 use Rattle.theory.specs.Signatures.{Definition, IsPrefix, Signature}
 use Rattle.theory.specs.SignatureScopes.{HasEntries}
@@ -18,21 +18,22 @@ use Rattle.tree_translation.specs.Naming.{helper_name}
 use Rattle.tree_translation.specs.Plans.{Plan}
 use Rattle.clause_reports.specs.Equations.{part_named}
 use Rattle.theory.proofs.Lists.{slice_get-last}
-use Rattle.clause_reports.proofs.Keeping.{Grows, grows_on, weaker}
+use Rattle.clause_reports.proofs.Keeping.{Grows, grows_on, weaker, weaker-of-two}
 use Rattle.elaboration.specs.Functions.{Lines, enter_plan, function_level, function_of, plan_of, report_parts}
 use Rattle.elaboration.specs.Refusals.{Elaborating, OfType, answers, granted}
 use Rattle.family_check.specs.Scopes.{HasPrelude}
+use Rattle.equation_laws.proofs.LeftShowing.{ok-is}
 use Rattle.function_lines.proofs.FunctionAnswers.{function-answers}
 use Rattle.function_lines.proofs.Provisional.{provisional-over}
 use Rattle.function_lines.specs.Conditions.{IsFunctionOver}
 use Rattle.function_lines.specs.FunctionMade.{function_made, level_of}
 use Rattle.function_session.proofs.OwnEntry.{HasOwn, own-typed, plan-enters}
 use Rattle.function_session.proofs.Written.{elaborates-written, function-new, function-scoped}
-use Rattle.function_session.specs.Elaborating.{Elaborated, Refused, elaborate_function, enter_function, on_function, on_lines, with_lines}
+use Rattle.function_session.specs.Elaborating.{Elaborated, elaborate_function, enter_function, on_function, on_lines, with_lines}
 use Rattle.function_session.specs.Laws.{IsWrittenFunction}
+use Rattle.function_session.proofs.Keeping.{on_function-has}
 use Rattle.elab_session.specs.Declaring.{accepted_as}
 use Rattle.resolve.specs.Functions.{Function, function}
-use Rattle.resolve.specs.declared.stop.ResolveStop.{ResolveStop}
 use Rattle.written_functions.specs.Clauses.{AreLinesOf, Start, parts_of, placed_from}
 use Rattle.written_functions.specs.Functions.{IsByClauses}
 use Rattle.written_functions.specs.Laws.{FunctionsAreByClauses}
@@ -44,10 +45,6 @@ use Rattle.written_functions.proofs.PlanGiven.{IsPlanGiven, helpers-count, plan-
 use Rattle.written_functions.proofs.Tellings.{IsBase, Tells, parts-tell}
 
 -- ---- the function
-
-both : {A E : Type 0} (P Q Z : A → Type 0) (r : Result A E) → IfOk r P → IfOk r Q → ((a : A) → P a → Q a → Z a) → IfOk r Z
-both P Q Z (Ok a) p q k = k a p q
-both P Q Z (Err e) p q k = tt
 
 -- what is said of the lines of a function
 record IsTold (S : Signature) (f : Function) (l : Lines) : Type 0 where
@@ -64,7 +61,7 @@ named S f plan T is h =
     transport (λ name. HasOwn S name f.type T) is.name (transport (λ type. HasOwn S plan.name type T) is.type h)
 
 -- what grows is longer
-pushed-longer : (S B T : Signature) (name : List ℕ) (type body : Term) → Grows S B → Grows (pushed B (Definition name type body)) T
+pub pushed-longer : (S B T : Signature) (name : List ℕ) (type body : Term) → Grows S B → Grows (pushed B (Definition name type body)) T
     → length S.entries + 1 ≤ length T.entries
 pushed-longer S B T name type body g h =
     omega (
@@ -122,17 +119,12 @@ function-told S f fuel well first entries over closed =
     and_next-has (IsPlanGiven S f) P (plan_of S f level found.1) _ (plan-given S f level found.1 over (closed level found.1 same)) (λ plan end h.
     let Q : Signature → Type 0 = λ T. HasOwn S plan.name plan.type T × HasHelpers plan T in
     and_next-has Q P (enter_plan S plan end) _
-    (both (HasOwn S plan.name plan.type) (HasHelpers plan) Q (enter_plan S plan end).0
+    (weaker-of-two (HasOwn S plan.name plan.type) (HasHelpers plan) Q (enter_plan S plan end).0
     (plan-enters S plan end h.base (transport (HasEntries S) (sym h.type) entries)) (helpers-enter S plan end) (λ T own helpers. (own, helpers)))
     (λ T last own.
     plan-told S f plan T last well first h own.0 own.1))))
 
 -- ---- the declaration
-
-on_function-has : (P : Elaborated → Type 0) (r : Result Function ResolveStop) (go : Function → Result Elaborated Refused)
-    → ((f : Function) → r ≡ Ok f → IfOk (go f) P) → IfOk (on_function r go) P
-on_function-has P (Ok f) go h = h f refl
-on_function-has P (Err e) go h = tt
 
 -- the lines that are made are those that are meant, where they are made
 made-has : (P : Elaborated → Type 0) (S : Signature) (x : Word) (fuel : ℕ) (f : Function)
@@ -166,16 +158,13 @@ lined S fuel x ty cs ready =
     (function-told S f fuel ready.well_formed ready.prelude scoped.type.scoped.entries (provisional-over S f ready scoped)
     (λ level left e. function-closed S f fuel made level left made_is e))))
 
-ok-same : {A E : Type 0} {a b : A} → ◌≡◌ {A = Result A E} (Ok a) (Ok b) → a ≡ b
-ok-same e = cc
-
 written : (S : Signature) (x : Word) (ty : surf.Surf) (cs : surf.Clauses) (a : Elaborated) → IsReady S → IsWrittenFunction S x ty cs a → IsLined S x ty cs a
     → IsByClauses S x ty cs a.signature a.lines
 written S x ty cs a ready w l =
     let f = l.given in
     let t = l.told in
     let new = function-new S x ty cs f l.resolved in
-    let same : w.given ≡ f = ok-same (sym w.resolved ∙ l.resolved) in
+    let same : w.given ≡ f = ok-is (sym w.resolved ∙ l.resolved) in
     let Own = pushed t.own.before (Definition f.name f.type t.own.body) in
     transport (λ (b : Elaborated). IsByClauses S x ty cs b.signature b.lines) (sym l.is)
     (record {
@@ -203,7 +192,7 @@ written S x ty cs a ready w l =
 pub by-clauses : (S : Signature) (fuel : ℕ) (x : Word) (ty : surf.Surf) (cs : surf.Clauses) → IsReady S
     → IfOk (elaborate_function S fuel x ty cs) (λ (a : Elaborated). IsByClauses S x ty cs a.signature a.lines)
 by-clauses S fuel x ty cs ready =
-    both (IsWrittenFunction S x ty cs) (IsLined S x ty cs) (λ (a : Elaborated). IsByClauses S x ty cs a.signature a.lines) (elaborate_function S fuel x ty cs)
+    weaker-of-two (IsWrittenFunction S x ty cs) (IsLined S x ty cs) (λ (a : Elaborated). IsByClauses S x ty cs a.signature a.lines) (elaborate_function S fuel x ty cs)
     (elaborates-written S fuel (surf.Fun x ty cs) ready) (lined S fuel x ty cs ready) (λ a w l. written S x ty cs a ready w l)
 
 pub functions-are-by-clauses : FunctionsAreByClauses

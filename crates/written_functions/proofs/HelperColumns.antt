@@ -19,6 +19,7 @@ use Rattle.unification.proofs.Levels.{place-there}
 use Rattle.unification.proofs.UnderInstances.{fill-variables}
 use Rattle.with_abstraction.specs.Abstractions.{Abstracted}
 use Rattle.with_abstraction.specs.Laws.{IsScopedAbstraction}
+use Rattle.with_abstraction.proofs.PutBack.{fill-place}
 
 -- ---- each variable for itself
 
@@ -42,16 +43,6 @@ fill-last s [] v h = ap s (omega arith)
 fill-last s (u ∷ us) v h =
     fill-last (extend s u) us v (omega arith)
     ∙ ap (extend s u) (let e : v - length us ≡ suc (v - length (u ∷ us)) = omega arith in e)
-
--- what stands for a variable is at its place, counted from the outermost on
-fill-place : (s : ℕ → Term) (us : List Term) (q : ℕ) → q < length us → fill s us (length us - (q + 1)) ≡ get_or us q (Sort 0)
-fill-place s [] q lt = absurd (omega arith)
-fill-place s (u ∷ us) zero lt =
-    fill-last (extend s u) us (length (u ∷ us) - (0 + 1)) (omega arith)
-    ∙ ap (extend s u) (let e : length (u ∷ us) - (0 + 1) - length us ≡ 0 = omega arith in e)
-fill-place s (u ∷ us) (suc q) lt =
-    ap (fill (extend s u) us) (let e : length (u ∷ us) - (suc q + 1) ≡ length us - (q + 1) = omega arith in e)
-    ∙ fill-place (extend s u) us q (omega arith)
 
 get-mapped : (g : Term → Term) (ts : List Term) (i : ℕ) → i < length ts → get_or (map g ts) i (Sort 0) ≡ g (get_or ts i (Sort 0))
 get-mapped g [] i less = absurd (omega arith)

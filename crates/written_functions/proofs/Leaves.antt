@@ -35,6 +35,7 @@ use Rattle.tree_translation.specs.Mappings.{in_old_order}
 use Rattle.tree_translation.specs.Plans.{Part, Plan}
 use Rattle.tree_translation.specs.Recursion.{recursion_of}
 use Rattle.tree_translation.specs.Standings.{levels_from}
+use Rattle.tree_translation.proofs.LevelLists.{length-levels}
 use Rattle.clause_reports.specs.Equations.{Equation, Site, all_shown, in_signature, last_argument, leaf_site, left_side, number_of, part_at, part_named, pats_of, right_side, side_of}
 use Rattle.clause_reports.specs.Reports.{order_in, shown_leaf}
 use Rattle.clause_reports.specs.Shadows.{TreeLeaf, equation_at_leaf, leaves_below, leaves_in_branch, leaves_of}
@@ -65,10 +66,6 @@ place-level at (suc count) (suc k) lt =
     let other : (at == at + suc k) ≡ false = not-equal at (at + suc k) (λ same. omega (arith, same)) in
     ap (λ test. cond test zero (place_in (levels_from (at + 1) count) (at + suc k) + 1)) other ∙ omega (arith, inner)
 
-levels-long : (at count : ℕ) → length (levels_from at count) ≡ count
-levels-long at zero = refl
-levels-long at (suc count) = ap suc (levels-long (at + 1) count)
-
 each-as : (g h : ℕ → Term) (j count : ℕ) → ((i : ℕ) → i < j + count → g i ≡ h i) → each_position g j count ≡ each_position h j count
 each-as g h j zero same = refl
 each-as g h j (suc count) same =
@@ -84,7 +81,7 @@ each-term (t ∷ ts) = ap (λ rest. t ∷ rest) (shifted (term_at (t ∷ ts)) 0 
 
 same-order : (n : ℕ) (ts : List Term) → length ts ≡ n → in_old_order (levels_from 0 n) ts ≡ ts
 same-order n ts long =
-    ap (each_position (λ i. term_at ts (place_in (levels_from 0 n) i)) 0) (levels-long 0 n ∙ sym long)
+    ap (each_position (λ i. term_at ts (place_in (levels_from 0 n) i)) 0) (length-levels 0 n ∙ sym long)
     ∙ (each-as (λ i. term_at ts (place_in (levels_from 0 n) i)) (term_at ts) 0 (length ts)
     (λ i lt. ap (term_at ts) (ap (place_in (levels_from 0 n)) (let e : i ≡ 0 + i = omega arith in e) ∙ place-level 0 n i (omega (arith, lt, long))))
     ∙ each-term ts)

@@ -10,6 +10,7 @@ use Rattle.order_scopes.specs.Laws.{begins_closed}
 use Rattle.structural_rec.specs.Choices.{choose}
 use Rattle.tree_translation.specs.Plans.{Part, Plan}
 use Rattle.tree_translation.specs.Recursion.{Recursion, order_of, ordered_telescope, recursion_at}
+use Rattle.equation_laws.proofs.LeftShowing.{ok-is}
 use Rattle.elaboration.specs.Functions.{Lines, own_part, position_chosen, recursion_in}
 use Rattle.elaboration.specs.Refusals.{Elaborating, Halts, Refusal, answers, or_halts}
 use Rattle.elaboration.specs.Walking.{Given, Walked, walk_clauses}
@@ -44,9 +45,6 @@ next-tied {A} {B} {E} Q first go h = by first.0 h
     by : (r : Result A E) → ((a : A) → r ≡ Ok a → IfOk (go a first.1).0 Q) → IfOk (on_answer r first.1 go).0 Q
     by (Ok a) k = k a refl
     by (Err e) k = tt
-
-ok-same : {A E : Type 0} {a b : A} → ◌≡◌ {A = Result A E} (Ok a) (Ok b) → a ≡ b
-ok-same e = cc
 
 halts-same : {A : Type 0} (r : Result A Stop) (a : A) → or_halts r ≡ Ok a → r ≡ Ok a
 halts-same (Ok b) a e = cc
@@ -106,7 +104,7 @@ module _ (S : Signature) (f : Function) (level : ℕ) where
       let X = provisional S f.name f.type in
       let ts = (own_part f level).tele in
       let walks = goes-on (walk_clauses s 0 (own_part f level) 0 1 f.clauses left) _ plan e in
-      let same : walks.answer ≡ given = ok-same (sym walks.is ∙ walked) in
+      let same : walks.answer ≡ given = ok-is (sym walks.is ∙ walked) in
       let choice = goes-on (answers (chosen_made s ts walks.answer.uses) (walk_clauses s 0 (own_part f level) 0 1 f.clauses left).1) _ plan walks.goes in
       let parts = goes-on (parts_made s choice.answer level (walked_of f level walks.answer) walks.answer.helpers (walk_clauses s 0 (own_part f level) 0 1 f.clauses left).1) _ plan choice.goes in
       let here : position_chosen s (choose X ts (length S.entries) walks.answer.uses) ≡ Ok choice.answer =
@@ -114,7 +112,7 @@ module _ (S : Signature) (f : Function) (level : ℕ) where
       let there : position_chosen s (choose X ts (length S.entries) walks.answer.uses) ≡ Ok position =
       ap (λ c. position_chosen s c) (sym (choice-same S X (provisional-same S f.name f.type) ts (length S.entries) walks.answer.uses))
       ∙ (ap (λ (g : Given). position_chosen s (choose S ts (length S.entries) g.uses)) same ∙ chosen) in
-      transport (λ p. begins_closed (ordered_telescope ts (order_of (length ts) (recursion_in S ts p))) ≡ true) (ok-same (sym here ∙ there))
+      transport (λ p. begins_closed (ordered_telescope ts (order_of (length ts) (recursion_in S ts p))) ≡ true) (ok-is (sym here ∙ there))
       (parts-closed walks.answer choice.answer _ parts.answer parts.is)
 
 pub function-closed : (S : Signature) (f : Function) (fuel : ℕ) (l : Lines) (level left : ℕ) → (function_made S f fuel).0 ≡ Ok l
@@ -122,7 +120,7 @@ pub function-closed : (S : Signature) (f : Function) (fuel : ℕ) (l : Lines) (l
 function-closed S f fuel l level left e is =
     let found = goes-on (level_of S f.type fuel) _ l e in
     let plan = goes-on (plan_over S f found.answer (level_of S f.type fuel).1) _ l found.goes in
-    let same : found.answer ≡ level = ok-same (sym found.is ∙ ap (λ (x : Elaborating ℕ). x.0) is) in
+    let same : found.answer ≡ level = ok-is (sym found.is ∙ ap (λ (x : Elaborating ℕ). x.0) is) in
     transport (λ n. ClosedAt S f n left) same
     (transport (λ n. ClosedAt S f found.answer n) (ap (λ (x : Elaborating ℕ). x.1) is)
     (plan-closed S f found.answer (level_of S f.type fuel).1 plan.answer plan.is))

@@ -1,5 +1,5 @@
 -- Each part of a plan is a definition of its name in the signature that has the plan's entries.
-use Rattle.std.proofs.Common.{◌≡◌, ℕ, zero, suc, ◌+◌, ◌<◌, Option, Some, None, List, [], ◌∷◌, ◌++◌, length, drop, Result, Ok, Err, IfOk, refl, sym, ap, subst as transport, arith}
+use Rattle.std.proofs.Common.{◌≡◌, ℕ, zero, suc, ◌+◌, ◌<◌, Option, Some, None, List, [], ◌∷◌, ◌++◌, length, drop, Ok, refl, sym, ap, subst as transport, arith}
 use Rattle.std.specs.List.{All}
 use Rattle.std.specs.Option.{option_map_or}
 use Rattle.std.specs.Prelude.{option_and_then}
@@ -19,16 +19,16 @@ use Rattle.tree_translation.specs.Entries.{function_entry, helper_entry, motive_
 use Rattle.tree_translation.specs.Naming.{Naming, drafted_in_order, helper_name, motive_name, step_name}
 use Rattle.tree_translation.specs.Plans.{Part, Plan}
 use Rattle.tree_translation.specs.Recursion.{Recursion, recursion_of}
-use Rattle.clause_reports.proofs.Keeping.{Any, any, Grows, GrowsTo, enter_mention-grows, enter_needed-grows, entering-grows, grows_on, grows_same, weaker}
-use Rattle.clause_reports.specs.DraftEntering.{Names, enter_all, enter_draft_of, enter_entry, enter_mention, enter_needed, mentioned}
+use Rattle.clause_reports.proofs.Keeping.{Any, any, Grows, GrowsTo, entering-grows, grows_on, grows_same, weaker, weaker-of-two}
+use Rattle.clause_reports.specs.DraftEntering.{enter_all, enter_draft_of, enter_entry, enter_needed, mentioned}
 use Rattle.clause_reports.specs.Equations.{number_of, part_named}
-use Rattle.clause_reports.specs.Generated.{all_name}
-use Rattle.clause_reports.specs.Stops.{ReportStop}
+use Rattle.clause_reports.proofs.ProvedTypes.{enter_entry-there}
 use Rattle.elaboration.specs.Functions.{enter_drafts, enter_plan, enter_values, first_domains, recursion_in}
-use Rattle.elaboration.specs.Refusals.{Owner, or_no_report, owner_of, reporting}
+use Rattle.elaboration.specs.Refusals.{owner_of, reporting}
+use Rattle.elaboration.proofs.Keeping.{no_report-has, enter_values-grows}
+use Rattle.function_session.proofs.OwnEntry.{halts-is}
 use Rattle.written_functions.specs.Clauses.{FunctionAt, HasPart}
-use Rattle.written_functions.proofs.Proofs.{IsThere, enter-there}
-use Rattle.written_functions.proofs.Walked.{halts-ok}
+use Rattle.written_functions.proofs.Proofs.{IsThere}
 
 -- ---- names
 
@@ -135,19 +135,11 @@ draft-enters T name d left n =
     let e = Definition name (renumbered r n.type) (renumbered r n.body) in
     transport (λ entry. Answers P (enter_entry U entry rest)) (sym (ap (renumbered_entry r) n.entry))
     (weaker (IsThere e) P (enter_entry U e rest).0
-    (λ x there. record { number = x.number; type = renumbered r n.type; body = renumbered r n.body; there = there }) (enter-there U e rest)))
+    (λ x there. record { number = x.number; type = renumbered r n.type; body = renumbered r n.body; there = there }) (enter_entry-there U e rest)))
 
 record Enters (T : Signature) (names : List (List ℕ)) (U : Signature) : Type 0 where
   grows : Grows T U
   named : All (HasName U) names
-
-no_report-has : {A : Type 0} (P : A → Type 0) (S : Signature) (owner : Owner) (r : Result A ReportStop) → IfOk r P → IfOk (or_no_report S owner r) P
-no_report-has P S owner (Ok a) h = h
-no_report-has P S owner (Err e) h = tt
-
-both : {A E : Type 0} (P Q Z : A → Type 0) (r : Result A E) → IfOk r P → IfOk r Q → ((a : A) → P a → Q a → Z a) → IfOk r Z
-both P Q Z (Ok a) p q k = k a p q
-both P Q Z (Err e) p q k = tt
 
 drafts-enter : (T : Signature) (function : List ℕ) (names : List (List ℕ)) (drafts : List Draft) (left : ℕ) → AreNamed names drafts
     → Answers (Enters T names) (enter_drafts T function drafts left)
@@ -159,7 +151,7 @@ drafts-enter T function (name ∷ names) (d ∷ drafts) left n =
     let found = enter_draft_of T d left in
     and_next-has P (Enters T (name ∷ names)) (reporting T (owner_of function 0) found) _
     (no_report-has P T (owner_of function 0) found.0
-    (both (GrowsTo T) (λ (e : Entered). HasName e.signature name) P found.0 (entering-grows T d left) (draft-enters T name d left n.0) (λ e g h. (g, h))))
+    (weaker-of-two (GrowsTo T) (λ (e : Entered). HasName e.signature name) P found.0 (entering-grows T d left) (draft-enters T name d left n.0) (λ e g h. (g, h))))
     (λ e rest p.
     weaker (Enters e.signature names) (Enters T (name ∷ names)) (enter_drafts e.signature function drafts rest).0
     (λ U h. record {
@@ -167,14 +159,6 @@ drafts-enter T function (name ∷ names) (d ∷ drafts) left n =
       named = All-cons (HasName U) name names (name-stays e.signature U name h.grows.prefix p.1) h.named;
     })
     (drafts-enter e.signature function names drafts rest n.1))
-
-values-grow : (S : Signature) (plan : Plan) (r : Option Recursion) (parts : List Part) (left : ℕ) → Answers (Grows S) (enter_values S plan r parts left)
-values-grow S plan None parts left = grows_same S
-values-grow S plan (Some r) [] left = grows_same S
-values-grow S plan (Some r) (own ∷ []) left = grows_same S
-values-grow S plan (Some r) (own ∷ helper ∷ helpers) left =
-    let m = Names (all_name r.family plan.level) in
-    no_report-has (Grows S) S (owner_of plan.name 0) (enter_mention enter_needed S m left).0 (enter_mention-grows enter_needed enter_needed-grows S m left)
 
 -- ---- helpers by their numbers
 
@@ -211,11 +195,11 @@ helpers-enter S plan left =
     let r = recursion_in S (first_domains plan.arity plan.type) plan.position in
     let P = HasHelpers plan in
     let names = entry_names plan (recursion_of S plan) in
-    and_next-has (λ drafts. translate S plan ≡ Ok drafts) P (_, left) _ (halts-ok (translate S plan)) (λ drafts rest is.
+    and_next-has (λ drafts. translate S plan ≡ Ok drafts) P (_, left) _ (halts-is (translate S plan)) (λ drafts rest is.
     let named = entries-named S plan (recursion_of S plan) drafts (entries-are S plan (recursion_of S plan) drafts is) in
     and_next-has (Enters S names) P (enter_drafts S plan.name drafts rest) _ (drafts-enter S plan.name names drafts rest named) (λ T end h.
     weaker (Grows T) P (enter_values T plan r plan.parts end).0
     (λ U g i low.
     name-stays T U (helper_name plan.name (1 + i)) g.prefix
     (helper-at (HasName T) plan.name 1 (drop 1 plan.parts) i (helpers-there T plan (recursion_of S plan) h.named) low))
-    (values-grow T plan r plan.parts end)))
+    (enter_values-grows T plan r plan.parts end)))

@@ -25,7 +25,7 @@ use Rattle.case_trees.specs.Points.{under_solution}
 use Rattle.case_trees.specs.Scoped.{IsScopedWalk}
 use Rattle.case_trees.specs.Stops.{TreeStop, answers as walked_with}
 use Rattle.clause_reports.proofs.Keeping.{Any, any}
-use Rattle.elaboration.specs.Refusals.{OfGoal, OfWith, Owner, Part, Refusal, SelfInType, answers, granted, halting, or_halts, or_ill_typed}
+use Rattle.elaboration.specs.Refusals.{OfGoal, OfWith, Owner, Part, Refusal, SelfInType, answers, granted, halting, or_halts}
 use Rattle.elaboration.specs.Walking.{Opened, Opening, Session, and_level, helper_terms, if_low_level, open_over, opened, without_self}
 use Rattle.function_clauses.proofs.Fitting.{clause-for}
 use Rattle.function_clauses.proofs.HelperParts.{helper-columns, terms-scoped}
@@ -45,6 +45,7 @@ use Rattle.with_abstraction.proofs.ScopedAbstractions.{abstraction-of_scoped}
 use Rattle.with_abstraction.specs.Abstractions.{Abstracted, abstract_over_of, abstracted}
 use Rattle.with_abstraction.specs.Laws.{IsScopedAbstraction}
 use Rattle.with_abstraction.specs.NormalForms.{normal_forms_of}
+use Rattle.function_session.proofs.Written.{granted-has}
 
 -- ---- helpers that are opened
 
@@ -62,11 +63,6 @@ abstraction-fits S context goal t type left ready types g u k =
     (forms-fitting S context goal t left ready.scoped types g u)
     (λ m rest fits. low-has (IsScopedAbstraction S (length context)) (is_low type) (abstracted m type) rest
     (abstraction-of_scoped S (length context) m type fits k))
-
-granted-has : (P : Term → Type 0) (S : Signature) (part : Part) (asked : Result Verdict Stop) → IfOk asked (λ v. IfYes v P) → IfOk (or_ill_typed S part asked) P
-granted-has P S part (Ok (Yes type)) h = h
-granted-has P S part (Ok (No d)) h = tt
-granted-has P S part (Err e) h = tt
 
 halting-has : {A : Type 0} (P : A → Type 0) (r : Result A Stop) → IfOk r P → IfOk (or_halts r) P
 halting-has P (Ok a) h = h

@@ -26,7 +26,7 @@ use Rattle.written_functions.proofs.Walked.{AreGiven, IsOneGiven, IsPartGiven, c
 
 -- ---- patterns by their numbers
 
-clause-pats : (cs : Clauses) (number binds : ℕ) (pats : Pats) (right : Right) → clause_at cs number ≡ Some (Is pats binds right)
+pub clause-pats : (cs : Clauses) (number binds : ℕ) (pats : Pats) (right : Right) → clause_at cs number ≡ Some (Is pats binds right)
     → get_or (patterns_in cs) number pattern.nil ≡ pats
 clause-pats clause.nil number binds pats right e = absurd (cc)
 clause-pats (clause.cons (Is ps n r) cs) zero binds pats right e = ap patterns_of (some_is e)

@@ -1,18 +1,14 @@
 -- The entry of a line that says that it proves the clause's equation.
-use Rattle.std.proofs.Common.{◌≡◌, ℕ, ◌<◌, ◌&&◌, Bool, true, false, cond, Option, Some, None, Result, Ok, Err, IfOk, List, [], ◌∷◌, length, refl, sym, ap, ◌∙◌, subst as transport}
+use Rattle.std.proofs.Common.{◌≡◌, ℕ, ◌<◌, ◌&&◌, Bool, true, false, cond, Option, Some, None, Result, Ok, Err, IfOk, List, [], length, refl, sym, ap, ◌∙◌, subst as transport}
 use Rattle.theory.specs.Terms.{Term}
 use Rattle.theory.specs.Telescopes.{Telescope, functions}
-use Rattle.theory.specs.Signatures.{AxiomKAt, Definition, EliminatorAt, Entry, FamilyOf, IsEntryAt, Signature}
-use Rattle.theory.proofs.Lists.{slice_get-last}
+use Rattle.theory.specs.Signatures.{Definition, Entry, IsEntryAt, Signature}
 use Rattle.core_sig.specs.Drafts.{Draft}
 use Rattle.core_sig.specs.Settling.{renumbered, renumbered_entry, settled_number}
 use Rattle.core_terms.proofs.Answers.{Answers, and_next-has}
 use Rattle.core_terms.specs.Answers.{and_next}
 use Rattle.core_terms.specs.declared.stop.Stop.{Stop}
-use Rattle.family_check.proofs.Outcomes.{if_new-has}
-use Rattle.family_check.specs.Asking.{sort_in, type_in}
-use Rattle.family_check.specs.Entering.{Entered, are_new, check_definition, define_of}
-use Rattle.family_check.specs.Outcomes.{FamilyStop, OfBody, OfType}
+use Rattle.family_check.specs.Entering.{Entered}
 use Rattle.kernel_reduce.specs.Comparison.{convertible_of}
 use Rattle.kernel_reduce.specs.Reduction.{nesting}
 use Rattle.pattern_vectors.specs.Matching.{matches_all}
@@ -27,31 +23,14 @@ use Rattle.clause_reports.specs.ProofTerms.{candidate, proof_name, proof_names, 
 use Rattle.clause_reports.specs.ProofWalks.{Place, Proof, leaves_in, walk_of}
 use Rattle.clause_reports.specs.Reports.{Absurd, Line, Proved, Reference, Reported, at_leaf, at_vector, equation_report, if_shadowed, on_candidate, order_in, report_of, reported, shadowed, some_absurd, unless_converts}
 use Rattle.clause_reports.specs.Shadows.{TreeLeaf, convert_at_all, earlier_leaf, leaves_of, vector_of}
-use Rattle.clause_reports.specs.Stops.{Halts, Rejected, Rejection, ReportStop, Reporting, Stuck, answers, halting, or_halts, or_rejected}
+use Rattle.clause_reports.specs.Stops.{Halts, Rejected, Rejection, ReportStop, Reporting, Stuck, answers, halting, or_halts}
+use Rattle.clause_reports.proofs.ProvedTypes.{enter_entry-there}
 use Rattle.written_functions.proofs.Numbers.{AreUnder, under-stays}
 
 -- ---- the entry
 
 abbrev pub IsThere : Entry → Entered → Type 0
 IsThere e x = IsEntryAt x.signature x.number e
-
-define-there : (S : Signature) (name : List ℕ) (type body : Term) (left : ℕ) → IfOk (define_of S name type body left).0 (IsThere (Definition name type body))
-define-there S name type body left =
-    if_new-has (IsThere (Definition name type body)) (are_new S (name ∷ [])) (check_definition S name type body) left (λ test.
-    and_next-has Any (IsThere (Definition name type body)) (sort_in S OfType [] type left) _ (any (sort_in S OfType [] type left).0) (λ sort rest u.
-    and_next-has Any (IsThere (Definition name type body)) (type_in S OfBody [] body type rest) _ (any (type_in S OfBody [] body type rest).0) (λ found end v.
-    slice_get-last S.entries (Definition name type body))))
-
-not_rejected : (P : Entered → Type 0) (S : Signature) (e : Entry) (r : Result Entered FamilyStop) → IfOk r P → IfOk (or_rejected S e r) P
-not_rejected P S e (Ok a) h = h
-not_rejected P S e (Err cause) h = tt
-
-pub enter-there : (S : Signature) (e : Entry) (left : ℕ) → Answers (IsThere e) (enter_entry S e left)
-enter-there S (Definition name type body) left =
-    not_rejected (IsThere (Definition name type body)) S (Definition name type body) (define_of S name type body left).0 (define-there S name type body left)
-enter-there S (FamilyOf f) left = tt
-enter-there S (EliminatorAt n m) left = tt
-enter-there S (AxiomKAt i m) left = tt
 
 -- ---- the candidate
 
@@ -72,7 +51,7 @@ candidate-there : (S : Signature) (plan : Plan) (c : Reference) (e : Equation) �
     → candidate S plan c.part c.clause e proof ≡ Ok d → (T : Signature) (left : ℕ)
     → Answers (λ x. IsProvedBy S plan c x.signature x.number) (enter_entry T (renumbered_entry (settled_number T d.base d.names) d.entry) left)
 candidate-there S plan c e is under proof d h T left =
-    by (enter_entry T (renumbered_entry r d.entry) left).0 (enter-there T (renumbered_entry r d.entry) left)
+    by (enter_entry T (renumbered_entry r d.entry) left).0 (enter_entry-there T (renumbered_entry r d.entry) left)
   where
     L : ℕ
     L = (part_at plan c.part).level

@@ -1,9 +1,8 @@
 -- What the lines of a plan's clauses say of the clauses as they are written.
-use Rattle.std.proofs.Common.{◌≡◌, ℕ, ◌+◌, ◌<◌, ◌≤◌, Bool, true, false, cond, Some, List, [], ◌∷◌, ◌++◌, length, length-append, map, codes, Result, Ok, Err, IfOk, refl, sym, ap, ap₂, ◌∙◌, subst as transport, arith}
+use Rattle.std.proofs.Common.{◌≡◌, ℕ, ◌+◌, ◌<◌, ◌≤◌, Bool, true, false, Some, List, [], ◌∷◌, ◌++◌, length, length-append, map, codes, Result, Ok, Err, IfOk, refl, sym, ap, ap₂, ◌∙◌, subst as transport, arith}
 use Rattle.std.specs.List.{All}
-use Rattle.theory.specs.Terms.{Term}
 use Rattle.theory.specs.Signatures.{Definition, IsEntryAt, IsPrefix, Signature}
-use Rattle.theory.specs.WellFormed.{IsDefinition, IsEntry, IsWellFormed, definition, provisional}
+use Rattle.theory.specs.WellFormed.{IsWellFormed, definition, provisional}
 use Rattle.theory.proofs.Pushing.{prefix_transitive}
 use Rattle.theory.proofs.Widening.{prefix_keeps}
 use Rattle.core_terms.proofs.Answers.{Answers, and_next-has}
@@ -15,13 +14,15 @@ use Rattle.std.specs.Prelude.{decimal}
 use Rattle.tree_translation.specs.Plans as plans
 use Rattle.tree_translation.specs.Plans.{Part, Plan}
 use Rattle.elab_session.proofs.Resolved.{prelude-stays}
+use Rattle.elab_session.proofs.WrittenDefinitions.{definition-of}
 use Rattle.clause_reports.proofs.Keeping.{Grows, grows_on, grows_same}
 use Rattle.clause_reports.proofs.Lines as found
 use Rattle.clause_reports.proofs.ReportKeeping.{GrowsBy, report-grows}
 use Rattle.clause_reports.specs.Equations.{part_at, part_named, pats_of, closed_type}
-use Rattle.clause_reports.specs.Reports.{Absurd, Definitional, Line, Proved, Reference, Reported, Shadowed, equation_report, report_of, reported, shown_leaf, some_absurd}
+use Rattle.clause_reports.specs.Reports.{Absurd, Definitional, Line, Proved, Reference, Reported, Shadowed, report_of, shown_leaf, some_absurd}
 use Rattle.clause_reports.specs.Shadows.{leaves_of}
-use Rattle.clause_reports.specs.Stops.{ReportStop, answers}
+use Rattle.clause_reports.specs.Stops.{ReportStop}
+use Rattle.clause_reports.proofs.LineLaws.{absurd-line}
 use Rattle.elaboration.specs.Functions.{ClauseLine, Following, Lines, report_parts, report_walks, with_line}
 use Rattle.elaboration.specs.Refusals.{Owner, or_no_report, owner_of, reporting}
 use Rattle.equation_laws.proofs.ShownTerms.{FamiliesStay}
@@ -41,7 +42,7 @@ use Rattle.written_functions.proofs.Sides.{IsWalkUnder, type-under}
 
 -- ---- signatures on the way
 
-prefix-longer : (S T : Signature) → IsPrefix S T → length S.entries ≤ length T.entries
+pub prefix-longer : (S T : Signature) → IsPrefix S T → length S.entries ≤ length T.entries
 prefix-longer S T h = omega (arith, ap length h.entries, length-append S.entries h.more)
 
 -- a well-formed signature that has the function, after more entries than there are before it
@@ -65,19 +66,6 @@ base-grows S Own f plan U V g b = record {
 
 -- ---- one clause
 
--- a clause with `( )` has the line Absurd
-absurd-line : (S : Signature) (plan : Plan) (c : Reference) (left : ℕ)
-    → Answers (λ r. some_absurd (pats_of (part_at plan c.part) c.clause) ≡ true → r.line ≡ Absurd) (report_of S plan c left)
-absurd-line S plan c left = by (some_absurd (pats_of (part_at plan c.part) c.clause))
-  where
-    never : {E : Type 0} (r : Result Reported E) → IfOk r (λ x. false ≡ true → x.line ≡ Absurd)
-    never (Ok x) = λ no. absurd (cc)
-    never (Err e) = tt
-
-    by : (b : Bool) → Answers (λ r. b ≡ true → r.line ≡ Absurd) (cond b (answers (Ok (reported S Absurd)) left) (equation_report S plan c left))
-    by true = λ yes. refl
-    by false = never (equation_report S plan c left).0
-
 -- what is known of a clause's report
 record IsTold (U : Signature) (plan : Plan) (c : Reference) (r : Reported) : Type 0 where
   grows : Grows U r.signature
@@ -94,9 +82,6 @@ report-told U plan c left under =
         → IfOk r (λ r. some_absurd (pats_of (part_at plan c.part) c.clause) ≡ true → r.line ≡ Absurd) → IfOk r (IsTold U plan c)
     by (Ok r) g p s a = record { grows = g; proved = p; said = s; absurd_line = a }
     by (Err e) g p s a = tt
-
-definition-of : {S : Signature} {name : List ℕ} {type body : Term} → IsEntry S (Definition name type body) → IsDefinition S type body
-definition-of (definition h) = h
 
 -- the line of a clause of the plan
 abbrev line_at : Plan → Reference → Line → ClauseLine

@@ -4,7 +4,7 @@ use Rattle.std.specs.List.{All}
 use Rattle.std.proofs.lemmas.List.{map-append}
 use Rattle.std.proofs.lemmas.List.Elements.{All-nil, All-cons, All-append}
 use Rattle.theory.specs.Terms.{Term, Sort, Const}
-use Rattle.theory.specs.Telescopes.{Telescope, applied}
+use Rattle.theory.specs.Telescopes.{applied}
 use Rattle.theory.specs.Signatures.{Signature}
 use Rattle.theory.specs.WellFormed.{provisional}
 use Rattle.core_terms.proofs.Answers.{Answers, and_next-has}
@@ -13,15 +13,17 @@ use Rattle.core_terms.specs.CaseTrees.{Walk}
 use Rattle.core_terms.specs.Clauses as clause
 use Rattle.core_terms.specs.Clauses.{Clause, Clauses, Right, Is}
 use Rattle.core_terms.specs.Patterns.{Pats}
-use Rattle.core_terms.specs.declared.stop.Stop.{Stop}
 use Rattle.case_trees.specs.OwnWalks.{own_walk_of}
 use Rattle.case_trees.specs.Points.{under_solution}
 use Rattle.case_trees.specs.Stops.{TreeStop}
 use Rattle.clause_reports.specs.Equations.{part_named}
-use Rattle.elaboration.specs.Refusals.{Elaborating, OfSide, Owner, answers, granted, or_ends, or_halts, owner_of, walking}
-use Rattle.elaboration.specs.Walking.{Given, Opened, Opening, Walked, after_dots, check_dot, helper_arguments, joined, open_over, opened, walk_clause, walk_clauses, walk_right}
+use Rattle.clause_reports.proofs.Keeping.{any}
+use Rattle.elaboration.specs.Refusals.{OfSide, Owner, answers, granted, or_ends, or_halts, owner_of, walking}
+use Rattle.elaboration.specs.Walking.{Given, Opened, Opening, Walked, after_dots, helper_arguments, joined, open_over, opened, walk_clause, walk_clauses, walk_right}
 use Rattle.function_lines.specs.FunctionMade.{session_at}
 use Rattle.function_session.specs.Laws.{inner, inner_of, inner_right}
+use Rattle.function_session.proofs.OwnEntry.{halts-is}
+use Rattle.function_session.proofs.Planned.{after_dots-has}
 use Rattle.kernel_check.specs.Checking.{check_of}
 use Rattle.kernel_reduce.specs.Reduction.{nesting}
 use Rattle.resolve.specs.Functions.{Function}
@@ -37,24 +39,9 @@ pub is-ok : {A E : Type 0} (r : Result A E) → IfOk r (λ a. r ≡ Ok a)
 is-ok (Ok a) = refl
 is-ok (Err e) = tt
 
-pub halts-ok : {A : Type 0} (r : Result A Stop) → IfOk (or_halts r) (λ a. r ≡ Ok a)
-halts-ok (Ok a) = refl
-halts-ok (Err e) = tt
-
 pub ends-ok : {A : Type 0} (S : Signature) (name : List ℕ) (r : Result A TreeStop) → IfOk (or_ends S name r) (λ a. r ≡ Ok a)
 ends-ok S name (Ok a) = refl
 ends-ok S name (Err e) = tt
-
-pub anything : {A E : Type 0} (r : Result A E) → IfOk r (λ a. Unit {0})
-anything (Ok a) = tt
-anything (Err e) = tt
-
-after_dots-has : {A : Type 0} (P : A → Type 0) (S : Signature) (owner : Owner) (context : Telescope) (dots : List (Term × Term)) (next : ℕ → Elaborating A) (left : ℕ)
-    → ((rest : ℕ) → Answers P (next rest)) → Answers P (after_dots S owner context dots next left)
-after_dots-has P S owner context [] next left h = h left
-after_dots-has P S owner context (d ∷ dots) next left h =
-    and_next-has (λ u. Unit {0}) P (check_dot S owner context d left) _ (anything (check_dot S owner context d left).0) (λ written rest u.
-    after_dots-has P S owner context dots next rest h)
 
 -- ---- lists of parts
 
@@ -189,9 +176,9 @@ module _ (S : Signature) (f : Function) where
         let T = provisional S f.name f.type in
         let P = GivesOne S f part number next (Is pats binds (clause.Side side)) in
         let made = bounded (under_solution w.binds side) in
-        and_next-has (λ u. Unit {0}) P (answers (or_halts made) left) _ (anything (or_halts made)) (λ body rest u.
+        and_next-has (λ u. Unit {0}) P (answers (or_halts made) left) _ (any (or_halts made)) (λ body rest u.
         let checked = granted T (OfSide owner) (check_of T nesting (reverse w.ctx) body w.goal rest) in
-        and_next-has (λ u. Unit {0}) P checked _ (anything checked.0) (λ type end v.
+        and_next-has (λ u. Unit {0}) P checked _ (any checked.0) (λ type end v.
         alone S f part number next units pats binds (clause.Side side) w side _ refl refl refl refl walked given fit resolved (λ all. term pats binds side)))
     right-gives k part number next owner w pats binds (clause.With written inside) units left low given walked resolved fit =
         let T = provisional S f.name f.type in
@@ -199,7 +186,7 @@ module _ (S : Signature) (f : Function) where
         let c = Is pats binds (clause.With written inside) in
         let P = GivesOne S f part number next c in
         let made = bounded (under_solution w.binds written) in
-        and_next-has (λ t. made ≡ Ok t) P (answers (or_halts made) left) _ (halts-ok made) (λ t rest t_is.
+        and_next-has (λ t. made ≡ Ok t) P (answers (or_halts made) left) _ (halts-is made) (λ t rest t_is.
         let same : under_solution w.binds written ≡ t = sym (bounded-ok (under_solution w.binds written) t t_is) in
         let opening = open_over s owner w t rest in
         and_next-has (λ o. opening.0 ≡ Ok o) P opening _ (is-ok opening.0) (λ o more o_is.
