@@ -1,4 +1,4 @@
--- All is known of what a line accepts.
+-- What a line accepts is shown in full.
 use Rattle.std.proofs.Common.{◌≡◌, ◌∙◌, ℕ, false, IfOk, List, ◌∷◌, ◌++◌, sym, subst, subst₂}
 use Rattle.function_session.specs.Elaborating.{Elaborated}
 use Rattle.k_laws.specs.Lines.{LinesLack}

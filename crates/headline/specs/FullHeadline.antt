@@ -37,7 +37,7 @@ pub record IsFullyShown (words : List (List ℕ)) (bytes : List ℕ) (above : Li
   pub same : IsOfTheSame words bytes above name shown accepted
   pub reported : IsReported accepted.before accepted.declaration accepted.accepted
 
--- if a whole line of the text says that a declaration is accepted, all of this is known of it
+-- if a whole line of the text says that a declaration is accepted, the lines above show it in full
 abbrev pub IsFullHeadline : List (List ℕ) → List ℕ → List ℕ → Type 0
 IsFullHeadline words bytes text =
     (above below : List (List ℕ)) (name : List ℕ) → lines_of text ≡ above ++ accepted_line name ∷ below → IsFullyShown words bytes above name

@@ -10,8 +10,8 @@ use Rattle.elim_program.specs.VerifyHeadline.{IsVerifyHeadline}
 use Rattle.headline.specs.FullHeadline.{IsFullHeadline}
 
 -- A run follows an output that is defined for its words and the bytes, or it ended before it wrote anything: by a fault of
--- the source, or for want of memory. If a whole line of what was written says that a declaration is accepted, all is known of it
--- (`IsFullyShown`). If one says that an entry of a core file is verified, the entries verified up to it are a signature by the rules.
+-- the source, or for want of memory. If a whole line of what was written says that a declaration is accepted, the lines above show it in
+-- full (`IsFullyShown`). If one says that an entry of a core file is verified, the entries verified up to it are a signature by the rules.
 pub data HasWritten (words : List (List ℕ)) (bytes : List ℕ) (before after : Option (List ℕ)) (status : Status) : Type 0 where
   nothing : Appends before after [] → (status ≡ ReadFault) ⊎ (status ≡ NoMemory) → HasWritten words bytes before after status
   output : (out : Output) → IsOutput words bytes out → (follows : Follows out before after status) → IsFullHeadline words bytes follows.text

@@ -16,8 +16,8 @@ pub fn accepted_is_the_shown()
     functions_are_by_clauses();
 }
 
-/// Where a line says that a declaration is accepted, all is known of it: the headline, and that the lines above are one core file,
-/// without K unless the words ask for it, and that the elaborator accepts this declaration with these lines.
+/// Where a line says that a declaration is accepted, it has the headline; the lines above are one core file, without K unless the
+/// words ask for it; and the elaborator accepts this declaration with these lines.
 pub fn full_headline()
     ensures { FullHeadline }
 {

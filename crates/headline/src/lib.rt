@@ -1,4 +1,4 @@
-//! The top call of the program, with all that is known of the lines that it writes.
+//! The top call of the program, with all that follows from a line that accepts a declaration.
 #![tactic(auto)]
 
 pub mod laws;

@@ -20,8 +20,10 @@ pub fn run<S: Source, K: Sink>(
     source: &mut S,
     sink: &mut K,
 ) -> Status
-    // What was written follows a defined output, or nothing was written. Of each whole line `# accepted NAME` all is known that
-    // `IsFullyShown` has. Each whole line `# verified NAME` has its headline.
+    // What was written follows a defined output, or nothing was written. Each whole line `# accepted NAME` has the full headline: the
+    // lines above show that the declaration has its written type; they are one core file, without K unless the words ask for it; and
+    // the elaborator accepts this declaration with these lines. Each whole line `# verified NAME` has its headline: the entries that
+    // are verified up to it are a well-formed signature.
     ensures runs { HasRun (map string_bytes words.now) (S.left source.old) (K.written sink.old) (K.written sink.new) result }
     ensures read_fault { result ≡ Status.ReadFault → Rose (S.faults source.old) (S.faults source.new) }
     ensures write_fault { result ≡ Status.WriteFault → Rose (K.faults sink.old) (K.faults sink.new) }
