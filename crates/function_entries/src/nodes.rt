@@ -1,12 +1,14 @@
 //! The nodes of a tree, each over the last context of its branch's run.
 ghost use Rattle.std.specs.Prelude.{◌≡◌, ◌++◌, Ok, IfOk, Some, length, map};
-ghost use Rattle.core_terms.specs.Answers.{Gives};
+ghost use Rattle.core_terms.specs.Answers.{Gives, and_then};
 ghost use Rattle.core_terms.specs.Meanings.{tree_of};
 ghost use Rattle.core_terms.specs.TreeMeanings.{branch_of, branches_of, steps_of};
 ghost use Rattle.core_sig.specs.Meanings.{constructor_of};
 ghost use Rattle.tree_translation.specs.TreeTerms as trees;
 ghost use Rattle.clause_walks.specs.LookMeanings.{member_meant};
+ghost use Rattle.run_terms.specs.CodeRuns as runs;
 ghost use Rattle.run_terms.specs.StandingMeanings.{standing_of};
+ghost use Rattle.split_terms.specs.Bare.{bare_standing};
 ghost use Rattle.split_terms.specs.CodeSplits.{member_made};
 ghost use Rattle.split_terms.specs.NodeMeanings.{FitsIn, IsWhole, node_of};
 ghost use Rattle.function_entries.specs.CodeTrees as spec;
@@ -92,6 +94,26 @@ fn node_at(s: Standing) -> Node
     Node { ctx, goal, hidden }
 }
 
+/// The node after a run of a constructor, by the standing from which the run starts.
+fn node_from(
+    alloc: Global,
+    sig: &Signature,
+    node: &Node,
+    m: &Member,
+    x: u32,
+    number: u32,
+    steps: &[Step],
+    con: &Constructor,
+) -> Result<Node, Stop>
+    requires kinds { FitsIn m.now con.now }
+    requires parameters { length m.now.params ≡ length m.now.family.now.params }
+    ensures { Gives node_of result (and_then (bare_standing (node_of node.now) (member_meant m.now) x number (constructor_of (length m.now.family.now.params) con.now)) (λ s. and_then (runs.after_run sig.now (steps_of steps.now) s) (λ end. Ok (trees.node_of end)))) }
+{
+    let start = branch_standing(alloc, node, m, x, number, con)?;
+    let end = after_run(alloc, sig, steps, start)?;
+    Ok(node_at(end))
+}
+
 /// The node after a run of a constructor, or Deep.
 fn node_with(
     alloc: Global,
@@ -107,9 +129,7 @@ fn node_with(
     requires parameters { length m.now.params ≡ length m.now.family.now.params }
     ensures { Gives node_of result (spec.node_with sig.now (node_of node.now) (member_meant m.now) x number (steps_of steps.now) (constructor_of (length m.now.family.now.params) con.now)) }
 {
-    let start = branch_standing(alloc, node, m, x, number, con)?;
-    let end = after_run(alloc, sig, steps, start)?;
-    Ok(node_at(end))
+    node_from(alloc, sig, node, m, x, number, steps, con)
 }
 
 /// The node after a run of the constructor with a number, or Deep. It stays where there is no such constructor.

@@ -1,4 +1,5 @@
 pub mod CodeConfusions
+pub mod CodeHidden
 pub mod CodeInjections
 pub mod CodeNaming
 pub mod CodePlaces

@@ -1,5 +1,5 @@
 -- What states and standings of the code stand for.
-use Rattle.std.specs.Prelude.{List, map}
+use Rattle.std.specs.Prelude.{List, [], map}
 use Rattle.core_terms.specs.Meanings.{tree_of, tele_of}
 use Rattle.tele_eq.specs.Items.{item_of}
 use Rattle.unification.specs.States as states
@@ -15,7 +15,7 @@ abbrev pub equations_of : List Equation → List states.Equation
 equations_of equations = map equation_of equations
 
 abbrev pub state_of : State → states.State
-state_of s = record { context = tele_of s.ctx; equations = equations_of s.equations; solution = tele_of s.subst }
+state_of s = record { context = tele_of s.ctx; equations = equations_of s.equations; solution = [] }
 
 abbrev pub standing_of : Standing → pure.Standing
 standing_of s = record {

@@ -1,12 +1,13 @@
-ghost use Rattle.std.specs.Prelude.{◌≡◌, ◌-◌, ◌+◌, ◌++◌, Ok, get_or, length};
+ghost use Rattle.std.specs.Prelude.{◌≡◌, Ok, length};
 ghost use Rattle.core_terms.specs.Answers.{Gives};
 ghost use Rattle.core_terms.specs.Meanings.{tree_of};
 ghost use Rattle.core_terms.specs.TreeMeanings.{step_of};
 ghost use Rattle.tree_translation.specs.Hidden as spec;
 ghost use Rattle.tree_translation.specs.Replays as replays;
+ghost use Rattle.run_terms.specs.CodeHidden as meant;
 ghost use Rattle.run_terms.specs.StandingMeanings.{standing_of};
 
-use crate::level_lists::{joined, with_levels, with_those_without};
+use crate::level_lists::{with_levels, with_levels_without};
 use crate::places::level_at;
 use crate::placing::placed;
 use crate::state::Standing;
@@ -17,8 +18,7 @@ use std::alloc::Global;
 pub fn visible(alloc: Global, n: u32, hidden: &[u32]) -> Result<Items<u32>, Stop>
     ensures { Gives (λ v. v) result (Ok (spec.visible n hidden.now)) }
 {
-    let levels = with_levels(0, n, Items::new(alloc))?;
-    with_those_without(hidden, levels.as_slice(), Items::new(alloc))
+    with_levels_without(hidden, 0, n, Items::new(alloc))
 }
 
 /// A term over the variables that are not hidden, as one over all `n`.
@@ -27,6 +27,20 @@ pub fn widened(alloc: Global, n: u32, hidden: &[u32], t: &Term) -> Result<Term, 
 {
     let levels = visible(alloc, n, hidden)?;
     placed(alloc, levels.as_slice(), n, t)
+}
+
+/// A term after `count` places and over such variables among `n`, as one over all of them.
+fn placed_after(
+    alloc: Global,
+    n: u32,
+    levels: Items<u32>,
+    count: u32,
+    t: &Term,
+) -> Result<Term, Stop>
+    ensures { Gives tree_of result (Ok (meant.placed_behind n levels count (tree_of t.now))) }
+{
+    let levels = with_levels(n, count, levels)?;
+    placed(alloc, levels.as_slice(), sum(n, count)?, t)
 }
 
 /// The same of a term after `count` places.
@@ -40,8 +54,16 @@ pub fn widened_after(
     ensures { Gives tree_of result (Ok (spec.widened_behind n hidden.now count (tree_of t.now))) }
 {
     let levels = visible(alloc, n, hidden)?;
-    let levels = with_levels(n, count, levels)?;
-    placed(alloc, levels.as_slice(), sum(n, count)?, t)
+    placed_after(alloc, n, levels, count, t)
+}
+
+/// The number among all `n` variables of one of those that have these levels.
+fn number_at(n: u32, levels: &[u32], x: u32) -> u32
+    ensures { result ≡ meant.number_at n levels.now x }
+{
+    let position = levels.len().saturating_sub(x as usize + 1);
+    let level = level_at(levels, position);
+    (n as u64).saturating_sub(level as u64 + 1) as u32
 }
 
 /// The number of a variable that is not hidden, among all `n`.
@@ -49,36 +71,44 @@ pub fn widened_number(alloc: Global, n: u32, hidden: &[u32], x: u32) -> Result<u
     ensures { Gives (λ x. x) result (Ok (spec.widened_number n hidden.now x)) }
 {
     let levels = visible(alloc, n, hidden)?;
-    let position = levels.as_slice().len().saturating_sub(x as usize + 1);
-    let level = level_at(levels.as_slice(), position);
-    Ok((n as u64).saturating_sub(level as u64 + 1) as u32)
+    Ok(number_at(n, levels.as_slice(), x))
 }
 
-/// The rule of a step, over all `n` variables.
-fn widened_rule(alloc: Global, n: u32, hidden: &[u32], rule: Rule) -> Result<Rule, Stop>
-    ensures { Gives (λ r. r) result (Ok (spec.widened_rule n hidden.now rule)) }
+/// The rule of a step over such variables, over all `n`.
+fn rule_at(n: u32, levels: &[u32], rule: Rule) -> Rule
+    ensures { result ≡ meant.rule_at n levels.now rule }
 {
     match rule {
-        Rule::SolveRight(x) => Ok(Rule::SolveRight(widened_number(alloc, n, hidden, x)?)),
-        Rule::SolveLeft(x) => Ok(Rule::SolveLeft(widened_number(alloc, n, hidden, x)?)),
-        Rule::Cycle(x) => Ok(Rule::Cycle(widened_number(alloc, n, hidden, x)?)),
-        Rule::Inject(_, _) | Rule::Conflict(_, _, _) | Rule::Delete => Ok(rule),
+        Rule::SolveRight(x) => Rule::SolveRight(number_at(n, levels, x)),
+        Rule::SolveLeft(x) => Rule::SolveLeft(number_at(n, levels, x)),
+        Rule::Cycle(x) => Rule::Cycle(number_at(n, levels, x)),
+        Rule::Inject(_, _) | Rule::Conflict(_, _, _) | Rule::Delete => rule,
     }
+}
+
+/// A step over such variables, over all `n`.
+fn step_at(alloc: Global, n: u32, levels: Items<u32>, step: &Step) -> Result<Step, Stop>
+    ensures { Gives step_of result (Ok (meant.step_at n levels (step_of step.now))) }
+{
+    let rule = rule_at(n, levels.as_slice(), step.rule);
+    let left = placed(alloc, levels.as_slice(), n, &step.left)?;
+    let right = placed(alloc, levels.as_slice(), n, &step.right)?;
+    let count = step.group.saturating_sub(1);
+    Ok(Step {
+        group: step.group,
+        rule,
+        ty: placed_after(alloc, n, levels, count, &step.ty)?,
+        left,
+        right,
+    })
 }
 
 /// A step in a context of `n` variables, some of which are hidden from it.
 fn widened_step(alloc: Global, n: u32, hidden: &[u32], step: &Step) -> Result<Step, Stop>
     ensures { Gives step_of result (Ok (spec.widened_step n hidden.now (step_of step.now))) }
 {
-    let rule = widened_rule(alloc, n, hidden, step.rule)?;
-    let count = step.group.saturating_sub(1);
-    Ok(Step {
-        group: step.group,
-        rule,
-        ty: widened_after(alloc, n, hidden, count, &step.ty)?,
-        left: widened(alloc, n, hidden, &step.left)?,
-        right: widened(alloc, n, hidden, &step.right)?,
-    })
+    let levels = visible(alloc, n, hidden)?;
+    step_at(alloc, n, levels, step)
 }
 
 /// A step of a run, as it is read in a standing.

@@ -43,24 +43,23 @@ pub fn joined(alloc: Global, first: &[u32], second: &[u32]) -> Result<Items<u32>
     with_all(first, second)
 }
 
-/// Levels, followed by those of others that are not left out.
+/// Levels, followed by those of so many binders from one on that are not left out.
 #[tactic(auto, using(tele_eq::proofs::Growing::listing))]
-pub fn with_those_without(
+pub fn with_levels_without(
     out: &[u32],
-    levels: &[u32],
+    start: u32,
+    count: u32,
     mut made: Items<u32>,
 ) -> Result<Items<u32>, Stop>
-    ensures { Gives (λ v. v) result (Ok (made ++ spec.without out.now levels.now)) }
+    ensures { Gives (λ v. v) result (Ok (made ++ spec.without out.now (levels_from start count))) }
 {
-    match levels {
-        [] => Ok(made),
-        [j, rest @ ..] => {
-            if !is_among(*j, out) {
-                made.push(*j)?;
-            }
-            with_those_without(out, rest, made)
-        }
+    if count == 0 {
+        return Ok(made);
     }
+    if !is_among(start, out) {
+        made.push(start)?;
+    }
+    with_levels_without(out, next(start)?, count - 1, made)
 }
 
 /// Levels, followed by the places of others in an order.

@@ -44,7 +44,7 @@ pub use placing::{
 };
 pub use raising::{raised, term_at};
 pub use replays::{deleted_standing, level_in, reflexivity, solved_standing};
-pub use runs::{after_run, after_step, copy_standing};
+pub use runs::{after_rule, after_run, after_step, copy_standing};
 pub use smallness::{
     congruences_made, equations_made, free_of, reflexivities_made, small_term, small_terms,
 };

@@ -82,27 +82,6 @@ fn moved_equation(
     })
 }
 
-/// Terms, followed by others with what stands for their first `size` variables, at a depth.
-#[tactic(auto, using(tele_eq::proofs::Growing::growing))]
-pub fn put_terms(
-    alloc: Global,
-    places: Places,
-    size: u32,
-    depth: u32,
-    terms: &[Term],
-    mut made: Tele,
-) -> Result<Tele, Stop>
-    ensures { Gives tele_of result (Ok (tele_of made ++ map (environments.put (environment_of places.entry) size depth) (tele_of terms.now))) }
-{
-    match terms {
-        [] => Ok(made),
-        [t, rest @ ..] => {
-            made.push(put(alloc, places, size, depth, t)?)?;
-            put_terms(alloc, places, size, depth, rest, made)
-        }
-    }
-}
-
 /// The type of the variable with level `j`, at a depth, or Type 0.
 fn put_type(alloc: Global, ctx: &[Term], places: Places, depth: u32, j: u32) -> Result<Term, Stop>
     ensures { Gives tree_of result (Ok (environments.put (environment_of places.entry) j depth (term_at (tele_of ctx.now) j))) }

@@ -7,7 +7,7 @@ ghost use Rattle.tree_translation.specs.Standings.{levels_from};
 ghost use Rattle.unification.specs.Occurrences as spec;
 ghost use Rattle.unification.specs.Rules as rules;
 
-use crate::level_lists::{with_levels, with_those_without};
+use crate::level_lists::with_levels_without;
 use core_terms::{Items, Stop, Term, next};
 use std::alloc::Global;
 
@@ -100,6 +100,5 @@ pub fn others(alloc: Global, n: u32, p: u32, moved: &[u32]) -> Result<Items<u32>
     let mut out = Vec::new(alloc);
     out.push(p)?;
     out.extend_from_slice(moved)?;
-    let levels = with_levels(0, n, Items::new(alloc))?;
-    with_those_without(out.as_slice(), levels.as_slice(), Items::new(alloc))
+    with_levels_without(out.as_slice(), 0, n, Items::new(alloc))
 }

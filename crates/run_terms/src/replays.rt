@@ -15,7 +15,7 @@ ghost use Rattle.run_terms.specs.CodeReplays.{kept_by, moved_after_first, moved_
 ghost use Rattle.run_terms.specs.StandingMeanings.{equations_of, standing_of, state_of};
 
 use crate::level_lists::{joined, with_all, with_level_at, with_levels, with_places};
-use crate::moving::{Sides, moved, new_context, put_terms};
+use crate::moving::{Sides, moved, new_context};
 use crate::occurrences::{dependants, opposite, others};
 use crate::places::{After, Places, put};
 use crate::standings::{after_first, first_level, inside};
@@ -122,23 +122,6 @@ fn solved_context(alloc: Global, s: &State, solution: Solution) -> Result<Tele, 
     new_context(alloc, ctx, places, 0, solution.order, Items::new(alloc))
 }
 
-/// The terms of the variables of the first context after the solution of a variable.
-fn solved_terms(alloc: Global, s: &State, solution: Solution) -> Result<Tele, Stop>
-    ensures { Gives tele_of result (Ok (map (environments.put (solved_environment solution.entry) solution.entry.size (length solution.entry.order.now)) (state_of s.now).solution)) }
-{
-    let depth = number_of(solution.order.len())?;
-    let places = Places::Solved(solution);
-    let subst = s.subst.as_slice();
-    put_terms(
-        alloc,
-        places,
-        solution.size,
-        depth,
-        subst,
-        Items::new(alloc),
-    )
-}
-
 /// The state after the solution of a variable.
 fn solved_state(
     alloc: Global,
@@ -152,7 +135,6 @@ fn solved_state(
     Ok(State {
         ctx: solved_context(alloc, s, solution)?,
         equations: after_solved(alloc, s, level, solution, ty)?,
-        subst: solved_terms(alloc, s, solution)?,
     })
 }
 
@@ -271,7 +253,6 @@ pub fn with_equations(
         state: State {
             ctx: copy_tele(alloc, s.state.ctx.as_slice())?,
             equations,
-            subst: copy_tele(alloc, s.state.subst.as_slice())?,
         },
         goal: copy_whole(alloc, &s.goal)?,
         hidden: with_all(Items::new(alloc), s.hidden.as_slice())?,

@@ -57,7 +57,6 @@ fn copy_state(alloc: Global, s: &State) -> Result<State, Stop>
     Ok(State {
         ctx: copy_tele(alloc, s.ctx.as_slice())?,
         equations: with_copies(alloc, s.equations.as_slice(), Items::new(alloc))?,
-        subst: copy_tele(alloc, s.subst.as_slice())?,
     })
 }
 
@@ -126,7 +125,12 @@ fn after_high_injection(
 }
 
 /// The standing after a step over the whole context, or Deep.
-fn after_rule(alloc: Global, sig: &Signature, s: &Standing, step: &Step) -> Result<Standing, Stop>
+pub fn after_rule(
+    alloc: Global,
+    sig: &Signature,
+    s: &Standing,
+    step: &Step,
+) -> Result<Standing, Stop>
     ensures { Gives standing_of result (spec.after_rule sig.now (standing_of s.now) (step_of step.now) step.now.rule) }
 {
     match step.rule {

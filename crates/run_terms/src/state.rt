@@ -11,12 +11,12 @@ pub struct Equation {
     pub right: Term,
 }
 
-/// The equations that are left in a context, and a term for each variable of the context that was given.
+/// The equations that are left in a context. It does not keep a term for each variable of the context that was given: no term of a run
+/// mentions these.
 #[derive(Debug, Drop)]
 pub struct State {
     pub ctx: Tele,
     pub equations: Items<Equation>,
-    pub subst: Tele,
 }
 
 /// A state after `depth` binders, among which those of its variables have the levels `variables`; a goal over its context; and the

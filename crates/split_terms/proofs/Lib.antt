@@ -1,3 +1,4 @@
+pub mod BareRuns
 pub mod BranchParts
 pub mod LaterSteps
 pub mod MethodSteps

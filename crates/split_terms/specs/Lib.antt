@@ -1,3 +1,4 @@
+pub mod Bare
 pub mod CodeRunTerms
 pub mod CodeSplits
 pub mod Laws

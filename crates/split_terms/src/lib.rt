@@ -12,6 +12,7 @@ mod runs;
 pub mod split_laws;
 mod split_naming;
 mod splitting;
+mod steps;
 
 pub use members::type_member;
 pub use names::{names_joined, run_names};

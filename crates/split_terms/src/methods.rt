@@ -1,5 +1,5 @@
 ghost use Rattle.std.specs.Prelude.{◌≡◌, true, cond, Ok, length, map};
-ghost use Rattle.core_terms.specs.Answers.{Gives};
+ghost use Rattle.core_terms.specs.Answers.{Gives, and_then};
 ghost use Rattle.core_terms.specs.Meanings.{tree_of, tele_of};
 ghost use Rattle.core_terms.specs.TreeMeanings.{steps_of};
 ghost use Rattle.core_sig.specs.Meanings.{constructor_of, family_of};
@@ -11,6 +11,8 @@ ghost use Rattle.clause_walks.specs.LookMeanings.{member_meant};
 ghost use Rattle.outlines.specs.OutlineMeanings.{outline_of, outlines_of};
 ghost use Rattle.run_terms.specs.CodeNaming.{naming_of};
 ghost use Rattle.run_terms.specs.StandingMeanings.{standing_of};
+ghost use Rattle.split_terms.specs.Bare.{bare_standing};
+ghost use Rattle.split_terms.specs.CodeRunTerms.{run_made};
 ghost use Rattle.split_terms.specs.CodeSplits as spec;
 ghost use Rattle.split_terms.specs.NodeMeanings.{AllFitIn, FitsIn, node_of};
 
@@ -95,6 +97,29 @@ fn method_around(
     in_body(alloc, around, inner)
 }
 
+/// The method for a constructor, by the standing from which its run starts.
+fn method_from(
+    alloc: Global,
+    sig: &Signature,
+    naming: Naming,
+    level: u8,
+    node: &Node,
+    m: &Member,
+    x: u32,
+    number: u32,
+    con: &Constructor,
+    steps: &[Step],
+    end: Outline,
+) -> Result<Outline, Stop>
+    requires kinds { FitsIn m.now con.now }
+    requires parameters { length m.now.params ≡ length m.now.family.now.params }
+    ensures { Gives outline_of result (and_then (bare_standing (node_of node.now) (member_meant m.now) x number (constructor_of (length m.now.family.now.params) con.now)) (λ s. and_then (run_made sig.now (naming_of naming.entry) level (outline_of end) (steps_of steps.now) s) (λ inner. Ok (spec.method_with (member_meant m.now) (constructor_of (length m.now.family.now.params) con.now) s inner)))) }
+{
+    let s = branch_standing(alloc, node, m, x, number, con)?;
+    let inner = run_term(alloc, sig, naming, level, end, steps, &s)?;
+    method_around(alloc, m, con, &s, inner)
+}
+
 /// The method for a constructor, whose run has these steps and this end, or Deep.
 pub fn split_method(
     alloc: Global,
@@ -113,9 +138,9 @@ pub fn split_method(
     requires parameters { length m.now.params ≡ length m.now.family.now.params }
     ensures { Gives outline_of result (spec.method_made sig.now (naming_of naming.entry) level (node_of node.now) (member_meant m.now) x number (constructor_of (length m.now.family.now.params) con.now) (steps_of steps.now) (outline_of end)) }
 {
-    let s = branch_standing(alloc, node, m, x, number, con)?;
-    let inner = run_term(alloc, sig, naming, level, end, steps, &s)?;
-    method_around(alloc, m, con, &s, inner)
+    method_from(
+        alloc, sig, naming, level, node, m, x, number, con, steps, end,
+    )
 }
 
 /// Whether a state is absurd after a step by such a rule.

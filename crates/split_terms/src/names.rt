@@ -6,18 +6,18 @@ ghost use Rattle.theory.specs.Terms as tree;
 ghost use Rattle.unification.specs.Built.{built_of};
 ghost use Rattle.tree_translation.specs.Comparisons.{compared as compared_meant};
 ghost use Rattle.tree_translation.specs.Naming as naming;
+ghost use Rattle.tree_translation.specs.Replays as replays;
 ghost use Rattle.tree_translation.specs.Replays.{level_of_first};
 ghost use Rattle.tree_translation.specs.RunTerms as runs;
 ghost use Rattle.run_terms.specs.ComparisonMeanings.{comparison_of};
 ghost use Rattle.run_terms.specs.StandingMeanings.{standing_of};
 ghost use Rattle.split_terms.specs.CodeRunTerms as spec;
 
+use crate::steps::next_standing;
 use core_sig::Signature;
 use core_terms::{Items, MAX_HEIGHT, Name, Rule, Step, Stop, copy_name};
 use cycle_terms::cycle_names;
-use run_terms::{
-    Comparison, Standing, after_step, compared, first_level, left_name, noconf_name, step_in,
-};
+use run_terms::{Comparison, Standing, compared, first_level, left_name, noconf_name, step_in};
 use std::alloc::Global;
 
 /// Names, followed by others.
@@ -164,19 +164,20 @@ fn with_rule(
     }
 }
 
-/// Names, followed by those of a step of a run.
+/// Names, followed by those of a step of a run, which is read over the whole context.
 fn with_step(
     alloc: Global,
     sig: &Signature,
     level: u8,
     s: &Standing,
     step: &Step,
+    read: &Step,
     names: Items<Name>,
 ) -> Result<Items<Name>, Stop>
+    requires { step_of read.now ≡ replays.step_in (standing_of s.now) (step_of step.now) }
     ensures { Gives (λ ns. ns) result (spec.step_names_made sig.now level (standing_of s.now) (step_of step.now) names) }
 {
-    let step = step_in(alloc, s, step)?;
-    with_rule(alloc, sig, level, s, &step, names)
+    with_rule(alloc, sig, level, s, read, names)
 }
 
 /// Names, followed by those that the term of a run may mention, or Deep.
@@ -193,8 +194,9 @@ pub fn run_names(
     match steps {
         [] => Ok(names),
         [step, rest @ ..] => {
-            let names = with_step(alloc, sig, level, s, step, names)?;
-            let next = after_step(alloc, sig, s, step)?;
+            let read = step_in(alloc, s, step)?;
+            let names = with_step(alloc, sig, level, s, step, &read, names)?;
+            let next = next_standing(alloc, sig, s, step, &read)?;
             run_names(alloc, sig, level, rest, &next, names)
         }
     }

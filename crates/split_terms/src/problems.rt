@@ -12,6 +12,7 @@ ghost use Rattle.case_trees.specs.Problems as problems;
 ghost use Rattle.clause_walks.specs.LookMeanings.{member_meant};
 ghost use Rattle.clause_walks.specs.Reaching.{problem_of_parts};
 ghost use Rattle.run_terms.specs.StandingMeanings.{standing_of, state_of};
+ghost use Rattle.split_terms.specs.Bare.{bare_standing, bare_state, bare_state_made};
 ghost use Rattle.split_terms.specs.CodeSplits as spec;
 ghost use Rattle.split_terms.specs.NodeMeanings.{FitsIn, node_of};
 
@@ -26,7 +27,7 @@ use run_terms::{
 };
 use std::alloc::Global;
 use tele_eq::Item;
-use unifier::{Problem, variables};
+use unifier::Problem;
 
 /// The telescope of a constructor's arguments at the family's parameters.
 pub fn arguments_at(alloc: Global, m: &Member, con: &Constructor) -> Result<Items<Item>, Stop>
@@ -107,7 +108,7 @@ fn branch_problem(
 
 /// The state from which a problem is solved, where its equations have these types.
 fn starting_state(alloc: Global, p: Problem, types: &[Term]) -> Result<State, Stop>
-    ensures { Gives state_of result (Ok (starting (problem_meant p) (tele_of types.now))) }
+    ensures { Gives state_of result (Ok (bare_state (starting (problem_meant p) (tele_of types.now)))) }
 {
     let Problem {
         ctx,
@@ -115,11 +116,9 @@ fn starting_state(alloc: Global, p: Problem, types: &[Term]) -> Result<State, St
         left,
         right,
     } = p;
-    let subst = variables(alloc, number_of(ctx.as_slice().len())?)?;
     let start = State {
         ctx,
         equations: Items::new(alloc),
-        subst,
     };
     let (left, right) = (left.as_slice(), right.as_slice());
     let equations = joined_equations(
@@ -136,13 +135,12 @@ fn starting_state(alloc: Global, p: Problem, types: &[Term]) -> Result<State, St
     Ok(State {
         ctx: start.ctx,
         equations,
-        subst: start.subst,
     })
 }
 
 /// The state from which a problem is solved, or Deep.
 fn problem_state(alloc: Global, p: Problem) -> Result<State, Stop>
-    ensures { Gives state_of result (spec.state_made (problem_meant p)) }
+    ensures { Gives state_of result (bare_state_made (problem_meant p)) }
 {
     let types = equations_made(alloc, &p.tele, &p.left, &p.right)?;
     starting_state(alloc, p, types.as_slice())
@@ -173,7 +171,7 @@ pub fn branch_standing(
 ) -> Result<Standing, Stop>
     requires kinds { FitsIn m.now con.now }
     requires parameters { length m.now.params ≡ length m.now.family.now.params }
-    ensures { Gives standing_of result (spec.standing_made (node_of node.now) (member_meant m.now) x number (constructor_of (length m.now.family.now.params) con.now)) }
+    ensures { Gives standing_of result (bare_standing (node_of node.now) (member_meant m.now) x number (constructor_of (length m.now.family.now.params) con.now)) }
 {
     let problem = branch_problem(alloc, node, m, x, number, con)?;
     let state = problem_state(alloc, problem)?;

@@ -1,9 +1,11 @@
 ghost use Rattle.std.specs.Prelude.{◌≡◌, Some, Ok, length, map};
-ghost use Rattle.core_terms.specs.Answers.{Gives};
+ghost use Rattle.core_terms.specs.Answers.{Gives, and_then};
 ghost use Rattle.core_terms.specs.Meanings.{tree_of};
 ghost use Rattle.core_terms.specs.TreeMeanings.{steps_of};
 ghost use Rattle.core_sig.specs.Meanings.{constructor_of};
 ghost use Rattle.clause_walks.specs.LookMeanings.{member_meant};
+ghost use Rattle.split_terms.specs.Bare.{bare_standing};
+ghost use Rattle.split_terms.specs.CodeRunTerms.{run_names_made};
 ghost use Rattle.split_terms.specs.CodeSplits as spec;
 ghost use Rattle.split_terms.specs.NodeMeanings.{AllFitIn, FitsIn, IsWhole, node_of};
 
@@ -16,6 +18,27 @@ use core_sig::{Constructor, Signature};
 use core_terms::{Items, Name, Step, Stop, Term, next};
 use run_terms::case_name;
 use std::alloc::Global;
+
+/// Names, followed by those of the run of a constructor, by the standing from which it starts.
+fn names_from(
+    alloc: Global,
+    sig: &Signature,
+    level: u8,
+    node: &Node,
+    m: &Member,
+    x: u32,
+    number: u32,
+    con: &Constructor,
+    steps: &[Step],
+    names: Items<Name>,
+) -> Result<Items<Name>, Stop>
+    requires kinds { FitsIn m.now con.now }
+    requires parameters { length m.now.params ≡ length m.now.family.now.params }
+    ensures { Gives (λ ns. ns) result (and_then (bare_standing (node_of node.now) (member_meant m.now) x number (constructor_of (length m.now.family.now.params) con.now)) (λ s. run_names_made sig.now level (steps_of steps.now) s names)) }
+{
+    let s = branch_standing(alloc, node, m, x, number, con)?;
+    run_names(alloc, sig, level, steps, &s, names)
+}
 
 /// Names, followed by those of the run of a constructor, or Deep.
 fn branch_names(
@@ -34,8 +57,7 @@ fn branch_names(
     requires parameters { length m.now.params ≡ length m.now.family.now.params }
     ensures { Gives (λ ns. ns) result (spec.branch_names_made sig.now level (node_of node.now) (member_meant m.now) x number (constructor_of (length m.now.family.now.params) con.now) (steps_of steps.now) names) }
 {
-    let s = branch_standing(alloc, node, m, x, number, con)?;
-    run_names(alloc, sig, level, steps, &s, names)
+    names_from(alloc, sig, level, node, m, x, number, con, steps, names)
 }
 
 /// Names, followed by those of the runs of constructors, the first of which has this number, or Deep.
