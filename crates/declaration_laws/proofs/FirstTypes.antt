@@ -7,11 +7,11 @@ use Rattle.std.proofs.lemmas.Bool.Decides.{Decides-ltb}
 use Rattle.theory.specs.Signatures.{Definition, FamilyOf, Signature}
 use Rattle.theory.specs.SignatureScopes.{IsScoped, IsScopedTelescope}
 use Rattle.theory.specs.Telescopes.{Telescope, applied}
-use Rattle.theory.specs.Terms.{Term, Pi, App, Const, Fam, free_of}
+use Rattle.theory.specs.Terms.{Term, App, Const, Fam, free_of}
 use Rattle.theory.specs.WellFormed.{provisional}
 use Rattle.theory.proofs.Lists.{some_is}
 use Rattle.theory.proofs.Pushing.{entry_of-pushed}
-use Rattle.theory.proofs.ScopedTerms.{scoped-pi, scoped_over_more, sort-scoped}
+use Rattle.theory.proofs.ScopedTerms.{scoped_over_more}
 use Rattle.core_terms.specs.Levels.{variable}
 use Rattle.surface_syntax.specs.Trees as surf
 use Rattle.tele_eq.specs.Dependences.{has_variable}
@@ -29,7 +29,7 @@ use Rattle.structural_rec.proofs.AdmittingPositions.{admission-decides}
 use Rattle.structural_rec.proofs.FixedPositions.{fixed-decides, mentions-before}
 use Rattle.tree_translation.specs.Recursion.{Recursion, order_of, ordered_telescope}
 use Rattle.resolve.specs.Functions.{Function, function}
-use Rattle.elaboration.specs.Functions.{first_domains, own_part, recursion_in}
+use Rattle.elaboration.specs.Functions.{own_part, recursion_in}
 use Rattle.order_scopes.specs.Laws.{begins_closed}
 use Rattle.function_clauses.proofs.OwnParts.{domains-scoped}
 use Rattle.order_scopes.proofs.OrderLengths.{IsRecursion, of-position}
