@@ -1,13 +1,13 @@
 -- The arguments of a constructor as a telescope have small types, and variables are small terms.
-use Rattle.std.proofs.Common.{◌≡◌, ℕ, zero, suc, ◌+◌, ◌≤◌, ◌<◌, true, nat_le, cond, List, [], ◌∷◌, length, Result, Ok, Err, IfOk, refl, ap, sym, subst, arith}
+use Rattle.std.proofs.Common.{◌≡◌, ℕ, suc, ◌+◌, ◌≤◌, ◌<◌, true, nat_le, cond, List, [], ◌∷◌, length, Result, Ok, Err, IfOk, refl, ap, sym, subst, arith}
 use Rattle.std.proofs.lemmas.Bool.Decides.{nat_tests}
 use Rattle.std.proofs.lemmas.List.{length-map}
 use Rattle.theory.specs.Terms.{Term, height, free_of}
 use Rattle.theory.specs.Terms.Term.{Var, Pi, Lam, App, Let}
-use Rattle.core_terms.specs.Levels.{place_var, place_under, place, run}
+use Rattle.core_terms.specs.Levels.{place_var, place_under, place}
 use Rattle.core_sig.specs.Shapes.{ArgumentShape}
 use Rattle.core_terms.specs.declared.stop.Stop.{Stop}
-use Rattle.tele_eq.specs.Items.{AreSmall, AreSmallTerms, item_of, items_of}
+use Rattle.tele_eq.specs.Items.{AreSmall, item_of, items_of}
 use Rattle.tele_eq.specs.declared.item.Item.{Item}
 use Rattle.acyclic_gen.specs.Pushing.{placed_items}
 use Rattle.acyclic_gen.specs.Bounds.{AreLow}
@@ -50,10 +50,6 @@ small-items runs size depth (a ∷ arguments) low le =
 pub length-items : (runs : List (ℕ × ℕ)) (size depth : ℕ) (arguments : List ArgumentShape) → length (placed_items runs size depth arguments) ≡ length arguments
 length-items runs size depth [] = refl
 length-items runs size depth (a ∷ arguments) = ap suc (length-items runs (size + 1) (depth + 1) arguments)
-
-pub small-run : (depth start count : ℕ) → depth ≤ 1000000 → AreSmallTerms (run depth start count)
-small-run depth start zero le = tt
-small-run depth start (suc count) le = ((omega arith, omega arith), small-run depth (start + 1) count le)
 
 pub few-answer : (result : Result (List Item) Stop) → IfOk result (λ items. length (items_of items) ≤ 1000) → IfOk result (λ items. length items ≤ 1000)
 few-answer (Ok items) few = subst (λ k. k ≤ 1000) (length-map items item_of) few

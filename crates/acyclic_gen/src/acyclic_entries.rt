@@ -5,6 +5,7 @@ ghost use Rattle.theory.specs.Signatures.{FamilyOf, IsEntryAt, IsPrefix, Signatu
 ghost use Rattle.theory.specs.SignatureScopes.{IsFamilyNumber, IsScopedSignature};
 ghost use Rattle.theory.specs.Terms.{top};
 ghost use Rattle.core_terms.specs.Answers.{Gives};
+ghost use Rattle.core_terms.specs.Bounds.{most_height};
 ghost use Rattle.core_terms.specs.Meanings.{tree_of};
 ghost use Rattle.core_sig.specs.Drafts.{draft_of};
 ghost use Rattle.core_sig.specs.ScopedDrafts.{IsScopedDraft};
@@ -55,7 +56,7 @@ fn acyclic_of_family(alloc: Global, base: u32, fam: u32, f: &Family) -> Result<D
 
 fn acyclic_draft(alloc: Global, base: u32, fam: u32, f: &Family) -> Result<Draft, Stop>
     requires level { f.now.level < 100 }
-    requires indices { length f.now.indices ≤ 2000 }
+    requires indices { length f.now.indices ≤ most_height }
     ensures { Gives draft_of result (spec.acyclic_draft base f.now.name (map (λ c. c.name) f.now.cons) fam (shape_of f.now)) }
 {
     if !is_small(f) {
@@ -86,7 +87,7 @@ fn acyclic_over(
 }
 
 fn acyclic_type(alloc: Global, f: &Family, q: Carrier) -> Result<Term, Stop>
-    requires { q.params ≤ 2000 }
+    requires { q.params ≤ most_height }
     ensures { Gives tree_of result (Ok (spec.acyclic_type (shape_of f.now) q)) }
 {
     let x = at_level(q.params);
@@ -96,7 +97,7 @@ fn acyclic_type(alloc: Global, f: &Family, q: Carrier) -> Result<Term, Stop>
 
 fn acyclic_term(alloc: Global, f: &Family, q: Carrier, noconf: u32) -> Result<Term, Stop>
     requires level { q.level < 100 }
-    requires params { q.params ≤ 2000 }
+    requires params { q.params ≤ most_height }
     requires few { IsFew (shape_of f.now) }
     requires small { HaveSmallArguments (map constructor_shape f.now.cons) }
     requires noconf { noconf + 2000 < 4294967296 }
@@ -132,12 +133,12 @@ fn applied_to_acyclic_methods(
     cons: &[Constructor],
 ) -> Result<Term, Stop>
     requires level { q.level < 100 }
-    requires params { q.params ≤ 2000 }
+    requires params { q.params ≤ most_height }
     requires all_few { HaveFewArguments (map constructor_shape all.now) }
-    requires all_count { length all.now ≤ 2000 }
+    requires all_count { length all.now ≤ most_height }
     requires few { HaveFewArguments (map constructor_shape cons.now) }
     requires small { HaveSmallArguments (map constructor_shape cons.now) }
-    requires number { number + length cons.now ≤ 2000 }
+    requires number { number + length cons.now ≤ most_height }
     requires noconf { noconf + length cons.now < 4294967296 }
     requires depth { depth ≤ 5000 }
     ensures { Gives tree_of result (Ok (spec.applied_to_acyclic_methods q (map constructor_shape all.now) depth number noconf (tree_of head) (map constructor_shape cons.now))) }
@@ -163,10 +164,10 @@ fn acyclic_method(
     con: &Constructor,
 ) -> Result<Term, Stop>
     requires level { q.level < 100 }
-    requires params { q.params ≤ 2000 }
+    requires params { q.params ≤ most_height }
     requires all_few { HaveFewArguments (map constructor_shape all.now) }
-    requires all_count { length all.now ≤ 2000 }
-    requires few { length con.now.args ≤ 2000 }
+    requires all_count { length all.now ≤ most_height }
+    requires few { length con.now.args ≤ most_height }
     requires small { has_direct (map argument_shape con.now.args) ≡ true → AreSmallArguments (map argument_shape con.now.args) }
     requires depth { depth ≤ 5000 }
     ensures { Gives tree_of result (Ok (spec.acyclic_method q (map constructor_shape all.now) depth number noconf (constructor_shape con.now))) }
@@ -211,9 +212,9 @@ fn pushes(
     directs: &[Direct],
 ) -> Result<Term, Stop>
     requires level { q.level < 100 }
-    requires params { q.params ≤ 2000 }
+    requires params { q.params ≤ most_height }
     requires all_few { HaveFewArguments (map constructor_shape all.now) }
-    requires all_count { length all.now ≤ 2000 }
+    requires all_count { length all.now ≤ most_height }
     requires push { IsNearPush push }
     requires near { AreNear directs.now }
     requires own { 0 < length directs.now → AreSmallArguments (map argument_shape own.now) }

@@ -5,6 +5,7 @@ ghost use Rattle.theory.specs.Signatures.{FamilyOf, IsEntryAt, IsPrefix, Signatu
 ghost use Rattle.theory.specs.SignatureScopes.{IsFamilyNumber, IsScopedSignature};
 ghost use Rattle.theory.specs.Terms.{top};
 ghost use Rattle.core_terms.specs.Answers.{Gives};
+ghost use Rattle.core_terms.specs.Bounds.{most_height};
 ghost use Rattle.core_terms.specs.Meanings.{tree_of};
 ghost use Rattle.core_sig.specs.Drafts.{draft_of};
 ghost use Rattle.core_sig.specs.ScopedDrafts.{IsScopedDraft};
@@ -52,7 +53,7 @@ fn direct_of_family(alloc: Global, base: u32, fam: u32, f: &Family) -> Result<Dr
 
 fn direct_draft(alloc: Global, base: u32, fam: u32, f: &Family) -> Result<Draft, Stop>
     requires level { f.now.level < 100 }
-    requires indices { length f.now.indices ≤ 2000 }
+    requires indices { length f.now.indices ≤ most_height }
     ensures { Gives draft_of result (spec.direct_draft base f.now.name fam (shape_of f.now)) }
 {
     if !is_few(f) {
@@ -73,7 +74,7 @@ fn direct_over(
     q: Carrier,
     end: Term,
 ) -> Result<Term, Stop>
-    requires { q.params ≤ 2000 }
+    requires { q.params ≤ most_height }
     ensures { Gives tree_of result (Ok (spec.direct_over binder (shape_of f.now) q (tree_of end))) }
 {
     let end = bind(alloc, binder, carrier_at(alloc, q, q.params + 1)?, end)?;
@@ -84,7 +85,7 @@ fn direct_over(
 
 fn direct_term(alloc: Global, f: &Family, q: Carrier) -> Result<Term, Stop>
     requires level { q.level < 100 }
-    requires params { q.params ≤ 2000 }
+    requires params { q.params ≤ most_height }
     requires few { IsFew (shape_of f.now) }
     ensures { Gives tree_of result (Ok (spec.direct_term (shape_of f.now) q)) }
 {
@@ -104,9 +105,9 @@ fn applied_to_direct_methods(
     head: Term,
     cons: &[Constructor],
 ) -> Result<Term, Stop>
-    requires params { q.params ≤ 2000 }
+    requires params { q.params ≤ most_height }
     requires few { HaveFewArguments (map constructor_shape cons.now) }
-    requires number { number + length cons.now ≤ 2000 }
+    requires number { number + length cons.now ≤ most_height }
     requires depth { depth ≤ 20000 }
     ensures { Gives tree_of result (Ok (applied_to_methods (λ i c. spec.direct_method q depth c) number (tree_of head) (map constructor_shape cons.now))) }
 {
@@ -121,8 +122,8 @@ fn applied_to_direct_methods(
 }
 
 fn direct_method(alloc: Global, q: Carrier, depth: u32, con: &Constructor) -> Result<Term, Stop>
-    requires params { q.params ≤ 2000 }
-    requires few { length con.now.args ≤ 2000 }
+    requires params { q.params ≤ most_height }
+    requires few { length con.now.args ≤ most_height }
     requires depth { depth ≤ 20000 }
     ensures { Gives tree_of result (Ok (spec.direct_method q depth (constructor_shape con.now))) }
 {

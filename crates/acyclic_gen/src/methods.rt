@@ -1,5 +1,6 @@
 ghost use Rattle.std.specs.Prelude.{◌≡◌, ◌≤◌, ◌+◌, ◌∷◌, [], length, map};
 ghost use Rattle.core_terms.specs.Answers.{Gives};
+ghost use Rattle.core_terms.specs.Bounds.{most_height};
 ghost use Rattle.core_terms.specs.Meanings.{tree_of};
 ghost use Rattle.core_sig.specs.Shapes.{argument_shape, constructor_shape};
 ghost use Rattle.acyclic_gen.specs.Bounds.{IsNearClaim};
@@ -88,9 +89,9 @@ fn hypothesis(
     ty: &Term,
 ) -> Result<Term, Stop>
     requires claim { IsNearClaim claim }
-    requires params { q.params ≤ 2000 }
+    requires params { q.params ≤ most_height }
     requires first { first ≤ 100000 }
-    requires at { at ≤ 2000 }
+    requires at { at ≤ most_height }
     requires depth { depth ≤ 100000 }
     ensures { Gives tree_of result (Ok (spec.hypothesis claim q first at depth count (tree_of ty.now))) }
 {
@@ -125,9 +126,9 @@ fn hypotheses_over(
     end: Term,
 ) -> Result<Term, Stop>
     requires claim { IsNearClaim claim }
-    requires params { q.params ≤ 2000 }
+    requires params { q.params ≤ most_height }
     requires first { first ≤ 100000 }
-    requires at { at + length args.now ≤ 2000 }
+    requires at { at + length args.now ≤ most_height }
     requires depth { depth + length args.now ≤ 100000 }
     ensures { Gives tree_of result (Ok (spec.hypotheses_over claim q first at depth (map argument_shape args.now) (tree_of end))) }
 {
@@ -154,8 +155,8 @@ pub fn method_over(
     end: Term,
 ) -> Result<Term, Stop>
     requires claim { IsNearClaim claim }
-    requires params { q.params ≤ 2000 }
-    requires few { length con.now.args ≤ 2000 }
+    requires params { q.params ≤ most_height }
+    requires few { length con.now.args ≤ most_height }
     requires depth { depth ≤ 50000 }
     ensures { Gives tree_of result (Ok (spec.method_over claim q depth (constructor_shape con.now) (tree_of end))) }
 {

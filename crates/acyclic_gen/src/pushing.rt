@@ -1,6 +1,7 @@
 ghost use Rattle.std.specs.Prelude.{◌≡◌, ◌≤◌, ◌<◌, ◌+◌, length, map};
 ghost use Rattle.theory.specs.Terms as tree;
 ghost use Rattle.core_terms.specs.Answers.{Gives};
+ghost use Rattle.core_terms.specs.Bounds.{most_height};
 ghost use Rattle.core_terms.specs.Meanings.{tree_of};
 ghost use Rattle.core_sig.specs.Shapes.{HaveFewArguments, argument_shape, constructor_shape};
 ghost use Rattle.case_below_gen.specs.CourseEntries.{applied_to_methods};
@@ -79,7 +80,7 @@ fn pushed_pair(
     branch: Branch,
     directs: &[Direct],
 ) -> Result<Term, Stop>
-    requires params { q.params ≤ 2000 }
+    requires params { q.params ≤ most_height }
     requires push { IsNearPush push }
     requires branch { IsNearBranch branch }
     requires given { branch.given ≤ 50000 }
@@ -99,7 +100,7 @@ fn pushed_pair(
 
 /// The branch for constructor `number`, at a depth.
 fn branch_of(depth: u32, number: u32, con: &Constructor) -> Branch
-    requires few { length con.now.args ≤ 2000 }
+    requires few { length con.now.args ≤ most_height }
     requires depth { depth ≤ 20000 }
     ensures is { result ≡ spec.branch_of depth number (constructor_shape con.now) }
     ensures near { IsNearBranch result }
@@ -126,10 +127,10 @@ fn push_in(
     branch: Branch,
     con: &Constructor,
 ) -> Result<Term, Stop>
-    requires params { q.params ≤ 2000 }
+    requires params { q.params ≤ most_height }
     requires push { IsNearPush push }
     requires own { AreSmallArguments (map argument_shape own.now) }
-    requires few { length con.now.args ≤ 2000 }
+    requires few { length con.now.args ≤ most_height }
     requires branch { IsNearBranch branch }
     requires start { branch.start ≤ 20000 }
     requires given { branch.given ≤ 40000 }
@@ -154,10 +155,10 @@ fn push_method(
     number: u32,
     con: &Constructor,
 ) -> Result<Term, Stop>
-    requires params { q.params ≤ 2000 }
+    requires params { q.params ≤ most_height }
     requires push { IsNearPush push }
     requires own { AreSmallArguments (map argument_shape own.now) }
-    requires few { length con.now.args ≤ 2000 }
+    requires few { length con.now.args ≤ most_height }
     requires depth { depth ≤ 20000 }
     ensures { Gives tree_of result (Ok (spec.push_method q push (map argument_shape own.now) depth number (constructor_shape con.now))) }
 {
@@ -175,11 +176,11 @@ fn applied_to_push_methods(
     head: Term,
     cons: &[Constructor],
 ) -> Result<Term, Stop>
-    requires params { q.params ≤ 2000 }
+    requires params { q.params ≤ most_height }
     requires push { IsNearPush push }
     requires own { AreSmallArguments (map argument_shape own.now) }
     requires few { HaveFewArguments (map constructor_shape cons.now) }
-    requires number { number + length cons.now ≤ 2000 }
+    requires number { number + length cons.now ≤ most_height }
     requires depth { depth ≤ 20000 }
     ensures { Gives tree_of result (Ok (applied_to_methods (spec.push_method q push (map argument_shape own.now) depth) number (tree_of head) (map constructor_shape cons.now))) }
 {
@@ -204,11 +205,11 @@ pub fn pushing(
     depth: u32,
 ) -> Result<Term, Stop>
     requires level { q.level < 100 }
-    requires params { q.params ≤ 2000 }
+    requires params { q.params ≤ most_height }
     requires push { IsNearPush push }
     requires own { AreSmallArguments (map argument_shape own.now) }
     requires few { HaveFewArguments (map constructor_shape cons.now) }
-    requires count { length cons.now ≤ 2000 }
+    requires count { length cons.now ≤ most_height }
     requires depth { depth ≤ 20000 }
     ensures { Gives tree_of result (Ok (spec.pushing q (map constructor_shape cons.now) push (map argument_shape own.now) depth)) }
 {

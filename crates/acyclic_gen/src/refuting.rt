@@ -1,9 +1,9 @@
 ghost use Rattle.std.specs.Prelude.{◌≡◌, ◌≤◌, ◌+◌, ◌++◌, IfOk, length, map};
 ghost use Rattle.core_terms.specs.Answers.{Gives};
-ghost use Rattle.core_terms.specs.Levels.{run};
+ghost use Rattle.core_terms.specs.Bounds.{most_height};
 ghost use Rattle.core_terms.specs.Meanings.{tree_of, tele_of};
 ghost use Rattle.core_sig.specs.Shapes.{argument_shape};
-ghost use Rattle.tele_eq.specs.Items.{AreSmall, AreSmallTerms, items_of};
+ghost use Rattle.tele_eq.specs.Items.{AreSmall, items_of};
 ghost use Rattle.acyclic_gen.specs.Bounds.{AreSmallArguments, IsNear, IsNearBranch, IsNearPush};
 ghost use Rattle.acyclic_gen.specs.Pushing as spec;
 
@@ -17,7 +17,7 @@ use case_below_gen::Side;
 use core_sig::Arg;
 use core_terms::{Items, Run, Stop, Tele, Term, applied_to_run, functions, place, variable};
 use std::alloc::Global;
-use tele_eq::{Item, tele_equations_whole};
+use tele_eq::{Item, tele_equations_whole, variables_of_run};
 
 /// The branch of a push for constructor c': its number, the level of its first argument and how many there are, the level of the
 /// first hypothesis, and that of the given tuple.
@@ -63,19 +63,6 @@ fn placed_items(
     }
 }
 
-/// The variables with `count` levels from `start` on, after those that are made.
-#[tactic(auto, using(tele_eq::proofs::Growing::growing))]
-fn variables_from(depth: u32, start: u32, count: u32, mut made: Tele) -> Result<Tele, Stop>
-    requires { start + count ≤ 1000000 }
-    ensures { Gives tele_of result (Ok (tele_of made ++ run depth start count)) }
-{
-    if count == 0 {
-        return Ok(made);
-    }
-    made.push(variable(depth, start))?;
-    variables_from(depth, start + 1, count - 1, made)
-}
-
 /// The constructor's own arguments as the types of a telescope, at a depth.
 fn argument_items(
     alloc: Global,
@@ -84,7 +71,7 @@ fn argument_items(
     own: &[Arg],
     depth: u32,
 ) -> Result<Items<Item>, Stop>
-    requires params { q.params ≤ 2000 }
+    requires params { q.params ≤ most_height }
     requires own { AreSmallArguments (map argument_shape own.now) }
     requires depth { depth ≤ 200000 }
     ensures is { Gives items_of result (Ok (spec.argument_items q push (map argument_shape own.now) depth)) }
@@ -93,16 +80,6 @@ fn argument_items(
 {
     let runs = [(0, q.params), (depth, push.count)];
     placed_items(alloc, &runs, q.params, depth, own, Items::new(alloc))
-}
-
-/// The variables with `count` levels from `start` on, at a depth.
-fn variables(alloc: Global, depth: u32, start: u32, count: u32) -> Result<Tele, Stop>
-    requires start { start + count ≤ 1000000 }
-    requires depth { depth ≤ 1000000 }
-    ensures is { Gives tele_of result (Ok (run depth start count)) }
-    ensures small { IfOk result (λ terms. AreSmallTerms (tele_of terms)) }
-{
-    variables_from(depth, start, count, Items::new(alloc))
 }
 
 /// The equations of the constructor's own arguments and those of the branch, at a depth.
@@ -114,7 +91,7 @@ fn argument_equations(
     branch: Branch,
     depth: u32,
 ) -> Result<Tele, Stop>
-    requires params { q.params ≤ 2000 }
+    requires params { q.params ≤ most_height }
     requires push { IsNearPush push }
     requires branch { IsNearBranch branch }
     requires own { AreSmallArguments (map argument_shape own.now) }
@@ -122,8 +99,8 @@ fn argument_equations(
     ensures { Gives tele_of result (Ok (spec.argument_equations q push (map argument_shape own.now) branch depth)) }
 {
     let tele = argument_items(alloc, q, push, own, depth)?;
-    let left = variables(alloc, depth, push.first, push.count)?;
-    let right = variables(alloc, depth, branch.start, push.count)?;
+    let left = variables_of_run(alloc, depth, push.first, push.count)?;
+    let right = variables_of_run(alloc, depth, branch.start, push.count)?;
     tele_equations_whole(alloc, &tele, &left, &right)
 }
 
@@ -162,7 +139,7 @@ fn by_arguments(
     branch: Branch,
     depth: u32,
 ) -> Result<Term, Stop>
-    requires params { q.params ≤ 2000 }
+    requires params { q.params ≤ most_height }
     requires push { IsNearPush push }
     requires branch { IsNearBranch branch }
     requires own { AreSmallArguments (map argument_shape own.now) }
@@ -199,7 +176,7 @@ pub fn refutation(
     branch: Branch,
     depth: u32,
 ) -> Result<Term, Stop>
-    requires params { q.params ≤ 2000 }
+    requires params { q.params ≤ most_height }
     requires push { IsNearPush push }
     requires branch { IsNearBranch branch }
     requires own { AreSmallArguments (map argument_shape own.now) }

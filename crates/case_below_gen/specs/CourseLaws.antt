@@ -9,6 +9,7 @@ use Rattle.theory.specs.Prelude.{pair_type, pair_family}
 use Rattle.theory.specs.Eliminators.{hypotheses, no_variable}
 use Rattle.theory.specs.Signatures.{Signature, FamilyOf, Definition, IsEntryAt, HasClosedBodies}
 use Rattle.theory.specs.Conversion.{Converts}
+use Rattle.core_terms.specs.Bounds.{most_height}
 use Rattle.core_sig.specs.FamilyShapes.{argument_shapes, family_shape}
 use Rattle.core_sig.specs.Meanings.{behind}
 use Rattle.core_sig.specs.Shapes.{ArgumentShape, ConstructorShape, Shape, recursive_count}
@@ -34,7 +35,7 @@ AreRegular p at [] = Unit {0}
 AreRegular p at (a ∷ arguments) = (free_of a.type ≤ p + at) × (height a.type ≤ 2000) × HasFewInner a.kind × AreRegular p (at + 1) arguments
 
 abbrev pub IsRegularTarget : ℕ → Term → Type 0
-IsRegularTarget n t = (free_of t ≤ n) × (height t ≤ 2000)
+IsRegularTarget n t = (free_of t ≤ n) × (height t ≤ most_height)
 
 pub record IsRegularConstructor (p : ℕ) (c : ConstructorShape) : Type 0 where
   pub arguments : AreRegular p 0 c.arguments

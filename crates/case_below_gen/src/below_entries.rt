@@ -7,6 +7,7 @@ ghost use Rattle.theory.specs.Signatures.{FamilyOf, IsEntryAt, IsPrefix, Signatu
 ghost use Rattle.theory.specs.Prelude.{prelude};
 ghost use Rattle.theory.specs.SignatureScopes.{IsFamilyNumber, IsScopedSignature};
 ghost use Rattle.theory.specs.Terms.{top};
+ghost use Rattle.core_terms.specs.Bounds.{most_height};
 ghost use Rattle.case_below_gen.specs.CourseEntries as spec;
 ghost use Rattle.core_sig.specs.ScopedDrafts.{IsScopedDraft};
 ghost use Rattle.core_sig.specs.Drafts.{draft_of};
@@ -92,9 +93,9 @@ fn applied_to_below_methods(
     head: Term,
     cons: &[Constructor],
 ) -> Result<Term, Stop>
-    requires params { q.params ≤ 2000 }
+    requires params { q.params ≤ most_height }
     requires few { HaveFewArguments (map constructor_shape cons.now) }
-    requires number { number + length cons.now ≤ 2000 }
+    requires number { number + length cons.now ≤ most_height }
     requires depth { depth ≤ 20000 }
     ensures { Gives tree_of result (Ok (spec.applied_to_methods (λ _ c. spec.below_method q depth c) number (tree_of head) (map constructor_shape cons.now))) }
 {
@@ -109,8 +110,8 @@ fn applied_to_below_methods(
 }
 
 fn below_method(alloc: Global, q: Course, depth: u32, con: &Constructor) -> Result<Term, Stop>
-    requires params { q.params ≤ 2000 }
-    requires few { length con.now.args ≤ 2000 }
+    requires params { q.params ≤ most_height }
+    requires few { length con.now.args ≤ most_height }
     requires depth { depth ≤ 20000 }
     ensures { Gives tree_of result (Ok (spec.below_method q depth (constructor_shape con.now))) }
 {

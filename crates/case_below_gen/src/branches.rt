@@ -1,5 +1,6 @@
 ghost use Rattle.std.specs.Prelude.{◌≡◌, ◌≤◌, ◌+◌, length, map};
 ghost use Rattle.core_terms.specs.Answers.{Gives};
+ghost use Rattle.core_terms.specs.Bounds.{most_height};
 ghost use Rattle.core_terms.specs.Meanings.{tree_of};
 ghost use Rattle.core_sig.specs.Shapes.{HaveFewArguments, constructor_shape};
 ghost use Rattle.case_below_gen.specs.CaseEntries as spec;
@@ -17,8 +18,8 @@ fn branch_type(
     depth: u32,
     con: &Constructor,
 ) -> Result<Term, Stop>
-    requires params { motive.params ≤ 2000 }
-    requires few { length con.now.args ≤ 2000 }
+    requires params { motive.params ≤ most_height }
+    requires few { length con.now.args ≤ most_height }
     requires depth { depth ≤ 10000 }
     ensures { Gives tree_of result (Ok (spec.branch_type fam motive.params motive.level number depth (constructor_shape con.now))) }
 {
@@ -48,9 +49,9 @@ pub fn branches_over(
     cons: &[Constructor],
     end: Term,
 ) -> Result<Term, Stop>
-    requires params { motive.params ≤ 2000 }
+    requires params { motive.params ≤ most_height }
     requires few { HaveFewArguments (map constructor_shape cons.now) }
-    requires number { number + length cons.now ≤ 2000 }
+    requires number { number + length cons.now ≤ most_height }
     requires depth { depth + length cons.now ≤ 10000 }
     ensures { Gives tree_of result (Ok (spec.branches_over binder fam motive.params motive.level number depth (map constructor_shape cons.now) (tree_of end))) }
 {
@@ -72,8 +73,8 @@ fn dropping(
     depth: u32,
     con: &Constructor,
 ) -> Result<Term, Stop>
-    requires params { motive.params ≤ 2000 }
-    requires few { length con.now.args ≤ 2000 }
+    requires params { motive.params ≤ most_height }
+    requires few { length con.now.args ≤ most_height }
     requires depth { depth ≤ 20000 }
     ensures { Gives tree_of result (Ok (spec.dropping motive.params motive.indices motive.level method depth (constructor_shape con.now))) }
 {
@@ -104,7 +105,7 @@ pub fn applied_to_droppings(
     head: Term,
     cons: &[Constructor],
 ) -> Result<Term, Stop>
-    requires params { motive.params ≤ 2000 }
+    requires params { motive.params ≤ most_height }
     requires few { HaveFewArguments (map constructor_shape cons.now) }
     requires method { method + length cons.now ≤ 10000 }
     requires depth { depth ≤ 20000 }

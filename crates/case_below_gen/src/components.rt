@@ -1,5 +1,6 @@
 ghost use Rattle.std.specs.Prelude.{◌≡◌, ◌≤◌, ◌+◌, ◌∷◌, [], length, map};
 ghost use Rattle.core_terms.specs.Answers.{Gives};
+ghost use Rattle.core_terms.specs.Bounds.{most_height};
 ghost use Rattle.core_terms.specs.Meanings.{tree_of};
 ghost use Rattle.core_sig.specs.Shapes.{argument_shape};
 ghost use Rattle.case_below_gen.specs.Components as spec;
@@ -179,9 +180,9 @@ pub fn component(
     count: u32,
     ty: &Term,
 ) -> Result<Term, Stop>
-    requires params { q.params ≤ 2000 }
+    requires params { q.params ≤ most_height }
     requires first { first ≤ 100000 }
-    requires at { at ≤ 2000 }
+    requires at { at ≤ most_height }
     requires depth { depth ≤ 100000 }
     ensures { Gives tree_of result (Ok (spec.component e q first at depth hypothesis count (tree_of ty.now))) }
 {
@@ -208,9 +209,9 @@ pub fn components_over(
     args: &[Arg],
     end: Term,
 ) -> Result<Term, Stop>
-    requires params { q.params ≤ 2000 }
+    requires params { q.params ≤ most_height }
     requires first { first ≤ 100000 }
-    requires at { at + length args.now ≤ 2000 }
+    requires at { at + length args.now ≤ most_height }
     requires depth { depth + length args.now ≤ 100000 }
     ensures { Gives tree_of result (Ok (spec.components_over e q first at depth (map argument_shape args.now) (tree_of end))) }
 {
@@ -238,9 +239,9 @@ pub fn tuple_type(
     hypothesis: u32,
     args: &[Arg],
 ) -> Result<Term, Stop>
-    requires params { q.params ≤ 2000 }
+    requires params { q.params ≤ most_height }
     requires first { first ≤ 100000 }
-    requires at { at + length args.now ≤ 2000 }
+    requires at { at + length args.now ≤ most_height }
     requires depth { depth ≤ 100000 }
     requires hypothesis { hypothesis + length args.now ≤ 1000000 }
     ensures { Gives tree_of result (Ok (spec.tuple_type e q first at depth hypothesis (map argument_shape args.now))) }
@@ -268,9 +269,9 @@ pub fn tuple(
     hypothesis: u32,
     args: &[Arg],
 ) -> Result<Term, Stop>
-    requires params { q.params ≤ 2000 }
+    requires params { q.params ≤ most_height }
     requires first { first ≤ 100000 }
-    requires at { at + length args.now ≤ 2000 }
+    requires at { at + length args.now ≤ most_height }
     requires depth { depth ≤ 100000 }
     requires hypothesis { hypothesis + length args.now ≤ 1000000 }
     ensures { Gives tree_of result (Ok (spec.tuple q first at depth hypothesis (map argument_shape args.now))) }

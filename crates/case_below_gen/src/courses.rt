@@ -1,5 +1,6 @@
 ghost use Rattle.std.specs.Prelude.{◌≡◌, ◌≤◌, ◌+◌, ◌∷◌, [], length, map, IfOk, OnErr};
 ghost use Rattle.core_terms.specs.Answers.{Gives};
+ghost use Rattle.core_terms.specs.Bounds.{most_height};
 ghost use Rattle.core_terms.specs.Meanings.{tree_of};
 ghost use Rattle.core_terms.specs.declared.stop.Stop.TheVariants.{Memory};
 ghost use Rattle.core_sig.specs.Shapes.{constructor_shape, shape_of};
@@ -42,9 +43,9 @@ pub fn at_constructor(
     head: Term,
     con: &Constructor,
 ) -> Result<Term, Stop>
-    requires params { params ≤ 2000 }
+    requires params { params ≤ most_height }
     requires first { first ≤ 100000 }
-    requires few { length con.now.args ≤ 2000 }
+    requires few { length con.now.args ≤ most_height }
     requires depth { depth ≤ 1000000 }
     ensures { Gives tree_of result (Ok (spec.at_constructor fam params number first depth (tree_of head) (constructor_shape con.now))) }
 {

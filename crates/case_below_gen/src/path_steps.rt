@@ -3,6 +3,7 @@ ghost use Rattle.core_terms.specs.Answers.{Gives};
 ghost use Rattle.core_terms.specs.Meanings.{tree_of};
 ghost use Rattle.core_sig.specs.Shapes.{argument_shape};
 ghost use Rattle.theory.specs.Terms as tree;
+ghost use Rattle.core_terms.specs.Bounds.{most_height};
 ghost use Rattle.case_below_gen.specs.Components.{pair_of as pair_type};
 ghost use Rattle.case_below_gen.specs.PathSteps as spec;
 ghost use Rattle.case_below_gen.specs.Projections.{side_variable};
@@ -71,8 +72,8 @@ fn component_side(
     rest: &[Arg],
     value: Term,
 ) -> Result<Term, Stop>
-    requires params { q.params ≤ 2000 }
-    requires at { at + 1 + length rest.now ≤ 2000 }
+    requires params { q.params ≤ most_height }
+    requires at { at + 1 + length rest.now ≤ most_height }
     requires depth { depth ≤ 10000 }
     ensures { Gives tree_of result (Ok (spec.component_side side q depth at count (tree_of ty.now) (map argument_shape rest.now) (tree_of value))) }
 {
@@ -97,8 +98,8 @@ fn component_in(
     args: &[Arg],
     value: Term,
 ) -> Result<Term, Stop>
-    requires params { q.params ≤ 2000 }
-    requires at { at + length args.now ≤ 2000 }
+    requires params { q.params ≤ most_height }
+    requires at { at + length args.now ≤ most_height }
     requires depth { depth ≤ 10000 }
     ensures { Gives tree_of result (Ok (spec.component_in q depth wanted at (map argument_shape args.now) (tree_of value))) }
 {
@@ -145,10 +146,10 @@ fn at_part(
     end: &Term,
     head: Term,
 ) -> Result<Term, Stop>
-    requires params { q.params ≤ 2000 }
-    requires at { to.at ≤ 2000 }
+    requires params { q.params ≤ most_height }
+    requires at { to.at ≤ most_height }
     requires start { to.start ≤ 10000 }
-    requires count { to.count ≤ 2000 }
+    requires count { to.count ≤ most_height }
     requires depth { depth ≤ 20000 }
     ensures { Gives tree_of result (Ok (spec.at_part q depth to.at to.start to.count (tree_of end.now) (tree_of head))) }
 {
@@ -171,10 +172,10 @@ fn part_side(
     end: &Term,
     value: Term,
 ) -> Result<Term, Stop>
-    requires params { q.params ≤ 2000 }
-    requires at { to.at ≤ 2000 }
+    requires params { q.params ≤ most_height }
+    requires at { to.at ≤ most_height }
     requires start { to.start ≤ 10000 }
-    requires count { to.count ≤ 2000 }
+    requires count { to.count ≤ most_height }
     requires depth { depth < 20000 }
     ensures { Gives tree_of result (Ok (spec.part_side side q depth to.at to.start to.count (tree_of end.now) (tree_of value))) }
 {
@@ -202,10 +203,10 @@ pub fn path_step(
     count: u32,
     end: &Term,
 ) -> Result<Term, Stop>
-    requires params { q.params ≤ 2000 }
-    requires few { length args.now ≤ 2000 }
-    requires at { at ≤ 2000 }
-    requires count { count ≤ 2000 }
+    requires params { q.params ≤ most_height }
+    requires few { length args.now ≤ most_height }
+    requires at { at ≤ most_height }
+    requires count { count ≤ most_height }
     ensures { Gives tree_of result (Ok (spec.path_step side q (map argument_shape args.now) at count (tree_of end.now))) }
 {
     let value = q.params + 1 + args.len() as u32;

@@ -137,7 +137,7 @@ fn path_along(
     requires part_low { tree.height (tree_of d.now.part.now) ≤ most_height }
     requires whole { tree.free_of (tree_of whole.now) ≤ most_inner_variables }
     requires all { length (spine_of (tree_of whole.now)) ≡ length d.now.family.now.params + length args.now }
-    requires few { length d.now.family.now.params + length args.now ≤ 2000 }
+    requires few { length d.now.family.now.params + length args.now ≤ most_height }
     requires at { at ≤ length args.now }
     requires term { tree.free_of (tree_of t.now) ≤ most_inner_variables }
     requires low { tree.height (tree_of t.now) ≤ most_height }
@@ -172,7 +172,7 @@ fn path_at(
     requires part_low { tree.height (tree_of d.now.part.now) ≤ most_height }
     requires whole { tree.free_of (tree_of whole.now) ≤ most_inner_variables }
     requires all { length (spine_of (tree_of whole.now)) ≡ length d.now.family.now.params + length args.now }
-    requires few { length d.now.family.now.params + length args.now ≤ 2000 }
+    requires few { length d.now.family.now.params + length args.now ≤ most_height }
     requires argument { tree.free_of (tree_of r.now) ≤ most_inner_variables }
     requires low { tree.height (tree_of r.now) ≤ most_height }
     requires below { tree.free_of (tree_of below) ≤ most_inner_variables }
@@ -209,9 +209,9 @@ fn path_end(
     requires part { tree.free_of (tree_of d.now.part.now) ≤ most_inner_variables }
     requires whole { tree.free_of (tree_of whole.now) ≤ most_inner_variables }
     requires all { length (spine_of (tree_of whole.now)) ≡ length d.now.family.now.params + length args.now }
-    requires few { length d.now.family.now.params + length args.now ≤ 2000 }
-    requires at { at ≤ 2000 }
-    requires count { count ≤ 2000 }
+    requires few { length d.now.family.now.params + length args.now ≤ most_height }
+    requires at { at ≤ most_height }
+    requires count { count ≤ most_height }
     requires below { tree.free_of (tree_of below) ≤ most_inner_variables }
     ensures { Makes result (spec.step_to (descent_of d.now) First (tree_of whole.now) (map argument_shape args.now) at count (behind count (tree_of ty.now)) (spec.last_arguments count (tree_of d.now.part.now)) (tree_of below)) }
 {
@@ -237,8 +237,8 @@ fn step_inside(
     requires motive { tree.free_of (tree_of d.now.motive.now) ≤ most_inner_variables }
     requires whole { tree.free_of (tree_of whole.now) ≤ most_inner_variables }
     requires all { length (spine_of (tree_of whole.now)) ≡ length d.now.family.now.params + length args.now }
-    requires few { length d.now.family.now.params + length args.now ≤ 2000 }
-    requires at { at ≤ 2000 }
+    requires few { length d.now.family.now.params + length args.now ≤ most_height }
+    requires at { at ≤ most_height }
     requires below { tree.free_of (tree_of below) ≤ most_inner_variables }
     ensures { Makes result (spec.step_to (descent_of d.now) Second (tree_of whole.now) (map argument_shape args.now) at 0 (tree_of ty.now) [] (tree_of below)) }
 {
@@ -274,9 +274,9 @@ fn step_to(
     requires motive { tree.free_of (tree_of d.now.motive.now) ≤ most_inner_variables }
     requires whole { tree.free_of (tree_of whole.now) ≤ most_inner_variables }
     requires all { length (spine_of (tree_of whole.now)) ≡ length d.now.family.now.params + length args.now }
-    requires few { length d.now.family.now.params + length args.now ≤ 2000 }
-    requires at { to.now.at ≤ 2000 }
-    requires count { to.now.count ≤ 2000 }
+    requires few { length d.now.family.now.params + length args.now ≤ most_height }
+    requires at { to.now.at ≤ most_height }
+    requires count { to.now.count ≤ most_height }
     requires inner { All (λ t. tree.free_of t ≤ most_inner_variables) (tele_of inner.items) }
     requires below { tree.free_of (tree_of below) ≤ most_inner_variables }
     ensures { Makes result (spec.step_to (descent_of d.now) side (tree_of whole.now) (map argument_shape args.now) to.now.at to.now.count (tree_of to.now.end.now) (tele_of inner.items) (tree_of below)) }
@@ -289,7 +289,7 @@ fn step_to(
 
 /// The recursion that a descent is in.
 fn course_of_descent(d: &Descent) -> Result<Course, Stop>
-    requires { length d.now.family.now.params ≤ 2000 }
+    requires { length d.now.family.now.params ≤ most_height }
     ensures { Gives (λ q. q) result (Ok (course_of (shape_of d.now.family.now) d.now.m d.now.below)) }
 {
     Ok(Course {

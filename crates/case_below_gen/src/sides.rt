@@ -9,6 +9,7 @@ ghost use Rattle.theory.specs.Prelude.{prelude};
 ghost use Rattle.theory.specs.SignatureScopes.{IsFamilyNumber, IsScopedSignature};
 ghost use Rattle.theory.specs.Terms.{top};
 ghost use Rattle.theory.specs.Terms as tree;
+ghost use Rattle.core_terms.specs.Bounds.{most_height};
 ghost use Rattle.case_below_gen.specs.CourseEntries.{aux_goal, course_of};
 ghost use Rattle.case_below_gen.specs.declared.sides.Side.TheVariants.{First, Second};
 ghost use Rattle.case_below_gen.specs.Projections as spec;
@@ -176,7 +177,7 @@ pub fn side_variable(side: Side) -> Term
 }
 
 fn aux_at(alloc: Global, q: Course, aux: u32, depth: u32) -> Result<Term, Stop>
-    requires { q.params ≤ 2000 }
+    requires { q.params ≤ most_height }
     ensures { Gives tree_of result (Ok (spec.aux_at q aux depth)) }
 {
     let head = applied_to_run(alloc, Term::Const(aux), depth, 0, q.params)?;
@@ -193,7 +194,7 @@ fn projection(
     depth: u32,
     start: u32,
 ) -> Result<Term, Stop>
-    requires params { q.params ≤ 2000 }
+    requires params { q.params ≤ most_height }
     requires start { start + q.indices ≤ 1000000 }
     requires depth { depth ≤ 1000000 }
     ensures { Gives tree_of result (Ok (spec.projection side q aux depth start)) }

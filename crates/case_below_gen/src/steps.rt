@@ -1,5 +1,6 @@
 ghost use Rattle.std.specs.Prelude.{◌≡◌, ◌≤◌, ◌+◌};
 ghost use Rattle.core_terms.specs.Answers.{Gives};
+ghost use Rattle.core_terms.specs.Bounds.{most_height};
 ghost use Rattle.core_terms.specs.Meanings.{tree_of};
 ghost use Rattle.core_sig.specs.Shapes.{shape_of};
 ghost use Rattle.case_below_gen.specs.CourseEntries as spec;
@@ -21,8 +22,8 @@ pub fn step_over(
     end: Term,
 ) -> Result<Term, Stop>
     requires few { HasFewBinders (shape_of f.now) }
-    requires params { q.params ≤ 2000 }
-    requires indices { q.indices ≤ 2000 }
+    requires params { q.params ≤ most_height }
+    requires indices { q.indices ≤ most_height }
     ensures { Gives tree_of result (Ok (spec.step_over binder fam (shape_of f.now) q (tree_of end))) }
 {
     let end = scrutinee_over(alloc, binder, fam, f, q.params + 2, end)?;
@@ -36,7 +37,7 @@ pub fn step_over(
 /// The type of a step, at a depth.
 fn step_type(alloc: Global, fam: u32, f: &Family, q: Course, depth: u32) -> Result<Term, Stop>
     requires few { HasFewBinders (shape_of f.now) }
-    requires indices { q.indices ≤ 2000 }
+    requires indices { q.indices ≤ most_height }
     requires depth { depth ≤ 20000 }
     ensures { Gives tree_of result (Ok (spec.step_type fam (shape_of f.now) q depth)) }
 {

@@ -16,7 +16,7 @@ use core_sig::Signature;
 use core_terms::{Pat, Stop, Term, Walk, checked, copy_tele, copy_whole, number_of};
 use leaf_terms::{Part, Plan, Recursion, no_part, recursion_of};
 use std::alloc::Global;
-use unifier::variables;
+use tele_eq::variables;
 
 /// The equation of two sides at the site of a clause.
 fn equation_of_sides(alloc: Global, site: &Site, left: Term, right: Term) -> Result<Equation, Stop>

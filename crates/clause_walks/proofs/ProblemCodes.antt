@@ -13,7 +13,7 @@ use Rattle.core_terms.specs.declared.stop.Stop.TheVariants.{Deep}
 use Rattle.core_terms.specs.declared.term.Term as code-term
 use Rattle.core_sig.specs.Meanings.{argument_of, constructor_of}
 use Rattle.core_sig.specs.declared.family.Constructor as code-constructor
-use Rattle.kernel_reduce.specs.WellScoped.{context_limit}
+use Rattle.core_terms.specs.Bounds.{context_limit}
 use Rattle.core_terms.proofs.Answers.{stands-has}
 use Rattle.tele_eq.specs.Items.{Item, item_of}
 use Rattle.unification.specs.Heights.{bounded_items}

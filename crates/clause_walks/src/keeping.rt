@@ -7,6 +7,7 @@ ghost use Rattle.clause_walks.specs.Meanings.{pair_of, pairs_of};
 ghost use Rattle.clause_walks.specs.PointConditions.{is_low_point};
 ghost use Rattle.clause_walks.specs.PointMeanings.{point_of};
 ghost use Rattle.theory.specs.Terms as tree;
+ghost use Rattle.core_terms.specs.Bounds.{most_height};
 ghost use Rattle.unification.specs.Built as built;
 ghost use Rattle.unifier.specs.CodeBuilt.{IfThere, IsBuiltAs};
 ghost use Rattle.unifier.specs.Conditions.{most_levels};
@@ -19,10 +20,10 @@ use core_terms::{Items, Stop, Tele, Term, applied, copy_tele, copy_whole};
 use std::alloc::Global;
 use unifier::{Built, built_of, split_spine};
 
-/// The shared term with what a pair was compared with. Its height nothing tests.
+/// The shared term with what a pair was compared with. Nothing tests its height.
 #[cycle(keeping)]
 fn keep(alloc: Global, sig: &Signature, pair: &Pair, t: &Term) -> Result<Term, Stop>
-    requires low { tree.height (tree_of t.now) ≤ 2000 }
+    requires low { tree.height (tree_of t.now) ≤ most_height }
     ensures { Gives tree_of result (Ok (spec.keep sig.now (pair_of pair.now) (tree_of t.now))) }
 {
     match pair {
@@ -44,7 +45,7 @@ fn keep_arguments(
     b: Built,
     t: &Term,
 ) -> Result<Term, Stop>
-    requires low { tree.height (tree_of t.now) ≤ 2000 }
+    requires low { tree.height (tree_of t.now) ≤ most_height }
     requires there { IfThere (IsBuiltAs b) (built.built_of sig.now (tree_of t.now)) }
     ensures { (new : tree.Term) → Gives tree_of result (Ok (spec.kept_over (spec.keep_all sig.now (pairs_of pairs.now)) new (built.built_of sig.now (tree_of t.now)))) }
 {

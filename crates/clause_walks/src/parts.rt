@@ -246,7 +246,7 @@ pub fn all_left(pairs: &[Pair]) -> Result<u64, Stop>
     }
 }
 
-/// The term of a pair. Its height nothing tests.
+/// The term of a pair. Nothing tests its height.
 #[cycle(terms)]
 pub(crate) fn term_in(alloc: Global, pair: &Pair) -> Result<Term, Stop>
     ensures { Gives tree_of result (Ok (spec.term_in (pair_of pair.now))) }

@@ -8,7 +8,8 @@ ghost use Rattle.unifier.specs.Conditions.{most_levels};
 
 use core_terms::{MAX_HEIGHT, Stop, Tele, Term, copy_tele, copy_whole, inst, inst_terms};
 use std::alloc::Global;
-use unifier::{are_low, variables};
+use tele_eq::variables;
+use unifier::are_low;
 
 /// How many variables a context may have; with more, memory is short.
 pub(crate) const MOST_LEVELS: usize = 2147400000;

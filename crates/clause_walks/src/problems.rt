@@ -6,6 +6,7 @@ ghost use Rattle.core_sig.specs.Kinds.{HasKinds, HaveKinds};
 ghost use Rattle.theory.specs.Spines.{spine_of};
 ghost use Rattle.theory.specs.Scopes.{IsTelescopeOver};
 ghost use Rattle.theory.specs.Terms.{Var, height};
+ghost use Rattle.core_terms.specs.Bounds.{context_limit, most_height};
 ghost use Rattle.tele_eq.specs.Items.{items_of};
 ghost use Rattle.unification.specs.Heights.{bounded_items};
 ghost use Rattle.unification.specs.Injecting.{lifted as lifted_of};
@@ -13,7 +14,6 @@ ghost use Rattle.unification.specs.Records.{argument_items as argument_items_of,
 ghost use Rattle.unification.specs.ScopedStates.{IsReady, IsScopedProblem};
 ghost use Rattle.unifier.specs.Conditions.{AreOver, IsGiven, most_depth};
 ghost use Rattle.unifier.specs.Meanings.{problem_of as problem_meant};
-ghost use Rattle.kernel_reduce.specs.WellScoped.{context_limit};
 ghost use Rattle.case_trees.specs.Problems as spec;
 ghost use Rattle.clause_walks.specs.LookConditions.{IsContext, IsMember, IsSplitAs, most_params};
 ghost use Rattle.clause_walks.specs.LookMeanings.{member_meant};
@@ -44,7 +44,7 @@ pub fn member_of<'a>(
     sig: &'a Signature,
     t: &Term,
 ) -> Result<Option<Member<'a>>, Stop>
-    requires low { height (tree_of t.now) ≤ 2000 }
+    requires low { height (tree_of t.now) ≤ most_height }
     ensures answer { Gives (option_map member_meant) result (Ok (spec.member_of sig.now (tree_of t.now))) }
     ensures member { (n : ℕ) → IsGiven sig.now n (tree_of t.now) → IfOk result (λ found. IfSome found (IsMember sig.now n)) }
 {
@@ -64,7 +64,7 @@ fn member_with<'a>(
     f: &'a Family,
     t: &Term,
 ) -> Result<Option<Member<'a>>, Stop>
-    requires low { height (tree_of t.now) ≤ 2000 }
+    requires low { height (tree_of t.now) ≤ most_height }
     ensures answer { Gives (option_map member_meant) result (Ok (spec.member_with number (spine_of (tree_of t.now)) (family_of f.now))) }
     ensures parts { IfOk result (λ found. IfSome found (IsSplitAs number f.now (tree_of t.now))) }
 {
@@ -109,7 +109,7 @@ fn types_behind(alloc: Global, items: &[Item], mut made: Tele) -> Result<Tele, S
 /// Indices after the arguments of a constructor, and the variable that is split.
 fn indices_with(alloc: Global, count: u32, indices: &[Term], x: u32) -> Result<Tele, Stop>
     requires variable { x ≤ 2147400000 }
-    requires count { count ≤ 2000 }
+    requires count { count ≤ most_height }
     requires indices { AreOver most_depth (tele_of indices.now) }
     ensures { Gives tele_of result (Ok (lifted_of count (tele_of indices.now) ++ Var (x + count) ∷ [])) }
 {
@@ -137,7 +137,7 @@ fn problem_from(
     left: Tele,
 ) -> Result<Problem, Stop>
     requires variable { x ≤ 2147400000 }
-    requires count { count ≤ 2000 }
+    requires count { count ≤ most_height }
     requires indices { AreOver most_depth (tele_of indices.now) }
     ensures { Gives problem_meant result (Ok (problem_of_parts (tele_of ctx.now) x count (tele_of indices.now) (items_of arguments.now) (items_of tele) (tele_of left))) }
 {
@@ -153,7 +153,7 @@ fn problem_from(
 
 /// The telescope of a constructor's arguments at the family's parameters, or Deep.
 fn arguments_at(alloc: Global, m: &Member, con: &Constructor) -> Result<Items<Item>, Stop>
-    requires few { length con.now.args ≤ 2000 }
+    requires few { length con.now.args ≤ most_height }
     requires kinds { HaveKinds m.now.number (family_of m.now.family.now) 0 con.now.args }
     requires parameters { AreOver most_params (tele_of m.now.params) }
     requires parameter_count { length m.now.params ≡ length m.now.family.now.params }
@@ -165,8 +165,8 @@ fn arguments_at(alloc: Global, m: &Member, con: &Constructor) -> Result<Items<It
 /// The telescope of the family's indices, with the family at them, after so many arguments, or Deep.
 fn indices_behind(alloc: Global, m: &Member, count: u32) -> Result<Items<Item>, Stop>
     requires kinds { HasKinds m.now.number m.now.family.now }
-    requires count { count ≤ 2000 }
-    requires few { length m.now.family.now.indices ≤ 2000 }
+    requires count { count ≤ most_height }
+    requires few { length m.now.family.now.indices ≤ most_height }
     requires parameters { AreOver most_params (tele_of m.now.params) }
     ensures { Gives items_of result (bounded_items (family_items_of m.now.number (family_of m.now.family.now) (lifted_of count (tele_of m.now.params)))) }
 {
@@ -176,7 +176,7 @@ fn indices_behind(alloc: Global, m: &Member, count: u32) -> Result<Items<Item>, 
 
 /// The targets of a constructor and the constructor itself at the family's parameters, after its arguments, or Deep.
 fn terms_at(alloc: Global, m: &Member, number: u32, con: &Constructor) -> Result<Tele, Stop>
-    requires few { length con.now.args ≤ 2000 }
+    requires few { length con.now.args ≤ most_height }
     requires parameters { AreOver most_params (tele_of m.now.params) }
     requires parameter_count { length m.now.params ≡ length m.now.family.now.params }
     ensures { Gives tele_of result (bounded_terms (constructor_terms_of m.now.number number (tele_of m.now.params) (constructor_of (length m.now.family.now.params) con.now))) }
@@ -193,8 +193,8 @@ fn few_problem(
     number: u32,
     con: &Constructor,
 ) -> Result<Problem, Stop>
-    requires few_args { length con.now.args ≤ 2000 }
-    requires few_indices { length m.now.family.now.indices ≤ 2000 }
+    requires few_args { length con.now.args ≤ most_height }
+    requires few_indices { length m.now.family.now.indices ≤ most_height }
     requires variable { x ≤ 2147400000 }
     requires kinds { HasKinds m.now.number m.now.family.now }
     requires parameters { AreOver most_params (tele_of m.now.params) }
@@ -238,7 +238,7 @@ pub fn problem_of(
     ensures answer { Gives problem_meant result (problem_made (tele_of ctx.now) x (member_meant m.now) number (constructor_of (length m.now.family.now.params) con.now)) }
     ensures scoped { IfOk result (λ p. IsScopedProblem sig.now (problem_meant p)) }
     ensures few { IfOk result (λ p. length p.ctx + length p.tele < context_limit) }
-    ensures few_args { IfOk result (λ p. length con.now.args ≤ 2000) }
+    ensures few_args { IfOk result (λ p. length con.now.args ≤ most_height) }
 {
     if !has_few(m.family, con) {
         return Err(Stop::Deep);

@@ -1,5 +1,6 @@
 ghost use Rattle.std.specs.Prelude.{◌≡◌, ◌≤◌, ◌<◌, ◌+◌, map, length, slice_get, Some, Ok};
 ghost use Rattle.core_terms.specs.Answers.{Gives, Runs as RunsAs};
+ghost use Rattle.core_terms.specs.Bounds.{most_height};
 ghost use Rattle.core_terms.specs.Meanings.{tele_of};
 ghost use Rattle.core_sig.specs.Meanings.{constructor_of};
 ghost use Rattle.unification.specs.ScopedStates.{IsReady};
@@ -70,7 +71,7 @@ fn run_one(
 
 /// What is kept of a run.
 fn ended(con: &Constructor, problem: Problem, outcome: Outcome) -> Ran
-    requires { length con.now.args ≤ 2000 }
+    requires { length con.now.args ≤ most_height }
     ensures { ran_of result ≡ spec.run_end (length con.now.args) (problem_meant problem) (outcome_of outcome) }
 {
     let Problem { ctx, .. } = problem;

@@ -7,6 +7,7 @@ ghost use Rattle.case_trees.specs.Pairs as pairs_spec;
 ghost use Rattle.case_trees.specs.Stops as stops;
 ghost use Rattle.case_trees.specs.Keeping.{keep_all as kept_terms};
 ghost use Rattle.theory.specs.Terms as tree;
+ghost use Rattle.core_terms.specs.Bounds.{most_height};
 ghost use Rattle.unification.specs.Built.{built_of as built_meant};
 ghost use Rattle.unification.specs.ScopedStates.{IsReady};
 ghost use Rattle.unifier.specs.Conditions.{most_levels};
@@ -46,7 +47,7 @@ pub(crate) enum Next<'a> {
 
 /// The constructors that clash, without their arguments: the absurd pattern has that of the term.
 fn clashing(sig: &Signature, clause: u32, ctx: Tele, pat: &Pat, t: &Term) -> TreeStop
-    requires low { tree.height (tree_of t.now) ≤ 2000 }
+    requires low { tree.height (tree_of t.now) ≤ most_height }
     ensures { stop_of result ≡ spec.clashing sig.now clause (tele_of ctx) (pat_of pat.now) (built_meant sig.now (tree_of t.now)) }
 {
     let Some(b) = built_of(sig, t) else {

@@ -6,6 +6,7 @@ ghost use Rattle.core_terms.specs.PatternMeanings.{pat_of, pats_of};
 ghost use Rattle.core_terms.specs.Patterns as pattern;
 ghost use Rattle.theory.specs.SignatureScopes.{IsScoped};
 ghost use Rattle.theory.specs.Terms as tree;
+ghost use Rattle.core_terms.specs.Bounds.{most_height};
 ghost use Rattle.unification.specs.Built as built;
 ghost use Rattle.unification.specs.ScopedStates.{IsReady};
 ghost use Rattle.unifier.specs.CodeBuilt.{IfThere, IsBuiltAs};
@@ -45,7 +46,7 @@ fn room_for(rooms: Rooms, count: usize) -> u32
 
 /// Whether a head form may take the place: a constructor that is too high may not.
 fn has_room(sig: &Signature, room: u32, w: &Term) -> bool
-    requires low { tree.height (tree_of w.now) ≤ 2000 }
+    requires low { tree.height (tree_of w.now) ≤ most_height }
     ensures { if_room result (tree_of w.now) ≡ spec.in_room room (tree_of w.now) (built.built_of sig.now (tree_of w.now)) }
 {
     match built_of(sig, w) {
@@ -67,7 +68,7 @@ fn compared_head(
     ensures answer { Runs tree_of result units.new.left (spec.compared_head sig.now room units.old.left (tree_of t.now)) }
     ensures sum { units.new.left + units.new.spent ≡ units.old.left + units.old.spent }
     ensures spends { units.new.left ≤ units.old.left }
-    ensures low { IfOk result (λ w. tree.height (tree_of w) ≤ 2000) }
+    ensures low { IfOk result (λ w. tree.height (tree_of w) ≤ most_height) }
     ensures scoped { IfOk result (λ w. IsScoped sig.now most_levels (tree_of w)) }
 {
     let w = whnf(alloc, sig, t, true, units)?;
@@ -86,7 +87,7 @@ fn against_absurd<'a>(
     t: &Term,
     w: Term,
 ) -> Result<Pair<'a>, Stop>
-    requires low { tree.height (tree_of w) ≤ 2000 }
+    requires low { tree.height (tree_of w) ≤ most_height }
     requires absurd_pattern { pat_of pat.now ≡ pattern.Absurd }
     ensures { Gives pair_of result (Ok (spec.against_absurd (tree_of t.now) (tree_of w) (built.built_of sig.now (tree_of w)))) }
 {
@@ -155,7 +156,7 @@ fn compared<'a>(
 ) -> Result<Pair<'a>, Stop>
     requires ready { IsReady sig.now }
     requires pattern { pat_of pat.now ≡ pattern.Con n number (pats_of pats.now) }
-    requires low { tree.height (tree_of w) ≤ 2000 }
+    requires low { tree.height (tree_of w) ≤ most_height }
     requires scoped { IsScoped sig.now most_levels (tree_of w) }
     ensures answer { Runs pair_of result units.new.left (spec.compared n number (pats_of pats.now) (tree_of t.now) (tree_of w) (spec.work_patterns sig.now (spec.of_arguments room) (pats_of pats.now)) (built.built_of sig.now (tree_of w)) units.old.left) }
     ensures sum { units.new.left + units.new.spent ≡ units.old.left + units.old.spent }

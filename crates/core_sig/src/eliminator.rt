@@ -4,6 +4,7 @@ ghost use Rattle.core_terms.specs.Meanings.{tree_of, tele_of};
 ghost use Rattle.theory.specs.Terms as tree;
 ghost use Rattle.theory.specs.Eliminators as spec;
 ghost use Rattle.theory.specs.Scopes.{IsClosedFamily};
+ghost use Rattle.core_terms.specs.Bounds.{most_height};
 ghost use Rattle.core_sig.specs.ByLevels as levels;
 ghost use Rattle.core_sig.specs.Kinds.{HasKinds};
 ghost use Rattle.core_sig.specs.Meanings.{family_of};
@@ -62,9 +63,9 @@ fn methods_over(
     cons: &[Constructor],
     end: Term,
 ) -> Result<Term, Stop>
-    requires params { motive.params ≤ 2000 }
+    requires params { motive.params ≤ most_height }
     requires few { HaveFewArguments (map constructor_shape cons.now) }
-    requires number { number + length cons.now ≤ 2000 }
+    requires number { number + length cons.now ≤ most_height }
     requires depth { depth + length cons.now ≤ 10000 }
     ensures { Gives tree_of result (Ok (levels.methods_over fam motive.params motive.indices motive.level number depth (map constructor_shape cons.now) (tree_of end))) }
 {
@@ -87,8 +88,8 @@ fn method_type(
     depth: u32,
     con: &Constructor,
 ) -> Result<Term, Stop>
-    requires params { motive.params ≤ 2000 }
-    requires few { length con.now.args ≤ 2000 }
+    requires params { motive.params ≤ most_height }
+    requires few { length con.now.args ≤ most_height }
     requires depth { depth ≤ 10000 }
     ensures { Gives tree_of result (Ok (levels.method_type fam motive.params motive.indices motive.level number depth (constructor_shape con.now))) }
 {

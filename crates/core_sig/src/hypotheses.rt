@@ -1,5 +1,6 @@
 ghost use Rattle.std.specs.Prelude.{◌≡◌, ◌≤◌, ◌+◌, ◌∷◌, [], length, map};
 ghost use Rattle.core_terms.specs.Answers.{Gives};
+ghost use Rattle.core_terms.specs.Bounds.{most_height};
 ghost use Rattle.core_terms.specs.Meanings.{tree_of};
 ghost use Rattle.core_sig.specs.ByLevels as spec;
 ghost use Rattle.core_sig.specs.Shapes.{argument_shape, constructor_shape, recursive_count};
@@ -93,9 +94,9 @@ pub fn hypothesis_type(
     count: u32,
     ty: &Term,
 ) -> Result<Term, Stop>
-    requires params { motive.params ≤ 2000 }
+    requires params { motive.params ≤ most_height }
     requires first { first ≤ 100000 }
-    requires at { at ≤ 2000 }
+    requires at { at ≤ most_height }
     requires depth { depth ≤ 100000 }
     ensures { Gives tree_of result (Ok (spec.hypothesis_type motive.params motive.indices motive.level first at depth count (tree_of ty.now))) }
 {
@@ -123,9 +124,9 @@ pub fn hypotheses_over(
     args: &[Arg],
     end: Term,
 ) -> Result<Term, Stop>
-    requires params { motive.params ≤ 2000 }
+    requires params { motive.params ≤ most_height }
     requires first { first ≤ 100000 }
-    requires at { at + length args.now ≤ 2000 }
+    requires at { at + length args.now ≤ most_height }
     requires depth { depth + length args.now ≤ 100000 }
     ensures { Gives tree_of result (Ok (spec.hypotheses_over binder motive.params motive.indices motive.level first at depth (map argument_shape args.now) (tree_of end))) }
 {
@@ -170,9 +171,9 @@ pub fn conclusion(
     depth: u32,
     con: &Constructor,
 ) -> Result<Term, Stop>
-    requires params { motive.params ≤ 2000 }
+    requires params { motive.params ≤ most_height }
     requires first { first ≤ 100000 }
-    requires few { length con.now.args ≤ 2000 }
+    requires few { length con.now.args ≤ most_height }
     requires depth { depth ≤ 1000000 }
     ensures { Gives tree_of result (Ok (spec.conclusion fam motive.params motive.level number first depth (constructor_shape con.now))) }
 {

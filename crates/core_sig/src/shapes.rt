@@ -1,4 +1,5 @@
 ghost use Rattle.std.specs.Prelude.{◌≡◌, ◌≤◌, ◌+◌, ◌↔◌, IsTrue, length, map};
+ghost use Rattle.core_terms.specs.Bounds.{most_height};
 ghost use Rattle.core_sig.specs.Shapes as spec;
 ghost use Rattle.core_sig.specs.Shapes.{HaveFewArguments, IsFew, argument_shape, constructor_shape, shape_of};
 
@@ -30,7 +31,7 @@ fn have_few_arguments(cons: &[Constructor]) -> bool
 
 /// How many of the arguments are recursive. Takes no memory.
 pub fn recursive_count(args: &[Arg]) -> u32
-    requires { length args.now ≤ 2000 }
+    requires { length args.now ≤ most_height }
     ensures is { result ≡ spec.recursive_count (map argument_shape args.now) }
     ensures few { result ≤ length args.now }
 {

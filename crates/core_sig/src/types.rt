@@ -2,6 +2,7 @@ ghost use Rattle.std.specs.Prelude.{◌≡◌, ◌≤◌, ◌<◌, ◌↔◌, Is
 ghost use Rattle.core_terms.specs.Answers.{Gives, bounded};
 ghost use Rattle.core_terms.specs.Meanings.{tree_of, tele_of};
 ghost use Rattle.theory.specs.Families as pure;
+ghost use Rattle.core_terms.specs.Bounds.{most_height};
 ghost use Rattle.core_sig.specs.ByLevels as levels;
 ghost use Rattle.core_sig.specs.Kinds.{HasKinds, HaveKinds};
 ghost use Rattle.core_sig.specs.Meanings.{constructor_of, family_of};
@@ -57,7 +58,7 @@ fn type_of(alloc: Global, fam: u32, f: &Family, con: &Constructor) -> Result<Ter
 
 /// Whether there are at most 2,000 parameters and 2,000 arguments.
 fn are_few(f: &Family, con: &Constructor) -> bool
-    ensures { IsTrue result ↔ ((length f.now.params ≤ 2000) × (length con.now.args ≤ 2000)) }
+    ensures { IsTrue result ↔ ((length f.now.params ≤ most_height) × (length con.now.args ≤ most_height)) }
 {
     let most = MAX_HEIGHT as usize;
     f.params.as_slice().len() <= most && con.args.as_slice().len() <= most
@@ -65,8 +66,8 @@ fn are_few(f: &Family, con: &Constructor) -> bool
 
 /// The type of a constructor. Its height is not tested.
 fn constructor_type(alloc: Global, fam: u32, f: &Family, con: &Constructor) -> Result<Term, Stop>
-    requires params { length f.now.params ≤ 2000 }
-    requires args { length con.now.args ≤ 2000 }
+    requires params { length f.now.params ≤ most_height }
+    requires args { length con.now.args ≤ most_height }
     ensures { Gives tree_of result (Ok (levels.constructor_type fam (tele_of f.now.params) (map (λ a. tree_of a.ty) con.now.args) (tele_of con.now.targets))) }
 {
     let params = f.params.as_slice();

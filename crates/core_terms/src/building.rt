@@ -2,6 +2,7 @@ ghost use Rattle.std.specs.Prelude.{◌≡◌, ◌≤◌, ◌<◌, ◌+◌, ◌^
 ghost use Rattle.theory.specs.Spines.{head_of, spine_of};
 ghost use Rattle.theory.specs.Telescopes as spec;
 ghost use Rattle.core_terms.specs.Answers.{Gives, bounded};
+ghost use Rattle.core_terms.specs.Bounds.{most_height};
 ghost use Rattle.core_terms.specs.Meanings.{tree_of, tele_of};
 ghost use Rattle.core_terms.specs.Telescopes.{domains_of, end_of};
 ghost use Rattle.core_terms.specs.declared.stop.Stop.TheVariants.{Deep, Memory};
@@ -11,7 +12,7 @@ use std::alloc::Global;
 
 /// A number of binders or of arguments, or Deep where a term with so many is too high.
 pub fn few(len: usize) -> Result<u32, Stop>
-    ensures ok { IfOk result (λ n. (n ≡ len) × (len ≤ 2000)) }
+    ensures ok { IfOk result (λ n. (n ≡ len) × (len ≤ most_height)) }
     ensures deep { IfErr result (λ e. (e ≡ Deep) × (2000 < len)) }
 {
     if len > MAX_HEIGHT as usize {

@@ -4,6 +4,7 @@ ghost use Rattle.core_terms.specs.Levels as spec;
 ghost use Rattle.core_terms.specs.Meanings.{tree_of, tele_of};
 ghost use Rattle.theory.specs.Telescopes.{applied};
 ghost use Rattle.theory.specs.Terms as tree;
+ghost use Rattle.core_terms.specs.Bounds.{context_limit};
 
 use crate::copying::copy_whole;
 use crate::{MAX_HEIGHT, Stop, Term};
@@ -96,7 +97,7 @@ fn place_under(
 /// A term over `size` variables of a record, whose levels lie in the runs, at a depth. A term that is higher than
 /// `MAX_HEIGHT` stays as it is.
 pub fn place(alloc: Global, runs: &[Run], size: u32, depth: u32, t: &Term) -> Result<Term, Stop>
-    requires { depth < 2 ^ 31 }
+    requires { depth < context_limit }
     ensures { Gives tree_of result (Ok (spec.place runs.now size depth (tree_of t.now))) }
 {
     if t.height() > MAX_HEIGHT {
@@ -133,7 +134,7 @@ pub fn over(
     end: Term,
 ) -> Result<Term, Stop>
     requires size { size + length tele.now < 2 ^ 32 }
-    requires depth { depth + length tele.now < 2 ^ 31 }
+    requires depth { depth + length tele.now < context_limit }
     ensures { Gives tree_of result (Ok (spec.over binder runs.now size depth (tele_of tele.now) (tree_of end))) }
 {
     match tele {
@@ -155,7 +156,7 @@ pub fn applied_to_places(
     depth: u32,
     terms: &[Term],
 ) -> Result<Term, Stop>
-    requires { depth < 2 ^ 31 }
+    requires { depth < context_limit }
     ensures { Gives tree_of result (Ok (applied (tree_of head) (map (spec.place runs.now size depth) (tele_of terms.now)))) }
 {
     match terms {

@@ -1,4 +1,4 @@
--- Where names are plain, each symbol is looked up by its name and told apart from what follows it.
+-- Where names are readable, each symbol is looked up by its name and told apart from what follows it.
 use Rattle.std.proofs.Common.{◌≡◌, ◌≢◌, ℕ, zero, suc, ◌<◌, ◌≤◌, Bool, true, false, cond, List, [], ◌∷◌, ◌++◌, length, refl, sym, ap, ◌∙◌, subst, append_assoc, append-nil, arith}
 use Rattle.std.specs.Prelude.{◌==◌, nat_lt, if◌then◌else◌, Option, Some, None, option_and_then, slice_get, All, AllPairs, bytes_eq, codes, decimal}
 use Rattle.std.specs.List.{list_any}

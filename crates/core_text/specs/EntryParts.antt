@@ -6,6 +6,7 @@ use Rattle.std.specs.Prelude.{◌≡◌, ℕ, ◌+◌, ◌≤◌, Bool, true, fa
 use Rattle.theory.specs.Terms.{Term, free_of, height}
 use Rattle.theory.specs.Telescopes.{Telescope}
 use Rattle.theory.specs.Signatures.{Signature}
+use Rattle.core_terms.specs.Bounds.{most_height}
 use Rattle.core_sig.specs.Raw.{RawConstructor, RawFamily}
 use Rattle.core_text.specs.LineReading.{levels_left, identities_left}
 use Rattle.core_text.specs.RawEntries.{RawEntry, RawFamilyOf, RawEliminator, RawAxiomK, RawDefinition}
@@ -51,7 +52,7 @@ EachTerm P (RawAxiomK i m) = Unit {0}
 EachTerm P (RawDefinition name type body) = P type × P body
 
 abbrev pub IsLow : Term → Type 0
-IsLow t = height t ≤ 2000
+IsLow t = height t ≤ most_height
 
 -- no term of what a line says is higher than 2,000
 abbrev pub HasLowTerms : RawEntry → Type 0

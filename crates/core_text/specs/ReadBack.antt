@@ -2,6 +2,7 @@
 use Rattle.std.specs.Prelude.{◌≡◌, ℕ, ◌+◌, ◌<◌, ◌≤◌, ◌^◌, ◌==◌, true, false, cond, List, [], ◌++◌, length, codes, bytes_eq, Option, Some, Ok}
 use Rattle.theory.specs.Terms.{Term, Var, Sort, Pi, Lam, App, Let, Const, Fam, Con, Elim, AxiomK, free_of, height, top}
 use Rattle.theory.specs.Signatures.{Signature, Entry}
+use Rattle.core_terms.specs.Bounds.{most_height}
 use Rattle.core_sig.specs.Names.{find}
 use Rattle.core_sig.specs.Raw.{RawConstructor}
 use Rattle.core_text.specs.DeclaredNames.{new_name}
@@ -51,7 +52,7 @@ AreSpelled S look (AxiomK i m) = IsSpelled look (axiom_k_name i m) (AxiomK i m)
 abbrev pub TermsAreReadBack : Type 0
 TermsAreReadBack =
     (S : Signature) (look : List ℕ → Option Term) (t : Term) (room n : ℕ) (rest : List ℕ) →
-    AreSpelled S look t → free_of t ≤ n → height t ≤ room → height t ≤ 2000 → Stops rest →
+    AreSpelled S look t → free_of t ≤ n → height t ≤ room → height t ≤ most_height → Stops rest →
     read_term look room n (term_text S t ++ rest) ≡ Ok (t, rest)
 
 -- ---- lines

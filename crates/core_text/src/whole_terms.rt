@@ -1,4 +1,5 @@
 ghost use Rattle.std.specs.Prelude.{◌≡◌, ◌+◌, ◌<◌, ◌≤◌, ◌^◌, IfOk, OnErr};
+ghost use Rattle.core_terms.specs.Bounds.{most_height};
 ghost use Rattle.core_terms.specs.Meanings.{tree_of};
 ghost use Rattle.core_text.specs.LineReading.{nested, whole_term};
 ghost use Rattle.core_text.specs.Reading.{Reads};
@@ -27,7 +28,7 @@ fn binders(count: usize) -> Result<u32, Halt>
 #[tactic(auto, unfolding(crate::specs::LineReading::nested))]
 fn most_nested() -> u32
     ensures value { result ≡ nested }
-    ensures few { result ≤ 2000 }
+    ensures few { result ≤ most_height }
 {
     MAX_HEIGHT
 }

@@ -3,6 +3,7 @@ ghost use Rattle.core_terms.specs.Answers.{Gives};
 ghost use Rattle.core_terms.specs.Meanings.{tree_of};
 ghost use Rattle.core_sig.specs.Meanings.{family_of};
 ghost use Rattle.theory.specs.Terms as tree;
+ghost use Rattle.core_terms.specs.Bounds.{most_height};
 ghost use Rattle.tree_translation.specs.CycleTerms as spec;
 ghost use Rattle.tree_translation.specs.RunTerms as runs;
 ghost use Rattle.unification.specs.Built.{built_of};
@@ -51,7 +52,7 @@ fn cycle_on_right(
     x: u32,
     left: &Term,
 ) -> Result<Term, Stop>
-    requires { tree.height (tree_of left.now) ≤ 2000 }
+    requires { tree.height (tree_of left.now) ≤ most_height }
     ensures { Gives tree_of result (Ok (parts.on_constructor (built_of sig.now (tree_of left.now)) (λ b. spec.cycle_term (naming_of naming.entry) level (standing_of s.now) x false b (tree_of left.now)) runs.no_term)) }
 {
     match member_at(alloc, sig, left)? {
@@ -71,8 +72,8 @@ pub fn cycle_of_sides(
     left: &Term,
     right: &Term,
 ) -> Result<Term, Stop>
-    requires left { tree.height (tree_of left.now) ≤ 2000 }
-    requires right { tree.height (tree_of right.now) ≤ 2000 }
+    requires left { tree.height (tree_of left.now) ≤ most_height }
+    requires right { tree.height (tree_of right.now) ≤ most_height }
     ensures { Gives tree_of result (Ok (runs.on_side (tree_of left.now) (tree_of right.now) (built_of sig.now (tree_of left.now)) (built_of sig.now (tree_of right.now)) (spec.cycle_term (naming_of naming.entry) level (standing_of s.now) x))) }
 {
     match member_at(alloc, sig, right)? {
@@ -104,7 +105,7 @@ fn names_from_right(alloc: Global, f: &Family) -> Result<Items<Name>, Stop>
 
 /// The names where the variable is on the right, or none where the left side is no constructor.
 fn names_on_right(alloc: Global, sig: &Signature, left: &Term) -> Result<Items<Name>, Stop>
-    requires { tree.height (tree_of left.now) ≤ 2000 }
+    requires { tree.height (tree_of left.now) ≤ most_height }
     ensures { Gives (λ ns. ns) result (Ok (parts.on_constructor (built_of sig.now (tree_of left.now)) (λ b. parts.names_from_right b.family) [])) }
 {
     match member_at(alloc, sig, left)? {
@@ -120,8 +121,8 @@ pub fn cycle_names(
     left: &Term,
     right: &Term,
 ) -> Result<Items<Name>, Stop>
-    requires left { tree.height (tree_of left.now) ≤ 2000 }
-    requires right { tree.height (tree_of right.now) ≤ 2000 }
+    requires left { tree.height (tree_of left.now) ≤ most_height }
+    requires right { tree.height (tree_of right.now) ≤ most_height }
     ensures { Gives (λ ns. ns) result (Ok (runs.cycle_names (built_of sig.now (tree_of left.now)) (built_of sig.now (tree_of right.now)))) }
 {
     match member_at(alloc, sig, right)? {

@@ -16,7 +16,8 @@ use Rattle.clause_reports.specs.Reports.{Reference, report_of}
 use Rattle.clause_reports.proofs.Keeping.{weaker, Any, any}
 use Rattle.draft_entering.specs.Conditions.{Extends}
 use Rattle.draft_entering.proofs.Longer.{extends-same, extends-on}
-use Rattle.entering_laws.proofs.EnteredOpen.{ExtendsTo, entering-extends, enter_mention-extends, enter_needed-extends}
+use Rattle.draft_entering.proofs.Entered.{ExtendsTo}
+use Rattle.entering_laws.proofs.EnteredOpen.{entering-extends, enter_mention-extends, enter_needed-extends}
 use Rattle.declaration_laws.proofs.ExtendedReports.{ExtendsBy, report-extends}
 use Rattle.elaboration.specs.Refusals.{OfType, or_halts, granted, owner_of, reporting}
 use Rattle.clause_reports.specs.Equations.{part_named}

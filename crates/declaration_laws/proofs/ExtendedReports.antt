@@ -22,7 +22,8 @@ use Rattle.clause_reports.specs.Stops.{Rejection, Rejected, Halts, Stuck, Report
 use Rattle.clause_reports.proofs.Keeping.{weaker, Any, any}
 use Rattle.draft_entering.specs.Conditions.{Extends}
 use Rattle.draft_entering.proofs.Longer.{extends-same, extends-on}
-use Rattle.entering_laws.proofs.EnteredOpen.{ExtendsTo, enter_all-extends, enter_entry-extends, enter_needed-extends}
+use Rattle.draft_entering.proofs.Entered.{ExtendsTo}
+use Rattle.entering_laws.proofs.EnteredOpen.{enter_all-extends, enter_entry-extends, enter_needed-extends}
 
 abbrev pub ExtendsBy : Signature → Reported → Type 0
 ExtendsBy S r = Extends S r.signature

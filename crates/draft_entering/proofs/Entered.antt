@@ -22,7 +22,7 @@ use Rattle.draft_entering.proofs.Longer.{extends-same, extends-push}
 
 -- ---- what enters goes on with no family
 
-abbrev ExtendsTo : Signature → Entered → Type 0
+abbrev pub ExtendsTo : Signature → Entered → Type 0
 ExtendsTo S e = Extends S e.signature
 
 abbrev Any : {A : Type 0} → A → Type 0
@@ -46,13 +46,13 @@ entry-plain S e h true type left =
     and_next-has Any (ExtendsTo S) (sort_in S OfType [] type left) _ (any (sort_in S OfType [] type left).0) (λ sort end u.
     extends-push S e (no-family e h))
 
-instance-plain : (S : Signature) (n : ℕ) (f : Family) (m left : ℕ) → Answers (ExtendsTo S) (instance_of S n f m left)
-instance-plain S n f m left =
+pub instance-extends : (S : Signature) (n : ℕ) (f : Family) (m left : ℕ) → Answers (ExtendsTo S) (instance_of S n f m left)
+instance-extends S n f m left =
     there-plain S (position (is_eliminator n m) S.entries) (enter_instance S (EliminatorAt n m) (nat_lt m top) (eliminator_type n f m)) left
     (entry-plain S (EliminatorAt n m) tt (nat_lt m top) (eliminator_type n f m) left)
 
-axiom_k-plain : (S : Signature) (i m left : ℕ) → Answers (ExtendsTo S) (axiom_k_of S i m left)
-axiom_k-plain S i m left =
+pub axiom_k-extends : (S : Signature) (i m left : ℕ) → Answers (ExtendsTo S) (axiom_k_of S i m left)
+axiom_k-extends S i m left =
     there-plain S (position (is_axiom_k i m) S.entries) (enter_instance S (AxiomKAt i m) (nat_lt i top && nat_lt m top) (axiom_k_type i m)) left
     (entry-plain S (AxiomKAt i m) tt (nat_lt i top && nat_lt m top) (axiom_k_type i m) left)
 
@@ -85,10 +85,10 @@ answered : (P : Entered → Type 0) (T : Signature) (k rest : ℕ) (outcome : Ou
 answered P T k rest outcome h is = transport (λ (o : Outcome Entered). IfOk o.0 P) (sym is) h
 
 pub instance-longer : (S T : Signature) (n : ℕ) (f : Family) (m left k rest : ℕ) → (Ok (entered_at T k), rest) ≡ instance_of S n f m left → Extends S T
-instance-longer S T n f m left k rest is = answered (ExtendsTo S) T k rest (instance_of S n f m left) (instance-plain S n f m left) is
+instance-longer S T n f m left k rest is = answered (ExtendsTo S) T k rest (instance_of S n f m left) (instance-extends S n f m left) is
 
 pub axiom_k-longer : (S T : Signature) (i m left k rest : ℕ) → (Ok (entered_at T k), rest) ≡ axiom_k_of S i m left → Extends S T
-axiom_k-longer S T i m left k rest is = answered (ExtendsTo S) T k rest (axiom_k_of S i m left) (axiom_k-plain S i m left) is
+axiom_k-longer S T i m left k rest is = answered (ExtendsTo S) T k rest (axiom_k_of S i m left) (axiom_k-extends S i m left) is
 
 pub define-pushed : (S T : Signature) (name : List ℕ) (type body : Term) (left k rest : ℕ) → (Ok (entered_at T k), rest) ≡ define_of S name type body left
     → IsDefinedBy S name type body (entered_at T k)

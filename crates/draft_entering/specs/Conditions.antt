@@ -3,6 +3,7 @@ use Rattle.std.specs.Prelude.{◌≡◌, ◌⊎◌, ◌≤◌, ℕ, ◌-◌, nat
 use Rattle.theory.specs.Families.{Family}
 use Rattle.theory.specs.Terms.{Term, Pi, Lam, App, Let, Const, height}
 use Rattle.theory.specs.Signatures.{Signature, Entry, FamilyOf, Definition}
+use Rattle.core_terms.specs.Bounds.{most_height}
 use Rattle.core_sig.specs.DraftScopes.{HasDraftEntries, NamesConstant}
 use Rattle.core_sig.specs.Drafts.{Draft}
 use Rattle.core_sig.specs.EntryTerms.{EachTerm}
@@ -42,7 +43,7 @@ IsDefinition e = ⊥
 pub record IsEnterableDraft (S : Signature) (d : Draft) : Type 0 where
   pub definition : IsDefinition d.entry
   pub scoped : IsScopedDraft S d
-  pub low : EachTerm (λ n t. height t ≤ 2000) d.entry
+  pub low : EachTerm (λ n t. height t ≤ most_height) d.entry
   pub names : All (IsEnterable S) d.names
 
 abbrev pub IsNoFamily : Entry → Type 0

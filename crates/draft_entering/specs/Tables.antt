@@ -2,6 +2,7 @@
 use Rattle.std.specs.Prelude.{◌≡◌, ◌<◌, ◌≤◌, ◌+◌, ℕ, List, [], ◌∷◌, length, map, max}
 use Rattle.theory.specs.Terms.{top, height}
 use Rattle.theory.specs.Signatures.{Signature, FamilyOf, IsEntryAt}
+use Rattle.core_terms.specs.Bounds.{most_height}
 use Rattle.core_sig.specs.Drafts.{Draft}
 use Rattle.core_sig.specs.EntryTerms.{EachTerm}
 use Rattle.core_sig.specs.FamilyShapes.{family_shape}
@@ -41,4 +42,4 @@ pub record IsMadeOf (name : List ℕ) (names : List (List ℕ)) (d : Draft) : Ty
   pub own : own_name d ≡ name
   pub definition : IsDefinition d.entry
   pub listed : d.names ≡ names
-  pub low : EachTerm (λ n t. height t ≤ 2000) d.entry
+  pub low : EachTerm (λ n t. height t ≤ most_height) d.entry

@@ -10,6 +10,7 @@ ghost use Rattle.draft_entering.specs.Stops.{Reports};
 ghost use Rattle.family_check.specs.Entering.{entered_at};
 ghost use Rattle.family_check.specs.Scopes.{IsSettled};
 ghost use Rattle.theory.specs.Terms as tree;
+ghost use Rattle.core_terms.specs.Bounds.{most_height};
 
 use crate::ReportStop;
 use crate::defining::enter_entry;
@@ -96,8 +97,8 @@ fn enter_both(
 ) -> Result<(), ReportStop>
     requires first { IsEnterableTerm sig.old draft.now.base draft.now.names (tree_of first.now) }
     requires second { IsEnterableTerm sig.old draft.now.base draft.now.names (tree_of second.now) }
-    requires low_first { tree.height (tree_of first.now) ≤ 2000 }
-    requires low_second { tree.height (tree_of second.now) ≤ 2000 }
+    requires low_first { tree.height (tree_of first.now) ≤ most_height }
+    requires low_second { tree.height (tree_of second.now) ≤ most_height }
     ensures answer { Reports (λ _. sig.new) result units.new.left (spec.enter_all (enter_at depth) sig.old (spec.mentions_in draft.now.base draft.now.names (tree_of first.now) ++ spec.mentions_in draft.now.base draft.now.names (tree_of second.now)) units.old.left) }
     ensures sum { units.new.left + units.new.spent ≡ units.old.left + units.old.spent }
     ensures spends { units.new.left ≤ units.old.left }
@@ -125,9 +126,9 @@ fn enter_three(
     requires first { IsEnterableTerm sig.old draft.now.base draft.now.names (tree_of first.now) }
     requires second { IsEnterableTerm sig.old draft.now.base draft.now.names (tree_of second.now) }
     requires third { IsEnterableTerm sig.old draft.now.base draft.now.names (tree_of third.now) }
-    requires low_first { tree.height (tree_of first.now) ≤ 2000 }
-    requires low_second { tree.height (tree_of second.now) ≤ 2000 }
-    requires low_third { tree.height (tree_of third.now) ≤ 2000 }
+    requires low_first { tree.height (tree_of first.now) ≤ most_height }
+    requires low_second { tree.height (tree_of second.now) ≤ most_height }
+    requires low_third { tree.height (tree_of third.now) ≤ most_height }
     ensures answer { Reports (λ _. sig.new) result units.new.left (spec.enter_all (enter_at depth) sig.old (spec.mentions_in draft.now.base draft.now.names (tree_of first.now) ++ (spec.mentions_in draft.now.base draft.now.names (tree_of second.now) ++ spec.mentions_in draft.now.base draft.now.names (tree_of third.now))) units.old.left) }
     ensures sum { units.new.left + units.new.spent ≡ units.old.left + units.old.spent }
     ensures spends { units.new.left ≤ units.old.left }
@@ -152,7 +153,7 @@ fn enter_term(
     units: &mut Units,
 ) -> Result<(), ReportStop>
     requires term { IsEnterableTerm sig.old draft.now.base draft.now.names (tree_of t.now) }
-    requires low { tree.height (tree_of t.now) ≤ 2000 }
+    requires low { tree.height (tree_of t.now) ≤ most_height }
     ensures answer { Reports (λ _. sig.new) result units.new.left (spec.enter_all (enter_at depth) sig.old (spec.mentions_in draft.now.base draft.now.names (tree_of t.now)) units.old.left) }
     ensures sum { units.new.left + units.new.spent ≡ units.old.left + units.old.spent }
     ensures spends { units.new.left ≤ units.old.left }

@@ -1,5 +1,5 @@
 -- The drafts enter in turn, where each name of a draft can be generated or is that of a draft before it.
-use Rattle.std.proofs.Common.{◌≡◌, inl, inr, ℕ, Bool, true, ◌&&◌, List, [], ◌∷◌, ◌++◌, Result, Ok, Err, IfOk, refl, ap, ap₂, ◌∙◌}
+use Rattle.std.proofs.Common.{◌≡◌, inl, inr, ℕ, Bool, true, ◌&&◌, List, [], ◌∷◌, ◌++◌, refl, ap, ap₂, ◌∙◌}
 use Rattle.std.specs.Option.{is_some}
 use Rattle.std.proofs.lemmas.Bool.{or_right, or_left}
 use Rattle.theory.specs.Signatures.{Signature}
@@ -9,7 +9,7 @@ use Rattle.core_sig.specs.ScopeTests.{is_constant}
 use Rattle.family_check.specs.Entering.{Entered}
 use Rattle.clause_reports.specs.DraftEntering.{enter_draft_of}
 use Rattle.clause_reports.specs.Generated.{generated_by}
-use Rattle.clause_reports.specs.Stops.{ReportStop}
+use Rattle.clause_reports.proofs.Keeping.{weaker-of-two}
 use Rattle.draft_checks.specs.Checks.{is_definition_found, name_enters, names_enter}
 use Rattle.draft_entering.specs.Conditions.{Extends, IsDefined, IsGeneratedName}
 use Rattle.draft_entering.proofs.Longer.{defined-longer, extends-on, generated-longer}
@@ -42,17 +42,13 @@ all-enter T (name ∷ names) (Each.more h rest) = ap₂ (λ (x y : Bool). x && y
 
 -- ---- drafts
 
-after-entering : (r : Result Entered ReportStop) (P Q R : Entered → Type 0) → IfOk r P → IfOk r Q → ((e : Entered) → P e → Q e → R e) → IfOk r R
-after-entering (Ok e) P Q R h k go = go e h k
-after-entering (Err s) P Q R h k go = tt
-
 pub grown-in_turn : (S T : Signature) (known : List (List ℕ)) (drafts : List Draft) → Extends S T → Each (IsDefined T) known → Grows (IsGeneratedName S) known drafts
     → NamesInTurn T drafts
 grown-in_turn S T known [] longer defined Grows.none = tt
 grown-in_turn S T known (d ∷ drafts) longer defined (Grows.more h differ rest) = (
   all-enter T d.names (each-weaker d.names (λ name is. known-enters S T longer known defined name is) h),
   λ left.
-      after-entering (enter_draft_of T d left).0 (λ e. Extends T e.signature) (λ e. IsDefined e.signature (name_of d)) (λ e. NamesInTurn e.signature drafts)
+      weaker-of-two (λ (e : Entered). Extends T e.signature) (λ (e : Entered). IsDefined e.signature (name_of d)) (λ (e : Entered). NamesInTurn e.signature drafts) (enter_draft_of T d left).0
       (entering-extends T d left) (draft-defined T d left)
       (λ e more own.
       grown-in_turn S e.signature (known ++ name_of d ∷ []) drafts (extends-on S T e.signature longer more)

@@ -22,10 +22,10 @@ use Rattle.elab_session.specs.Entering.{checked}
 use Rattle.elab_session.specs.Laws.{EnterAdds}
 use Rattle.elab_session.proofs.Entered.{answered-has, eliminator-has}
 
-abbrev Any : {A : Type 0} → A → Type 0
+abbrev pub Any : {A : Type 0} → A → Type 0
 Any a = Unit {0}
 
-any : {A : Type 0} (r : Outcome A) → Answers Any r
+pub any : {A : Type 0} (r : Outcome A) → Answers Any r
 any {A} r = by_case r.0
   where
     by_case : (x : Result A FamilyStop) → IfOk x Any

@@ -1,5 +1,5 @@
 -- Definitions that are resolved enter as written.
-use Rattle.std.proofs.Common.{◌≡◌, ℕ, List, [], Result, Ok, Err, IfOk, sym, ap, subst as transport}
+use Rattle.std.proofs.Common.{◌≡◌, ℕ, List, [], Ok, IfOk, sym, ap, subst as transport}
 use Rattle.theory.specs.Terms.{Term}
 use Rattle.theory.specs.Signatures.{Definition, Signature}
 use Rattle.theory.specs.WellFormed.{IsDefinition, IsEntry, IsWellFormed}
@@ -12,14 +12,13 @@ use Rattle.resolve.specs.Families.{declared}
 use Rattle.resolve.specs.Resolving.{resolve_term}
 use Rattle.resolve.proofs.NewNames.{declared-new}
 use Rattle.family_check.specs.Entering.{Entered, define_of, entered}
-use Rattle.family_check.specs.Outcomes.{FamilyStop, Outcome}
 use Rattle.core_terms.proofs.Answers.{Answers, and_then-is}
 use Rattle.family_check.proofs.Soundness.{define-keeps}
 use Rattle.elab_session.specs.Declaring.{accepted_as, declare_of, resolve_definition}
 use Rattle.elab_session.specs.Entering.{checked}
 use Rattle.elab_session.specs.Laws.{IsWrittenDefinition}
 use Rattle.elab_session.proofs.Resolved.{declare-has, last-entry, or_unresolved-has, together}
-use Rattle.elab_session.proofs.Adding.{define-enters}
+use Rattle.elab_session.proofs.Adding.{define-enters, Any, any}
 
 -- a definition that is resolved, part by part
 record IsResolvedDefinition (S : Signature) (x : Word) (ty body : surf.Surf) (raw : RawEntry) : Type 0 where
@@ -42,16 +41,6 @@ resolved S x ty body =
       typed = typed;
       body_is = is;
     })))
-
-abbrev Any : {A : Type 0} → A → Type 0
-Any a = Unit {0}
-
-any : {A : Type 0} (r : Outcome A) → Answers Any r
-any {A} r = go r.0
-  where
-    go : (x : Result A FamilyStop) → IfOk x Any
-    go (Ok a) = tt
-    go (Err e) = tt
 
 pub definition-of : {S : Signature} {name : List ℕ} {type body : Term} → IsEntry S (Definition name type body) → IsDefinition S type body
 definition-of (definition h) = h

@@ -19,25 +19,14 @@ use Rattle.clause_reports.specs.Stops.{ReportStop, Reporting, Halts, answers, or
 use Rattle.clause_reports.proofs.Keeping.{weaker, Any, any, entering-keeps, rejected-has}
 use Rattle.draft_entering.specs.Conditions.{IsOpen, Extends}
 use Rattle.draft_entering.proofs.Longer.{extends-same, extends-on, open-longer}
-use Rattle.draft_entering.proofs.Entered.{instance-longer, axiom_k-longer, define-pushed, pushed-longer}
+use Rattle.draft_entering.proofs.Entered.{define-pushed, pushed-longer, instance-extends, axiom_k-extends, ExtendsTo}
 use Rattle.entering_laws.specs.Laws.{EnteredIsOpen, StaysOpen}
 use Rattle.entering_laws.proofs.OpenSignatures.{well_formed-settled}
-
-abbrev pub ExtendsTo : Signature → Entered → Type 0
-ExtendsTo S e = Extends S e.signature
 
 -- an answer has what each answer has that an outcome is
 of-answer : (P : Entered → Type 0) (outcome : Outcome Entered) → ((e : Entered) (rest : ℕ) → (Ok e, rest) ≡ outcome → P e) → IfOk outcome.0 P
 of-answer P (Ok e, rest) h = h e rest refl
 of-answer P (Err stop, rest) h = tt
-
-pub instance-extends : (S : Signature) (n : ℕ) (f : Family) (m left : ℕ) → Answers (ExtendsTo S) (instance_of S n f m left)
-instance-extends S n f m left =
-    of-answer (ExtendsTo S) (instance_of S n f m left) (λ e rest is. instance-longer S e.signature n f m left e.number rest is)
-
-pub axiom_k-extends : (S : Signature) (i m left : ℕ) → Answers (ExtendsTo S) (axiom_k_of S i m left)
-axiom_k-extends S i m left =
-    of-answer (ExtendsTo S) (axiom_k_of S i m left) (λ e rest is. axiom_k-longer S e.signature i m left e.number rest is)
 
 pub define-extends : (S : Signature) (name : List ℕ) (type body : Term) (left : ℕ) → Answers (ExtendsTo S) (define_of S name type body left)
 define-extends S name type body left =

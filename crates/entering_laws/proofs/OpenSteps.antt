@@ -14,8 +14,9 @@ use Rattle.family_check.proofs.ScopedEntering.{declare-settles, define-settles, 
 use Rattle.draft_entering.specs.Conditions.{IsOpen}
 use Rattle.draft_entering.specs.FreeNames.{is_marked, HasUnmarkedNames}
 use Rattle.draft_entering.proofs.Longer.{open-longer}
+use Rattle.draft_entering.proofs.Entered.{instance-extends, axiom_k-extends, ExtendsTo}
 use Rattle.entering_laws.specs.Laws.{IsUnmarked, GoesOnOpen, DeclareKeepsOpen, DefineKeepsOpen, InstanceKeepsOpen, AxiomKKeepsOpen}
-use Rattle.entering_laws.proofs.EnteredOpen.{ExtendsTo, instance-extends, axiom_k-extends, define-extends}
+use Rattle.entering_laws.proofs.EnteredOpen.{define-extends}
 use Rattle.entering_laws.proofs.OpenSignatures.{family-opens}
 
 joined : {E : Type 0} (P Q R : Entered → Type 0) (r : Result Entered E) → ((e : Entered) → P e → Q e → R e) → IfOk r P → IfOk r Q → IfOk r R

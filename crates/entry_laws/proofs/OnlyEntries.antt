@@ -48,11 +48,6 @@ pub covers-more : (S : Signature) (base k : ℕ) → base ≡ length S.entries �
 covers-more S base k is c h =
     let low = slice_get_within S.entries c (Definition h.0 h.1 h.2) h.3 in omega (arith, is)
 
--- what has a number below the base
-low-constants : (S : Signature) (base k c : ℕ) → base ≡ length S.entries → IsConstantNumber S c → (c < base) × (c < base + k)
-low-constants S base k c is h =
-    let low = slice_get_within S.entries c (Definition h.0 h.1 h.2) h.3 in (omega (arith, is), omega (arith, is))
-
 -- ---- sides
 
 pub each_position-at : {X : Type 0} (P : X → Type 0) (f : ℕ → X) (j count k : ℕ) → Each P (each_position f j count) → j ≤ k → k < j + count → P (f k)

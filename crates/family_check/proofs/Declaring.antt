@@ -13,7 +13,8 @@ use Rattle.core_sig.specs.declared.raw.RawCon.{RawCon}
 use Rattle.core_terms.specs.Meanings.{tree_of}
 use Rattle.theory.specs.SignatureScopes.{IsScoped}
 use Rattle.theory.specs.WellFormed.{pushed}
-use Rattle.kernel_reduce.specs.WellScoped.{AreScoped, AreWellScoped, context_limit}
+use Rattle.core_terms.specs.Bounds.{context_limit}
+use Rattle.kernel_reduce.specs.WellScoped.{AreScoped, AreWellScoped}
 use Rattle.core_terms.specs.declared.stop.Stop as stop
 use Rattle.core_sig.specs.declared.family.Constructor.{Constructor}
 use Rattle.core_sig.specs.declared.family.Family.{Family}

@@ -2,6 +2,7 @@ ghost use Rattle.std.specs.Prelude.{◌≡◌, ◌<◌, ◌≤◌, ◌+◌, ◌^
 ghost use Rattle.theory.specs.Spines.{spine_of};
 ghost use Rattle.theory.specs.Terms as tree;
 ghost use Rattle.core_terms.specs.Answers.{Gives};
+ghost use Rattle.core_terms.specs.Bounds.{most_height};
 ghost use Rattle.core_terms.specs.Meanings.{tree_of, tele_of};
 ghost use Rattle.core_sig.specs.Kinds.{HaveKinds};
 ghost use Rattle.core_sig.specs.Meanings.{argument_of, constructor_of, family_of};
@@ -41,7 +42,7 @@ fn is_positive(n: u32, f: &Family, at: u32, ty: &Term) -> bool
 /// The first argument that breaks positivity, counted from 1.
 fn first_offender(n: u32, f: &Family, types: &[Term]) -> Option<u32>
     requires few { length f.now.params + length types.now + 2000 < 2 ^ 32 }
-    requires low { All (λ t. tree.height (tree_of t) ≤ 2000) types.now }
+    requires low { All (λ t. tree.height (tree_of t) ≤ most_height) types.now }
     ensures { result ≡ shapes.first_offender n (family_of f.now) 0 (tele_of types.now) }
 {
     for (at, ty) in types.iter().enumerate() {
@@ -71,8 +72,8 @@ fn targets(
     end: Term,
 ) -> Result<Tele, FamilyStop>
     requires few { length f.now.params + length types.now + 2000 < 2 ^ 32 }
-    requires low { All (λ t. tree.height (tree_of t) ≤ 2000) types.now }
-    requires end { tree.height (tree_of end) ≤ 2000 }
+    requires low { All (λ t. tree.height (tree_of t) ≤ most_height) types.now }
+    requires end { tree.height (tree_of end) ≤ most_height }
     requires ended { domains_of (tree_of end) ≡ [] }
     ensures { (t : tree.Term) → domains_of t ≡ tele_of types.now → end_of t ≡ tree_of end → Tells tele_of result (spec.on_targets number (shapes.constructor_targets n (family_of f.now) t)) }
 {
@@ -94,7 +95,7 @@ fn arguments(
     levels: &[u8],
 ) -> Result<Items<Arg>, Stop>
     requires few { length f.now.params + length types.items + 2000 < 2 ^ 32 }
-    requires low { All (λ t. tree.height (tree_of t) ≤ 2000) types.items }
+    requires low { All (λ t. tree.height (tree_of t) ≤ most_height) types.items }
     requires levels { length levels.now ≡ length types.items }
     ensures meant { Gives (λ args. map (argument_of (length f.now.params)) args) result (Ok (shapes.arguments n (family_of f.now) 0 (tele_of types.items) levels.now)) }
     ensures kinds { IfOk result (HaveKinds n (family_of f.now) 0) }
@@ -142,7 +143,7 @@ fn shaped_constructor(
 ) -> Result<Constructor, FamilyStop>
     requires asked { AreWellScoped sig.now (tele_of f.now.params) (tree_of raw.ty ∷ []) }
     requires few { length f.now.params < parameter_limit }
-    requires low { tree.height (tree_of raw.ty) ≤ 2000 }
+    requires low { tree.height (tree_of raw.ty) ≤ most_height }
     ensures answer { Yields (constructor_of (length f.now.params)) result units.new.left (spec.shaped_constructor sig.now n (family_of f.now) number (raw_constructor_of raw) units.old.left) }
     ensures kinds { IfOk result (λ c. HaveKinds n (family_of f.now) 0 c.args) }
     ensures sum { units.new.left + units.new.spent ≡ units.old.left + units.old.spent }
@@ -168,7 +169,7 @@ fn leveled_constructor(
     units: &mut Units,
 ) -> Result<Constructor, FamilyStop>
     requires asked { AreWellScoped sig.now (tele_of f.now.params ++ tele_of types.items) [] }
-    requires low { All (λ t. tree.height (tree_of t) ≤ 2000) types.items }
+    requires low { All (λ t. tree.height (tree_of t) ≤ most_height) types.items }
     ensures answer { Yields (constructor_of (length f.now.params)) result units.new.left (spec.leveled_constructor sig.now n (family_of f.now) number name (tele_of types.items) (tele_of targets) units.old.left) }
     ensures kinds { IfOk result (λ c. HaveKinds n (family_of f.now) 0 c.args) }
     ensures sum { units.new.left + units.new.spent ≡ units.old.left + units.old.spent }

@@ -4,6 +4,7 @@ ghost use Rattle.theory.specs.Telescopes.{context_behind};
 ghost use Rattle.theory.specs.Terms as tree;
 ghost use Rattle.theory.specs.WellFormed.{IsWellFormed, pushed};
 ghost use Rattle.core_terms.specs.Answers.{Gives, and_next};
+ghost use Rattle.core_terms.specs.Bounds.{most_height};
 ghost use Rattle.core_terms.specs.Meanings.{tree_of, tele_of};
 ghost use Rattle.core_sig.specs.Kinds.{HasKinds, HaveKinds};
 ghost use Rattle.core_sig.specs.Meanings.{constructor_of, family_of};
@@ -228,7 +229,7 @@ fn bare_family(
 ) -> Result<Family, FamilyStop>
     requires asked { AreWellScoped sig.now (tele_of params) (tree_of ty ∷ []) }
     requires few { length params < parameter_limit }
-    requires low { tree.height (tree_of ty) ≤ 2000 }
+    requires low { tree.height (tree_of ty) ≤ most_height }
     ensures answer { (cs : List RawConstructor) → Yields family_of result units.new.left (spec.bare_family sig.now (record { name = name; parameters = tele_of params; type = tree_of ty; constructors = cs }) units.old.left) }
     ensures bare { IfOk result IsBare }
     ensures sum { units.new.left + units.new.spent ≡ units.old.left + units.old.spent }

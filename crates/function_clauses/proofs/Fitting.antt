@@ -5,16 +5,15 @@ use Rattle.std.proofs.lemmas.Option.{slice_get_within}
 use Rattle.theory.specs.Terms.{Term}
 use Rattle.theory.specs.Signatures.{Signature}
 use Rattle.core_terms.specs.Clauses as clause
-use Rattle.core_terms.specs.Clauses.{Clause, Clauses, Right, Is}
+use Rattle.core_terms.specs.Clauses.{Clause, Clauses, Is}
 use Rattle.core_terms.specs.Patterns as pattern
 use Rattle.core_terms.specs.Patterns.{Pat, Pats}
 use Rattle.case_trees.specs.Pairs.{unbound, all_unbound}
 use Rattle.case_trees.specs.Scoped.{AreClausesFor, AreScopedPatterns, IsClauseOf, IsScopedPattern}
-use Rattle.function_clauses.specs.Conditions.{IsRightSide}
 use Rattle.kernel_reduce.specs.Entries.{constructor_at, family_in}
 use Rattle.pattern_vectors.specs.Columns.{AreWhole, IsWhole}
 use Rattle.pattern_vectors.specs.Matching.{is_as_long}
-use Rattle.resolve.specs.Scoping.{AreClauses, ArePatterns, HasArguments, IsClause, IsPattern, IsRight, binds, binds_all, count}
+use Rattle.resolve.specs.Scoping.{AreClauses, ArePatterns, HasArguments, IsClause, IsPattern, binds, binds_all, count}
 
 -- as many patterns as others
 pub as-long : {A : Type 0} (pats : Pats) (xs : List A) → count pats ≡ length xs → is_as_long pats xs ≡ true
@@ -85,9 +84,3 @@ clause-for S us (Is pats n right) h =
 pub clauses-for : (S : Signature) (us : List Term) (clauses : Clauses) → AreClauses S (length us) clauses → AreClausesFor S us clauses
 clauses-for S us clause.nil h = tt
 clauses-for S us (clause.cons c clauses) h = (clause-for S us c h.0, clauses-for S us clauses h.1)
-
--- what comes after the patterns
-pub right-of : (S : Signature) (k n : ℕ) (right : Right) → IsRight S k n right → IsRightSide S k right
-right-of S k n (clause.Side t) h = h.scoped.entries
-right-of S k n (clause.With t inner) h = (h.0.scoped.entries, h.1)
-right-of S k n clause.Absurd h = tt

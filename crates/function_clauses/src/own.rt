@@ -8,7 +8,7 @@ use core_terms::{Stop, copy_whole};
 use function_walks::{Opened, after_domains, first_domains};
 use resolve::FunCore;
 use std::alloc::Global;
-use unifier::variables;
+use tele_eq::variables;
 
 /// The function's own part before its clauses are walked: its columns are the variables of its telescope.
 pub fn own_part(alloc: Global, f: &FunCore, level: u8) -> Result<Opened, Stop>

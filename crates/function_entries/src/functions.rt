@@ -21,7 +21,7 @@ use leaf_terms::{
 };
 use run_terms::{Naming, constant, rec_name, with_name, with_terms};
 use std::alloc::Global;
-use unifier::variables;
+use tele_eq::variables;
 
 /// The names that the function mentions where it is recursive.
 fn recursive_table(alloc: Global, plan: &Plan, r: &Recursion) -> Result<Items<Name>, Stop>

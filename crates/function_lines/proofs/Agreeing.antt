@@ -14,9 +14,6 @@ spent r n = (r, n)
 pub agrees-same : {A E : Type 0} (made : SpentOr E A) → Agrees made made
 agrees-same made a left is = is
 
-pub agrees-on : {A E : Type 0} (first second third : SpentOr E A) → Agrees first second → Agrees second third → Agrees first third
-agrees-on first second third h k a left is = k a left (h a left is)
-
 -- the second may be put otherwise
 pub agrees-as : {A E : Type 0} (made meant other : SpentOr E A) → meant ≡ other → Agrees made meant → Agrees made other
 agrees-as made meant other is h = transport (Agrees made) is h

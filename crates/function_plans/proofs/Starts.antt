@@ -1,5 +1,5 @@
 -- Where trees begin.
-use Rattle.std.proofs.Common.{◌≡◌, ℕ, ◌≤◌, true, false, subst, List, length, All, Err, refl, sym, ◌∙◌, arith}
+use Rattle.std.proofs.Common.{◌≡◌, ℕ, ◌≤◌, true, subst, List, length, All, refl, sym, ◌∙◌, arith}
 use Rattle.theory.specs.Terms.{Term}
 use Rattle.theory.specs.Telescopes.{Telescope}
 use Rattle.theory.specs.Signatures.{Signature}
@@ -8,9 +8,6 @@ use Rattle.unification.specs.ScopedStates.{IsReady}
 use Rattle.unification.proofs.ScopedRecords.{variables-scoped}
 use Rattle.case_trees.specs.Laws.{IsGiven}
 use Rattle.case_trees.specs.Scoped.{AreClausesFor}
-use Rattle.core_terms.specs.CaseTrees.{Tree}
-use Rattle.core_terms.specs.declared.stop.Stop.TheVariants.{Deep}
-use Rattle.elaboration.specs.Refusals.{Elaborating, Halts, answers}
 use Rattle.elaboration.specs.Walking.{Session, Walked}
 use Rattle.order_scopes.specs.Laws.{begins_closed}
 use Rattle.order_scopes.proofs.OrderedScopes as orders
@@ -85,7 +82,3 @@ module _ (S : Signature) (w : Walked) (context : Telescope) (count : ℕ) (order
 pub made-closed : (s : Session) (w : Walked) (count : ℕ) (order : List ℕ) (left : ℕ) → begins_closed (ordered_telescope w.part.tele order) ≡ true
     → own_tree_made s w count order left ≡ own_tree_of s w count order left
 made-closed s w count order left h = rw h refl
-
-pub made-open : (s : Session) (w : Walked) (count : ℕ) (order : List ℕ) (left : ℕ) → begins_closed (ordered_telescope w.part.tele order) ≡ false
-    → ◌≡◌ {A = Elaborating Tree} (own_tree_made s w count order left) (answers (Err (Halts Deep)) left)
-made-open s w count order left h = rw h refl

@@ -14,7 +14,8 @@ use Rattle.theory.proofs.Widening.{prefix_keeps}
 use Rattle.core_terms.specs.Meanings.{tree_of, tele_of}
 use Rattle.core_terms.specs.declared.term.Term as code
 use Rattle.kernel_reduce.specs.Reduction.{most_variables}
-use Rattle.kernel_reduce.specs.WellScoped.{AreScoped, AreWellScoped, CanReduce, context_limit}
+use Rattle.core_terms.specs.Bounds.{context_limit}
+use Rattle.kernel_reduce.specs.WellScoped.{AreScoped, AreWellScoped, CanReduce}
 use Rattle.kernel_reduce.proofs.ScopedTelescopes.{telescope-append, telescope-at, telescope-parts, telescope-take}
 
 -- Lists of scoped terms.

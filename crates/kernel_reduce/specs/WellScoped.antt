@@ -5,16 +5,13 @@ use Rattle.theory.specs.Terms.{Term}
 use Rattle.theory.specs.Telescopes.{Telescope}
 use Rattle.theory.specs.Signatures.{Signature}
 use Rattle.theory.specs.SignatureScopes.{IsScoped, IsScopedSignature, IsScopedTelescope}
+use Rattle.core_terms.specs.Bounds.{context_limit}
 use Rattle.kernel_reduce.specs.Reduction.{most_variables}
 
 -- each of the terms is scoped over n variables
 abbrev pub AreScoped : Signature → ℕ → List Term → Type 0
 AreScoped S n [] = Unit {0}
 AreScoped S n (t ∷ terms) = IsScoped S n t × AreScoped S n terms
-
--- 2 ^ 31: a context that is given has fewer types
-abbrev pub context_limit : ℕ
-context_limit = 2147483648
 
 -- the terms are scoped in the context, which lists its types from the outermost on
 pub record AreWellScoped (S : Signature) (types : Telescope) (ts : List Term) : Type 0 where

@@ -10,7 +10,7 @@ use Rattle.core_terms.specs.declared.stop.Stop.{Stop}
 use Rattle.core_sig.specs.Drafts.{Draft}
 use Rattle.family_check.specs.Entering.{Entered}
 use Rattle.clause_reports.specs.DraftEntering.{enter_draft_of}
-use Rattle.clause_reports.specs.Stops.{ReportStop}
+use Rattle.clause_reports.proofs.Keeping.{weaker-of-two}
 use Rattle.draft_checks.specs.Checks.{enterable, names_enter}
 use Rattle.draft_checks.specs.Laws.{UnmarkedIsOpen}
 use Rattle.draft_entering.specs.Conditions.{IsOpen}
@@ -26,10 +26,6 @@ use Rattle.made_functions.specs.Entering.{FunctionEnters, NamesInTurn}
 use Rattle.made_functions.specs.Laws.{EnterInTurn}
 use Rattle.made_functions.proofs.EnteredPlans.{plan-enters}
 
-both-ok : (r : Result Entered ReportStop) (P Q R : Entered → Type 0) → IfOk r P → IfOk r Q → ((e : Entered) → P e → Q e → R e) → IfOk r R
-both-ok (Ok e) P Q R h k go = go e h k
-both-ok (Err s) P Q R h k go = tt
-
 -- the tests of drafts over longer signatures are those of their names
 in-turn : EnteredIsOpen → (S T : Signature) → IsPrefix S T → IsWellFormed T → IsOpen T → (drafts : List Draft)
     → ((U : Signature) → IsPrefix S U → All (λ d. enterable U d ≡ names_enter U d.names) drafts) → NamesInTurn T drafts → EnterInTurn T drafts
@@ -37,7 +33,7 @@ in-turn opens S T prefix formed ready [] tested names = tt
 in-turn opens S T prefix formed ready (d ∷ drafts) tested names = (
   All-head (λ d. enterable T d ≡ names_enter T d.names) d drafts (tested T prefix) ∙ names.0,
   λ left.
-      both-ok (enter_draft_of T d left).0 (λ e. StaysOpen T e.signature) (λ e. NamesInTurn e.signature drafts) (λ e. EnterInTurn e.signature drafts)
+      weaker-of-two (λ (e : Entered). StaysOpen T e.signature) (λ (e : Entered). NamesInTurn e.signature drafts) (λ (e : Entered). EnterInTurn e.signature drafts) (enter_draft_of T d left).0
       (opens T d left formed ready) (names.1 left)
       (λ e stays more.
       in-turn opens S e.signature (prefix_transitive S T e.signature prefix (extends-prefix T e.signature stays.longer)) stays.well_formed stays.ready drafts

@@ -89,10 +89,6 @@ small-places : (runs : List (ℕ × ℕ)) (size depth : ℕ) (ts : List Term) �
 small-places runs size depth [] le low = tt
 small-places runs size depth (t ∷ ts) le low = (small-place runs size depth t le low.0, small-places runs size depth ts le low.1)
 
-pub small-run : (depth start count : ℕ) → depth ≤ 1100000 → AreSmallTerms (run depth start count)
-small-run depth start zero le = tt
-small-run depth start (suc count) le = ((omega arith, omega arith), small-run depth (start + 1) count le)
-
 pub small-constructed : (n p k number first : ℕ) (c : ConstructorShape) (depth : ℕ) → FitsMember p k c → depth ≤ 1100000 → AreSmallTerms (constructed n p k number first c depth)
 small-constructed n p k number first c depth fits le =
     let count = length c.arguments in

@@ -3,6 +3,7 @@ use Rattle.std.specs.Prelude.{ℕ, ◌+◌, ◌≤◌, ◌<◌, List, [], ◌∷
 use Rattle.theory.specs.Terms.{Term, height, top}
 use Rattle.theory.specs.Families.{Family}
 use Rattle.theory.specs.Signatures.{Signature, FamilyOf, IsEntryAt}
+use Rattle.core_terms.specs.Bounds.{most_height}
 use Rattle.core_sig.specs.Shapes.{ArgumentShape, ConstructorShape, Shape}
 
 -- the levels of no confusion of family number n into Type m fit: D!case.(j+1) is there for the level j of what it says
@@ -12,7 +13,7 @@ HasConfusionLevel S n m = (f : Family) → IsEntryAt S n (FamilyOf f) → max f.
 -- terms that are not too high
 abbrev pub AreLow : List Term → Type 0
 AreLow [] = Unit {0}
-AreLow (t ∷ terms) = (height t ≤ 2000) × AreLow terms
+AreLow (t ∷ terms) = (height t ≤ most_height) × AreLow terms
 
 -- types that are not too high
 abbrev pub HaveLowTypes : List ArgumentShape → Type 0

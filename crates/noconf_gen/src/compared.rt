@@ -8,7 +8,7 @@ ghost use Rattle.noconf_gen.specs.Compared as spec;
 ghost use Rattle.noconf_gen.specs.Fitting.{FitsIndices, FitsMember, HaveLowTypes};
 
 use core_sig::{Arg, Constructor, Family, family_at};
-use core_terms::{Items, Run, Stop, Tele, Term, applied_to_run, place, variable};
+use core_terms::{Items, Run, Stop, Tele, Term, applied_to_run, place};
 use std::alloc::Global;
 use tele_eq::Item;
 
@@ -136,27 +136,4 @@ pub fn constructed(
     let whole = applied_to_run(alloc, Term::Con(fam, number), depth, 0, params)?;
     terms.push(applied_to_run(alloc, whole, depth, first, count)?)?;
     Ok(terms)
-}
-
-/// The variables with `count` levels from `start` on, at a depth, after those that are made.
-#[tactic(auto, using(tele_eq::proofs::Growing::growing))]
-fn run_from(depth: u32, start: u32, count: u32, mut made: Tele) -> Result<Tele, Stop>
-    requires { start + count ≤ 1000000 }
-    ensures { Gives tele_of result (Ok (tele_of made ++ level.run depth start count)) }
-{
-    if count == 0 {
-        return Ok(made);
-    }
-    made.push(variable(depth, start))?;
-    run_from(depth, start + 1, count - 1, made)
-}
-
-/// The variables with `count` levels from `start` on, at a depth.
-pub fn variables(alloc: Global, depth: u32, start: u32, count: u32) -> Result<Tele, Stop>
-    requires start { start + count ≤ 1000000 }
-    requires depth { depth ≤ 1000000 }
-    ensures is { Gives tele_of result (Ok (level.run depth start count)) }
-    ensures small { IfOk result (λ v. AreSmallTerms (tele_of v)) }
-{
-    run_from(depth, start, count, Items::new(alloc))
 }

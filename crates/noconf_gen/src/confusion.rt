@@ -1,5 +1,6 @@
 ghost use Rattle.std.specs.Prelude.{◌≡◌, ◌≤◌, ◌<◌, ◌+◌, Ok, Some, length, slice_get};
 ghost use Rattle.core_terms.specs.Answers.{Gives};
+ghost use Rattle.core_terms.specs.Bounds.{most_height};
 ghost use Rattle.core_terms.specs.Levels.{run};
 ghost use Rattle.core_terms.specs.Meanings.{tree_of, tele_of};
 ghost use Rattle.core_sig.specs.Shapes.{constructor_shape, shape_of};
@@ -9,13 +10,13 @@ ghost use Rattle.noconf_gen.specs.Compared.{argument_items, constructed, member_
 ghost use Rattle.noconf_gen.specs.Fitting.{FitsIndices, FitsMember};
 ghost use Rattle.noconf_gen.specs.NoConfusionTypes as spec;
 
-use crate::compared::{argument_items, constructed, member_items, variables};
+use crate::compared::{argument_items, constructed, member_items};
 use crate::lengths::{arity, index_count, parameter_count};
 use crate::members::{Member, motive_type};
 use core_sig::{Constructor, Family};
 use core_terms::{Stop, Tele, Term, applied, applied_to_run, products, variable};
 use std::alloc::Global;
-use tele_eq::{cong_whole, tele_equations_whole};
+use tele_eq::{cong_whole, tele_equations_whole, variables_of_run};
 
 /// The constructor that no confusion is about, with its number, and its family with its number.
 #[derive(Clone, Copy)]
@@ -77,9 +78,9 @@ fn congruences(
         con,
         inside,
     )?;
-    let left = variables(alloc, depth, first, count)?;
-    let right = variables(alloc, depth, second, count)?;
-    let eqs = variables(alloc, depth, start, count)?;
+    let left = variables_of_run(alloc, depth, first, count)?;
+    let right = variables_of_run(alloc, depth, second, count)?;
+    let eqs = variables_of_run(alloc, depth, start, count)?;
     cong_whole(alloc, &from, &to, &terms, &left, &right, &eqs)
 }
 
@@ -101,8 +102,8 @@ pub fn injective_type(
     let params = parameter_count(subject.family);
     let count = arity(subject.con);
     let items = argument_items(alloc, params, depth, subject.con)?;
-    let left = variables(alloc, depth, first, count)?;
-    let right = variables(alloc, depth, second, count)?;
+    let left = variables_of_run(alloc, depth, first, count)?;
+    let right = variables_of_run(alloc, depth, second, count)?;
     let equations = tele_equations_whole(alloc, &items, &left, &right)?;
     let inside = depth + count;
     let congruences = congruences(alloc, subject, first, second, depth, inside)?;
@@ -112,7 +113,7 @@ pub fn injective_type(
 
 /// A motive at the equations of members, whose levels begin with `start`, at a depth.
 fn concluded(alloc: Global, indices: u32, motive: u32, start: u32, depth: u32) -> Result<Term, Stop>
-    requires indices { indices ≤ 2000 }
+    requires indices { indices ≤ most_height }
     requires start { start ≤ 100000 }
     ensures { Gives tree_of result (Ok (spec.concluded indices motive start depth)) }
 {

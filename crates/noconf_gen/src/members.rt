@@ -7,12 +7,12 @@ ghost use Rattle.noconf_gen.specs.CodeMembers.{IsFitMember, member_of};
 ghost use Rattle.noconf_gen.specs.Fitting.{FitsIndices, FitsSubject};
 ghost use Rattle.noconf_gen.specs.NoConfusionTypes as spec;
 
-use crate::compared::{constructed, member_items, variables};
+use crate::compared::{constructed, member_items};
 use case_below_gen::{closed_over, scrutinee_over};
 use core_sig::{Constructor, Family, arguments_over};
 use core_terms::{Binder, Stop, Tele, Term, functions, products};
 use std::alloc::Global;
-use tele_eq::tele_equations_whole;
+use tele_eq::{tele_equations_whole, variables_of_run};
 
 /// A member of a family, with its indices.
 #[derive(Clone, Copy)]
@@ -43,7 +43,7 @@ fn member_terms(
         Member::Constructed(con, number, first) => {
             constructed(alloc, fam, params, indices, number, first, con, depth)
         }
-        Member::Variables(start) => variables(alloc, depth, start, indices + 1),
+        Member::Variables(start) => variables_of_run(alloc, depth, start, indices + 1),
     }
 }
 

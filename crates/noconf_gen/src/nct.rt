@@ -10,6 +10,7 @@ ghost use Rattle.theory.specs.Prelude.{prelude};
 ghost use Rattle.theory.specs.Signatures.{FamilyOf, IsEntryAt, IsPrefix, Signature};
 ghost use Rattle.theory.specs.SignatureScopes.{IsConstructorNumber, IsScopedSignature};
 ghost use Rattle.theory.specs.Terms.{top};
+ghost use Rattle.core_terms.specs.Bounds.{most_height};
 ghost use Rattle.noconf_gen.specs.CodeMembers.{IsFitSubject};
 ghost use Rattle.noconf_gen.specs.Fitting.{FitMembers, FitsConfusion, FitsMember, HasConfusionLevel};
 ghost use Rattle.noconf_gen.specs.NoConfusionTypes as spec;
@@ -120,7 +121,7 @@ fn applied_to_confusions(
 ) -> Result<Term, Stop>
     requires fits { IsFitSubject subject }
     requires members { FitMembers (length subject.family.now.params) (length subject.family.now.indices) (map constructor_shape cons.now) }
-    requires at { at + length cons.now ≤ 2000 }
+    requires at { at + length cons.now ≤ most_height }
     requires depth { depth ≤ 10000 }
     ensures { Gives tree_of result (Ok (applied_to_methods (spec.confusion_method subject.entry.fam (shape_of subject.entry.family.now) subject.entry.number (constructor_shape subject.entry.con.now) m depth) at (tree_of head) (map constructor_shape cons.now))) }
 {

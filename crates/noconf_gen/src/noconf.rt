@@ -12,11 +12,12 @@ ghost use Rattle.theory.specs.Signatures.{FamilyOf, IsEntryAt, IsPrefix, Signatu
 ghost use Rattle.theory.specs.SignatureScopes.{IsConstructorNumber, IsScopedSignature};
 ghost use Rattle.theory.specs.Terms as tree;
 ghost use Rattle.theory.specs.Terms.{top};
+ghost use Rattle.core_terms.specs.Bounds.{context_limit};
 ghost use Rattle.noconf_gen.specs.CodeMembers.{IsFitSubject};
 ghost use Rattle.noconf_gen.specs.Fitting.{HasConfusionLevel};
 ghost use Rattle.noconf_gen.specs.NoConfusion as spec;
 
-use crate::compared::{argument_items, constructed, member_items, variables};
+use crate::compared::{argument_items, constructed, member_items};
 use crate::confusion::{Subject, injective_type, subject_of};
 use crate::fitting::fits_subject;
 use crate::lengths::{arity, index_count, parameter_count};
@@ -26,7 +27,7 @@ use case_below_gen::only_name;
 use core_sig::{Draft, Entry, Signature, drafted};
 use core_terms::{Binder, MAX_HEIGHT, Stop, Term, applied, applied_to_run, variable};
 use std::alloc::Global;
-use tele_eq::{refl_list_whole, telescopic_j_whole};
+use tele_eq::{refl_list_whole, telescopic_j_whole, variables_of_run};
 
 /// The entry `D!noconf.c.m` for constructor `con` of family number `fam`: `D!nct.c.m` from the equations. Deep where its type or
 /// its term is too high. Its size grows as that of `D!nct.c.m`.
@@ -128,8 +129,8 @@ fn elimination(alloc: Global, subject: Subject, j: u8, nct: u32, base: Term) -> 
         con,
         whole,
     )?;
-    let right = variables(alloc, whole, start, count)?;
-    let eqs = variables(alloc, whole, start + count, count)?;
+    let right = variables_of_run(alloc, whole, start, count)?;
+    let eqs = variables_of_run(alloc, whole, start + count, count)?;
     let head = applied_to_run(alloc, Term::Const(nct), whole, 0, start)?;
     telescopic_j_whole(alloc, &items, &left, &right, &eqs, j, &head, &base)
 }
@@ -139,14 +140,14 @@ fn reflexive_base(alloc: Global, subject: Subject, m: u8, depth: u32) -> Result<
     requires fits { IsFitSubject subject }
     requires depth { depth ≤ 20000 }
     ensures is { Gives tree_of result (Ok (spec.reflexive_base subject.entry.fam (shape_of subject.entry.family.now) subject.entry.number (constructor_shape subject.entry.con.now) m depth)) }
-    ensures free { IfOk result (λ t. tree.free_of (tree_of t) ≤ 2147483648) }
+    ensures free { IfOk result (λ t. tree.free_of (tree_of t) ≤ context_limit) }
 {
     let con = subject.con;
     let params = parameter_count(subject.family);
     let count = arity(con);
     let inside = depth + 2;
     let items = argument_items(alloc, params, inside, con)?;
-    let terms = variables(alloc, inside, params, count)?;
+    let terms = variables_of_run(alloc, inside, params, count)?;
     let reflexivities = refl_list_whole(alloc, &items, &terms)?;
     let end = applied(alloc, variable(inside, depth + 1), reflexivities.into_vec())?;
     let premise = injective_type(alloc, subject, params, params, depth, depth + 1)?;

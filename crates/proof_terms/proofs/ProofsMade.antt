@@ -1,5 +1,5 @@
 -- What is made of a proof is what is meant.
-use Rattle.std.proofs.Common.{◌≡◌, ℕ, List, [], ◌∷◌, ◌++◌, length, Ok, refl, sym, ap, ◌∙◌, subst as transport}
+use Rattle.std.proofs.Common.{◌≡◌, ℕ, List, [], ◌∷◌, ◌++◌, length, Ok, sym, ap, ◌∙◌, subst as transport, append_assoc}
 use Rattle.theory.specs.Terms.{Term}
 use Rattle.theory.specs.Telescopes.{functions}
 use Rattle.theory.specs.Signatures.{Signature}
@@ -17,10 +17,6 @@ use Rattle.clause_reports.specs.ProofTerms.{all_proof_names, goal_node, proof_na
 use Rattle.clause_reports.specs.ProofWalks.{Ends, Splits, Proofs, nil, cons}
 use Rattle.proof_terms.specs.CodeProofs.{all_names_made, body_made, candidate_with, name_made, names_made, proof_made, proofs_made, table_made}
 use Rattle.proof_terms.specs.Laws.{CandidateIsThis, ProofIsTerm, ProofNamesAreThese}
-
-append-append : {A : Type 0} (xs ys zs : List A) → (xs ++ ys) ++ zs ≡ xs ++ (ys ++ zs)
-append-append [] ys zs = refl
-append-append (x ∷ xs) ys zs = ap (λ ws. x ∷ ws) (append-append xs ys zs)
 
 mutual
   pub proof-is : ProofIsTerm
@@ -46,7 +42,7 @@ mutual
       let both = if-both (split_names_made S L (goal_node L p) x type runs names) (all_names_made S L proofs) all e in
       all-names-are S these L proofs both.0 all both.2
       ∙ (ap (λ before. before ++ all_proof_names S L proofs) (split-names-are S these L (goal_node L p) x type runs names both.0 both.1)
-      ∙ append-append names (split_names S L (goal_node L p) x type runs) (all_proof_names S L proofs))
+      ∙ append_assoc names (split_names S L (goal_node L p) x type runs) (all_proof_names S L proofs))
 
   all-names-are : (S : Signature) → StepsAreThese S → (L : ℕ) (proofs : Proofs) (names all : List (List ℕ)) → all_names_made S L proofs names ≡ Ok all
       → all ≡ names ++ all_proof_names S L proofs
@@ -55,7 +51,7 @@ mutual
       let both = if-both (names_made S L proof names) (all_names_made S L proofs) all e in
       all-names-are S these L proofs both.0 all both.2
       ∙ (ap (λ before. before ++ all_proof_names S L proofs) (proof-names-are S these L proof names both.0 both.1)
-      ∙ append-append names (proof_names S L proof) (all_proof_names S L proofs))
+      ∙ append_assoc names (proof_names S L proof) (all_proof_names S L proofs))
 
 pub candidate-is : CandidateIsThis
 candidate-is S these plan k clause e proof d h =

@@ -25,7 +25,6 @@ use Rattle.kernel_reduce.proofs.WellScoped.{all-scoped, scoped-all, scoped-more}
 use Rattle.tele_eq.specs.Items.{term_at}
 use Rattle.unifier.specs.Conditions.{most_levels}
 use Rattle.case_trees.proofs.ScopedPoints.{under-scoped, all-under-scoped}
-use Rattle.clause_walks.specs.LookConditions.{IsContext}
 use Rattle.clause_walks.specs.PairConditions.{IsSolvedIn}
 use Rattle.clause_reports.specs.ProofWalks.{Place, Proof, Ends, Splits, Proofs, nil, cons, value_at, at_origin, moved_place, bounded_place, leaves_in, all_leaves}
 use Rattle.proof_terms.specs.ProofMeanings.{place_of, proofs}
@@ -70,23 +69,6 @@ module _ (S : Signature) (n : ℕ) (values arguments : List Term) (all : All (Is
       All-cons (IsScoped S n) (at_origin values arguments o) (map (at_origin values arguments) origins) (origin-scoped o) (origins-scoped origins)
 
 -- ---- what calls are asked about
-
-pub kept-context : (S : Signature) (p : code.Place) (ctx : List term.Term) → IsKeptPlace S (place_of p) → ctx ≡ p.ctx → IsContext S (tele_of ctx)
-kept-context S p ctx h is = transport (λ c. IsContext S (tele_of c)) (sym is) (record { scoped = h.scoped.context; few = h.few })
-
--- the term of the split's variable
-pub kept-value : (S : Signature) (p : code.Place) (ctx values : List term.Term) (x : ℕ) (t : Term) → IsKeptPlace S (place_of p) → ctx ≡ p.ctx → values ≡ p.values
-    → ◌≡◌ {A = Result Term Stop} (Ok t) (Ok (value_at (tele_of values) x)) → IsScoped S (length ctx) t
-kept-value S p ctx values x t h is same e =
-    transport (λ c. IsScoped S (length c) t) (sym is)
-    (transport (λ n. IsScoped S n t) (length-map p.ctx tree_of)
-    (transport (IsScoped S (length (tele_of p.ctx))) (sym (ok_is e ∙ ap (λ vs. value_at (tele_of vs) x) same))
-    (value-scoped S (length (tele_of p.ctx)) (tele_of p.values) x h.scoped.values)))
-
-pub same-arguments : (S : Signature) (ctx context us vs : List term.Term) → ctx ≡ context → vs ≡ us → AreScoped S (length ctx) (tele_of us)
-    → AreScoped S (length context) (tele_of vs)
-same-arguments S ctx context us vs is same h =
-    transport (λ us. AreScoped S (length context) (tele_of us)) (sym same) (transport (λ c. AreScoped S (length c) (tele_of us)) is h)
 
 -- ---- the next places
 

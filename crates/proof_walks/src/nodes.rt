@@ -4,6 +4,7 @@ ghost use Rattle.core_terms.specs.Answers.{Gives, Runs as RunsAs};
 ghost use Rattle.core_terms.specs.Meanings.{tree_of, tele_of};
 ghost use Rattle.theory.specs.SignatureScopes.{IsScoped};
 ghost use Rattle.theory.specs.Terms as tree;
+ghost use Rattle.core_terms.specs.Bounds.{most_height};
 ghost use Rattle.kernel_reduce.specs.Reduction.{whnf_of};
 ghost use Rattle.kernel_reduce.specs.WellScoped.{AreScoped};
 ghost use Rattle.case_trees.specs.Problems.{type_of_variable as type_meant};
@@ -50,7 +51,7 @@ fn met_with(alloc: Global, b: Built, w: &Term) -> Result<Met, Stop>
 
 /// The constructor of family n that a head form is.
 fn met_in(alloc: Global, sig: &Signature, n: u32, w: &Term) -> Result<Option<Met>, Stop>
-    requires low { tree.height (tree_of w.now) ≤ 2000 }
+    requires low { tree.height (tree_of w.now) ≤ most_height }
     ensures answer { Gives (option_map met_of) result (Ok (spec.met_in sig.now n (tree_of w.now))) }
 {
     let Some(b) = built_of(sig, w) else {

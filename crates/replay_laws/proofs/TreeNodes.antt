@@ -9,7 +9,7 @@ use Rattle.theory.specs.Families.{Constructor}
 use Rattle.theory.specs.Signatures.{Signature}
 use Rattle.core_terms.specs.Answers.{on_answer}
 use Rattle.core_terms.specs.CaseTrees as tree
-use Rattle.core_terms.specs.CaseTrees.{Step, Tree, Branches}
+use Rattle.core_terms.specs.CaseTrees.{Step, Branches}
 use Rattle.core_terms.specs.declared.case_tree.Rule.TheVariants.{SolveRight, SolveLeft}
 use Rattle.core_terms.specs.declared.stop.Stop.{Stop}
 use Rattle.tele_eq.specs.Items.{Item}
@@ -31,16 +31,15 @@ use Rattle.unification.proofs.SolvedContexts.{length-new_context, other-among}
 use Rattle.unifier.specs.Conditions.{AreBelow}
 use Rattle.case_trees.specs.Points.{Point}
 use Rattle.case_trees.specs.Problems.{Member}
-use Rattle.case_trees.specs.Scoped.{IsScopedTree}
-use Rattle.case_trees.specs.Standing.{BranchesAt, Runs, StandsAt}
+use Rattle.case_trees.specs.Standing.{BranchesAt, Runs}
 use Rattle.tree_translation.specs.Comparisons.{Comparison}
-use Rattle.tree_translation.specs.Conditions.{AreRuns, IsEnd, IsSeen, IsSplit}
+use Rattle.tree_translation.specs.Conditions.{AreRuns, IsEnd, IsSeen}
 use Rattle.tree_translation.specs.Hidden.{visible, widened_number}
 use Rattle.tree_translation.specs.Laws.{Widens}
 use Rattle.tree_translation.specs.Replays.{behind_run, behind_step, solved_standing, step_in, unless_compared}
 use Rattle.tree_translation.specs.Splits.{Node, branch_standing, is_absurd, is_last}
 use Rattle.tree_translation.specs.Standings.{Standing, levels_from, problem_state}
-use Rattle.tree_translation.specs.TreeTerms.{node_of, runs_of, type_in, variable_in}
+use Rattle.tree_translation.specs.TreeTerms.{node_of, runs_of}
 use Rattle.tree_translation.proofs.LevelLists.{at-among, there-get, without-among}
 use Rattle.tree_translation.proofs.SeenSteps.{run-seen, variable-seen}
 use Rattle.replay_laws.proofs.RunsAlong.{problem-along}
@@ -198,22 +197,3 @@ split-runs S p x m number _ _ (BranchesAt.absurd _ _ _ _ c cs steps context u v 
     AreRuns.more (Absurd steps context u v) runs (IsEnd.absurd context u v) (split-runs S p x m (number + 1) cs branches rest)
 split-runs S p x m number _ _ (BranchesAt.solved _ _ _ _ c cs steps context solution subtree branches runs stands rest) =
     AreRuns.more (Solved steps context solution) runs (IsEnd.solved context solution) (split-runs S p x m (number + 1) cs branches rest)
-
--- a split of a tree, at its node
-pub node-split : (S : Signature) (p : Point) (node : Node) (context : Telescope) (x n : ℕ) (type : Term) (branches : Branches)
-    → StandsAt S p (tree.Split context x n type branches) → IsScopedTree S (tree.Split context x n type branches) → IsNodeOver node p.context
-    → IsSplit S node (variable_in node x) (type_in node type) (runs_of branches)
-node-split S p node _ x _ type branches (StandsAt.split _ _ _ m _ family branches_at) scoped over = record {
-  seen = p.context;
-  y = x;
-  reduced = type;
-  member = m;
-  is_seen = over.is_seen;
-  inside = family.variable;
-  variable = refl;
-  type_seen = refl;
-  is_member = family.member;
-  are_runs = split-runs S p x m 0 m.family.constructors branches branches_at;
-  context_scoped = scoped.0;
-  reduced_scoped = scoped.2;
-}

@@ -5,6 +5,7 @@ use Rattle.theory.specs.Terms.{Term, height}
 use Rattle.theory.specs.Families.{Family, Constructor}
 use Rattle.theory.specs.Signatures.{Signature, IsEntryAt, FamilyOf}
 use Rattle.theory.specs.SignatureScopes.{IsScoped, IsScopedTelescope}
+use Rattle.core_terms.specs.Bounds.{most_height}
 use Rattle.core_terms.specs.Patterns.{Pat, Bind, Wild, Dot, Con, Absurd, Pats, nil, cons}
 use Rattle.core_terms.specs.Clauses as clause
 use Rattle.core_sig.specs.Raw.{RawFamily}
@@ -13,12 +14,12 @@ use Rattle.resolve.specs.Functions.{Function, product_count}
 -- a term that is scoped over n variables and at most 2,000 high
 pub record IsResolved (S : Signature) (n : ℕ) (t : Term) : Type 0 where
   pub scoped : IsScoped S n t
-  pub low : height t ≤ 2000
+  pub low : height t ≤ most_height
 
 -- A raw family for the end of S: its constructors are scoped over the signature T, which has the family itself too.
 pub record IsResolvedFamily (S T : Signature) (raw : RawFamily) : Type 0 where
   pub parameters : IsScopedTelescope S 0 raw.parameters
-  pub low : All (λ t. height t ≤ 2000) raw.parameters
+  pub low : All (λ t. height t ≤ most_height) raw.parameters
   pub type : IsResolved S (length raw.parameters) raw.type
   pub constructors : All (λ c. IsResolved T (length raw.parameters) c.type) raw.constructors
 

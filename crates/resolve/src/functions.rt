@@ -3,6 +3,7 @@ ghost use Rattle.theory.specs.Signatures.{Signature, IsPrefix};
 ghost use Rattle.theory.specs.SignatureScopes.{IsConstantNumber};
 ghost use Rattle.theory.specs.Terms as tree;
 ghost use Rattle.core_terms.specs.Answers.{and_then};
+ghost use Rattle.core_terms.specs.Bounds.{most_height};
 ghost use Rattle.core_terms.specs.Clauses as core;
 ghost use Rattle.core_terms.specs.Meanings.{tree_of};
 ghost use Rattle.core_terms.specs.PatternMeanings.{clause_of, clauses_of, right_of};
@@ -76,7 +77,7 @@ fn function<'a>(
 
 /// How many products the type begins with.
 fn product_count(ty: &Term) -> usize
-    requires { tree.height (tree_of ty.now) ≤ 2000 }
+    requires { tree.height (tree_of ty.now) ≤ most_height }
     ensures count { result ≡ spec.product_count (tree_of ty.now) }
     ensures bound { result < tree.height (tree_of ty.now) }
 {
@@ -88,7 +89,7 @@ fn product_count(ty: &Term) -> usize
 
 /// The number of patterns of the first clause, or without clauses that of the products of the type.
 fn arity_of(ty: &Term, list: &[SurfClause]) -> usize
-    requires { tree.height (tree_of ty.now) ≤ 2000 }
+    requires { tree.height (tree_of ty.now) ≤ most_height }
     ensures { result ≡ spec.arity_of (tree_of ty.now) (surf.clauses (map written.clause_of list.now)) }
 {
     match list.first() {
@@ -99,7 +100,7 @@ fn arity_of(ty: &Term, list: &[SurfClause]) -> usize
 
 /// The number of patterns of each clause, or `None` where the type has too few products.
 fn allowed_by(ty: &Term, arity: usize) -> Option<usize>
-    requires { tree.height (tree_of ty.now) ≤ 2000 }
+    requires { tree.height (tree_of ty.now) ≤ most_height }
     ensures { result ≡ spec.allowed_by (tree_of ty.now) arity }
 {
     (arity <= product_count(ty)).then_some(arity)

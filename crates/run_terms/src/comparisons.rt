@@ -5,6 +5,7 @@ ghost use Rattle.core_terms.specs.TreeMeanings.{step_of};
 ghost use Rattle.theory.specs.Spines.{spine_of};
 ghost use Rattle.theory.specs.Telescopes as telescopes;
 ghost use Rattle.theory.specs.Terms as tree;
+ghost use Rattle.core_terms.specs.Bounds.{most_height};
 ghost use Rattle.unification.specs.Built as built;
 ghost use Rattle.unification.specs.Groups as groups;
 ghost use Rattle.unification.specs.States as states;
@@ -43,7 +44,7 @@ pub fn member_at<'a>(
     sig: &'a Signature,
     t: &Term,
 ) -> Result<Option<Member<'a>>, Stop>
-    requires { tree.height (tree_of t.now) ≤ 2000 }
+    requires { tree.height (tree_of t.now) ≤ most_height }
     ensures answer { Gives (option_map member_of) result (Ok (built.built_of sig.now (tree_of t.now))) }
     ensures kinds { IfOk result (λ found. IfSome found HasMemberKinds) }
 {
@@ -301,8 +302,8 @@ pub fn compared<'a>(
     s: &State,
     step: &Step,
 ) -> Result<Option<Comparison<'a>>, Stop>
-    requires left { tree.height (tree_of step.now.left) ≤ 2000 }
-    requires right { tree.height (tree_of step.now.right) ≤ 2000 }
+    requires left { tree.height (tree_of step.now.left) ≤ most_height }
+    requires right { tree.height (tree_of step.now.right) ≤ most_height }
     ensures kinds { IfOk result (λ found. IfSome found (λ c. HasMemberKinds c.left)) }
     ensures answer { Gives (option_map comparison_of) result (Ok (spec.compared sig.now (state_of s.now) (step_of step.now))) }
 {

@@ -27,25 +27,13 @@ use crate::state::{Equation, State};
 use core_sig::Constructor;
 use core_terms::{Items, Stop, Tele, Term, copy_whole, number_of, sum};
 use std::alloc::Global;
-use tele_eq::Item;
+use tele_eq::{Item, with_variables};
 
 /// The telescope of a constructor's arguments at parameters.
 pub fn argument_items(alloc: Global, ps: &[Term], con: &Constructor) -> Result<Items<Item>, Stop>
     ensures { (n : ℕ) (f : pure.Family) → HaveKinds n f 0 con.now.args → length f.parameters ≡ length ps.now → Gives items_of result (Ok (records.argument_items n (tele_of ps.now) (constructor_of (length ps.now) con.now))) }
 {
     items_at(alloc, ps, con.args.as_slice())
-}
-
-/// Terms, followed by the variables of a context of `count` types, from the outermost on.
-#[tactic(auto, using(tele_eq::proofs::Growing::growing))]
-pub fn with_variables(mut made: Tele, count: u32) -> Result<Tele, Stop>
-    ensures { Gives tele_of result (Ok (tele_of made ++ telescopes.variables count)) }
-{
-    if count == 0 {
-        return Ok(made);
-    }
-    made.push(Term::Var(count - 1))?;
-    with_variables(made, count - 1)
 }
 
 /// The targets of a constructor at parameters, after its arguments.

@@ -9,14 +9,14 @@ ghost use Rattle.run_terms.specs.ComparisonMeanings.{comparison_of};
 ghost use Rattle.run_terms.specs.StandingMeanings.{equations_of, standing_of, state_of};
 
 use crate::comparisons::Comparison;
-use crate::injecting::{argument_items, constructor_terms, joined_equations, with_variables};
+use crate::injecting::{argument_items, constructor_terms, joined_equations};
 use crate::instances::{all_raised, family_items};
 use crate::replays::with_equations;
 use crate::smallness::{congruences_made, equations_made};
 use crate::state::{Equation, Standing, State};
 use core_terms::{Items, Stop, Tele, Term, number_of};
 use std::alloc::Global;
-use tele_eq::Item;
+use tele_eq::{Item, with_variables};
 
 /// The telescope of the arguments of the left constructor.
 fn arguments_of(alloc: Global, c: &Comparison) -> Result<Items<Item>, Stop>

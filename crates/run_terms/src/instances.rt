@@ -34,7 +34,7 @@ fn value(alloc: Global, values: &[Term], n: u32, under: u32) -> Result<Term, Sto
     }
 }
 
-/// A term with values for its variables, under so many binders of its own. Its height nothing tests.
+/// A term with values for its variables, under so many binders of its own. Nothing tests its height.
 pub fn instance(alloc: Global, values: &[Term], t: &Term, under: u32) -> Result<Term, Stop>
     ensures { Gives tree_of result (Ok (instance_of (tele_of values.now) under (tree_of t.now))) }
 {

@@ -184,7 +184,7 @@ pub fn put_under(
     }
 }
 
-/// A term over the first `size` variables with what stands for them, at a depth. Its height nothing tests.
+/// A term over the first `size` variables with what stands for them, at a depth. Nothing tests its height.
 pub fn put(alloc: Global, places: Places, size: u32, depth: u32, t: &Term) -> Result<Term, Stop>
     ensures { Gives tree_of result (Ok (environments.put (environment_of places.entry) size depth (tree_of t.now))) }
 {

@@ -7,7 +7,7 @@ ghost use Rattle.theory.specs.Terms as tree;
 use core_terms::{Stop, Term, copy_whole, next, sum};
 use std::alloc::Global;
 
-/// Adds `by` to every variable numbered `from` or more. Its height nothing tests.
+/// Adds `by` to every variable numbered `from` or more. Nothing tests its height.
 pub fn raised(alloc: Global, by: u32, from: u32, t: &Term) -> Result<Term, Stop>
     ensures { Gives tree_of result (Ok (tree.lift (tree_of t.now) by from)) }
 {

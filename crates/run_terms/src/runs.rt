@@ -3,6 +3,7 @@ ghost use Rattle.core_terms.specs.Answers.{Gives};
 ghost use Rattle.core_terms.specs.Meanings.{tree_of};
 ghost use Rattle.core_terms.specs.TreeMeanings.{step_of, steps_of};
 ghost use Rattle.theory.specs.Terms as tree;
+ghost use Rattle.core_terms.specs.Bounds.{most_height};
 ghost use Rattle.tele_eq.specs.Items.{item_of};
 ghost use Rattle.run_terms.specs.CodeRuns as spec;
 ghost use Rattle.run_terms.specs.ComparisonMeanings.{HasMemberKinds, comparison_of};
@@ -96,8 +97,8 @@ fn after_injection(
     s: &Standing,
     step: &Step,
 ) -> Result<Standing, Stop>
-    requires left { tree.height (tree_of step.now.left) ≤ 2000 }
-    requires right { tree.height (tree_of step.now.right) ≤ 2000 }
+    requires left { tree.height (tree_of step.now.left) ≤ most_height }
+    requires right { tree.height (tree_of step.now.right) ≤ most_height }
     ensures { Gives standing_of result (spec.after_comparison sig.now (standing_of s.now) (step_of step.now)) }
 {
     match compared(alloc, sig, &s.state, step)? {

@@ -5,6 +5,7 @@ ghost use Rattle.core_terms.specs.Meanings.{tree_of, tele_of};
 ghost use Rattle.core_terms.specs.PatternMeanings.{pat_of, pats_of};
 ghost use Rattle.theory.specs.Telescopes.{applied as applied_meant};
 ghost use Rattle.theory.specs.Terms as tree;
+ghost use Rattle.core_terms.specs.Bounds.{most_height};
 ghost use Rattle.kernel_reduce.specs.WellScoped.{AreScoped, CanReduce};
 ghost use Rattle.unification.specs.Built as built;
 ghost use Rattle.unifier.specs.CodeBuilt.{IfThere, IsBuiltAs};
@@ -80,7 +81,7 @@ fn reduced_at(
     units: &mut Units,
 ) -> Result<Term, Stop>
     requires reducible { CanReduce sig.now (tree_of w ∷ []) }
-    requires low { tree.height (tree_of w) ≤ 2000 }
+    requires low { tree.height (tree_of w) ≤ most_height }
     ensures answer { Runs tree_of result units.new.left (spec.reduced_arguments n number (spec.all_reduced sig.now (pats_of pats.now)) (tree_of w) (built.built_of sig.now (tree_of w)) units.old.left) }
     ensures sum { units.new.left + units.new.spent ≡ units.old.left + units.old.spent }
     ensures spends { units.new.left ≤ units.old.left }

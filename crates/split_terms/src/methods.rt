@@ -28,7 +28,7 @@ use run_terms::{
     Naming, Standing, all_raised, argument_items, equations_made, family_items, raised, state_term,
 };
 use std::alloc::Global;
-use unifier::variables;
+use tele_eq::variables;
 
 /// The types of the equations in the motive of a split, or Deep where something in them is too high.
 fn motive_equations(alloc: Global, m: &Member, x: u32) -> Result<Tele, Stop>

@@ -3,6 +3,7 @@ ghost use Rattle.core_terms.specs.Answers.{Gives};
 ghost use Rattle.core_terms.specs.Meanings.{tree_of};
 ghost use Rattle.core_terms.specs.TreeMeanings.{step_of, steps_of};
 ghost use Rattle.theory.specs.Terms as tree;
+ghost use Rattle.core_terms.specs.Bounds.{most_height};
 ghost use Rattle.unification.specs.Built.{built_of};
 ghost use Rattle.tree_translation.specs.Comparisons.{compared as compared_meant};
 ghost use Rattle.tree_translation.specs.Naming as naming;
@@ -62,8 +63,8 @@ fn with_compared(
     step: &Step,
     names: Items<Name>,
 ) -> Result<Items<Name>, Stop>
-    requires left { tree.height (tree_of step.now.left) ≤ 2000 }
-    requires right { tree.height (tree_of step.now.right) ≤ 2000 }
+    requires left { tree.height (tree_of step.now.left) ≤ most_height }
+    requires right { tree.height (tree_of step.now.right) ≤ most_height }
     ensures { Gives (λ ns. ns) result (Ok (names ++ runs.compared_names level (compared_meant sig.now (standing_of s.now).state (step_of step.now)))) }
 {
     match compared(alloc, sig, &s.state, step)? {
@@ -79,8 +80,8 @@ fn with_cycle(
     step: &Step,
     names: Items<Name>,
 ) -> Result<Items<Name>, Stop>
-    requires left { tree.height (tree_of step.now.left) ≤ 2000 }
-    requires right { tree.height (tree_of step.now.right) ≤ 2000 }
+    requires left { tree.height (tree_of step.now.left) ≤ most_height }
+    requires right { tree.height (tree_of step.now.right) ≤ most_height }
     ensures { Gives (λ ns. ns) result (Ok (names ++ runs.cycle_names (built_of sig.now (tree_of step.now.left)) (built_of sig.now (tree_of step.now.right)))) }
 {
     let others = cycle_names(alloc, sig, &step.left, &step.right)?;
@@ -110,8 +111,8 @@ fn with_sides(
     step: &Step,
     names: Items<Name>,
 ) -> Result<Items<Name>, Stop>
-    requires left { tree.height (tree_of step.now.left) ≤ 2000 }
-    requires right { tree.height (tree_of step.now.right) ≤ 2000 }
+    requires left { tree.height (tree_of step.now.left) ≤ most_height }
+    requires right { tree.height (tree_of step.now.right) ≤ most_height }
     ensures { Gives (λ ns. ns) result (Ok (names ++ runs.rule_names sig.now level (standing_of s.now) (step_of step.now) step.now.rule)) }
 {
     match step.rule {

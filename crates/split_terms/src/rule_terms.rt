@@ -3,6 +3,7 @@ ghost use Rattle.core_terms.specs.Answers.{Gives};
 ghost use Rattle.core_terms.specs.Meanings.{tree_of};
 ghost use Rattle.core_terms.specs.TreeMeanings.{step_of};
 ghost use Rattle.theory.specs.Terms as tree;
+ghost use Rattle.core_terms.specs.Bounds.{most_height};
 ghost use Rattle.run_terms.specs.CodeNaming.{naming_of};
 ghost use Rattle.run_terms.specs.CodeRuns.{after_rule, after_step};
 ghost use Rattle.run_terms.specs.StandingMeanings.{standing_of};
@@ -27,8 +28,8 @@ fn injection_term(
     step: &Step,
     inner: Term,
 ) -> Result<Term, Stop>
-    requires left { tree.height (tree_of step.now.left) ≤ 2000 }
-    requires right { tree.height (tree_of step.now.right) ≤ 2000 }
+    requires left { tree.height (tree_of step.now.left) ≤ most_height }
+    requires right { tree.height (tree_of step.now.right) ≤ most_height }
     ensures { Gives tree_of result (spec.injection_made sig.now (naming_of naming.entry) level (standing_of s.now) (step_of step.now) (tree_of inner)) }
 {
     let k = step.group.saturating_sub(1);
@@ -47,8 +48,8 @@ fn refutation_term(
     s: &Standing,
     step: &Step,
 ) -> Result<Term, Stop>
-    requires left { tree.height (tree_of step.now.left) ≤ 2000 }
-    requires right { tree.height (tree_of step.now.right) ≤ 2000 }
+    requires left { tree.height (tree_of step.now.left) ≤ most_height }
+    requires right { tree.height (tree_of step.now.right) ≤ most_height }
     ensures { Gives tree_of result (spec.refutation_made sig.now (naming_of naming.entry) level (standing_of s.now) (step_of step.now)) }
 {
     let k = step.group.saturating_sub(1);
@@ -68,8 +69,8 @@ fn sides_term(
     step: &Step,
     inner: Term,
 ) -> Result<Term, Stop>
-    requires left { tree.height (tree_of step.now.left) ≤ 2000 }
-    requires right { tree.height (tree_of step.now.right) ≤ 2000 }
+    requires left { tree.height (tree_of step.now.left) ≤ most_height }
+    requires right { tree.height (tree_of step.now.right) ≤ most_height }
     ensures { Gives tree_of result (spec.sides_made sig.now (naming_of naming.entry) level (standing_of s.now) (step_of step.now) step.now.rule (tree_of inner)) }
 {
     match step.rule {

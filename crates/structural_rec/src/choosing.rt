@@ -1,5 +1,6 @@
 ghost use Rattle.std.specs.Prelude.{◌≡◌, ◌≤◌, ◌+◌, Ok, length, option_map};
 ghost use Rattle.core_terms.specs.Answers.{Gives};
+ghost use Rattle.core_terms.specs.Bounds.{most_height};
 ghost use Rattle.core_terms.specs.Meanings.{tele_of};
 ghost use Rattle.structural_rec.specs.Choices as spec;
 ghost use Rattle.structural_rec.specs.Conditions.{AreSmallUses, IsSmallTelescope};
@@ -73,7 +74,7 @@ fn first_usable(
 ) -> Result<Choice, Stop>
     requires tele { IsSmallTelescope (tele_of tele.now) }
     requires uses { AreSmallUses (uses_of uses.now) }
-    requires rest { j + length rest.now ≤ 2000 }
+    requires rest { j + length rest.now ≤ most_height }
     ensures { Gives choice_of result (Ok (spec.first_usable sig.now (tele_of tele.now) own (uses_of uses.now) j (tele_of rest.now))) }
 {
     match rest {

@@ -2,6 +2,7 @@ ghost use Rattle.std.specs.Prelude.{◌≡◌, ◌≤◌, ◌+◌, Ok, option_ma
 ghost use Rattle.std.specs.Option.{option_or};
 ghost use Rattle.theory.specs.Terms.{height};
 ghost use Rattle.core_terms.specs.Answers.{Gives};
+ghost use Rattle.core_terms.specs.Bounds.{most_height};
 ghost use Rattle.core_terms.specs.Meanings.{tree_of, tele_of};
 ghost use Rattle.tele_eq.specs.Items.{AreSmallTerms, IsSmall};
 ghost use Rattle.structural_rec.specs.Calls.{calls_in};
@@ -23,7 +24,7 @@ fn unless_fits(
     call: &Term,
 ) -> Result<Option<Term>, Stop>
     requires small { AreSmallTerms (tele_of terms.now) }
-    requires under { under ≤ 2000 }
+    requires under { under ≤ most_height }
     ensures { Gives (option_map tree_of) result (Ok (spec.unless_fits p.now.sig.now p.now.count p.now.position (admission_of p.now.admission.now) (tele_of terms.now) under (tree_of call.now))) }
 {
     if fits(alloc, p, terms, under, call)? {
@@ -44,7 +45,7 @@ fn failing_call(
     t: &Term,
 ) -> Result<Option<Term>, Stop>
     requires small { AreSmallTerms (tele_of terms.now) }
-    requires under { under + height (tree_of t.now) ≤ 2000 }
+    requires under { under + height (tree_of t.now) ≤ most_height }
     ensures { Gives (option_map tree_of) result (Ok (spec.failing_call p.now.sig.now p.now.count p.now.position (admission_of p.now.admission.now) (tele_of terms.now) (calls_in p.now.own under (tree_of whole.now) (tree_of t.now)))) }
 {
     match t {
@@ -77,7 +78,7 @@ fn or_failing_call(
     t: &Term,
 ) -> Result<Option<Term>, Stop>
     requires small { AreSmallTerms (tele_of terms.now) }
-    requires under { under + height (tree_of t.now) ≤ 2000 }
+    requires under { under + height (tree_of t.now) ≤ most_height }
     ensures { Gives (option_map tree_of) result (Ok (option_or (option_map tree_of found) (spec.failing_call p.now.sig.now p.now.count p.now.position (admission_of p.now.admission.now) (tele_of terms.now) (calls_in p.now.own under (tree_of t.now) (tree_of t.now))))) }
 {
     match found {

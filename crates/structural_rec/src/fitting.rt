@@ -2,6 +2,7 @@ ghost use Rattle.std.specs.Prelude.{◌≡◌, ◌≤◌, Ok};
 ghost use Rattle.std.specs.List.{list_all};
 ghost use Rattle.theory.specs.Spines.{spine_of};
 ghost use Rattle.core_terms.specs.Answers.{Gives};
+ghost use Rattle.core_terms.specs.Bounds.{most_height};
 ghost use Rattle.core_terms.specs.Meanings.{tree_of, tele_of};
 ghost use Rattle.tele_eq.specs.Items.{AreSmallTerms};
 ghost use Rattle.kernel_reduce.specs.Entries.{family_at};
@@ -45,7 +46,7 @@ fn smaller_at(
     terms: &[Term],
 ) -> Result<bool, Stop>
     requires small { AreSmallTerms (tele_of terms.now) }
-    requires under { under ≤ 2000 }
+    requires under { under ≤ most_height }
     ensures { Gives (λ b. b) result (Ok (spec.pass_at (spec.is_smaller p.now.sig.now p.now.admission.now.number under) (tele_of args.now) (tele_of terms.now) p.now.position)) }
 {
     match term_at(args, p.position) {
@@ -63,7 +64,7 @@ fn smaller_at(
 /// Whether the argument at position `i` is the clause's own term there.
 fn same_at(alloc: Global, under: u32, args: &[Term], terms: &[Term], i: u32) -> Result<bool, Stop>
     requires small { AreSmallTerms (tele_of terms.now) }
-    requires under { under ≤ 2000 }
+    requires under { under ≤ most_height }
     ensures { Gives (λ b. b) result (Ok (spec.pass_at (spec.is_same under) (tele_of args.now) (tele_of terms.now) i)) }
 {
     match term_at(args, i) {
@@ -87,7 +88,7 @@ fn same_at_all(
     positions: &[u32],
 ) -> Result<bool, Stop>
     requires small { AreSmallTerms (tele_of terms.now) }
-    requires under { under ≤ 2000 }
+    requires under { under ≤ most_height }
     ensures { Gives (λ b. b) result (Ok (list_all (spec.pass_at (spec.is_same under) (tele_of args.now) (tele_of terms.now)) positions.now)) }
 {
     match positions {
@@ -111,7 +112,7 @@ fn arguments_fit(
     args: &[Term],
 ) -> Result<bool, Stop>
     requires small { AreSmallTerms (tele_of terms.now) }
-    requires under { under ≤ 2000 }
+    requires under { under ≤ most_height }
     ensures { Gives (λ b. b) result (Ok (spec.arguments_fit p.now.sig.now p.now.count p.now.position (admission_of p.now.admission.now) (tele_of terms.now) under (tele_of args.now))) }
 {
     if args.len() < p.count as usize {
@@ -133,7 +134,7 @@ pub(crate) fn fits(
     call: &Term,
 ) -> Result<bool, Stop>
     requires small { AreSmallTerms (tele_of terms.now) }
-    requires under { under ≤ 2000 }
+    requires under { under ≤ most_height }
     ensures { Gives (λ b. b) result (Ok (spec.arguments_fit p.now.sig.now p.now.count p.now.position (admission_of p.now.admission.now) (tele_of terms.now) under (spine_of (tree_of call.now)))) }
 {
     let args = into_spine(alloc, copy_whole(alloc, call)?)?;

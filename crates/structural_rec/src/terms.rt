@@ -2,6 +2,7 @@ ghost use Rattle.std.specs.Prelude.{◌≡◌, ◌≤◌, Ok, option_map, slice_
 ghost use Rattle.std.specs.Option.{option_copied};
 ghost use Rattle.theory.specs.Terms as tree;
 ghost use Rattle.core_terms.specs.Answers.{Gives};
+ghost use Rattle.core_terms.specs.Bounds.{most_height};
 ghost use Rattle.core_terms.specs.Meanings.{tree_of, tele_of};
 ghost use Rattle.tele_eq.specs.Items.{AreSmallTerms, IsSmall};
 
@@ -34,7 +35,7 @@ pub(crate) fn small_term_at(terms: &[Term], i: u32) -> Option<&Term>
 /// A small term under so many binders.
 pub(crate) fn lifted(alloc: Global, t: &Term, under: u32) -> Result<Term, Stop>
     requires small { IsSmall (tree_of t.now) }
-    requires under { under ≤ 2000 }
+    requires under { under ≤ most_height }
     ensures { Gives tree_of result (Ok (tree.lift (tree_of t.now) under 0)) }
 {
     lift(alloc, t, under, 0)

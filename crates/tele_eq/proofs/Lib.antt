@@ -11,3 +11,4 @@ pub mod Positions
 pub mod ReflexivityLaws
 pub mod ScopeLaws
 pub mod ScopedTerms
+pub mod SmallRuns

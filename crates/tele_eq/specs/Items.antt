@@ -1,6 +1,7 @@
 -- A telescope whose types have levels.
 use Rattle.std.specs.Prelude.{ℕ, zero, suc, ◌+◌, max, ◌≤◌, List, [], ◌∷◌, length, map, get_or}
 use Rattle.theory.specs.Terms.{Term, Sort, height, free_of}
+use Rattle.core_terms.specs.Bounds.{context_limit, most_height}
 use Rattle.core_terms.specs.Meanings.{tree_of}
 use Rattle.tele_eq.specs.declared.item.Item as code
 
@@ -42,7 +43,7 @@ positions_of X = each_position (λ j. j) 0 (length X)
 
 -- a term with a bound for its height and for its free variables
 abbrev pub IsSmall : Term → Type 0
-IsSmall t = (height t ≤ 2000) × (free_of t ≤ 2147483648)
+IsSmall t = (height t ≤ most_height) × (free_of t ≤ context_limit)
 
 abbrev pub AreSmallTerms : List Term → Type 0
 AreSmallTerms [] = Unit {0}

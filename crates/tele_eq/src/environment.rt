@@ -6,6 +6,7 @@ ghost use Rattle.tele_eq.specs.CodeEnvironments.{AreSmallPairs, AreSmallSides, I
 ghost use Rattle.tele_eq.specs.Items.{AreSmallTerms};
 ghost use Rattle.tele_eq.specs.Items as items;
 ghost use Rattle.theory.specs.Terms as tree;
+ghost use Rattle.core_terms.specs.Bounds.{context_limit};
 
 use crate::sides::{Left, Map, Pairs, Sides};
 use core_terms::{Stop, Term, copy_whole, lift, variable};
@@ -174,7 +175,7 @@ fn put_under(
     requires pairs { AreSmallPairs pairs }
     requires depth { depth + 200000 * (maps_of_left left + maps_of_pairs pairs) ≤ 2041000000 }
     requires under { under + tree.height (tree_of t.now) ≤ 100000 }
-    requires free { tree.free_of (tree_of t.now) ≤ 2147483648 + under }
+    requires free { tree.free_of (tree_of t.now) ≤ context_limit + under }
     ensures { Gives tree_of result (Ok (spec.put_under (environment_of (left_of left.entry) pairs.entry) size depth under (tree_of t.now))) }
 {
     match t {

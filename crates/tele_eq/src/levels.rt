@@ -2,6 +2,7 @@ ghost use Rattle.std.specs.Prelude.{◌≡◌, ◌≤◌, ◌<◌, ◌^◌, leng
 ghost use Rattle.core_terms.specs.Meanings.{tree_of};
 ghost use Rattle.tele_eq.specs.Levels as spec;
 ghost use Rattle.theory.specs.Terms as tree;
+ghost use Rattle.core_terms.specs.Bounds.{most_height};
 
 use crate::has_variable;
 use core_terms::Term;
@@ -30,7 +31,7 @@ pub fn place_in(levels: &[u32], j: u32) -> u32
 
 /// Whether a variable with one of the levels is free in a term over `n` variables.
 pub fn has_level(n: u32, levels: &[u32], t: &Term) -> bool
-    requires { tree.height (tree_of t.now) ≤ 2000 }
+    requires { tree.height (tree_of t.now) ≤ most_height }
     ensures { result ≡ spec.has_level n levels.now (tree_of t.now) }
 {
     match levels {

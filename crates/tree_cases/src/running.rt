@@ -20,7 +20,7 @@ use elab_session::Session;
 use resolve::{FunCore, resolve_fun};
 use std::alloc::{AllocError, AllocFailed, Global};
 use surface_syntax::{Decl, parse, tokens};
-use unifier::variables;
+use tele_eq::variables;
 
 /// Why a case has no lines.
 #[derive(Clone, Copy)]

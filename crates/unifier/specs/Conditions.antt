@@ -5,6 +5,7 @@ use Rattle.theory.specs.Terms.{Term, height, free_of}
 use Rattle.theory.specs.Telescopes.{Telescope}
 use Rattle.theory.specs.Signatures.{Signature}
 use Rattle.theory.specs.SignatureScopes.{IsScoped}
+use Rattle.core_terms.specs.Bounds.{context_limit, most_height}
 use Rattle.core_terms.specs.Meanings.{tree_of, tele_of}
 use Rattle.tele_eq.specs.Items.{Item}
 use Rattle.unification.specs.States.{Equation, State}
@@ -29,7 +30,7 @@ most_depth = 2147401000
 -- a term over n variables of a scoped signature
 pub record IsGiven (S : Signature) (n : ℕ) (t : Term) : Type 0 where
   pub scoped : IsScoped S n t
-  pub low : height t ≤ 2000
+  pub low : height t ≤ most_height
   pub few : n ≤ most_levels
 
 abbrev pub AreGiven : Signature → (n : ℕ) → List Term → Type 0
@@ -39,7 +40,7 @@ AreGiven S n (t ∷ terms) = IsGiven S n t × AreGiven S n terms
 -- no term is higher than 2,000
 abbrev pub AreLow : List Term → Type 0
 AreLow [] = Unit {0}
-AreLow (t ∷ terms) = (height t ≤ 2000) × AreLow terms
+AreLow (t ∷ terms) = (height t ≤ most_height) × AreLow terms
 
 -- the levels are those of n variables
 abbrev pub AreBelow : (n : ℕ) → List ℕ → Type 0
@@ -49,7 +50,7 @@ AreBelow n (j ∷ levels) = (j < n) × AreBelow n levels
 -- terms with at most 2 ^ 31 free variables
 abbrev pub HaveFewVariables : List Term → Type 0
 HaveFewVariables [] = Unit {0}
-HaveFewVariables (t ∷ terms) = (free_of t ≤ 2147483648) × HaveFewVariables terms
+HaveFewVariables (t ∷ terms) = (free_of t ≤ context_limit) × HaveFewVariables terms
 
 -- the same of the types of a telescope
 abbrev pub HasFewVariables : List Item → Type 0
@@ -87,7 +88,7 @@ LeadsOnWhere S None = Unit {0}
 
 -- a term over n variables that are few
 abbrev pub IsOver : (n : ℕ) → Term → Type 0
-IsOver n t = (height t ≤ 2000) × (free_of t ≤ n) × (n ≤ most_depth)
+IsOver n t = (height t ≤ most_height) × (free_of t ≤ n) × (n ≤ most_depth)
 
 abbrev pub AreOver : (n : ℕ) → List Term → Type 0
 AreOver n [] = Unit {0}

@@ -3,6 +3,7 @@ ghost use Rattle.core_terms.specs.Answers.{Gives};
 ghost use Rattle.core_terms.specs.Meanings.{tree_of};
 ghost use Rattle.core_sig.specs.Meanings.{argument_of, family_of};
 ghost use Rattle.theory.specs.Terms as tree;
+ghost use Rattle.core_terms.specs.Bounds.{most_height};
 ghost use Rattle.unification.specs.Built as spec;
 ghost use Rattle.unifier.specs.CodeBuilt.{IfThere, IsBuiltAs, split_of, teles_of};
 
@@ -22,7 +23,7 @@ pub struct Built<'a> {
 
 /// The constructor that the term is with all its arguments.
 pub fn built_of<'a>(sig: &'a Signature, t: &Term) -> Option<Built<'a>>
-    requires low { tree.height (tree_of t.now) ≤ 2000 }
+    requires low { tree.height (tree_of t.now) ≤ most_height }
     ensures { MatchOption result (spec.built_of sig.now (tree_of t.now) ≡ None) (λ b. IfThere (IsBuiltAs b) (spec.built_of sig.now (tree_of t.now))) }
 {
     let Term::Con(n, number) = head(t) else {

@@ -4,6 +4,7 @@ ghost use Rattle.core_terms.specs.Meanings.{tree_of, tele_of};
 ghost use Rattle.unification.specs.Cycles as spec;
 ghost use Rattle.unifier.specs.Meanings.{equation_of, turn_of};
 ghost use Rattle.theory.specs.Terms as tree;
+ghost use Rattle.core_terms.specs.Bounds.{most_height};
 ghost use Rattle.unifier.specs.Conditions.{most_levels};
 ghost use Rattle.unification.specs.ScopedStates.{IsReady, IsScopedEquation};
 ghost use Rattle.unifier.specs.Conditions.{AreGiven, IsGiven};
@@ -39,7 +40,7 @@ fn is_variable(x: u32, t: &Term) -> bool
 
 /// What is found, or Deep where it is higher than `room`.
 fn within(room: u32, t: Term) -> Result<Option<Term>, Stop>
-    requires { room ≤ 2000 }
+    requires { room ≤ most_height }
     ensures { Gives (option_map tree_of) result (code.within room (Some (tree_of t))) }
 {
     if t.height() > room {
@@ -61,7 +62,7 @@ fn search(
     units: &mut Units,
 ) -> Result<Option<Term>, Stop>
     requires ready { IsReady sig.now }
-    requires room { room ≤ 2000 }
+    requires room { room ≤ most_height }
     requires t { IsGiven sig.now most_levels (tree_of t.now) }
     ensures answer { Runs (option_map tree_of) result units.new.left (code.search_within sig.now n x room (tree_of t.now) units.old.left) }
     ensures sum { units.new.left + units.new.spent ≡ units.old.left + units.old.spent }
@@ -95,7 +96,7 @@ fn below(
 ) -> Result<Option<Term>, Stop>
     requires ready { IsReady sig.now }
     requires room { 0 < room }
-    requires most { room ≤ 2000 }
+    requires most { room ≤ most_height }
     requires t { IsGiven sig.now most_levels (tree_of t.now) }
     ensures answer { (p : spec_built.Built) → spec_built.built_of sig.now (tree_of t.now) ≡ Some p → IsBuiltAs b.entry p → Runs (option_map tree_of) result units.new.left (code.search_within sig.now p.n x room (tree_of t.now) units.old.left) }
     ensures sum { units.new.left + units.new.spent ≡ units.old.left + units.old.spent }
@@ -127,7 +128,7 @@ fn among(
     units: &mut Units,
 ) -> Result<bool, Stop>
     requires ready { IsReady sig.now }
-    requires room { room ≤ 2000 }
+    requires room { room ≤ most_height }
     requires us { AreGiven sig.now most_levels (tele_of us.old.items) }
     ensures answer { (p : ℕ) → Runs (λ found. cond found (Some (drop at (tele_of us.new.items))) None) result units.new.left (spec.among_arguments sig.now (λ before. code.search_within sig.now n x room) (map (argument_of p) (drop at args.now)) (drop at (tele_of us.old.items)) units.old.left) }
     ensures before { take at us.new.items ≡ take at us.old.items }
@@ -158,7 +159,7 @@ fn at_argument(
     units: &mut Units,
 ) -> Result<Option<Term>, Stop>
     requires ready { IsReady sig.now }
-    requires room { room ≤ 2000 }
+    requires room { room ≤ most_height }
     requires u { IsGiven sig.now most_levels (tree_of u.now) }
     ensures answer { (p : ℕ) → Runs (option_map tree_of) result units.new.left (code.at_argument sig.now n x room (argument_of p arg.now) (tree_of u.now) units.old.left) }
     ensures sum { units.new.left + units.new.spent ≡ units.old.left + units.old.spent }
@@ -280,7 +281,7 @@ fn with_arguments(
     t: &Term,
     terms: Vec<Term>,
 ) -> Result<Vec<Term>, Stop>
-    requires low { tree.height (tree_of t.now) ≤ 2000 }
+    requires low { tree.height (tree_of t.now) ≤ most_height }
     ensures { Gives (λ made. tele_of made.items) result (Ok (tele_of terms.items ++ reverse (code.direct_arguments n (spec_built.built_of sig.now (tree_of t.now))))) }
 {
     match built_of(sig, t) {
@@ -318,7 +319,7 @@ pub(crate) fn cycle_trial(
 ) -> Result<Option<Turn>, Stop>
     requires ready { IsReady sig.now }
     requires e { IsScopedEquation sig.now most_levels 0 (equation_of e.now) }
-    requires low { (tree.height (tree_of e.now.left) ≤ 2000) × (tree.height (tree_of e.now.right) ≤ 2000) }
+    requires low { (tree.height (tree_of e.now.left) ≤ most_height) × (tree.height (tree_of e.now.right) ≤ most_height) }
     ensures answer { Runs (option_map turn_of) result units.new.left (spec.cycle_trial sig.now (equation_of e.now) units.old.left) }
     ensures sum { units.new.left + units.new.spent ≡ units.old.left + units.old.spent }
     ensures spends { units.new.left ≤ units.old.left }
@@ -357,7 +358,7 @@ fn cycle(
 ) -> Result<Option<Turn>, Stop>
     requires ready { IsReady sig.now }
     requires e { IsScopedEquation sig.now most_levels 0 (equation_of e.now) }
-    requires low { (tree.height (tree_of e.now.left) ≤ 2000) × (tree.height (tree_of e.now.right) ≤ 2000) }
+    requires low { (tree.height (tree_of e.now.left) ≤ most_height) × (tree.height (tree_of e.now.right) ≤ most_height) }
     ensures answer { Runs (option_map turn_of) result units.new.left (turns.fails_at sig.now (spec.cycle_step (equation_of e.now) x (tree_of left) (tree_of right)) (tree_of e.now.left) (tree_of e.now.right) units.old.left) }
     ensures sum { units.new.left + units.new.spent ≡ units.old.left + units.old.spent }
     ensures spends { units.new.left ≤ units.old.left }

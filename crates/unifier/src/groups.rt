@@ -15,6 +15,7 @@ ghost use Rattle.std.specs.List.{All};
 ghost use Rattle.core_sig.specs.Kinds.{HasKinds};
 ghost use Rattle.theory.specs.Terms as tree;
 ghost use Rattle.theory.specs.Spines.{spine_of};
+ghost use Rattle.core_terms.specs.Bounds.{most_height};
 ghost use Rattle.unifier.specs.CodeGroups.{IsGroupOf, has_places, lowered_under, membership_from};
 
 use crate::built::{built_of, is_fitting, split_spine};
@@ -44,7 +45,7 @@ fn are_nearest(k: u32, terms: &[Term]) -> bool
 
 /// Whether one of the nearest `k` variables is free in the term.
 fn has_nearest(k: u32, t: &Term) -> bool
-    requires { tree.height (tree_of t.now) ≤ 2000 }
+    requires { tree.height (tree_of t.now) ≤ most_height }
     ensures { result ≡ spec.has_nearest k (tree_of t.now) }
 {
     if k == 0 {
@@ -121,7 +122,7 @@ fn membership_of<'a>(
     k: u32,
     ty: &Term,
 ) -> Result<Option<Membership<'a>>, Stop>
-    requires low { tree.height (tree_of ty.now) ≤ 2000 }
+    requires low { tree.height (tree_of ty.now) ≤ most_height }
     ensures answer { Gives (option_map membership_from) result (Ok (spec.membership_of sig.now k (tree_of ty.now))) }
     ensures found { IfOk result (λ found. IfSome found (λ m. HasKinds m.number m.record.now × (family_at sig.now m.number ≡ Some (family_of m.record.now)))) }
 {
@@ -136,7 +137,7 @@ fn membership_of<'a>(
 
 /// Whether so many indices come after all parameters of a family that no confusion can be made of.
 fn has_places(k: u32, f: &Family, ty: &Term) -> bool
-    requires { tree.height (tree_of ty.now) ≤ 2000 }
+    requires { tree.height (tree_of ty.now) ≤ most_height }
     ensures { result ≡ has_places k (spine_of (tree_of ty.now)) (family_of f.now) }
 {
     if f.indices.as_slice().len() != k as usize {
@@ -157,7 +158,7 @@ fn at_places<'a>(
     f: &'a Family,
     ty: &Term,
 ) -> Result<Option<Membership<'a>>, Stop>
-    requires low { tree.height (tree_of ty.now) ≤ 2000 }
+    requires low { tree.height (tree_of ty.now) ≤ most_height }
     ensures answer { Gives (option_map membership_from) result (Ok (spec.with_places k n (spine_of (tree_of ty.now)) (family_of f.now))) }
     ensures same { IfOk result (λ found. IfSome found (λ m. (m.number ≡ n) × (m.record.now ≡ f.now))) }
 {
@@ -181,7 +182,7 @@ fn at_places<'a>(
 
 /// Each of the terms without the nearest `k` variables.
 fn all_lowered(alloc: Global, k: u32, terms: &[Term]) -> Result<Tele, Stop>
-    requires { All (λ t. tree.height t ≤ 2000) (tele_of terms.now) }
+    requires { All (λ t. tree.height t ≤ most_height) (tele_of terms.now) }
     ensures { Gives tele_of result (Ok (map (spec.lowered k) (tele_of terms.now))) }
 {
     let mut made = Items::new(alloc);

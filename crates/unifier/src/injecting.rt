@@ -12,6 +12,7 @@ ghost use Rattle.core_terms.specs.Levels.{variable};
 ghost use Rattle.tele_eq.specs.Congruences.{congruences};
 ghost use Rattle.tele_eq.specs.Items.{AreSmall, AreSmallTerms, items_of};
 ghost use Rattle.theory.specs.Telescopes.{variables};
+ghost use Rattle.core_terms.specs.Bounds.{most_height};
 ghost use Rattle.tele_eq.specs.TelescopicEquality.{equations};
 ghost use Rattle.unification.specs.Records.{argument_items as argument_items_of};
 ghost use Rattle.unification.specs.Injecting as injecting;
@@ -21,11 +22,11 @@ use crate::built::Built;
 use crate::heights::{equations_made, with_equations};
 use crate::moving::{Behind, Places, Sides, moved};
 use crate::records::{argument_items, constructor_terms, family_items, lifted};
-use crate::state::{Equation, State, equations_at, variables};
+use crate::state::{Equation, State, equations_at};
 use core_sig::Constructor;
 use core_terms::{Items, Stop, Tele, Term};
 use std::alloc::Global;
-use tele_eq::{Item, cong};
+use tele_eq::{Item, cong, variables};
 
 /// What proves each equation of a group, after the equations of the arguments, or Deep.
 fn group_proofs(
@@ -190,7 +191,7 @@ fn injected(
     requires state { HasRoom (state_of s.now) }
     requires group { group ≤ length s.now.equations }
     requires known { IsInjected built (length s.now.ctx) (tele_of ps.now) (tele_of left.now) (tele_of right.now) }
-    requires few_args { length built.con.now.args ≤ 2000 }
+    requires few_args { length built.con.now.args ≤ most_height }
     requires indices { length built.record.now.indices < 1000 }
     requires parameters { length ps.now ≡ length built.record.now.params }
     requires all { length right.now ≡ length left.now }
@@ -215,7 +216,7 @@ pub(crate) fn inject(
     requires state { HasRoom (state_of s.now) }
     requires group { group ≤ length s.now.equations }
     requires known { IsInjected built (length s.now.ctx) (tele_of ps.now) (tele_of left.now) (tele_of right.now) }
-    requires few_args { length built.con.now.args ≤ 2000 }
+    requires few_args { length built.con.now.args ≤ most_height }
     requires indices { length built.record.now.indices < 1000 }
     requires parameters { length ps.now ≡ length built.record.now.params }
     requires all { length right.now ≡ length left.now }

@@ -34,6 +34,5 @@ pub use problem::Problem;
 pub use records::{argument_items, constructor_terms, family_items, lifted};
 pub use solutions::variable_in;
 pub use solving::{new_context, new_order};
-pub use state::variables;
 pub use unification::Why;
 pub use unifying::unify;

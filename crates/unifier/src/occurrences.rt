@@ -4,6 +4,7 @@ ghost use Rattle.core_terms.specs.Meanings.{tree_of, tele_of};
 ghost use Rattle.tele_eq.specs.Items.{each_position};
 ghost use Rattle.tele_eq.specs.Levels as levels;
 ghost use Rattle.theory.specs.Terms as tree;
+ghost use Rattle.core_terms.specs.Bounds.{context_limit, most_height};
 ghost use Rattle.unification.specs.Occurrences as spec;
 ghost use Rattle.unifier.specs.Conditions.{AreLow};
 
@@ -39,7 +40,7 @@ fn dependants_from(
 /// The variables whose types depend on the one with level `p`, by their levels.
 pub fn dependants(alloc: Global, ctx: &[Term], p: u32) -> Result<Vec<u32>, Stop>
     requires low { AreLow (tele_of ctx.now) }
-    requires few { length ctx.now < 2 ^ 31 }
+    requires few { length ctx.now < context_limit }
     requires p { p < length ctx.now }
     ensures { Gives (λ v. v.items) result (Ok (spec.dependants (tele_of ctx.now) p)) }
 {
@@ -51,7 +52,7 @@ pub fn dependants(alloc: Global, ctx: &[Term], p: u32) -> Result<Vec<u32>, Stop>
 
 /// Whether neither the variable with level `p` nor one of its dependants is in a term of the context.
 pub(crate) fn lacks(n: u32, p: u32, dependants: &[u32], t: &Term) -> bool
-    requires { tree.height (tree_of t.now) ≤ 2000 }
+    requires { tree.height (tree_of t.now) ≤ most_height }
     ensures { result ≡ not (levels.has_level n (p ∷ dependants.now) (tree_of t.now)) }
 {
     let number = (n as u64).saturating_sub(p as u64 + 1);

@@ -13,6 +13,7 @@ ghost use Rattle.theory.specs.Substitutions.{fill, inst};
 ghost use Rattle.theory.specs.Telescopes as telescopes;
 ghost use Rattle.theory.specs.Terms as tree;
 ghost use Rattle.theory.specs.Telescopes.{inst_telescope};
+ghost use Rattle.core_terms.specs.Bounds.{most_height};
 ghost use Rattle.unifier.specs.Conditions.{AreOver, most_depth};
 
 use crate::moving::raised;
@@ -21,12 +22,12 @@ use core_terms::{
     Items, Stop, Tele, Term, applied, applied_to_nearest, checked, inst_tele, inst_terms,
 };
 use std::alloc::Global;
-use tele_eq::Item;
+use tele_eq::{Item, with_variables};
 
 /// The telescope of arguments or indices at parameters, or Deep.
 #[tactic(auto, using(crate::proofs::RecordItems::record_laws))]
 fn items_at(alloc: Global, ps: &[Term], args: &[Arg]) -> Result<Items<Item>, Stop>
-    requires few { length args.now ≤ 2000 }
+    requires few { length args.now ≤ most_height }
     requires ps { AreOver most_depth (tele_of ps.now) }
     ensures { Gives items_of result (bounded_items (spec.items_at (inst_telescope (fill no_variable (tele_of ps.now)) (map (λ a. tree_of a.ty) args.now)) (map (λ a. a.level) args.now))) }
 {
@@ -53,7 +54,7 @@ fn with_levels(types: Vec<Term>, args: &[Arg], mut made: Items<Item>) -> Result<
 
 /// The telescope of a constructor's arguments at parameters, or Deep.
 pub fn argument_items(alloc: Global, ps: &[Term], con: &Constructor) -> Result<Items<Item>, Stop>
-    requires few { length con.now.args ≤ 2000 }
+    requires few { length con.now.args ≤ most_height }
     requires ps { AreOver most_depth (tele_of ps.now) }
     ensures { (n : ℕ) (f : pure.Family) → HaveKinds n f 0 con.now.args → length f.parameters ≡ length ps.now → Gives items_of result (bounded_items (spec.argument_items n (tele_of ps.now) (constructor_of (length ps.now) con.now))) }
 {
@@ -63,7 +64,7 @@ pub fn argument_items(alloc: Global, ps: &[Term], con: &Constructor) -> Result<I
 /// Each of the terms after so many variables more.
 pub fn lifted(alloc: Global, by: u32, terms: &[Term]) -> Result<Tele, Stop>
     requires terms { AreOver most_depth (tele_of terms.now) }
-    requires by { by ≤ 2000 }
+    requires by { by ≤ most_height }
     ensures { Gives tele_of result (Ok (injecting.lifted by (tele_of terms.now))) }
 {
     let mut made = Items::new(alloc);
@@ -76,7 +77,7 @@ pub fn lifted(alloc: Global, by: u32, terms: &[Term]) -> Result<Tele, Stop>
 /// `head` at parameters and at the nearest `count` variables, which come after the parameters, or Deep.
 fn at_nearest(alloc: Global, head: Term, ps: &[Term], count: u32) -> Result<Term, Stop>
     requires head { tree.free_of (tree_of head) ≡ 0 }
-    requires count { count ≤ 2000 }
+    requires count { count ≤ most_height }
     requires ps { AreOver most_depth (tele_of ps.now) }
     ensures { Gives tree_of result (bounded (telescopes.applied (telescopes.weaken_by count (telescopes.applied (tree_of head) (tele_of ps.now))) (telescopes.variables count))) }
 {
@@ -89,7 +90,7 @@ fn at_nearest(alloc: Global, head: Term, ps: &[Term], count: u32) -> Result<Term
 #[tactic(auto, using(crate::proofs::RecordItems::record_laws))]
 pub fn family_items(alloc: Global, n: u32, f: &Family, ps: &[Term]) -> Result<Items<Item>, Stop>
     requires kinds { HasKinds n f.now }
-    requires few { length f.now.indices ≤ 2000 }
+    requires few { length f.now.indices ≤ most_height }
     requires ps { AreOver most_depth (tele_of ps.now) }
     ensures { Gives items_of result (bounded_items (spec.family_items n (family_of f.now) (tele_of ps.now))) }
 {
@@ -103,19 +104,9 @@ pub fn family_items(alloc: Global, n: u32, f: &Family, ps: &[Term]) -> Result<It
     Ok(made)
 }
 
-/// The variables of a context of `count` types, from the outermost on, after those that are made.
-pub(crate) fn with_variables(mut made: Tele, count: u32) -> Result<Tele, Stop>
-    ensures { Gives tele_of result (Ok (tele_of made ++ telescopes.variables count)) }
-{
-    for at in (0..count).rev() {
-        made.push(Term::Var(at))?;
-    }
-    Ok(made)
-}
-
 /// The targets of a constructor at parameters, after its arguments, or Deep.
 fn targets_at(alloc: Global, ps: &[Term], con: &Constructor) -> Result<Tele, Stop>
-    requires few { length con.now.args ≤ 2000 }
+    requires few { length con.now.args ≤ most_height }
     requires ps { AreOver most_depth (tele_of ps.now) }
     ensures { Gives tele_of result (bounded_terms (map (inst (fill no_variable (injecting.lifted (length con.now.args) (tele_of ps.now) ++ telescopes.variables (length con.now.args)))) (tele_of con.now.targets))) }
 {
@@ -132,7 +123,7 @@ fn constructor_at(
     ps: &[Term],
     con: &Constructor,
 ) -> Result<Term, Stop>
-    requires few { length con.now.args ≤ 2000 }
+    requires few { length con.now.args ≤ most_height }
     requires ps { AreOver most_depth (tele_of ps.now) }
     ensures { Gives tree_of result (bounded (telescopes.applied (telescopes.weaken_by (length con.now.args) (telescopes.applied (tree.Con n number) (tele_of ps.now))) (telescopes.variables (length con.now.args)))) }
 {
@@ -149,7 +140,7 @@ pub fn constructor_terms(
     ps: &[Term],
     con: &Constructor,
 ) -> Result<Tele, Stop>
-    requires few { length con.now.args ≤ 2000 }
+    requires few { length con.now.args ≤ most_height }
     requires ps { AreOver most_depth (tele_of ps.now) }
     ensures { Gives tele_of result (bounded_terms (spec.constructor_terms n number (tele_of ps.now) (constructor_of (length ps.now) con.now))) }
 {

@@ -5,6 +5,7 @@ ghost use Rattle.unifier.specs.Meanings.{equation_of, state_of, turn_of};
 ghost use Rattle.unification.specs.Solutions as spec;
 ghost use Rattle.unifier.specs.Conditions.{AreLow, HasRoom, IsGiven, IsKept, IsOver, IsRoomy, LeadsToRoomWhere};
 ghost use Rattle.theory.specs.Terms as tree;
+ghost use Rattle.core_terms.specs.Bounds.{most_height};
 ghost use Rattle.unification.specs.Occurrences as occurrences;
 ghost use Rattle.unification.specs.ScopedStates.{IsReady};
 
@@ -49,7 +50,7 @@ fn dependants_of(alloc: Global, s: &State, x: u32) -> Result<Vec<u32>, Stop>
 /// Whether neither a variable nor one of its dependants, which are given, is in a term.
 fn is_free_of(s: &State, x: u32, dependants: &[u32], t: &Term) -> bool
     requires few { length s.now.ctx ≤ 2147400000 }
-    requires low { tree.height (tree_of t.now) ≤ 2000 }
+    requires low { tree.height (tree_of t.now) ≤ most_height }
     requires dependants { dependants.now ≡ occurrences.dependants (tele_of s.now.ctx) (length s.now.ctx - (x + 1)) }
     ensures { result ≡ spec.is_free_of (state_of s.now) x (tree_of t.now) }
 {

@@ -2,7 +2,7 @@ ghost use Rattle.std.specs.Prelude.{◌≡◌, ◌≤◌, ◌<◌, ◌+◌, ◌+
 ghost use Rattle.core_terms.specs.Answers.{Gives};
 ghost use Rattle.core_terms.specs.Meanings.{tree_of, tele_of};
 ghost use Rattle.tele_eq.specs.Items.{item_of, items_of};
-ghost use Rattle.theory.specs.Telescopes as telescopes;
+ghost use Rattle.core_terms.specs.Bounds.{context_limit};
 ghost use Rattle.unifier.specs.Conditions.{HasFewVariables, HaveFewVariables, most_levels};
 ghost use Rattle.unification.specs.Heights as spec;
 ghost use Rattle.unifier.specs.CodeMoves.{equation_with};
@@ -11,10 +11,9 @@ ghost use Rattle.unification.specs.States as states;
 
 use crate::Problem;
 use crate::heights::{checked_state, equations_made};
-use crate::records::with_variables;
 use core_terms::{Items, Stop, Tele, Term, copy_tele, copy_whole};
 use std::alloc::Global;
-use tele_eq::Item;
+use tele_eq::{Item, variables};
 
 /// An equation between two terms of the context: its place in a telescope, its type as it is, after the equations before it,
 /// and its plain sides.
@@ -83,16 +82,9 @@ fn copy_item(alloc: Global, x: &Item) -> Result<Item, Stop>
     })
 }
 
-/// The variables of a context of `count` types, from the outermost on.
-pub fn variables(alloc: Global, count: u32) -> Result<Tele, Stop>
-    ensures { Gives tele_of result (Ok (telescopes.variables count)) }
-{
-    with_variables(Items::new(alloc), count)
-}
-
 /// The state from which a problem is solved, or Deep where a term in it is too high.
 pub(crate) fn start(alloc: Global, p: &Problem) -> Result<Box<State>, Stop>
-    requires few { length p.now.ctx < 2147483648 }
+    requires few { length p.now.ctx < context_limit }
     requires left { length p.now.left ≡ length p.now.tele }
     requires right { length p.now.right ≡ length p.now.tele }
     requires few_items { HasFewVariables (items_of p.now.tele) }

@@ -4,6 +4,7 @@ ghost use Rattle.core_terms.specs.Meanings.{tree_of};
 ghost use Rattle.unifier.specs.Meanings.{equation_of, turn_of};
 ghost use Rattle.unification.specs.Sticking as spec;
 ghost use Rattle.theory.specs.Terms as tree;
+ghost use Rattle.core_terms.specs.Bounds.{most_height};
 ghost use Rattle.unifier.specs.Conditions.{most_levels};
 ghost use Rattle.unification.specs.ScopedStates.{IsReady, IsScopedEquation};
 ghost use Rattle.unification.specs.Built.{built_of};
@@ -20,7 +21,7 @@ use std::alloc::Global;
 use tele_eq::has_variable;
 
 fn why_variable(x: u32, other: &Term) -> Why
-    requires { tree.height (tree_of other.now) ≤ 2000 }
+    requires { tree.height (tree_of other.now) ≤ most_height }
     ensures { result ≡ spec.why_variable x (tree_of other.now) }
 {
     if has_variable(x as u64, other) {
@@ -32,8 +33,8 @@ fn why_variable(x: u32, other: &Term) -> Why
 
 /// Whether both are one constructor of a family with indices.
 fn are_indexed(sig: &Signature, left: &Term, right: &Term) -> bool
-    requires left { tree.height (tree_of left.now) ≤ 2000 }
-    requires right { tree.height (tree_of right.now) ≤ 2000 }
+    requires left { tree.height (tree_of left.now) ≤ most_height }
+    requires right { tree.height (tree_of right.now) ≤ most_height }
     ensures { result ≡ spec.are_indexed (built_of sig.now (tree_of left.now)) (built_of sig.now (tree_of right.now)) }
 {
     match (built_of(sig, left), built_of(sig, right)) {
@@ -46,8 +47,8 @@ fn are_indexed(sig: &Signature, left: &Term, right: &Term) -> bool
 
 /// Why no rule goes on with an equation of these sides, which are tidied.
 fn why_stuck(sig: &Signature, left: &Term, right: &Term) -> Why
-    requires left { tree.height (tree_of left.now) ≤ 2000 }
-    requires right { tree.height (tree_of right.now) ≤ 2000 }
+    requires left { tree.height (tree_of left.now) ≤ most_height }
+    requires right { tree.height (tree_of right.now) ≤ most_height }
     ensures { result ≡ spec.why_stuck sig.now (tree_of left.now) (tree_of right.now) }
 {
     if let Some(x) = variable_in(right) {
@@ -72,7 +73,7 @@ pub(crate) fn stuck(
 ) -> Result<Turn, Stop>
     requires ready { IsReady sig.now }
     requires e { IsScopedEquation sig.now most_levels 0 (equation_of e.now) }
-    requires low { (tree.height (tree_of e.now.left) ≤ 2000) × (tree.height (tree_of e.now.right) ≤ 2000) }
+    requires low { (tree.height (tree_of e.now.left) ≤ most_height) × (tree.height (tree_of e.now.right) ≤ most_height) }
     ensures answer { Runs (λ turn. Some (turn_of turn)) result units.new.left (spec.stuck_trial sig.now (equation_of e.now) units.old.left) }
     ensures sum { units.new.left + units.new.spent ≡ units.old.left + units.old.spent }
     ensures spends { units.new.left ≤ units.old.left }

@@ -2,6 +2,7 @@
 ghost use Rattle.std.specs.Prelude.{◌≡◌, ◌≤◌, ◌+◌, IfOk, Ok, option_map};
 ghost use Rattle.theory.specs.Terms as tree;
 ghost use Rattle.core_terms.specs.Answers.{Gives, Runs};
+ghost use Rattle.core_terms.specs.Bounds.{most_height};
 ghost use Rattle.core_terms.specs.Meanings.{tree_of};
 ghost use Rattle.core_terms.specs.TreeMeanings.{step_of};
 ghost use Rattle.unifier.specs.Meanings.{turn_of};
@@ -43,7 +44,7 @@ pub(crate) fn tidied(
     ensures answer { Runs (λ sides. (tree_of sides.0, tree_of sides.1)) result units.new.left (spec.tidied sig.now (tree_of left.now) (tree_of right.now) units.old.left) }
     ensures sum { units.new.left + units.new.spent ≡ units.old.left + units.old.spent }
     ensures spends { units.new.left ≤ units.old.left }
-    ensures low { IfOk result (λ sides. (tree.height (tree_of sides.0) ≤ 2000) × (tree.height (tree_of sides.1) ≤ 2000)) }
+    ensures low { IfOk result (λ sides. (tree.height (tree_of sides.0) ≤ most_height) × (tree.height (tree_of sides.1) ≤ most_height)) }
 {
     let left = tidy(alloc, sig, left, units)?;
     let right = tidy(alloc, sig, right, units)?;

@@ -1,6 +1,6 @@
 ghost use Rattle.std.specs.Prelude.{◌≡◌, ◌≤◌, ◌<◌, ◌+◌, IfOk, length, Some, Ok};
 ghost use Rattle.core_terms.specs.Answers.{Gives, Runs};
-ghost use Rattle.kernel_reduce.specs.WellScoped.{context_limit};
+ghost use Rattle.core_terms.specs.Bounds.{context_limit};
 ghost use Rattle.unifier.specs.Meanings.{outcome_of, problem_of, state_of, turn_of};
 ghost use Rattle.unification.specs.Runs as spec;
 ghost use Rattle.unification.specs.ScopedStates.{IsReady, IsScopedOutcome, IsScopedProblem};

@@ -1,11 +1,12 @@
 -- What the code is asked about: terms over variables that are few enough for numbers of 32 bits, and no term higher than 2,000.
 use Rattle.std.specs.Prelude.{◌≡◌, ◌≤◌, ℕ, ◌+◌, List, [], ◌∷◌, length}
 use Rattle.theory.specs.Terms.{Term, height, free_of}
+use Rattle.core_terms.specs.Bounds.{most_height}
 use Rattle.with_abstraction.specs.NormalForms.{NormalForms}
 
 -- a term over n variables
 pub record IsOver (n : ℕ) (t : Term) : Type 0 where
-  pub low : height t ≤ 2000
+  pub low : height t ≤ most_height
   pub free : free_of t ≤ n
 
 abbrev pub AreOver : (n : ℕ) → List Term → Type 0
@@ -20,7 +21,7 @@ AreTypesOver j (a ∷ types) = IsOver j a × AreTypesOver (j + 1) types
 -- the terms are no higher than they may be
 abbrev pub AreLow : List Term → Type 0
 AreLow [] = Unit {0}
-AreLow (t ∷ terms) = (height t ≤ 2000) × AreLow terms
+AreLow (t ∷ terms) = (height t ≤ most_height) × AreLow terms
 
 -- normal forms in a context of n variables
 pub record AreFormsOver (n : ℕ) (m : NormalForms) : Type 0 where

@@ -2,6 +2,7 @@ ghost use Rattle.std.specs.Prelude.{◌≡◌, ◌≤◌, ◌+◌, [], ◌∷◌
 ghost use Rattle.core_terms.specs.Answers.{Gives, Runs};
 ghost use Rattle.core_terms.specs.Meanings.{tree_of, tele_of};
 ghost use Rattle.theory.specs.Terms as tree;
+ghost use Rattle.core_terms.specs.Bounds.{context_limit, most_height};
 ghost use Rattle.kernel_reduce.specs.WellScoped.{AreWellScoped};
 ghost use Rattle.with_abstraction.specs.Abstractions as spec;
 ghost use Rattle.with_abstraction.specs.Conditions.{AreFormsOver, AreLow, IsOver};
@@ -28,9 +29,9 @@ fn placed(
     behind: &[u32],
 ) -> Result<Abstracted, Stop>
     requires few { n ≤ 2147483647 }
-    requires low { tree.height (tree_of t.now) ≤ 2000 }
+    requires low { tree.height (tree_of t.now) ≤ most_height }
     requires types { AreLow (tele_of types.now) }
-    requires goal { IsOver 2147483648 (tree_of goal.now) }
+    requires goal { IsOver context_limit (tree_of goal.now) }
     requires levels { length front.now + length behind.now ≤ n }
     ensures { Gives abstracted_of result (Ok (spec.placed_with n (tree_of t.now) (tele_of types.now) (tree_of goal.now) front.now behind.now)) }
 {
@@ -63,10 +64,10 @@ fn arranged_with(
 ) -> Result<Abstracted, Stop>
     requires few { n ≤ 2147483647 }
     requires count { length types ≡ n }
-    requires low { tree.height (tree_of t.now) ≤ 2000 }
-    requires ty { IsOver 2147483648 (tree_of ty.now) }
+    requires low { tree.height (tree_of t.now) ≤ most_height }
+    requires ty { IsOver context_limit (tree_of ty.now) }
     requires types { AreLow (tele_of types) }
-    requires goal { IsOver 2147483648 (tree_of goal.now) }
+    requires goal { IsOver context_limit (tree_of goal.now) }
     ensures { Gives abstracted_of result (Ok (spec.arranged_with n (tree_of t.now) (tree_of ty.now) (tele_of types) (tree_of goal.now))) }
 {
     let behind = behind(alloc, n, types.as_slice())?;

@@ -4,6 +4,7 @@ ghost use Rattle.core_terms.specs.Meanings.{tree_of, tele_of};
 ghost use Rattle.tele_eq.specs.Environments as environments;
 ghost use Rattle.tele_eq.specs.Items as items;
 ghost use Rattle.theory.specs.Terms as tree;
+ghost use Rattle.core_terms.specs.Bounds.{context_limit, most_height};
 ghost use Rattle.unification.specs.Occurrences as occurring;
 ghost use Rattle.unification.specs.Solving.{reordered};
 ghost use Rattle.with_abstraction.specs.Conditions.{AreLow, IsOver};
@@ -88,7 +89,7 @@ fn type_put(
 ) -> Result<Term, Stop>
     requires order { length order.now < 2 ^ 32 }
     requires depth { depth ≤ n + 1 }
-    requires few { n ≤ 2147483648 }
+    requires few { n ≤ context_limit }
     requires types { AreLow (tele_of types.now) }
     ensures { Gives tree_of result (Ok (environments.put (reordered order.now) (n + 1) depth (items.term_at (tele_of types.now) position))) }
 {
@@ -117,7 +118,7 @@ pub(crate) fn arranged(
 ) -> Result<Tele, Stop>
     requires order { length order.now < 2 ^ 32 }
     requires depth { depth + length levels.now ≤ n + 1 }
-    requires few { n ≤ 2147483648 }
+    requires few { n ≤ context_limit }
     requires types { AreLow (tele_of types.now) }
     ensures { Gives tele_of result (Ok (tele_of made ++ spec.arranged order.now n (tele_of types.now) depth levels.now)) }
 {
@@ -139,9 +140,9 @@ pub(crate) fn arranged_goal(
     goal: &Term,
 ) -> Result<Term, Stop>
     requires order { length order.now < 2 ^ 32 }
-    requires few { n ≤ 2147483648 }
-    requires low { tree.height (tree_of t.now) ≤ 2000 }
-    requires goal { IsOver 2147483648 (tree_of goal.now) }
+    requires few { n ≤ context_limit }
+    requires low { tree.height (tree_of t.now) ≤ most_height }
+    requires goal { IsOver context_limit (tree_of goal.now) }
     ensures { Gives tree_of result (Ok (environments.put (reordered order.now) (n + 1) (n + 1) (occurrences.without (tree_of t.now) (tree_of goal.now)))) }
 {
     let opened = without(alloc, t, goal)?;

@@ -4,6 +4,7 @@ ghost use Rattle.core_terms.specs.Meanings.{tree_of, tele_of};
 ghost use Rattle.tele_eq.specs.Dependences as dependences;
 ghost use Rattle.tele_eq.specs.Items as items;
 ghost use Rattle.theory.specs.Terms as tree;
+ghost use Rattle.core_terms.specs.Bounds.{most_height};
 ghost use Rattle.with_abstraction.specs.Conditions.{AreLow};
 ghost use Rattle.with_abstraction.specs.Needed as spec;
 
@@ -52,7 +53,7 @@ fn needed_below(
     mut found: Vec<u32>,
 ) -> Result<Vec<u32>, Stop>
     requires types { AreLow (tele_of types.now) }
-    requires ty { tree.height (tree_of ty.now) ≤ 2000 }
+    requires ty { tree.height (tree_of ty.now) ≤ most_height }
     ensures { Gives (λ v. v.items) result (Ok (spec.needed_below n (tele_of types.now) (tree_of ty.now) below found.items)) }
 {
     if below == 0 {
@@ -69,7 +70,7 @@ fn needed_below(
 /// The variables that a scrutinee's type needs, by their levels.
 pub(crate) fn needed(alloc: Global, n: u32, types: &[Term], ty: &Term) -> Result<Vec<u32>, Stop>
     requires types { AreLow (tele_of types.now) }
-    requires ty { tree.height (tree_of ty.now) ≤ 2000 }
+    requires ty { tree.height (tree_of ty.now) ≤ most_height }
     ensures { Gives (λ v. v.items) result (Ok (spec.needed n (tele_of types.now) (tree_of ty.now))) }
 {
     needed_below(alloc, n, types, ty, n, Vec::new(alloc))

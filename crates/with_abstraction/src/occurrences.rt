@@ -2,6 +2,7 @@ ghost use Rattle.std.specs.Prelude.{◌≡◌, ◌≤◌, ◌<◌, ◌+◌, ◌^
 ghost use Rattle.core_terms.specs.Answers.{Gives};
 ghost use Rattle.core_terms.specs.Meanings.{tree_of};
 ghost use Rattle.theory.specs.Terms as tree;
+ghost use Rattle.core_terms.specs.Bounds.{context_limit, most_height};
 ghost use Rattle.with_abstraction.specs.Conditions.{IsOver};
 ghost use Rattle.with_abstraction.specs.Occurrences as spec;
 
@@ -45,7 +46,7 @@ fn is_lifted(t: &Term, by: u32, from: u32, u: &Term) -> bool
 
 /// Whether `u` is `t`, so many binders further in.
 fn is_occurrence(t: &Term, under: u32, u: &Term) -> bool
-    requires { tree.height (tree_of t.now) ≤ 2000 }
+    requires { tree.height (tree_of t.now) ≤ most_height }
     ensures { result ≡ spec.is_occurrence (tree_of t.now) under (tree_of u.now) }
 {
     is_lifted(t, under, 0, u)
@@ -53,9 +54,9 @@ fn is_occurrence(t: &Term, under: u32, u: &Term) -> bool
 
 /// A term in which the variable `under` stands for each occurrence of `t`, and the variables from there on make room for it.
 pub(crate) fn without_under(alloc: Global, t: &Term, under: u32, u: &Term) -> Result<Term, Stop>
-    requires low { tree.height (tree_of t.now) ≤ 2000 }
-    requires under { under + tree.height (tree_of u.now) ≤ 2000 }
-    requires free { tree.free_of (tree_of u.now) ≤ 2147483648 + under }
+    requires low { tree.height (tree_of t.now) ≤ most_height }
+    requires under { under + tree.height (tree_of u.now) ≤ most_height }
+    requires free { tree.free_of (tree_of u.now) ≤ context_limit + under }
     ensures { Gives tree_of result (Ok (spec.without_under (tree_of t.now) under (tree_of u.now))) }
 {
     if is_occurrence(t, under, u) {
@@ -95,10 +96,10 @@ pub(crate) fn without_under(alloc: Global, t: &Term, under: u32, u: &Term) -> Re
 
 /// A term one variable further in, where the nearest variable stands for each occurrence of `t`.
 pub(crate) fn without(alloc: Global, t: &Term, u: &Term) -> Result<Term, Stop>
-    requires low { tree.height (tree_of t.now) ≤ 2000 }
-    requires over { IsOver 2147483648 (tree_of u.now) }
+    requires low { tree.height (tree_of t.now) ≤ most_height }
+    requires over { IsOver context_limit (tree_of u.now) }
     ensures is { Gives tree_of result (Ok (spec.without (tree_of t.now) (tree_of u.now))) }
-    ensures low { IfOk result (λ v. tree.height (tree_of v) ≤ 2000) }
+    ensures low { IfOk result (λ v. tree.height (tree_of v) ≤ most_height) }
 {
     without_under(alloc, t, 0, u)
 }

@@ -2,6 +2,7 @@ ghost use Rattle.std.specs.Prelude.{◌≡◌, ◌≤◌, ◌+◌, ◌++◌, IfO
 ghost use Rattle.core_terms.specs.Answers.{Gives};
 ghost use Rattle.core_terms.specs.Meanings.{tree_of, tele_of};
 ghost use Rattle.theory.specs.Terms as tree;
+ghost use Rattle.core_terms.specs.Bounds.{context_limit, most_height};
 ghost use Rattle.with_abstraction.specs.Abstractions as spec;
 ghost use Rattle.with_abstraction.specs.Conditions.{AreLow, AreOver, AreTypesOver};
 ghost use Rattle.with_abstraction.specs.Needed.{widened as wide};
@@ -15,7 +16,7 @@ use tele_eq::is_among;
 /// A term so many variables further in.
 #[tactic(auto, using(crate::proofs::Widths::bounded_lift))]
 pub(crate) fn lifted(alloc: Global, t: &Term, by: u32) -> Result<Term, Stop>
-    requires low { tree.height (tree_of t.now) ≤ 2000 }
+    requires low { tree.height (tree_of t.now) ≤ most_height }
     requires free { tree.free_of (tree_of t.now) + by ≤ 2147483649 }
     ensures { Gives tree_of result (Ok (tree.lift (tree_of t.now) by 0)) }
 {
@@ -45,7 +46,7 @@ fn all_widened(alloc: Global, types: &[Term]) -> Result<Tele, Stop>
     requires types { AreTypesOver 0 (tele_of types.now) }
     requires few { length types.now ≤ 2147483647 }
     ensures all { Gives tele_of result (Ok (wide (length types.now) 0 (tele_of types.now))) }
-    ensures over { IfOk result (λ v. AreOver 2147483648 (tele_of v)) }
+    ensures over { IfOk result (λ v. AreOver context_limit (tele_of v)) }
     ensures low { IfOk result (λ v. AreLow (tele_of v)) }
     ensures count { IfOk result (λ v. length v ≡ length types.now) }
 {
@@ -63,9 +64,9 @@ fn opened(
     types: &[Term],
     mut made: Tele,
 ) -> Result<Tele, Stop>
-    requires low { tree.height (tree_of t.now) ≤ 2000 }
-    requires types { AreOver 2147483648 (tele_of types.now) }
-    requires levels { j + length types.now ≤ 2147483648 }
+    requires low { tree.height (tree_of t.now) ≤ most_height }
+    requires types { AreOver context_limit (tele_of types.now) }
+    requires levels { j + length types.now ≤ context_limit }
     ensures { Gives tele_of result (Ok (tele_of made ++ spec.opened (tree_of t.now) kept.now j (tele_of types.now))) }
 {
     match types {
@@ -83,8 +84,8 @@ fn opened(
 
 /// The types of a context without `t`, one variable further in, where `ty` is the type of `t`.
 pub(crate) fn opened_types(alloc: Global, t: &Term, ty: &Term, types: &[Term]) -> Result<Tele, Stop>
-    requires low { tree.height (tree_of t.now) ≤ 2000 }
-    requires ty { tree.height (tree_of ty.now) ≤ 2000 }
+    requires low { tree.height (tree_of t.now) ≤ most_height }
+    requires ty { tree.height (tree_of ty.now) ≤ most_height }
     requires types { AreTypesOver 0 (tele_of types.now) }
     requires few { length types.now ≤ 2147483647 }
     ensures is { Gives tele_of result (Ok (spec.opened_types (length types.now) (tree_of t.now) (tree_of ty.now) (wide (length types.now) 0 (tele_of types.now)))) }

@@ -3,6 +3,7 @@ ghost use Rattle.core_terms.specs.Answers.{Gives};
 ghost use Rattle.core_terms.specs.Meanings.{tree_of, tele_of};
 ghost use Rattle.tele_eq.specs.Items.{each_position};
 ghost use Rattle.theory.specs.Terms as tree;
+ghost use Rattle.core_terms.specs.Bounds.{context_limit};
 ghost use Rattle.unification.specs.Occurrences as occurring;
 ghost use Rattle.with_abstraction.specs.Conditions.{AreLow};
 ghost use Rattle.with_abstraction.specs.Orders as spec;
@@ -22,8 +23,8 @@ fn behind_from(
     mut made: Vec<u32>,
 ) -> Result<Vec<u32>, Stop>
     requires types { AreLow (tele_of types.now) }
-    requires few { n ≤ 2147483648 }
-    requires levels { j + length types.now ≤ 2147483648 }
+    requires few { n ≤ context_limit }
+    requires levels { j + length types.now ≤ context_limit }
     ensures { Gives (λ v. v.items) result (Ok (made.items ++ spec.behind_from n j found.items (tele_of types.now))) }
 {
     match types {
@@ -41,8 +42,8 @@ fn behind_from(
 /// The variables after the new one, by their levels. The types are over the context and the new variable.
 pub(crate) fn behind(alloc: Global, n: u32, types: &[Term]) -> Result<Vec<u32>, Stop>
     requires types { AreLow (tele_of types.now) }
-    requires few { n ≤ 2147483648 }
-    requires levels { length types.now ≤ 2147483648 }
+    requires few { n ≤ context_limit }
+    requires levels { length types.now ≤ context_limit }
     ensures { Gives (λ v. v.items) result (Ok (spec.behind n (tele_of types.now))) }
 {
     let mut found = Vec::new(alloc);

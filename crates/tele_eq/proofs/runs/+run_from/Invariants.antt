@@ -1,4 +1,4 @@
-use Rattle.noconf_gen.proofs.compared.+run_from.Given as goal
+use Rattle.tele_eq.proofs.runs.+run_from.Given as goal
 
 abbrev pub decreases-run_from : goal.decreases-run_from
 decreases-run_from l = l.count

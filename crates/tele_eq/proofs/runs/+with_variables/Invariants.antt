@@ -1,4 +1,4 @@
-use Rattle.run_terms.proofs.injecting.+with_variables.Given as goal
+use Rattle.tele_eq.proofs.runs.+with_variables.Given as goal
 
 abbrev pub decreases-with_variables : goal.decreases-with_variables
 decreases-with_variables l = l.count
