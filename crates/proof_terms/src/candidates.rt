@@ -12,6 +12,7 @@ use crate::terms::{equation, proof_names, proof_term};
 use core_sig::{Draft, Signature};
 use core_terms::{Items, Name, Stop, Term, copy_tele, functions, products};
 use function_entries::numbered;
+use outlines::whole;
 use run_terms::{Naming, with_names};
 use std::alloc::Global;
 
@@ -54,7 +55,7 @@ fn body_of(
 {
     let body = proof_term(alloc, sig, naming, level, proof)?;
     let context = copy_tele(alloc, e.ctx)?;
-    functions(alloc, context.into_vec(), body)
+    functions(alloc, context.into_vec(), whole(alloc, body)?)
 }
 
 /// The draft of a proof that is made with the numbers of these names, or Deep.

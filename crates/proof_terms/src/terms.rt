@@ -3,6 +3,7 @@ ghost use Rattle.core_terms.specs.Answers.{Gives};
 ghost use Rattle.core_terms.specs.Meanings.{tree_of, tele_of};
 ghost use Rattle.core_terms.specs.TreeMeanings.{steps_of};
 ghost use Rattle.theory.specs.Signatures as signatures;
+ghost use Rattle.outlines.specs.OutlineMeanings.{outline_of, outlines_of};
 ghost use Rattle.run_terms.specs.CodeNaming.{naming_of};
 ghost use Rattle.split_terms.specs.CodeSplits as splits;
 ghost use Rattle.split_terms.specs.NodeMeanings.{node_of};
@@ -12,9 +13,10 @@ ghost use Rattle.proof_terms.specs.ProofMeanings.{place_of, proof_of, proofs_of}
 
 use crate::proof::{Place, Proof};
 use core_sig::{Signature, equality};
-use core_terms::{Items, Name, Step, Stop, Tele, Term, copy_tele, copy_whole};
+use core_terms::{Items, Name, Step, Stop, Term, copy_tele, copy_whole};
+use outlines::{Outline, Outlines, listed};
 use run_terms::{Naming, reflexivity};
-use split_terms::{Node, split_names, split_node};
+use split_terms::{Node, split_names, split_outline};
 use std::alloc::Global;
 
 /// `Eq.L type left right`.
@@ -68,12 +70,12 @@ fn runs_of<'a>(alloc: Global, runs: &'a [Items<Step>]) -> Result<Vec<&'a [Step]>
 }
 
 /// The term of a leaf: its equation by reflexivity.
-fn end_term(alloc: Global, level: u8, p: &Place) -> Result<Term, Stop>
-    ensures { Gives tree_of result (Ok (signatures.reflexivity level (tree_of p.now.ty) (tree_of p.now.left))) }
+fn end_term(alloc: Global, level: u8, p: &Place) -> Result<Outline, Stop>
+    ensures { Gives outline_of result (Ok (signatures.reflexivity level (tree_of p.now.ty) (tree_of p.now.left))) }
 {
     let ty = copy_whole(alloc, &p.ty)?;
     let left = copy_whole(alloc, &p.left)?;
-    reflexivity(alloc, level, ty, left)
+    Ok(Outline::Whole(reflexivity(alloc, level, ty, left)?))
 }
 
 /// The term of a split at a place, from those of the proofs after it, or Deep.
@@ -86,13 +88,13 @@ fn split_at(
     x: u32,
     ty: &Term,
     runs: &[Items<Step>],
-    ends: &[Term],
-) -> Result<Term, Stop>
-    ensures { Gives tree_of result (splits.split_node_made sig.now (naming_of naming.entry) level (meant.goal_node level (place_of p.now)) x (tree_of ty.now) (map steps_of runs.now) (tele_of ends.now)) }
+    ends: Outlines,
+) -> Result<Outline, Stop>
+    ensures { Gives outline_of result (splits.split_node_made sig.now (naming_of naming.entry) level (meant.goal_node level (place_of p.now)) x (tree_of ty.now) (map steps_of runs.now) (outlines_of ends)) }
 {
     let node = goal_node(alloc, level, p)?;
     let runs = runs_of(alloc, runs)?;
-    split_node(
+    split_outline(
         alloc,
         sig,
         naming,
@@ -105,7 +107,7 @@ fn split_at(
     )
 }
 
-/// The term of a proof, or Deep where a split node of it is.
+/// The term of a proof, in outline, or Deep where a split node of it is.
 #[cycle(terms)]
 pub fn proof_term(
     alloc: Global,
@@ -113,8 +115,8 @@ pub fn proof_term(
     naming: Naming,
     level: u8,
     proof: &Proof,
-) -> Result<Term, Stop>
-    ensures { Gives tree_of result (spec.proof_made sig.now (naming_of naming.entry) level (proof_of proof.now)) }
+) -> Result<Outline, Stop>
+    ensures { Gives outline_of result (spec.proof_made sig.now (naming_of naming.entry) level (proof_of proof.now)) }
 {
     match proof {
         Proof::Ends { place, .. } => end_term(alloc, level, place),
@@ -136,7 +138,7 @@ pub fn proof_term(
                 *x,
                 ty,
                 runs.as_slice(),
-                ends.as_slice(),
+                listed(alloc, ends.into_vec())?,
             )
         }
     }
@@ -151,9 +153,9 @@ fn proof_terms(
     naming: Naming,
     level: u8,
     proofs: &[Proof],
-    mut made: Tele,
-) -> Result<Tele, Stop>
-    ensures { Gives tele_of result (spec.proofs_made sig.now (naming_of naming.entry) level (proofs_of proofs.now) (tele_of made)) }
+    mut made: Items<Outline>,
+) -> Result<Items<Outline>, Stop>
+    ensures { Gives (λ v. map outline_of v) result (spec.proofs_made sig.now (naming_of naming.entry) level (proofs_of proofs.now) (map outline_of made)) }
 {
     match proofs {
         [] => Ok(made),
