@@ -5,5 +5,6 @@ pub mod Lengths
 pub mod PartHeights
 pub mod RecursionFound
 pub mod SeenAlike
+pub mod Taking
 pub mod TowerHeights
 pub mod Turning

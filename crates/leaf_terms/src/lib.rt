@@ -1,6 +1,7 @@
 //! What the entries of a function are made of, and the terms of leaves: right sides with recursive calls as paths.
 #![tactic(auto)]
 
+mod applying;
 mod below_types;
 mod entry_names;
 pub mod laws;

@@ -1,4 +1,4 @@
-ghost use Rattle.std.specs.Prelude.{◌≡◌, ◌∷◌, [], Ok, Some, drop, get_or, option_map, reverse};
+ghost use Rattle.std.specs.Prelude.{◌≡◌, ◌∷◌, [], Ok, Some, get_or, option_map, reverse};
 ghost use Rattle.std.specs.Option.{option_copied};
 ghost use Rattle.core_terms.specs.Answers.{Gives};
 ghost use Rattle.core_terms.specs.Meanings.{tree_of, tele_of};
@@ -8,7 +8,6 @@ ghost use Rattle.theory.specs.Terms as tree;
 ghost use Rattle.tele_eq.specs.Items as items;
 ghost use Rattle.unification.specs.Injecting.{lifted};
 ghost use Rattle.tree_translation.specs.Naming as names;
-ghost use Rattle.tree_translation.specs.Recursion as recursions;
 ghost use Rattle.tree_translation.specs.RightSides as sides;
 ghost use Rattle.run_terms.specs.CodeNaming.{naming_of};
 ghost use Rattle.leaf_terms.specs.CodeRightSides as spec;
@@ -16,7 +15,8 @@ ghost use Rattle.leaf_terms.specs.PlaceMeanings.{HasPlaceFamily, arguments_of, b
 ghost use Rattle.leaf_terms.specs.PlanMeanings.{plan_of};
 ghost use Rattle.leaf_terms.specs.RecursionMeanings.{recursion_of};
 
-use crate::below_types::{copied_at, motive_at};
+use crate::applying::applied_to_taken;
+use crate::below_types::motive_at;
 use crate::entry_names::helper_name;
 use crate::leaves::Translation;
 use crate::orders::remaining_positions;
@@ -57,55 +57,18 @@ pub fn term_or<'a>(terms: &'a [Term], position: u32, other: &'a Term) -> &'a Ter
     }
 }
 
-/// `head` applied to the terms at some positions.
-fn applied_to_terms_at(
-    alloc: Global,
-    head: Term,
-    positions: &[u32],
-    terms: &[Term],
-) -> Result<Term, Stop>
-    ensures { Gives tree_of result (Ok (telescopes.applied (tree_of head) (recursions.terms_at positions.now (tele_of terms.now)))) }
-{
-    match positions {
-        [] => Ok(head),
-        [j, rest @ ..] => {
-            let t = copied_at(alloc, terms, *j)?;
-            let head = Term::new_app(alloc, head, t)?;
-            applied_to_terms_at(alloc, head, rest, terms)
-        }
-    }
-}
-
-/// `head` applied to the terms after the first `count` ones.
-fn applied_to_further(alloc: Global, head: Term, count: u32, terms: &[Term]) -> Result<Term, Stop>
-    ensures { Gives tree_of result (Ok (telescopes.applied (tree_of head) (drop count (tele_of terms.now)))) }
-{
-    match terms {
-        [] => Ok(head),
-        [t, rest @ ..] => {
-            if count > 0 {
-                return applied_to_further(alloc, head, count - 1, rest);
-            }
-            let head = Term::new_app(alloc, head, copy_whole(alloc, t)?)?;
-            applied_to_further(alloc, head, 0, rest)
-        }
-    }
-}
-
 /// A path applied to the arguments of a call at the other positions and any further ones.
-#[tactic(auto, using(run_terms::proofs::Spines::spines))]
 fn applied_path(
     alloc: Global,
     w: &Translation,
     r: &Recursion,
-    arguments: &[Term],
+    arguments: Vec<Term>,
     path: Term,
 ) -> Result<Term, Stop>
-    ensures { Gives tree_of result (Ok (spec.applied_path (plan_of w.now.plan.now) (recursion_of r.now) (tele_of arguments.now) (tree_of path))) }
+    ensures { Gives tree_of result (Ok (spec.applied_path (plan_of w.now.plan.now) (recursion_of r.now) (tele_of arguments.items) (tree_of path))) }
 {
     let positions = remaining_positions(alloc, w.plan.arity, r)?;
-    let head = applied_to_terms_at(alloc, path, positions.as_slice(), arguments)?;
-    applied_to_further(alloc, head, w.plan.arity, arguments)
+    applied_to_taken(alloc, path, positions.as_slice(), w.plan.arity, arguments)
 }
 
 /// The number of `D!below.L`.
@@ -205,7 +168,7 @@ fn path_applied(
     ensures { Gives tree_of result (Ok (spec.applied_path (plan_of w.now.plan.now) (recursion_of r.now) (spec.or_towers (arguments_of arguments.items)) (tree_of path))) }
 {
     let arguments = or_towers(alloc, arguments)?;
-    applied_path(alloc, w, r, arguments.as_slice(), path)
+    applied_path(alloc, w, r, arguments, path)
 }
 
 /// The call of the function with these arguments, at the terms of the leaf and a below value.
