@@ -3,15 +3,18 @@ ghost use Rattle.std.specs.List.{All};
 ghost use Rattle.std.specs.Option.{IfSome};
 ghost use Rattle.core_terms.specs.Answers.{Gives, Makes};
 ghost use Rattle.core_terms.specs.Bounds.{most_height, most_inner_variables};
+ghost use Rattle.core_terms.specs.Instances.{instance_of, under_binders};
 ghost use Rattle.core_terms.specs.Meanings.{tree_of, tele_of};
 ghost use Rattle.core_sig.specs.DraftScopes.{IsDraftNumber, IsDraftTerm};
 ghost use Rattle.core_sig.specs.Meanings.{behind};
 ghost use Rattle.core_sig.specs.Shapes.{argument_shape, shape_of};
+ghost use Rattle.theory.specs.Eliminators.{no_variable};
 ghost use Rattle.theory.specs.Families as pure;
 ghost use Rattle.theory.specs.Prelude.{prelude};
 ghost use Rattle.theory.specs.Signatures.{FamilyOf, IsEntryAt, IsPrefix, Signature};
 ghost use Rattle.theory.specs.SignatureScopes.{IsFamilyNumber, IsScopedSignature};
 ghost use Rattle.theory.specs.Spines.{spine_of};
+ghost use Rattle.theory.specs.Substitutions.{fill};
 ghost use Rattle.theory.specs.Terms as tree;
 ghost use Rattle.theory.specs.Terms.{top};
 ghost use Rattle.case_below_gen.specs.CourseEntries.{course_of};
@@ -284,7 +287,51 @@ fn step_to(
     let course = course_of_descent(d)?;
     let step = path_step(alloc, side, course, args, to.at as u32, to.count, to.end)?;
     let values = step_values(alloc, d, whole, below, inner)?;
-    inst_under(alloc, values.as_slice(), &step, 0)
+    inst_moving(alloc, values, to.count, &step)
+}
+
+/// Puts a value for every free variable of a step, as `inst_under` does with no binder around it. The value for variable `moved`,
+/// the path so far, is moved to its place and not copied: it is the last argument of each projection, and after it come only inner
+/// arguments, whose variables are nearer.
+#[tactic(auto, using(core_terms::proofs::Instances::instance_heights))]
+fn inst_moving(alloc: Global, values: Vec<Term>, moved: u32, t: &Term) -> Result<Term, Stop>
+    requires { All (λ v. tree.free_of v ≤ most_inner_variables) (tele_of values.items) }
+    ensures { Makes result (instance_of (tele_of values.items) 0 (tree_of t.now)) }
+{
+    match t {
+        Term::Var(n) => Ok(take_value(values, *n)),
+        Term::App(function, argument) if is_nearer(argument, moved) => {
+            let argument = inst_under(alloc, values.as_slice(), argument, 0)?;
+            let function = inst_moving(alloc, values, moved, function)?;
+            Term::new_app(alloc, function, argument)
+        }
+        Term::App(function, argument) => {
+            let function = inst_under(alloc, values.as_slice(), function, 0)?;
+            let argument = inst_moving(alloc, values, moved, argument)?;
+            Term::new_app(alloc, function, argument)
+        }
+        _ => inst_under(alloc, values.as_slice(), t, 0),
+    }
+}
+
+/// Is the term a variable that is nearer than variable `n`?
+fn is_nearer(t: &Term, n: u32) -> bool {
+    match t {
+        Term::Var(k) => *k < n,
+        _ => false,
+    }
+}
+
+/// The value for a variable, taken out of the values. A variable that no value stands for becomes `Type 0`.
+fn take_value(mut values: Vec<Term>, n: u32) -> Term
+    ensures { tree_of result ≡ under_binders 0 (fill no_variable (tele_of values.items)) n }
+{
+    let place = n as usize;
+    if place < values.len() {
+        values.swap_remove(values.len() - 1 - place)
+    } else {
+        Term::Sort(0)
+    }
 }
 
 /// The recursion that a descent is in.
