@@ -1,8 +1,11 @@
 ghost use Rattle.std.specs.Prelude.{◌≡◌, ◌≤◌, ◌+◌, ◌++◌, Ok, drop, length, map};
 ghost use Rattle.core_terms.specs.Answers.{Gives};
+ghost use Rattle.core_terms.specs.Instances.{instance_of, under_binders};
 ghost use Rattle.core_terms.specs.Meanings.{tree_of, tele_of};
 ghost use Rattle.core_sig.specs.Shapes.{argument_shape};
+ghost use Rattle.theory.specs.Eliminators.{no_variable};
 ghost use Rattle.theory.specs.Spines.{spine_of};
+ghost use Rattle.theory.specs.Substitutions.{fill};
 ghost use Rattle.tree_translation.specs.CycleTerms as spec;
 ghost use Rattle.cycle_terms.specs.CodeCycles as parts;
 ghost use Rattle.cycle_terms.specs.SearchMeanings.{search_of};
@@ -86,6 +89,34 @@ fn said_values(alloc: Global, c: &Search, whole: &Term, tuple: Term) -> Result<T
     Ok(values)
 }
 
+/// The value for a variable, taken out of the values. A variable that no value stands for becomes `Type 0`.
+fn taken(mut values: Vec<Term>, n: u32) -> Term
+    ensures { tree_of result ≡ under_binders 0 (fill no_variable (tele_of values.items)) n }
+{
+    let place = n as usize;
+    if place < values.len() {
+        values.swap_remove(values.len() - 1 - place)
+    } else {
+        Term::Sort(0)
+    }
+}
+
+/// A term with values for its variables. Along the last arguments a value is moved to its place: there the tuple is, in the
+/// projections of a component.
+fn instance_taking(alloc: Global, values: Vec<Term>, t: &Term) -> Result<Term, Stop>
+    ensures { Gives tree_of result (Ok (instance_of (tele_of values.items) 0 (tree_of t.now))) }
+{
+    match t {
+        Term::Var(n) => Ok(taken(values, *n)),
+        Term::App(function, argument) => {
+            let function = instance(alloc, values.as_slice(), function, 0)?;
+            let argument = instance_taking(alloc, values, argument)?;
+            Term::new_app(alloc, function, argument)
+        }
+        _ => instance(alloc, values.as_slice(), t, 0),
+    }
+}
+
 /// What a tuple of `D!direct ps (ne x)` at the constructor `whole` says of argument `at`: that the variable is not the argument, or
 /// that it is no part of it.
 pub fn said_of(
@@ -101,5 +132,5 @@ pub fn said_of(
 {
     let said = said_by_levels(alloc, side, c.carrier, args, at)?;
     let values = said_values(alloc, c, whole, tuple)?;
-    instance(alloc, values.as_slice(), &said, 0)
+    instance_taking(alloc, values.into_vec(), &said)
 }

@@ -8,6 +8,6 @@ use Rattle.cycle_terms.proofs.said.said_of.Goals as goal
 
 pub returns : goal.returns
 returns c =
-    said-is c.instance.result (search_of c.args.c.now) c.args.side (tree_of c.args.whole.now) (map argument_shape c.args.args.now) c.args.at
-    (tree_of c.args.tuple) (tele_of c.as_slice.result.now) (tree_of c.in_ok-said.said) c.instance.ensures
-    (ap tele_of c.as_slice.ensures ∙ ok_is c.in_ok-values.ensures) (ok_is c.in_ok-said.ensures)
+    said-is c.instance_taking.result (search_of c.args.c.now) c.args.side (tree_of c.args.whole.now) (map argument_shape c.args.args.now) c.args.at
+    (tree_of c.args.tuple) (tele_of c.into_vec.result.items) (tree_of c.in_ok-said.said) c.instance_taking.ensures
+    (ap tele_of c.into_vec.ensures ∙ ok_is c.in_ok-values.ensures) (ok_is c.in_ok-said.ensures)
