@@ -102,3 +102,23 @@ abbrev mutual
 abbrev pub names_made : Signature → (L : ℕ) → Branches → Node → (x : ℕ) (type : Term) → (names : List (List ℕ)) → Result (List (List ℕ)) Stop
 names_made S L branches node x type names =
     names_from S L node x type branches names (branches_names_made S L branches node (variable_in node x))
+
+-- ---- those of the subtrees of a split, from their nodes
+
+-- the first of the nodes that are left, or the node that was split where none is
+abbrev pub first_node : List Node → (node : Node) → Node
+first_node [] node = node
+first_node (first ∷ later) node = first
+
+abbrev pub later_nodes : List Node → List Node
+later_nodes [] = []
+later_nodes (first ∷ later) = later
+
+abbrev pub subtree_names : Signature → (L : ℕ) → Branch → Node → (names : List (List ℕ)) → Result (List (List ℕ)) Stop
+subtree_names S L (tree.Absurd steps context u v) node names = Ok names
+subtree_names S L (tree.Solved steps origins subtree) node names = tree_names_made S L subtree node names
+
+abbrev pub subtrees_names : Signature → (L : ℕ) → Branches → Node → (nodes : List Node) → (names : List (List ℕ)) → Result (List (List ℕ)) Stop
+subtrees_names S L tree.nil node nodes names = Ok names
+subtrees_names S L (tree.cons branch branches) node nodes names =
+    and_then (subtree_names S L branch (first_node nodes node) names) (subtrees_names S L branches node (later_nodes nodes))

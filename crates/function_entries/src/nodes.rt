@@ -7,7 +7,6 @@ ghost use Rattle.core_sig.specs.Meanings.{constructor_of};
 ghost use Rattle.tree_translation.specs.TreeTerms as trees;
 ghost use Rattle.clause_walks.specs.LookMeanings.{member_meant};
 ghost use Rattle.run_terms.specs.CodeRuns as runs;
-ghost use Rattle.run_terms.specs.StandingMeanings.{standing_of};
 ghost use Rattle.split_terms.specs.Bare.{bare_standing};
 ghost use Rattle.split_terms.specs.CodeSplits.{member_made};
 ghost use Rattle.split_terms.specs.NodeMeanings.{FitsIn, IsWhole, node_of};
@@ -17,8 +16,8 @@ ghost use Rattle.function_entries.specs.SplitMeanings.{IsWholeSplit, family_of_s
 use clause_walks::Member;
 use core_sig::{Constructor, Signature};
 use core_terms::{Branch, Items, Step, Stop, Term, copy_tele, copy_whole, number_of};
-use run_terms::{Standing, State, after_run, widened, widened_number, with_all};
-use split_terms::{Node, branch_standing, type_member};
+use run_terms::{after_run, widened, widened_number, with_all};
+use split_terms::{Node, branch_standing, node_at, type_member};
 use std::alloc::Global;
 
 /// The variable that a node is split on, and its type as a family with all its parameters and indices.
@@ -45,7 +44,7 @@ pub fn type_in(alloc: Global, node: &Node, ty: &Term) -> Result<Term, Stop>
 }
 
 /// A variable that is read there.
-fn variable_in(alloc: Global, node: &Node, x: u32) -> Result<u32, Stop>
+pub fn variable_in(alloc: Global, node: &Node, x: u32) -> Result<u32, Stop>
     ensures { Gives (λ x. x) result (Ok (trees.variable_in (node_of node.now) x)) }
 {
     let n = variable_count(node)?;
@@ -78,20 +77,6 @@ fn copy_node(alloc: Global, node: &Node) -> Result<Node, Stop>
         goal: copy_whole(alloc, &node.goal)?,
         hidden: with_all(Items::new(alloc), node.hidden.as_slice())?,
     })
-}
-
-/// The node of a standing.
-fn node_at(s: Standing) -> Node
-    ensures { node_of result ≡ trees.node_of (standing_of s) }
-{
-    let Standing {
-        state,
-        goal,
-        hidden,
-        ..
-    } = s;
-    let State { ctx, .. } = state;
-    Node { ctx, goal, hidden }
 }
 
 /// The node after a run of a constructor, by the standing from which the run starts.

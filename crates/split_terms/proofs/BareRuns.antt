@@ -1,5 +1,5 @@
 -- The terms, the names and the ends of runs are the same where their standings are bare.
-use Rattle.std.proofs.Common.{◌≡◌, ℕ, zero, suc, ◌-◌, ◌==◌, ◌&&◌, Bool, true, false, cond, Option, Some, None, Result, Ok, Err, List, [], ◌∷◌, ◌++◌, length, refl, ap, ◌∙◌}
+use Rattle.std.proofs.Common.{◌≡◌, ℕ, zero, suc, ◌-◌, ◌==◌, ◌&&◌, Bool, true, false, cond, Option, Some, None, Result, Ok, Err, List, [], ◌∷◌, ◌++◌, length, refl, sym, ap, ◌∙◌}
 use Rattle.theory.specs.Families.{Constructor}
 use Rattle.theory.specs.Signatures.{Signature}
 use Rattle.theory.specs.Terms.{Term}
@@ -16,21 +16,22 @@ use Rattle.tree_translation.specs.Comparisons.{Comparison, compared, compared_by
 use Rattle.tree_translation.specs.CycleTerms.{cycle_term}
 use Rattle.tree_translation.specs.Naming.{Naming}
 use Rattle.tree_translation.specs.Replays.{step_in, with_state}
-use Rattle.tree_translation.specs.RunTerms.{compared_names, no_term, on_side}
+use Rattle.tree_translation.specs.RunTerms.{compared_names, on_side}
 use Rattle.tree_translation.specs.Splits.{Node}
 use Rattle.tree_translation.specs.Standings.{Standing, state_term}
+use Rattle.tree_translation.specs.TreeTerms.{node_of}
 use Rattle.run_terms.specs.CodeConfusions.{conflict_made, inject_made}
 use Rattle.run_terms.specs.CodeInjections.{injected_made}
 use Rattle.run_terms.specs.CodeInjections as injections
 use Rattle.run_terms.specs.CodeRuns.{after_comparison, after_rule, after_run, after_step, injected_if_there}
 use Rattle.run_terms.specs.Made.{equations_made}
 use Rattle.split_terms.specs.Bare.{bare, bare_standing, bare_state, bare_state_made, bared}
-use Rattle.split_terms.specs.CodeRunTerms.{on_comparison_made, rule_made, rule_names_made, run_made, run_names_made, step_made}
-use Rattle.split_terms.specs.CodeSplits.{branch_names_made, method_made, method_with, standing_made, standing_with}
+use Rattle.split_terms.specs.CodeRunTerms.{on_comparison_made, rule_made, rule_names_made, run_ended, run_made, step_made, step_names_made}
+use Rattle.split_terms.specs.CodeSplits.{branch_ended, method_made, method_with, standing_made, standing_with}
 
 -- ---- answers
 
-same-answers : {A B : Type 0} (r : Result A Stop) (f g : A → Result B Stop) → ((a : A) → f a ≡ g a) → and_then r f ≡ and_then r g
+pub same-answers : {A B : Type 0} (r : Result A Stop) (f g : A → Result B Stop) → ((a : A) → f a ≡ g a) → and_then r f ≡ and_then r g
 same-answers (Ok a) f g same = same a
 same-answers (Err e) f g same = refl
 
@@ -43,9 +44,10 @@ of-bared : {B : Type 0} (r : Result Standing Stop) (f : Standing → Result B St
 of-bared (Ok s) f = refl
 of-bared (Err e) f = refl
 
-bared-then : (r : Result Standing Stop) (f : Standing → Result Standing Stop) → and_then r (λ s. bared (f s)) ≡ bared (and_then r f)
-bared-then (Ok s) f = refl
-bared-then (Err e) f = refl
+pub then-then : {A B C : Type 0} (r : Result A Stop) (f : A → Result B Stop) (g : B → Result C Stop)
+    → and_then r (λ a. and_then (f a) g) ≡ and_then (and_then r f) g
+then-then (Ok a) f g = refl
+then-then (Err e) f g = refl
 
 if-bare : (b : Bool) (r q : Result Standing Stop) → r ≡ bared q
     → ◌≡◌ {A = Result Standing Stop} (cond b r (Err Deep)) (bared (cond b q (Err Deep)))
@@ -93,7 +95,7 @@ run-next S (step ∷ steps) s =
     ap (λ r. and_then r (after_run S steps)) (step-next S s step)
     ∙ (of-bared (after_step S s step) (after_run S steps)
     ∙ (same-answers (after_step S s step) (λ next. after_run S steps (bare next)) (λ next. bared (after_run S steps next)) (run-next S steps)
-    ∙ bared-then (after_step S s step) (after_run S steps)))
+    ∙ then-then (after_step S s step) (after_run S steps) (λ s. Ok (bare s))))
 
 -- ---- terms
 
@@ -156,20 +158,26 @@ names-of-rule S L s step (Conflict n c d) names =
 names-of-rule S L s step (Cycle x) names = refl
 names-of-rule S L s step Delete names = refl
 
-names-bare : (S : Signature) (L : ℕ) (steps : List Step) (s : Standing) (names : List (List ℕ))
-    → run_names_made S L steps (bare s) names ≡ run_names_made S L steps s names
-names-bare S L [] s names = refl
-names-bare S L (step ∷ steps) s names =
-    ap (λ r. and_then r (λ all. and_then (after_step S (bare s) step) (λ next. run_names_made S L steps next all)))
+-- names, and a bare standing
+abbrev ended_bared : Result (List (List ℕ) × Standing) Stop → Result (List (List ℕ) × Standing) Stop
+ended_bared ended = and_then ended (λ r. Ok (r.0, bare r.1))
+
+ended-bare : (S : Signature) (L : ℕ) (steps : List Step) (s : Standing) (names : List (List ℕ))
+    → run_ended S L steps (bare s) names ≡ ended_bared (run_ended S L steps s names)
+ended-bare S L [] s names = refl
+ended-bare S L (step ∷ steps) s names =
+    ap (λ r. and_then r (λ all. and_then (after_step S (bare s) step) (λ next. run_ended S L steps next all)))
     (names-of-rule S L s (step_in s step) (step_in s step).rule names)
-    ∙ same-answers (rule_names_made S L s (step_in s step) (step_in s step).rule names)
-    (λ all. and_then (after_step S (bare s) step) (λ next. run_names_made S L steps next all))
-    (λ all. and_then (after_step S s step) (λ next. run_names_made S L steps next all))
+    ∙ (same-answers (step_names_made S L s step names)
+    (λ all. and_then (after_step S (bare s) step) (λ next. run_ended S L steps next all))
+    (λ all. ended_bared (and_then (after_step S s step) (λ next. run_ended S L steps next all)))
     (λ all.
-    ap (λ r. and_then r (λ next. run_names_made S L steps next all)) (step-next S s step)
-    ∙ (of-bared (after_step S s step) (λ next. run_names_made S L steps next all)
-    ∙ same-answers (after_step S s step) (λ next. run_names_made S L steps (bare next) all) (λ next. run_names_made S L steps next all)
-    (λ next. names-bare S L steps next all)))
+    ap (λ r. and_then r (λ next. run_ended S L steps next all)) (step-next S s step)
+    ∙ (of-bared (after_step S s step) (λ next. run_ended S L steps next all)
+    ∙ (same-answers (after_step S s step) (λ next. run_ended S L steps (bare next) all) (λ next. ended_bared (run_ended S L steps next all))
+    (λ next. ended-bare S L steps next all)
+    ∙ then-then (after_step S s step) (λ next. run_ended S L steps next all) (λ r. Ok (r.0, bare r.1)))))
+    ∙ then-then (step_names_made S L s step names) (λ all. and_then (after_step S s step) (λ next. run_ended S L steps next all)) (λ r. Ok (r.0, bare r.1)))
 
 -- ---- the standing of a constructor
 
@@ -203,11 +211,16 @@ method-bare S number L node m x at c steps end =
     on-standing node m x at c (λ s. and_then (run_made S number L end steps s) (λ inner. Ok (method_with m c s inner)))
     (λ s. ap (λ r. and_then r (λ inner. Ok (method_with m c s inner))) (run-bare S number L end steps s))
 
-pub branch-names-bare : (S : Signature) (L : ℕ) (node : Node) (m : Member) (x number : ℕ) (c : Constructor) (steps : List Step) (names : List (List ℕ))
-    → ◌≡◌ {A = Result (List (List ℕ)) Stop} (and_then (bare_standing node m x number c) (λ s. run_names_made S L steps s names))
-    (branch_names_made S L node m x number c steps names)
-branch-names-bare S L node m x number c steps names =
-    on-standing node m x number c (λ s. run_names_made S L steps s names) (λ s. names-bare S L steps s names)
+pub branch-ended-bare : (S : Signature) (L : ℕ) (node : Node) (m : Member) (x number : ℕ) (c : Constructor) (steps : List Step) (names : List (List ℕ))
+    (nodes : List Node)
+    → ◌≡◌ {A = Result (List (List ℕ) × List Node) Stop}
+    (and_then (bare_standing node m x number c) (λ s. and_then (run_ended S L steps s names) (λ r. Ok (r.0, nodes ++ node_of r.1 ∷ []))))
+    (branch_ended S L node m x number c steps names nodes)
+branch-ended-bare S L node m x number c steps names nodes =
+    on-standing node m x number c (λ s. and_then (run_ended S L steps s names) (λ r. Ok (r.0, nodes ++ node_of r.1 ∷ [])))
+    (λ s.
+    ap (λ ended. and_then ended (λ r. Ok (r.0, nodes ++ node_of r.1 ∷ []))) (ended-bare S L steps s names)
+    ∙ sym (then-then (run_ended S L steps s names) (λ r. Ok (r.0, bare r.1)) (λ r. Ok (r.0, nodes ++ node_of r.1 ∷ []))))
 
 -- what is made of the end of a run, where it is the same of a bare end
 pub end-bare : {B : Type 0} (S : Signature) (node : Node) (m : Member) (x number : ℕ) (c : Constructor) (steps : List Step) (f : Standing → Result B Stop)

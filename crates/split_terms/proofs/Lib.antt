@@ -1,5 +1,6 @@
 pub mod BareRuns
 pub mod BranchParts
+pub mod EndedRuns
 pub mod LaterSteps
 pub mod MethodSteps
 pub mod OutlinedParts

@@ -1,4 +1,4 @@
--- The methods of a split, and their names, by the first constructor and its run.
+-- The methods of a split, and their names and nodes, by the first constructor and its run.
 use Rattle.std.proofs.Common.{◌≡◌, ℕ, ◌+◌, cond, All, Result, Ok, Err, List, [], ◌∷◌, ap}
 use Rattle.std.proofs.lemmas.List.Elements.{All-head, All-tail}
 use Rattle.theory.specs.Terms.{Term, App}
@@ -14,7 +14,7 @@ use Rattle.case_trees.specs.Problems.{Member}
 use Rattle.tree_translation.specs.Naming.{Naming}
 use Rattle.tree_translation.specs.Splits.{Node, behind_first, first_of, is_absurd}
 use Rattle.clause_walks.specs.declared.problems.Member as walks
-use Rattle.split_terms.specs.CodeSplits.{branch_names_made, method_made, methods_names_made, with_methods}
+use Rattle.split_terms.specs.CodeSplits.{branch_ended, method_made, methods_ended, with_methods}
 use Rattle.split_terms.specs.NodeMeanings.{AllFitIn, IsWhole}
 
 module _ (S : Signature) (L : ℕ) (node : Node) (m : Member) (x at : ℕ) (cs rest : List Constructor) (c : Constructor) (rs more : List (List Step))
@@ -35,16 +35,16 @@ module _ (S : Signature) (L : ℕ) (node : Node) (m : Member) (x at : ℕ) (cs r
   methods-next number ends left head whole method next h ew el en =
       rw (ec, er, ew, el, en) (ap (λ r. and_then r (further number ends head)) h)
 
-  pub names-deep : (names : List (List ℕ)) (e : Stop)
-      → ◌≡◌ {A = Result (List (List ℕ)) Stop} (Err e) (branch_names_made S L node m x at c steps names)
-      → ◌≡◌ {A = Result (List (List ℕ)) Stop} (Err e) (methods_names_made S L node m x at cs rs names)
-  names-deep names e h = rw (ec, er) (ap (λ r. and_then r (methods_names_made S L node m x (at + 1) rest more)) h)
+  pub ended-deep : (names : List (List ℕ)) (nodes : List Node) (e : Stop)
+      → ◌≡◌ {A = Result (List (List ℕ) × List Node) Stop} (Err e) (branch_ended S L node m x at c steps names nodes)
+      → ◌≡◌ {A = Result (List (List ℕ) × List Node) Stop} (Err e) (methods_ended S L node m x at cs rs names nodes)
+  ended-deep names nodes e h = rw (ec, er) (ap (λ r. and_then r (λ q. methods_ended S L node m x (at + 1) rest more q.0 q.1)) h)
 
-  pub names-next : (names all : List (List ℕ)) (next : ℕ)
-      → ◌≡◌ {A = Result (List (List ℕ)) Stop} (Ok all) (branch_names_made S L node m x at c steps names) → next ≡ at + 1
-      → methods_names_made S L node m x next rest more all ≡ methods_names_made S L node m x at cs rs names
-  names-next names all next h en =
-      rw (ec, er, en) (ap (λ r. and_then r (methods_names_made S L node m x (at + 1) rest more)) h)
+  pub ended-next : (names all : List (List ℕ)) (nodes made : List Node) (next : ℕ)
+      → ◌≡◌ {A = Result (List (List ℕ) × List Node) Stop} (Ok (all, made)) (branch_ended S L node m x at c steps names nodes) → next ≡ at + 1
+      → methods_ended S L node m x next rest more all made ≡ methods_ended S L node m x at cs rs names nodes
+  ended-next names all nodes made next h en =
+      rw (ec, er, en) (ap (λ r. and_then r (λ q. methods_ended S L node m x (at + 1) rest more q.0 q.1)) h)
 
 -- the constructors of a family fit in it
 fit-each : (m : walks.Member) (cons : List code.Constructor) → All (λ c. HaveKinds m.number (family_of m.family.now) 0 c.args) cons → AllFitIn m cons

@@ -80,3 +80,9 @@ abbrev pub run_names_made : Signature → (L : ℕ) → List Step → Standing �
 run_names_made S L [] s names = Ok names
 run_names_made S L (step ∷ steps) s names =
     and_then (step_names_made S L s step names) (λ all. and_then (after_step S s step) (λ next. run_names_made S L steps next all))
+
+-- the same names, and the standing after the run
+abbrev pub run_ended : Signature → (L : ℕ) → List Step → Standing → (names : List (List ℕ)) → Result (List (List ℕ) × Standing) Stop
+run_ended S L [] s names = Ok (names, s)
+run_ended S L (step ∷ steps) s names =
+    and_then (step_names_made S L s step names) (λ all. and_then (after_step S s step) (λ next. run_ended S L steps next all))

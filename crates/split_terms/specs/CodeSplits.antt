@@ -17,8 +17,9 @@ use Rattle.tree_translation.specs.Naming.{Naming, case_name, number_in, with_nam
 use Rattle.tree_translation.specs.RunTerms.{no_term}
 use Rattle.tree_translation.specs.Splits.{Node, member_types, scrutinee, is_absurd, first_of, behind_first}
 use Rattle.tree_translation.specs.Standings.{Standing, levels_from, state_term}
+use Rattle.tree_translation.specs.TreeTerms.{node_of}
 use Rattle.run_terms.specs.Made.{equations_made, reflexivities_made}
-use Rattle.split_terms.specs.CodeRunTerms.{run_made, run_names_made}
+use Rattle.split_terms.specs.CodeRunTerms.{run_ended, run_made, run_names_made}
 
 -- a type as a family with all its parameters and indices
 abbrev pub member_made : Signature → Term → Result (Option Member) Stop
@@ -122,6 +123,30 @@ member_names_made S L node x runs names (Some m) =
 abbrev pub split_names_made : Signature → (L : ℕ) → Node → (x : ℕ) (type : Term) → List (List Step) → (names : List (List ℕ))
     → Result (List (List ℕ)) Stop
 split_names_made S L node x type runs names = and_then (member_made S type) (member_names_made S L node x runs names)
+
+-- ---- the same names, and the nodes after the runs, after those that are there
+
+abbrev pub branch_ended : Signature → (L : ℕ) → Node → Member → (x number : ℕ) → Constructor → List Step → (names : List (List ℕ)) (nodes : List Node)
+    → Result (List (List ℕ) × List Node) Stop
+branch_ended S L node m x at c steps names nodes =
+    and_then (standing_made node m x at c) (λ s.
+    and_then (run_ended S L steps s names) (λ r. Ok (r.0, nodes ++ node_of r.1 ∷ [])))
+
+abbrev pub methods_ended : Signature → (L : ℕ) → Node → Member → (x at : ℕ) → List Constructor → List (List Step) → (names : List (List ℕ))
+    (nodes : List Node) → Result (List (List ℕ) × List Node) Stop
+methods_ended S L node m x at (c ∷ constructors) (steps ∷ runs) names nodes =
+    and_then (branch_ended S L node m x at c steps names nodes) (λ r. methods_ended S L node m x (at + 1) constructors runs r.0 r.1)
+methods_ended S L node m x at _ _ names nodes = Ok (names, nodes)
+
+abbrev pub member_ended : Signature → (L : ℕ) → Node → (x : ℕ) → List (List Step) → (names : List (List ℕ)) → Option Member
+    → Result (List (List ℕ) × List Node) Stop
+member_ended S L node x runs names None = Ok (names, [])
+member_ended S L node x runs names (Some m) =
+    methods_ended S L node m x 0 m.family.constructors runs (names ++ case_name m.family L ∷ []) []
+
+abbrev pub split_ended : Signature → (L : ℕ) → Node → (x : ℕ) (type : Term) → List (List Step) → (names : List (List ℕ))
+    → Result (List (List ℕ) × List Node) Stop
+split_ended S L node x type runs names = and_then (member_made S type) (member_ended S L node x runs names)
 
 -- ---- the term of a split node by itself
 

@@ -15,9 +15,9 @@ mod splitting;
 mod steps;
 
 pub use members::type_member;
-pub use names::{names_joined, run_names};
-pub use node::Node;
+pub use names::{names_joined, run_ended};
+pub use node::{Node, node_at};
 pub use problems::branch_standing;
 pub use runs::run_term;
-pub use split_naming::split_names;
+pub use split_naming::{split_ended, split_names};
 pub use splitting::{split_node, split_outline, split_term};

@@ -13,6 +13,7 @@ ghost use Rattle.tree_translation.specs.RunTerms as runs;
 ghost use Rattle.run_terms.specs.ComparisonMeanings.{comparison_of};
 ghost use Rattle.run_terms.specs.StandingMeanings.{standing_of};
 ghost use Rattle.split_terms.specs.CodeRunTerms as spec;
+ghost use Rattle.split_terms.specs.NodeMeanings.{named_standing_of};
 
 use crate::steps::next_standing;
 use core_sig::Signature;
@@ -181,24 +182,24 @@ fn with_step(
     with_rule(alloc, sig, level, s, read, names)
 }
 
-/// Names, followed by those that the term of a run may mention, or Deep.
-pub fn run_names(
+/// Names, followed by those that the term of a run may mention, and the standing after the run, or Deep.
+pub fn run_ended(
     alloc: Global,
     sig: &Signature,
     level: u8,
     steps: &[Step],
-    s: &Standing,
+    s: Standing,
     names: Items<Name>,
-) -> Result<Items<Name>, Stop>
-    ensures { Gives (λ ns. ns) result (spec.run_names_made sig.now level (steps_of steps.now) (standing_of s.now) names) }
+) -> Result<(Items<Name>, Standing), Stop>
+    ensures { Gives named_standing_of result (spec.run_ended sig.now level (steps_of steps.now) (standing_of s) names) }
 {
     match steps {
-        [] => Ok(names),
+        [] => Ok((names, s)),
         [step, rest @ ..] => {
-            let read = step_in(alloc, s, step)?;
-            let names = with_step(alloc, sig, level, s, step, &read, names)?;
-            let next = next_standing(alloc, sig, s, step, &read)?;
-            run_names(alloc, sig, level, rest, &next, names)
+            let read = step_in(alloc, &s, step)?;
+            let names = with_step(alloc, sig, level, &s, step, &read, names)?;
+            let next = next_standing(alloc, sig, &s, step, &read)?;
+            run_ended(alloc, sig, level, rest, next, names)
         }
     }
 }

@@ -1,17 +1,18 @@
-ghost use Rattle.std.specs.Prelude.{◌≡◌, Some, Ok, length, map};
+ghost use Rattle.std.specs.Prelude.{◌≡◌, Some, [], ◌∷◌, ◌++◌, Ok, length, map};
 ghost use Rattle.core_terms.specs.Answers.{Gives, and_then};
 ghost use Rattle.core_terms.specs.Meanings.{tree_of};
 ghost use Rattle.core_terms.specs.TreeMeanings.{steps_of};
 ghost use Rattle.core_sig.specs.Meanings.{constructor_of};
+ghost use Rattle.tree_translation.specs.TreeTerms as trees;
 ghost use Rattle.clause_walks.specs.LookMeanings.{member_meant};
 ghost use Rattle.split_terms.specs.Bare.{bare_standing};
-ghost use Rattle.split_terms.specs.CodeRunTerms.{run_names_made};
+ghost use Rattle.split_terms.specs.CodeRunTerms as runs;
 ghost use Rattle.split_terms.specs.CodeSplits as spec;
-ghost use Rattle.split_terms.specs.NodeMeanings.{AllFitIn, FitsIn, IsWhole, node_of};
+ghost use Rattle.split_terms.specs.NodeMeanings.{AllFitIn, FitsIn, IsWhole, named_nodes_of, node_of};
 
 use crate::members::type_member;
-use crate::names::run_names;
-use crate::node::Node;
+use crate::names::run_ended;
+use crate::node::{Node, node_at};
 use crate::problems::branch_standing;
 use clause_walks::Member;
 use core_sig::{Constructor, Signature};
@@ -19,8 +20,8 @@ use core_terms::{Items, Name, Step, Stop, Term, next};
 use run_terms::case_name;
 use std::alloc::Global;
 
-/// Names, followed by those of the run of a constructor, by the standing from which it starts.
-fn names_from(
+/// Names and nodes, followed by those of the run of a constructor, by the standing from which it starts.
+fn ended_from(
     alloc: Global,
     sig: &Signature,
     level: u8,
@@ -31,17 +32,20 @@ fn names_from(
     con: &Constructor,
     steps: &[Step],
     names: Items<Name>,
-) -> Result<Items<Name>, Stop>
+    mut nodes: Items<Node>,
+) -> Result<(Items<Name>, Items<Node>), Stop>
     requires kinds { FitsIn m.now con.now }
     requires parameters { length m.now.params ≡ length m.now.family.now.params }
-    ensures { Gives (λ ns. ns) result (and_then (bare_standing (node_of node.now) (member_meant m.now) x number (constructor_of (length m.now.family.now.params) con.now)) (λ s. run_names_made sig.now level (steps_of steps.now) s names)) }
+    ensures { Gives named_nodes_of result (and_then (bare_standing (node_of node.now) (member_meant m.now) x number (constructor_of (length m.now.family.now.params) con.now)) (λ s. and_then (runs.run_ended sig.now level (steps_of steps.now) s names) (λ r. Ok (r.0, map node_of nodes ++ trees.node_of r.1 ∷ [])))) }
 {
     let s = branch_standing(alloc, node, m, x, number, con)?;
-    run_names(alloc, sig, level, steps, &s, names)
+    let (names, end) = run_ended(alloc, sig, level, steps, s, names)?;
+    nodes.push(node_at(end))?;
+    Ok((names, nodes))
 }
 
-/// Names, followed by those of the run of a constructor, or Deep.
-fn branch_names(
+/// Names and nodes, followed by those of the run of a constructor, or Deep.
+fn branch_ended(
     alloc: Global,
     sig: &Signature,
     level: u8,
@@ -52,16 +56,19 @@ fn branch_names(
     con: &Constructor,
     steps: &[Step],
     names: Items<Name>,
-) -> Result<Items<Name>, Stop>
+    nodes: Items<Node>,
+) -> Result<(Items<Name>, Items<Node>), Stop>
     requires kinds { FitsIn m.now con.now }
     requires parameters { length m.now.params ≡ length m.now.family.now.params }
-    ensures { Gives (λ ns. ns) result (spec.branch_names_made sig.now level (node_of node.now) (member_meant m.now) x number (constructor_of (length m.now.family.now.params) con.now) (steps_of steps.now) names) }
+    ensures { Gives named_nodes_of result (spec.branch_ended sig.now level (node_of node.now) (member_meant m.now) x number (constructor_of (length m.now.family.now.params) con.now) (steps_of steps.now) names (map node_of nodes)) }
 {
-    names_from(alloc, sig, level, node, m, x, number, con, steps, names)
+    ended_from(
+        alloc, sig, level, node, m, x, number, con, steps, names, nodes,
+    )
 }
 
-/// Names, followed by those of the runs of constructors, the first of which has this number, or Deep.
-fn methods_names(
+/// Names and nodes, followed by those of the runs of constructors, the first of which has this number, or Deep.
+fn methods_ended(
     alloc: Global,
     sig: &Signature,
     level: u8,
@@ -72,24 +79,29 @@ fn methods_names(
     cons: &[Constructor],
     runs: &[&[Step]],
     names: Items<Name>,
-) -> Result<Items<Name>, Stop>
+    nodes: Items<Node>,
+) -> Result<(Items<Name>, Items<Node>), Stop>
     requires kinds { AllFitIn m.now cons.now }
     requires parameters { length m.now.params ≡ length m.now.family.now.params }
-    ensures { Gives (λ ns. ns) result (spec.methods_names_made sig.now level (node_of node.now) (member_meant m.now) x number (map (constructor_of (length m.now.family.now.params)) cons.now) (map (λ steps. steps_of steps.now) runs.now) names) }
+    ensures { Gives named_nodes_of result (spec.methods_ended sig.now level (node_of node.now) (member_meant m.now) x number (map (constructor_of (length m.now.family.now.params)) cons.now) (map (λ steps. steps_of steps.now) runs.now) names (map node_of nodes)) }
 {
     let [con, cons @ ..] = cons else {
-        return Ok(names);
+        return Ok((names, nodes));
     };
     let [steps, runs @ ..] = runs else {
-        return Ok(names);
+        return Ok((names, nodes));
     };
-    let names = branch_names(alloc, sig, level, node, m, x, number, con, steps, names)?;
+    let (names, nodes) = branch_ended(
+        alloc, sig, level, node, m, x, number, con, steps, names, nodes,
+    )?;
     let number = next(number)?;
-    methods_names(alloc, sig, level, node, m, x, number, cons, runs, names)
+    methods_ended(
+        alloc, sig, level, node, m, x, number, cons, runs, names, nodes,
+    )
 }
 
-/// Names, followed by those of a split on a variable of this family, or Deep.
-fn member_names(
+/// Names, followed by those of a split on a variable of this family, and the nodes after its runs, or Deep.
+fn member_ended(
     alloc: Global,
     sig: &Signature,
     level: u8,
@@ -98,13 +110,33 @@ fn member_names(
     x: u32,
     runs: &[&[Step]],
     mut names: Items<Name>,
-) -> Result<Items<Name>, Stop>
+) -> Result<(Items<Name>, Items<Node>), Stop>
     requires { IsWhole m.now }
-    ensures { Gives (λ ns. ns) result (spec.member_names_made sig.now level (node_of node.now) x (map (λ steps. steps_of steps.now) runs.now) names (Some (member_meant m.now))) }
+    ensures { Gives named_nodes_of result (spec.member_ended sig.now level (node_of node.now) x (map (λ steps. steps_of steps.now) runs.now) names (Some (member_meant m.now))) }
 {
     names.push(case_name(alloc, m.family, level)?)?;
     let cons = m.family.cons.as_slice();
-    methods_names(alloc, sig, level, node, m, x, 0, cons, runs, names)
+    let nodes = Items::new(alloc);
+    methods_ended(alloc, sig, level, node, m, x, 0, cons, runs, names, nodes)
+}
+
+/// Names, followed by those that the term of a split node may mention, and the node after the run of each constructor, or Deep.
+pub fn split_ended(
+    alloc: Global,
+    sig: &Signature,
+    level: u8,
+    node: &Node,
+    x: u32,
+    ty: &Term,
+    runs: &[&[Step]],
+    names: Items<Name>,
+) -> Result<(Items<Name>, Items<Node>), Stop>
+    ensures { Gives named_nodes_of result (spec.split_ended sig.now level (node_of node.now) x (tree_of ty.now) (map (λ steps. steps_of steps.now) runs.now) names) }
+{
+    match type_member(alloc, sig, ty)? {
+        None => Ok((names, Items::new(alloc))),
+        Some(m) => member_ended(alloc, sig, level, node, &m, x, runs, names),
+    }
 }
 
 /// Names, followed by those that the term of a split node may mention, or Deep.
@@ -120,8 +152,6 @@ pub fn split_names(
 ) -> Result<Items<Name>, Stop>
     ensures { Gives (λ ns. ns) result (spec.split_names_made sig.now level (node_of node.now) x (tree_of ty.now) (map (λ steps. steps_of steps.now) runs.now) names) }
 {
-    match type_member(alloc, sig, ty)? {
-        None => Ok(names),
-        Some(m) => member_names(alloc, sig, level, node, &m, x, runs, names),
-    }
+    let (names, _) = split_ended(alloc, sig, level, node, x, ty, runs, names)?;
+    Ok(names)
 }
