@@ -18,11 +18,12 @@ use crate::names::proof_name;
 use crate::sides::equation_converts;
 use clause_equations::{Equation, equation, pats_at};
 use core_sig::{Draft, Signature};
-use core_terms::{Stop, Units};
+use core_terms::Stop;
 use draft_checks::is_enterable;
 use draft_entering::ReportStop;
+use kernel_check::Kernel;
 use proof_terms::{Goal, Proof, candidate};
-use proof_walks::equation_proof;
+use proof_walks::equation_proof_with;
 use shadow_vectors::some_absurd;
 use std::alloc::Global;
 
@@ -94,15 +95,17 @@ fn proof_of_equation(
     sig: &Signature,
     c: PlannedClause,
     e: &Equation,
-    units: &mut Units,
+    kernel: &mut Kernel<'_>,
 ) -> Result<Proof, ReportStop>
-    requires { IsOpen sig.now }
-    ensures answer { Reports proof_of result units.new.left (walk_made sig.now (clause_of c.entry).plan c.entry.number (clause_of c.entry).walk (equation_of e.now) (clause_of c.entry).part.tree units.old.left) }
-    ensures sum { units.new.left + units.new.spent ≡ units.old.left + units.old.spent }
-    ensures spends { units.new.left ≤ units.old.left }
+    requires kernel { kernel.old.signature ≡ sig.now }
+    requires given { IsOpen sig.now }
+    ensures answer { Reports proof_of result kernel.new.left (walk_made sig.now (clause_of c.entry).plan c.entry.number (clause_of c.entry).walk (equation_of e.now) (clause_of c.entry).part.tree kernel.old.left) }
+    ensures sum { kernel.new.left + kernel.new.spent ≡ kernel.old.left + kernel.old.spent }
+    ensures spends { kernel.new.left ≤ kernel.old.left }
+    ensures kernel { kernel.new.signature ≡ sig.now }
     ensures kept { IfOk result (λ proof. AreKeptLeaves sig.now (leaves_in (proof_of proof))) }
 {
-    equation_proof(
+    equation_proof_with(
         alloc,
         sig,
         c.plan,
@@ -110,7 +113,7 @@ fn proof_of_equation(
         c.walk,
         goal_of(e),
         &c.part.tree,
-        units,
+        kernel,
     )
 }
 
@@ -120,15 +123,17 @@ fn walk_judged(
     sig: &Signature,
     c: PlannedClause,
     e: &Equation,
-    units: &mut Units,
+    kernel: &mut Kernel<'_>,
 ) -> Result<Judgement, ReportStop>
-    requires { IsOpen sig.now }
-    ensures answer { Reports judged_of result units.new.left (spec.walk_judged sig.now (clause_of c.entry) (equation_of e.now) units.old.left) }
-    ensures sum { units.new.left + units.new.spent ≡ units.old.left + units.old.spent }
-    ensures spends { units.new.left ≤ units.old.left }
+    requires kernel { kernel.old.signature ≡ sig.now }
+    requires given { IsOpen sig.now }
+    ensures answer { Reports judged_of result kernel.new.left (spec.walk_judged sig.now (clause_of c.entry) (equation_of e.now) kernel.old.left) }
+    ensures sum { kernel.new.left + kernel.new.spent ≡ kernel.old.left + kernel.old.spent }
+    ensures spends { kernel.new.left ≤ kernel.old.left }
+    ensures kernel { kernel.new.signature ≡ sig.now }
     ensures judged { IfOk result (IsJudged sig.now) }
 {
-    let proof = proof_of_equation(alloc, sig, c, e, units)?;
+    let proof = proof_of_equation(alloc, sig, c, e, kernel)?;
     proof_judged(alloc, sig, c, e, proof)
 }
 
@@ -138,18 +143,20 @@ fn sides_judged(
     sig: &Signature,
     c: PlannedClause,
     e: &Equation,
-    units: &mut Units,
+    kernel: &mut Kernel<'_>,
 ) -> Result<Judgement, ReportStop>
-    requires { IsOpen sig.now }
-    ensures answer { Reports judged_of result units.new.left (spec.sides_judged sig.now (clause_of c.entry) (equation_of e.now) units.old.left) }
-    ensures sum { units.new.left + units.new.spent ≡ units.old.left + units.old.spent }
-    ensures spends { units.new.left ≤ units.old.left }
+    requires kernel { kernel.old.signature ≡ sig.now }
+    requires given { IsOpen sig.now }
+    ensures answer { Reports judged_of result kernel.new.left (spec.sides_judged sig.now (clause_of c.entry) (equation_of e.now) kernel.old.left) }
+    ensures sum { kernel.new.left + kernel.new.spent ≡ kernel.old.left + kernel.old.spent }
+    ensures spends { kernel.new.left ≤ kernel.old.left }
+    ensures kernel { kernel.new.signature ≡ sig.now }
     ensures judged { IfOk result (IsJudged sig.now) }
 {
-    if equation_converts(alloc, sig, e, units)? {
+    if equation_converts(sig, e, kernel)? {
         return Ok(Judgement::Known(Line::Definitional));
     }
-    walk_judged(alloc, sig, c, e, units)
+    walk_judged(alloc, sig, c, e, kernel)
 }
 
 /// What is known of a clause that has a right side.
@@ -157,16 +164,18 @@ fn equation_judged(
     alloc: Global,
     sig: &Signature,
     c: PlannedClause,
-    units: &mut Units,
+    kernel: &mut Kernel<'_>,
 ) -> Result<Judgement, ReportStop>
-    requires { IsOpen sig.now }
-    ensures answer { Reports judged_of result units.new.left (spec.equation_judged sig.now (clause_of c.entry) units.old.left) }
-    ensures sum { units.new.left + units.new.spent ≡ units.old.left + units.old.spent }
-    ensures spends { units.new.left ≤ units.old.left }
+    requires kernel { kernel.old.signature ≡ sig.now }
+    requires given { IsOpen sig.now }
+    ensures answer { Reports judged_of result kernel.new.left (spec.equation_judged sig.now (clause_of c.entry) kernel.old.left) }
+    ensures sum { kernel.new.left + kernel.new.spent ≡ kernel.old.left + kernel.old.spent }
+    ensures spends { kernel.new.left ≤ kernel.old.left }
+    ensures kernel { kernel.new.signature ≡ sig.now }
     ensures judged { IfOk result (IsJudged sig.now) }
 {
     let e = equation(alloc, sig, c.plan, c.number, c.clause, c.walk)?;
-    sides_judged(alloc, sig, c, &e, units)
+    sides_judged(alloc, sig, c, &e, kernel)
 }
 
 /// What is known of a clause before anything enters.
@@ -174,16 +183,18 @@ pub(crate) fn judged(
     alloc: Global,
     sig: &Signature,
     c: PlannedClause,
-    units: &mut Units,
+    kernel: &mut Kernel<'_>,
 ) -> Result<Judgement, ReportStop>
-    requires { IsOpen sig.now }
-    ensures answer { Reports judged_of result units.new.left (spec.judged sig.now (clause_of c.entry) units.old.left) }
-    ensures sum { units.new.left + units.new.spent ≡ units.old.left + units.old.spent }
-    ensures spends { units.new.left ≤ units.old.left }
+    requires kernel { kernel.old.signature ≡ sig.now }
+    requires given { IsOpen sig.now }
+    ensures answer { Reports judged_of result kernel.new.left (spec.judged sig.now (clause_of c.entry) kernel.old.left) }
+    ensures sum { kernel.new.left + kernel.new.spent ≡ kernel.old.left + kernel.old.spent }
+    ensures spends { kernel.new.left ≤ kernel.old.left }
+    ensures kernel { kernel.new.signature ≡ sig.now }
     ensures judged { IfOk result (IsJudged sig.now) }
 {
     if some_absurd(pats_at(c.part.pats.as_slice(), c.clause)) {
         return Ok(Judgement::Known(Line::Absurd));
     }
-    equation_judged(alloc, sig, c, units)
+    equation_judged(alloc, sig, c, kernel)
 }

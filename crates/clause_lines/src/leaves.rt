@@ -14,8 +14,9 @@ use crate::clause::PlannedClause;
 use crate::sides::equation_converts;
 use clause_equations::{Equation, Site, equation_at, pats_at, side_or};
 use core_sig::Signature;
-use core_terms::{Items, Stop, Term, Units, number_of};
+use core_terms::{Items, Stop, Term, number_of};
 use draft_entering::ReportStop;
+use kernel_check::Kernel;
 use leaf_terms::{Recursion, in_old_order, mapping, order_of, own_tele, recursion_of};
 use shadow_vectors::TreeLeaf;
 use std::alloc::Global;
@@ -81,15 +82,17 @@ fn converts_there(
     r: Option<&Recursion>,
     order: &[u32],
     leaf: TreeLeaf,
-    units: &mut Units,
+    kernel: &mut Kernel<'_>,
 ) -> Result<bool, ReportStop>
-    requires { IsScopedSignature sig.now }
-    ensures answer { Reports (λ holds. holds) result units.new.left (spec.converts_there sig.now (clause_of c.entry) (option_map recursion_meant (option_copied r.entry)) order.now (leaf_of leaf.entry) units.old.left) }
-    ensures sum { units.new.left + units.new.spent ≡ units.old.left + units.old.spent }
-    ensures spends { units.new.left ≤ units.old.left }
+    requires kernel { kernel.old.signature ≡ sig.now }
+    requires given { IsScopedSignature sig.now }
+    ensures answer { Reports (λ holds. holds) result kernel.new.left (spec.converts_there sig.now (clause_of c.entry) (option_map recursion_meant (option_copied r.entry)) order.now (leaf_of leaf.entry) kernel.old.left) }
+    ensures sum { kernel.new.left + kernel.new.spent ≡ kernel.old.left + kernel.old.spent }
+    ensures spends { kernel.new.left ≤ kernel.old.left }
+    ensures kernel { kernel.new.signature ≡ sig.now }
 {
     let e = equation_there(alloc, sig, c, r, order, leaf)?;
-    equation_converts(alloc, sig, &e, units)
+    equation_converts(sig, &e, kernel)
 }
 
 /// Whether the equation of a clause converts at all of these leaves.
@@ -100,20 +103,22 @@ fn converts_at_all(
     r: Option<&Recursion>,
     order: &[u32],
     leaves: &[TreeLeaf],
-    units: &mut Units,
+    kernel: &mut Kernel<'_>,
 ) -> Result<bool, ReportStop>
-    requires { IsScopedSignature sig.now }
-    ensures answer { Reports (λ holds. holds) result units.new.left (spec.converts_at_all sig.now (clause_of c.entry) (option_map recursion_meant (option_copied r.entry)) order.now (all_leaves_of leaves.now) units.old.left) }
-    ensures sum { units.new.left + units.new.spent ≡ units.old.left + units.old.spent }
-    ensures spends { units.new.left ≤ units.old.left }
+    requires kernel { kernel.old.signature ≡ sig.now }
+    requires given { IsScopedSignature sig.now }
+    ensures answer { Reports (λ holds. holds) result kernel.new.left (spec.converts_at_all sig.now (clause_of c.entry) (option_map recursion_meant (option_copied r.entry)) order.now (all_leaves_of leaves.now) kernel.old.left) }
+    ensures sum { kernel.new.left + kernel.new.spent ≡ kernel.old.left + kernel.old.spent }
+    ensures spends { kernel.new.left ≤ kernel.old.left }
+    ensures kernel { kernel.new.signature ≡ sig.now }
 {
     match leaves {
         [] => Ok(true),
         [leaf, rest @ ..] => {
-            if !converts_there(alloc, sig, c, r, order, *leaf, units)? {
+            if !converts_there(alloc, sig, c, r, order, *leaf, kernel)? {
                 return Ok(false);
             }
-            converts_at_all(alloc, sig, c, r, order, rest, units)
+            converts_at_all(alloc, sig, c, r, order, rest, kernel)
         }
     }
 }
@@ -125,15 +130,17 @@ fn converts_with(
     c: PlannedClause,
     r: Option<&Recursion>,
     leaves: &[TreeLeaf],
-    units: &mut Units,
+    kernel: &mut Kernel<'_>,
 ) -> Result<bool, ReportStop>
-    requires { IsScopedSignature sig.now }
-    ensures answer { Reports (λ holds. holds) result units.new.left (spec.converts_with sig.now (clause_of c.entry) (all_leaves_of leaves.now) (option_map recursion_meant (option_copied r.entry)) units.old.left) }
-    ensures sum { units.new.left + units.new.spent ≡ units.old.left + units.old.spent }
-    ensures spends { units.new.left ≤ units.old.left }
+    requires kernel { kernel.old.signature ≡ sig.now }
+    requires given { IsScopedSignature sig.now }
+    ensures answer { Reports (λ holds. holds) result kernel.new.left (spec.converts_with sig.now (clause_of c.entry) (all_leaves_of leaves.now) (option_map recursion_meant (option_copied r.entry)) kernel.old.left) }
+    ensures sum { kernel.new.left + kernel.new.spent ≡ kernel.old.left + kernel.old.spent }
+    ensures spends { kernel.new.left ≤ kernel.old.left }
+    ensures kernel { kernel.new.signature ≡ sig.now }
 {
     let order = first_order(alloc, c, r)?;
-    converts_at_all(alloc, sig, c, r, order.as_slice(), leaves, units)
+    converts_at_all(alloc, sig, c, r, order.as_slice(), leaves, kernel)
 }
 
 /// Whether the equation of a clause converts at all of these leaves of its part's tree, or Deep where recursion is looked for in a
@@ -143,15 +150,17 @@ pub(crate) fn converts_at_leaves(
     sig: &Signature,
     c: PlannedClause,
     leaves: &[TreeLeaf],
-    units: &mut Units,
+    kernel: &mut Kernel<'_>,
 ) -> Result<bool, ReportStop>
-    requires { IsScopedSignature sig.now }
-    ensures answer { Reports (λ holds. holds) result units.new.left (spec.converts_at_leaves sig.now (clause_of c.entry) (all_leaves_of leaves.now) units.old.left) }
-    ensures sum { units.new.left + units.new.spent ≡ units.old.left + units.old.spent }
-    ensures spends { units.new.left ≤ units.old.left }
+    requires kernel { kernel.old.signature ≡ sig.now }
+    requires given { IsScopedSignature sig.now }
+    ensures answer { Reports (λ holds. holds) result kernel.new.left (spec.converts_at_leaves sig.now (clause_of c.entry) (all_leaves_of leaves.now) kernel.old.left) }
+    ensures sum { kernel.new.left + kernel.new.spent ≡ kernel.old.left + kernel.old.spent }
+    ensures spends { kernel.new.left ≤ kernel.old.left }
+    ensures kernel { kernel.new.signature ≡ sig.now }
 {
     match recursion_of(alloc, sig, c.plan)? {
-        Some(r) => converts_with(alloc, sig, c, Some(&r), leaves, units),
-        None => converts_with(alloc, sig, c, None, leaves, units),
+        Some(r) => converts_with(alloc, sig, c, Some(&r), leaves, kernel),
+        None => converts_with(alloc, sig, c, None, leaves, kernel),
     }
 }

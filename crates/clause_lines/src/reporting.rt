@@ -1,6 +1,6 @@
-ghost use Rattle.std.specs.Prelude.{◌≡◌, ◌≤◌, ◌+◌, OnErr};
+ghost use Rattle.std.specs.Prelude.{◌≡◌, ◌≤◌, ◌+◌, IfOk, OnErr};
 ghost use Rattle.clause_lines.specs.CodeReports as spec;
-ghost use Rattle.clause_lines.specs.LineMeanings.{clause_of, line_of};
+ghost use Rattle.clause_lines.specs.LineMeanings.{IsJudged, clause_of, judged_of, line_of};
 ghost use Rattle.clause_reports.specs.ProofWalks.{leaves_in};
 ghost use Rattle.clause_reports.specs.Reports.{reported};
 ghost use Rattle.core_sig.specs.Drafts.{draft_of};
@@ -20,6 +20,7 @@ use clause_equations::part_or;
 use core_sig::{Draft, Entry, Signature};
 use core_terms::{Units, Walk};
 use draft_entering::{ReportStop, enter_draft};
+use kernel_check::Kernel;
 use leaf_terms::{Plan, no_part};
 use proof_terms::Proof;
 use std::alloc::Global;
@@ -61,7 +62,10 @@ fn denied(
     ensures spends { units.new.left ≤ units.old.left }
 {
     if denies(own_name(draft), &stop) {
-        shadowed(alloc, sig, c, proof, stop, units)
+        let mut kernel = Kernel::new(alloc, sig, *units);
+        let line = shadowed(alloc, sig, c, proof, stop, &mut kernel);
+        *units = kernel.into_units();
+        line
     } else {
         Err(stop)
     }
@@ -92,6 +96,25 @@ fn entered(
     }
 }
 
+/// What is known of a clause before anything enters.
+fn judgement(
+    alloc: Global,
+    sig: &Signature,
+    c: PlannedClause,
+    units: &mut Units,
+) -> Result<Judgement, ReportStop>
+    requires { IsOpen sig.now }
+    ensures answer { Reports judged_of result units.new.left (spec.judged sig.now (clause_of c.entry) units.old.left) }
+    ensures sum { units.new.left + units.new.spent ≡ units.old.left + units.old.spent }
+    ensures spends { units.new.left ≤ units.old.left }
+    ensures judged { IfOk result (IsJudged sig.now) }
+{
+    let mut kernel = Kernel::new(alloc, sig, *units);
+    let judgement = judged(alloc, sig, c, &mut kernel);
+    *units = kernel.into_units();
+    judgement
+}
+
 /// The line of a clause of a plan.
 fn clause_report(
     alloc: Global,
@@ -107,7 +130,7 @@ fn clause_report(
     ensures longer { Extends sig.old sig.new }
     ensures ready { IsOpen sig.new }
 {
-    match judged(alloc, sig, c, units)? {
+    match judgement(alloc, sig, c, units)? {
         Judgement::Known(line) => Ok(line),
         Judgement::Candidate { proof, draft } => entered(alloc, sig, c, &proof, &draft, units),
     }

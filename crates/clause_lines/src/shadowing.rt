@@ -23,9 +23,9 @@ use crate::clause::{PlannedClause, match_at};
 use crate::leaves::converts_at_leaves;
 use clause_equations::pats_at;
 use core_sig::Signature;
-use core_terms::{Items, Stop, Tele, Term, Units, copy_tele};
+use core_terms::{Items, Stop, Tele, Term, copy_tele};
 use draft_entering::ReportStop;
-use kernel_reduce::convertible;
+use kernel_check::Kernel;
 use proof_terms::{Place, Proof};
 use proof_walks::{Leaf, leaves_in};
 use shadow_vectors::{TreeLeaf, leaves_of, vector_of};
@@ -35,36 +35,27 @@ use std::alloc::Global;
 
 /// Whether the sides at a leaf of a proof convert.
 #[tactic(auto, unfolding(crate::specs::CodeReports::place_converts))]
-fn leaf_converts(
-    alloc: Global,
-    sig: &Signature,
-    p: &Place,
-    units: &mut Units,
-) -> Result<bool, ReportStop>
-    requires ready { IsReady sig.now }
-    requires kept { IsKeptPlace sig.now (place_of p.now) }
-    ensures answer { Reports (λ holds. holds) result units.new.left (spec.place_converts sig.now (place_of p.now) units.old.left) }
-    ensures sum { units.new.left + units.new.spent ≡ units.old.left + units.old.spent }
-    ensures spends { units.new.left ≤ units.old.left }
+fn leaf_converts(p: &Place, kernel: &mut Kernel<'_>) -> Result<bool, ReportStop>
+    requires ready { IsReady kernel.old.signature }
+    requires kept { IsKeptPlace kernel.old.signature (place_of p.now) }
+    ensures answer { Reports (λ holds. holds) result kernel.new.left (spec.place_converts kernel.old.signature (place_of p.now) kernel.old.left) }
+    ensures sum { kernel.new.left + kernel.new.spent ≡ kernel.old.left + kernel.old.spent }
+    ensures spends { kernel.new.left ≤ kernel.old.left }
+    ensures kernel { kernel.new.signature ≡ kernel.old.signature }
 {
-    Ok(convertible(alloc, sig, &p.left, &p.right, units)?)
+    Ok(kernel.convertible(&p.left, &p.right)?)
 }
 
 /// Whether the sides at a leaf of a proof do not convert and its clause is an earlier one.
-fn is_earlier(
-    alloc: Global,
-    sig: &Signature,
-    clause: u32,
-    leaf: Leaf,
-    units: &mut Units,
-) -> Result<bool, ReportStop>
-    requires ready { IsReady sig.now }
-    requires kept { IsKeptPlace sig.now (place_of leaf.place.now) }
-    ensures answer { Reports (λ found. found) result units.new.left (spec.is_earlier sig.now clause (leaf_of leaf.entry) units.old.left) }
-    ensures sum { units.new.left + units.new.spent ≡ units.old.left + units.old.spent }
-    ensures spends { units.new.left ≤ units.old.left }
+fn is_earlier(clause: u32, leaf: Leaf, kernel: &mut Kernel<'_>) -> Result<bool, ReportStop>
+    requires ready { IsReady kernel.old.signature }
+    requires kept { IsKeptPlace kernel.old.signature (place_of leaf.place.now) }
+    ensures answer { Reports (λ found. found) result kernel.new.left (spec.is_earlier kernel.old.signature clause (leaf_of leaf.entry) kernel.old.left) }
+    ensures sum { kernel.new.left + kernel.new.spent ≡ kernel.old.left + kernel.old.spent }
+    ensures spends { kernel.new.left ≤ kernel.old.left }
+    ensures kernel { kernel.new.signature ≡ kernel.old.signature }
 {
-    let holds = leaf_converts(alloc, sig, leaf.place, units)?;
+    let holds = leaf_converts(leaf.place, kernel)?;
     Ok(!holds && leaf.clause < clause)
 }
 
@@ -75,17 +66,19 @@ fn vector_at(
     c: PlannedClause,
     earlier: u32,
     p: &Place,
-    units: &mut Units,
+    kernel: &mut Kernel<'_>,
 ) -> Result<Tele, ReportStop>
+    requires kernel { kernel.old.signature ≡ sig.now }
     requires ready { IsReady sig.now }
     requires kept { IsKeptPlace sig.now (place_of p.now) }
-    ensures answer { Reports tele_of result units.new.left (halting (shadows.vector_of sig.now (pats_in (part_of c.entry.part.now) c.entry.clause) (pats_in (part_of c.entry.part.now) earlier) (place_of p.now).terms units.old.left)) }
-    ensures sum { units.new.left + units.new.spent ≡ units.old.left + units.old.spent }
-    ensures spends { units.new.left ≤ units.old.left }
+    ensures answer { Reports tele_of result kernel.new.left (halting (shadows.vector_of sig.now (pats_in (part_of c.entry.part.now) c.entry.clause) (pats_in (part_of c.entry.part.now) earlier) (place_of p.now).terms kernel.old.left)) }
+    ensures sum { kernel.new.left + kernel.new.spent ≡ kernel.old.left + kernel.old.spent }
+    ensures spends { kernel.new.left ≤ kernel.old.left }
+    ensures kernel { kernel.new.signature ≡ sig.now }
 {
     let own = pats_at(c.part.pats.as_slice(), c.clause);
     let other = pats_at(c.part.pats.as_slice(), earlier);
-    Ok(vector_of(alloc, sig, own, other, p.terms.as_slice(), units)?)
+    Ok(vector_of(alloc, sig, own, other, p.terms.as_slice(), kernel)?)
 }
 
 /// Whether the clause and an earlier one match a vector.
@@ -172,14 +165,16 @@ fn at_matched(
     ctx: &[Term],
     vector: Tele,
     leaves: &[TreeLeaf],
-    units: &mut Units,
+    kernel: &mut Kernel<'_>,
 ) -> Result<Line, ReportStop>
-    requires { IsReady sig.now }
-    ensures answer { Reports (λ line. reported sig.now (line_of line)) result units.new.left (spec.at_matched sig.now (clause_of c.entry) (stop_of stop) earlier (tele_of ctx.now) (tele_of vector) (all_leaves_of leaves.now) units.old.left) }
-    ensures sum { units.new.left + units.new.spent ≡ units.old.left + units.old.spent }
-    ensures spends { units.new.left ≤ units.old.left }
+    requires kernel { kernel.old.signature ≡ sig.now }
+    requires given { IsReady sig.now }
+    ensures answer { Reports (λ line. reported sig.now (line_of line)) result kernel.new.left (spec.at_matched sig.now (clause_of c.entry) (stop_of stop) earlier (tele_of ctx.now) (tele_of vector) (all_leaves_of leaves.now) kernel.old.left) }
+    ensures sum { kernel.new.left + kernel.new.spent ≡ kernel.old.left + kernel.old.spent }
+    ensures spends { kernel.new.left ≤ kernel.old.left }
+    ensures kernel { kernel.new.signature ≡ sig.now }
 {
-    let holds = converts_at_leaves(alloc, sig, c, leaves, units)?;
+    let holds = converts_at_leaves(alloc, sig, c, leaves, kernel)?;
     if_shadowed(alloc, stop, earlier, ctx, vector, leaves, holds)
 }
 
@@ -192,12 +187,14 @@ fn at_leaves(
     earlier: u32,
     ctx: &[Term],
     vector: Tele,
-    units: &mut Units,
+    kernel: &mut Kernel<'_>,
 ) -> Result<Line, ReportStop>
-    requires { IsReady sig.now }
-    ensures answer { Reports (λ line. reported sig.now (line_of line)) result units.new.left (spec.at_matched sig.now (clause_of c.entry) (stop_of stop) earlier (tele_of ctx.now) (tele_of vector) (shadows.leaves_of c.entry.clause (part_of c.entry.part.now).tree) units.old.left) }
-    ensures sum { units.new.left + units.new.spent ≡ units.old.left + units.old.spent }
-    ensures spends { units.new.left ≤ units.old.left }
+    requires kernel { kernel.old.signature ≡ sig.now }
+    requires given { IsReady sig.now }
+    ensures answer { Reports (λ line. reported sig.now (line_of line)) result kernel.new.left (spec.at_matched sig.now (clause_of c.entry) (stop_of stop) earlier (tele_of ctx.now) (tele_of vector) (shadows.leaves_of c.entry.clause (part_of c.entry.part.now).tree) kernel.old.left) }
+    ensures sum { kernel.new.left + kernel.new.spent ≡ kernel.old.left + kernel.old.spent }
+    ensures spends { kernel.new.left ≤ kernel.old.left }
+    ensures kernel { kernel.new.signature ≡ sig.now }
 {
     let leaves = leaves_of(alloc, c.clause, &c.part.tree)?;
     at_matched(
@@ -209,7 +206,7 @@ fn at_leaves(
         ctx,
         vector,
         leaves.as_slice(),
-        units,
+        kernel,
     )
 }
 
@@ -222,15 +219,17 @@ fn at_vector(
     earlier: u32,
     ctx: &[Term],
     vector: Tele,
-    units: &mut Units,
+    kernel: &mut Kernel<'_>,
 ) -> Result<Line, ReportStop>
-    requires { IsReady sig.now }
-    ensures answer { Reports (λ line. reported sig.now (line_of line)) result units.new.left (spec.at_vector_made sig.now (clause_of c.entry) (stop_of stop) earlier (tele_of ctx.now) (tele_of vector) units.old.left) }
-    ensures sum { units.new.left + units.new.spent ≡ units.old.left + units.old.spent }
-    ensures spends { units.new.left ≤ units.old.left }
+    requires kernel { kernel.old.signature ≡ sig.now }
+    requires given { IsReady sig.now }
+    ensures answer { Reports (λ line. reported sig.now (line_of line)) result kernel.new.left (spec.at_vector_made sig.now (clause_of c.entry) (stop_of stop) earlier (tele_of ctx.now) (tele_of vector) kernel.old.left) }
+    ensures sum { kernel.new.left + kernel.new.spent ≡ kernel.old.left + kernel.old.spent }
+    ensures spends { kernel.new.left ≤ kernel.old.left }
+    ensures kernel { kernel.new.signature ≡ sig.now }
 {
     if both_match(sig, c, earlier, &vector) {
-        at_leaves(alloc, sig, c, stop, earlier, ctx, vector, units)
+        at_leaves(alloc, sig, c, stop, earlier, ctx, vector, kernel)
     } else {
         Err(stop)
     }
@@ -244,15 +243,17 @@ fn at_place(
     stop: ReportStop,
     earlier: u32,
     p: &Place,
-    units: &mut Units,
+    kernel: &mut Kernel<'_>,
 ) -> Result<Line, ReportStop>
+    requires kernel { kernel.old.signature ≡ sig.now }
     requires ready { IsReady sig.now }
     requires kept { IsKeptPlace sig.now (place_of p.now) }
-    ensures answer { Reports (λ line. reported sig.now (line_of line)) result units.new.left (spec.at_place sig.now (clause_of c.entry) (stop_of stop) earlier (place_of p.now) units.old.left) }
-    ensures sum { units.new.left + units.new.spent ≡ units.old.left + units.old.spent }
-    ensures spends { units.new.left ≤ units.old.left }
+    ensures answer { Reports (λ line. reported sig.now (line_of line)) result kernel.new.left (spec.at_place sig.now (clause_of c.entry) (stop_of stop) earlier (place_of p.now) kernel.old.left) }
+    ensures sum { kernel.new.left + kernel.new.spent ≡ kernel.old.left + kernel.old.spent }
+    ensures spends { kernel.new.left ≤ kernel.old.left }
+    ensures kernel { kernel.new.signature ≡ sig.now }
 {
-    let vector = vector_at(alloc, sig, c, earlier, p, units)?;
+    let vector = vector_at(alloc, sig, c, earlier, p, kernel)?;
     at_vector(
         alloc,
         sig,
@@ -261,7 +262,7 @@ fn at_place(
         earlier,
         p.ctx.as_slice(),
         vector,
-        units,
+        kernel,
     )
 }
 
@@ -272,21 +273,23 @@ fn shadowed_among(
     c: PlannedClause,
     stop: ReportStop,
     leaves: &[Leaf],
-    units: &mut Units,
+    kernel: &mut Kernel<'_>,
 ) -> Result<Line, ReportStop>
+    requires kernel { kernel.old.signature ≡ sig.now }
     requires ready { IsReady sig.now }
     requires kept { AreKeptLeaves sig.now (proof_leaves leaves.now) }
-    ensures answer { Reports (λ line. reported sig.now (line_of line)) result units.new.left (spec.shadowed_among sig.now (clause_of c.entry) (stop_of stop) (proof_leaves leaves.now) units.old.left) }
-    ensures sum { units.new.left + units.new.spent ≡ units.old.left + units.old.spent }
-    ensures spends { units.new.left ≤ units.old.left }
+    ensures answer { Reports (λ line. reported sig.now (line_of line)) result kernel.new.left (spec.shadowed_among sig.now (clause_of c.entry) (stop_of stop) (proof_leaves leaves.now) kernel.old.left) }
+    ensures sum { kernel.new.left + kernel.new.spent ≡ kernel.old.left + kernel.old.spent }
+    ensures spends { kernel.new.left ≤ kernel.old.left }
+    ensures kernel { kernel.new.signature ≡ sig.now }
 {
     match leaves {
         [] => Err(stop),
         [leaf, rest @ ..] => {
-            if is_earlier(alloc, sig, c.clause, *leaf, units)? {
-                return at_place(alloc, sig, c, stop, leaf.clause, leaf.place, units);
+            if is_earlier(c.clause, *leaf, kernel)? {
+                return at_place(alloc, sig, c, stop, leaf.clause, leaf.place, kernel);
             }
-            shadowed_among(alloc, sig, c, stop, rest, units)
+            shadowed_among(alloc, sig, c, stop, rest, kernel)
         }
     }
 }
@@ -298,14 +301,16 @@ pub(crate) fn shadowed(
     c: PlannedClause,
     proof: &Proof,
     stop: ReportStop,
-    units: &mut Units,
+    kernel: &mut Kernel<'_>,
 ) -> Result<Line, ReportStop>
+    requires kernel { kernel.old.signature ≡ sig.now }
     requires ready { IsReady sig.now }
     requires kept { AreKeptLeaves sig.now (leaves_meant (proof_of proof.now)) }
-    ensures answer { Reports (λ line. reported sig.now (line_of line)) result units.new.left (spec.shadowed_made sig.now (clause_of c.entry) (proof_of proof.now) (stop_of stop) units.old.left) }
-    ensures sum { units.new.left + units.new.spent ≡ units.old.left + units.old.spent }
-    ensures spends { units.new.left ≤ units.old.left }
+    ensures answer { Reports (λ line. reported sig.now (line_of line)) result kernel.new.left (spec.shadowed_made sig.now (clause_of c.entry) (proof_of proof.now) (stop_of stop) kernel.old.left) }
+    ensures sum { kernel.new.left + kernel.new.spent ≡ kernel.old.left + kernel.old.spent }
+    ensures spends { kernel.new.left ≤ kernel.old.left }
+    ensures kernel { kernel.new.signature ≡ sig.now }
 {
     let leaves = leaves_in(alloc, proof)?;
-    shadowed_among(alloc, sig, c, stop, leaves.as_slice(), units)
+    shadowed_among(alloc, sig, c, stop, leaves.as_slice(), kernel)
 }

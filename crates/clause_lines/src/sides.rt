@@ -11,10 +11,9 @@ ghost use Rattle.unifier.specs.Conditions.{most_levels};
 
 use clause_equations::Equation;
 use core_sig::{Signature, is_scoped};
-use core_terms::{Stop, Term, Units};
+use core_terms::{Stop, Term};
 use draft_entering::ReportStop;
-use kernel_reduce::convertible;
-use std::alloc::Global;
+use kernel_check::Kernel;
 
 /// How many variables a context may have; with more, memory is short.
 const MOST_LEVELS: usize = 2147400000;
@@ -46,21 +45,22 @@ fn can_be_compared(sig: &Signature, n: u32, u: &Term, v: &Term) -> bool
 
 /// Whether two terms over `n` variables convert, or Deep where they can't be compared.
 fn sides_compared(
-    alloc: Global,
     sig: &Signature,
     n: u32,
     u: &Term,
     v: &Term,
-    units: &mut Units,
+    kernel: &mut Kernel<'_>,
 ) -> Result<bool, ReportStop>
+    requires kernel { kernel.old.signature ≡ sig.now }
     requires signature { IsScopedSignature sig.now }
     requires few { n ≤ most_levels }
-    ensures answer { Reports (λ holds. holds) result units.new.left (spec.sides_compared sig.now n (tree_of u.now) (tree_of v.now) units.old.left) }
-    ensures sum { units.new.left + units.new.spent ≡ units.old.left + units.old.spent }
-    ensures spends { units.new.left ≤ units.old.left }
+    ensures answer { Reports (λ holds. holds) result kernel.new.left (spec.sides_compared sig.now n (tree_of u.now) (tree_of v.now) kernel.old.left) }
+    ensures sum { kernel.new.left + kernel.new.spent ≡ kernel.old.left + kernel.old.spent }
+    ensures spends { kernel.new.left ≤ kernel.old.left }
+    ensures kernel { kernel.new.signature ≡ sig.now }
 {
     if can_be_compared(sig, n, u, v) {
-        Ok(convertible(alloc, sig, u, v, units)?)
+        Ok(kernel.convertible(u, v)?)
     } else {
         Err(ReportStop::Stop(Stop::Deep))
     }
@@ -68,16 +68,17 @@ fn sides_compared(
 
 /// Whether the sides of an equation convert, or Deep where one of them is not over the equation's context or names what is no entry.
 pub(crate) fn equation_converts(
-    alloc: Global,
     sig: &Signature,
     e: &Equation,
-    units: &mut Units,
+    kernel: &mut Kernel<'_>,
 ) -> Result<bool, ReportStop>
-    requires { IsScopedSignature sig.now }
-    ensures answer { Reports (λ holds. holds) result units.new.left (spec.equation_converts sig.now (equation_of e.now) units.old.left) }
-    ensures sum { units.new.left + units.new.spent ≡ units.old.left + units.old.spent }
-    ensures spends { units.new.left ≤ units.old.left }
+    requires kernel { kernel.old.signature ≡ sig.now }
+    requires given { IsScopedSignature sig.now }
+    ensures answer { Reports (λ holds. holds) result kernel.new.left (spec.equation_converts sig.now (equation_of e.now) kernel.old.left) }
+    ensures sum { kernel.new.left + kernel.new.spent ≡ kernel.old.left + kernel.old.spent }
+    ensures spends { kernel.new.left ≤ kernel.old.left }
+    ensures kernel { kernel.new.signature ≡ sig.now }
 {
     let n = variables_of(e.ctx.as_slice())?;
-    sides_compared(alloc, sig, n, &e.left, &e.right, units)
+    sides_compared(sig, n, &e.left, &e.right, kernel)
 }

@@ -9,4 +9,4 @@ mod nodes;
 mod origins;
 mod trees;
 
-pub use trees::split;
+pub use trees::{split, split_with};

@@ -21,7 +21,8 @@ use clause_walks::{
     some_clashes, sum, waiting, work_pairs,
 };
 use core_sig::Signature;
-use core_terms::{Clause, Items, Stop, Term, Units, copy_tele};
+use core_terms::{Clause, Items, Stop, Term, copy_tele};
+use kernel_check::Kernel;
 use std::alloc::Global;
 
 /// A clause that is left, with its number in the list and its pairs.
@@ -97,14 +98,16 @@ pub(crate) fn worked<'a>(
     p: Point,
     live: &[Live<'a>],
     made: Items<Live<'a>>,
-    units: &mut Units,
+    kernel: &mut Kernel<'_>,
 ) -> Result<Node<'a>, TreeStop>
+    requires kernel { kernel.old.signature ≡ sig.now }
     requires ready { IsReady sig.now }
     requires live { IsNodeAt sig.now (node_at (point_of p) (all_live_of live.now)) }
     requires made { IsNodeAt sig.now (node_at (point_of p) (all_live_of made)) }
-    ensures answer { Yields node_of result units.new.left (worked_behind sig.now (all_live_of made.entry) (point_of p) (all_live_of live.now) units.old.left) }
-    ensures sum { units.new.left + units.new.spent ≡ units.old.left + units.old.spent }
-    ensures spends { units.new.left ≤ units.old.left }
+    ensures answer { Yields node_of result kernel.new.left (worked_behind sig.now (all_live_of made.entry) (point_of p) (all_live_of live.now) kernel.old.left) }
+    ensures sum { kernel.new.left + kernel.new.spent ≡ kernel.old.left + kernel.old.spent }
+    ensures spends { kernel.new.left ≤ kernel.old.left }
+    ensures kernel { kernel.new.signature ≡ sig.now }
     ensures kept { IfOk result (λ n. IsNodeAt sig.now (node_of n)) }
 {
     match live {
@@ -113,10 +116,10 @@ pub(crate) fn worked<'a>(
             live: made,
         }),
         [c, rest @ ..] => {
-            let pairs = work_pairs(alloc, sig, c.pairs.as_slice(), units)?;
+            let pairs = work_pairs(alloc, sig, c.pairs.as_slice(), kernel)?;
             let p = point_keeping(alloc, sig, p, pairs.as_slice())?;
             let made = with_kept(c.number, pairs, made)?;
-            worked(alloc, sig, p, rest, made, units)
+            worked(alloc, sig, p, rest, made, kernel)
         }
     }
 }

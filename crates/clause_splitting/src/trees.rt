@@ -26,6 +26,7 @@ use crate::nodes::{Node, all_live, next_node, patterns_left, worked};
 use clause_walks::{Point, Ran, Reached, TreeStop, all_open, bound_terms, first_found, start_at};
 use core_sig::Signature;
 use core_terms::{Branch, Clause, Items, Step, Stop, Tele, Term, Tree, Units, copy_tele};
+use kernel_check::Kernel;
 use std::alloc::Global;
 use unifier::Outcome;
 
@@ -37,13 +38,15 @@ fn reached_at(
     alloc: Global,
     sig: &Signature,
     node: &Node,
-    units: &mut Units,
+    kernel: &mut Kernel<'_>,
 ) -> Result<Option<Reached>, TreeStop>
+    requires kernel { kernel.old.signature ≡ sig.now }
     requires ready { IsReady sig.now }
     requires node { IsNodeAt sig.now (node_of node.now) }
-    ensures answer { Yields (option_map reached_of) result units.new.left (grown.reached_at sig.now (point_of node.now.point) (all_live_of node.now.live) units.old.left) }
-    ensures sum { units.new.left + units.new.spent ≡ units.old.left + units.old.spent }
-    ensures spends { units.new.left ≤ units.old.left }
+    ensures answer { Yields (option_map reached_of) result kernel.new.left (grown.reached_at sig.now (point_of node.now.point) (all_live_of node.now.live) kernel.old.left) }
+    ensures sum { kernel.new.left + kernel.new.spent ≡ kernel.old.left + kernel.old.spent }
+    ensures spends { kernel.new.left ≤ kernel.old.left }
+    ensures kernel { kernel.new.signature ≡ sig.now }
     ensures reached { IfOk result (λ found. IfSome found (λ r. IsReached sig.now (length node.now.point.context) (reached_of r))) }
 {
     let [c, ..] = node.live.as_slice() else {
@@ -54,7 +57,7 @@ fn reached_at(
         return Ok(None);
     }
     let ctx = node.point.context.as_slice();
-    let reached = first_found(alloc, sig, false, c.number, ctx, open.as_slice(), units)?;
+    let reached = first_found(alloc, sig, false, c.number, ctx, open.as_slice(), kernel)?;
     Ok(Some(reached))
 }
 
@@ -98,18 +101,20 @@ fn worked_node<'a>(
     alloc: Global,
     sig: &Signature,
     node: Node<'a>,
-    units: &mut Units,
+    kernel: &mut Kernel<'_>,
 ) -> Result<Node<'a>, TreeStop>
+    requires kernel { kernel.old.signature ≡ sig.now }
     requires ready { IsReady sig.now }
     requires node { IsNodeAt sig.now (node_of node) }
-    ensures answer { Yields node_of result units.new.left (spec.worked sig.now (point_of node.entry.point) (all_live_of node.entry.live) units.old.left) }
-    ensures sum { units.new.left + units.new.spent ≡ units.old.left + units.old.spent }
-    ensures spends { units.new.left ≤ units.old.left }
+    ensures answer { Yields node_of result kernel.new.left (spec.worked sig.now (point_of node.entry.point) (all_live_of node.entry.live) kernel.old.left) }
+    ensures sum { kernel.new.left + kernel.new.spent ≡ kernel.old.left + kernel.old.spent }
+    ensures spends { kernel.new.left ≤ kernel.old.left }
+    ensures kernel { kernel.new.signature ≡ sig.now }
     ensures kept { IfOk result (λ n. IsNodeAt sig.now (node_of n)) }
 {
     let Node { point, live } = node;
     let made = Items::new(alloc);
-    worked(alloc, sig, point, live.as_slice(), made, units)
+    worked(alloc, sig, point, live.as_slice(), made, kernel)
 }
 
 /// The tree from a node on, with at most so many constructor and absurd patterns left.
@@ -119,17 +124,19 @@ fn grow(
     sig: &Signature,
     patterns: u64,
     node: Node,
-    units: &mut Units,
+    kernel: &mut Kernel<'_>,
 ) -> Result<Tree, TreeStop>
+    requires kernel { kernel.old.signature ≡ sig.now }
     requires ready { IsReady sig.now }
     requires node { IsNodeAt sig.now (node_of node) }
-    ensures answer { Yields case_tree_of result units.new.left (spec.by_patterns sig.now patterns (point_of node.entry.point) (all_live_of node.entry.live) units.old.left) }
-    ensures sum { units.new.left + units.new.spent ≡ units.old.left + units.old.spent }
-    ensures spends { units.new.left ≤ units.old.left }
+    ensures answer { Yields case_tree_of result kernel.new.left (spec.by_patterns sig.now patterns (point_of node.entry.point) (all_live_of node.entry.live) kernel.old.left) }
+    ensures sum { kernel.new.left + kernel.new.spent ≡ kernel.old.left + kernel.old.spent }
+    ensures spends { kernel.new.left ≤ kernel.old.left }
+    ensures kernel { kernel.new.signature ≡ sig.now }
 {
-    let node = worked_node(alloc, sig, node, units)?;
-    match reached_at(alloc, sig, &node, units)? {
-        Some(reached) => split_at(alloc, sig, patterns, node, reached, units),
+    let node = worked_node(alloc, sig, node, kernel)?;
+    match reached_at(alloc, sig, &node, kernel)? {
+        Some(reached) => split_at(alloc, sig, patterns, node, reached, kernel),
         None => leaf_at(alloc, node),
     }
 }
@@ -142,18 +149,20 @@ fn split_at(
     patterns: u64,
     node: Node,
     reached: Reached,
-    units: &mut Units,
+    kernel: &mut Kernel<'_>,
 ) -> Result<Tree, TreeStop>
+    requires kernel { kernel.old.signature ≡ sig.now }
     requires ready { IsReady sig.now }
     requires node { IsNodeAt sig.now (node_of node) }
     requires reached { IsReached sig.now (length node.point.context) (reached_of reached) }
-    ensures answer { Yields case_tree_of result units.new.left (grown.split_from (forgetting_live (grows_on sig.now patterns)) (point_of node.entry.point) (all_live_of node.entry.live) (reached_of reached) units.old.left) }
-    ensures sum { units.new.left + units.new.spent ≡ units.old.left + units.old.spent }
-    ensures spends { units.new.left ≤ units.old.left }
+    ensures answer { Yields case_tree_of result kernel.new.left (grown.split_from (forgetting_live (grows_on sig.now patterns)) (point_of node.entry.point) (all_live_of node.entry.live) (reached_of reached) kernel.old.left) }
+    ensures sum { kernel.new.left + kernel.new.spent ≡ kernel.old.left + kernel.old.spent }
+    ensures spends { kernel.new.left ≤ kernel.old.left }
+    ensures kernel { kernel.new.signature ≡ sig.now }
 {
     let runs = reached.runs.as_slice();
     let made = Items::new(alloc);
-    let branches = grow_branches(alloc, sig, patterns, &node, runs, made, units)?;
+    let branches = grow_branches(alloc, sig, patterns, &node, runs, made, kernel)?;
     Ok(split_over(node, reached, branches))
 }
 
@@ -187,20 +196,22 @@ fn grow_branches(
     node: &Node,
     runs: &[Ran],
     mut made: Items<Branch>,
-    units: &mut Units,
+    kernel: &mut Kernel<'_>,
 ) -> Result<Items<Branch>, TreeStop>
+    requires kernel { kernel.old.signature ≡ sig.now }
     requires ready { IsReady sig.now }
     requires node { IsNodeAt sig.now (node_of node.now) }
     requires runs { AreRunEnds sig.now (length node.now.point.context) (ends_of runs.now) }
-    ensures answer { Yields branches_of result units.new.left (grown.branches_behind (map branch_of made) (grown.branches_from (forgetting_live (grows_on sig.now patterns)) (point_of node.now.point) (all_live_of node.now.live) (ends_of runs.now) units.old.left)) }
-    ensures sum { units.new.left + units.new.spent ≡ units.old.left + units.old.spent }
-    ensures spends { units.new.left ≤ units.old.left }
+    ensures answer { Yields branches_of result kernel.new.left (grown.branches_behind (map branch_of made) (grown.branches_from (forgetting_live (grows_on sig.now patterns)) (point_of node.now.point) (all_live_of node.now.live) (ends_of runs.now) kernel.old.left)) }
+    ensures sum { kernel.new.left + kernel.new.spent ≡ kernel.old.left + kernel.old.spent }
+    ensures spends { kernel.new.left ≤ kernel.old.left }
+    ensures kernel { kernel.new.signature ≡ sig.now }
 {
     match runs {
         [] => Ok(made),
         [run, rest @ ..] => {
-            made.push(grow_branch(alloc, sig, patterns, node, run, units)?)?;
-            grow_branches(alloc, sig, patterns, node, rest, made, units)
+            made.push(grow_branch(alloc, sig, patterns, node, run, kernel)?)?;
+            grow_branches(alloc, sig, patterns, node, rest, made, kernel)
         }
     }
 }
@@ -213,14 +224,16 @@ fn grow_branch(
     patterns: u64,
     node: &Node,
     run: &Ran,
-    units: &mut Units,
+    kernel: &mut Kernel<'_>,
 ) -> Result<Branch, TreeStop>
+    requires kernel { kernel.old.signature ≡ sig.now }
     requires ready { IsReady sig.now }
     requires node { IsNodeAt sig.now (node_of node.now) }
     requires run { IsRunEnd sig.now (length node.now.point.context) (ran_of run.now) }
-    ensures answer { Yields branch_of result units.new.left (grown.branch_from (forgetting_live (grows_on sig.now patterns)) (point_of node.now.point) (all_live_of node.now.live) (ran_of run.now) (ran_of run.now).outcome units.old.left) }
-    ensures sum { units.new.left + units.new.spent ≡ units.old.left + units.old.spent }
-    ensures spends { units.new.left ≤ units.old.left }
+    ensures answer { Yields branch_of result kernel.new.left (grown.branch_from (forgetting_live (grows_on sig.now patterns)) (point_of node.now.point) (all_live_of node.now.live) (ran_of run.now) (ran_of run.now).outcome kernel.old.left) }
+    ensures sum { kernel.new.left + kernel.new.spent ≡ kernel.old.left + kernel.old.spent }
+    ensures spends { kernel.new.left ≤ kernel.old.left }
+    ensures kernel { kernel.new.signature ≡ sig.now }
 {
     match &run.outcome {
         Outcome::Absurd {
@@ -234,7 +247,7 @@ fn grow_branch(
             if patterns == 0 {
                 return Err(TreeStop::Stop(Stop::Deep));
             }
-            let tree = grow(alloc, sig, patterns - 1, next, units)?;
+            let tree = grow(alloc, sig, patterns - 1, next, kernel)?;
             Ok(branch_over(alloc, node, run, steps.as_slice(), tree)?)
         }
         Outcome::Stuck { .. } => Err(TreeStop::Stop(Stop::Deep)),
@@ -284,6 +297,33 @@ pub fn split(
     ensures scoped { IfOk result (λ t. IsScopedTree sig.now (case_tree_of t)) }
     ensures scoped_stop { IfErr result (λ e. IsScopedStop sig.now (stop_of e)) }
 {
+    let mut kernel = Kernel::new(alloc, sig, *units);
+    let made = split_with(alloc, sig, ctx, goal, terms, clauses, &mut kernel);
+    *units = kernel.into_units();
+    made
+}
+
+/// `split` over a kernel with this signature, with its units.
+pub fn split_with(
+    alloc: Global,
+    sig: &Signature,
+    ctx: &Tele,
+    goal: &Term,
+    terms: &Tele,
+    clauses: &Items<Clause>,
+    kernel: &mut Kernel<'_>,
+) -> Result<Tree, TreeStop>
+    requires kernel { kernel.old.signature ≡ sig.now }
+    requires given { IsGiven sig.now (tele_of ctx.now) (tree_of goal.now) (tele_of terms.now) }
+    requires clauses { AreClausesFor sig.now (tele_of terms.now) (clauses_of clauses.now) }
+    requires few { length ctx.now ≤ most_levels }
+    ensures answer { Yields case_tree_of result kernel.new.left (spec.split_of sig.now (tele_of ctx.now) (tree_of goal.now) (tele_of terms.now) (clauses_of clauses.now) kernel.old.left) }
+    ensures sum { kernel.new.left + kernel.new.spent ≡ kernel.old.left + kernel.old.spent }
+    ensures spends { kernel.new.left ≤ kernel.old.left }
+    ensures kernel { kernel.new.signature ≡ sig.now }
+    ensures scoped { IfOk result (λ t. IsScopedTree sig.now (case_tree_of t)) }
+    ensures scoped_stop { IfErr result (λ e. IsScopedStop sig.now (stop_of e)) }
+{
     grow_all(
         alloc,
         sig,
@@ -291,7 +331,7 @@ pub fn split(
         goal,
         terms.as_slice(),
         clauses.as_slice(),
-        units,
+        kernel,
     )
 }
 
@@ -303,17 +343,19 @@ fn grow_all(
     goal: &Term,
     terms: &[Term],
     clauses: &[Clause],
-    units: &mut Units,
+    kernel: &mut Kernel<'_>,
 ) -> Result<Tree, TreeStop>
+    requires kernel { kernel.old.signature ≡ sig.now }
     requires given { IsGiven sig.now (tele_of ctx.now) (tree_of goal.now) (tele_of terms.now) }
     requires clauses { AreClausesFor sig.now (tele_of terms.now) (clauses_of clauses.now) }
     requires few { length ctx.now ≤ most_levels }
-    ensures answer { Yields case_tree_of result units.new.left (spec.split_of sig.now (tele_of ctx.now) (tree_of goal.now) (tele_of terms.now) (clauses_of clauses.now) units.old.left) }
-    ensures sum { units.new.left + units.new.spent ≡ units.old.left + units.old.spent }
-    ensures spends { units.new.left ≤ units.old.left }
+    ensures answer { Yields case_tree_of result kernel.new.left (spec.split_of sig.now (tele_of ctx.now) (tree_of goal.now) (tele_of terms.now) (clauses_of clauses.now) kernel.old.left) }
+    ensures sum { kernel.new.left + kernel.new.spent ≡ kernel.old.left + kernel.old.spent }
+    ensures spends { kernel.new.left ≤ kernel.old.left }
+    ensures kernel { kernel.new.signature ≡ sig.now }
 {
     let point = start_at(alloc, ctx, goal, terms)?;
     let live = all_live(alloc, 0, terms, clauses, Items::new(alloc))?;
     let patterns = patterns_left(live.as_slice())?;
-    grow(alloc, sig, patterns, Node { point, live }, units)
+    grow(alloc, sig, patterns, Node { point, live }, kernel)
 }

@@ -16,7 +16,7 @@ use crate::parts::term_in;
 use crate::points::bounded_point;
 use crate::{Pair, Point};
 use core_sig::Signature;
-use core_terms::{Items, Stop, Tele, Term, applied, copy_tele, copy_whole};
+use core_terms::{Items, Stop, Tele, Term, applied, copy_whole};
 use std::alloc::Global;
 use unifier::{Built, built_of, split_spine};
 

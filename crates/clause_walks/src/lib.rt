@@ -30,5 +30,5 @@ pub use problems::{Member, member_of, problem_of, type_of_variable};
 pub use reaching::Reached;
 pub use running::{Ran, Runs, StuckRun, run_from};
 pub use stops::TreeStop;
-pub use walking::own_walk;
+pub use walking::{own_walk, own_walk_with};
 pub use working::work_pairs;

@@ -20,8 +20,8 @@ use crate::reaching::{Reach, Reached, reach_at};
 use crate::running::StuckRun;
 use crate::stops::TreeStop;
 use core_sig::Signature;
-use core_terms::{Pat, Stop, Term, Units, copy_pat, copy_tele};
-use kernel_reduce::tidy;
+use core_terms::{Pat, Stop, Term, copy_pat, copy_tele};
+use kernel_check::Kernel;
 use std::alloc::Global;
 use unifier::variable_in;
 
@@ -100,19 +100,21 @@ fn arrive_at(
     ctx: &[Term],
     pat: &Pat,
     term: Term,
-    units: &mut Units,
+    kernel: &mut Kernel<'_>,
 ) -> Result<Arrival, TreeStop>
+    requires kernel { kernel.old.signature ≡ sig.now }
     requires ready { IsReady sig.now }
     requires context { IsContext sig.now (tele_of ctx.now) }
     requires term { IsScoped sig.now (length ctx.now) (tree_of term) }
-    ensures answer { Yields arrival_of result units.new.left (spec.arrive_at sig.now own clause (tele_of ctx.now) (pat_of pat.now) (tree_of term) (variable_meant (tree_of term)) units.old.left) }
-    ensures sum { units.new.left + units.new.spent ≡ units.old.left + units.old.spent }
-    ensures spends { units.new.left ≤ units.old.left }
+    ensures answer { Yields arrival_of result kernel.new.left (spec.arrive_at sig.now own clause (tele_of ctx.now) (pat_of pat.now) (tree_of term) (variable_meant (tree_of term)) kernel.old.left) }
+    ensures sum { kernel.new.left + kernel.new.spent ≡ kernel.old.left + kernel.old.spent }
+    ensures spends { kernel.new.left ≤ kernel.old.left }
+    ensures kernel { kernel.new.signature ≡ sig.now }
 {
     match variable_in(&term) {
         None => Ok(forced(alloc, clause, ctx, pat, term)?),
         Some(x) => {
-            let look = reach_at(alloc, sig, own, clause, ctx, pat, x, units)?;
+            let look = reach_at(alloc, sig, own, clause, ctx, pat, x, kernel)?;
             Ok(arrived(clause, look))
         }
     }
@@ -126,17 +128,19 @@ fn arrive(
     clause: u32,
     ctx: &[Term],
     pair: OpenPair,
-    units: &mut Units,
+    kernel: &mut Kernel<'_>,
 ) -> Result<Arrival, TreeStop>
+    requires kernel { kernel.old.signature ≡ sig.now }
     requires ready { IsReady sig.now }
     requires context { IsContext sig.now (tele_of ctx.now) }
     requires term { IsScoped sig.now (length ctx.now) (tree_of pair.term.now) }
-    ensures answer { Yields arrival_of result units.new.left (spec.arrive sig.now own clause (tele_of ctx.now) (pat_of pair.entry.pat.now) (tree_of pair.entry.term.now) units.old.left) }
-    ensures sum { units.new.left + units.new.spent ≡ units.old.left + units.old.spent }
-    ensures spends { units.new.left ≤ units.old.left }
+    ensures answer { Yields arrival_of result kernel.new.left (spec.arrive sig.now own clause (tele_of ctx.now) (pat_of pair.entry.pat.now) (tree_of pair.entry.term.now) kernel.old.left) }
+    ensures sum { kernel.new.left + kernel.new.spent ≡ kernel.old.left + kernel.old.spent }
+    ensures spends { kernel.new.left ≤ kernel.old.left }
+    ensures kernel { kernel.new.signature ≡ sig.now }
 {
-    let term = tidy(alloc, sig, pair.term, units)?;
-    arrive_at(alloc, sig, own, clause, ctx, pair.pat, term, units)
+    let term = kernel.tidy(pair.term)?;
+    arrive_at(alloc, sig, own, clause, ctx, pair.pat, term, kernel)
 }
 
 /// The looking from a pair on, with what the pairs before it left.
@@ -149,27 +153,29 @@ fn look_from(
     pairs: &[OpenPair],
     stuck: Option<TreeStop>,
     forced: Option<TreeStop>,
-    units: &mut Units,
+    kernel: &mut Kernel<'_>,
 ) -> Result<Reached, TreeStop>
+    requires kernel { kernel.old.signature ≡ sig.now }
     requires ready { IsReady sig.now }
     requires context { IsContext sig.now (tele_of ctx.now) }
     requires pairs { AreScopedOpen sig.now (length ctx.now) (all_open_of pairs.now) }
-    ensures answer { Yields reached_of result units.new.left (looking.first_found sig.now clause (tele_of ctx.now) (spec.reach sig.now own clause (tele_of ctx.now)) (all_open_of pairs.now) (option_map stop_of stuck) (option_map stop_of forced) units.old.left) }
-    ensures sum { units.new.left + units.new.spent ≡ units.old.left + units.old.spent }
-    ensures spends { units.new.left ≤ units.old.left }
+    ensures answer { Yields reached_of result kernel.new.left (looking.first_found sig.now clause (tele_of ctx.now) (spec.reach sig.now own clause (tele_of ctx.now)) (all_open_of pairs.now) (option_map stop_of stuck) (option_map stop_of forced) kernel.old.left) }
+    ensures sum { kernel.new.left + kernel.new.spent ≡ kernel.old.left + kernel.old.spent }
+    ensures spends { kernel.new.left ≤ kernel.old.left }
+    ensures kernel { kernel.new.signature ≡ sig.now }
 {
     let [pair, rest @ ..] = pairs else {
         return Err(none_found(stuck, forced));
     };
-    match arrive(alloc, sig, own, clause, ctx, *pair, units)? {
+    match arrive(alloc, sig, own, clause, ctx, *pair, kernel)? {
         Arrival::Found(found) => Ok(found),
         Arrival::Stuck(stop) => {
             let stuck = or_later(stuck, stop);
-            look_from(alloc, sig, own, clause, ctx, rest, stuck, forced, units)
+            look_from(alloc, sig, own, clause, ctx, rest, stuck, forced, kernel)
         }
         Arrival::Forced(stop) => {
             let forced = or_later(forced, stop);
-            look_from(alloc, sig, own, clause, ctx, rest, stuck, forced, units)
+            look_from(alloc, sig, own, clause, ctx, rest, stuck, forced, kernel)
         }
     }
 }
@@ -186,15 +192,17 @@ pub fn first_found(
     clause: u32,
     ctx: &[Term],
     pairs: &[OpenPair],
-    units: &mut Units,
+    kernel: &mut Kernel<'_>,
 ) -> Result<Reached, TreeStop>
+    requires kernel { kernel.old.signature ≡ sig.now }
     requires ready { IsReady sig.now }
     requires context { IsContext sig.now (tele_of ctx.now) }
     requires pairs { AreScopedOpen sig.now (length ctx.now) (all_open_of pairs.now) }
-    ensures answer { Yields reached_of result units.new.left (looking.first_found sig.now clause (tele_of ctx.now) (spec.reach sig.now own clause (tele_of ctx.now)) (all_open_of pairs.now) None None units.old.left) }
-    ensures sum { units.new.left + units.new.spent ≡ units.old.left + units.old.spent }
-    ensures spends { units.new.left ≤ units.old.left }
+    ensures answer { Yields reached_of result kernel.new.left (looking.first_found sig.now clause (tele_of ctx.now) (spec.reach sig.now own clause (tele_of ctx.now)) (all_open_of pairs.now) None None kernel.old.left) }
+    ensures sum { kernel.new.left + kernel.new.spent ≡ kernel.old.left + kernel.old.spent }
+    ensures spends { kernel.new.left ≤ kernel.old.left }
+    ensures kernel { kernel.new.signature ≡ sig.now }
     ensures reached { IfOk result (λ r. IsReached sig.now (length ctx.now) (reached_of r)) }
 {
-    look_from(alloc, sig, own, clause, ctx, pairs, None, None, units)
+    look_from(alloc, sig, own, clause, ctx, pairs, None, None, kernel)
 }

@@ -16,8 +16,8 @@ use crate::problems::{Member, member_of, type_of_variable};
 use crate::running::{Ran, Runs, StuckRun, run_from};
 use crate::stops::TreeStop;
 use core_sig::Signature;
-use core_terms::{Items, Pat, Stop, Term, Units, copy_tele, copy_whole};
-use kernel_reduce::whnf;
+use core_terms::{Items, Pat, Stop, Term, copy_tele, copy_whole};
+use kernel_check::Kernel;
 use std::alloc::Global;
 
 /// The reduced type of a variable, and the family that it is.
@@ -46,23 +46,18 @@ pub(crate) enum Reach {
 }
 
 /// The type of a variable, reduced.
-fn reduced_type(
-    alloc: Global,
-    sig: &Signature,
-    ctx: &[Term],
-    x: u32,
-    units: &mut Units,
-) -> Result<Term, Stop>
-    requires ready { IsReady sig.now }
-    requires context { IsContext sig.now (tele_of ctx.now) }
+fn reduced_type(alloc: Global, ctx: &[Term], x: u32, kernel: &mut Kernel<'_>) -> Result<Term, Stop>
+    requires ready { IsReady kernel.old.signature }
+    requires context { IsContext kernel.old.signature (tele_of ctx.now) }
     requires variable { x < length ctx.now }
-    ensures answer { RunsAs tree_of result units.new.left (whnf_of sig.now true units.old.left (type_meant (tele_of ctx.now) x)) }
-    ensures sum { units.new.left + units.new.spent ≡ units.old.left + units.old.spent }
-    ensures spends { units.new.left ≤ units.old.left }
-    ensures given { IfOk result (λ t. IsGiven sig.now (length ctx.now) (tree_of t)) }
+    ensures answer { RunsAs tree_of result kernel.new.left (whnf_of kernel.old.signature true kernel.old.left (type_meant (tele_of ctx.now) x)) }
+    ensures sum { kernel.new.left + kernel.new.spent ≡ kernel.old.left + kernel.old.spent }
+    ensures spends { kernel.new.left ≤ kernel.old.left }
+    ensures kernel { kernel.new.signature ≡ kernel.old.signature }
+    ensures given { IfOk result (λ t. IsGiven kernel.old.signature (length ctx.now) (tree_of t)) }
 {
     let ty = type_of_variable(alloc, ctx, x)?;
-    whnf(alloc, sig, &ty, true, units)
+    kernel.whnf(&ty)
 }
 
 /// Whether the pattern may be there, where a variable has a type of the family.
@@ -140,17 +135,19 @@ pub(crate) fn look_at_type<'a>(
     ctx: &[Term],
     pat: &Pat,
     x: u32,
-    units: &mut Units,
+    kernel: &mut Kernel<'_>,
 ) -> Result<Looked<'a>, TreeStop>
+    requires kernel { kernel.old.signature ≡ sig.now }
     requires ready { IsReady sig.now }
     requires context { IsContext sig.now (tele_of ctx.now) }
     requires variable { x < length ctx.now }
-    ensures answer { Yields looked_of result units.new.left (looking.look_at_type sig.now clause (tele_of ctx.now) (pat_of pat.now) x units.old.left) }
-    ensures sum { units.new.left + units.new.spent ≡ units.old.left + units.old.spent }
-    ensures spends { units.new.left ≤ units.old.left }
+    ensures answer { Yields looked_of result kernel.new.left (looking.look_at_type sig.now clause (tele_of ctx.now) (pat_of pat.now) x kernel.old.left) }
+    ensures sum { kernel.new.left + kernel.new.spent ≡ kernel.old.left + kernel.old.spent }
+    ensures spends { kernel.new.left ≤ kernel.old.left }
+    ensures kernel { kernel.new.signature ≡ sig.now }
     ensures member { IfOk result (λ l. IsMember sig.now (length ctx.now) l.member) }
 {
-    let ty = reduced_type(alloc, sig, ctx, x, units)?;
+    let ty = reduced_type(alloc, ctx, x, kernel)?;
     looked_at(alloc, sig, clause, ctx, pat, ty)
 }
 
@@ -163,15 +160,17 @@ fn run_wanted(
     x: u32,
     found: &Looked,
     number: u32,
-    units: &mut Units,
+    kernel: &mut Kernel<'_>,
 ) -> Result<Runs, TreeStop>
+    requires kernel { kernel.old.signature ≡ sig.now }
     requires ready { IsReady sig.now }
     requires context { IsContext sig.now (tele_of ctx.now) }
     requires variable { x < length ctx.now }
     requires member { IsMember sig.now (length ctx.now) found.now.member }
-    ensures answer { Yields runs_of result units.new.left (spec.ends_behind [] (spec.run_wanted sig.now clause (tele_of ctx.now) x (looked_of found.now) number (slice_get (looked_of found.now).member.family.constructors number) units.old.left)) }
-    ensures sum { units.new.left + units.new.spent ≡ units.old.left + units.old.spent }
-    ensures spends { units.new.left ≤ units.old.left }
+    ensures answer { Yields runs_of result kernel.new.left (spec.ends_behind [] (spec.run_wanted sig.now clause (tele_of ctx.now) x (looked_of found.now) number (slice_get (looked_of found.now).member.family.constructors number) kernel.old.left)) }
+    ensures sum { kernel.new.left + kernel.new.spent ≡ kernel.old.left + kernel.old.spent }
+    ensures spends { kernel.new.left ≤ kernel.old.left }
+    ensures kernel { kernel.new.signature ≡ sig.now }
 {
     let cons = found.member.family.cons.as_slice();
     let at = number as usize;
@@ -192,7 +191,7 @@ fn run_wanted(
         number,
         one,
         Items::new(alloc),
-        units,
+        kernel,
     )
 }
 
@@ -205,18 +204,20 @@ fn wanted_runs(
     x: u32,
     found: &Looked,
     wanted: Option<u32>,
-    units: &mut Units,
+    kernel: &mut Kernel<'_>,
 ) -> Result<Runs, TreeStop>
+    requires kernel { kernel.old.signature ≡ sig.now }
     requires ready { IsReady sig.now }
     requires context { IsContext sig.now (tele_of ctx.now) }
     requires variable { x < length ctx.now }
     requires member { IsMember sig.now (length ctx.now) found.now.member }
-    ensures answer { Yields runs_of result units.new.left (spec.ends_behind [] (spec.wanted_runs sig.now clause (tele_of ctx.now) x (looked_of found.now) wanted units.old.left)) }
-    ensures sum { units.new.left + units.new.spent ≡ units.old.left + units.old.spent }
-    ensures spends { units.new.left ≤ units.old.left }
+    ensures answer { Yields runs_of result kernel.new.left (spec.ends_behind [] (spec.wanted_runs sig.now clause (tele_of ctx.now) x (looked_of found.now) wanted kernel.old.left)) }
+    ensures sum { kernel.new.left + kernel.new.spent ≡ kernel.old.left + kernel.old.spent }
+    ensures spends { kernel.new.left ≤ kernel.old.left }
+    ensures kernel { kernel.new.signature ≡ sig.now }
 {
     match wanted {
-        Some(number) => run_wanted(alloc, sig, clause, ctx, x, found, number, units),
+        Some(number) => run_wanted(alloc, sig, clause, ctx, x, found, number, kernel),
         None => {
             let cons = found.member.family.cons.as_slice();
             run_from(
@@ -228,7 +229,7 @@ fn wanted_runs(
                 0,
                 cons,
                 Items::new(alloc),
-                units,
+                kernel,
             )
         }
     }
@@ -258,17 +259,19 @@ fn reach_from(
     x: u32,
     found: Looked,
     wanted: Option<u32>,
-    units: &mut Units,
+    kernel: &mut Kernel<'_>,
 ) -> Result<Reach, TreeStop>
+    requires kernel { kernel.old.signature ≡ sig.now }
     requires ready { IsReady sig.now }
     requires context { IsContext sig.now (tele_of ctx.now) }
     requires variable { x < length ctx.now }
     requires member { IsMember sig.now (length ctx.now) found.member }
-    ensures answer { Yields reach_of result units.new.left (spec.reach_from sig.now clause (tele_of ctx.now) x (looked_of found.entry) wanted units.old.left) }
-    ensures sum { units.new.left + units.new.spent ≡ units.old.left + units.old.spent }
-    ensures spends { units.new.left ≤ units.old.left }
+    ensures answer { Yields reach_of result kernel.new.left (spec.reach_from sig.now clause (tele_of ctx.now) x (looked_of found.entry) wanted kernel.old.left) }
+    ensures sum { kernel.new.left + kernel.new.spent ≡ kernel.old.left + kernel.old.spent }
+    ensures spends { kernel.new.left ≤ kernel.old.left }
+    ensures kernel { kernel.new.signature ≡ sig.now }
 {
-    let runs = wanted_runs(alloc, sig, clause, ctx, x, &found, wanted, units)?;
+    let runs = wanted_runs(alloc, sig, clause, ctx, x, &found, wanted, kernel)?;
     Ok(with_runs(x, found, wanted, runs))
 }
 
@@ -291,16 +294,18 @@ pub(crate) fn reach_at(
     ctx: &[Term],
     pat: &Pat,
     x: u32,
-    units: &mut Units,
+    kernel: &mut Kernel<'_>,
 ) -> Result<Reach, TreeStop>
+    requires kernel { kernel.old.signature ≡ sig.now }
     requires ready { IsReady sig.now }
     requires context { IsContext sig.now (tele_of ctx.now) }
     requires variable { x < length ctx.now }
-    ensures answer { Yields reach_of result units.new.left (spec.reach sig.now own clause (tele_of ctx.now) (pat_of pat.now) x units.old.left) }
-    ensures sum { units.new.left + units.new.spent ≡ units.old.left + units.old.spent }
-    ensures spends { units.new.left ≤ units.old.left }
+    ensures answer { Yields reach_of result kernel.new.left (spec.reach sig.now own clause (tele_of ctx.now) (pat_of pat.now) x kernel.old.left) }
+    ensures sum { kernel.new.left + kernel.new.spent ≡ kernel.old.left + kernel.old.spent }
+    ensures spends { kernel.new.left ≤ kernel.old.left }
+    ensures kernel { kernel.new.signature ≡ sig.now }
 {
-    let found = look_at_type(alloc, sig, clause, ctx, pat, x, units)?;
+    let found = look_at_type(alloc, sig, clause, ctx, pat, x, kernel)?;
     reach_from(
         alloc,
         sig,
@@ -309,6 +314,6 @@ pub(crate) fn reach_at(
         x,
         found,
         wanted_of(own, pat),
-        units,
+        kernel,
     )
 }

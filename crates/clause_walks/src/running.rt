@@ -14,10 +14,11 @@ ghost use Rattle.clause_walks.specs.Stops.{Yields};
 use crate::problems::{Member, problem_of};
 use crate::stops::TreeStop;
 use core_sig::{Constructor, Signature};
-use core_terms::{Items, Stop, Tele, Term, Units};
+use core_terms::{Items, Stop, Tele, Term};
+use kernel_check::Kernel;
 use std::alloc::Global;
 use unification::Why;
-use unifier::{Outcome, Problem, unify};
+use unifier::{Outcome, Problem, unify_with};
 
 /// What is kept of the run of a constructor's problem: how many arguments the constructor has, the context of the problem, and the
 /// outcome.
@@ -53,19 +54,21 @@ fn run_one(
     m: &Member,
     number: u32,
     con: &Constructor,
-    units: &mut Units,
+    kernel: &mut Kernel<'_>,
 ) -> Result<Ran, Stop>
+    requires kernel { kernel.old.signature ≡ sig.now }
     requires ready { IsReady sig.now }
     requires context { IsContext sig.now (tele_of ctx.now) }
     requires variable { x < length ctx.now }
     requires member { IsMember sig.now (length ctx.now) m.now }
     requires constructor { slice_get m.now.family.now.cons number ≡ Some con.now }
-    ensures answer { RunsAs ran_of result units.new.left (spec.run_one sig.now (tele_of ctx.now) x (member_meant m.now) number (constructor_of (length m.now.family.now.params) con.now) units.old.left) }
-    ensures sum { units.new.left + units.new.spent ≡ units.old.left + units.old.spent }
-    ensures spends { units.new.left ≤ units.old.left }
+    ensures answer { RunsAs ran_of result kernel.new.left (spec.run_one sig.now (tele_of ctx.now) x (member_meant m.now) number (constructor_of (length m.now.family.now.params) con.now) kernel.old.left) }
+    ensures sum { kernel.new.left + kernel.new.spent ≡ kernel.old.left + kernel.old.spent }
+    ensures spends { kernel.new.left ≤ kernel.old.left }
+    ensures kernel { kernel.new.signature ≡ sig.now }
 {
     let problem = problem_of(alloc, sig, ctx, x, m, number, con)?;
-    let outcome = unify(alloc, sig, &problem, units)?;
+    let outcome = unify_with(alloc, sig, &problem, kernel)?;
     Ok(ended(con, problem, outcome))
 }
 
@@ -122,25 +125,27 @@ pub fn run_from(
     number: u32,
     cons: &[Constructor],
     mut made: Items<Ran>,
-    units: &mut Units,
+    kernel: &mut Kernel<'_>,
 ) -> Result<Runs, TreeStop>
+    requires kernel { kernel.old.signature ≡ sig.now }
     requires ready { IsReady sig.now }
     requires context { IsContext sig.now (tele_of ctx.now) }
     requires variable { x < length ctx.now }
     requires member { IsMember sig.now (length ctx.now) m.now }
     requires constructors { AreFrom m.now number cons.now }
-    ensures answer { Yields runs_of result units.new.left (spec.ends_behind (ends_of made) (looking.run_all sig.now (tele_of ctx.now) x (member_meant m.now) number (map (constructor_of (length m.now.family.now.params)) cons.now) units.old.left)) }
-    ensures sum { units.new.left + units.new.spent ≡ units.old.left + units.old.spent }
-    ensures spends { units.new.left ≤ units.old.left }
+    ensures answer { Yields runs_of result kernel.new.left (spec.ends_behind (ends_of made) (looking.run_all sig.now (tele_of ctx.now) x (member_meant m.now) number (map (constructor_of (length m.now.family.now.params)) cons.now) kernel.old.left)) }
+    ensures sum { kernel.new.left + kernel.new.spent ≡ kernel.old.left + kernel.old.spent }
+    ensures spends { kernel.new.left ≤ kernel.old.left }
+    ensures kernel { kernel.new.signature ≡ sig.now }
 {
     let [con, rest @ ..] = cons else {
         return Ok(Runs::Found(made));
     };
-    match unless_stuck(run_one(alloc, sig, ctx, x, m, number, con, units)?) {
+    match unless_stuck(run_one(alloc, sig, ctx, x, m, number, con, kernel)?) {
         Ok(ran) => {
             made.push(ran)?;
             let next = following(number)?;
-            run_from(alloc, sig, ctx, x, m, next, rest, made, units)
+            run_from(alloc, sig, ctx, x, m, next, rest, made, kernel)
         }
         Err(stuck) => Ok(Runs::Passed(stuck)),
     }

@@ -34,7 +34,8 @@ use crate::running::Ran;
 use crate::working::work_pairs;
 use crate::{Pair, Point, TreeStop};
 use core_sig::Signature;
-use core_terms::{Items, Pat, Stop, Tele, Term, Units, Walk, copy_tele, copy_whole};
+use core_terms::{Items, Pat, Stop, Tele, Term, Walk, copy_tele, copy_whole};
+use kernel_check::Kernel;
 use std::alloc::Global;
 use unifier::{Outcome, built_of};
 
@@ -215,13 +216,15 @@ fn next_at<'a>(
     clause: u32,
     p: Point,
     pairs: &[Pair<'a>],
-    units: &mut Units,
+    kernel: &mut Kernel<'_>,
 ) -> Result<Next<'a>, TreeStop>
+    requires kernel { kernel.old.signature ≡ sig.now }
     requires ready { IsReady sig.now }
     requires state { IsWalkState sig.now (point_of p) (pairs_of pairs.now) }
-    ensures answer { Yields next_meant result units.new.left (code.next_at sig.now clause (point_of p) (pairs_of pairs.now) (pairs_spec.all_open (pairs_of pairs.now)) units.old.left) }
-    ensures sum { units.new.left + units.new.spent ≡ units.old.left + units.old.spent }
-    ensures spends { units.new.left ≤ units.old.left }
+    ensures answer { Yields next_meant result kernel.new.left (code.next_at sig.now clause (point_of p) (pairs_of pairs.now) (pairs_spec.all_open (pairs_of pairs.now)) kernel.old.left) }
+    ensures sum { kernel.new.left + kernel.new.spent ≡ kernel.old.left + kernel.old.spent }
+    ensures spends { kernel.new.left ≤ kernel.old.left }
+    ensures kernel { kernel.new.signature ≡ sig.now }
     ensures leads { IfOk result (λ n. LeadsOn sig.now (next_meant n)) }
 {
     let open = all_open(alloc, pairs)?;
@@ -235,7 +238,7 @@ fn next_at<'a>(
         clause,
         p.context.as_slice(),
         open.as_slice(),
-        units,
+        kernel,
     )?;
     next_reached(alloc, sig, clause, p, pairs, &reached)
 }
@@ -247,22 +250,24 @@ fn next_unless_dropped<'a>(
     clause: u32,
     p: Point,
     pairs: &[Pair<'a>],
-    units: &mut Units,
+    kernel: &mut Kernel<'_>,
 ) -> Result<Next<'a>, TreeStop>
+    requires kernel { kernel.old.signature ≡ sig.now }
     requires ready { IsReady sig.now }
     requires point { IsKeptPoint sig.now (point_of p) }
     requires pairs { AreKeptPairs sig.now (length p.context) (pairs_of pairs.now) }
     requires covers { CoverAll sig.now (pairs_of pairs.now) (kept_terms sig.now (pairs_of pairs.now) (tele_of p.terms)) }
-    ensures answer { Yields next_meant result units.new.left (code.next_unless_dropped sig.now clause (point_of p) (pairs_of pairs.now) (pairs_spec.first_clash (pairs_of pairs.now)) units.old.left) }
-    ensures sum { units.new.left + units.new.spent ≡ units.old.left + units.old.spent }
-    ensures spends { units.new.left ≤ units.old.left }
+    ensures answer { Yields next_meant result kernel.new.left (code.next_unless_dropped sig.now clause (point_of p) (pairs_of pairs.now) (pairs_spec.first_clash (pairs_of pairs.now)) kernel.old.left) }
+    ensures sum { kernel.new.left + kernel.new.spent ≡ kernel.old.left + kernel.old.spent }
+    ensures spends { kernel.new.left ≤ kernel.old.left }
+    ensures kernel { kernel.new.signature ≡ sig.now }
     ensures leads { IfOk result (λ n. LeadsOn sig.now (next_meant n)) }
 {
     if let Some(clash) = first_clash(pairs) {
         return Err(clashing(sig, clause, p.context, clash.pat, clash.term));
     }
     let next = point_keeping(alloc, sig, p, pairs)?;
-    next_at(alloc, sig, clause, next, pairs, units)
+    next_at(alloc, sig, clause, next, pairs, kernel)
 }
 
 /// One turn of a walk: the pairs are worked, and the walk goes on at the first open one with a variable.
@@ -272,15 +277,17 @@ pub(crate) fn turn<'a>(
     clause: u32,
     p: Point,
     pairs: &[Pair<'a>],
-    units: &mut Units,
+    kernel: &mut Kernel<'_>,
 ) -> Result<Next<'a>, TreeStop>
+    requires kernel { kernel.old.signature ≡ sig.now }
     requires ready { IsReady sig.now }
     requires state { IsWalkState sig.now (point_of p) (pairs_of pairs.now) }
-    ensures answer { Yields next_meant result units.new.left (code.turn_of sig.now clause (point_of p) (pairs_of pairs.now) units.old.left) }
-    ensures sum { units.new.left + units.new.spent ≡ units.old.left + units.old.spent }
-    ensures spends { units.new.left ≤ units.old.left }
+    ensures answer { Yields next_meant result kernel.new.left (code.turn_of sig.now clause (point_of p) (pairs_of pairs.now) kernel.old.left) }
+    ensures sum { kernel.new.left + kernel.new.spent ≡ kernel.old.left + kernel.old.spent }
+    ensures spends { kernel.new.left ≤ kernel.old.left }
+    ensures kernel { kernel.new.signature ≡ sig.now }
     ensures leads { IfOk result (λ n. LeadsOn sig.now (next_meant n)) }
 {
-    let worked = work_pairs(alloc, sig, pairs, units)?;
-    next_unless_dropped(alloc, sig, clause, p, worked.as_slice(), units)
+    let worked = work_pairs(alloc, sig, pairs, kernel)?;
+    next_unless_dropped(alloc, sig, clause, p, worked.as_slice(), kernel)
 }

@@ -21,8 +21,8 @@ ghost use Rattle.clause_walks.specs.PairConditions.{AreKeptPairs};
 use crate::Pair;
 use crate::pairs::{clashes, copied_builds, copy_after, copy_pair, waiting_after, waits};
 use core_sig::Signature;
-use core_terms::{Items, MAX_HEIGHT, Pat, Stop, Tele, Term, Units, copy_whole};
-use kernel_reduce::whnf;
+use core_terms::{Items, MAX_HEIGHT, Pat, Stop, Term, copy_whole};
+use kernel_check::Kernel;
 use std::alloc::Global;
 use unifier::{Built, built_of, split_spine};
 
@@ -57,21 +57,22 @@ fn has_room(sig: &Signature, room: u32, w: &Term) -> bool
 
 /// The head form with which a pattern is compared.
 fn compared_head(
-    alloc: Global,
     sig: &Signature,
     room: u32,
     t: &Term,
-    units: &mut Units,
+    kernel: &mut Kernel<'_>,
 ) -> Result<Term, Stop>
+    requires kernel { kernel.old.signature ≡ sig.now }
     requires ready { IsReady sig.now }
     requires term { IsScoped sig.now most_levels (tree_of t.now) }
-    ensures answer { Runs tree_of result units.new.left (spec.compared_head sig.now room units.old.left (tree_of t.now)) }
-    ensures sum { units.new.left + units.new.spent ≡ units.old.left + units.old.spent }
-    ensures spends { units.new.left ≤ units.old.left }
+    ensures answer { Runs tree_of result kernel.new.left (spec.compared_head sig.now room kernel.old.left (tree_of t.now)) }
+    ensures sum { kernel.new.left + kernel.new.spent ≡ kernel.old.left + kernel.old.spent }
+    ensures spends { kernel.new.left ≤ kernel.old.left }
+    ensures kernel { kernel.new.signature ≡ sig.now }
     ensures low { IfOk result (λ w. tree.height (tree_of w) ≤ most_height) }
     ensures scoped { IfOk result (λ w. IsScoped sig.now most_levels (tree_of w)) }
 {
-    let w = whnf(alloc, sig, t, true, units)?;
+    let w = kernel.whnf(t)?;
     if has_room(sig, room, &w) {
         Ok(w)
     } else {
@@ -105,20 +106,22 @@ fn work_pattern<'a>(
     room: u32,
     pat: &'a Pat,
     t: &Term,
-    units: &mut Units,
+    kernel: &mut Kernel<'_>,
 ) -> Result<Pair<'a>, Stop>
+    requires kernel { kernel.old.signature ≡ sig.now }
     requires ready { IsReady sig.now }
     requires term { IsScoped sig.now most_levels (tree_of t.now) }
-    ensures answer { Runs pair_of result units.new.left (spec.work_pattern sig.now room (pat_of pat.now) (tree_of t.now) units.old.left) }
-    ensures sum { units.new.left + units.new.spent ≡ units.old.left + units.old.spent }
-    ensures spends { units.new.left ≤ units.old.left }
+    ensures answer { Runs pair_of result kernel.new.left (spec.work_pattern sig.now room (pat_of pat.now) (tree_of t.now) kernel.old.left) }
+    ensures sum { kernel.new.left + kernel.new.spent ≡ kernel.old.left + kernel.old.spent }
+    ensures spends { kernel.new.left ≤ kernel.old.left }
+    ensures kernel { kernel.new.signature ≡ sig.now }
 {
     match pat {
         Pat::Bind => Ok(Pair::Binds(copy_whole(alloc, t)?)),
         Pat::Wild => Ok(Pair::Passes(copy_whole(alloc, t)?)),
         Pat::Dot(written) => Ok(Pair::Keeps(written, copy_whole(alloc, t)?)),
         Pat::Con(n, number, pats) => {
-            let w = compared_head(alloc, sig, room, t, units)?;
+            let w = compared_head(sig, room, t, kernel)?;
             compared(
                 alloc,
                 sig,
@@ -129,11 +132,11 @@ fn work_pattern<'a>(
                 pats.as_slice(),
                 t,
                 w,
-                units,
+                kernel,
             )
         }
         Pat::Absurd => {
-            let w = compared_head(alloc, sig, room, t, units)?;
+            let w = compared_head(sig, room, t, kernel)?;
             against_absurd(alloc, sig, pat, t, w)
         }
     }
@@ -152,21 +155,23 @@ fn compared<'a>(
     pats: &'a [Pat],
     t: &Term,
     w: Term,
-    units: &mut Units,
+    kernel: &mut Kernel<'_>,
 ) -> Result<Pair<'a>, Stop>
+    requires kernel { kernel.old.signature ≡ sig.now }
     requires ready { IsReady sig.now }
     requires pattern { pat_of pat.now ≡ pattern.Con n number (pats_of pats.now) }
     requires low { tree.height (tree_of w) ≤ most_height }
     requires scoped { IsScoped sig.now most_levels (tree_of w) }
-    ensures answer { Runs pair_of result units.new.left (spec.compared n number (pats_of pats.now) (tree_of t.now) (tree_of w) (spec.work_patterns sig.now (spec.of_arguments room) (pats_of pats.now)) (built.built_of sig.now (tree_of w)) units.old.left) }
-    ensures sum { units.new.left + units.new.spent ≡ units.old.left + units.old.spent }
-    ensures spends { units.new.left ≤ units.old.left }
+    ensures answer { Runs pair_of result kernel.new.left (spec.compared n number (pats_of pats.now) (tree_of t.now) (tree_of w) (spec.work_patterns sig.now (spec.of_arguments room) (pats_of pats.now)) (built.built_of sig.now (tree_of w)) kernel.old.left) }
+    ensures sum { kernel.new.left + kernel.new.spent ≡ kernel.old.left + kernel.old.spent }
+    ensures spends { kernel.new.left ≤ kernel.old.left }
+    ensures kernel { kernel.new.signature ≡ sig.now }
 {
     let Some(b) = built_of(sig, &w) else {
         return waits(alloc, pat, t);
     };
     if is_own(b, n, number) {
-        built_pair(alloc, sig, room, b, n, number, pats, t, &w, units)
+        built_pair(alloc, sig, room, b, n, number, pats, t, &w, kernel)
     } else {
         Ok(Pair::Clashes(pat, w))
     }
@@ -191,15 +196,17 @@ fn built_pair<'a>(
     pats: &'a [Pat],
     t: &Term,
     w: &Term,
-    units: &mut Units,
+    kernel: &mut Kernel<'_>,
 ) -> Result<Pair<'a>, Stop>
+    requires kernel { kernel.old.signature ≡ sig.now }
     requires ready { IsReady sig.now }
     requires scoped { IsScoped sig.now most_levels (tree_of w.now) }
     requires there { IfThere (IsBuiltAs b) (built.built_of sig.now (tree_of w.now)) }
     requires own { (p : built.Built) → IsBuiltAs b p → is_constructor n number p ≡ true }
-    ensures answer { Runs pair_of result units.new.left (spec.compared n number (pats_of pats.now) (tree_of t.now) (tree_of w.now) (spec.work_patterns sig.now (spec.of_arguments room) (pats_of pats.now)) (built.built_of sig.now (tree_of w.now)) units.old.left) }
-    ensures sum { units.new.left + units.new.spent ≡ units.old.left + units.old.spent }
-    ensures spends { units.new.left ≤ units.old.left }
+    ensures answer { Runs pair_of result kernel.new.left (spec.compared n number (pats_of pats.now) (tree_of t.now) (tree_of w.now) (spec.work_patterns sig.now (spec.of_arguments room) (pats_of pats.now)) (built.built_of sig.now (tree_of w.now)) kernel.old.left) }
+    ensures sum { kernel.new.left + kernel.new.spent ≡ kernel.old.left + kernel.old.spent }
+    ensures spends { kernel.new.left ≤ kernel.old.left }
+    ensures kernel { kernel.new.signature ≡ sig.now }
 {
     let (ps, us) = split_spine(alloc, w, b.record.params.as_slice().len())?;
     let made = Items::new(alloc);
@@ -210,7 +217,7 @@ fn built_pair<'a>(
         pats,
         us.as_slice(),
         made,
-        units,
+        kernel,
     )?;
     Ok(Pair::Builds(b.family, b.number, ps, pairs))
 }
@@ -224,20 +231,22 @@ fn work_patterns<'a>(
     pats: &'a [Pat],
     terms: &[Term],
     made: Items<Pair<'a>>,
-    units: &mut Units,
+    kernel: &mut Kernel<'_>,
 ) -> Result<Items<Pair<'a>>, Stop>
+    requires kernel { kernel.old.signature ≡ sig.now }
     requires ready { IsReady sig.now }
     requires terms { All (IsScoped sig.now most_levels) (tele_of terms.now) }
-    ensures answer { Runs pairs_of result units.new.left (onto (map pair_of made.entry) (spec.work_patterns sig.now (rooms_of rooms) (pats_of pats.now) (tele_of terms.now) units.old.left)) }
-    ensures sum { units.new.left + units.new.spent ≡ units.old.left + units.old.spent }
-    ensures spends { units.new.left ≤ units.old.left }
+    ensures answer { Runs pairs_of result kernel.new.left (onto (map pair_of made.entry) (spec.work_patterns sig.now (rooms_of rooms) (pats_of pats.now) (tele_of terms.now) kernel.old.left)) }
+    ensures sum { kernel.new.left + kernel.new.spent ≡ kernel.old.left + kernel.old.spent }
+    ensures spends { kernel.new.left ≤ kernel.old.left }
+    ensures kernel { kernel.new.signature ≡ sig.now }
 {
     match pats {
         [pat, pats @ ..] => match terms {
             [t, rest @ ..] => {
                 let room = room_for(rooms, terms.len());
-                let pair = work_pattern(alloc, sig, room, pat, t, units)?;
-                after_pattern(alloc, sig, rooms, pair, pats, rest, made, units)
+                let pair = work_pattern(alloc, sig, room, pat, t, kernel)?;
+                after_pattern(alloc, sig, rooms, pair, pats, rest, made, kernel)
             }
             [] => Ok(made),
         },
@@ -255,20 +264,22 @@ fn after_pattern<'a>(
     pats: &'a [Pat],
     terms: &[Term],
     mut made: Items<Pair<'a>>,
-    units: &mut Units,
+    kernel: &mut Kernel<'_>,
 ) -> Result<Items<Pair<'a>>, Stop>
+    requires kernel { kernel.old.signature ≡ sig.now }
     requires ready { IsReady sig.now }
     requires terms { All (IsScoped sig.now most_levels) (tele_of terms.now) }
-    ensures answer { Runs pairs_of result units.new.left (onto (map pair_of made.entry) (spec.unless_clash (waiting_meant (pats_of pats.now) (tele_of terms.now)) (spec.work_patterns sig.now (rooms_of rooms) (pats_of pats.now) (tele_of terms.now)) (pair_of pair.entry) units.old.left)) }
-    ensures sum { units.new.left + units.new.spent ≡ units.old.left + units.old.spent }
-    ensures spends { units.new.left ≤ units.old.left }
+    ensures answer { Runs pairs_of result kernel.new.left (onto (map pair_of made.entry) (spec.unless_clash (waiting_meant (pats_of pats.now) (tele_of terms.now)) (spec.work_patterns sig.now (rooms_of rooms) (pats_of pats.now) (tele_of terms.now)) (pair_of pair.entry) kernel.old.left)) }
+    ensures sum { kernel.new.left + kernel.new.spent ≡ kernel.old.left + kernel.old.spent }
+    ensures spends { kernel.new.left ≤ kernel.old.left }
+    ensures kernel { kernel.new.signature ≡ sig.now }
 {
     let clash = clashes(&pair);
     made.push(pair)?;
     if clash {
         waiting_after(alloc, pats, terms, made)
     } else {
-        work_patterns(alloc, sig, rooms, pats, terms, made, units)
+        work_patterns(alloc, sig, rooms, pats, terms, made, kernel)
     }
 }
 
@@ -279,18 +290,20 @@ fn work_pair<'a>(
     sig: &Signature,
     room: u32,
     pair: &Pair<'a>,
-    units: &mut Units,
+    kernel: &mut Kernel<'_>,
 ) -> Result<Pair<'a>, Stop>
+    requires kernel { kernel.old.signature ≡ sig.now }
     requires ready { IsReady sig.now }
     requires term { IsScoped sig.now most_levels (term_in (pair_of pair.now)) }
-    ensures answer { Runs pair_of result units.new.left (spec.work_pair sig.now room (pair_of pair.now) units.old.left) }
-    ensures sum { units.new.left + units.new.spent ≡ units.old.left + units.old.spent }
-    ensures spends { units.new.left ≤ units.old.left }
+    ensures answer { Runs pair_of result kernel.new.left (spec.work_pair sig.now room (pair_of pair.now) kernel.old.left) }
+    ensures sum { kernel.new.left + kernel.new.spent ≡ kernel.old.left + kernel.old.spent }
+    ensures spends { kernel.new.left ≤ kernel.old.left }
+    ensures kernel { kernel.new.signature ≡ sig.now }
 {
     match pair {
-        Pair::Waits(pat, t) => work_pattern(alloc, sig, room, *pat, t, units),
+        Pair::Waits(pat, t) => work_pattern(alloc, sig, room, *pat, t, kernel),
         Pair::Builds(n, number, ps, pairs) => {
-            let pairs = work_inside(alloc, sig, room, pairs.as_slice(), units)?;
+            let pairs = work_inside(alloc, sig, room, pairs.as_slice(), kernel)?;
             copied_builds(alloc, *n, *number, ps, pairs)
         }
         Pair::Binds(_) | Pair::Passes(_) | Pair::Keeps(_, _) | Pair::Clashes(_, _) => {
@@ -306,16 +319,18 @@ fn work_inside<'a>(
     sig: &Signature,
     room: u32,
     pairs: &[Pair<'a>],
-    units: &mut Units,
+    kernel: &mut Kernel<'_>,
 ) -> Result<Items<Pair<'a>>, Stop>
+    requires kernel { kernel.old.signature ≡ sig.now }
     requires ready { IsReady sig.now }
     requires terms { All (IsScoped sig.now most_levels) (terms_in (pairs_of pairs.now)) }
-    ensures answer { Runs pairs_of result units.new.left (spec.work_pairs sig.now (spec.of_arguments room) (pairs_of pairs.now) units.old.left) }
-    ensures sum { units.new.left + units.new.spent ≡ units.old.left + units.old.spent }
-    ensures spends { units.new.left ≤ units.old.left }
+    ensures answer { Runs pairs_of result kernel.new.left (spec.work_pairs sig.now (spec.of_arguments room) (pairs_of pairs.now) kernel.old.left) }
+    ensures sum { kernel.new.left + kernel.new.spent ≡ kernel.old.left + kernel.old.spent }
+    ensures spends { kernel.new.left ≤ kernel.old.left }
+    ensures kernel { kernel.new.signature ≡ sig.now }
 {
     let made = Items::new(alloc);
-    work_onto(alloc, sig, Rooms::Arguments(room), pairs, made, units)
+    work_onto(alloc, sig, Rooms::Arguments(room), pairs, made, kernel)
 }
 
 /// The pairs of a clause after those that are made.
@@ -326,20 +341,22 @@ fn work_onto<'a>(
     rooms: Rooms,
     pairs: &[Pair<'a>],
     made: Items<Pair<'a>>,
-    units: &mut Units,
+    kernel: &mut Kernel<'_>,
 ) -> Result<Items<Pair<'a>>, Stop>
+    requires kernel { kernel.old.signature ≡ sig.now }
     requires ready { IsReady sig.now }
     requires terms { All (IsScoped sig.now most_levels) (terms_in (pairs_of pairs.now)) }
-    ensures answer { Runs pairs_of result units.new.left (onto (map pair_of made.entry) (spec.work_pairs sig.now (rooms_of rooms) (pairs_of pairs.now) units.old.left)) }
-    ensures sum { units.new.left + units.new.spent ≡ units.old.left + units.old.spent }
-    ensures spends { units.new.left ≤ units.old.left }
+    ensures answer { Runs pairs_of result kernel.new.left (onto (map pair_of made.entry) (spec.work_pairs sig.now (rooms_of rooms) (pairs_of pairs.now) kernel.old.left)) }
+    ensures sum { kernel.new.left + kernel.new.spent ≡ kernel.old.left + kernel.old.spent }
+    ensures spends { kernel.new.left ≤ kernel.old.left }
+    ensures kernel { kernel.new.signature ≡ sig.now }
 {
     match pairs {
         [] => Ok(made),
         [pair, rest @ ..] => {
             let room = room_for(rooms, pairs.len());
-            let worked = work_pair(alloc, sig, room, pair, units)?;
-            after_pair(alloc, sig, rooms, worked, rest, made, units)
+            let worked = work_pair(alloc, sig, room, pair, kernel)?;
+            after_pair(alloc, sig, rooms, worked, rest, made, kernel)
         }
     }
 }
@@ -353,20 +370,22 @@ fn after_pair<'a>(
     worked: Pair<'a>,
     pairs: &[Pair<'a>],
     mut made: Items<Pair<'a>>,
-    units: &mut Units,
+    kernel: &mut Kernel<'_>,
 ) -> Result<Items<Pair<'a>>, Stop>
+    requires kernel { kernel.old.signature ≡ sig.now }
     requires ready { IsReady sig.now }
     requires terms { All (IsScoped sig.now most_levels) (terms_in (pairs_of pairs.now)) }
-    ensures answer { Runs pairs_of result units.new.left (onto (map pair_of made.entry) (spec.unless_clash (pairs_of pairs.now) (spec.work_pairs sig.now (rooms_of rooms) (pairs_of pairs.now)) (pair_of worked.entry) units.old.left)) }
-    ensures sum { units.new.left + units.new.spent ≡ units.old.left + units.old.spent }
-    ensures spends { units.new.left ≤ units.old.left }
+    ensures answer { Runs pairs_of result kernel.new.left (onto (map pair_of made.entry) (spec.unless_clash (pairs_of pairs.now) (spec.work_pairs sig.now (rooms_of rooms) (pairs_of pairs.now)) (pair_of worked.entry) kernel.old.left)) }
+    ensures sum { kernel.new.left + kernel.new.spent ≡ kernel.old.left + kernel.old.spent }
+    ensures spends { kernel.new.left ≤ kernel.old.left }
+    ensures kernel { kernel.new.signature ≡ sig.now }
 {
     let clash = clashes(&worked);
     made.push(worked)?;
     if clash {
         copy_after(alloc, pairs, made)
     } else {
-        work_onto(alloc, sig, rooms, pairs, made, units)
+        work_onto(alloc, sig, rooms, pairs, made, kernel)
     }
 }
 
@@ -375,15 +394,17 @@ pub fn work_pairs<'a>(
     alloc: Global,
     sig: &Signature,
     pairs: &[Pair<'a>],
-    units: &mut Units,
+    kernel: &mut Kernel<'_>,
 ) -> Result<Items<Pair<'a>>, Stop>
+    requires kernel { kernel.old.signature ≡ sig.now }
     requires ready { IsReady sig.now }
     requires terms { All (IsScoped sig.now most_levels) (terms_in (pairs_of pairs.now)) }
-    ensures answer { Runs pairs_of result units.new.left (spec.work_pairs sig.now spec.of_columns (pairs_of pairs.now) units.old.left) }
-    ensures sum { units.new.left + units.new.spent ≡ units.old.left + units.old.spent }
-    ensures spends { units.new.left ≤ units.old.left }
+    ensures answer { Runs pairs_of result kernel.new.left (spec.work_pairs sig.now spec.of_columns (pairs_of pairs.now) kernel.old.left) }
+    ensures sum { kernel.new.left + kernel.new.spent ≡ kernel.old.left + kernel.old.spent }
+    ensures spends { kernel.new.left ≤ kernel.old.left }
+    ensures kernel { kernel.new.signature ≡ sig.now }
     ensures kept { (n : ℕ) → AreKeptPairs sig.now n (pairs_of pairs.now) → IfOk result (λ worked. AreKeptPairs sig.now n (pairs_of worked)) }
 {
     let made = Items::new(alloc);
-    work_onto(alloc, sig, Rooms::Columns, pairs, made, units)
+    work_onto(alloc, sig, Rooms::Columns, pairs, made, kernel)
 }

@@ -14,9 +14,10 @@ ghost use Rattle.walk_checks.specs.CheckMeanings.{opening_of, site_of};
 use crate::helpers::{helper_call, opened};
 use crate::parts::Scrutinee;
 use crate::sides::bound;
-use core_terms::{Stop, Term, Units, Walk};
+use core_terms::{Stop, Term, Walk};
 use function_refusals::Refusal;
 use function_walks::Session;
+use kernel_check::Kernel;
 use std::alloc::Global;
 use walk_checks::{Opening, Site, open_over};
 
@@ -48,17 +49,19 @@ fn helper_opened(
     site: Site,
     w: &Walk,
     t: Term,
-    units: &mut Units,
+    kernel: &mut Kernel<'_>,
 ) -> Result<Scrutinee, Refusal>
+    requires kernel { kernel.old.signature ≡ s.sig.now }
     requires walk { IsWalkOver s.sig.now (walk_of w.now) }
     requires scrutinee { IsScoped s.sig.now (length (walk_of w.now).ctx) (tree_of t) }
-    ensures answer { Elaborates scrutinee_of result units.new.left (code.helper_opened (session_of s.entry) helper (site_of site.entry) (walk_of w.now) (tree_of t) units.old.left) }
-    ensures sum { units.new.left + units.new.spent ≡ units.old.left + units.old.spent }
-    ensures spends { units.new.left ≤ units.old.left }
+    ensures answer { Elaborates scrutinee_of result kernel.new.left (code.helper_opened (session_of s.entry) helper (site_of site.entry) (walk_of w.now) (tree_of t) kernel.old.left) }
+    ensures sum { kernel.new.left + kernel.new.spent ≡ kernel.old.left + kernel.old.spent }
+    ensures spends { kernel.new.left ≤ kernel.old.left }
+    ensures kernel { kernel.new.signature ≡ s.entry.sig.now }
     ensures part { IfOk result (λ x. IsPart s.entry.sig.now (opened_of x.part)) }
     ensures columns { IfOk result (λ x. length (opened_of x.part).terms ≡ length (walk_of w.now).terms + 1) }
 {
-    let o = open_over(alloc, s, site, w, &t, units)?;
+    let o = open_over(alloc, s, site, w, &t, kernel)?;
     Ok(scrutinee_over(alloc, s, helper, w, t, o)?)
 }
 
@@ -70,16 +73,18 @@ pub(crate) fn scrutinised(
     site: Site,
     w: &Walk,
     written: &Term,
-    units: &mut Units,
+    kernel: &mut Kernel<'_>,
 ) -> Result<Scrutinee, Refusal>
+    requires kernel { kernel.old.signature ≡ s.sig.now }
     requires walk { IsWalkOver s.sig.now (walk_of w.now) }
     requires written { HasEntries s.sig.now (tree_of written.now) }
-    ensures answer { Elaborates scrutinee_of result units.new.left (code.scrutinised (session_of s.entry) helper (site_of site.entry) (walk_of w.now) (tree_of written.now) units.old.left) }
-    ensures sum { units.new.left + units.new.spent ≡ units.old.left + units.old.spent }
-    ensures spends { units.new.left ≤ units.old.left }
+    ensures answer { Elaborates scrutinee_of result kernel.new.left (code.scrutinised (session_of s.entry) helper (site_of site.entry) (walk_of w.now) (tree_of written.now) kernel.old.left) }
+    ensures sum { kernel.new.left + kernel.new.spent ≡ kernel.old.left + kernel.old.spent }
+    ensures spends { kernel.new.left ≤ kernel.old.left }
+    ensures kernel { kernel.new.signature ≡ s.entry.sig.now }
     ensures part { IfOk result (λ x. IsPart s.entry.sig.now (opened_of x.part)) }
     ensures columns { IfOk result (λ x. length (opened_of x.part).terms ≡ length (walk_of w.now).terms + 1) }
 {
     let t = bound(alloc, w, written)?;
-    helper_opened(alloc, s, helper, site, w, t, units)
+    helper_opened(alloc, s, helper, site, w, t, kernel)
 }

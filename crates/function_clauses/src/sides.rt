@@ -15,9 +15,10 @@ ghost use Rattle.walk_checks.specs.CheckMeanings.{site_of};
 
 use crate::giving::side_given;
 use core_sig::Signature;
-use core_terms::{Stop, Term, Units, Walk, checked};
+use core_terms::{Stop, Term, Walk, checked};
 use function_refusals::Refusal;
 use function_walks::{Given, Session};
+use kernel_check::Kernel;
 use run_terms::instance;
 use std::alloc::Global;
 use walk_checks::{Asked, Site, checked_as};
@@ -46,16 +47,18 @@ fn side_checked<'a>(
     w: Walk,
     side: &Term,
     body: &Term,
-    units: &mut Units,
+    kernel: &mut Kernel<'_>,
 ) -> Result<Given<'a>, Refusal>
+    requires kernel { kernel.old.signature ≡ sig.now }
     requires walk { IsWalkOver sig.now (walk_of w) }
     requires body { IsScoped sig.now (length (walk_of w).ctx) (tree_of body.now) }
-    ensures answer { Elaborates given_of result units.new.left (code.side_checked sig.now k site.entry.number (site_of site.entry) (walk_of w) (tree_of side.now) (tree_of body.now) units.old.left) }
-    ensures sum { units.new.left + units.new.spent ≡ units.old.left + units.old.spent }
-    ensures spends { units.new.left ≤ units.old.left }
+    ensures answer { Elaborates given_of result kernel.new.left (code.side_checked sig.now k site.entry.number (site_of site.entry) (walk_of w) (tree_of side.now) (tree_of body.now) kernel.old.left) }
+    ensures sum { kernel.new.left + kernel.new.spent ≡ kernel.old.left + kernel.old.spent }
+    ensures spends { kernel.new.left ≤ kernel.old.left }
+    ensures kernel { kernel.new.signature ≡ sig.now }
     ensures walked { IfOk result (λ g. AreWalked sig.now (map walked_of g.helpers)) }
 {
-    checked_as(alloc, sig, Asked::Side, site, &w.ctx, body, &w.goal, units)?;
+    checked_as(alloc, sig, Asked::Side, site, &w.ctx, body, &w.goal, kernel)?;
     Ok(side_given(alloc, k, site.number, w, side, body)?)
 }
 
@@ -68,15 +71,17 @@ pub(crate) fn side_walked<'a>(
     site: Site,
     w: Walk,
     side: &Term,
-    units: &mut Units,
+    kernel: &mut Kernel<'_>,
 ) -> Result<Given<'a>, Refusal>
+    requires kernel { kernel.old.signature ≡ s.sig.now }
     requires walk { IsWalkOver s.sig.now (walk_of w) }
     requires side { HasEntries s.sig.now (tree_of side.now) }
-    ensures answer { Elaborates given_of result units.new.left (spec.walk_right (session_of s.entry) k site.entry.number next (site_of site.entry) (walk_of w) (clause.Side (tree_of side.now)) units.old.left) }
-    ensures sum { units.new.left + units.new.spent ≡ units.old.left + units.old.spent }
-    ensures spends { units.new.left ≤ units.old.left }
+    ensures answer { Elaborates given_of result kernel.new.left (spec.walk_right (session_of s.entry) k site.entry.number next (site_of site.entry) (walk_of w) (clause.Side (tree_of side.now)) kernel.old.left) }
+    ensures sum { kernel.new.left + kernel.new.spent ≡ kernel.old.left + kernel.old.spent }
+    ensures spends { kernel.new.left ≤ kernel.old.left }
+    ensures kernel { kernel.new.signature ≡ s.entry.sig.now }
     ensures walked { IfOk result (λ g. AreWalked s.entry.sig.now (map walked_of g.helpers)) }
 {
     let body = bound(alloc, &w, side)?;
-    side_checked(alloc, s.sig, k, site, w, side, &body, units)
+    side_checked(alloc, s.sig, k, site, w, side, &body, kernel)
 }

@@ -14,11 +14,12 @@ ghost use Rattle.resolve.specs.Scoping.{IsClause};
 ghost use Rattle.unifier.specs.Conditions.{most_levels};
 ghost use Rattle.walk_checks.specs.CheckMeanings.{site_of};
 
-use clause_walks::own_walk;
+use clause_walks::own_walk_with;
 use core_sig::Signature;
-use core_terms::{Clause, Stop, Units, Walk};
+use core_terms::{Clause, Stop, Walk};
 use function_refusals::{Refusal, ended};
 use function_walks::Opened;
+use kernel_check::Kernel;
 use std::alloc::Global;
 use walk_checks::{Site, check_dots};
 
@@ -32,17 +33,19 @@ fn walked(
     site: Site,
     part: &Opened,
     c: &Clause,
-    units: &mut Units,
+    kernel: &mut Kernel<'_>,
 ) -> Result<Walk, Refusal>
+    requires kernel { kernel.old.signature ≡ sig.now }
     requires part { IsPart sig.now (opened_of part.now) }
     requires clause { IsClause sig.now (length (opened_of part.now).terms) (clause_of c.now) }
-    ensures answer { Elaborates walk_of result units.new.left (walking sig.now site.entry.function.now (own_walk_of sig.now (opened_of part.now).tele (opened_of part.now).goal (opened_of part.now).terms (clause_of c.now) site.entry.number units.old.left)) }
-    ensures sum { units.new.left + units.new.spent ≡ units.old.left + units.old.spent }
-    ensures spends { units.new.left ≤ units.old.left }
+    ensures answer { Elaborates walk_of result kernel.new.left (walking sig.now site.entry.function.now (own_walk_of sig.now (opened_of part.now).tele (opened_of part.now).goal (opened_of part.now).terms (clause_of c.now) site.entry.number kernel.old.left)) }
+    ensures sum { kernel.new.left + kernel.new.spent ≡ kernel.old.left + kernel.old.spent }
+    ensures spends { kernel.new.left ≤ kernel.old.left }
+    ensures kernel { kernel.new.signature ≡ sig.now }
     ensures scoped { IfOk result (λ w. IsScopedWalk sig.now (walk_of w)) }
     ensures columns { IfOk result (λ w. length (walk_of w).terms ≡ length (opened_of part.now).terms) }
 {
-    match own_walk(
+    match own_walk_with(
         alloc,
         sig,
         &part.tele,
@@ -50,7 +53,7 @@ fn walked(
         &part.terms,
         c,
         site.number,
-        units,
+        kernel,
     ) {
         Ok(w) => Ok(w),
         Err(stop) => Err(ended(alloc, sig, site.function.as_slice(), &stop)),
@@ -75,15 +78,17 @@ fn with_dots(
     sig: &Signature,
     site: Site,
     w: Walk,
-    units: &mut Units,
+    kernel: &mut Kernel<'_>,
 ) -> Result<Walk, Refusal>
-    requires { IsWalkOver sig.now (walk_of w) }
-    ensures answer { Elaborates walk_of result units.new.left (code.with_dots sig.now (site_of site.entry) (walk_of w) units.old.left) }
-    ensures sum { units.new.left + units.new.spent ≡ units.old.left + units.old.spent }
-    ensures spends { units.new.left ≤ units.old.left }
+    requires kernel { kernel.old.signature ≡ sig.now }
+    requires given { IsWalkOver sig.now (walk_of w) }
+    ensures answer { Elaborates walk_of result kernel.new.left (code.with_dots sig.now (site_of site.entry) (walk_of w) kernel.old.left) }
+    ensures sum { kernel.new.left + kernel.new.spent ≡ kernel.old.left + kernel.old.spent }
+    ensures spends { kernel.new.left ≤ kernel.old.left }
+    ensures kernel { kernel.new.signature ≡ sig.now }
     ensures same { IfOk result (λ v. v ≡ w) }
 {
-    check_dots(alloc, sig, site, &w.ctx, w.dots.as_slice(), units)?;
+    check_dots(alloc, sig, site, &w.ctx, w.dots.as_slice(), kernel)?;
     Ok(w)
 }
 
@@ -94,16 +99,18 @@ pub(crate) fn clause_walked(
     site: Site,
     part: &Opened,
     c: &Clause,
-    units: &mut Units,
+    kernel: &mut Kernel<'_>,
 ) -> Result<Walk, Refusal>
+    requires kernel { kernel.old.signature ≡ sig.now }
     requires part { IsPart sig.now (opened_of part.now) }
     requires clause { IsClause sig.now (length (opened_of part.now).terms) (clause_of c.now) }
-    ensures answer { Elaborates walk_of result units.new.left (code.clause_walked sig.now site.entry.function.now (opened_of part.now) site.entry.number (clause_of c.now) units.old.left) }
-    ensures sum { units.new.left + units.new.spent ≡ units.old.left + units.old.spent }
-    ensures spends { units.new.left ≤ units.old.left }
+    ensures answer { Elaborates walk_of result kernel.new.left (code.clause_walked sig.now site.entry.function.now (opened_of part.now) site.entry.number (clause_of c.now) kernel.old.left) }
+    ensures sum { kernel.new.left + kernel.new.spent ≡ kernel.old.left + kernel.old.spent }
+    ensures spends { kernel.new.left ≤ kernel.old.left }
+    ensures kernel { kernel.new.signature ≡ sig.now }
     ensures walk { IfOk result (λ w. IsWalkOver sig.now (walk_of w)) }
     ensures columns { IfOk result (λ w. length (walk_of w).terms ≡ length (opened_of part.now).terms) }
 {
-    let w = with_room(walked(alloc, sig, site, part, c, units)?)?;
-    with_dots(alloc, sig, site, w, units)
+    let w = with_room(walked(alloc, sig, site, part, c, kernel)?)?;
+    with_dots(alloc, sig, site, w, kernel)
 }

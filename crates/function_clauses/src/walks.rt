@@ -21,11 +21,10 @@ use crate::scrutinees::scrutinised;
 use crate::sides::side_walked;
 use crate::single::clause_walked;
 use clause_equations::part_name;
-use core_terms::{
-    Clause, Items, Right, Stop, Term, Units, Walk, next as next_number, number_of, sum,
-};
+use core_terms::{Clause, Items, Right, Stop, Term, Walk, next as next_number, number_of, sum};
 use function_refusals::Refusal;
 use function_walks::{Given, Opened, Session};
+use kernel_check::Kernel;
 use std::alloc::Global;
 use walk_checks::Site;
 
@@ -48,13 +47,15 @@ fn walk_clause<'a>(
     number: u32,
     next: u32,
     c: &'a Clause,
-    units: &mut Units,
+    kernel: &mut Kernel<'_>,
 ) -> Result<Given<'a>, Refusal>
+    requires kernel { kernel.old.signature ≡ s.sig.now }
     requires part { IsPart s.sig.now (opened_of part.now) }
     requires clause { IsClause s.sig.now (length (opened_of part.now).terms) (clause_of c.now) }
-    ensures answer { Elaborates given_of result units.new.left (spec.walk_clause (session_of s.entry) k (opened_of part.now) number next (clause_of c.now) units.old.left) }
-    ensures sum { units.new.left + units.new.spent ≡ units.old.left + units.old.spent }
-    ensures spends { units.new.left ≤ units.old.left }
+    ensures answer { Elaborates given_of result kernel.new.left (spec.walk_clause (session_of s.entry) k (opened_of part.now) number next (clause_of c.now) kernel.old.left) }
+    ensures sum { kernel.new.left + kernel.new.spent ≡ kernel.old.left + kernel.old.spent }
+    ensures spends { kernel.new.left ≤ kernel.old.left }
+    ensures kernel { kernel.new.signature ≡ s.entry.sig.now }
     ensures walked { IfOk result (λ g. AreWalked s.entry.sig.now (map walked_of g.helpers)) }
 {
     let function = part_name(alloc, s.name, k)?;
@@ -62,8 +63,8 @@ fn walk_clause<'a>(
         function: &function,
         number,
     };
-    let w = clause_walked(alloc, s.sig, site, part, c, units)?;
-    walk_right(alloc, s, k, next, site, w, &c.right, units)
+    let w = clause_walked(alloc, s.sig, site, part, c, kernel)?;
+    walk_right(alloc, s, k, next, site, w, &c.right, kernel)
 }
 
 /// What follows a walk and its dots.
@@ -76,19 +77,21 @@ fn walk_right<'a>(
     site: Site,
     w: Walk,
     right: &'a Right,
-    units: &mut Units,
+    kernel: &mut Kernel<'_>,
 ) -> Result<Given<'a>, Refusal>
+    requires kernel { kernel.old.signature ≡ s.sig.now }
     requires walk { IsWalkOver s.sig.now (walk_of w) }
     requires right { IsRightSide s.sig.now (length (walk_of w).terms) (right_of right.now) }
-    ensures answer { Elaborates given_of result units.new.left (spec.walk_right (session_of s.entry) k site.entry.number next (site_of site.entry) (walk_of w) (right_of right.now) units.old.left) }
-    ensures sum { units.new.left + units.new.spent ≡ units.old.left + units.old.spent }
-    ensures spends { units.new.left ≤ units.old.left }
+    ensures answer { Elaborates given_of result kernel.new.left (spec.walk_right (session_of s.entry) k site.entry.number next (site_of site.entry) (walk_of w) (right_of right.now) kernel.old.left) }
+    ensures sum { kernel.new.left + kernel.new.spent ≡ kernel.old.left + kernel.old.spent }
+    ensures spends { kernel.new.left ≤ kernel.old.left }
+    ensures kernel { kernel.new.signature ≡ s.entry.sig.now }
     ensures walked { IfOk result (λ g. AreWalked s.entry.sig.now (map walked_of g.helpers)) }
 {
     match right {
-        Right::Side(side) => side_walked(alloc, s, k, next, site, w, side, units),
+        Right::Side(side) => side_walked(alloc, s, k, next, site, w, side, kernel),
         Right::With(written, inner) => {
-            with_walked(alloc, s, k, next, site, w, written, inner, units)
+            with_walked(alloc, s, k, next, site, w, written, inner, kernel)
         }
         Right::Absurd => Ok(absurd_given(alloc, w)?),
     }
@@ -105,18 +108,20 @@ fn with_walked<'a>(
     w: Walk,
     written: &Term,
     inner: &'a Items<Clause>,
-    units: &mut Units,
+    kernel: &mut Kernel<'_>,
 ) -> Result<Given<'a>, Refusal>
+    requires kernel { kernel.old.signature ≡ s.sig.now }
     requires walk { IsWalkOver s.sig.now (walk_of w) }
     requires written { HasEntries s.sig.now (tree_of written.now) }
     requires inner { AreClauses s.sig.now (length (walk_of w).terms + 1) (clauses_of inner.now) }
-    ensures answer { Elaborates given_of result units.new.left (spec.walk_right (session_of s.entry) k site.entry.number next (site_of site.entry) (walk_of w) (clause.With (tree_of written.now) (clauses_of inner.now)) units.old.left) }
-    ensures sum { units.new.left + units.new.spent ≡ units.old.left + units.old.spent }
-    ensures spends { units.new.left ≤ units.old.left }
+    ensures answer { Elaborates given_of result kernel.new.left (spec.walk_right (session_of s.entry) k site.entry.number next (site_of site.entry) (walk_of w) (clause.With (tree_of written.now) (clauses_of inner.now)) kernel.old.left) }
+    ensures sum { kernel.new.left + kernel.new.spent ≡ kernel.old.left + kernel.old.spent }
+    ensures spends { kernel.new.left ≤ kernel.old.left }
+    ensures kernel { kernel.new.signature ≡ s.entry.sig.now }
     ensures walked { IfOk result (λ g. AreWalked s.entry.sig.now (map walked_of g.helpers)) }
 {
-    let x = scrutinised(alloc, s, next, site, &w, written, units)?;
-    inside_walked(alloc, s, k, site.number, next, w, x, inner, units)
+    let x = scrutinised(alloc, s, next, site, &w, written, kernel)?;
+    inside_walked(alloc, s, k, site.number, next, w, x, inner, kernel)
 }
 
 /// The clauses of a helper, which are part `helper`.
@@ -130,16 +135,27 @@ fn inside_walked<'a>(
     w: Walk,
     x: Scrutinee,
     inner: &'a Items<Clause>,
-    units: &mut Units,
+    kernel: &mut Kernel<'_>,
 ) -> Result<Given<'a>, Refusal>
-    requires { IsPartFor s.sig.now (opened_of x.part) (clauses_of inner.now) }
-    ensures answer { Elaborates given_of result units.new.left (code.inside_walked (session_of s.entry) k number helper (walk_of w) (scrutinee_of x) (clauses_of inner.now) units.old.left) }
-    ensures sum { units.new.left + units.new.spent ≡ units.old.left + units.old.spent }
-    ensures spends { units.new.left ≤ units.old.left }
+    requires kernel { kernel.old.signature ≡ s.sig.now }
+    requires given { IsPartFor s.sig.now (opened_of x.part) (clauses_of inner.now) }
+    ensures answer { Elaborates given_of result kernel.new.left (code.inside_walked (session_of s.entry) k number helper (walk_of w) (scrutinee_of x) (clauses_of inner.now) kernel.old.left) }
+    ensures sum { kernel.new.left + kernel.new.spent ≡ kernel.old.left + kernel.old.spent }
+    ensures spends { kernel.new.left ≤ kernel.old.left }
+    ensures kernel { kernel.new.signature ≡ s.entry.sig.now }
     ensures walked { IfOk result (λ g. AreWalked s.entry.sig.now (map walked_of g.helpers)) }
 {
     let after = next_number(helper)?;
-    let given = walk_clauses(alloc, s, helper, &x.part, 0, after, inner.as_slice(), units)?;
+    let given = walk_clauses(
+        alloc,
+        s,
+        helper,
+        &x.part,
+        0,
+        after,
+        inner.as_slice(),
+        kernel,
+    )?;
     Ok(with_given(alloc, k, number, w, x, inner, given)?)
 }
 
@@ -158,19 +174,21 @@ pub fn walk_clauses<'a>(
     number: u32,
     next: u32,
     clauses: &'a [Clause],
-    units: &mut Units,
+    kernel: &mut Kernel<'_>,
 ) -> Result<Given<'a>, Refusal>
-    requires { IsPartFor s.sig.now (opened_of part.now) (clauses_of clauses.now) }
-    ensures answer { Elaborates given_of result units.new.left (spec.walk_clauses (session_of s.entry) k (opened_of part.now) number next (clauses_of clauses.now) units.old.left) }
-    ensures sum { units.new.left + units.new.spent ≡ units.old.left + units.old.spent }
-    ensures spends { units.new.left ≤ units.old.left }
+    requires kernel { kernel.old.signature ≡ s.sig.now }
+    requires given { IsPartFor s.sig.now (opened_of part.now) (clauses_of clauses.now) }
+    ensures answer { Elaborates given_of result kernel.new.left (spec.walk_clauses (session_of s.entry) k (opened_of part.now) number next (clauses_of clauses.now) kernel.old.left) }
+    ensures sum { kernel.new.left + kernel.new.spent ≡ kernel.old.left + kernel.old.spent }
+    ensures spends { kernel.new.left ≤ kernel.old.left }
+    ensures kernel { kernel.new.signature ≡ s.entry.sig.now }
     ensures walked { IfOk result (λ g. AreWalked s.entry.sig.now (map walked_of g.helpers)) }
 {
     match clauses {
         [] => Ok(nothing(alloc)),
         [c, rest @ ..] => {
-            let given = walk_clause(alloc, s, k, part, number, next, c, units)?;
-            others_walked(alloc, s, k, part, number, next, given, rest, units)
+            let given = walk_clause(alloc, s, k, part, number, next, c, kernel)?;
+            others_walked(alloc, s, k, part, number, next, given, rest, kernel)
         }
     }
 }
@@ -186,17 +204,19 @@ fn others_walked<'a>(
     next: u32,
     given: Given<'a>,
     rest: &'a [Clause],
-    units: &mut Units,
+    kernel: &mut Kernel<'_>,
 ) -> Result<Given<'a>, Refusal>
+    requires kernel { kernel.old.signature ≡ s.sig.now }
     requires part { IsPartFor s.sig.now (opened_of part.now) (clauses_of rest.now) }
     requires helpers { AreWalked s.sig.now (map walked_of given.helpers) }
-    ensures answer { Elaborates given_of result units.new.left (code.others_walked (session_of s.entry) k (opened_of part.now) number next (given_of given.entry) (clauses_of rest.now) units.old.left) }
-    ensures sum { units.new.left + units.new.spent ≡ units.old.left + units.old.spent }
-    ensures spends { units.new.left ≤ units.old.left }
+    ensures answer { Elaborates given_of result kernel.new.left (code.others_walked (session_of s.entry) k (opened_of part.now) number next (given_of given.entry) (clauses_of rest.now) kernel.old.left) }
+    ensures sum { kernel.new.left + kernel.new.spent ≡ kernel.old.left + kernel.old.spent }
+    ensures spends { kernel.new.left ≤ kernel.old.left }
+    ensures kernel { kernel.new.signature ≡ s.entry.sig.now }
     ensures walked { IfOk result (λ g. AreWalked s.entry.sig.now (map walked_of g.helpers)) }
 {
     let helper = helper_after(next, &given)?;
     let later = next_number(number)?;
-    let others = walk_clauses(alloc, s, k, part, later, helper, rest, units)?;
+    let others = walk_clauses(alloc, s, k, part, later, helper, rest, kernel)?;
     Ok(joined(given, others)?)
 }

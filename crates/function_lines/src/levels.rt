@@ -11,18 +11,25 @@ use core_sig::Signature;
 use core_terms::{Items, Term, Units, Verdict};
 use function_refusals::{Refusal, WrittenPart, ill_typed};
 use function_walks::function_level;
-use kernel_check::infer_sort;
+use kernel_check::Kernel;
 use std::alloc::Global;
 
 /// The sort of a function's type, where the checker grants the type.
-fn sort_of(alloc: Global, sig: &Signature, ty: &Term, units: &mut Units) -> Result<Term, Refusal>
-    requires { AreWellScoped sig.now [] (tree_of ty.now ∷ []) }
-    ensures answer { Elaborates tree_of result units.new.left (spec.granted sig.now spec.OfType (infer_sort_of sig.now nesting [] (tree_of ty.now) units.old.left)) }
-    ensures sum { units.new.left + units.new.spent ≡ units.old.left + units.old.spent }
-    ensures spends { units.new.left ≤ units.old.left }
+fn sort_of(
+    alloc: Global,
+    sig: &Signature,
+    ty: &Term,
+    kernel: &mut Kernel<'_>,
+) -> Result<Term, Refusal>
+    requires kernel { kernel.old.signature ≡ sig.now }
+    requires given { AreWellScoped sig.now [] (tree_of ty.now ∷ []) }
+    ensures answer { Elaborates tree_of result kernel.new.left (spec.granted sig.now spec.OfType (infer_sort_of sig.now nesting [] (tree_of ty.now) kernel.old.left)) }
+    ensures sum { kernel.new.left + kernel.new.spent ≡ kernel.old.left + kernel.old.spent }
+    ensures spends { kernel.new.left ≤ kernel.old.left }
+    ensures kernel { kernel.new.signature ≡ sig.now }
 {
     let ctx = Items::new(alloc);
-    match infer_sort(alloc, sig, &ctx, ty, units) {
+    match kernel.infer_sort(&ctx, ty) {
         Ok(Verdict::Yes(sort)) => Ok(sort),
         Ok(Verdict::No(denial)) => Err(ill_typed(alloc, sig, WrittenPart::Type, denial)),
         Err(e) => Err(Refusal::Stop(e)),
@@ -41,6 +48,8 @@ pub(crate) fn level_of(
     ensures sum { units.new.left + units.new.spent ≡ units.old.left + units.old.spent }
     ensures spends { units.new.left ≤ units.old.left }
 {
-    let sort = sort_of(alloc, sig, ty, units)?;
-    function_level(alloc, sig, &sort)
+    let mut kernel = Kernel::new(alloc, sig, *units);
+    let sort = sort_of(alloc, sig, ty, &mut kernel);
+    *units = kernel.into_units();
+    function_level(alloc, sig, &sort?)
 }

@@ -19,6 +19,7 @@ use function_clauses::{own_part, walk_clauses};
 use function_plans::plan;
 use function_refusals::Refusal;
 use function_walks::{Opened, Session, Walked};
+use kernel_check::Kernel;
 use leaf_terms::Plan;
 use resolve::FunCore;
 use std::alloc::Global;
@@ -42,15 +43,17 @@ fn plan_from(
     s: Session,
     f: &FunCore,
     part: Opened,
-    units: &mut Units,
+    kernel: &mut Kernel<'_>,
 ) -> Result<Plan, Refusal>
+    requires kernel { kernel.old.signature ≡ s.sig.now }
     requires part { IsPartFor s.sig.now (opened_of part) (clauses_of f.now.clauses) }
     requires columns { length (opened_of part).terms ≡ length (opened_of part).tele }
-    ensures answer { Elaborates plan_of result units.new.left (made.plan_from (session_of s.entry) (fun_of f.now) (opened_of part) units.old.left) }
-    ensures sum { units.new.left + units.new.spent ≡ units.old.left + units.old.spent }
-    ensures spends { units.new.left ≤ units.old.left }
+    ensures answer { Elaborates plan_of result kernel.new.left (made.plan_from (session_of s.entry) (fun_of f.now) (opened_of part) kernel.old.left) }
+    ensures sum { kernel.new.left + kernel.new.spent ≡ kernel.old.left + kernel.old.spent }
+    ensures spends { kernel.new.left ≤ kernel.old.left }
+    ensures kernel { kernel.new.signature ≡ s.entry.sig.now }
 {
-    let given = walk_clauses(alloc, s, 0, &part, 0, 1, f.clauses.as_slice(), units)?;
+    let given = walk_clauses(alloc, s, 0, &part, 0, 1, f.clauses.as_slice(), kernel)?;
     let level = part.level;
     let w = Walked {
         part,
@@ -68,7 +71,7 @@ fn plan_from(
         w,
         given.helpers.into_vec(),
         &given.uses,
-        units,
+        kernel,
     )
 }
 
@@ -92,7 +95,10 @@ fn plan_at(
         name: &f.name,
         own,
     };
-    plan_from(alloc, s, f, part, units)
+    let mut kernel = Kernel::new(alloc, sig, *units);
+    let plan = plan_from(alloc, s, f, part, &mut kernel);
+    *units = kernel.into_units();
+    plan
 }
 
 /// The plan of a function. The signature has the function as a provisional constant meanwhile, and then is as it was.

@@ -14,9 +14,10 @@ ghost use Rattle.structural_rec.specs.Laws.{IsOrder};
 ghost use Rattle.tree_translation.specs.Recursion as recursion;
 
 use crate::trees::own_tree;
-use core_terms::{Clause, Items, Pat, Stop, Tree, Units, copy_pat};
+use core_terms::{Clause, Items, Pat, Stop, Tree, copy_pat};
 use function_refusals::Refusal;
 use function_walks::{Session, Walked};
+use kernel_check::Kernel;
 use leaf_terms::{Part, Recursion};
 use std::alloc::Global;
 
@@ -82,15 +83,17 @@ pub fn own_finished(
     s: Session,
     r: Option<&Recursion>,
     w: Walked,
-    units: &mut Units,
+    kernel: &mut Kernel<'_>,
 ) -> Result<Part, Refusal>
+    requires kernel { kernel.old.signature ≡ s.sig.now }
     requires own { IsOwnWalked s.sig.now (walked_of w) }
     requires order { IsOrder (length w.part.tele) (recursion.order_of (length w.part.tele) (option_map recursion_of (option_copied r))) }
-    ensures answer { Elaborates part_of result units.new.left (own_finished_made (session_of s.entry) (option_map recursion_of (option_copied r.entry)) (walked_of w.entry) units.old.left) }
-    ensures sum { units.new.left + units.new.spent ≡ units.old.left + units.old.spent }
-    ensures spends { units.new.left ≤ units.old.left }
+    ensures answer { Elaborates part_of result kernel.new.left (own_finished_made (session_of s.entry) (option_map recursion_of (option_copied r.entry)) (walked_of w.entry) kernel.old.left) }
+    ensures sum { kernel.new.left + kernel.new.spent ≡ kernel.old.left + kernel.old.spent }
+    ensures spends { kernel.new.left ≤ kernel.old.left }
+    ensures kernel { kernel.new.signature ≡ s.entry.sig.now }
 {
-    let tree = own_tree(alloc, s, r, &w, units)?;
+    let tree = own_tree(alloc, s, r, &w, kernel)?;
     let level = w.part.level;
     Ok(finished(alloc, level, w, tree)?)
 }

@@ -15,9 +15,10 @@ ghost use Rattle.elaboration.specs.Refusals.{walking};
 use crate::finishing::finished;
 use crate::trees::tree_of_clauses;
 use clause_equations::part_name;
-use core_terms::{Items, Tree, Units, number_of};
+use core_terms::{Items, Tree, number_of};
 use function_refusals::Refusal;
 use function_walks::{Session, Walked};
+use kernel_check::Kernel;
 use leaf_terms::{Part, Recursion};
 use std::alloc::Global;
 
@@ -37,12 +38,14 @@ fn helper_tree(
     s: Session,
     number: u32,
     w: &Walked,
-    units: &mut Units,
+    kernel: &mut Kernel<'_>,
 ) -> Result<Tree, Refusal>
-    requires { IsWalked s.sig.now (walked_of w.now) }
-    ensures answer { Elaborates case_tree_of result units.new.left (walking s.entry.sig.now (part_named s.entry.name.now number) (split_of s.entry.sig.now (walked_of w.now).part.tele (walked_of w.now).part.goal (walked_of w.now).part.terms (walked_of w.now).clauses units.old.left)) }
-    ensures sum { units.new.left + units.new.spent ≡ units.old.left + units.old.spent }
-    ensures spends { units.new.left ≤ units.old.left }
+    requires kernel { kernel.old.signature ≡ s.sig.now }
+    requires given { IsWalked s.sig.now (walked_of w.now) }
+    ensures answer { Elaborates case_tree_of result kernel.new.left (walking s.entry.sig.now (part_named s.entry.name.now number) (split_of s.entry.sig.now (walked_of w.now).part.tele (walked_of w.now).part.goal (walked_of w.now).part.terms (walked_of w.now).clauses kernel.old.left)) }
+    ensures sum { kernel.new.left + kernel.new.spent ≡ kernel.old.left + kernel.old.spent }
+    ensures spends { kernel.new.left ≤ kernel.old.left }
+    ensures kernel { kernel.new.signature ≡ s.entry.sig.now }
 {
     let name = part_name(alloc, s.name, number)?;
     let (tele, goal, terms) = (&w.part.tele, &w.part.goal, &w.part.terms);
@@ -54,7 +57,7 @@ fn helper_tree(
         goal,
         terms,
         w.clauses,
-        units,
+        kernel,
     )
 }
 
@@ -67,20 +70,22 @@ pub fn helpers_finished(
     number: u32,
     mut helpers: Vec<Walked>,
     mut made: Items<Part>,
-    units: &mut Units,
+    kernel: &mut Kernel<'_>,
 ) -> Result<Items<Part>, Refusal>
-    requires { AreWalked s.sig.now (map walked_of helpers.items) }
-    ensures answer { Elaborates parts_of result units.new.left (helpers_after (parts_of made) (session_of s.entry) (option_map recursion_of (option_copied r.entry)) level number (map walked_of helpers.entry.items) units.old.left) }
-    ensures sum { units.new.left + units.new.spent ≡ units.old.left + units.old.spent }
-    ensures spends { units.new.left ≤ units.old.left }
+    requires kernel { kernel.old.signature ≡ s.sig.now }
+    requires given { AreWalked s.sig.now (map walked_of helpers.items) }
+    ensures answer { Elaborates parts_of result kernel.new.left (helpers_after (parts_of made) (session_of s.entry) (option_map recursion_of (option_copied r.entry)) level number (map walked_of helpers.entry.items) kernel.old.left) }
+    ensures sum { kernel.new.left + kernel.new.spent ≡ kernel.old.left + kernel.old.spent }
+    ensures spends { kernel.new.left ≤ kernel.old.left }
+    ensures kernel { kernel.new.signature ≡ s.entry.sig.now }
 {
     if helpers.is_empty() {
         return Ok(made);
     }
     let w = helpers.remove(0);
-    let tree = helper_tree(alloc, s, number, &w, units)?;
+    let tree = helper_tree(alloc, s, number, &w, kernel)?;
     let own = helper_level(r, level, w.part.level);
     made.push(finished(alloc, own, w, tree)?)?;
     let next = number_of(number as usize + 1)?;
-    helpers_finished(alloc, s, r, level, next, helpers, made, units)
+    helpers_finished(alloc, s, r, level, next, helpers, made, kernel)
 }

@@ -17,9 +17,10 @@ use crate::choosing::chosen;
 use crate::finishing::own_finished;
 use crate::helpers::helpers_finished;
 use core_sig::Signature;
-use core_terms::{Items, Stop, Term, Units, copy_name};
+use core_terms::{Items, Stop, Term, copy_name};
 use function_refusals::Refusal;
 use function_walks::{Session, Walked};
+use kernel_check::Kernel;
 use leaf_terms::{Part, Plan, Recursion, recursion_at};
 use std::alloc::Global;
 use structural_rec::Use;
@@ -45,16 +46,18 @@ fn with_own(
     s: Session,
     r: Option<&Recursion>,
     w: Walked,
-    units: &mut Units,
+    kernel: &mut Kernel<'_>,
 ) -> Result<Items<Part>, Refusal>
+    requires kernel { kernel.old.signature ≡ s.sig.now }
     requires own { IsOwnWalked s.sig.now (walked_of w) }
     requires order { IsOrder (length w.part.tele) (recursion.order_of (length w.part.tele) (option_map recursion_of (option_copied r))) }
-    ensures answer { Elaborates parts_of result units.new.left (own_alone (session_of s.entry) (option_map recursion_of (option_copied r.entry)) (walked_of w.entry) units.old.left) }
-    ensures sum { units.new.left + units.new.spent ≡ units.old.left + units.old.spent }
-    ensures spends { units.new.left ≤ units.old.left }
+    ensures answer { Elaborates parts_of result kernel.new.left (own_alone (session_of s.entry) (option_map recursion_of (option_copied r.entry)) (walked_of w.entry) kernel.old.left) }
+    ensures sum { kernel.new.left + kernel.new.spent ≡ kernel.old.left + kernel.old.spent }
+    ensures spends { kernel.new.left ≤ kernel.old.left }
+    ensures kernel { kernel.new.signature ≡ s.entry.sig.now }
 {
     let mut made = Items::new(alloc);
-    made.push(own_finished(alloc, s, r, w, units)?)?;
+    made.push(own_finished(alloc, s, r, w, kernel)?)?;
     Ok(made)
 }
 
@@ -66,17 +69,19 @@ fn all_parts(
     level: u8,
     w: Walked,
     helpers: Vec<Walked>,
-    units: &mut Units,
+    kernel: &mut Kernel<'_>,
 ) -> Result<Items<Part>, Refusal>
+    requires kernel { kernel.old.signature ≡ s.sig.now }
     requires own { IsOwnWalked s.sig.now (walked_of w) }
     requires order { IsOrder (length w.part.tele) (recursion.order_of (length w.part.tele) (option_map recursion_of (option_copied r))) }
     requires helpers { AreWalked s.sig.now (map walked_of helpers.items) }
-    ensures answer { Elaborates parts_of result units.new.left (parts_with (session_of s.entry) (option_map recursion_of (option_copied r.entry)) level (walked_of w.entry) (map walked_of helpers.entry.items) units.old.left) }
-    ensures sum { units.new.left + units.new.spent ≡ units.old.left + units.old.spent }
-    ensures spends { units.new.left ≤ units.old.left }
+    ensures answer { Elaborates parts_of result kernel.new.left (parts_with (session_of s.entry) (option_map recursion_of (option_copied r.entry)) level (walked_of w.entry) (map walked_of helpers.entry.items) kernel.old.left) }
+    ensures sum { kernel.new.left + kernel.new.spent ≡ kernel.old.left + kernel.old.spent }
+    ensures spends { kernel.new.left ≤ kernel.old.left }
+    ensures kernel { kernel.new.signature ≡ s.entry.sig.now }
 {
-    let made = with_own(alloc, s, r, w, units)?;
-    helpers_finished(alloc, s, r, level, 1, helpers, made, units)
+    let made = with_own(alloc, s, r, w, kernel)?;
+    helpers_finished(alloc, s, r, level, 1, helpers, made, kernel)
 }
 
 /// The function's own part and those of its helpers, with recursion at the position.
@@ -87,16 +92,18 @@ fn parts_at(
     level: u8,
     w: Walked,
     helpers: Vec<Walked>,
-    units: &mut Units,
+    kernel: &mut Kernel<'_>,
 ) -> Result<Items<Part>, Refusal>
+    requires kernel { kernel.old.signature ≡ s.sig.now }
     requires own { IsOwnWalked s.sig.now (walked_of w) }
     requires helpers { AreWalked s.sig.now (map walked_of helpers.items) }
-    ensures answer { Elaborates parts_of result units.new.left (parts_made (session_of s.entry) position level (walked_of w.entry) (map walked_of helpers.entry.items) units.old.left) }
-    ensures sum { units.new.left + units.new.spent ≡ units.old.left + units.old.spent }
-    ensures spends { units.new.left ≤ units.old.left }
+    ensures answer { Elaborates parts_of result kernel.new.left (parts_made (session_of s.entry) position level (walked_of w.entry) (map walked_of helpers.entry.items) kernel.old.left) }
+    ensures sum { kernel.new.left + kernel.new.spent ≡ kernel.old.left + kernel.old.spent }
+    ensures spends { kernel.new.left ≤ kernel.old.left }
+    ensures kernel { kernel.new.signature ≡ s.entry.sig.now }
 {
     let r = recursion_in(alloc, s.sig, w.part.tele.as_slice(), position)?;
-    all_parts(alloc, s, r.as_ref(), level, w, helpers, units)
+    all_parts(alloc, s, r.as_ref(), level, w, helpers, kernel)
 }
 
 /// The plan of a function whose clauses are walked, with its helpers and what the walks say of it, or Deep where something in the uses
@@ -110,17 +117,19 @@ pub fn plan(
     w: Walked,
     helpers: Vec<Walked>,
     uses: &Items<Use>,
-    units: &mut Units,
+    kernel: &mut Kernel<'_>,
 ) -> Result<Plan, Refusal>
+    requires kernel { kernel.old.signature ≡ s.sig.now }
     requires own { IsOwnWalked s.sig.now (walked_of w) }
     requires helpers { AreWalked s.sig.now (map walked_of helpers.items) }
-    ensures answer { Elaborates plan_of result units.new.left (plan_made (session_of s.entry) (tree_of ty) arity level (walked_of w.entry) (map walked_of helpers.entry.items) (uses_of uses.now) units.old.left) }
-    ensures sum { units.new.left + units.new.spent ≡ units.old.left + units.old.spent }
-    ensures spends { units.new.left ≤ units.old.left }
+    ensures answer { Elaborates plan_of result kernel.new.left (plan_made (session_of s.entry) (tree_of ty) arity level (walked_of w.entry) (map walked_of helpers.entry.items) (uses_of uses.now) kernel.old.left) }
+    ensures sum { kernel.new.left + kernel.new.spent ≡ kernel.old.left + kernel.old.spent }
+    ensures spends { kernel.new.left ≤ kernel.old.left }
+    ensures kernel { kernel.new.signature ≡ s.entry.sig.now }
 {
     let position = chosen(alloc, s, &w.part.tele, uses)?;
     let name = copy_name(alloc, s.name)?;
-    let parts = parts_at(alloc, s, position, level, w, helpers, units)?;
+    let parts = parts_at(alloc, s, position, level, w, helpers, kernel)?;
     Ok(Plan {
         base: s.own,
         name,

@@ -17,12 +17,13 @@ ghost use Rattle.tree_translation.specs.Entries as entries;
 ghost use Rattle.tree_translation.specs.Recursion as recursion;
 ghost use Rattle.unifier.specs.Conditions.{most_levels};
 
-use clause_splitting::split;
+use clause_splitting::split_with;
 use core_sig::Signature;
-use core_terms::{Clause, Items, Stop, Tele, Term, Tree, Units, number_of};
+use core_terms::{Clause, Items, Stop, Tele, Term, Tree, number_of};
 use function_entries::ordered_variables;
 use function_refusals::{Refusal, ended};
 use function_walks::{Session, Walked};
+use kernel_check::Kernel;
 use leaf_terms::{Recursion, order_of, ordered_telescope, ordered_term};
 use run_terms::free_of;
 use std::alloc::Global;
@@ -36,16 +37,18 @@ pub(crate) fn tree_of_clauses(
     goal: &Term,
     terms: &Tele,
     clauses: &Items<Clause>,
-    units: &mut Units,
+    kernel: &mut Kernel<'_>,
 ) -> Result<Tree, Refusal>
+    requires kernel { kernel.old.signature ≡ sig.now }
     requires given { IsGiven sig.now (tele_of ctx.now) (tree_of goal.now) (tele_of terms.now) }
     requires clauses { AreClausesFor sig.now (tele_of terms.now) (clauses_of clauses.now) }
     requires few { length ctx.now ≤ most_levels }
-    ensures answer { Elaborates case_tree_of result units.new.left (walking sig.now function.now (split_of sig.now (tele_of ctx.now) (tree_of goal.now) (tele_of terms.now) (clauses_of clauses.now) units.old.left)) }
-    ensures sum { units.new.left + units.new.spent ≡ units.old.left + units.old.spent }
-    ensures spends { units.new.left ≤ units.old.left }
+    ensures answer { Elaborates case_tree_of result kernel.new.left (walking sig.now function.now (split_of sig.now (tele_of ctx.now) (tree_of goal.now) (tele_of terms.now) (clauses_of clauses.now) kernel.old.left)) }
+    ensures sum { kernel.new.left + kernel.new.spent ≡ kernel.old.left + kernel.old.spent }
+    ensures spends { kernel.new.left ≤ kernel.old.left }
+    ensures kernel { kernel.new.signature ≡ sig.now }
 {
-    match split(alloc, sig, ctx, goal, terms, clauses, units) {
+    match split_with(alloc, sig, ctx, goal, terms, clauses, kernel) {
         Ok(tree) => Ok(tree),
         Err(stop) => Err(ended(alloc, sig, function, &stop)),
     }
@@ -69,12 +72,14 @@ fn tree_over(
     ctx: &Tele,
     count: u32,
     order: &[u32],
-    units: &mut Units,
+    kernel: &mut Kernel<'_>,
 ) -> Result<Tree, Refusal>
+    requires kernel { kernel.old.signature ≡ s.sig.now }
     requires start { IsStart s.sig.now (walked_of w.now) (tele_of ctx.now) count order.now }
-    ensures answer { Elaborates case_tree_of result units.new.left (walking s.entry.sig.now s.entry.name.now (split_of s.entry.sig.now (tele_of ctx.now) (recursion.ordered_term count order.now (tree_of w.now.part.goal)) (entries.ordered_variables order.now count) (clauses_of w.now.clauses.now) units.old.left)) }
-    ensures sum { units.new.left + units.new.spent ≡ units.old.left + units.old.spent }
-    ensures spends { units.new.left ≤ units.old.left }
+    ensures answer { Elaborates case_tree_of result kernel.new.left (walking s.entry.sig.now s.entry.name.now (split_of s.entry.sig.now (tele_of ctx.now) (recursion.ordered_term count order.now (tree_of w.now.part.goal)) (entries.ordered_variables order.now count) (clauses_of w.now.clauses.now) kernel.old.left)) }
+    ensures sum { kernel.new.left + kernel.new.spent ≡ kernel.old.left + kernel.old.spent }
+    ensures spends { kernel.new.left ≤ kernel.old.left }
+    ensures kernel { kernel.new.signature ≡ s.entry.sig.now }
 {
     let goal = ordered_term(alloc, count, order, &w.part.goal)?;
     let terms = ordered_variables(alloc, order, count)?;
@@ -86,7 +91,7 @@ fn tree_over(
         &goal,
         &terms,
         w.clauses,
-        units,
+        kernel,
     )
 }
 
@@ -97,20 +102,22 @@ fn tree_in_order(
     w: &Walked,
     count: u32,
     order: &[u32],
-    units: &mut Units,
+    kernel: &mut Kernel<'_>,
 ) -> Result<Tree, Refusal>
+    requires kernel { kernel.old.signature ≡ s.sig.now }
     requires own { IsOwnWalked s.sig.now (walked_of w.now) }
     requires count { count ≡ length w.now.part.tele }
     requires order { IsOrder count order.now }
-    ensures answer { Elaborates case_tree_of result units.new.left (own_tree_made (session_of s.entry) (walked_of w.now) count order.now units.old.left) }
-    ensures sum { units.new.left + units.new.spent ≡ units.old.left + units.old.spent }
-    ensures spends { units.new.left ≤ units.old.left }
+    ensures answer { Elaborates case_tree_of result kernel.new.left (own_tree_made (session_of s.entry) (walked_of w.now) count order.now kernel.old.left) }
+    ensures sum { kernel.new.left + kernel.new.spent ≡ kernel.old.left + kernel.old.spent }
+    ensures spends { kernel.new.left ≤ kernel.old.left }
+    ensures kernel { kernel.new.signature ≡ s.entry.sig.now }
 {
     let ctx = ordered_telescope(alloc, w.part.tele.as_slice(), order)?;
     if !begins_closed(ctx.as_slice()) {
         return Err(Refusal::Stop(Stop::Deep));
     }
-    tree_over(alloc, s, w, &ctx, count, order, units)
+    tree_over(alloc, s, w, &ctx, count, order, kernel)
 }
 
 /// The tree of the function's own clauses, which starts from the order of recursion.
@@ -119,15 +126,17 @@ pub(crate) fn own_tree(
     s: Session,
     r: Option<&Recursion>,
     w: &Walked,
-    units: &mut Units,
+    kernel: &mut Kernel<'_>,
 ) -> Result<Tree, Refusal>
+    requires kernel { kernel.old.signature ≡ s.sig.now }
     requires own { IsOwnWalked s.sig.now (walked_of w.now) }
     requires order { IsOrder (length w.now.part.tele) (recursion.order_of (length w.now.part.tele) (option_map recursion_of (option_copied r))) }
-    ensures answer { Elaborates case_tree_of result units.new.left (own_tree_made (session_of s.entry) (walked_of w.now) (length w.now.part.tele) (recursion.order_of (length w.now.part.tele) (option_map recursion_of (option_copied r.entry))) units.old.left) }
-    ensures sum { units.new.left + units.new.spent ≡ units.old.left + units.old.spent }
-    ensures spends { units.new.left ≤ units.old.left }
+    ensures answer { Elaborates case_tree_of result kernel.new.left (own_tree_made (session_of s.entry) (walked_of w.now) (length w.now.part.tele) (recursion.order_of (length w.now.part.tele) (option_map recursion_of (option_copied r.entry))) kernel.old.left) }
+    ensures sum { kernel.new.left + kernel.new.spent ≡ kernel.old.left + kernel.old.spent }
+    ensures spends { kernel.new.left ≤ kernel.old.left }
+    ensures kernel { kernel.new.signature ≡ s.entry.sig.now }
 {
     let count = number_of(w.part.tele.as_slice().len())?;
     let order = order_of(alloc, count, r)?;
-    tree_in_order(alloc, s, w, count, order.as_slice(), units)
+    tree_in_order(alloc, s, w, count, order.as_slice(), kernel)
 }

@@ -24,7 +24,7 @@ use std::marker::Model;
 /// What terms are reduced, compared and checked with: where memory comes from, a scoped signature, and units.
 ///
 /// Each call is the one of its name on trees, over this signature and with these units, with the same errors. After an error the
-/// units are those that the call left, and the kernel can be asked again.
+/// units are those that the call left, and the kernel can be asked again. A kernel isn't dropped: who made it ends it by `into_units`.
 pub struct Kernel<'a> {
     alloc: Global,
     sig: &'a Signature,
@@ -61,12 +61,17 @@ impl<'a> Kernel<'a> {
         self.sig
     }
 
-    /// The units that are left, and those that were spent.
-    pub fn units(&self) -> Units
-        ensures left { result.left ≡ self.now.left }
-        ensures spent { result.spent ≡ self.now.spent }
+    /// Ends the kernel, and gives its units back.
+    pub fn into_units(self) -> Units
+        ensures left { result.left ≡ self.entry.left }
+        ensures spent { result.spent ≡ self.entry.spent }
     {
-        self.units
+        let Kernel {
+            alloc: _,
+            sig: _,
+            units,
+        } = self;
+        units
     }
 
     /// The head form of a term: head steps until there is none.

@@ -14,4 +14,4 @@ mod starts;
 mod walking;
 
 pub use leaves::{Leaf, leaves_in};
-pub use starts::equation_proof;
+pub use starts::{equation_proof, equation_proof_with};

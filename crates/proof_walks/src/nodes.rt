@@ -18,8 +18,8 @@ ghost use Rattle.unifier.specs.Conditions.{IsGiven};
 
 use clause_walks::{Member, member_of, type_of_variable};
 use core_sig::Signature;
-use core_terms::{Stop, Tele, Term, Units};
-use kernel_reduce::{tidy, whnf};
+use core_terms::{Stop, Tele, Term};
+use kernel_check::Kernel;
 use std::alloc::Global;
 use unifier::{Built, built_of, split_spine, variable_in};
 
@@ -70,38 +70,35 @@ pub(crate) fn constructor_met(
     ctx: &[Term],
     n: u32,
     t: &Term,
-    units: &mut Units,
+    kernel: &mut Kernel<'_>,
 ) -> Result<Option<Met>, Stop>
+    requires kernel { kernel.old.signature ≡ sig.now }
     requires ready { IsReady sig.now }
     requires context { IsContext sig.now (tele_of ctx.now) }
     requires term { IsScoped sig.now (length ctx.now) (tree_of t.now) }
-    ensures answer { RunsAs (option_map met_of) result units.new.left (spec.constructor_met sig.now n (tree_of t.now) units.old.left) }
-    ensures sum { units.new.left + units.new.spent ≡ units.old.left + units.old.spent }
-    ensures spends { units.new.left ≤ units.old.left }
+    ensures answer { RunsAs (option_map met_of) result kernel.new.left (spec.constructor_met sig.now n (tree_of t.now) kernel.old.left) }
+    ensures sum { kernel.new.left + kernel.new.spent ≡ kernel.old.left + kernel.old.spent }
+    ensures spends { kernel.new.left ≤ kernel.old.left }
+    ensures kernel { kernel.new.signature ≡ sig.now }
     ensures scoped { IfOk result (λ found. IfSome found (λ met. AreScoped sig.now (length ctx.now) (tele_of met.arguments))) }
 {
-    let w = whnf(alloc, sig, t, true, units)?;
+    let w = kernel.whnf(t)?;
     met_in(alloc, sig, n, &w)
 }
 
 /// The type of a variable, reduced.
-fn reduced_type(
-    alloc: Global,
-    sig: &Signature,
-    ctx: &[Term],
-    x: u32,
-    units: &mut Units,
-) -> Result<Term, Stop>
-    requires ready { IsReady sig.now }
-    requires context { IsContext sig.now (tele_of ctx.now) }
+fn reduced_type(alloc: Global, ctx: &[Term], x: u32, kernel: &mut Kernel<'_>) -> Result<Term, Stop>
+    requires ready { IsReady kernel.old.signature }
+    requires context { IsContext kernel.old.signature (tele_of ctx.now) }
     requires variable { x < length ctx.now }
-    ensures answer { RunsAs tree_of result units.new.left (whnf_of sig.now true units.old.left (type_meant (tele_of ctx.now) x)) }
-    ensures sum { units.new.left + units.new.spent ≡ units.old.left + units.old.spent }
-    ensures spends { units.new.left ≤ units.old.left }
-    ensures given { IfOk result (λ t. IsGiven sig.now (length ctx.now) (tree_of t)) }
+    ensures answer { RunsAs tree_of result kernel.new.left (whnf_of kernel.old.signature true kernel.old.left (type_meant (tele_of ctx.now) x)) }
+    ensures sum { kernel.new.left + kernel.new.spent ≡ kernel.old.left + kernel.old.spent }
+    ensures spends { kernel.new.left ≤ kernel.old.left }
+    ensures kernel { kernel.new.signature ≡ kernel.old.signature }
+    ensures given { IfOk result (λ t. IsGiven kernel.old.signature (length ctx.now) (tree_of t)) }
 {
     let ty = type_of_variable(alloc, ctx, x)?;
-    whnf(alloc, sig, &ty, true, units)
+    kernel.whnf(&ty)
 }
 
 /// The family itself, where it is the node's and the node splits.
@@ -155,17 +152,19 @@ fn typed_variable<'a>(
     n: u32,
     ctx: &[Term],
     x: u32,
-    units: &mut Units,
+    kernel: &mut Kernel<'_>,
 ) -> Result<Option<Variable<'a>>, Stop>
+    requires kernel { kernel.old.signature ≡ sig.now }
     requires ready { IsReady sig.now }
     requires context { IsContext sig.now (tele_of ctx.now) }
     requires variable { x < length ctx.now }
-    ensures answer { RunsAs (option_map variable_of) result units.new.left (spec.typed_variable sig.now splits n (tele_of ctx.now) x units.old.left) }
-    ensures sum { units.new.left + units.new.spent ≡ units.old.left + units.old.spent }
-    ensures spends { units.new.left ≤ units.old.left }
+    ensures answer { RunsAs (option_map variable_of) result kernel.new.left (spec.typed_variable sig.now splits n (tele_of ctx.now) x kernel.old.left) }
+    ensures sum { kernel.new.left + kernel.new.spent ≡ kernel.old.left + kernel.old.spent }
+    ensures spends { kernel.new.left ≤ kernel.old.left }
+    ensures kernel { kernel.new.signature ≡ sig.now }
     ensures found { IfOk result (λ found. IfSome found (IsVariableOf sig.now (length ctx.now) splits)) }
 {
-    let ty = reduced_type(alloc, sig, ctx, x, units)?;
+    let ty = reduced_type(alloc, ctx, x, kernel)?;
     with_type(alloc, sig, splits, n, ctx, x, ty)
 }
 
@@ -177,19 +176,21 @@ pub(crate) fn variable_met<'a>(
     n: u32,
     ctx: &[Term],
     t: &Term,
-    units: &mut Units,
+    kernel: &mut Kernel<'_>,
 ) -> Result<Option<Variable<'a>>, Stop>
+    requires kernel { kernel.old.signature ≡ sig.now }
     requires ready { IsReady sig.now }
     requires context { IsContext sig.now (tele_of ctx.now) }
     requires term { IsScoped sig.now (length ctx.now) (tree_of t.now) }
-    ensures answer { RunsAs (option_map variable_of) result units.new.left (spec.variable_met sig.now splits n (tele_of ctx.now) (tree_of t.now) units.old.left) }
-    ensures sum { units.new.left + units.new.spent ≡ units.old.left + units.old.spent }
-    ensures spends { units.new.left ≤ units.old.left }
+    ensures answer { RunsAs (option_map variable_of) result kernel.new.left (spec.variable_met sig.now splits n (tele_of ctx.now) (tree_of t.now) kernel.old.left) }
+    ensures sum { kernel.new.left + kernel.new.spent ≡ kernel.old.left + kernel.old.spent }
+    ensures spends { kernel.new.left ≤ kernel.old.left }
+    ensures kernel { kernel.new.signature ≡ sig.now }
     ensures found { IfOk result (λ found. IfSome found (IsVariableOf sig.now (length ctx.now) splits)) }
 {
-    let u = tidy(alloc, sig, t, units)?;
+    let u = kernel.tidy(t)?;
     match variable_in(&u) {
-        Some(x) => typed_variable(alloc, sig, splits, n, ctx, x, units),
+        Some(x) => typed_variable(alloc, sig, splits, n, ctx, x, kernel),
         None => Ok(None),
     }
 }

@@ -20,8 +20,9 @@ ghost use Rattle.unifier.specs.Meanings.{outcome_of};
 
 use clause_walks::{Member, Ran, Runs, StuckRun, TreeStop, run_from};
 use core_sig::Signature;
-use core_terms::{Items, Step, Stop, Term, Units, copy_tele, copy_whole};
+use core_terms::{Items, Step, Stop, Term, copy_tele, copy_whole};
 use draft_entering::ReportStop;
+use kernel_check::Kernel;
 use std::alloc::Global;
 use unification::Why;
 use unifier::Outcome;
@@ -79,19 +80,21 @@ pub(crate) fn all_runs(
     ctx: &[Term],
     x: u32,
     m: &Member,
-    units: &mut Units,
+    kernel: &mut Kernel<'_>,
 ) -> Result<Runs, ReportStop>
+    requires kernel { kernel.old.signature ≡ sig.now }
     requires ready { IsReady sig.now }
     requires context { IsContext sig.now (tele_of ctx.now) }
     requires variable { x < length ctx.now }
     requires member { IsMember sig.now (length ctx.now) m.now }
-    ensures answer { Reports runs_of result units.new.left (spec.all_runs sig.now (tele_of ctx.now) x (member_meant m.now) units.old.left) }
-    ensures sum { units.new.left + units.new.spent ≡ units.old.left + units.old.spent }
-    ensures spends { units.new.left ≤ units.old.left }
+    ensures answer { Reports runs_of result kernel.new.left (spec.all_runs sig.now (tele_of ctx.now) x (member_meant m.now) kernel.old.left) }
+    ensures sum { kernel.new.left + kernel.new.spent ≡ kernel.old.left + kernel.old.spent }
+    ensures spends { kernel.new.left ≤ kernel.old.left }
+    ensures kernel { kernel.new.signature ≡ sig.now }
     ensures solving { IfOk result (λ runs. spec.AreSolvingRuns sig.now (runs_of runs)) }
 {
     let cons = m.family.cons.as_slice();
-    match run_from(alloc, sig, ctx, x, m, 0, cons, Items::new(alloc), units) {
+    match run_from(alloc, sig, ctx, x, m, 0, cons, Items::new(alloc), kernel) {
         Ok(runs) => Ok(runs),
         Err(stop) => Err(halted(stop)),
     }

@@ -19,6 +19,7 @@ use crate::walking::walk_tree;
 use core_sig::Signature;
 use core_terms::{Stop, Tele, Term, Tree, Units, Walk, copy_tele, copy_whole, number_of};
 use draft_entering::ReportStop;
+use kernel_check::Kernel;
 use leaf_terms::{Plan, Recursion, order_of, own_tele, recursion_of, terms_at};
 use proof_terms::{Goal, Place, Proof};
 use std::alloc::Global;
@@ -122,6 +123,31 @@ pub fn equation_proof(
     ensures spends { units.new.left ≤ units.old.left }
     ensures kept { IfOk result (λ proof. AreKeptLeaves sig.now (leaves_in (proof_of proof))) }
 {
+    let mut kernel = Kernel::new(alloc, sig, *units);
+    let made = equation_proof_with(alloc, sig, plan, k, walk, e, tree, &mut kernel);
+    *units = kernel.into_units();
+    made
+}
+
+/// `equation_proof` over a kernel with this signature, with its units.
+pub fn equation_proof_with(
+    alloc: Global,
+    sig: &Signature,
+    plan: &Plan,
+    k: u32,
+    walk: &Walk,
+    e: Goal,
+    tree: &Tree,
+    kernel: &mut Kernel<'_>,
+) -> Result<Proof, ReportStop>
+    requires kernel { kernel.old.signature ≡ sig.now }
+    requires ready { IsReady sig.now }
+    ensures answer { Reports proof_of result kernel.new.left (spec.walk_made sig.now (plan_of plan.now) k (walk_of walk.now) (goal_of e.entry) (case_tree_of tree.now) kernel.old.left) }
+    ensures sum { kernel.new.left + kernel.new.spent ≡ kernel.old.left + kernel.old.spent }
+    ensures spends { kernel.new.left ≤ kernel.old.left }
+    ensures kernel { kernel.new.signature ≡ sig.now }
+    ensures kept { IfOk result (λ proof. AreKeptLeaves sig.now (leaves_in (proof_of proof))) }
+{
     let place = start(alloc, sig, plan, k, walk, e)?;
-    walk_tree(alloc, sig, tree, place, units)
+    walk_tree(alloc, sig, tree, place, kernel)
 }

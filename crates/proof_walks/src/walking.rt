@@ -22,8 +22,9 @@ use crate::places::{place_after, with_values};
 use crate::runs::{all_runs, steps_of_runs, stuck, stuck_run};
 use clause_walks::{Ran, Runs};
 use core_sig::Signature;
-use core_terms::{Branch, Items, Stop, Term, Tree, Units};
+use core_terms::{Branch, Items, Stop, Term, Tree};
 use draft_entering::ReportStop;
+use kernel_check::Kernel;
 use proof_places::{value_at, values_in_branch};
 use proof_terms::{Place, Proof};
 use std::alloc::Global;
@@ -45,13 +46,15 @@ pub(crate) fn walk_tree(
     sig: &Signature,
     tree: &Tree,
     p: Place,
-    units: &mut Units,
+    kernel: &mut Kernel<'_>,
 ) -> Result<Proof, ReportStop>
+    requires kernel { kernel.old.signature ≡ sig.now }
     requires ready { IsReady sig.now }
     requires place { IsKeptPlace sig.now (place_of p) }
-    ensures answer { Reports proof_of result units.new.left (walks.walk_tree sig.now (case_tree_of tree.now) (place_of p) units.old.left) }
-    ensures sum { units.new.left + units.new.spent ≡ units.old.left + units.old.spent }
-    ensures spends { units.new.left ≤ units.old.left }
+    ensures answer { Reports proof_of result kernel.new.left (walks.walk_tree sig.now (case_tree_of tree.now) (place_of p) kernel.old.left) }
+    ensures sum { kernel.new.left + kernel.new.spent ≡ kernel.old.left + kernel.old.spent }
+    ensures spends { kernel.new.left ≤ kernel.old.left }
+    ensures kernel { kernel.new.signature ≡ sig.now }
     ensures kept { IfOk result (λ proof. IsKeptProof sig.now (proof_of proof)) }
 {
     match tree {
@@ -71,7 +74,7 @@ pub(crate) fn walk_tree(
                 branches: branches.as_slice(),
                 splits: true,
             };
-            walk_node(alloc, sig, node, p, units)
+            walk_node(alloc, sig, node, p, kernel)
         }
     }
 }
@@ -83,22 +86,24 @@ fn walk_node(
     sig: &Signature,
     node: Node,
     p: Place,
-    units: &mut Units,
+    kernel: &mut Kernel<'_>,
 ) -> Result<Proof, ReportStop>
+    requires kernel { kernel.old.signature ≡ sig.now }
     requires ready { IsReady sig.now }
     requires place { IsKeptPlace sig.now (place_of p) }
-    ensures answer { Reports proof_of result units.new.left (spec.walk_node sig.now (node_of node.entry) (place_of p) units.old.left) }
-    ensures sum { units.new.left + units.new.spent ≡ units.old.left + units.old.spent }
-    ensures spends { units.new.left ≤ units.old.left }
+    ensures answer { Reports proof_of result kernel.new.left (spec.walk_node sig.now (node_of node.entry) (place_of p) kernel.old.left) }
+    ensures sum { kernel.new.left + kernel.new.spent ≡ kernel.old.left + kernel.old.spent }
+    ensures spends { kernel.new.left ≤ kernel.old.left }
+    ensures kernel { kernel.new.signature ≡ sig.now }
     ensures kept { IfOk result (λ proof. IsKeptProof sig.now (proof_of proof)) }
 {
     let t = value_at(alloc, p.values.as_slice(), node.variable)?;
-    match constructor_met(alloc, sig, p.ctx.as_slice(), node.family, &t, units)? {
+    match constructor_met(alloc, sig, p.ctx.as_slice(), node.family, &t, kernel)? {
         Some(met) => {
             let arguments = met.arguments.as_slice();
-            take_branch(alloc, sig, node.branches, met.number, arguments, p, units)
+            take_branch(alloc, sig, node.branches, met.number, arguments, p, kernel)
         }
-        None => at_other(alloc, sig, node, t, p, units),
+        None => at_other(alloc, sig, node, t, p, kernel),
     }
 }
 
@@ -110,19 +115,21 @@ fn at_other(
     node: Node,
     t: Term,
     p: Place,
-    units: &mut Units,
+    kernel: &mut Kernel<'_>,
 ) -> Result<Proof, ReportStop>
+    requires kernel { kernel.old.signature ≡ sig.now }
     requires ready { IsReady sig.now }
     requires place { IsKeptPlace sig.now (place_of p) }
     requires term { IsScoped sig.now (length p.ctx) (tree_of t) }
-    ensures answer { Reports proof_of result units.new.left (walks.at_other sig.now node.entry.family (tree_of t) (spec.splitting sig.now (node_of node.entry) (tree_of t)) (place_of p) units.old.left) }
-    ensures sum { units.new.left + units.new.spent ≡ units.old.left + units.old.spent }
-    ensures spends { units.new.left ≤ units.old.left }
+    ensures answer { Reports proof_of result kernel.new.left (walks.at_other sig.now node.entry.family (tree_of t) (spec.splitting sig.now (node_of node.entry) (tree_of t)) (place_of p) kernel.old.left) }
+    ensures sum { kernel.new.left + kernel.new.spent ≡ kernel.old.left + kernel.old.spent }
+    ensures spends { kernel.new.left ≤ kernel.old.left }
+    ensures kernel { kernel.new.signature ≡ sig.now }
     ensures kept { IfOk result (λ proof. IsKeptProof sig.now (proof_of proof)) }
 {
     let ctx = p.ctx.as_slice();
-    match variable_met(alloc, sig, node.splits, node.family, ctx, &t, units)? {
-        Some(v) => split_variable(alloc, sig, node, v, p, units),
+    match variable_met(alloc, sig, node.splits, node.family, ctx, &t, kernel)? {
+        Some(v) => split_variable(alloc, sig, node, v, p, kernel),
         None => Err(stuck(alloc, p.ctx.as_slice(), &t, &t)?),
     }
 }
@@ -136,23 +143,25 @@ fn take_branch(
     number: u32,
     arguments: &[Term],
     p: Place,
-    units: &mut Units,
+    kernel: &mut Kernel<'_>,
 ) -> Result<Proof, ReportStop>
+    requires kernel { kernel.old.signature ≡ sig.now }
     requires ready { IsReady sig.now }
     requires place { IsKeptPlace sig.now (place_of p) }
     requires arguments { AreScoped sig.now (length p.ctx) (tele_of arguments.now) }
-    ensures answer { Reports proof_of result units.new.left (walks.take_branch sig.now (branches_of branches.now) number (tele_of arguments.now) (place_of p) units.old.left) }
-    ensures sum { units.new.left + units.new.spent ≡ units.old.left + units.old.spent }
-    ensures spends { units.new.left ≤ units.old.left }
+    ensures answer { Reports proof_of result kernel.new.left (walks.take_branch sig.now (branches_of branches.now) number (tele_of arguments.now) (place_of p) kernel.old.left) }
+    ensures sum { kernel.new.left + kernel.new.spent ≡ kernel.old.left + kernel.old.spent }
+    ensures spends { kernel.new.left ≤ kernel.old.left }
+    ensures kernel { kernel.new.signature ≡ sig.now }
     ensures kept { IfOk result (λ proof. IsKeptProof sig.now (proof_of proof)) }
 {
     match branches {
         [] => Err(ReportStop::Stop(Stop::Deep)),
         [branch, rest @ ..] => {
             if number == 0 {
-                enter_branch(alloc, sig, branch, arguments, p, units)
+                enter_branch(alloc, sig, branch, arguments, p, kernel)
             } else {
-                take_branch(alloc, sig, rest, number - 1, arguments, p, units)
+                take_branch(alloc, sig, rest, number - 1, arguments, p, kernel)
             }
         }
     }
@@ -166,14 +175,16 @@ fn enter_branch(
     branch: &Branch,
     arguments: &[Term],
     p: Place,
-    units: &mut Units,
+    kernel: &mut Kernel<'_>,
 ) -> Result<Proof, ReportStop>
+    requires kernel { kernel.old.signature ≡ sig.now }
     requires ready { IsReady sig.now }
     requires place { IsKeptPlace sig.now (place_of p) }
     requires arguments { AreScoped sig.now (length p.ctx) (tele_of arguments.now) }
-    ensures answer { Reports proof_of result units.new.left (walks.enter_branch sig.now (branch_of branch.now) (tele_of arguments.now) (place_of p) units.old.left) }
-    ensures sum { units.new.left + units.new.spent ≡ units.old.left + units.old.spent }
-    ensures spends { units.new.left ≤ units.old.left }
+    ensures answer { Reports proof_of result kernel.new.left (walks.enter_branch sig.now (branch_of branch.now) (tele_of arguments.now) (place_of p) kernel.old.left) }
+    ensures sum { kernel.new.left + kernel.new.spent ≡ kernel.old.left + kernel.old.spent }
+    ensures spends { kernel.new.left ≤ kernel.old.left }
+    ensures kernel { kernel.new.signature ≡ sig.now }
     ensures kept { IfOk result (λ proof. IsKeptProof sig.now (proof_of proof)) }
 {
     match branch {
@@ -186,7 +197,7 @@ fn enter_branch(
         Branch::Solved { origin, tree, .. } => {
             let values = p.values.as_slice();
             let next = values_in_branch(alloc, values, arguments, origin.as_slice())?;
-            walk_tree(alloc, sig, tree, with_values(p, next), units)
+            walk_tree(alloc, sig, tree, with_values(p, next), kernel)
         }
     }
 }
@@ -199,20 +210,22 @@ fn split_variable(
     node: Node,
     v: Variable,
     p: Place,
-    units: &mut Units,
+    kernel: &mut Kernel<'_>,
 ) -> Result<Proof, ReportStop>
+    requires kernel { kernel.old.signature ≡ sig.now }
     requires ready { IsReady sig.now }
     requires place { IsKeptPlace sig.now (place_of p) }
     requires variable { IsVariableOf sig.now (length p.ctx) node.splits v }
-    ensures answer { Reports proof_of result units.new.left (walks.split_variable sig.now (spec.walk_node sig.now (spec.again (node_of node.entry))) v.entry.number (tree_of v.entry.ty) (member_meant v.entry.member) (place_of p) units.old.left) }
-    ensures sum { units.new.left + units.new.spent ≡ units.old.left + units.old.spent }
-    ensures spends { units.new.left ≤ units.old.left }
+    ensures answer { Reports proof_of result kernel.new.left (walks.split_variable sig.now (spec.walk_node sig.now (spec.again (node_of node.entry))) v.entry.number (tree_of v.entry.ty) (member_meant v.entry.member) (place_of p) kernel.old.left) }
+    ensures sum { kernel.new.left + kernel.new.spent ≡ kernel.old.left + kernel.old.spent }
+    ensures spends { kernel.new.left ≤ kernel.old.left }
+    ensures kernel { kernel.new.signature ≡ sig.now }
     ensures kept { IfOk result (λ proof. IsKeptProof sig.now (proof_of proof)) }
 {
-    match all_runs(alloc, sig, p.ctx.as_slice(), v.number, &v.member, units)? {
+    match all_runs(alloc, sig, p.ctx.as_slice(), v.number, &v.member, kernel)? {
         Runs::Found(runs) => {
             let none = Items::new(alloc);
-            let proofs = solved_branches(alloc, sig, node, &p, runs.as_slice(), none, units)?;
+            let proofs = solved_branches(alloc, sig, node, &p, runs.as_slice(), none, kernel)?;
             Ok(split_with(alloc, p, v, runs, proofs)?)
         }
         Runs::Passed(run) => Err(stuck_run(run)),
@@ -249,22 +262,24 @@ fn solved_branches(
     p: &Place,
     runs: &[Ran],
     made: Items<Proof>,
-    units: &mut Units,
+    kernel: &mut Kernel<'_>,
 ) -> Result<Items<Proof>, ReportStop>
+    requires kernel { kernel.old.signature ≡ sig.now }
     requires ready { IsReady sig.now }
     requires place { IsKeptPlace sig.now (place_of p.now) }
     requires runs { runs_spec.AreSolving sig.now (ends_of runs.now) }
     requires made { AreKeptProofs sig.now (proofs_of made) }
-    ensures answer { Reports proofs_of result units.new.left (runs_spec.onto (map proof_of made) (runs_spec.solved_outcomes (spec.walk_node sig.now (spec.again (node_of node.entry))) (place_of p.now) (runs_spec.outcomes_in (ends_of runs.now)) units.old.left)) }
-    ensures sum { units.new.left + units.new.spent ≡ units.old.left + units.old.spent }
-    ensures spends { units.new.left ≤ units.old.left }
+    ensures answer { Reports proofs_of result kernel.new.left (runs_spec.onto (map proof_of made) (runs_spec.solved_outcomes (spec.walk_node sig.now (spec.again (node_of node.entry))) (place_of p.now) (runs_spec.outcomes_in (ends_of runs.now)) kernel.old.left)) }
+    ensures sum { kernel.new.left + kernel.new.spent ≡ kernel.old.left + kernel.old.spent }
+    ensures spends { kernel.new.left ≤ kernel.old.left }
+    ensures kernel { kernel.new.signature ≡ sig.now }
     ensures kept { IfOk result (λ proofs. AreKeptProofs sig.now (proofs_of proofs)) }
 {
     match runs {
         [] => Ok(made),
         [run, rest @ ..] => {
-            let made = with_solved(alloc, sig, node, p, run, made, units)?;
-            solved_branches(alloc, sig, node, p, rest, made, units)
+            let made = with_solved(alloc, sig, node, p, run, made, kernel)?;
+            solved_branches(alloc, sig, node, p, rest, made, kernel)
         }
     }
 }
@@ -278,15 +293,17 @@ fn with_solved(
     p: &Place,
     run: &Ran,
     mut made: Items<Proof>,
-    units: &mut Units,
+    kernel: &mut Kernel<'_>,
 ) -> Result<Items<Proof>, ReportStop>
+    requires kernel { kernel.old.signature ≡ sig.now }
     requires ready { IsReady sig.now }
     requires place { IsKeptPlace sig.now (place_of p.now) }
     requires run { IsSolving sig.now (ran_of run.now).outcome }
     requires made { AreKeptProofs sig.now (proofs_of made) }
-    ensures answer { Reports (λ v. map proof_of v) result units.new.left (runs_spec.with_outcome (spec.walk_node sig.now (spec.again (node_of node.entry))) (place_of p.now) (map proof_of made) (ran_of run.now).outcome units.old.left) }
-    ensures sum { units.new.left + units.new.spent ≡ units.old.left + units.old.spent }
-    ensures spends { units.new.left ≤ units.old.left }
+    ensures answer { Reports (λ v. map proof_of v) result kernel.new.left (runs_spec.with_outcome (spec.walk_node sig.now (spec.again (node_of node.entry))) (place_of p.now) (map proof_of made) (ran_of run.now).outcome kernel.old.left) }
+    ensures sum { kernel.new.left + kernel.new.spent ≡ kernel.old.left + kernel.old.spent }
+    ensures spends { kernel.new.left ≤ kernel.old.left }
+    ensures kernel { kernel.new.signature ≡ sig.now }
     ensures kept { IfOk result (λ proofs. AreKeptProofs sig.now (proofs_of proofs)) }
 {
     match &run.outcome {
@@ -298,7 +315,7 @@ fn with_solved(
                 branches: node.branches,
                 splits: false,
             };
-            made.push(walk_node(alloc, sig, again, q, units)?)?;
+            made.push(walk_node(alloc, sig, again, q, kernel)?)?;
             Ok(made)
         }
         Outcome::Absurd { .. } | Outcome::Stuck { .. } => Ok(made),

@@ -14,8 +14,8 @@ ghost use Rattle.clause_reports.specs.Shadows as spec;
 ghost use Rattle.shadow_vectors.specs.CodeVectors.{onto};
 
 use core_sig::Signature;
-use core_terms::{Items, Pat, Stop, Tele, Term, Units, applied, checked, copy_whole};
-use kernel_reduce::whnf;
+use core_terms::{Items, Pat, Stop, Tele, Term, applied, checked, copy_whole};
+use kernel_check::Kernel;
 use std::alloc::Global;
 use unifier::{Built, built_of, split_spine};
 
@@ -53,17 +53,19 @@ fn reduced_by(
     sig: &Signature,
     pat: &Pat,
     t: &Term,
-    units: &mut Units,
+    kernel: &mut Kernel<'_>,
 ) -> Result<Term, Stop>
-    requires { CanReduce sig.now (tree_of t.now ∷ []) }
-    ensures answer { Runs tree_of result units.new.left (spec.reduced_by sig.now (pat_of pat.now) (tree_of t.now) units.old.left) }
-    ensures sum { units.new.left + units.new.spent ≡ units.old.left + units.old.spent }
-    ensures spends { units.new.left ≤ units.old.left }
+    requires kernel { kernel.old.signature ≡ sig.now }
+    requires given { CanReduce sig.now (tree_of t.now ∷ []) }
+    ensures answer { Runs tree_of result kernel.new.left (spec.reduced_by sig.now (pat_of pat.now) (tree_of t.now) kernel.old.left) }
+    ensures sum { kernel.new.left + kernel.new.spent ≡ kernel.old.left + kernel.old.spent }
+    ensures spends { kernel.new.left ≤ kernel.old.left }
+    ensures kernel { kernel.new.signature ≡ sig.now }
 {
     match pat {
         Pat::Con(n, number, pats) => {
-            let w = whnf(alloc, sig, t, true, units)?;
-            reduced_at(alloc, sig, *n, *number, pats.as_slice(), w, units)
+            let w = kernel.whnf(t)?;
+            reduced_at(alloc, sig, *n, *number, pats.as_slice(), w, kernel)
         }
         Pat::Bind | Pat::Wild | Pat::Dot(_) | Pat::Absurd => copy_whole(alloc, t),
     }
@@ -78,19 +80,21 @@ fn reduced_at(
     number: u32,
     pats: &[Pat],
     w: Term,
-    units: &mut Units,
+    kernel: &mut Kernel<'_>,
 ) -> Result<Term, Stop>
+    requires kernel { kernel.old.signature ≡ sig.now }
     requires reducible { CanReduce sig.now (tree_of w ∷ []) }
     requires low { tree.height (tree_of w) ≤ most_height }
-    ensures answer { Runs tree_of result units.new.left (spec.reduced_arguments n number (spec.all_reduced sig.now (pats_of pats.now)) (tree_of w) (built.built_of sig.now (tree_of w)) units.old.left) }
-    ensures sum { units.new.left + units.new.spent ≡ units.old.left + units.old.spent }
-    ensures spends { units.new.left ≤ units.old.left }
+    ensures answer { Runs tree_of result kernel.new.left (spec.reduced_arguments n number (spec.all_reduced sig.now (pats_of pats.now)) (tree_of w) (built.built_of sig.now (tree_of w)) kernel.old.left) }
+    ensures sum { kernel.new.left + kernel.new.spent ≡ kernel.old.left + kernel.old.spent }
+    ensures spends { kernel.new.left ≤ kernel.old.left }
+    ensures kernel { kernel.new.signature ≡ sig.now }
 {
     let Some(b) = built_of(sig, &w) else {
         return Ok(w);
     };
     if is_own(b, n, number) {
-        with_arguments(alloc, sig, b, n, number, pats, &w, units)
+        with_arguments(alloc, sig, b, n, number, pats, &w, kernel)
     } else {
         Ok(w)
     }
@@ -106,17 +110,19 @@ fn with_arguments(
     number: u32,
     pats: &[Pat],
     w: &Term,
-    units: &mut Units,
+    kernel: &mut Kernel<'_>,
 ) -> Result<Term, Stop>
+    requires kernel { kernel.old.signature ≡ sig.now }
     requires reducible { CanReduce sig.now (tree_of w.now ∷ []) }
     requires there { IfThere (IsBuiltAs b) (built.built_of sig.now (tree_of w.now)) }
     requires own { (p : built.Built) → IsBuiltAs b p → is_constructor n number p ≡ true }
-    ensures answer { Runs tree_of result units.new.left (spec.reduced_arguments n number (spec.all_reduced sig.now (pats_of pats.now)) (tree_of w.now) (built.built_of sig.now (tree_of w.now)) units.old.left) }
-    ensures sum { units.new.left + units.new.spent ≡ units.old.left + units.old.spent }
-    ensures spends { units.new.left ≤ units.old.left }
+    ensures answer { Runs tree_of result kernel.new.left (spec.reduced_arguments n number (spec.all_reduced sig.now (pats_of pats.now)) (tree_of w.now) (built.built_of sig.now (tree_of w.now)) kernel.old.left) }
+    ensures sum { kernel.new.left + kernel.new.spent ≡ kernel.old.left + kernel.old.spent }
+    ensures spends { kernel.new.left ≤ kernel.old.left }
+    ensures kernel { kernel.new.signature ≡ sig.now }
 {
     let (ps, us) = split_spine(alloc, w, b.record.params.as_slice().len())?;
-    let all = with_reduced(alloc, sig, pats, us.as_slice(), ps, units)?;
+    let all = with_reduced(alloc, sig, pats, us.as_slice(), ps, kernel)?;
     constructor_at(alloc, b.family, b.number, all)
 }
 
@@ -128,20 +134,22 @@ fn with_reduced(
     pats: &[Pat],
     terms: &[Term],
     made: Tele,
-    units: &mut Units,
+    kernel: &mut Kernel<'_>,
 ) -> Result<Tele, Stop>
-    requires { CanReduce sig.now (tele_of terms.now) }
-    ensures answer { Runs tele_of result units.new.left (onto (tele_of made) (spec.all_reduced sig.now (pats_of pats.now) (tele_of terms.now) units.old.left)) }
-    ensures sum { units.new.left + units.new.spent ≡ units.old.left + units.old.spent }
-    ensures spends { units.new.left ≤ units.old.left }
+    requires kernel { kernel.old.signature ≡ sig.now }
+    requires given { CanReduce sig.now (tele_of terms.now) }
+    ensures answer { Runs tele_of result kernel.new.left (onto (tele_of made) (spec.all_reduced sig.now (pats_of pats.now) (tele_of terms.now) kernel.old.left)) }
+    ensures sum { kernel.new.left + kernel.new.spent ≡ kernel.old.left + kernel.old.spent }
+    ensures spends { kernel.new.left ≤ kernel.old.left }
+    ensures kernel { kernel.new.signature ≡ sig.now }
 {
     match pats {
         [] => copied_onto(alloc, terms, made),
         [pat, pats @ ..] => match terms {
             [] => Ok(made),
             [t, rest @ ..] => {
-                let u = reduced_by(alloc, sig, pat, t, units)?;
-                after_term(alloc, sig, u, pats, rest, made, units)
+                let u = reduced_by(alloc, sig, pat, t, kernel)?;
+                after_term(alloc, sig, u, pats, rest, made, kernel)
             }
         },
     }
@@ -156,15 +164,17 @@ fn after_term(
     pats: &[Pat],
     terms: &[Term],
     mut made: Tele,
-    units: &mut Units,
+    kernel: &mut Kernel<'_>,
 ) -> Result<Tele, Stop>
-    requires { CanReduce sig.now (tele_of terms.now) }
-    ensures answer { Runs tele_of result units.new.left (onto (tele_of made ++ tree_of u ∷ []) (spec.all_reduced sig.now (pats_of pats.now) (tele_of terms.now) units.old.left)) }
-    ensures sum { units.new.left + units.new.spent ≡ units.old.left + units.old.spent }
-    ensures spends { units.new.left ≤ units.old.left }
+    requires kernel { kernel.old.signature ≡ sig.now }
+    requires given { CanReduce sig.now (tele_of terms.now) }
+    ensures answer { Runs tele_of result kernel.new.left (onto (tele_of made ++ tree_of u ∷ []) (spec.all_reduced sig.now (pats_of pats.now) (tele_of terms.now) kernel.old.left)) }
+    ensures sum { kernel.new.left + kernel.new.spent ≡ kernel.old.left + kernel.old.spent }
+    ensures spends { kernel.new.left ≤ kernel.old.left }
+    ensures kernel { kernel.new.signature ≡ sig.now }
 {
     made.push(u)?;
-    with_reduced(alloc, sig, pats, terms, made, units)
+    with_reduced(alloc, sig, pats, terms, made, kernel)
 }
 
 /// Terms as they are reduced by the patterns, one after the other. Terms without a pattern stay as they are.
@@ -173,15 +183,17 @@ pub fn all_reduced(
     sig: &Signature,
     pats: &[Pat],
     terms: &[Term],
-    units: &mut Units,
+    kernel: &mut Kernel<'_>,
 ) -> Result<Tele, Stop>
-    requires { CanReduce sig.now (tele_of terms.now) }
-    ensures answer { Runs tele_of result units.new.left (spec.all_reduced sig.now (pats_of pats.now) (tele_of terms.now) units.old.left) }
-    ensures sum { units.new.left + units.new.spent ≡ units.old.left + units.old.spent }
-    ensures spends { units.new.left ≤ units.old.left }
+    requires kernel { kernel.old.signature ≡ sig.now }
+    requires given { CanReduce sig.now (tele_of terms.now) }
+    ensures answer { Runs tele_of result kernel.new.left (spec.all_reduced sig.now (pats_of pats.now) (tele_of terms.now) kernel.old.left) }
+    ensures sum { kernel.new.left + kernel.new.spent ≡ kernel.old.left + kernel.old.spent }
+    ensures spends { kernel.new.left ≤ kernel.old.left }
+    ensures kernel { kernel.new.signature ≡ sig.now }
     ensures scoped { (n : ℕ) → AreScoped sig.now n (tele_of terms.now) → IfOk result (λ us. AreScoped sig.now n (tele_of us)) }
 {
-    with_reduced(alloc, sig, pats, terms, Items::new(alloc), units)
+    with_reduced(alloc, sig, pats, terms, Items::new(alloc), kernel)
 }
 
 /// The terms of a clause, reduced by its own patterns and then by those of an earlier clause: the vector that the earlier clause may
@@ -192,14 +204,16 @@ pub fn vector_of(
     own: &[Pat],
     earlier: &[Pat],
     terms: &[Term],
-    units: &mut Units,
+    kernel: &mut Kernel<'_>,
 ) -> Result<Tele, Stop>
-    requires { CanReduce sig.now (tele_of terms.now) }
-    ensures answer { Runs tele_of result units.new.left (spec.vector_of sig.now (pats_of own.now) (pats_of earlier.now) (tele_of terms.now) units.old.left) }
-    ensures sum { units.new.left + units.new.spent ≡ units.old.left + units.old.spent }
-    ensures spends { units.new.left ≤ units.old.left }
+    requires kernel { kernel.old.signature ≡ sig.now }
+    requires given { CanReduce sig.now (tele_of terms.now) }
+    ensures answer { Runs tele_of result kernel.new.left (spec.vector_of sig.now (pats_of own.now) (pats_of earlier.now) (tele_of terms.now) kernel.old.left) }
+    ensures sum { kernel.new.left + kernel.new.spent ≡ kernel.old.left + kernel.old.spent }
+    ensures spends { kernel.new.left ≤ kernel.old.left }
+    ensures kernel { kernel.new.signature ≡ sig.now }
     ensures scoped { (n : ℕ) → AreScoped sig.now n (tele_of terms.now) → IfOk result (λ us. AreScoped sig.now n (tele_of us)) }
 {
-    let first = all_reduced(alloc, sig, own, terms, units)?;
-    all_reduced(alloc, sig, earlier, first.as_slice(), units)
+    let first = all_reduced(alloc, sig, own, terms, kernel)?;
+    all_reduced(alloc, sig, earlier, first.as_slice(), kernel)
 }

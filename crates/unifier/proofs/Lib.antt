@@ -5,6 +5,7 @@ pub mod BuiltForms
 pub mod ConstructorTurns
 pub mod CycleCodes
 pub mod CycleForms
+pub mod DeletionTurns
 pub mod FoundGroups
 pub mod GivenTerms
 pub mod GroupCodes

@@ -18,8 +18,8 @@ use crate::state::{Equation, State};
 use crate::trials::{fails, single, type_in};
 use crate::turn::Turn;
 use core_sig::Signature;
-use core_terms::{Rule, Stop, Tele, Term, Units};
-use kernel_reduce::whnf;
+use core_terms::{Rule, Stop, Tele, Term};
+use kernel_check::Kernel;
 use std::alloc::Global;
 
 /// Which constructors a trial is for: of a family that no confusion can be made of, or of one family.
@@ -40,29 +40,30 @@ fn meets(wanted: Fits, b: Built) -> bool
 
 /// The head forms of both sides, where they are such constructors of one family.
 pub(crate) fn heads(
-    alloc: Global,
     sig: &Signature,
     wanted: Fits,
     left: &Term,
     right: &Term,
-    units: &mut Units,
+    kernel: &mut Kernel<'_>,
 ) -> Result<Option<(Term, Term)>, Stop>
+    requires kernel { kernel.old.signature ≡ sig.now }
     requires ready { IsReady sig.now }
     requires left { IsGiven sig.now most_levels (tree_of left.now) }
     requires right { IsGiven sig.now most_levels (tree_of right.now) }
-    ensures answer { Runs (option_map (λ sides. (tree_of sides.0, tree_of sides.1))) result units.new.left (spec.heads sig.now (fits_of wanted) (tree_of left.now) (tree_of right.now) units.old.left) }
-    ensures sum { units.new.left + units.new.spent ≡ units.old.left + units.old.spent }
-    ensures spends { units.new.left ≤ units.old.left }
+    ensures answer { Runs (option_map (λ sides. (tree_of sides.0, tree_of sides.1))) result kernel.new.left (spec.heads sig.now (fits_of wanted) (tree_of left.now) (tree_of right.now) kernel.old.left) }
+    ensures sum { kernel.new.left + kernel.new.spent ≡ kernel.old.left + kernel.old.spent }
+    ensures spends { kernel.new.left ≤ kernel.old.left }
+    ensures kernel { kernel.new.signature ≡ sig.now }
     ensures given { (n : ℕ) → IsGiven sig.now n (tree_of left.now) → IsGiven sig.now n (tree_of right.now) → IfOk result (λ found. IfSome found (λ sides. IsGiven sig.now n (tree_of sides.0) × IsGiven sig.now n (tree_of sides.1))) }
     ensures family { IfOk result (λ found. IfSome found (λ sides. AreOfOneFamily sig.now (tree_of sides.0) (tree_of sides.1))) }
     ensures wanted { IfOk result (λ found. IfSome found (λ sides. (p : spec_built.Built) → built_of sig.now (tree_of sides.0) ≡ Some p → IsTrue (fits_of wanted p))) }
 {
-    let left = whnf(alloc, sig, left, true, units)?;
+    let left = kernel.whnf(left)?;
     let n = match built_of(sig, &left) {
         Some(b) if meets(wanted, b) => b.family,
         _ => return Ok(None),
     };
-    let right = whnf(alloc, sig, right, true, units)?;
+    let right = kernel.whnf(right)?;
     match built_of(sig, &right) {
         Some(d) if d.family == n => Ok(Some((left, right))),
         _ => Ok(None),
@@ -75,18 +76,20 @@ pub(crate) fn constructor_trial(
     sig: &Signature,
     s: &State,
     e: &Equation,
-    units: &mut Units,
+    kernel: &mut Kernel<'_>,
 ) -> Result<Option<Turn>, Stop>
+    requires kernel { kernel.old.signature ≡ sig.now }
     requires ready { IsReady sig.now }
     requires state { IsKept sig.now (state_of s.now) }
     requires first { slice_get (state_of s.now).equations 0 ≡ Some (equation_of e.now) }
-    ensures answer { Runs (option_map turn_of) result units.new.left (spec.constructor_trial sig.now (state_of s.now) (equation_of e.now) units.old.left) }
-    ensures sum { units.new.left + units.new.spent ≡ units.old.left + units.old.spent }
-    ensures spends { units.new.left ≤ units.old.left }
+    ensures answer { Runs (option_map turn_of) result kernel.new.left (spec.constructor_trial sig.now (state_of s.now) (equation_of e.now) kernel.old.left) }
+    ensures sum { kernel.new.left + kernel.new.spent ≡ kernel.old.left + kernel.old.spent }
+    ensures spends { kernel.new.left ≤ kernel.old.left }
+    ensures kernel { kernel.new.signature ≡ sig.now }
     ensures room { IfOk result (λ found. LeadsToRoomWhere (option_map turn_of found)) }
 {
-    match heads(alloc, sig, Fits::Level, &e.left, &e.right, units)? {
-        Some((left, right)) => constructor_turn(alloc, sig, s, e, left, right, units),
+    match heads(sig, Fits::Level, &e.left, &e.right, kernel)? {
+        Some((left, right)) => constructor_turn(alloc, sig, s, e, left, right, kernel),
         None => Ok(None),
     }
 }
@@ -99,17 +102,19 @@ fn constructor_turn(
     e: &Equation,
     left: Term,
     right: Term,
-    units: &mut Units,
+    kernel: &mut Kernel<'_>,
 ) -> Result<Option<Turn>, Stop>
+    requires kernel { kernel.old.signature ≡ sig.now }
     requires ready { IsReady sig.now }
     requires state { IsKept sig.now (state_of s.now) }
     requires first { slice_get (state_of s.now).equations 0 ≡ Some (equation_of e.now) }
     requires left { IsGiven sig.now (length s.now.ctx) (tree_of left) }
     requires right { IsGiven sig.now (length s.now.ctx) (tree_of right) }
     requires family { AreOfOneFamily sig.now (tree_of left) (tree_of right) }
-    ensures answer { Runs (option_map turn_of) result units.new.left (spec.with_built (spec.constructor_turn sig.now (state_of s.now) (equation_of e.now)) (tree_of left) (tree_of right) (built_of sig.now (tree_of left)) (built_of sig.now (tree_of right)) units.old.left) }
-    ensures sum { units.new.left + units.new.spent ≡ units.old.left + units.old.spent }
-    ensures spends { units.new.left ≤ units.old.left }
+    ensures answer { Runs (option_map turn_of) result kernel.new.left (spec.with_built (spec.constructor_turn sig.now (state_of s.now) (equation_of e.now)) (tree_of left) (tree_of right) (built_of sig.now (tree_of left)) (built_of sig.now (tree_of right)) kernel.old.left) }
+    ensures sum { kernel.new.left + kernel.new.spent ≡ kernel.old.left + kernel.old.spent }
+    ensures spends { kernel.new.left ≤ kernel.old.left }
+    ensures kernel { kernel.new.signature ≡ sig.now }
     ensures room { IfOk result (λ found. LeadsToRoomWhere (option_map turn_of found)) }
 {
     let (Some(b), Some(d)) = (built_of(sig, &left), built_of(sig, &right)) else {
@@ -118,7 +123,7 @@ fn constructor_turn(
     if b.number != d.number {
         let rule = Rule::Conflict(b.family, b.number, d.number);
         let step = single(rule, type_in(alloc, &e.ty)?, left, right);
-        return fails(alloc, sig, step, &e.left, &e.right, units);
+        return fails(step, &e.left, &e.right, kernel);
     }
     if !has_no_indices(b.record) {
         return Ok(None);

@@ -21,8 +21,8 @@ use crate::state::Equation;
 use crate::trials::{fails, single, type_in};
 use crate::turn::Turn;
 use core_sig::{Arg, Signature};
-use core_terms::{MAX_HEIGHT, Rule, Stop, Term, Units, applied, copy_whole};
-use kernel_reduce::whnf;
+use core_terms::{MAX_HEIGHT, Rule, Stop, Term, applied, copy_whole};
+use kernel_check::Kernel;
 use std::alloc::Global;
 
 /// Whether acyclicity is made for the constructor's family.
@@ -59,14 +59,16 @@ fn search(
     x: u32,
     room: u32,
     t: &Term,
-    units: &mut Units,
+    kernel: &mut Kernel<'_>,
 ) -> Result<Option<Term>, Stop>
+    requires kernel { kernel.old.signature ≡ sig.now }
     requires ready { IsReady sig.now }
     requires room { room ≤ most_height }
     requires t { IsGiven sig.now most_levels (tree_of t.now) }
-    ensures answer { Runs (option_map tree_of) result units.new.left (code.search_within sig.now n x room (tree_of t.now) units.old.left) }
-    ensures sum { units.new.left + units.new.spent ≡ units.old.left + units.old.spent }
-    ensures spends { units.new.left ≤ units.old.left }
+    ensures answer { Runs (option_map tree_of) result kernel.new.left (code.search_within sig.now n x room (tree_of t.now) kernel.old.left) }
+    ensures sum { kernel.new.left + kernel.new.spent ≡ kernel.old.left + kernel.old.spent }
+    ensures spends { kernel.new.left ≤ kernel.old.left }
+    ensures kernel { kernel.new.signature ≡ sig.now }
 {
     if is_variable(x, t) {
         return within(room, copy_whole(alloc, t)?);
@@ -78,9 +80,9 @@ fn search(
         return Ok(None);
     }
     if room == 0 {
-        return below_too_deep(alloc, sig, b, x, t, units);
+        return below_too_deep(alloc, sig, b, x, t, kernel);
     }
-    below(alloc, sig, b, x, room, t, units)
+    below(alloc, sig, b, x, room, t, kernel)
 }
 
 /// The variable below the constructor that the term is.
@@ -92,21 +94,23 @@ fn below(
     x: u32,
     room: u32,
     t: &Term,
-    units: &mut Units,
+    kernel: &mut Kernel<'_>,
 ) -> Result<Option<Term>, Stop>
+    requires kernel { kernel.old.signature ≡ sig.now }
     requires ready { IsReady sig.now }
     requires room { 0 < room }
     requires most { room ≤ most_height }
     requires t { IsGiven sig.now most_levels (tree_of t.now) }
-    ensures answer { (p : spec_built.Built) → spec_built.built_of sig.now (tree_of t.now) ≡ Some p → IsBuiltAs b.entry p → Runs (option_map tree_of) result units.new.left (code.search_within sig.now p.n x room (tree_of t.now) units.old.left) }
-    ensures sum { units.new.left + units.new.spent ≡ units.old.left + units.old.spent }
-    ensures spends { units.new.left ≤ units.old.left }
+    ensures answer { (p : spec_built.Built) → spec_built.built_of sig.now (tree_of t.now) ≡ Some p → IsBuiltAs b.entry p → Runs (option_map tree_of) result kernel.new.left (code.search_within sig.now p.n x room (tree_of t.now) kernel.old.left) }
+    ensures sum { kernel.new.left + kernel.new.spent ≡ kernel.old.left + kernel.old.spent }
+    ensures spends { kernel.new.left ≤ kernel.old.left }
+    ensures kernel { kernel.new.signature ≡ sig.now }
 {
     let count = b.record.params.as_slice().len();
     let (ps, us) = split_spine(alloc, t, count)?;
     let mut us = us.into_vec();
     let args = b.con.args.as_slice();
-    if !among(alloc, sig, b.family, x, room - 1, args, &mut us, 0, units)? {
+    if !among(alloc, sig, b.family, x, room - 1, args, &mut us, 0, kernel)? {
         return Ok(None);
     }
     let head = applied(alloc, Term::Con(b.family, b.number), ps.into_vec())?;
@@ -125,25 +129,27 @@ fn among(
     args: &[Arg],
     us: &mut Vec<Term>,
     at: usize,
-    units: &mut Units,
+    kernel: &mut Kernel<'_>,
 ) -> Result<bool, Stop>
+    requires kernel { kernel.old.signature ≡ sig.now }
     requires ready { IsReady sig.now }
     requires room { room ≤ most_height }
     requires us { AreGiven sig.now most_levels (tele_of us.old.items) }
-    ensures answer { (p : ℕ) → Runs (λ found. cond found (Some (drop at (tele_of us.new.items))) None) result units.new.left (spec.among_arguments sig.now (λ before. code.search_within sig.now n x room) (map (argument_of p) (drop at args.now)) (drop at (tele_of us.old.items)) units.old.left) }
+    ensures answer { (p : ℕ) → Runs (λ found. cond found (Some (drop at (tele_of us.new.items))) None) result kernel.new.left (spec.among_arguments sig.now (λ before. code.search_within sig.now n x room) (map (argument_of p) (drop at args.now)) (drop at (tele_of us.old.items)) kernel.old.left) }
     ensures before { take at us.new.items ≡ take at us.old.items }
-    ensures sum { units.new.left + units.new.spent ≡ units.old.left + units.old.spent }
-    ensures spends { units.new.left ≤ units.old.left }
+    ensures sum { kernel.new.left + kernel.new.spent ≡ kernel.old.left + kernel.old.spent }
+    ensures spends { kernel.new.left ≤ kernel.old.left }
+    ensures kernel { kernel.new.signature ≡ sig.now }
 {
     if at >= us.len() || at >= args.len() {
         return Ok(false);
     }
-    let found = at_argument(alloc, sig, n, x, room, &args[at], &us[at], units)?;
+    let found = at_argument(alloc, sig, n, x, room, &args[at], &us[at], kernel)?;
     if let Some(found) = found {
         us[at] = found;
         return Ok(true);
     }
-    among(alloc, sig, n, x, room, args, us, at + 1, units)
+    among(alloc, sig, n, x, room, args, us, at + 1, kernel)
 }
 
 /// What is found in one of them, where it is direct.
@@ -156,20 +162,22 @@ fn at_argument(
     room: u32,
     arg: &Arg,
     u: &Term,
-    units: &mut Units,
+    kernel: &mut Kernel<'_>,
 ) -> Result<Option<Term>, Stop>
+    requires kernel { kernel.old.signature ≡ sig.now }
     requires ready { IsReady sig.now }
     requires room { room ≤ most_height }
     requires u { IsGiven sig.now most_levels (tree_of u.now) }
-    ensures answer { (p : ℕ) → Runs (option_map tree_of) result units.new.left (code.at_argument sig.now n x room (argument_of p arg.now) (tree_of u.now) units.old.left) }
-    ensures sum { units.new.left + units.new.spent ≡ units.old.left + units.old.spent }
-    ensures spends { units.new.left ≤ units.old.left }
+    ensures answer { (p : ℕ) → Runs (option_map tree_of) result kernel.new.left (code.at_argument sig.now n x room (argument_of p arg.now) (tree_of u.now) kernel.old.left) }
+    ensures sum { kernel.new.left + kernel.new.spent ≡ kernel.old.left + kernel.old.spent }
+    ensures spends { kernel.new.left ≤ kernel.old.left }
+    ensures kernel { kernel.new.signature ≡ sig.now }
 {
     if !is_direct(arg) {
         return Ok(None);
     }
-    let t = whnf(alloc, sig, u, true, units)?;
-    search(alloc, sig, n, x, room, &t, units)
+    let t = kernel.whnf(u)?;
+    search(alloc, sig, n, x, room, &t, kernel)
 }
 
 /// The variable below the constructor that the term is, where there is no room for what is found.
@@ -179,16 +187,18 @@ fn below_too_deep(
     b: Built,
     x: u32,
     t: &Term,
-    units: &mut Units,
+    kernel: &mut Kernel<'_>,
 ) -> Result<Option<Term>, Stop>
+    requires kernel { kernel.old.signature ≡ sig.now }
     requires ready { IsReady sig.now }
     requires t { IsGiven sig.now most_levels (tree_of t.now) }
-    ensures answer { (p : spec_built.Built) → spec_built.built_of sig.now (tree_of t.now) ≡ Some p → IsBuiltAs b.entry p → Runs (option_map tree_of) result units.new.left (code.search_within sig.now p.n x 0 (tree_of t.now) units.old.left) }
-    ensures sum { units.new.left + units.new.spent ≡ units.old.left + units.old.spent }
-    ensures spends { units.new.left ≤ units.old.left }
+    ensures answer { (p : spec_built.Built) → spec_built.built_of sig.now (tree_of t.now) ≡ Some p → IsBuiltAs b.entry p → Runs (option_map tree_of) result kernel.new.left (code.search_within sig.now p.n x 0 (tree_of t.now) kernel.old.left) }
+    ensures sum { kernel.new.left + kernel.new.spent ≡ kernel.old.left + kernel.old.spent }
+    ensures spends { kernel.new.left ≤ kernel.old.left }
+    ensures kernel { kernel.new.signature ≡ sig.now }
 {
     let terms = with_direct(alloc, b, t, Vec::new(alloc))?;
-    search_too_deep(alloc, sig, b.family, x, terms, units)?;
+    search_too_deep(alloc, sig, b.family, x, terms, kernel)?;
     Ok(None)
 }
 
@@ -233,17 +243,19 @@ fn search_too_deep(
     n: u32,
     x: u32,
     terms: Vec<Term>,
-    units: &mut Units,
+    kernel: &mut Kernel<'_>,
 ) -> Result<(), Stop>
+    requires kernel { kernel.old.signature ≡ sig.now }
     requires ready { IsReady sig.now }
     requires terms { AreGiven sig.now most_levels (tele_of terms.items) }
-    ensures answer { Runs (λ done. None) result units.new.left (code.search_too_deep sig.now n x (reverse (tele_of terms.items)) units.old.left) }
-    ensures sum { units.new.left + units.new.spent ≡ units.old.left + units.old.spent }
-    ensures spends { units.new.left ≤ units.old.left }
+    ensures answer { Runs (λ done. None) result kernel.new.left (code.search_too_deep sig.now n x (reverse (tele_of terms.items)) kernel.old.left) }
+    ensures sum { kernel.new.left + kernel.new.spent ≡ kernel.old.left + kernel.old.spent }
+    ensures spends { kernel.new.left ≤ kernel.old.left }
+    ensures kernel { kernel.new.signature ≡ sig.now }
 {
     let mut waiting = terms;
     'terms: while let Some(u) = waiting.pop() {
-        waiting = go_below(alloc, sig, n, x, u, waiting, units)?;
+        waiting = go_below(alloc, sig, n, x, u, waiting, kernel)?;
     }
     Ok(())
 }
@@ -256,17 +268,19 @@ fn go_below(
     x: u32,
     u: Term,
     waiting: Vec<Term>,
-    units: &mut Units,
+    kernel: &mut Kernel<'_>,
 ) -> Result<Vec<Term>, Stop>
+    requires kernel { kernel.old.signature ≡ sig.now }
     requires ready { IsReady sig.now }
     requires u { IsGiven sig.now most_levels (tree_of u) }
     requires waiting { AreGiven sig.now most_levels (tele_of waiting.items) }
-    ensures answer { Runs (λ made. reverse (tele_of made.items)) result units.new.left (code.go_below sig.now n x (tree_of u) (reverse (tele_of waiting.items)) units.old.left) }
-    ensures sum { units.new.left + units.new.spent ≡ units.old.left + units.old.spent }
-    ensures spends { units.new.left ≤ units.old.left }
+    ensures answer { Runs (λ made. reverse (tele_of made.items)) result kernel.new.left (code.go_below sig.now n x (tree_of u) (reverse (tele_of waiting.items)) kernel.old.left) }
+    ensures sum { kernel.new.left + kernel.new.spent ≡ kernel.old.left + kernel.old.spent }
+    ensures spends { kernel.new.left ≤ kernel.old.left }
+    ensures kernel { kernel.new.signature ≡ sig.now }
     ensures given { IfOk result (λ made. AreGiven sig.now most_levels (tele_of made.items)) }
 {
-    let t = whnf(alloc, sig, &u, true, units)?;
+    let t = kernel.whnf(&u)?;
     if is_variable(x, &t) {
         return Err(Stop::Deep);
     }
@@ -296,16 +310,18 @@ fn reduced_side(
     sig: &Signature,
     x: u32,
     t: &Term,
-    units: &mut Units,
+    kernel: &mut Kernel<'_>,
 ) -> Result<Option<Term>, Stop>
+    requires kernel { kernel.old.signature ≡ sig.now }
     requires ready { IsReady sig.now }
     requires t { IsGiven sig.now most_levels (tree_of t.now) }
-    ensures answer { Runs (option_map tree_of) result units.new.left (spec.reduced_side sig.now x (tree_of t.now) (spec_built.built_of sig.now (tree_of t.now)) units.old.left) }
-    ensures sum { units.new.left + units.new.spent ≡ units.old.left + units.old.spent }
-    ensures spends { units.new.left ≤ units.old.left }
+    ensures answer { Runs (option_map tree_of) result kernel.new.left (spec.reduced_side sig.now x (tree_of t.now) (spec_built.built_of sig.now (tree_of t.now)) kernel.old.left) }
+    ensures sum { kernel.new.left + kernel.new.spent ≡ kernel.old.left + kernel.old.spent }
+    ensures spends { kernel.new.left ≤ kernel.old.left }
+    ensures kernel { kernel.new.signature ≡ sig.now }
 {
     match built_of(sig, t) {
-        Some(b) if is_acyclic(b) => search(alloc, sig, b.family, x, MAX_HEIGHT, t, units),
+        Some(b) if is_acyclic(b) => search(alloc, sig, b.family, x, MAX_HEIGHT, t, kernel),
         _ => Ok(None),
     }
 }
@@ -315,20 +331,22 @@ pub(crate) fn cycle_trial(
     alloc: Global,
     sig: &Signature,
     e: &Equation,
-    units: &mut Units,
+    kernel: &mut Kernel<'_>,
 ) -> Result<Option<Turn>, Stop>
+    requires kernel { kernel.old.signature ≡ sig.now }
     requires ready { IsReady sig.now }
     requires e { IsScopedEquation sig.now most_levels 0 (equation_of e.now) }
     requires low { (tree.height (tree_of e.now.left) ≤ most_height) × (tree.height (tree_of e.now.right) ≤ most_height) }
-    ensures answer { Runs (option_map turn_of) result units.new.left (spec.cycle_trial sig.now (equation_of e.now) units.old.left) }
-    ensures sum { units.new.left + units.new.spent ≡ units.old.left + units.old.spent }
-    ensures spends { units.new.left ≤ units.old.left }
+    ensures answer { Runs (option_map turn_of) result kernel.new.left (spec.cycle_trial sig.now (equation_of e.now) kernel.old.left) }
+    ensures sum { kernel.new.left + kernel.new.spent ≡ kernel.old.left + kernel.old.spent }
+    ensures spends { kernel.new.left ≤ kernel.old.left }
+    ensures kernel { kernel.new.signature ≡ sig.now }
 {
-    let left = whnf(alloc, sig, &e.left, true, units)?;
+    let left = kernel.whnf(&e.left)?;
     if let Some(x) = variable_in(&left) {
-        let right = whnf(alloc, sig, &e.right, true, units)?;
-        return match reduced_side(alloc, sig, x, &right, units)? {
-            Some(right) => cycle(alloc, sig, e, x, left, right, units),
+        let right = kernel.whnf(&e.right)?;
+        return match reduced_side(alloc, sig, x, &right, kernel)? {
+            Some(right) => cycle(alloc, e, x, left, right, kernel),
             None => Ok(None),
         };
     }
@@ -336,12 +354,12 @@ pub(crate) fn cycle_trial(
         Some(b) if is_acyclic(b) => {}
         _ => return Ok(None),
     }
-    let right = whnf(alloc, sig, &e.right, true, units)?;
+    let right = kernel.whnf(&e.right)?;
     let Some(x) = variable_in(&right) else {
         return Ok(None);
     };
-    match reduced_side(alloc, sig, x, &left, units)? {
-        Some(left) => cycle(alloc, sig, e, x, left, right, units),
+    match reduced_side(alloc, sig, x, &left, kernel)? {
+        Some(left) => cycle(alloc, e, x, left, right, kernel),
         None => Ok(None),
     }
 }
@@ -349,21 +367,21 @@ pub(crate) fn cycle_trial(
 /// The last step by a cycle.
 fn cycle(
     alloc: Global,
-    sig: &Signature,
     e: &Equation,
     x: u32,
     left: Term,
     right: Term,
-    units: &mut Units,
+    kernel: &mut Kernel<'_>,
 ) -> Result<Option<Turn>, Stop>
-    requires ready { IsReady sig.now }
-    requires e { IsScopedEquation sig.now most_levels 0 (equation_of e.now) }
+    requires ready { IsReady kernel.old.signature }
+    requires e { IsScopedEquation kernel.old.signature most_levels 0 (equation_of e.now) }
     requires low { (tree.height (tree_of e.now.left) ≤ most_height) × (tree.height (tree_of e.now.right) ≤ most_height) }
-    ensures answer { Runs (option_map turn_of) result units.new.left (turns.fails_at sig.now (spec.cycle_step (equation_of e.now) x (tree_of left) (tree_of right)) (tree_of e.now.left) (tree_of e.now.right) units.old.left) }
-    ensures sum { units.new.left + units.new.spent ≡ units.old.left + units.old.spent }
-    ensures spends { units.new.left ≤ units.old.left }
+    ensures answer { Runs (option_map turn_of) result kernel.new.left (turns.fails_at kernel.old.signature (spec.cycle_step (equation_of e.now) x (tree_of left) (tree_of right)) (tree_of e.now.left) (tree_of e.now.right) kernel.old.left) }
+    ensures sum { kernel.new.left + kernel.new.spent ≡ kernel.old.left + kernel.old.spent }
+    ensures spends { kernel.new.left ≤ kernel.old.left }
+    ensures kernel { kernel.new.signature ≡ kernel.old.signature }
 {
     let ty = type_in(alloc, &e.ty)?;
     let step = single(Rule::Cycle(x), ty, left, right);
-    fails(alloc, sig, step, &e.left, &e.right, units)
+    fails(step, &e.left, &e.right, kernel)
 }

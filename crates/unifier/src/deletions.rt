@@ -11,8 +11,8 @@ use crate::state::{Equation, State};
 use crate::trials::{single, sticks, tidied, type_in};
 use crate::turn::Turn;
 use core_sig::Signature;
-use core_terms::{Rule, Stop, Units};
-use kernel_reduce::{convertible, tidy};
+use core_terms::{Rule, Stop};
+use kernel_check::Kernel;
 use std::alloc::Global;
 
 /// Deletion of the first equation, which needs K.
@@ -21,25 +21,27 @@ pub(crate) fn deletion_trial(
     sig: &Signature,
     s: &State,
     e: &Equation,
-    units: &mut Units,
+    kernel: &mut Kernel<'_>,
 ) -> Result<Option<Turn>, Stop>
+    requires kernel { kernel.old.signature ≡ sig.now }
     requires ready { IsReady sig.now }
     requires state { IsKept sig.now (state_of s.now) }
     requires first { slice_get (state_of s.now).equations 0 ≡ Some (equation_of e.now) }
-    ensures answer { Runs (option_map turn_of) result units.new.left (spec.deletion_trial sig.now (state_of s.now) (equation_of e.now) units.old.left) }
-    ensures sum { units.new.left + units.new.spent ≡ units.old.left + units.old.spent }
-    ensures spends { units.new.left ≤ units.old.left }
+    ensures answer { Runs (option_map turn_of) result kernel.new.left (spec.deletion_trial sig.now (state_of s.now) (equation_of e.now) kernel.old.left) }
+    ensures sum { kernel.new.left + kernel.new.spent ≡ kernel.old.left + kernel.old.spent }
+    ensures spends { kernel.new.left ≤ kernel.old.left }
+    ensures kernel { kernel.new.signature ≡ sig.now }
     ensures room { IfOk result (λ found. LeadsToRoomWhere (option_map turn_of found)) }
 {
-    if !convertible(alloc, sig, &e.left, &e.right, units)? {
+    if !kernel.convertible(&e.left, &e.right)? {
         return Ok(None);
     }
     if !sig.k() {
-        return sticks(alloc, sig, Why::NeedsK, &e.left, &e.right, units);
+        return sticks(Why::NeedsK, &e.left, &e.right, kernel);
     }
     let ty = type_in(alloc, &e.ty)?;
-    let ty = tidy(alloc, sig, &ty, units)?;
-    let (left, right) = tidied(alloc, sig, &e.left, &e.right, units)?;
+    let ty = kernel.tidy(&ty)?;
+    let (left, right) = tidied(&e.left, &e.right, kernel)?;
     let next = delete(alloc, s, e.place.level, &ty, &left)?;
     let step = single(Rule::Delete, ty, left, right);
     Ok(Some(Turn::Goes(step, next)))

@@ -26,8 +26,9 @@ use crate::state::{Equation, State};
 use crate::trials::fails;
 use crate::turn::Turn;
 use core_sig::{Family, Signature};
-use core_terms::{Items, Rule, Step, Stop, Tele, Term, Units, copy_whole, head, spine_len};
-use kernel_reduce::{convertible, family, tidy};
+use core_terms::{Items, Rule, Step, Stop, Tele, Term, copy_whole, head, spine_len};
+use kernel_check::Kernel;
+use kernel_reduce::family;
 use std::alloc::Global;
 use tele_eq::has_variable;
 
@@ -219,18 +220,17 @@ fn with_sides(
 
 /// Whether the types of equations are convertible with others one by one, up to the first that are not.
 fn all_convertible(
-    alloc: Global,
-    sig: &Signature,
     equations: &[Equation],
     others: &[Term],
-    units: &mut Units,
+    kernel: &mut Kernel<'_>,
 ) -> Result<bool, Stop>
-    requires ready { IsReady sig.now }
-    requires types { AreGiven sig.now most_levels (states.types_as_they_stand (equations_of equations.now)) }
-    requires others { AreGiven sig.now most_levels (tele_of others.now) }
-    ensures answer { Runs (λ holds. holds) result units.new.left (spec.all_convertible sig.now (states.types_as_they_stand (equations_of equations.now)) (tele_of others.now) units.old.left) }
-    ensures sum { units.new.left + units.new.spent ≡ units.old.left + units.old.spent }
-    ensures spends { units.new.left ≤ units.old.left }
+    requires ready { IsReady kernel.old.signature }
+    requires types { AreGiven kernel.old.signature most_levels (states.types_as_they_stand (equations_of equations.now)) }
+    requires others { AreGiven kernel.old.signature most_levels (tele_of others.now) }
+    ensures answer { Runs (λ holds. holds) result kernel.new.left (spec.all_convertible kernel.old.signature (states.types_as_they_stand (equations_of equations.now)) (tele_of others.now) kernel.old.left) }
+    ensures sum { kernel.new.left + kernel.new.spent ≡ kernel.old.left + kernel.old.spent }
+    ensures spends { kernel.new.left ≤ kernel.old.left }
+    ensures kernel { kernel.new.signature ≡ kernel.old.signature }
 {
     let [e, equations @ ..] = equations else {
         return Ok(true);
@@ -238,10 +238,10 @@ fn all_convertible(
     let [other, others @ ..] = others else {
         return Ok(true);
     };
-    if !convertible(alloc, sig, &e.ty, other, units)? {
+    if !kernel.convertible(&e.ty, other)? {
         return Ok(false);
     }
-    all_convertible(alloc, sig, equations, others, units)
+    all_convertible(equations, others, kernel)
 }
 
 /// Injectivity and conflict of the first `k + 1` equations.
@@ -250,19 +250,21 @@ fn group_trial(
     sig: &Signature,
     s: &State,
     k: u32,
-    units: &mut Units,
+    kernel: &mut Kernel<'_>,
 ) -> Result<Option<Turn>, Stop>
+    requires kernel { kernel.old.signature ≡ sig.now }
     requires ready { IsReady sig.now }
     requires state { IsKept sig.now (state_of s.now) }
-    ensures answer { Runs (option_map turn_of) result units.new.left (spec.group_trial sig.now (state_of s.now) k units.old.left) }
-    ensures sum { units.new.left + units.new.spent ≡ units.old.left + units.old.spent }
-    ensures spends { units.new.left ≤ units.old.left }
+    ensures answer { Runs (option_map turn_of) result kernel.new.left (spec.group_trial sig.now (state_of s.now) k kernel.old.left) }
+    ensures sum { kernel.new.left + kernel.new.spent ≡ kernel.old.left + kernel.old.spent }
+    ensures spends { kernel.new.left ≤ kernel.old.left }
+    ensures kernel { kernel.new.signature ≡ sig.now }
     ensures room { IfOk result (λ found. LeadsToRoomWhere (option_map turn_of found)) }
 {
     let Some(e) = s.equations.as_slice().get(k as usize) else {
         return Ok(None);
     };
-    last_trial(alloc, sig, s, k, e, units)
+    last_trial(alloc, sig, s, k, e, kernel)
 }
 
 /// The same, where the last of them is known.
@@ -272,19 +274,21 @@ fn last_trial(
     s: &State,
     k: u32,
     e: &Equation,
-    units: &mut Units,
+    kernel: &mut Kernel<'_>,
 ) -> Result<Option<Turn>, Stop>
+    requires kernel { kernel.old.signature ≡ sig.now }
     requires ready { IsReady sig.now }
     requires state { IsKept sig.now (state_of s.now) }
     requires last { slice_get (state_of s.now).equations k ≡ Some (equation_of e.now) }
-    ensures answer { Runs (option_map turn_of) result units.new.left (spec.last_trial sig.now (state_of s.now) k (Some (equation_of e.now)) units.old.left) }
-    ensures sum { units.new.left + units.new.spent ≡ units.old.left + units.old.spent }
-    ensures spends { units.new.left ≤ units.old.left }
+    ensures answer { Runs (option_map turn_of) result kernel.new.left (spec.last_trial sig.now (state_of s.now) k (Some (equation_of e.now)) kernel.old.left) }
+    ensures sum { kernel.new.left + kernel.new.spent ≡ kernel.old.left + kernel.old.spent }
+    ensures spends { kernel.new.left ≤ kernel.old.left }
+    ensures kernel { kernel.new.signature ≡ sig.now }
     ensures room { IfOk result (λ found. LeadsToRoomWhere (option_map turn_of found)) }
 {
-    let ty = tidy(alloc, sig, &e.place.ty, units)?;
+    let ty = kernel.tidy(&e.place.ty)?;
     match membership_of(alloc, sig, k, &ty)? {
-        Some(m) => on_membership(alloc, sig, s, k, e, ty, m, units),
+        Some(m) => on_membership(alloc, sig, s, k, e, ty, m, kernel),
         None => Ok(None),
     }
 }
@@ -298,22 +302,24 @@ fn on_membership(
     e: &Equation,
     ty: Term,
     m: Membership,
-    units: &mut Units,
+    kernel: &mut Kernel<'_>,
 ) -> Result<Option<Turn>, Stop>
+    requires kernel { kernel.old.signature ≡ sig.now }
     requires ready { IsReady sig.now }
     requires state { IsKept sig.now (state_of s.now) }
     requires last { slice_get (state_of s.now).equations k ≡ Some (equation_of e.now) }
     requires group { IsGroupOf sig.now (length s.now.ctx) k m }
-    ensures answer { Runs (option_map turn_of) result units.new.left (spec.on_membership sig.now (state_of s.now) k (equation_of e.now) (tree_of ty) (Some (membership_from m.entry)) units.old.left) }
-    ensures sum { units.new.left + units.new.spent ≡ units.old.left + units.old.spent }
-    ensures spends { units.new.left ≤ units.old.left }
+    ensures answer { Runs (option_map turn_of) result kernel.new.left (spec.on_membership sig.now (state_of s.now) k (equation_of e.now) (tree_of ty) (Some (membership_from m.entry)) kernel.old.left) }
+    ensures sum { kernel.new.left + kernel.new.spent ≡ kernel.old.left + kernel.old.spent }
+    ensures spends { kernel.new.left ≤ kernel.old.left }
+    ensures kernel { kernel.new.signature ≡ sig.now }
     ensures room { IfOk result (λ found. LeadsToRoomWhere (option_map turn_of found)) }
 {
     let wanted = Fits::Family(m.number);
-    let Some((left, right)) = heads(alloc, sig, wanted, &e.left, &e.right, units)? else {
+    let Some((left, right)) = heads(sig, wanted, &e.left, &e.right, kernel)? else {
         return Ok(None);
     };
-    if !are_equations_of(alloc, sig, s, k, &m, units)? {
+    if !are_equations_of(alloc, s, k, &m, kernel)? {
         return Ok(None);
     }
     let members = Members {
@@ -322,25 +328,25 @@ fn on_membership(
         left,
         right,
     };
-    group_turn(alloc, sig, s, k, e, members, units)
+    group_turn(alloc, sig, s, k, e, members, kernel)
 }
 
 /// Whether the first `k + 1` equations are those of the indices of a family and of its members.
 fn are_equations_of(
     alloc: Global,
-    sig: &Signature,
     s: &State,
     k: u32,
     m: &Membership,
-    units: &mut Units,
+    kernel: &mut Kernel<'_>,
 ) -> Result<bool, Stop>
-    requires ready { IsReady sig.now }
-    requires state { IsKept sig.now (state_of s.now) }
+    requires ready { IsReady kernel.old.signature }
+    requires state { IsKept kernel.old.signature (state_of s.now) }
     requires k { k < length s.now.equations }
-    requires group { IsGroupOf sig.now (length s.now.ctx) k m.now }
-    ensures answer { Runs (λ holds. holds) result units.new.left (spec.are_equations_of sig.now (membership_from m.now) (take (k + 1) (state_of s.now).equations) units.old.left) }
-    ensures sum { units.new.left + units.new.spent ≡ units.old.left + units.old.spent }
-    ensures spends { units.new.left ≤ units.old.left }
+    requires group { IsGroupOf kernel.old.signature (length s.now.ctx) k m.now }
+    ensures answer { Runs (λ holds. holds) result kernel.new.left (spec.are_equations_of kernel.old.signature (membership_from m.now) (take (k + 1) (state_of s.now).equations) kernel.old.left) }
+    ensures sum { kernel.new.left + kernel.new.spent ≡ kernel.old.left + kernel.old.spent }
+    ensures spends { kernel.new.left ≤ kernel.old.left }
+    ensures kernel { kernel.new.signature ≡ kernel.old.signature }
     ensures few { IfOk result (λ holds. k < 1000) }
 {
     let equations = s.equations.as_slice();
@@ -348,7 +354,7 @@ fn are_equations_of(
     let tele = family_items(alloc, m.number, m.record, m.params.as_slice())?;
     let (left, right) = sides(alloc, group)?;
     let types = equations_made(alloc, &tele, &left, &right)?;
-    all_convertible(alloc, sig, group, types.as_slice(), units)
+    all_convertible(group, types.as_slice(), kernel)
 }
 
 /// The last equation of a group: the tidied type of its place, the family's parameters in it, and the head forms of its sides.
@@ -368,8 +374,9 @@ fn group_turn(
     k: u32,
     e: &Equation,
     members: Members,
-    units: &mut Units,
+    kernel: &mut Kernel<'_>,
 ) -> Result<Option<Turn>, Stop>
+    requires kernel { kernel.old.signature ≡ sig.now }
     requires ready { IsReady sig.now }
     requires state { IsKept sig.now (state_of s.now) }
     requires last { slice_get (state_of s.now).equations k ≡ Some (equation_of e.now) }
@@ -380,9 +387,10 @@ fn group_turn(
     requires family { AreOfOneFamily sig.now (tree_of members.left) (tree_of members.right) }
     requires indices { (p : spec_built.Built) → spec_built.built_of sig.now (tree_of members.left) ≡ Some p → length p.family.indices ≡ k }
     requires parameters { (p : spec_built.Built) → spec_built.built_of sig.now (tree_of members.left) ≡ Some p → length p.family.parameters ≡ length members.ps }
-    ensures answer { (m : spec.Membership) → m.parameters ≡ tele_of members.ps → ((p : spec_built.Built) → spec_built.built_of sig.now (tree_of members.left) ≡ Some p → p.family ≡ m.family) → Runs (option_map turn_of) result units.new.left (with_built (spec.group_turn sig.now (state_of s.now) k (equation_of e.now) m (tree_of members.ty)) (tree_of members.left) (tree_of members.right) (spec_built.built_of sig.now (tree_of members.left)) (spec_built.built_of sig.now (tree_of members.right)) units.old.left) }
-    ensures sum { units.new.left + units.new.spent ≡ units.old.left + units.old.spent }
-    ensures spends { units.new.left ≤ units.old.left }
+    ensures answer { (m : spec.Membership) → m.parameters ≡ tele_of members.ps → ((p : spec_built.Built) → spec_built.built_of sig.now (tree_of members.left) ≡ Some p → p.family ≡ m.family) → Runs (option_map turn_of) result kernel.new.left (with_built (spec.group_turn sig.now (state_of s.now) k (equation_of e.now) m (tree_of members.ty)) (tree_of members.left) (tree_of members.right) (spec_built.built_of sig.now (tree_of members.left)) (spec_built.built_of sig.now (tree_of members.right)) kernel.old.left) }
+    ensures sum { kernel.new.left + kernel.new.spent ≡ kernel.old.left + kernel.old.spent }
+    ensures spends { kernel.new.left ≤ kernel.old.left }
+    ensures kernel { kernel.new.signature ≡ sig.now }
     ensures room { IfOk result (λ found. LeadsToRoomWhere (option_map turn_of found)) }
 {
     let Members {
@@ -404,7 +412,7 @@ fn group_turn(
             left,
             right,
         };
-        return fails(alloc, sig, step, &e.left, &e.right, units);
+        return fails(step, &e.left, &e.right, kernel);
     }
     let next = inject_sides(alloc, s, group, b, ps.as_slice(), &left, &right)?;
     let rule = Rule::Inject(b.family, b.number);
@@ -424,20 +432,22 @@ pub(crate) fn group_trials(
     sig: &Signature,
     s: &State,
     k: u32,
-    units: &mut Units,
+    kernel: &mut Kernel<'_>,
 ) -> Result<Option<Turn>, Stop>
+    requires kernel { kernel.old.signature ≡ sig.now }
     requires ready { IsReady sig.now }
     requires state { IsKept sig.now (state_of s.now) }
-    ensures answer { Runs (option_map turn_of) result units.new.left (spec.group_trials sig.now (state_of s.now) k units.old.left) }
-    ensures sum { units.new.left + units.new.spent ≡ units.old.left + units.old.spent }
-    ensures spends { units.new.left ≤ units.old.left }
+    ensures answer { Runs (option_map turn_of) result kernel.new.left (spec.group_trials sig.now (state_of s.now) k kernel.old.left) }
+    ensures sum { kernel.new.left + kernel.new.spent ≡ kernel.old.left + kernel.old.spent }
+    ensures spends { kernel.new.left ≤ kernel.old.left }
+    ensures kernel { kernel.new.signature ≡ sig.now }
     ensures room { IfOk result (λ found. LeadsToRoomWhere (option_map turn_of found)) }
 {
     if k == 0 {
         return Ok(None);
     }
-    match group_trial(alloc, sig, s, k, units)? {
+    match group_trial(alloc, sig, s, k, kernel)? {
         Some(turn) => Ok(Some(turn)),
-        None => group_trials(alloc, sig, s, k - 1, units),
+        None => group_trials(alloc, sig, s, k - 1, kernel),
     }
 }

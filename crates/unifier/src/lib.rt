@@ -35,4 +35,4 @@ pub use records::{argument_items, constructor_terms, family_items, lifted};
 pub use solutions::variable_in;
 pub use solving::{new_context, new_order};
 pub use unification::Why;
-pub use unifying::unify;
+pub use unifying::{unify, unify_with};

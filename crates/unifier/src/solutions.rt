@@ -14,9 +14,8 @@ use crate::solving::solve;
 use crate::state::{Equation, State};
 use crate::trials::{single, tidied, type_in};
 use crate::turn::Turn;
-use core_sig::Signature;
-use core_terms::{Rule, Stop, Term, Units, copy_whole};
-use kernel_reduce::{normal, tidy};
+use core_terms::{Rule, Stop, Term, copy_whole};
+use kernel_check::Kernel;
 use std::alloc::Global;
 
 /// The number of a variable.
@@ -61,22 +60,22 @@ fn is_free_of(s: &State, x: u32, dependants: &[u32], t: &Term) -> bool
 /// The term that solves a variable in an equation in `ty`, where it is solvable by `u`. Its dependants are given.
 fn solves(
     alloc: Global,
-    sig: &Signature,
     s: &State,
     x: u32,
     dependants: &[u32],
     ty: &Term,
     u: &Term,
-    units: &mut Units,
+    kernel: &mut Kernel<'_>,
 ) -> Result<Option<Term>, Stop>
-    requires ready { IsReady sig.now }
+    requires ready { IsReady kernel.old.signature }
     requires x { x < length s.now.ctx }
     requires dependants { dependants.now ≡ occurrences.dependants (tele_of s.now.ctx) (length s.now.ctx - (x + 1)) }
-    requires ty { IsGiven sig.now (length s.now.ctx) (tree_of ty.now) }
-    requires u { IsGiven sig.now (length s.now.ctx) (tree_of u.now) }
-    ensures answer { Runs (option_map tree_of) result units.new.left (spec.solves sig.now (state_of s.now) x (tree_of ty.now) (tree_of u.now) units.old.left) }
-    ensures sum { units.new.left + units.new.spent ≡ units.old.left + units.old.spent }
-    ensures spends { units.new.left ≤ units.old.left }
+    requires ty { IsGiven kernel.old.signature (length s.now.ctx) (tree_of ty.now) }
+    requires u { IsGiven kernel.old.signature (length s.now.ctx) (tree_of u.now) }
+    ensures answer { Runs (option_map tree_of) result kernel.new.left (spec.solves kernel.old.signature (state_of s.now) x (tree_of ty.now) (tree_of u.now) kernel.old.left) }
+    ensures sum { kernel.new.left + kernel.new.spent ≡ kernel.old.left + kernel.old.spent }
+    ensures spends { kernel.new.left ≤ kernel.old.left }
+    ensures kernel { kernel.new.signature ≡ kernel.old.signature }
     ensures solution { IfOk result (λ found. IfSome found (λ t. IsOver (length s.now.ctx) (tree_of t) × IsTrue (spec.is_free_of (state_of s.now) x (tree_of ty.now)) × IsTrue (spec.is_free_of (state_of s.now) x (tree_of t)))) }
 {
     if !is_free_of(s, x, dependants, ty) {
@@ -85,7 +84,7 @@ fn solves(
     if is_free_of(s, x, dependants, u) {
         return Ok(Some(copy_whole(alloc, u)?));
     }
-    let u = normal(alloc, sig, u, true, units)?;
+    let u = kernel.normal(u, true)?;
     if is_free_of(s, x, dependants, &u) {
         Ok(Some(u))
     } else {
@@ -122,28 +121,28 @@ fn with_state(
 /// A variable, solved by the other side of its equation: the term that is put, and the next state.
 fn solve_side(
     alloc: Global,
-    sig: &Signature,
     s: &State,
     e: &Equation,
     ty: &Term,
     x: u32,
     other: &Term,
-    units: &mut Units,
+    kernel: &mut Kernel<'_>,
 ) -> Result<Option<(Term, Box<State>)>, Stop>
-    requires ready { IsReady sig.now }
-    requires state { IsKept sig.now (state_of s.now) }
+    requires ready { IsReady kernel.old.signature }
+    requires state { IsKept kernel.old.signature (state_of s.now) }
     requires first { 0 < length s.now.equations }
     requires x { x < length s.now.ctx }
-    requires ty { IsGiven sig.now (length s.now.ctx) (tree_of ty.now) }
-    requires other { IsGiven sig.now (length s.now.ctx) (tree_of other.now) }
-    ensures answer { Runs (option_map (λ found. (tree_of found.0, state_of found.1.value))) result units.new.left (spec.side_solved sig.now (state_of s.now) (equation_of e.now) x (tree_of ty.now) (tree_of other.now) units.old.left) }
-    ensures sum { units.new.left + units.new.spent ≡ units.old.left + units.old.spent }
-    ensures spends { units.new.left ≤ units.old.left }
+    requires ty { IsGiven kernel.old.signature (length s.now.ctx) (tree_of ty.now) }
+    requires other { IsGiven kernel.old.signature (length s.now.ctx) (tree_of other.now) }
+    ensures answer { Runs (option_map (λ found. (tree_of found.0, state_of found.1.value))) result kernel.new.left (spec.side_solved kernel.old.signature (state_of s.now) (equation_of e.now) x (tree_of ty.now) (tree_of other.now) kernel.old.left) }
+    ensures sum { kernel.new.left + kernel.new.spent ≡ kernel.old.left + kernel.old.spent }
+    ensures spends { kernel.new.left ≤ kernel.old.left }
+    ensures kernel { kernel.new.signature ≡ kernel.old.signature }
     ensures room { IfOk result (λ found. IfSome found (λ both. IsRoomy (state_of both.1.value))) }
 {
     let dependants = dependants_of(alloc, s, x)?;
     let dependants = dependants.as_slice();
-    match solves(alloc, sig, s, x, dependants, ty, other, units)? {
+    match solves(alloc, s, x, dependants, ty, other, kernel)? {
         Some(by) => with_state(alloc, s, e, ty, x, dependants, by),
         None => Ok(None),
     }
@@ -152,29 +151,29 @@ fn solve_side(
 /// The left side, where it is a variable, solved by the right one.
 fn solve_left(
     alloc: Global,
-    sig: &Signature,
     s: &State,
     e: &Equation,
     ty: Term,
     left: Term,
     right: Term,
-    units: &mut Units,
+    kernel: &mut Kernel<'_>,
 ) -> Result<Option<Turn>, Stop>
-    requires ready { IsReady sig.now }
-    requires state { IsKept sig.now (state_of s.now) }
+    requires ready { IsReady kernel.old.signature }
+    requires state { IsKept kernel.old.signature (state_of s.now) }
     requires first { 0 < length s.now.equations }
-    requires ty { IsGiven sig.now (length s.now.ctx) (tree_of ty) }
-    requires left { IsGiven sig.now (length s.now.ctx) (tree_of left) }
-    requires right { IsGiven sig.now (length s.now.ctx) (tree_of right) }
-    ensures answer { Runs (option_map turn_of) result units.new.left (spec.solve_side sig.now (state_of s.now) (equation_of e.now) (tree_of ty) (tree_of right) (spec.left_step (tree_of ty) (tree_of left)) (spec.variable_in (tree_of left)) units.old.left) }
-    ensures sum { units.new.left + units.new.spent ≡ units.old.left + units.old.spent }
-    ensures spends { units.new.left ≤ units.old.left }
+    requires ty { IsGiven kernel.old.signature (length s.now.ctx) (tree_of ty) }
+    requires left { IsGiven kernel.old.signature (length s.now.ctx) (tree_of left) }
+    requires right { IsGiven kernel.old.signature (length s.now.ctx) (tree_of right) }
+    ensures answer { Runs (option_map turn_of) result kernel.new.left (spec.solve_side kernel.old.signature (state_of s.now) (equation_of e.now) (tree_of ty) (tree_of right) (spec.left_step (tree_of ty) (tree_of left)) (spec.variable_in (tree_of left)) kernel.old.left) }
+    ensures sum { kernel.new.left + kernel.new.spent ≡ kernel.old.left + kernel.old.spent }
+    ensures spends { kernel.new.left ≤ kernel.old.left }
+    ensures kernel { kernel.new.signature ≡ kernel.old.signature }
     ensures room { IfOk result (λ found. LeadsToRoomWhere (option_map turn_of found)) }
 {
     let Some(x) = variable_in(&left) else {
         return Ok(None);
     };
-    match solve_side(alloc, sig, s, e, &ty, x, &right, units)? {
+    match solve_side(alloc, s, e, &ty, x, &right, kernel)? {
         Some((by, next)) => {
             let step = single(Rule::SolveLeft(x), ty, left, by);
             Ok(Some(Turn::Goes(step, next)))
@@ -186,58 +185,58 @@ fn solve_left(
 /// The right side where it is a variable, and else the left one.
 fn solve_sides(
     alloc: Global,
-    sig: &Signature,
     s: &State,
     e: &Equation,
     ty: Term,
     left: Term,
     right: Term,
-    units: &mut Units,
+    kernel: &mut Kernel<'_>,
 ) -> Result<Option<Turn>, Stop>
-    requires ready { IsReady sig.now }
-    requires state { IsKept sig.now (state_of s.now) }
+    requires ready { IsReady kernel.old.signature }
+    requires state { IsKept kernel.old.signature (state_of s.now) }
     requires first { 0 < length s.now.equations }
-    requires ty { IsGiven sig.now (length s.now.ctx) (tree_of ty) }
-    requires left { IsGiven sig.now (length s.now.ctx) (tree_of left) }
-    requires right { IsGiven sig.now (length s.now.ctx) (tree_of right) }
-    ensures answer { Runs (option_map turn_of) result units.new.left (spec.solve_sides sig.now (state_of s.now) (equation_of e.now) (tree_of ty) (tree_of left) (tree_of right) units.old.left) }
-    ensures sum { units.new.left + units.new.spent ≡ units.old.left + units.old.spent }
-    ensures spends { units.new.left ≤ units.old.left }
+    requires ty { IsGiven kernel.old.signature (length s.now.ctx) (tree_of ty) }
+    requires left { IsGiven kernel.old.signature (length s.now.ctx) (tree_of left) }
+    requires right { IsGiven kernel.old.signature (length s.now.ctx) (tree_of right) }
+    ensures answer { Runs (option_map turn_of) result kernel.new.left (spec.solve_sides kernel.old.signature (state_of s.now) (equation_of e.now) (tree_of ty) (tree_of left) (tree_of right) kernel.old.left) }
+    ensures sum { kernel.new.left + kernel.new.spent ≡ kernel.old.left + kernel.old.spent }
+    ensures spends { kernel.new.left ≤ kernel.old.left }
+    ensures kernel { kernel.new.signature ≡ kernel.old.signature }
     ensures room { IfOk result (λ found. LeadsToRoomWhere (option_map turn_of found)) }
 {
     let Some(x) = variable_in(&right) else {
-        return solve_left(alloc, sig, s, e, ty, left, right, units);
+        return solve_left(alloc, s, e, ty, left, right, kernel);
     };
-    match solve_side(alloc, sig, s, e, &ty, x, &left, units)? {
+    match solve_side(alloc, s, e, &ty, x, &left, kernel)? {
         Some((by, next)) => {
             let step = single(Rule::SolveRight(x), ty, by, right);
             Ok(Some(Turn::Goes(step, next)))
         }
-        None => solve_left(alloc, sig, s, e, ty, left, right, units),
+        None => solve_left(alloc, s, e, ty, left, right, kernel),
     }
 }
 
 /// Solution of a variable by the other side of the first equation.
 pub(crate) fn solution_trial(
     alloc: Global,
-    sig: &Signature,
     s: &State,
     e: &Equation,
-    units: &mut Units,
+    kernel: &mut Kernel<'_>,
 ) -> Result<Option<Turn>, Stop>
-    requires ready { IsReady sig.now }
-    requires state { IsKept sig.now (state_of s.now) }
+    requires ready { IsReady kernel.old.signature }
+    requires state { IsKept kernel.old.signature (state_of s.now) }
     requires first { slice_get (state_of s.now).equations 0 ≡ Some (equation_of e.now) }
-    ensures answer { Runs (option_map turn_of) result units.new.left (spec.solution_trial sig.now (state_of s.now) (equation_of e.now) units.old.left) }
-    ensures sum { units.new.left + units.new.spent ≡ units.old.left + units.old.spent }
-    ensures spends { units.new.left ≤ units.old.left }
+    ensures answer { Runs (option_map turn_of) result kernel.new.left (spec.solution_trial kernel.old.signature (state_of s.now) (equation_of e.now) kernel.old.left) }
+    ensures sum { kernel.new.left + kernel.new.spent ≡ kernel.old.left + kernel.old.spent }
+    ensures spends { kernel.new.left ≤ kernel.old.left }
+    ensures kernel { kernel.new.signature ≡ kernel.old.signature }
     ensures room { IfOk result (λ found. LeadsToRoomWhere (option_map turn_of found)) }
 {
-    let (left, right) = tidied(alloc, sig, &e.left, &e.right, units)?;
+    let (left, right) = tidied(&e.left, &e.right, kernel)?;
     if variable_in(&left).is_none() && variable_in(&right).is_none() {
         return Ok(None);
     }
     let ty = type_in(alloc, &e.ty)?;
-    let ty = tidy(alloc, sig, &ty, units)?;
-    solve_sides(alloc, sig, s, e, ty, left, right, units)
+    let ty = kernel.tidy(&ty)?;
+    solve_sides(alloc, s, e, ty, left, right, kernel)
 }

@@ -16,8 +16,8 @@ use crate::state::Equation;
 use crate::trials::tidied;
 use crate::turn::Turn;
 use core_sig::Signature;
-use core_terms::{Stop, Term, Units};
-use std::alloc::Global;
+use core_terms::{Stop, Term};
+use kernel_check::Kernel;
 use tele_eq::has_variable;
 
 fn why_variable(x: u32, other: &Term) -> Why
@@ -65,20 +65,17 @@ fn why_stuck(sig: &Signature, left: &Term, right: &Term) -> Why
 }
 
 /// The end where no rule applies to the equation.
-pub(crate) fn stuck(
-    alloc: Global,
-    sig: &Signature,
-    e: &Equation,
-    units: &mut Units,
-) -> Result<Turn, Stop>
+pub(crate) fn stuck(sig: &Signature, e: &Equation, kernel: &mut Kernel<'_>) -> Result<Turn, Stop>
+    requires kernel { kernel.old.signature ≡ sig.now }
     requires ready { IsReady sig.now }
     requires e { IsScopedEquation sig.now most_levels 0 (equation_of e.now) }
     requires low { (tree.height (tree_of e.now.left) ≤ most_height) × (tree.height (tree_of e.now.right) ≤ most_height) }
-    ensures answer { Runs (λ turn. Some (turn_of turn)) result units.new.left (spec.stuck_trial sig.now (equation_of e.now) units.old.left) }
-    ensures sum { units.new.left + units.new.spent ≡ units.old.left + units.old.spent }
-    ensures spends { units.new.left ≤ units.old.left }
+    ensures answer { Runs (λ turn. Some (turn_of turn)) result kernel.new.left (spec.stuck_trial sig.now (equation_of e.now) kernel.old.left) }
+    ensures sum { kernel.new.left + kernel.new.spent ≡ kernel.old.left + kernel.old.spent }
+    ensures spends { kernel.new.left ≤ kernel.old.left }
+    ensures kernel { kernel.new.signature ≡ sig.now }
 {
-    let (left, right) = tidied(alloc, sig, &e.left, &e.right, units)?;
+    let (left, right) = tidied(&e.left, &e.right, kernel)?;
     let why = why_stuck(sig, &left, &right);
     Ok(Turn::Sticks(why, left, right))
 }

@@ -12,9 +12,8 @@ ghost use Rattle.unification.specs.ScopedStates.{IsReady};
 
 use crate::Why;
 use crate::turn::Turn;
-use core_sig::Signature;
-use core_terms::{Rule, Step, Stop, Term, Units, copy_whole};
-use kernel_reduce::tidy;
+use core_terms::{Rule, Step, Stop, Term, copy_whole};
+use kernel_check::Kernel;
 use std::alloc::Global;
 
 /// A step whose rule works on one equation.
@@ -32,62 +31,59 @@ pub(crate) fn single(rule: Rule, ty: Term, left: Term, right: Term) -> Step
 
 /// Both terms tidied, the left one first.
 pub(crate) fn tidied(
-    alloc: Global,
-    sig: &Signature,
     left: &Term,
     right: &Term,
-    units: &mut Units,
+    kernel: &mut Kernel<'_>,
 ) -> Result<(Term, Term), Stop>
-    requires ready { IsReady sig.now }
-    requires left { IsGiven sig.now most_levels (tree_of left.now) }
-    requires right { IsGiven sig.now most_levels (tree_of right.now) }
-    ensures answer { Runs (λ sides. (tree_of sides.0, tree_of sides.1)) result units.new.left (spec.tidied sig.now (tree_of left.now) (tree_of right.now) units.old.left) }
-    ensures sum { units.new.left + units.new.spent ≡ units.old.left + units.old.spent }
-    ensures spends { units.new.left ≤ units.old.left }
+    requires ready { IsReady kernel.old.signature }
+    requires left { IsGiven kernel.old.signature most_levels (tree_of left.now) }
+    requires right { IsGiven kernel.old.signature most_levels (tree_of right.now) }
+    ensures answer { Runs (λ sides. (tree_of sides.0, tree_of sides.1)) result kernel.new.left (spec.tidied kernel.old.signature (tree_of left.now) (tree_of right.now) kernel.old.left) }
+    ensures sum { kernel.new.left + kernel.new.spent ≡ kernel.old.left + kernel.old.spent }
+    ensures spends { kernel.new.left ≤ kernel.old.left }
+    ensures kernel { kernel.new.signature ≡ kernel.old.signature }
     ensures low { IfOk result (λ sides. (tree.height (tree_of sides.0) ≤ most_height) × (tree.height (tree_of sides.1) ≤ most_height)) }
 {
-    let left = tidy(alloc, sig, left, units)?;
-    let right = tidy(alloc, sig, right, units)?;
+    let left = kernel.tidy(left)?;
+    let right = kernel.tidy(right)?;
     Ok((left, right))
 }
 
 /// A last step, with the tidied sides.
 pub(crate) fn fails(
-    alloc: Global,
-    sig: &Signature,
     step: Step,
     left: &Term,
     right: &Term,
-    units: &mut Units,
+    kernel: &mut Kernel<'_>,
 ) -> Result<Option<Turn>, Stop>
-    requires ready { IsReady sig.now }
-    requires left { IsGiven sig.now most_levels (tree_of left.now) }
-    requires right { IsGiven sig.now most_levels (tree_of right.now) }
-    ensures answer { Runs (option_map turn_of) result units.new.left (spec.fails_at sig.now (step_of step) (tree_of left.now) (tree_of right.now) units.old.left) }
-    ensures sum { units.new.left + units.new.spent ≡ units.old.left + units.old.spent }
-    ensures spends { units.new.left ≤ units.old.left }
+    requires ready { IsReady kernel.old.signature }
+    requires left { IsGiven kernel.old.signature most_levels (tree_of left.now) }
+    requires right { IsGiven kernel.old.signature most_levels (tree_of right.now) }
+    ensures answer { Runs (option_map turn_of) result kernel.new.left (spec.fails_at kernel.old.signature (step_of step) (tree_of left.now) (tree_of right.now) kernel.old.left) }
+    ensures sum { kernel.new.left + kernel.new.spent ≡ kernel.old.left + kernel.old.spent }
+    ensures spends { kernel.new.left ≤ kernel.old.left }
+    ensures kernel { kernel.new.signature ≡ kernel.old.signature }
 {
-    let (left, right) = tidied(alloc, sig, left, right, units)?;
+    let (left, right) = tidied(left, right, kernel)?;
     Ok(Some(Turn::Fails(step, left, right)))
 }
 
 /// No rule goes on, with the tidied sides.
 pub(crate) fn sticks(
-    alloc: Global,
-    sig: &Signature,
     why: Why,
     left: &Term,
     right: &Term,
-    units: &mut Units,
+    kernel: &mut Kernel<'_>,
 ) -> Result<Option<Turn>, Stop>
-    requires ready { IsReady sig.now }
-    requires left { IsGiven sig.now most_levels (tree_of left.now) }
-    requires right { IsGiven sig.now most_levels (tree_of right.now) }
-    ensures answer { Runs (option_map turn_of) result units.new.left (spec.sticks_at sig.now why (tree_of left.now) (tree_of right.now) units.old.left) }
-    ensures sum { units.new.left + units.new.spent ≡ units.old.left + units.old.spent }
-    ensures spends { units.new.left ≤ units.old.left }
+    requires ready { IsReady kernel.old.signature }
+    requires left { IsGiven kernel.old.signature most_levels (tree_of left.now) }
+    requires right { IsGiven kernel.old.signature most_levels (tree_of right.now) }
+    ensures answer { Runs (option_map turn_of) result kernel.new.left (spec.sticks_at kernel.old.signature why (tree_of left.now) (tree_of right.now) kernel.old.left) }
+    ensures sum { kernel.new.left + kernel.new.spent ≡ kernel.old.left + kernel.old.spent }
+    ensures spends { kernel.new.left ≤ kernel.old.left }
+    ensures kernel { kernel.new.signature ≡ kernel.old.signature }
 {
-    let (left, right) = tidied(alloc, sig, left, right, units)?;
+    let (left, right) = tidied(left, right, kernel)?;
     Ok(Some(Turn::Sticks(why, left, right)))
 }
 

@@ -14,6 +14,7 @@ use crate::turn::Turn;
 use crate::{Outcome, Problem};
 use core_sig::Signature;
 use core_terms::{Items, Step, Stop, Units};
+use kernel_check::Kernel;
 use std::alloc::Global;
 
 /// The outcome of the run from a state on.
@@ -21,18 +22,20 @@ fn run(
     alloc: Global,
     sig: &Signature,
     start: Box<State>,
-    units: &mut Units,
+    kernel: &mut Kernel<'_>,
 ) -> Result<Outcome, Stop>
+    requires kernel { kernel.old.signature ≡ sig.now }
     requires ready { IsReady sig.now }
     requires state { IsKept sig.now (state_of start.value) }
-    ensures answer { Runs outcome_of result units.new.left (spec.run_of sig.now (state_of start.value) units.old.left) }
-    ensures sum { units.new.left + units.new.spent ≡ units.old.left + units.old.spent }
-    ensures spends { units.new.left ≤ units.old.left }
+    ensures answer { Runs outcome_of result kernel.new.left (spec.run_of sig.now (state_of start.value) kernel.old.left) }
+    ensures sum { kernel.new.left + kernel.new.spent ≡ kernel.old.left + kernel.old.spent }
+    ensures spends { kernel.new.left ≤ kernel.old.left }
+    ensures kernel { kernel.new.signature ≡ sig.now }
 {
     let mut state = start;
     let mut steps = Items::new(alloc);
     'turns: loop {
-        match turn(alloc, sig, &state, units)? {
+        match turn(alloc, sig, &state, kernel)? {
             Turn::Goes(step, next) => {
                 steps.push(step)?;
                 state = next;
@@ -87,7 +90,30 @@ pub fn unify(
     ensures spends { units.new.left ≤ units.old.left }
     ensures scoped { IfOk result (λ o. IsScopedOutcome sig.now (length p.now.ctx) (outcome_of o)) }
 {
-    run_of_problem(alloc, sig, p, units)
+    let mut kernel = Kernel::new(alloc, sig, *units);
+    let made = unify_with(alloc, sig, p, &mut kernel);
+    *units = kernel.into_units();
+    made
+}
+
+/// `unify` over a kernel with this signature, with its units.
+pub fn unify_with(
+    alloc: Global,
+    sig: &Signature,
+    p: &Problem,
+    kernel: &mut Kernel<'_>,
+) -> Result<Outcome, Stop>
+    requires kernel { kernel.old.signature ≡ sig.now }
+    requires ready { IsReady sig.now }
+    requires problem { IsScopedProblem sig.now (problem_of p.now) }
+    requires few { length p.now.ctx + length p.now.tele < context_limit }
+    ensures answer { Runs outcome_of result kernel.new.left (spec.unify_of sig.now (problem_of p.now) kernel.old.left) }
+    ensures sum { kernel.new.left + kernel.new.spent ≡ kernel.old.left + kernel.old.spent }
+    ensures spends { kernel.new.left ≤ kernel.old.left }
+    ensures kernel { kernel.new.signature ≡ sig.now }
+    ensures scoped { IfOk result (λ o. IsScopedOutcome sig.now (length p.now.ctx) (outcome_of o)) }
+{
+    run_of_problem(alloc, sig, p, kernel)
 }
 
 /// The run of a problem.
@@ -95,15 +121,17 @@ fn run_of_problem(
     alloc: Global,
     sig: &Signature,
     p: &Problem,
-    units: &mut Units,
+    kernel: &mut Kernel<'_>,
 ) -> Result<Outcome, Stop>
+    requires kernel { kernel.old.signature ≡ sig.now }
     requires ready { IsReady sig.now }
     requires problem { IsScopedProblem sig.now (problem_of p.now) }
     requires few { length p.now.ctx + length p.now.tele < context_limit }
-    ensures answer { Runs outcome_of result units.new.left (spec.unify_of sig.now (problem_of p.now) units.old.left) }
-    ensures sum { units.new.left + units.new.spent ≡ units.old.left + units.old.spent }
-    ensures spends { units.new.left ≤ units.old.left }
+    ensures answer { Runs outcome_of result kernel.new.left (spec.unify_of sig.now (problem_of p.now) kernel.old.left) }
+    ensures sum { kernel.new.left + kernel.new.spent ≡ kernel.old.left + kernel.old.spent }
+    ensures spends { kernel.new.left ≤ kernel.old.left }
+    ensures kernel { kernel.new.signature ≡ sig.now }
 {
     let state = start(alloc, p)?;
-    run(alloc, sig, state, units)
+    run(alloc, sig, state, kernel)
 }

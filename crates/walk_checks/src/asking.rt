@@ -12,9 +12,9 @@ ghost use Rattle.theory.specs.SignatureScopes.{IsScoped};
 
 use crate::parts::{Asked, Site};
 use core_sig::Signature;
-use core_terms::{Denial, Items, Stop, Tele, Term, Units, Verdict};
+use core_terms::{Denial, Items, Stop, Tele, Term, Verdict};
 use function_refusals::{Refusal, WrittenPart, ill_typed, owner_of};
-use kernel_check::{check, infer, infer_sort};
+use kernel_check::Kernel;
 use std::alloc::Global;
 
 /// The part of a clause that the checker is asked about.
@@ -54,15 +54,17 @@ pub fn inferred(
     site: Site,
     ctx: &Tele,
     t: &Term,
-    units: &mut Units,
+    kernel: &mut Kernel<'_>,
 ) -> Result<Term, Refusal>
-    requires { AreWellScoped sig.now (tele_of ctx.now) (tree_of t.now ∷ []) }
-    ensures answer { Elaborates tree_of result units.new.left (spec.granted sig.now (asked_of asked (site_of site.entry)) (infer_of sig.now nesting (reverse (tele_of ctx.now)) (tree_of t.now) units.old.left)) }
-    ensures sum { units.new.left + units.new.spent ≡ units.old.left + units.old.spent }
-    ensures spends { units.new.left ≤ units.old.left }
+    requires kernel { kernel.old.signature ≡ sig.now }
+    requires given { AreWellScoped sig.now (tele_of ctx.now) (tree_of t.now ∷ []) }
+    ensures answer { Elaborates tree_of result kernel.new.left (spec.granted sig.now (asked_of asked (site_of site.entry)) (infer_of sig.now nesting (reverse (tele_of ctx.now)) (tree_of t.now) kernel.old.left)) }
+    ensures sum { kernel.new.left + kernel.new.spent ≡ kernel.old.left + kernel.old.spent }
+    ensures spends { kernel.new.left ≤ kernel.old.left }
+    ensures kernel { kernel.new.signature ≡ sig.now }
     ensures scoped { IfOk result (λ ty. IsScoped sig.now (length ctx.now) (tree_of ty)) }
 {
-    match infer(alloc, sig, ctx, t, units) {
+    match kernel.infer(ctx, t) {
         Ok(Verdict::Yes(ty)) => Ok(ty),
         Ok(Verdict::No(denial)) => Err(denied(alloc, sig, asked, site, denial)),
         Err(e) => Err(Refusal::Stop(e)),
@@ -78,14 +80,16 @@ pub fn checked_as(
     ctx: &Tele,
     t: &Term,
     wanted: &Term,
-    units: &mut Units,
+    kernel: &mut Kernel<'_>,
 ) -> Result<Term, Refusal>
-    requires { AreWellScoped sig.now (tele_of ctx.now) (tree_of t.now ∷ tree_of wanted.now ∷ []) }
-    ensures answer { Elaborates tree_of result units.new.left (spec.granted sig.now (asked_of asked (site_of site.entry)) (check_of sig.now nesting (reverse (tele_of ctx.now)) (tree_of t.now) (tree_of wanted.now) units.old.left)) }
-    ensures sum { units.new.left + units.new.spent ≡ units.old.left + units.old.spent }
-    ensures spends { units.new.left ≤ units.old.left }
+    requires kernel { kernel.old.signature ≡ sig.now }
+    requires given { AreWellScoped sig.now (tele_of ctx.now) (tree_of t.now ∷ tree_of wanted.now ∷ []) }
+    ensures answer { Elaborates tree_of result kernel.new.left (spec.granted sig.now (asked_of asked (site_of site.entry)) (check_of sig.now nesting (reverse (tele_of ctx.now)) (tree_of t.now) (tree_of wanted.now) kernel.old.left)) }
+    ensures sum { kernel.new.left + kernel.new.spent ≡ kernel.old.left + kernel.old.spent }
+    ensures spends { kernel.new.left ≤ kernel.old.left }
+    ensures kernel { kernel.new.signature ≡ sig.now }
 {
-    match check(alloc, sig, ctx, t, wanted, units) {
+    match kernel.check(ctx, t, wanted) {
         Ok(Verdict::Yes(ty)) => Ok(ty),
         Ok(Verdict::No(denial)) => Err(denied(alloc, sig, asked, site, denial)),
         Err(e) => Err(Refusal::Stop(e)),
@@ -99,15 +103,17 @@ pub(crate) fn sort_of(
     asked: Asked,
     site: Site,
     ty: &Term,
-    units: &mut Units,
+    kernel: &mut Kernel<'_>,
 ) -> Result<Term, Refusal>
-    requires { AreWellScoped sig.now [] (tree_of ty.now ∷ []) }
-    ensures answer { Elaborates tree_of result units.new.left (spec.granted sig.now (asked_of asked (site_of site.entry)) (infer_sort_of sig.now nesting [] (tree_of ty.now) units.old.left)) }
-    ensures sum { units.new.left + units.new.spent ≡ units.old.left + units.old.spent }
-    ensures spends { units.new.left ≤ units.old.left }
+    requires kernel { kernel.old.signature ≡ sig.now }
+    requires given { AreWellScoped sig.now [] (tree_of ty.now ∷ []) }
+    ensures answer { Elaborates tree_of result kernel.new.left (spec.granted sig.now (asked_of asked (site_of site.entry)) (infer_sort_of sig.now nesting [] (tree_of ty.now) kernel.old.left)) }
+    ensures sum { kernel.new.left + kernel.new.spent ≡ kernel.old.left + kernel.old.spent }
+    ensures spends { kernel.new.left ≤ kernel.old.left }
+    ensures kernel { kernel.new.signature ≡ sig.now }
 {
     let ctx = Items::new(alloc);
-    match infer_sort(alloc, sig, &ctx, ty, units) {
+    match kernel.infer_sort(&ctx, ty) {
         Ok(Verdict::Yes(sort)) => Ok(sort),
         Ok(Verdict::No(denial)) => Err(denied(alloc, sig, asked, site, denial)),
         Err(e) => Err(Refusal::Stop(e)),

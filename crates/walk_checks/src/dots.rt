@@ -13,10 +13,10 @@ ghost use Rattle.core_text.specs.ContextText.{context_text};
 use crate::asking::{checked_as, inferred};
 use crate::parts::{Asked, Site};
 use core_sig::Signature;
-use core_terms::{Stop, Tele, Term, Units};
+use core_terms::{Stop, Tele, Term};
 use core_text::{context_text, print_term};
 use function_refusals::{Refusal, or_memory, owner_of};
-use kernel_reduce::convertible;
+use kernel_check::Kernel;
 use std::alloc::Global;
 
 /// What is shown of a written term that is not the forced one.
@@ -65,14 +65,16 @@ fn check_forced(
     ctx: &Tele,
     written: &Term,
     forced: &Term,
-    units: &mut Units,
+    kernel: &mut Kernel<'_>,
 ) -> Result<(), Refusal>
-    requires { AreWellScoped sig.now (tele_of ctx.now) (tree_of written.now ∷ tree_of forced.now ∷ []) }
-    ensures answer { Elaborates (λ _. tree_of written.now) result units.new.left (dot_forced sig.now (site_of site.entry) (tele_of ctx.now) (tree_of written.now, tree_of forced.now) units.old.left) }
-    ensures sum { units.new.left + units.new.spent ≡ units.old.left + units.old.spent }
-    ensures spends { units.new.left ≤ units.old.left }
+    requires kernel { kernel.old.signature ≡ sig.now }
+    requires given { AreWellScoped sig.now (tele_of ctx.now) (tree_of written.now ∷ tree_of forced.now ∷ []) }
+    ensures answer { Elaborates (λ _. tree_of written.now) result kernel.new.left (dot_forced sig.now (site_of site.entry) (tele_of ctx.now) (tree_of written.now, tree_of forced.now) kernel.old.left) }
+    ensures sum { kernel.new.left + kernel.new.spent ≡ kernel.old.left + kernel.old.spent }
+    ensures spends { kernel.new.left ≤ kernel.old.left }
+    ensures kernel { kernel.new.signature ≡ sig.now }
 {
-    let holds = convertible(alloc, sig, written, forced, units)?;
+    let holds = kernel.convertible(written, forced)?;
     refuse_unless(alloc, sig, site, ctx.as_slice(), written, forced, holds)
 }
 
@@ -85,15 +87,17 @@ fn check_written(
     written: &Term,
     forced: &Term,
     ty: &Term,
-    units: &mut Units,
+    kernel: &mut Kernel<'_>,
 ) -> Result<(), Refusal>
-    requires { AreWellScoped sig.now (tele_of ctx.now) (tree_of ty.now ∷ tree_of written.now ∷ tree_of forced.now ∷ []) }
-    ensures answer { Elaborates (λ _. tree_of written.now) result units.new.left (dot_written sig.now (site_of site.entry) (tele_of ctx.now) (tree_of written.now, tree_of forced.now) (tree_of ty.now) units.old.left) }
-    ensures sum { units.new.left + units.new.spent ≡ units.old.left + units.old.spent }
-    ensures spends { units.new.left ≤ units.old.left }
+    requires kernel { kernel.old.signature ≡ sig.now }
+    requires given { AreWellScoped sig.now (tele_of ctx.now) (tree_of ty.now ∷ tree_of written.now ∷ tree_of forced.now ∷ []) }
+    ensures answer { Elaborates (λ _. tree_of written.now) result kernel.new.left (dot_written sig.now (site_of site.entry) (tele_of ctx.now) (tree_of written.now, tree_of forced.now) (tree_of ty.now) kernel.old.left) }
+    ensures sum { kernel.new.left + kernel.new.spent ≡ kernel.old.left + kernel.old.spent }
+    ensures spends { kernel.new.left ≤ kernel.old.left }
+    ensures kernel { kernel.new.signature ≡ sig.now }
 {
-    checked_as(alloc, sig, Asked::Dot, site, ctx, written, ty, units)?;
-    check_forced(alloc, sig, site, ctx, written, forced, units)
+    checked_as(alloc, sig, Asked::Dot, site, ctx, written, ty, kernel)?;
+    check_forced(alloc, sig, site, ctx, written, forced, kernel)
 }
 
 /// The forced term has a type, which the written one has too, and the two convert.
@@ -104,15 +108,17 @@ fn check_dot(
     ctx: &Tele,
     written: &Term,
     forced: &Term,
-    units: &mut Units,
+    kernel: &mut Kernel<'_>,
 ) -> Result<(), Refusal>
-    requires { AreWellScoped sig.now (tele_of ctx.now) (tree_of written.now ∷ tree_of forced.now ∷ []) }
-    ensures answer { Elaborates (λ _. tree_of written.now) result units.new.left (spec.check_dot sig.now (site_of site.entry) (tele_of ctx.now) (tree_of written.now, tree_of forced.now) units.old.left) }
-    ensures sum { units.new.left + units.new.spent ≡ units.old.left + units.old.spent }
-    ensures spends { units.new.left ≤ units.old.left }
+    requires kernel { kernel.old.signature ≡ sig.now }
+    requires given { AreWellScoped sig.now (tele_of ctx.now) (tree_of written.now ∷ tree_of forced.now ∷ []) }
+    ensures answer { Elaborates (λ _. tree_of written.now) result kernel.new.left (spec.check_dot sig.now (site_of site.entry) (tele_of ctx.now) (tree_of written.now, tree_of forced.now) kernel.old.left) }
+    ensures sum { kernel.new.left + kernel.new.spent ≡ kernel.old.left + kernel.old.spent }
+    ensures spends { kernel.new.left ≤ kernel.old.left }
+    ensures kernel { kernel.new.signature ≡ sig.now }
 {
-    let ty = inferred(alloc, sig, Asked::Dot, site, ctx, forced, units)?;
-    check_written(alloc, sig, site, ctx, written, forced, &ty, units)
+    let ty = inferred(alloc, sig, Asked::Dot, site, ctx, forced, kernel)?;
+    check_written(alloc, sig, site, ctx, written, forced, &ty, kernel)
 }
 
 /// The same of each dot of a walk.
@@ -122,19 +128,21 @@ pub fn check_dots(
     site: Site,
     ctx: &Tele,
     dots: &[(Term, Term)],
-    units: &mut Units,
+    kernel: &mut Kernel<'_>,
 ) -> Result<(), Refusal>
+    requires kernel { kernel.old.signature ≡ sig.now }
     requires context { AreWellScoped sig.now (tele_of ctx.now) [] }
     requires dots { All (λ d. AreWellScoped sig.now (tele_of ctx.now) (tree_of d.0 ∷ tree_of d.1 ∷ [])) dots.now }
-    ensures answer { Elaborates (λ u. u) result units.new.left (dots_checked sig.now (site_of site.entry) (tele_of ctx.now) (map (λ d. (tree_of d.0, tree_of d.1)) dots.now) units.old.left) }
-    ensures sum { units.new.left + units.new.spent ≡ units.old.left + units.old.spent }
-    ensures spends { units.new.left ≤ units.old.left }
+    ensures answer { Elaborates (λ u. u) result kernel.new.left (dots_checked sig.now (site_of site.entry) (tele_of ctx.now) (map (λ d. (tree_of d.0, tree_of d.1)) dots.now) kernel.old.left) }
+    ensures sum { kernel.new.left + kernel.new.spent ≡ kernel.old.left + kernel.old.spent }
+    ensures spends { kernel.new.left ≤ kernel.old.left }
+    ensures kernel { kernel.new.signature ≡ sig.now }
 {
     match dots {
         [] => Ok(()),
         [d, rest @ ..] => {
-            check_dot(alloc, sig, site, ctx, &d.0, &d.1, units)?;
-            check_dots(alloc, sig, site, ctx, rest, units)
+            check_dot(alloc, sig, site, ctx, &d.0, &d.1, kernel)?;
+            check_dots(alloc, sig, site, ctx, rest, kernel)
         }
     }
 }

@@ -20,11 +20,12 @@ ghost use Rattle.with_abstraction.specs.Meanings.{abstracted_of};
 use crate::asking::{inferred, part_at, sort_of};
 use crate::parts::{Asked, Opening, Site};
 use core_sig::Signature;
-use core_terms::{Stop, Term, Units, Walk, copy_tele, copy_whole, products};
+use core_terms::{Stop, Term, Walk, copy_tele, copy_whole, products};
 use function_refusals::{Refusal, level_too_high, or_memory, owner_of};
 use function_walks::{GREATEST_LEVEL, Session};
+use kernel_check::Kernel;
 use std::alloc::Global;
-use with_abstraction::{Abstracted, abstract_over};
+use with_abstraction::{Abstracted, abstract_over_with};
 
 /// Whether the constant occurs in a term.
 fn mentions(own: u32, t: &Term) -> bool
@@ -116,15 +117,17 @@ fn product_sort(
     sig: &Signature,
     site: Site,
     a: &Abstracted,
-    units: &mut Units,
+    kernel: &mut Kernel<'_>,
 ) -> Result<Term, Refusal>
-    requires { AreWellScoped sig.now [] (telescopes.products (abstracted_of a.now).telescope (abstracted_of a.now).goal ∷ []) }
-    ensures answer { Elaborates tree_of result units.new.left (refusals.granted sig.now (refusals.OfGoal (site_of site.entry)) (infer_sort_of sig.now nesting [] (telescopes.products (abstracted_of a.now).telescope (abstracted_of a.now).goal) units.old.left)) }
-    ensures sum { units.new.left + units.new.spent ≡ units.old.left + units.old.spent }
-    ensures spends { units.new.left ≤ units.old.left }
+    requires kernel { kernel.old.signature ≡ sig.now }
+    requires given { AreWellScoped sig.now [] (telescopes.products (abstracted_of a.now).telescope (abstracted_of a.now).goal ∷ []) }
+    ensures answer { Elaborates tree_of result kernel.new.left (refusals.granted sig.now (refusals.OfGoal (site_of site.entry)) (infer_sort_of sig.now nesting [] (telescopes.products (abstracted_of a.now).telescope (abstracted_of a.now).goal) kernel.old.left)) }
+    ensures sum { kernel.new.left + kernel.new.spent ≡ kernel.old.left + kernel.old.spent }
+    ensures spends { kernel.new.left ≤ kernel.old.left }
+    ensures kernel { kernel.new.signature ≡ sig.now }
 {
     let ty = product_of(alloc, a)?;
-    sort_of(alloc, sig, Asked::Goal, site, &ty, units)
+    sort_of(alloc, sig, Asked::Goal, site, &ty, kernel)
 }
 
 /// Opens a helper whose goal does not mention the function.
@@ -133,15 +136,17 @@ fn at_level(
     s: Session,
     site: Site,
     a: Abstracted,
-    units: &mut Units,
+    kernel: &mut Kernel<'_>,
 ) -> Result<Opening, Refusal>
-    requires { AreWellScoped s.sig.now [] (telescopes.products (abstracted_of a).telescope (abstracted_of a).goal ∷ []) }
-    ensures answer { Elaborates opening_of result units.new.left (level_asked (session_of s.entry) (site_of site.entry) (abstracted_of a) (abstracted_of a).goal units.old.left) }
-    ensures sum { units.new.left + units.new.spent ≡ units.old.left + units.old.spent }
-    ensures spends { units.new.left ≤ units.old.left }
+    requires kernel { kernel.old.signature ≡ s.sig.now }
+    requires given { AreWellScoped s.sig.now [] (telescopes.products (abstracted_of a).telescope (abstracted_of a).goal ∷ []) }
+    ensures answer { Elaborates opening_of result kernel.new.left (level_asked (session_of s.entry) (site_of site.entry) (abstracted_of a) (abstracted_of a).goal kernel.old.left) }
+    ensures sum { kernel.new.left + kernel.new.spent ≡ kernel.old.left + kernel.old.spent }
+    ensures spends { kernel.new.left ≤ kernel.old.left }
+    ensures kernel { kernel.new.signature ≡ s.entry.sig.now }
     ensures same { IfOk result (λ o. abstracted_of o.abstraction ≡ abstracted_of a) }
 {
-    let sort = product_sort(alloc, s.sig, site, &a, units)?;
+    let sort = product_sort(alloc, s.sig, site, &a, kernel)?;
     opening(alloc, s.sig, site, a, &sort)
 }
 
@@ -151,34 +156,36 @@ fn at_goal(
     s: Session,
     site: Site,
     a: Abstracted,
-    units: &mut Units,
+    kernel: &mut Kernel<'_>,
 ) -> Result<Opening, Refusal>
-    requires { AreWellScoped s.sig.now [] (telescopes.products (abstracted_of a).telescope (abstracted_of a).goal ∷ []) }
-    ensures answer { Elaborates opening_of result units.new.left (goal_asked (session_of s.entry) (site_of site.entry) (abstracted_of a) units.old.left) }
-    ensures sum { units.new.left + units.new.spent ≡ units.old.left + units.old.spent }
-    ensures spends { units.new.left ≤ units.old.left }
+    requires kernel { kernel.old.signature ≡ s.sig.now }
+    requires given { AreWellScoped s.sig.now [] (telescopes.products (abstracted_of a).telescope (abstracted_of a).goal ∷ []) }
+    ensures answer { Elaborates opening_of result kernel.new.left (goal_asked (session_of s.entry) (site_of site.entry) (abstracted_of a) kernel.old.left) }
+    ensures sum { kernel.new.left + kernel.new.spent ≡ kernel.old.left + kernel.old.spent }
+    ensures spends { kernel.new.left ≤ kernel.old.left }
+    ensures kernel { kernel.new.signature ≡ s.entry.sig.now }
     ensures same { IfOk result (λ o. abstracted_of o.abstraction ≡ abstracted_of a) }
 {
     refuse_self(alloc, s.own, site, &a.goal)?;
-    at_level(alloc, s, site, a, units)
+    at_level(alloc, s, site, a, kernel)
 }
 
 /// The abstraction over a scrutinee of this type.
 fn abstracted(
     alloc: Global,
-    sig: &Signature,
     w: &Walk,
     t: &Term,
     ty: &Term,
-    units: &mut Units,
+    kernel: &mut Kernel<'_>,
 ) -> Result<Abstracted, Refusal>
-    requires { AreWellScoped sig.now (tele_of w.now.ctx) (tree_of w.now.goal ∷ tree_of t.now ∷ tree_of ty.now ∷ []) }
-    ensures answer { Elaborates abstracted_of result units.new.left (refusals.halting (abstract_over_of sig.now (tele_of w.now.ctx) (tree_of w.now.goal) (tree_of t.now) (tree_of ty.now) units.old.left)) }
-    ensures sum { units.new.left + units.new.spent ≡ units.old.left + units.old.spent }
-    ensures spends { units.new.left ≤ units.old.left }
-    ensures scoped { IfOk result (λ a. IsScopedAbstraction sig.now (length w.now.ctx) (abstracted_of a)) }
+    requires given { AreWellScoped kernel.old.signature (tele_of w.now.ctx) (tree_of w.now.goal ∷ tree_of t.now ∷ tree_of ty.now ∷ []) }
+    ensures answer { Elaborates abstracted_of result kernel.new.left (refusals.halting (abstract_over_of kernel.old.signature (tele_of w.now.ctx) (tree_of w.now.goal) (tree_of t.now) (tree_of ty.now) kernel.old.left)) }
+    ensures sum { kernel.new.left + kernel.new.spent ≡ kernel.old.left + kernel.old.spent }
+    ensures spends { kernel.new.left ≤ kernel.old.left }
+    ensures kernel { kernel.new.signature ≡ kernel.old.signature }
+    ensures scoped { IfOk result (λ a. IsScopedAbstraction kernel.old.signature (length w.now.ctx) (abstracted_of a)) }
 {
-    match abstract_over(alloc, sig, &w.ctx, &w.goal, t, ty, units) {
+    match abstract_over_with(alloc, &w.ctx, &w.goal, t, ty, kernel) {
         Ok(a) => Ok(a),
         Err(e) => Err(Refusal::Stop(e)),
     }
@@ -192,16 +199,18 @@ fn over_its_type(
     w: &Walk,
     t: &Term,
     ty: &Term,
-    units: &mut Units,
+    kernel: &mut Kernel<'_>,
 ) -> Result<Opening, Refusal>
-    requires { AreWellScoped s.sig.now (tele_of w.now.ctx) (tree_of w.now.goal ∷ tree_of t.now ∷ tree_of ty.now ∷ []) }
-    ensures answer { Elaborates opening_of result units.new.left (over_type (session_of s.entry) (site_of site.entry) (walk_of w.now) (tree_of t.now) (tree_of ty.now) units.old.left) }
-    ensures sum { units.new.left + units.new.spent ≡ units.old.left + units.old.spent }
-    ensures spends { units.new.left ≤ units.old.left }
+    requires kernel { kernel.old.signature ≡ s.sig.now }
+    requires given { AreWellScoped s.sig.now (tele_of w.now.ctx) (tree_of w.now.goal ∷ tree_of t.now ∷ tree_of ty.now ∷ []) }
+    ensures answer { Elaborates opening_of result kernel.new.left (over_type (session_of s.entry) (site_of site.entry) (walk_of w.now) (tree_of t.now) (tree_of ty.now) kernel.old.left) }
+    ensures sum { kernel.new.left + kernel.new.spent ≡ kernel.old.left + kernel.old.spent }
+    ensures spends { kernel.new.left ≤ kernel.old.left }
+    ensures kernel { kernel.new.signature ≡ s.entry.sig.now }
     ensures scoped { IfOk result (λ o. IsScopedAbstraction s.entry.sig.now (length w.now.ctx) (abstracted_of o.abstraction)) }
 {
-    match abstracted(alloc, s.sig, w, t, ty, units) {
-        Ok(a) => at_goal(alloc, s, site, a, units),
+    match abstracted(alloc, w, t, ty, kernel) {
+        Ok(a) => at_goal(alloc, s, site, a, kernel),
         Err(e) => Err(e),
     }
 }
@@ -214,16 +223,18 @@ fn with_type(
     w: &Walk,
     t: &Term,
     ty: &Term,
-    units: &mut Units,
+    kernel: &mut Kernel<'_>,
 ) -> Result<Opening, Refusal>
-    requires { AreWellScoped s.sig.now (tele_of w.now.ctx) (tree_of w.now.goal ∷ tree_of t.now ∷ tree_of ty.now ∷ []) }
-    ensures answer { Elaborates opening_of result units.new.left (type_asked (session_of s.entry) (site_of site.entry) (walk_of w.now) (tree_of t.now) (tree_of ty.now) units.old.left) }
-    ensures sum { units.new.left + units.new.spent ≡ units.old.left + units.old.spent }
-    ensures spends { units.new.left ≤ units.old.left }
+    requires kernel { kernel.old.signature ≡ s.sig.now }
+    requires given { AreWellScoped s.sig.now (tele_of w.now.ctx) (tree_of w.now.goal ∷ tree_of t.now ∷ tree_of ty.now ∷ []) }
+    ensures answer { Elaborates opening_of result kernel.new.left (type_asked (session_of s.entry) (site_of site.entry) (walk_of w.now) (tree_of t.now) (tree_of ty.now) kernel.old.left) }
+    ensures sum { kernel.new.left + kernel.new.spent ≡ kernel.old.left + kernel.old.spent }
+    ensures spends { kernel.new.left ≤ kernel.old.left }
+    ensures kernel { kernel.new.signature ≡ s.entry.sig.now }
     ensures scoped { IfOk result (λ o. IsScopedAbstraction s.entry.sig.now (length w.now.ctx) (abstracted_of o.abstraction)) }
 {
     refuse_self(alloc, s.own, site, ty)?;
-    over_its_type(alloc, s, site, w, t, ty, units)
+    over_its_type(alloc, s, site, w, t, ty, kernel)
 }
 
 /// Opens a helper over a scrutinee: the abstraction of the goal and of the types of the context, whose product has a level.
@@ -233,14 +244,16 @@ pub fn open_over(
     site: Site,
     w: &Walk,
     t: &Term,
-    units: &mut Units,
+    kernel: &mut Kernel<'_>,
 ) -> Result<Opening, Refusal>
-    requires { AreWellScoped s.sig.now (tele_of w.now.ctx) (tree_of w.now.goal ∷ tree_of t.now ∷ []) }
-    ensures answer { Elaborates opening_of result units.new.left (spec.open_over (session_of s.entry) (site_of site.entry) (walk_of w.now) (tree_of t.now) units.old.left) }
-    ensures sum { units.new.left + units.new.spent ≡ units.old.left + units.old.spent }
-    ensures spends { units.new.left ≤ units.old.left }
+    requires kernel { kernel.old.signature ≡ s.sig.now }
+    requires given { AreWellScoped s.sig.now (tele_of w.now.ctx) (tree_of w.now.goal ∷ tree_of t.now ∷ []) }
+    ensures answer { Elaborates opening_of result kernel.new.left (spec.open_over (session_of s.entry) (site_of site.entry) (walk_of w.now) (tree_of t.now) kernel.old.left) }
+    ensures sum { kernel.new.left + kernel.new.spent ≡ kernel.old.left + kernel.old.spent }
+    ensures spends { kernel.new.left ≤ kernel.old.left }
+    ensures kernel { kernel.new.signature ≡ s.entry.sig.now }
     ensures scoped { IfOk result (λ o. IsScopedAbstraction s.entry.sig.now (length w.now.ctx) (abstracted_of o.abstraction)) }
 {
-    let ty = inferred(alloc, s.sig, Asked::With, site, &w.ctx, t, units)?;
-    with_type(alloc, s, site, w, t, &ty, units)
+    let ty = inferred(alloc, s.sig, Asked::With, site, &w.ctx, t, kernel)?;
+    with_type(alloc, s, site, w, t, &ty, kernel)
 }

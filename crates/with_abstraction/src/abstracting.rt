@@ -16,6 +16,7 @@ use crate::opening::{lifted, opened_types};
 use crate::orders::{behind, new_order, numbers, others_from};
 use core_sig::Signature;
 use core_terms::{Items, MAX_HEIGHT, Stop, Tele, Term, Units};
+use kernel_check::Kernel;
 use std::alloc::Global;
 
 /// Telescope and goal, with the levels in front of the new variable and those after it.
@@ -119,7 +120,29 @@ pub fn abstract_over(
     ensures spends { units.new.left ≤ units.old.left }
     ensures scoped { IfOk result (λ a. IsScopedAbstraction sig.now (length ctx.now) (abstracted_of a)) }
 {
-    let forms = normal_forms(alloc, sig, ctx, goal, scrutinee, units)?;
+    let mut kernel = Kernel::new(alloc, sig, *units);
+    let made = abstract_over_with(alloc, ctx, goal, scrutinee, ty, &mut kernel);
+    *units = kernel.into_units();
+    made
+}
+
+/// `abstract_over` over a kernel with this signature, with its units.
+pub fn abstract_over_with(
+    alloc: Global,
+    ctx: &Tele,
+    goal: &Term,
+    scrutinee: &Term,
+    ty: &Term,
+    kernel: &mut Kernel<'_>,
+) -> Result<Abstracted, Stop>
+    requires given { AreWellScoped kernel.old.signature (tele_of ctx.now) (tree_of goal.now ∷ tree_of scrutinee.now ∷ tree_of ty.now ∷ []) }
+    ensures answer { Runs abstracted_of result kernel.new.left (spec.abstract_over_of kernel.old.signature (tele_of ctx.now) (tree_of goal.now) (tree_of scrutinee.now) (tree_of ty.now) kernel.old.left) }
+    ensures sum { kernel.new.left + kernel.new.spent ≡ kernel.old.left + kernel.old.spent }
+    ensures spends { kernel.new.left ≤ kernel.old.left }
+    ensures kernel { kernel.new.signature ≡ kernel.old.signature }
+    ensures scoped { IfOk result (λ a. IsScopedAbstraction kernel.old.signature (length ctx.now) (abstracted_of a)) }
+{
+    let forms = normal_forms(alloc, ctx, goal, scrutinee, kernel)?;
     if ty.height() > MAX_HEIGHT {
         return Err(Stop::Deep);
     }

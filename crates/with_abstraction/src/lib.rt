@@ -15,4 +15,4 @@ mod opening;
 mod orders;
 
 pub use abstracted::Abstracted;
-pub use abstracting::abstract_over;
+pub use abstracting::{abstract_over, abstract_over_with};

@@ -8,9 +8,8 @@ ghost use Rattle.with_abstraction.specs.Conditions.{AreFormsOver};
 ghost use Rattle.with_abstraction.specs.Meanings.{forms_of};
 ghost use Rattle.with_abstraction.specs.NormalForms as spec;
 
-use core_sig::Signature;
-use core_terms::{Items, Stop, Tele, Term, Units};
-use kernel_reduce::normal;
+use core_terms::{Items, Stop, Tele, Term};
+use kernel_check::Kernel;
 use std::alloc::Global;
 
 /// A goal, the types of its context and a scrutinee, in plain normal form.
@@ -22,23 +21,19 @@ pub(crate) struct NormalForms {
 }
 
 /// The plain normal forms of the types, the first one first.
-fn plain_normals(
-    alloc: Global,
-    sig: &Signature,
-    types: &[Term],
-    units: &mut Units,
-) -> Result<Vec<Term>, Stop>
-    requires signature { IsScopedSignature sig.now }
-    requires types { AreScoped sig.now most_variables (tele_of types.now) }
-    ensures answer { Runs (λ v. tele_of v.items) result units.new.left (spec.plain_normals_of sig.now (tele_of types.now) units.old.left) }
-    ensures sum { units.new.left + units.new.spent ≡ units.old.left + units.old.spent }
-    ensures spends { units.new.left ≤ units.old.left }
+fn plain_normals(alloc: Global, types: &[Term], kernel: &mut Kernel<'_>) -> Result<Vec<Term>, Stop>
+    requires signature { IsScopedSignature kernel.old.signature }
+    requires types { AreScoped kernel.old.signature most_variables (tele_of types.now) }
+    ensures answer { Runs (λ v. tele_of v.items) result kernel.new.left (spec.plain_normals_of kernel.old.signature (tele_of types.now) kernel.old.left) }
+    ensures sum { kernel.new.left + kernel.new.spent ≡ kernel.old.left + kernel.old.spent }
+    ensures spends { kernel.new.left ≤ kernel.old.left }
+    ensures kernel { kernel.new.signature ≡ kernel.old.signature }
 {
     match types {
         [] => Ok(Vec::new(alloc)),
         [ty, rest @ ..] => {
-            let first = normal(alloc, sig, ty, false, units)?;
-            let mut normals = plain_normals(alloc, sig, rest, units)?;
+            let first = kernel.normal(ty, false)?;
+            let mut normals = plain_normals(alloc, rest, kernel)?;
             normals.insert(0, first)?;
             Ok(normals)
         }
@@ -48,21 +43,21 @@ fn plain_normals(
 /// The plain normal forms of the goal, of the types of the context from the outermost on, and of the scrutinee.
 pub(crate) fn normal_forms(
     alloc: Global,
-    sig: &Signature,
     ctx: &Tele,
     goal: &Term,
     scrutinee: &Term,
-    units: &mut Units,
+    kernel: &mut Kernel<'_>,
 ) -> Result<NormalForms, Stop>
-    requires { AreWellScoped sig.now (tele_of ctx.now) (tree_of goal.now ∷ tree_of scrutinee.now ∷ []) }
-    ensures answer { Runs forms_of result units.new.left (spec.normal_forms_of sig.now (tele_of ctx.now) (tree_of goal.now) (tree_of scrutinee.now) units.old.left) }
-    ensures sum { units.new.left + units.new.spent ≡ units.old.left + units.old.spent }
-    ensures spends { units.new.left ≤ units.old.left }
+    requires given { AreWellScoped kernel.old.signature (tele_of ctx.now) (tree_of goal.now ∷ tree_of scrutinee.now ∷ []) }
+    ensures answer { Runs forms_of result kernel.new.left (spec.normal_forms_of kernel.old.signature (tele_of ctx.now) (tree_of goal.now) (tree_of scrutinee.now) kernel.old.left) }
+    ensures sum { kernel.new.left + kernel.new.spent ≡ kernel.old.left + kernel.old.spent }
+    ensures spends { kernel.new.left ≤ kernel.old.left }
+    ensures kernel { kernel.new.signature ≡ kernel.old.signature }
     ensures over { IfOk result (λ m. AreFormsOver (length ctx.now) (forms_of m)) }
 {
-    let goal = normal(alloc, sig, goal, false, units)?;
-    let types = plain_normals(alloc, sig, ctx.as_slice(), units)?;
-    let scrutinee = normal(alloc, sig, scrutinee, false, units)?;
+    let goal = kernel.normal(goal, false)?;
+    let types = plain_normals(alloc, ctx.as_slice(), kernel)?;
+    let scrutinee = kernel.normal(scrutinee, false)?;
     Ok(NormalForms {
         goal,
         types: Items::from_vec(types),

@@ -5,7 +5,7 @@ use Rattle.proof_terms.specs.ProofMeanings.{place_of}
 use Rattle.proof_walks.proofs.KeptPlaces.{kept-reduces}
 use Rattle.clause_lines.proofs.shadowing.vector_at.Goals as goal
 
-pub vector_of-requires : goal.vector_of-requires
-vector_of-requires c =
+pub vector_of-requires-clause-given : goal.vector_of-requires-clause-given
+vector_of-requires-clause-given c =
     transport (λ ts. CanReduce c.args.sig.now (tele_of ts)) (sym c.as_slice-3.ensures)
     (kept-reduces c.args.sig.now (place_of c.args.p.now) c.requires.ready c.requires.kept)

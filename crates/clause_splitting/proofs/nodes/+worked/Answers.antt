@@ -14,13 +14,13 @@ worked-requires t c =
     let S = c.args.sig.now in
     let live = c.args.live.now in
     let kept = worked-kept S c.args.p c.in_ok-p-in-len1-up.p c.args.made live c.in_ok-made-in-len1-up.made c.c-item.result c.as_slice.result.now
-    c.in_ok-pairs-in-len1-up.pairs c.as_slice-in-len1-up.result.now c.args.units.now.left c.work_pairs.new.units.left c.in-len1-up.len_at_least c.c-item.is
+    c.in_ok-pairs-in-len1-up.pairs c.as_slice-in-len1-up.result.now c.args.kernel.now.left c.work_pairs.new.kernel.left c.in-len1-up.len_at_least c.c-item.is
     c.as_slice.ensures c.as_slice-in-len1-up.ensures c.in_ok-pairs-in-len1-up.ensures.answer c.in_ok-p-in-len1-up.ensures.answer
     c.in_ok-made-in-len1-up.ensures c.requires.live c.requires.made c.in_ok-pairs-in-len1-up.ensures.kept c.in_ok-p-in-len1-up.ensures.few in (
       omega (arith, length-take (length live - 1) (drop 1 live), length-drop 1 live, c.in-len1-up.len_at_least),
       (
-        c.requires.ready,
-        (subst (λ ls. IsNodeAt S (node_at (point_of c.in_ok-p-in-len1-up.p) (all_live_of ls))) (sym (rest-of live)) kept.0, kept.1),
+        c.in_ok-pairs-in-len1-up.ensures.kernel,
+        (c.requires.ready, (subst (λ ls. IsNodeAt S (node_at (point_of c.in_ok-p-in-len1-up.p) (all_live_of ls))) (sym (rest-of live)) kept.0, kept.1)),
       ),
     )
 
@@ -28,10 +28,10 @@ pub returns-in_ok-made-in-len1-up-clause-answer : goal.returns-in_ok-made-in-len
 returns-in_ok-made-in-len1-up-clause-answer t c =
     let S = c.args.sig.now in
     let live = c.args.live.now in
-    subst (Yields node_of c.worked.result c.worked.new.units.left)
-    (ap (λ ls. worked_behind S (all_live_of c.in_ok-made-in-len1-up.made) (point_of c.in_ok-p-in-len1-up.p) (all_live_of ls) c.work_pairs.new.units.left) (rest-of live)
+    subst (Yields node_of c.worked.result c.worked.new.kernel.left)
+    (ap (λ ls. worked_behind S (all_live_of c.in_ok-made-in-len1-up.made) (point_of c.in_ok-p-in-len1-up.p) (all_live_of ls) c.work_pairs.new.kernel.left) (rest-of live)
     ∙ worked-on S c.args.p c.in_ok-p-in-len1-up.p c.args.made live c.in_ok-made-in-len1-up.made c.c-item.result c.as_slice.result.now
-    c.in_ok-pairs-in-len1-up.pairs c.as_slice-in-len1-up.result.now c.args.units.now.left c.work_pairs.new.units.left c.in-len1-up.len_at_least c.c-item.is
+    c.in_ok-pairs-in-len1-up.pairs c.as_slice-in-len1-up.result.now c.args.kernel.now.left c.work_pairs.new.kernel.left c.in-len1-up.len_at_least c.c-item.is
     c.as_slice.ensures c.as_slice-in-len1-up.ensures c.in_ok-pairs-in-len1-up.ensures.answer c.in_ok-p-in-len1-up.ensures.answer
     c.in_ok-made-in-len1-up.ensures)
     c.worked.ensures.answer

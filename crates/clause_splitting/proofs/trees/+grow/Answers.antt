@@ -20,38 +20,38 @@ pub grow-returns-in_err-node-clause-answer : goal.grow-returns-in_err-node-claus
 grow-returns-in_err-node-clause-answer t c =
     let q = err_from_is_err_and c.from_residual.result c.from_residual.ensures.1 in
     rw (q.1, q.2)
-    (grow-refused c.args.sig.now c.args.patterns (point_of c.args.node.point) (all_live_of c.args.node.live) c.args.units.now.left
-    c.worked_node.new.units.left c.requires.node.covers _ c.in_err-node.ensures.answer)
+    (grow-refused c.args.sig.now c.args.patterns (point_of c.args.node.point) (all_live_of c.args.node.live) c.args.kernel.now.left
+    c.worked_node.new.kernel.left c.requires.node.covers _ c.in_err-node.ensures.answer)
 
 pub grow-returns-in_err-reached-clause-answer : goal.grow-returns-in_err-reached-clause-answer
 grow-returns-in_err-reached-clause-answer t c =
     let q = err_from_is_err_and c.from_residual-in_err-reached.result c.from_residual-in_err-reached.ensures.1 in
     rw (q.1, q.2)
-    (grow-stops c.args.sig.now c.args.patterns (point_of c.args.node.point) (all_live_of c.args.node.live) c.args.units.now.left
-    c.worked_node.new.units.left c.requires.node.covers (point_of c.in_ok-node.node.point) (all_live_of c.in_ok-node.node.live) c.reached_at.new.units.left
+    (grow-stops c.args.sig.now c.args.patterns (point_of c.args.node.point) (all_live_of c.args.node.live) c.args.kernel.now.left
+    c.worked_node.new.kernel.left c.requires.node.covers (point_of c.in_ok-node.node.point) (all_live_of c.in_ok-node.node.live) c.reached_at.new.kernel.left
     c.in_ok-node.ensures.answer _ c.in_err-reached.ensures.answer)
 
 pub grow-returns-in-Some-clause-answer : goal.grow-returns-in-Some-clause-answer
 grow-returns-in-Some-clause-answer t c =
-    subst (Yields case_tree_of c.split_at.result c.split_at.new.units.left)
-    (grow-goes c.args.sig.now c.args.patterns (point_of c.args.node.point) (all_live_of c.args.node.live) c.args.units.now.left
-    c.worked_node.new.units.left c.requires.node.covers (point_of c.in_ok-node.node.point) (all_live_of c.in_ok-node.node.live) c.reached_at.new.units.left
+    subst (Yields case_tree_of c.split_at.result c.split_at.new.kernel.left)
+    (grow-goes c.args.sig.now c.args.patterns (point_of c.args.node.point) (all_live_of c.args.node.live) c.args.kernel.now.left
+    c.worked_node.new.kernel.left c.requires.node.covers (point_of c.in_ok-node.node.point) (all_live_of c.in_ok-node.node.live) c.reached_at.new.kernel.left
     c.in_ok-node.ensures.answer (Some (reached_of c.in-Some.reached)) (rw c.in-Some.is at c.in_ok-reached.ensures.answer))
     c.split_at.ensures.answer
 
 pub grow-returns-in-None-clause-answer : goal.grow-returns-in-None-clause-answer
 grow-returns-in-None-clause-answer t c =
-    subst (Yields case_tree_of c.leaf_at.result c.reached_at.new.units.left)
-    (grow-goes c.args.sig.now c.args.patterns (point_of c.args.node.point) (all_live_of c.args.node.live) c.args.units.now.left
-    c.worked_node.new.units.left c.requires.node.covers (point_of c.in_ok-node.node.point) (all_live_of c.in_ok-node.node.live) c.reached_at.new.units.left
+    subst (Yields case_tree_of c.leaf_at.result c.reached_at.new.kernel.left)
+    (grow-goes c.args.sig.now c.args.patterns (point_of c.args.node.point) (all_live_of c.args.node.live) c.args.kernel.now.left
+    c.worked_node.new.kernel.left c.requires.node.covers (point_of c.in_ok-node.node.point) (all_live_of c.in_ok-node.node.live) c.reached_at.new.kernel.left
     c.in_ok-node.ensures.answer None (rw c.in-None.is at c.in_ok-reached.ensures.answer))
-    (tells-yields case_tree_of c.leaf_at.result c.reached_at.new.units.left (leaf_of (point_of c.in_ok-node.node.point) (all_live_of c.in_ok-node.node.live))
+    (tells-yields case_tree_of c.leaf_at.result c.reached_at.new.kernel.left (leaf_of (point_of c.in_ok-node.node.point) (all_live_of c.in_ok-node.node.live))
     c.leaf_at.ensures)
 
 pub grow_branch-returns-in_err-next-in-Solved-clause-answer : goal.grow_branch-returns-in_err-next-in-Solved-clause-answer
 grow_branch-returns-in_err-next-in-Solved-clause-answer t c =
     let q = err_from_is_err_and c.from_residual-in_err-next-in-Solved.result c.from_residual-in_err-next-in-Solved.ensures.1 in
-    let left = c.args.units.now.left in
+    let left = c.args.kernel.now.left in
     rw (q.1, q.2)
     (solved-refused c.args.sig.now c.args.patterns (point_of c.args.node.now.point) (all_live_of c.args.node.now.live) (ran_of c.args.run.now)
     (outcome_of c.args.run.now.outcome) (steps_of c.in-Solved.steps) (tele_of c.in-Solved.ctx) (tele_of c.in-Solved.subst)
@@ -60,7 +60,7 @@ grow_branch-returns-in_err-next-in-Solved-clause-answer t c =
 
 pub grow_branch-returns-then-patterns-eq0-clause-answer : goal.grow_branch-returns-then-patterns-eq0-clause-answer
 grow_branch-returns-then-patterns-eq0-clause-answer t c =
-    let left = c.args.units.now.left in
+    let left = c.args.kernel.now.left in
     λ other.
     solved-deep c.args.sig.now c.args.patterns (point_of c.args.node.now.point) (all_live_of c.args.node.now.live) (ran_of c.args.run.now)
     (outcome_of c.args.run.now.outcome) (steps_of c.in-Solved.steps) (tele_of c.in-Solved.ctx) (tele_of c.in-Solved.subst)
@@ -74,7 +74,7 @@ grow_branch-returns-in_err-tree-in-Solved-clause-answer t c =
     rw (q.1, q.2)
     (solved-stops c.args.sig.now c.args.patterns (point_of c.args.node.now.point) (all_live_of c.args.node.now.live) (ran_of c.args.run.now)
     (outcome_of c.args.run.now.outcome) (steps_of c.in-Solved.steps) (tele_of c.in-Solved.ctx) (tele_of c.in-Solved.subst)
-    (tele_of c.as_slice-in-Solved.result.now) (tele_of c.as_slice-in-Solved-2.result.now) c.args.units.now.left c.grow.new.units.left
+    (tele_of c.as_slice-in-Solved.result.now) (tele_of c.as_slice-in-Solved-2.result.now) c.args.kernel.now.left c.grow.new.kernel.left
     (ap outcome_of c.in-Solved.is) (ap tele_of c.as_slice-in-Solved.ensures) (ap tele_of c.as_slice-in-Solved-2.ensures)
     (node_of c.in_ok-next-in-Solved.next) c.in_ok-next-in-Solved.ensures.answer (omega (arith, c.if-patterns-eq0.false)) _ refl _
     c.in_err-tree-in-Solved.ensures.answer)
@@ -89,7 +89,7 @@ pub grow_branch-returns-in_ok-branch_over-in-Solved-clause-answer : goal.grow_br
 grow_branch-returns-in_ok-branch_over-in-Solved-clause-answer t c =
     solved-goes c.args.sig.now c.args.patterns (point_of c.args.node.now.point) (all_live_of c.args.node.now.live) (ran_of c.args.run.now)
     (outcome_of c.args.run.now.outcome) (steps_of c.in-Solved.steps) (tele_of c.in-Solved.ctx) (tele_of c.in-Solved.subst)
-    (tele_of c.as_slice-in-Solved.result.now) (tele_of c.as_slice-in-Solved-2.result.now) c.args.units.now.left c.grow.new.units.left
+    (tele_of c.as_slice-in-Solved.result.now) (tele_of c.as_slice-in-Solved-2.result.now) c.args.kernel.now.left c.grow.new.kernel.left
     (ap outcome_of c.in-Solved.is) (ap tele_of c.as_slice-in-Solved.ensures) (ap tele_of c.as_slice-in-Solved-2.ensures)
     (node_of c.in_ok-next-in-Solved.next) c.in_ok-next-in-Solved.ensures.answer (omega (arith, c.if-patterns-eq0.false)) _ refl
     (case_tree_of c.in_ok-tree-in-Solved.tree) (branch_of c.in_ok-branch_over-in-Solved.field-0)
@@ -100,16 +100,16 @@ grow_branch-returns-in_ok-branch_over-in-Solved-clause-answer t c =
 pub grow_branches-returns-in-empty-clause-answer : goal.grow_branches-returns-in-empty-clause-answer
 grow_branches-returns-in-empty-clause-answer t c =
     branches-none (forgetting_live (grows_on c.args.sig.now c.args.patterns)) (point_of c.args.node.now.point) (all_live_of c.args.node.now.live) c.args.made
-    c.args.runs.now c.args.units.now.left c.in-empty.len_below
+    c.args.runs.now c.args.kernel.now.left c.in-empty.len_below
 
 pub grow_branches-returns-in_ok-push-in-len1-up-clause-answer : goal.grow_branches-returns-in_ok-push-in-len1-up-clause-answer
 grow_branches-returns-in_ok-push-in-len1-up-clause-answer t c =
     let go = forgetting_live (grows_on c.args.sig.now c.args.patterns) in
     let p = point_of c.args.node.now.point in
     let live = all_live_of c.args.node.now.live in
-    subst (Yields branches_of c.grow_branches.result c.grow_branches.new.units.left)
-    (ap₂ (λ made runs. branches_behind (map branch_of made) (branches_from go p live (ends_of runs) c.grow_branch.new.units.left))
+    subst (Yields branches_of c.grow_branches.result c.grow_branches.new.kernel.left)
+    (ap₂ (λ made runs. branches_behind (map branch_of made) (branches_from go p live (ends_of runs) c.grow_branch.new.kernel.left))
     c.in_ok-push-in-len1-up.ensures.ok (rest-of c.args.runs.now)
-    ∙ branch-goes go p live c.args.made c.args.runs.now c.run-item.result c.args.units.now.left c.grow_branch.new.units.left c.in-len1-up.len_at_least
+    ∙ branch-goes go p live c.args.made c.args.runs.now c.run-item.result c.args.kernel.now.left c.grow_branch.new.kernel.left c.in-len1-up.len_at_least
     c.run-item.is c.in_ok-grow_branch-in-len1-up.field-0 c.in_ok-grow_branch-in-len1-up.ensures.answer)
     c.grow_branches.ensures.answer

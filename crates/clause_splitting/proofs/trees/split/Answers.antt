@@ -1,30 +1,15 @@
+use Rattle.std.proofs.Common.{ℕ, sym, subst as transport}
 use Rattle.core_terms.specs.Meanings.{tree_of, tele_of}
 use Rattle.core_terms.specs.PatternMeanings.{clauses_of}
 use Rattle.core_terms.specs.TreeMeanings.{case_tree_of}
-use Rattle.core_terms.proofs.Answers.{spends-has}
-use Rattle.case_trees.specs.Scoped.{IsScopedTree}
+use Rattle.kernel_check.specs.Kernels.{Kernel}
 use Rattle.case_trees.specs.Trees.{split_of}
-use Rattle.case_trees.proofs.TreeStanding.{tree_scoped, tree_stop_scoped}
-use Rattle.clause_walks.specs.Stops.{IsUnforeseen, stop_of}
-use Rattle.clause_splitting.proofs.SplitCodes.{denied-scoped}
+use Rattle.clause_walks.specs.Stops.{Yields}
 use Rattle.clause_splitting.proofs.trees.split.Goals as goal
 
-pub returns-clause-scoped : goal.returns-clause-scoped
-returns-clause-scoped c =
-    let S = c.args.sig.now in
-    let context = tele_of c.args.ctx.now in
-    let terms = tele_of c.args.terms.now in
-    let clauses = clauses_of c.args.clauses.now in
-    spends-has IsUnforeseen stop_of case_tree_of (IsScopedTree S) c.grow_all.result c.grow_all.new.units.left
-    (split_of S context (tree_of c.args.goal.now) terms clauses c.args.units.now.left) (rw (c.as_slice.ensures, c.as_slice-2.ensures, c.as_slice-3.ensures) at c.grow_all.ensures.answer)
-    (tree_scoped S context (tree_of c.args.goal.now) terms clauses c.args.units.now.left c.requires.given c.requires.clauses)
-
-pub returns-clause-scoped_stop : goal.returns-clause-scoped_stop
-returns-clause-scoped_stop c =
-    let S = c.args.sig.now in
-    let context = tele_of c.args.ctx.now in
-    let terms = tele_of c.args.terms.now in
-    let clauses = clauses_of c.args.clauses.now in
-    denied-scoped S case_tree_of c.grow_all.result c.grow_all.new.units.left
-    (split_of S context (tree_of c.args.goal.now) terms clauses c.args.units.now.left) (rw (c.as_slice.ensures, c.as_slice-2.ensures, c.as_slice-3.ensures) at c.grow_all.ensures.answer)
-    (λ e is. tree_stop_scoped S context (tree_of c.args.goal.now) terms clauses c.args.units.now.left e c.requires.given c.requires.clauses is)
+pub returns-clause-answer : goal.returns-clause-answer
+returns-clause-answer c =
+    let P : ℕ → Kernel → Type 0 = λ left k. Yields case_tree_of c.split_with-made.result left
+    (split_of c.args.sig.now (tele_of c.args.ctx.now) (tree_of c.args.goal.now) (tele_of c.args.terms.now) (clauses_of c.args.clauses.now) k.left) in
+    transport (P c.into_units.result.left) c.new-kernel.ensures
+    (transport (λ left. P left c.new-kernel.result) (sym c.into_units.ensures.left) c.split_with-made.ensures.answer)

@@ -13,30 +13,30 @@ returns-in_err-found-clause-answer t c =
     rw (q.1, q.2)
     (λ other.
     code-refused c.args.sig.now c.args.own c.args.clause (tele_of c.args.ctx.now) c.args.pairs.now _ c.pair-item.result (option_map stop_of c.args.stuck)
-    (option_map stop_of c.args.forced) c.args.units.now.left c.arrive.new.units.left
+    (option_map stop_of c.args.forced) c.args.kernel.now.left c.arrive.new.kernel.left
     (first-item c.args.pairs.now c.pair-item.result c.in-len1-up.len_at_least c.pair-item.is) _ (c.in_err-found.ensures.answer other))
 
 pub returns-in-Found-clause-answer : goal.returns-in-Found-clause-answer
 returns-in-Found-clause-answer t c =
     code-found c.args.sig.now c.args.own c.args.clause (tele_of c.args.ctx.now) c.args.pairs.now _ c.pair-item.result (option_map stop_of c.args.stuck)
-    (option_map stop_of c.args.forced) c.args.units.now.left c.arrive.new.units.left
+    (option_map stop_of c.args.forced) c.args.kernel.now.left c.arrive.new.kernel.left
     (first-item c.args.pairs.now c.pair-item.result c.in-len1-up.len_at_least c.pair-item.is) (reached_of c.in-Found.found)
     (rw c.in-Found.is at c.in_ok-found.ensures.answer)
 
 pub returns-in-Stuck-clause-answer : goal.returns-in-Stuck-clause-answer
 returns-in-Stuck-clause-answer t c =
-    transport (Yields reached_of c.look_from.result c.look_from.new.units.left)
+    transport (Yields reached_of c.look_from.result c.look_from.new.kernel.left)
     (code-stuck c.args.sig.now c.args.own c.args.clause (tele_of c.args.ctx.now) c.args.pairs.now _ c.pair-item.result (option_map stop_of c.args.stuck)
-    (option_map stop_of c.args.forced) c.args.units.now.left c.arrive.new.units.left
+    (option_map stop_of c.args.forced) c.args.kernel.now.left c.arrive.new.kernel.left
     (first-item c.args.pairs.now c.pair-item.result c.in-len1-up.len_at_least c.pair-item.is) (stop_of c.in-Stuck.stop) _ c.or_later-stuck.ensures
     (rw c.in-Stuck.is at c.in_ok-found.ensures.answer))
     c.look_from.ensures.answer
 
 pub returns-in-Forced-clause-answer : goal.returns-in-Forced-clause-answer
 returns-in-Forced-clause-answer t c =
-    transport (Yields reached_of c.look_from-in-Forced.result c.look_from-in-Forced.new.units.left)
+    transport (Yields reached_of c.look_from-in-Forced.result c.look_from-in-Forced.new.kernel.left)
     (code-forced c.args.sig.now c.args.own c.args.clause (tele_of c.args.ctx.now) c.args.pairs.now _ c.pair-item.result (option_map stop_of c.args.stuck)
-    (option_map stop_of c.args.forced) c.args.units.now.left c.arrive.new.units.left
+    (option_map stop_of c.args.forced) c.args.kernel.now.left c.arrive.new.kernel.left
     (first-item c.args.pairs.now c.pair-item.result c.in-len1-up.len_at_least c.pair-item.is) (stop_of c.in-Forced.stop) _ c.or_later-forced.ensures
     (rw c.in-Forced.is at c.in_ok-found.ensures.answer))
     c.look_from-in-Forced.ensures.answer

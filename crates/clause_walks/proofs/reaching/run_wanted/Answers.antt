@@ -11,8 +11,8 @@ run_from-requires-clause-constructors c =
 
 pub returns-clause-answer : goal.returns-clause-answer
 returns-clause-answer c =
-    transport (Yields runs_of c.run_from.result c.run_from.new.units.left)
+    transport (Yields runs_of c.run_from.result c.run_from.new.kernel.left)
     (code-wanted c.args.sig.now c.args.clause (tele_of c.args.ctx.now) c.args.x (looked_of c.args.found.now) c.args.number
-    (length c.args.found.now.member.family.now.params) c.as_slice-cons.result.now c.args.found.now.member.family.now.cons c.new.result c.args.units.now.left
+    (length c.args.found.now.member.family.now.params) c.as_slice-cons.result.now c.args.found.now.member.family.now.cons c.new.result c.args.kernel.now.left
     c.as_slice-cons.ensures (omega (arith, c.if-at-cons.false)) c.new.ensures)
     c.run_from.ensures.answer

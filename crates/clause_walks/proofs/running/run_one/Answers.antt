@@ -14,7 +14,7 @@ returns-in_err-problem-clause-answer c =
     rw (q.1, q.2)
     (λ other.
     code-deep c.args.sig.now (tele_of c.args.ctx.now) c.args.x (member_meant c.args.m.now) c.args.number (length c.args.m.now.family.now.params) c.args.con.now
-    c.args.units.now.left _
+    c.args.kernel.now.left _
     (problem-meant-scoped c.args.sig.now (tele_of c.args.ctx.now) (length c.args.ctx.now) c.args.x c.args.m.now c.args.number c.args.con.now c.requires.ready
     c.requires.context (length-map c.args.ctx.now tree_of) c.requires.variable c.requires.member c.requires.constructor)
     (c.in_err-problem.ensures.answer other))
@@ -22,5 +22,5 @@ returns-in_err-problem-clause-answer c =
 pub returns-clause-answer : goal.returns-clause-answer
 returns-clause-answer c =
     code-ends c.args.sig.now (tele_of c.args.ctx.now) c.args.x (member_meant c.args.m.now) c.args.number (length c.args.m.now.family.now.params) c.args.con.now
-    c.args.units.now.left (problem_meant c.in_ok-problem.problem) c.unify.new.units.left (outcome_of c.in_ok-outcome.outcome) (ran_of c.ended.result)
+    c.args.kernel.now.left (problem_meant c.in_ok-problem.problem) c.unify_with.new.kernel.left (outcome_of c.in_ok-outcome.outcome) (ran_of c.ended.result)
     c.in_ok-problem.ensures.answer c.in_ok-outcome.ensures.answer c.ended.ensures

@@ -34,7 +34,7 @@ first_found-requires-clause-pairs c =
 pub returns-in_err-reached-clause-answer : goal.returns-in_err-reached-clause-answer
 returns-in_err-reached-clause-answer c =
     let S = c.args.sig.now in
-    let left = c.args.units.now.left in
+    let left = c.args.kernel.now.left in
     let waiting = ok_is c.in_ok-open.ensures in
     let some = ap (λ n. n == 0) (ap length (sym waiting) ∙ (length-map c.in_ok-open.open open_of ∙ ap length (sym c.as_slice.ensures)))
     ∙ (sym c.is_empty.ensures ∙ c.if-is_empty.false) in
@@ -42,14 +42,14 @@ returns-in_err-reached-clause-answer c =
     let q = err_from_is_err_and c.from_residual-in_err-reached.result c.from_residual-in_err-reached.ensures.1 in
     rw (q.1, q.2)
     (λ other.
-    open-refused S c.args.clause (point_of c.args.p) (pairs_of c.args.pairs.now) left c.first_found.new.units.left (all_open (pairs_of c.args.pairs.now)) _ some
+    open-refused S c.args.clause (point_of c.args.p) (pairs_of c.args.pairs.now) left c.first_found.new.kernel.left (all_open (pairs_of c.args.pairs.now)) _ some
     (c.in_err-reached.ensures.answer other ∙ same))
 
 pub returns-clause-answer : goal.returns-clause-answer
 returns-clause-answer c =
     let S = c.args.sig.now in
-    let left = c.args.units.now.left in
-    let rest = c.first_found.new.units.left in
+    let left = c.args.kernel.now.left in
+    let rest = c.first_found.new.kernel.left in
     let waiting = ok_is c.in_ok-open.ensures in
     let some = ap (λ n. n == 0) (ap length (sym waiting) ∙ (length-map c.in_ok-open.open open_of ∙ ap length (sym c.as_slice.ensures)))
     ∙ (sym c.is_empty.ensures ∙ c.if-is_empty.false) in

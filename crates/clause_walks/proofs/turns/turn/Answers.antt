@@ -20,4 +20,4 @@ next_unless_dropped-requires-clause-covers c =
     let S = c.args.sig.now in
     let us = tele_of c.args.p.terms in
     transport (λ worked. CoverAll S (pairs_of worked) (keep_all S (pairs_of worked) us)) (sym c.as_slice.ensures)
-    (worked-covers S (pairs_of c.args.pairs.now) (pairs_of c.in_ok-worked.worked) us c.args.units.now.left c.work_pairs.new.units.left c.requires.state.covers c.in_ok-worked.ensures.answer)
+    (worked-covers S (pairs_of c.args.pairs.now) (pairs_of c.in_ok-worked.worked) us c.args.kernel.now.left c.work_pairs.new.kernel.left c.requires.state.covers c.in_ok-worked.ensures.answer)

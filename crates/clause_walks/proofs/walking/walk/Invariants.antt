@@ -7,11 +7,12 @@ use Rattle.clause_walks.proofs.walking.walk.Given as goal
 
 abbrev pub invariant-turns : goal.invariant-turns
 invariant-turns l = record {
-  meant : by_patterns l.sig l.clause l.patterns (point_of l.point) (pairs_of l.pairs) l.units.left
-      ≡ by_patterns l.sig l.clause l.fn.most (point_of l.fn.start) (pairs_of l.fn.first) l.fn.units.left;
+  meant : by_patterns l.sig l.clause l.patterns (point_of l.point) (pairs_of l.pairs) l.kernel.left
+      ≡ by_patterns l.sig l.clause l.fn.most (point_of l.fn.start) (pairs_of l.fn.first) l.fn.kernel.left;
   state : IsWalkState l.sig (point_of l.point) (pairs_of l.pairs);
-  sum : l.units.left + l.units.spent ≡ l.fn.units.left + l.fn.units.spent;
-  spends : l.units.left ≤ l.fn.units.left;
+  sum : l.kernel.left + l.kernel.spent ≡ l.fn.kernel.left + l.fn.kernel.spent;
+  spends : l.kernel.left ≤ l.fn.kernel.left;
+  kernel : l.kernel.signature ≡ l.sig;
 }
 
 abbrev pub decreases-turns : goal.decreases-turns

@@ -12,15 +12,15 @@ use Rattle.function_clauses.proofs.Fitting.{clause-for}
 use Rattle.function_clauses.proofs.WalkColumns.{walk-columns}
 use Rattle.function_clauses.proofs.single.walked.Goals as goal
 
-pub own_walk-requires-clause-clause : goal.own_walk-requires-clause-clause
-own_walk-requires-clause-clause c = clause-for c.args.sig.now (tele_of c.args.part.now.terms) (clause_of c.args.c.now) c.requires.clause
+pub own_walk_with-requires-clause-clause : goal.own_walk_with-requires-clause-clause
+own_walk_with-requires-clause-clause c = clause-for c.args.sig.now (tele_of c.args.part.now.terms) (clause_of c.args.c.now) c.requires.clause
 
 pub returns-in-Ok-clause-columns : goal.returns-in-Ok-clause-columns
 returns-in-Ok-clause-columns c =
     let S = c.args.sig.now in
     let part = c.args.part.now in
-    walk-columns S (tele_of part.tele) (tree_of part.goal) (tele_of part.terms) (clause_of c.args.c.now) c.args.site.number c.args.units.now.left
-    c.own_walk.new.units.left (walk_of c.in-Ok.w) c.requires.part.given
+    walk-columns S (tele_of part.tele) (tree_of part.goal) (tele_of part.terms) (clause_of c.args.c.now) c.args.site.number c.args.kernel.now.left
+    c.own_walk_with.new.kernel.left (walk_of c.in-Ok.w) c.requires.part.given
     (clause-for S (tele_of part.terms) (clause_of c.args.c.now) c.requires.clause) c.in-Ok.ensures.answer
 
 pub returns-in-Err-clause-answer : goal.returns-in-Err-clause-answer
@@ -28,7 +28,7 @@ returns-in-Err-clause-answer c =
     let part = c.args.part.now in
     let P : List ℕ → Type 0 = λ f.
     Unless (IsUnforeseen c.ended.result) (refusal_of c.ended.result ≡ of_tree c.args.sig.now f (stop_of c.in-Err.stop)) in
-    ended-elaborates c.args.sig.now c.args.site.function.now c.in-Err.stop c.ended.result c.own_walk.new.units.left
+    ended-elaborates c.args.sig.now c.args.site.function.now c.in-Err.stop c.ended.result c.own_walk_with.new.kernel.left
     (own_walk_of c.args.sig.now (tele_of part.tele) (tree_of part.goal) (tele_of part.terms) (clause_of c.args.c.now) c.args.site.number
-    c.args.units.now.left)
+    c.args.kernel.now.left)
     (transport P c.as_slice.ensures c.ended.ensures.answer) c.ended.ensures.memory c.in-Err.ensures.answer

@@ -7,11 +7,11 @@ use Rattle.walk_checks.specs.CheckMeanings.{site_of}
 use Rattle.function_clauses.proofs.single.with_dots.Goals as goal
 
 pub check_dots-requires-clause-dots : goal.check_dots-requires-clause-dots
-check_dots-requires-clause-dots c = dots-scoped c.args.sig.now c.args.w c.as_slice.result.now c.as_slice.ensures c.requires
+check_dots-requires-clause-dots c = dots-scoped c.args.sig.now c.args.w c.as_slice.result.now c.as_slice.ensures c.requires.given
 
 pub returns-in_err-check_dots-clause-answer : goal.returns-in_err-check_dots-clause-answer
 returns-in_err-check_dots-clause-answer c =
     let q = err_from_is_err_and c.from_residual.result c.from_residual.ensures.1 in
     rw (q.1, q.2) (λ other.
-    dots-end c.args.sig.now (site_of c.args.site) (walk_of c.args.w) (map dot_of c.as_slice.result.now) c.args.units.now.left
-    c.check_dots.new.units.left _ (ap (map dot_of) c.as_slice.ensures) (c.in_err-check_dots.ensures.answer other))
+    dots-end c.args.sig.now (site_of c.args.site) (walk_of c.args.w) (map dot_of c.as_slice.result.now) c.args.kernel.now.left
+    c.check_dots.new.kernel.left _ (ap (map dot_of) c.as_slice.ensures) (c.in_err-check_dots.ensures.answer other))

@@ -13,7 +13,7 @@ use Rattle.function_clauses.proofs.walks.+walks.Goals as goal
 pub inside_walked-returns-clause-walked : goal.inside_walked-returns-clause-walked
 inside_walked-returns-clause-walked t c =
     inside-walked c.args.s.sig.now c.args.k c.args.number (walk_of c.args.w) (scrutinee_of c.args.x) (clauses_of c.args.inner.now)
-    (given_of c.in_ok-given.given) (given_of c.in_ok-with_given.field-0) c.requires c.in_ok-given.ensures.walked (ok_is c.in_ok-with_given.ensures)
+    (given_of c.in_ok-given.given) (given_of c.in_ok-with_given.field-0) c.requires.given c.in_ok-given.ensures.walked (ok_is c.in_ok-with_given.ensures)
 
 pub others_walked-returns-clause-walked : goal.others_walked-returns-clause-walked
 others_walked-returns-clause-walked t c =
@@ -26,7 +26,7 @@ walk_clause-returns-in_err-w-clause-answer t c =
     rw (q.1, q.2) (λ other.
     clause-ends (session_of c.args.s) c.args.k (opened_of c.args.part.now) c.args.number c.args.next (clause_of c.args.c.now)
     (pats_of c.args.c.now.pats)
-    c.args.c.now.binds (right_of c.args.c.now.right) c.args.units.now.left c.clause_walked.new.units.left _ _ (clause-parts c.args.c.now)
+    c.args.c.now.binds (right_of c.args.c.now.right) c.args.kernel.now.left c.clause_walked.new.kernel.left _ _ (clause-parts c.args.c.now)
     (ok_is c.in_ok-function.ensures)
     (c.in_err-w.ensures.answer other))
 
@@ -34,11 +34,11 @@ pub walk_clause-returns-clause-answer : goal.walk_clause-returns-clause-answer
 walk_clause-returns-clause-answer t c =
     clause-goes-on given_of (session_of c.args.s) c.args.k (opened_of c.args.part.now) c.args.number c.args.next (clause_of c.args.c.now)
     (pats_of c.args.c.now.pats)
-    c.args.c.now.binds (right_of c.args.c.now.right) c.args.units.now.left c.clause_walked.new.units.left c.walk_right.new.units.left _
+    c.args.c.now.binds (right_of c.args.c.now.right) c.args.kernel.now.left c.clause_walked.new.kernel.left c.walk_right.new.kernel.left _
     (walk_of c.in_ok-w.w) c.walk_right.result (clause-parts c.args.c.now) (ok_is c.in_ok-function.ensures) c.in_ok-w.ensures.answer c.walk_right.ensures.answer
 
 pub with_walked-returns-clause-answer : goal.with_walked-returns-clause-answer
 with_walked-returns-clause-answer t c =
     with-goes-on given_of (session_of c.args.s) c.args.k c.args.site.number c.args.next (site_of c.args.site) (walk_of c.args.w)
-    (tree_of c.args.written.now) (clauses_of c.args.inner.now) c.args.units.now.left c.scrutinised.new.units.left
-    c.inside_walked.new.units.left (scrutinee_of c.in_ok-x.x) c.inside_walked.result c.in_ok-x.ensures.answer c.inside_walked.ensures.answer
+    (tree_of c.args.written.now) (clauses_of c.args.inner.now) c.args.kernel.now.left c.scrutinised.new.kernel.left
+    c.inside_walked.new.kernel.left (scrutinee_of c.in_ok-x.x) c.inside_walked.result c.in_ok-x.ensures.answer c.inside_walked.ensures.answer

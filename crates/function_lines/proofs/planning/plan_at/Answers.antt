@@ -6,14 +6,14 @@ use Rattle.function_walks.specs.Conditions.{IsPartFor}
 use Rattle.resolve.specs.PatternMeanings.{fun_of}
 use Rattle.function_lines.proofs.planning.plan_at.Goals as goal
 
-pub plan_from-requires-clause-part : goal.plan_from-requires-clause-part
-plan_from-requires-clause-part c =
+pub plan_from-plan-requires-clause-part : goal.plan_from-plan-requires-clause-part
+plan_from-plan-requires-clause-part c =
     let f = fun_of c.args.f.now in
     transport (λ (p : Opened). IsPartFor c.args.sig.now p f.clauses) (sym (ok_is c.in_ok-part.ensures))
     (own-part-for c.requires.before c.args.sig.now f c.args.level c.requires.prefix c.requires.ready c.requires.resolved)
 
-pub plan_from-requires-clause-columns : goal.plan_from-requires-clause-columns
-plan_from-requires-clause-columns c =
+pub plan_from-plan-requires-clause-columns : goal.plan_from-plan-requires-clause-columns
+plan_from-plan-requires-clause-columns c =
     let f = fun_of c.args.f.now in
     transport (λ (p : Opened). length p.terms ≡ length p.tele) (sym (ok_is c.in_ok-part.ensures))
     (own-columns c.requires.before c.args.sig.now f c.args.level c.requires.resolved)

@@ -12,10 +12,10 @@ use Rattle.function_plans.proofs.helpers.+helpers_finished.Goals as goal
 
 pub returns-clause-answer : goal.returns-clause-answer
 returns-clause-answer t c =
-    transport (Elaborates parts_of c.helpers_finished.result c.helpers_finished.new.units.left)
+    transport (Elaborates parts_of c.helpers_finished.result c.helpers_finished.new.kernel.left)
     (helpers-step (parts_of c.args.made) (parts_of c.push.new.self) (session_of c.args.s) (option_map recursion_of (option_copied c.args.r))
     c.args.level c.args.number c.in_ok-next.next (walked_of c.remove-w.result) (map walked_of c.remove-w.new.self.items)
-    (map walked_of c.args.helpers.items) c.args.units.now.left c.helper_tree.new.units.left (case_tree_of c.in_ok-tree.tree)
+    (map walked_of c.args.helpers.items) c.args.kernel.now.left c.helper_tree.new.kernel.left (case_tree_of c.in_ok-tree.tree)
     (part_of c.in_ok-finished.field-0) c.helper_level-own.result
     (first-removed walked_of c.args.helpers.items c.remove-w.new.self.items c.remove-w.result (search rules) c.remove-w.ensures.value c.remove-w.ensures.items)
     c.in_ok-next.ensures.ok (map-last part_of c.args.made c.push.new.self c.in_ok-finished.field-0 c.in_ok-push.ensures.ok) (ok_is c.in_ok-finished.ensures)

@@ -19,8 +19,8 @@ use Rattle.proof_walks.proofs.walking.+walk.Goals as goal
 
 pub at_other-returns-in-Some-clause-answer : goal.at_other-returns-in-Some-clause-answer
 at_other-returns-in-Some-clause-answer t c =
-    transport (Reports proof_of c.split_variable.result c.split_variable.new.units.left)
-    (other-found c.args.sig.now (node_of c.args.node) (tree_of c.args.t) (place_of c.args.p) c.args.units.now.left c.variable_met.new.units.left
+    transport (Reports proof_of c.split_variable.result c.split_variable.new.kernel.left)
+    (other-found c.args.sig.now (node_of c.args.node) (tree_of c.args.t) (place_of c.args.p) c.args.kernel.now.left c.variable_met.new.kernel.left
     (tele_of c.as_slice-ctx.result.now) (option_map variable_of c.in_ok-v.field-0) (variable_of c.in-Some.v) (ap tele_of c.as_slice-ctx.ensures)
     (ap (option_map variable_of) c.in-Some.is) c.in_ok-v.ensures.answer)
     c.split_variable.ensures.answer
@@ -34,9 +34,13 @@ enter_branch-walk_tree-requires t c =
     let under = ap (λ t. size_of (case_tree_of t)) c.deref.ensures in (
       omega (arith, c.decreases, whole, under),
       (
-        c.requires.ready,
-        branch-kept c.args.sig.now c.args.p c.with_values.result c.args.arguments.now c.as_slice-values.result.now c.in_ok-next-in-Solved.next
-            c.as_slice-in-Solved.result.now c.requires.place c.requires.arguments c.as_slice-values.ensures c.in_ok-next-in-Solved.ensures c.with_values.ensures,
+        c.requires.kernel,
+        (
+          c.requires.ready,
+          branch-kept c.args.sig.now c.args.p c.with_values.result c.args.arguments.now c.as_slice-values.result.now c.in_ok-next-in-Solved.next
+              c.as_slice-in-Solved.result.now c.requires.place c.requires.arguments c.as_slice-values.ensures c.in_ok-next-in-Solved.ensures
+              c.with_values.ensures,
+        ),
       ),
     )
 
@@ -47,23 +51,23 @@ enter_branch-returns-in_ok-next-in-Solved-clause-answer t c =
     search (rules, the_lemmas, solved.is) in
     let next = ok_is c.in_ok-next-in-Solved.ensures
     ∙ ap₂ (λ vs os. map (at_origin (tele_of vs) (tele_of c.args.arguments.now)) os) c.as_slice-values.ensures c.as_slice-in-Solved.ensures in
-    transport (Reports proof_of c.walk_tree.result c.walk_tree.new.units.left)
+    transport (Reports proof_of c.walk_tree.result c.walk_tree.new.kernel.left)
     (branch-entered c.args.sig.now (branch_of c.args.branch.now) (steps_of c.in-Solved.steps) c.in-Solved.origin (case_tree_of c.in-Solved.tree.value)
-    (case_tree_of c.deref.result.now) (tele_of c.args.arguments.now) (place_of c.args.p) (place_of c.with_values.result) c.args.units.now.left
+    (case_tree_of c.deref.result.now) (tele_of c.args.arguments.now) (place_of c.args.p) (place_of c.with_values.result) c.args.kernel.now.left
     meant (ap case_tree_of c.deref.ensures)
     (c.with_values.ensures ∙ ap (λ vs. record (place_of c.args.p) { values = vs }) next))
     c.walk_tree.ensures.answer
 
 pub solved_branches-returns-in-empty-clause-answer : goal.solved_branches-returns-in-empty-clause-answer
 solved_branches-returns-in-empty-clause-answer t c =
-    none-run (walk_node c.args.sig.now (again (node_of c.args.node))) (place_of c.args.p.now) c.args.made c.args.runs.now c.args.units.now.left
+    none-run (walk_node c.args.sig.now (again (node_of c.args.node))) (place_of c.args.p.now) c.args.made c.args.runs.now c.args.kernel.now.left
     c.in-empty.len_below
 
 pub solved_branches-returns-in_ok-made-in-len1-up-clause-answer : goal.solved_branches-returns-in_ok-made-in-len1-up-clause-answer
 solved_branches-returns-in_ok-made-in-len1-up-clause-answer t c =
-    transport (Reports proofs_of c.solved_branches.result c.solved_branches.new.units.left)
-    (first-goes (walk_node c.args.sig.now (again (node_of c.args.node))) (place_of c.args.p.now) c.args.made c.args.runs.now c.args.units.now.left
-    c.run-item.result _ (first-item c.args.runs.now c.run-item.result c.in-len1-up.len_at_least c.run-item.is) c.with_solved.new.units.left
+    transport (Reports proofs_of c.solved_branches.result c.solved_branches.new.kernel.left)
+    (first-goes (walk_node c.args.sig.now (again (node_of c.args.node))) (place_of c.args.p.now) c.args.made c.args.runs.now c.args.kernel.now.left
+    c.run-item.result _ (first-item c.args.runs.now c.run-item.result c.in-len1-up.len_at_least c.run-item.is) c.with_solved.new.kernel.left
     c.in_ok-made-in-len1-up.made c.in_ok-made-in-len1-up.ensures.answer)
     c.solved_branches.ensures.answer
 
@@ -73,17 +77,17 @@ split_variable-returns-in_err-proofs-in-Found-clause-answer t c =
     rw (q.1, q.2)
     (λ other.
     proofs-refused c.args.sig.now (walk_node c.args.sig.now (again (node_of c.args.node))) c.args.v.number (tree_of c.args.v.ty) (member_meant c.args.v.member)
-    (place_of c.args.p) c.args.units.now.left c.all_runs.new.units.left (tele_of c.as_slice.result.now) (ap tele_of c.as_slice.ensures)
+    (place_of c.args.p) c.args.kernel.now.left c.all_runs.new.kernel.left (tele_of c.as_slice.result.now) (ap tele_of c.as_slice.ensures)
     (runs_of c.in_ok-runs.field-0) c.in-Found.runs c.as_slice-in-Found.result.now (ap runs_of c.in-Found.is) c.as_slice-in-Found.ensures
-    c.in_ok-runs.ensures.answer c.new-none.result c.new-none.ensures c.solved_branches.new.units.left _
+    c.in_ok-runs.ensures.answer c.new-none.result c.new-none.ensures c.solved_branches.new.kernel.left _
     (c.in_err-proofs-in-Found.ensures.answer other))
 
 pub split_variable-returns-in_ok-split_with-in-Found-clause-answer : goal.split_variable-returns-in_ok-split_with-in-Found-clause-answer
 split_variable-returns-in_ok-split_with-in-Found-clause-answer t c =
     proofs-made c.args.sig.now (walk_node c.args.sig.now (again (node_of c.args.node))) c.args.v.number (tree_of c.args.v.ty) (member_meant c.args.v.member)
-    (place_of c.args.p) c.args.units.now.left c.all_runs.new.units.left (tele_of c.as_slice.result.now) (ap tele_of c.as_slice.ensures)
+    (place_of c.args.p) c.args.kernel.now.left c.all_runs.new.kernel.left (tele_of c.as_slice.result.now) (ap tele_of c.as_slice.ensures)
     (runs_of c.in_ok-runs.field-0) c.in-Found.runs c.as_slice-in-Found.result.now (ap runs_of c.in-Found.is) c.as_slice-in-Found.ensures
-    c.in_ok-runs.ensures.answer c.new-none.result c.new-none.ensures c.solved_branches.new.units.left
+    c.in_ok-runs.ensures.answer c.new-none.result c.new-none.ensures c.solved_branches.new.kernel.left
     (proof_of c.in_ok-split_with-in-Found.field-0) (proofs_of c.in_ok-proofs-in-Found.proofs) c.in_ok-split_with-in-Found.ensures
     c.in_ok-proofs-in-Found.ensures.answer
 
@@ -93,9 +97,9 @@ walk_tree-returns-in-Split-clause-answer t c =
     let meant : case_tree_of c.args.tree.now
     ≡ pure.Split (tele_of split.ctx) split.var split.family (tree_of split.ty) (branches_of split.branches) =
     search (rules, the_lemmas, split.is) in
-    transport (Reports proof_of c.walk_node.result c.walk_node.new.units.left)
+    transport (Reports proof_of c.walk_node.result c.walk_node.new.kernel.left)
     (tree-split c.args.sig.now (case_tree_of c.args.tree.now) (tele_of c.in-Split.ctx) c.in-Split.var c.in-Split.family (tree_of c.in-Split.ty)
-    (branches_of c.in-Split.branches) (branches_of c.as_slice.result.now) (place_of c.args.p) c.args.units.now.left
+    (branches_of c.in-Split.branches) (branches_of c.as_slice.result.now) (place_of c.args.p) c.args.kernel.now.left
     meant (ap branches_of c.as_slice.ensures))
     c.walk_node.ensures.answer
 

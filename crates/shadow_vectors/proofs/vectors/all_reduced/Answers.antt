@@ -11,7 +11,7 @@ use Rattle.shadow_vectors.proofs.vectors.all_reduced.Goals as goal
 
 pub returns-clause-scoped : goal.returns-clause-scoped
 returns-clause-scoped c = λ n scoped.
-    spends-has IsUnforeseen (λ e. e) tele_of (AreScoped c.args.sig.now n) c.with_reduced.result c.with_reduced.new.units.left
-    (all_reduced c.args.sig.now (pats_of c.args.pats.now) (tele_of c.args.terms.now) c.args.units.now.left)
-    (subst (λ meant. Runs tele_of c.with_reduced.result c.with_reduced.new.units.left meant) (first-made c.new.result _ c.new.ensures) c.with_reduced.ensures.answer)
-    (all-reduced-scoped c.args.sig.now n c.requires.signature (pats_of c.args.pats.now) (tele_of c.args.terms.now) c.args.units.now.left scoped)
+    spends-has IsUnforeseen (λ e. e) tele_of (AreScoped c.args.sig.now n) c.with_reduced.result c.with_reduced.new.kernel.left
+    (all_reduced c.args.sig.now (pats_of c.args.pats.now) (tele_of c.args.terms.now) c.args.kernel.now.left)
+    (subst (λ meant. Runs tele_of c.with_reduced.result c.with_reduced.new.kernel.left meant) (first-made c.new.result _ c.new.ensures) c.with_reduced.ensures.answer)
+    (all-reduced-scoped c.args.sig.now n c.requires.given.signature (pats_of c.args.pats.now) (tele_of c.args.terms.now) c.args.kernel.now.left scoped)

@@ -4,10 +4,10 @@ use Rattle.kernel_reduce.specs.Reduction.{most_variables}
 use Rattle.kernel_reduce.specs.WellScoped.{AreScoped, CanReduce}
 use Rattle.shadow_vectors.proofs.vectors.vector_of.Goals as goal
 
-pub all_reduced-requires-2 : goal.all_reduced-requires-2
-all_reduced-requires-2 c =
-    let scoped = c.in_ok-first.ensures.scoped most_variables c.requires.terms in
-    subst (λ us. CanReduce c.args.sig.now (tele_of us)) (sym c.as_slice.ensures) (record { signature = c.requires.signature; terms = scoped })
+pub all_reduced-requires-2-clause-given : goal.all_reduced-requires-2-clause-given
+all_reduced-requires-2-clause-given c =
+    let scoped = c.in_ok-first.ensures.scoped most_variables c.requires.given.terms in
+    subst (λ us. CanReduce c.args.sig.now (tele_of us)) (sym c.as_slice.ensures) (record { signature = c.requires.given.signature; terms = scoped })
 
 pub returns-clause-scoped : goal.returns-clause-scoped
 returns-clause-scoped c = λ n scoped.

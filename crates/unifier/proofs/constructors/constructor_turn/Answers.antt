@@ -17,11 +17,13 @@ use Rattle.unifier.proofs.constructors.constructor_turn.Goals as goal
 
 pub fails-requires-clause-left : goal.fails-requires-clause-left
 fails-requires-clause-left c =
-    given-more c.args.sig.now (length c.args.s.now.ctx) (tree_of c.args.e.now.left) (code-equation c.args.sig.now c.args.s.now 0 c.args.e.now c.requires.state c.requires.first).left
+    rw c.requires.kernel
+    (given-more c.args.sig.now (length c.args.s.now.ctx) (tree_of c.args.e.now.left) (code-equation c.args.sig.now c.args.s.now 0 c.args.e.now c.requires.state c.requires.first).left)
 
 pub fails-requires-clause-right : goal.fails-requires-clause-right
 fails-requires-clause-right c =
-    given-more c.args.sig.now (length c.args.s.now.ctx) (tree_of c.args.e.now.right) (code-equation c.args.sig.now c.args.s.now 0 c.args.e.now c.requires.state c.requires.first).right
+    rw c.requires.kernel
+    (given-more c.args.sig.now (length c.args.s.now.ctx) (tree_of c.args.e.now.right) (code-equation c.args.sig.now c.args.s.now 0 c.args.e.now c.requires.state c.requires.first).right)
 
 pub inject_sides-requires-clause-state : goal.inject_sides-requires-clause-state
 inject_sides-requires-clause-state c = room-kept c.args.sig.now (state_of c.args.s.now) c.requires.state
@@ -60,7 +62,7 @@ returns-in_err-next-clause-answer c =
     let q = err_from_is_err_and c.from_residual-in_err-next.result c.from_residual-in_err-next.ensures.1 in
     rw (q.1, q.2)
     (λ other.
-    code-refused S (state_of c.args.s.now) (equation_of c.args.e.now) l r b (tele_of c.as_slice.result.now) (length c.as_slice.result.now) c.args.units.now.left _ hl hr (sym c.if-not-has_no_indices.false ∙ c.has_no_indices.ensures) count
+    code-refused S (state_of c.args.s.now) (equation_of c.args.e.now) l r b (tele_of c.as_slice.result.now) (length c.as_slice.result.now) c.args.kernel.now.left _ hl hr (sym c.if-not-has_no_indices.false ∙ c.has_no_indices.ensures) count
     (ap tele_of c.as_slice.ensures ∙ ok_is c.in_ok-ps.ensures) (c.in_err-next.ensures.answer other))
 
 pub returns-clause-answer : goal.returns-clause-answer
@@ -72,6 +74,6 @@ returns-clause-answer c =
     let hl = code-of S l b c.in-Some-Some.ensures in
     let hr = other-of S l r b c.in-Some-Some.d c.in-Some-Some.ensures c.in-Some-Some.ensures' c.requires.family c.if-b-d.false in
     let count = ap length c.as_slice.ensures ∙ count-parameters S l b c.in_ok-ps.ps hl (ok_is c.in_ok-ps.ensures) in
-    code-goes S (state_of c.args.s.now) (equation_of c.args.e.now) l r b (tele_of c.as_slice.result.now) (length c.as_slice.result.now) c.args.units.now.left _ _ hl hr (sym c.if-not-has_no_indices.false ∙ c.has_no_indices.ensures) count
+    code-goes S (state_of c.args.s.now) (equation_of c.args.e.now) l r b (tele_of c.as_slice.result.now) (length c.as_slice.result.now) c.args.kernel.now.left _ _ hl hr (sym c.if-not-has_no_indices.false ∙ c.has_no_indices.ensures) count
     (ap tele_of c.as_slice.ensures ∙ ok_is c.in_ok-ps.ensures)
     (c.single-step-2.ensures ∙ ap (λ (ty : Term). single (Inject b.family b.number) ty l r) (ok_is c.in_ok-ty.ensures)) c.in_ok-next.ensures.answer

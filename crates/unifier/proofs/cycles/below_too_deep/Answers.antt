@@ -17,13 +17,13 @@ returns-in_err-search_too_deep-clause-answer c =
     let q = err_from_is_err_and c.from_residual-in_err-search_too_deep.result c.from_residual-in_err-search_too_deep.ensures.1 in
     rw (q.1, q.2)
     (λ p e is other.
-    let h = nothing-deep c.args.sig.now c.args.x (tree_of c.args.t.now) c.args.units.now.left c.args.b p (tele_of c.in_ok-terms.terms.items) e is
+    let h = nothing-deep c.args.sig.now c.args.x (tree_of c.args.t.now) c.args.kernel.now.left c.args.b p (tele_of c.in_ok-terms.terms.items) e is
     (ok_is c.in_ok-terms.ensures ∙ ap (λ xs. tele_of xs ++ reverse (direct_in c.args.b (tree_of c.args.t.now))) c.new.ensures.items) in
     c.in_err-search_too_deep.ensures.answer other ∙ h)
 
 pub returns-clause-answer : goal.returns-clause-answer
 returns-clause-answer c =
     λ p e is.
-    let h = nothing-deep c.args.sig.now c.args.x (tree_of c.args.t.now) c.args.units.now.left c.args.b p (tele_of c.in_ok-terms.terms.items) e is
+    let h = nothing-deep c.args.sig.now c.args.x (tree_of c.args.t.now) c.args.kernel.now.left c.args.b p (tele_of c.in_ok-terms.terms.items) e is
     (ok_is c.in_ok-terms.ensures ∙ ap (λ xs. tele_of xs ++ reverse (direct_in c.args.b (tree_of c.args.t.now))) c.new.ensures.items) in
     c.in_ok-search_too_deep.ensures.answer ∙ h

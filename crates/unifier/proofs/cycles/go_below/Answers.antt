@@ -12,7 +12,7 @@ pub returns-clause-given : goal.returns-clause-given
 returns-clause-given c =
     let S = c.args.sig.now in
     let t = tree_of c.in_ok-t.t in
-    let given : IsGiven S most_levels t = record { scoped = c.in_ok-t.ensures.scoped most_levels c.requires.u.scoped; low = c.in_ok-t.ensures.form.low; few = c.requires.u.few } in
+    let given : IsGiven S most_levels t = record { scoped = (rw c.requires.kernel at c.in_ok-t.ensures.scoped) most_levels c.requires.u.scoped; low = c.in_ok-t.ensures.form.low; few = c.requires.u.few } in
     stands-has _ _ _ (AreGiven S most_levels) c.with_arguments.result (Ok (tele_of c.args.waiting.items ++ reverse (direct_arguments c.args.n (built_of S t)))) c.with_arguments.ensures
     (append-given S most_levels (tele_of c.args.waiting.items) (reverse (direct_arguments c.args.n (built_of S t))) c.requires.waiting
     (reverse-given S most_levels (direct_arguments c.args.n (built_of S t)) (arguments-given S c.args.n most_levels t given)))

@@ -7,11 +7,12 @@ use Rattle.unifier.proofs.cycles.search_too_deep.Given as goal
 
 abbrev pub invariant-terms : goal.invariant-terms
 invariant-terms l = record {
-  meant : search_too_deep l.sig l.n l.x (reverse (tele_of l.waiting.items)) l.units.left ≡ search_too_deep l.sig l.n l.x (reverse (tele_of l.fn.terms.items)) l.fn.units.left;
+  meant : search_too_deep l.sig l.n l.x (reverse (tele_of l.waiting.items)) l.kernel.left ≡ search_too_deep l.sig l.n l.x (reverse (tele_of l.fn.terms.items)) l.fn.kernel.left;
   given : AreGiven l.sig most_levels (tele_of l.waiting.items);
-  sum : l.units.left + l.units.spent ≡ l.fn.units.left + l.fn.units.spent;
-  spends : l.units.left ≤ l.fn.units.left;
+  kernel : l.kernel.signature ≡ l.sig;
+  sum : l.kernel.left + l.kernel.spent ≡ l.fn.kernel.left + l.fn.kernel.spent;
+  spends : l.kernel.left ≤ l.fn.kernel.left;
 }
 
 abbrev pub decreases-terms : goal.decreases-terms
-decreases-terms l = turns_in l.sig l.n (reverse (tele_of l.waiting.items)) l.units.left
+decreases-terms l = turns_in l.sig l.n (reverse (tele_of l.waiting.items)) l.kernel.left

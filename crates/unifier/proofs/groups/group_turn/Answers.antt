@@ -14,11 +14,13 @@ use Rattle.unifier.proofs.groups.group_turn.Goals as goal
 
 pub fails-requires-clause-left : goal.fails-requires-clause-left
 fails-requires-clause-left c =
-    given-more c.args.sig.now (length c.args.s.now.ctx) (tree_of c.args.e.now.left) (code-equation c.args.sig.now c.args.s.now c.args.k c.args.e.now c.requires.state c.requires.last).left
+    rw c.requires.kernel
+    (given-more c.args.sig.now (length c.args.s.now.ctx) (tree_of c.args.e.now.left) (code-equation c.args.sig.now c.args.s.now c.args.k c.args.e.now c.requires.state c.requires.last).left)
 
 pub fails-requires-clause-right : goal.fails-requires-clause-right
 fails-requires-clause-right c =
-    given-more c.args.sig.now (length c.args.s.now.ctx) (tree_of c.args.e.now.right) (code-equation c.args.sig.now c.args.s.now c.args.k c.args.e.now c.requires.state c.requires.last).right
+    rw c.requires.kernel
+    (given-more c.args.sig.now (length c.args.s.now.ctx) (tree_of c.args.e.now.right) (code-equation c.args.sig.now c.args.s.now c.args.k c.args.e.now c.requires.state c.requires.last).right)
 
 pub inject_sides-requires-clause-state : goal.inject_sides-requires-clause-state
 inject_sides-requires-clause-state c = room-kept c.args.sig.now (state_of c.args.s.now) c.requires.state
@@ -66,7 +68,7 @@ returns-in_err-next-clause-answer c =
     let q = err_from_is_err_and c.from_residual.result c.from_residual.ensures.1 in
     rw (q.1, q.2)
     (λ m parameters family other.
-    group-refused S (state_of c.args.s.now) c.args.k (equation_of c.args.e.now) m (tree_of c.args.members.ty) l r b (tele_of c.as_slice.result.now) (length c.as_slice.result.now) c.args.units.now.left _
+    group-refused S (state_of c.args.s.now) c.args.k (equation_of c.args.e.now) m (tree_of c.args.members.ty) l r b (tele_of c.as_slice.result.now) (length c.as_slice.result.now) c.args.kernel.now.left _
     (turn-is S l r b m (length c.as_slice.result.now) (tele_of c.as_slice.result.now) hl hr family (parameters ∙ sym (ap tele_of c.as_slice.ensures)) count) (c.in_err-next.ensures.answer other))
 
 pub returns-clause-answer : goal.returns-clause-answer
@@ -79,5 +81,5 @@ returns-clause-answer c =
     let hr = other-of S l r b c.in-Some-Some.d c.in-Some-Some.ensures c.in-Some-Some.ensures' c.requires.family c.if-b-d.false in
     let count = ap length c.as_slice.ensures ∙ group-parameters S l b (length c.args.members.ps) hl c.requires.parameters in
     λ m parameters family.
-    group-goes S (state_of c.args.s.now) c.args.k (equation_of c.args.e.now) m (tree_of c.args.members.ty) l r b (tele_of c.as_slice.result.now) (length c.as_slice.result.now) c.args.units.now.left (state_of c.in_ok-next.next.value)
+    group-goes S (state_of c.args.s.now) c.args.k (equation_of c.args.e.now) m (tree_of c.args.members.ty) l r b (tele_of c.as_slice.result.now) (length c.as_slice.result.now) c.args.kernel.now.left (state_of c.in_ok-next.next.value)
     (turn-is S l r b m (length c.as_slice.result.now) (tele_of c.as_slice.result.now) hl hr family (parameters ∙ sym (ap tele_of c.as_slice.ensures)) count) c.in_ok-next.ensures.answer

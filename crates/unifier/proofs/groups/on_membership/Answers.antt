@@ -34,8 +34,9 @@ returns-clause-answer c =
     let S = c.args.sig.now in
     let l = tree_of c.in-Some.left in
     let r = tree_of c.in-Some.right in
-    subst (Runs (option_map turn_of) c.group_turn.result c.group_turn.new.units.left)
-    (equations-hold S (state_of c.args.s.now) c.args.k (equation_of c.args.e.now) (tree_of c.args.ty) c.args.m c.args.units.now.left l r c.heads.new.units.left
-    (rw c.in-Some.is at c.in_ok-left.ensures.answer) (rw c.in-Some.is at c.in_ok-left.ensures.family) c.are_equations_of.new.units.left (rw c.if-not-branch.false at c.in_ok-are_equations_of.ensures.answer))
+    subst (Runs (option_map turn_of) c.group_turn.result c.group_turn.new.kernel.left)
+    (equations-hold S (state_of c.args.s.now) c.args.k (equation_of c.args.e.now) (tree_of c.args.ty) c.args.m c.args.kernel.now.left l r c.heads.new.kernel.left
+    (rw c.in-Some.is at c.in_ok-left.ensures.answer) (rw c.in-Some.is at c.in_ok-left.ensures.family) c.are_equations_of.new.kernel.left
+    (rw (c.if-not-branch.false, c.in_ok-left.ensures.kernel) at c.in_ok-are_equations_of.ensures.answer))
     (c.group_turn.ensures.answer (membership_from c.args.m) refl (λ p e.
     wanted-family S (length c.args.s.now.ctx) c.args.k c.args.m l p c.requires.group e ((rw c.in-Some.is at c.in_ok-left.ensures.wanted) p e)))

@@ -11,7 +11,7 @@ use Rattle.unifier.proofs.solutions.solve_side.Goals as goal
 
 pub dependants_of-requires-clause-low : goal.dependants_of-requires-clause-low
 dependants_of-requires-clause-low c =
-    types-low 0 (tele_of c.args.s.now.ctx) (room-kept c.args.sig.now (state_of c.args.s.now) c.requires.state).context
+    types-low 0 (tele_of c.args.s.now.ctx) (room-kept c.args.kernel.now.signature (state_of c.args.s.now) c.requires.state).context
 
 pub returns-in_err-dependants-clause-answer : goal.returns-in_err-dependants-clause-answer
 returns-in_err-dependants-clause-answer c =
@@ -24,11 +24,11 @@ returns-in_err-by-clause-answer c =
     let q = err_from_is_err_and c.from_residual-in_err-by.result c.from_residual-in_err-by.ensures.1 in
     let s = state_of c.args.s.now in
     rw (q.1, q.2)
-    (refused-first _ c.solves.new.units.left (solves c.args.sig.now s c.args.x (tree_of c.args.ty.now) (tree_of c.args.other.now) c.args.units.now.left)
+    (refused-first _ c.solves.new.kernel.left (solves c.args.kernel.now.signature s c.args.x (tree_of c.args.ty.now) (tree_of c.args.other.now) c.args.kernel.now.left)
     (λ found rest. answered (state_solved s (equation_of c.args.e.now) c.args.x (tree_of c.args.ty.now) found) rest) c.in_err-by.ensures.answer)
 
 pub with_state-requires-clause-state : goal.with_state-requires-clause-state
-with_state-requires-clause-state c = room-kept c.args.sig.now (state_of c.args.s.now) c.requires.state
+with_state-requires-clause-state c = room-kept c.args.kernel.now.signature (state_of c.args.s.now) c.requires.state
 
 pub returns-in-Some-clause-answer : goal.returns-in-Some-clause-answer
 returns-in-Some-clause-answer c =
@@ -36,7 +36,7 @@ returns-in-Some-clause-answer c =
     let e = equation_of c.args.e.now in
     let A = tree_of c.args.ty.now in
     let answer = rw c.in-Some.is at c.in_ok-by.ensures.answer in
-    runs-behind _ c.with_state.result c.solves.new.units.left (solves c.args.sig.now s c.args.x A (tree_of c.args.other.now) c.args.units.now.left)
+    runs-behind _ c.with_state.result c.solves.new.kernel.left (solves c.args.kernel.now.signature s c.args.x A (tree_of c.args.other.now) c.args.kernel.now.left)
     (Some (tree_of c.in-Some.by)) (λ found rest. answered (state_solved s e c.args.x A found) rest)
     (state_solved s e c.args.x A (Some (tree_of c.in-Some.by))) answer refl c.with_state.ensures.answer
 
@@ -46,5 +46,5 @@ returns-clause-answer c =
     let e = equation_of c.args.e.now in
     let A = tree_of c.args.ty.now in
     let answer = rw c.in-None.is at c.in_ok-by.ensures.answer in
-    answered-first None c.solves.new.units.left (solves c.args.sig.now s c.args.x A (tree_of c.args.other.now) c.args.units.now.left)
+    answered-first None c.solves.new.kernel.left (solves c.args.kernel.now.signature s c.args.x A (tree_of c.args.other.now) c.args.kernel.now.left)
     (λ found rest. answered (state_solved s e c.args.x A found) rest) answer

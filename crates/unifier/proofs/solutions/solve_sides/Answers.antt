@@ -13,21 +13,21 @@ pub returns-in_err-by-clause-answer : goal.returns-in_err-by-clause-answer
 returns-in_err-by-clause-answer c =
     let q = err_from_is_err_and c.from_residual.result c.from_residual.ensures.1 in
     rw (q.1, q.2)
-    (sides-refused c.args.sig.now (state_of c.args.s.now) (equation_of c.args.e.now) (tree_of c.args.ty) (tree_of c.args.left) (tree_of c.args.right)
-    c.in-Some.x c.args.units.now.left c.solve_side.new.units.left _ c.in-Some.ensures c.in_err-by.ensures.answer)
+    (sides-refused c.args.kernel.now.signature (state_of c.args.s.now) (equation_of c.args.e.now) (tree_of c.args.ty) (tree_of c.args.left) (tree_of c.args.right)
+    c.in-Some.x c.args.kernel.now.left c.solve_side.new.kernel.left _ c.in-Some.ensures c.in_err-by.ensures.answer)
 
 pub returns-in-Some-2-clause-answer : goal.returns-in-Some-2-clause-answer
 returns-in-Some-2-clause-answer c =
     let answer = rw c.in-Some-2.is at c.in_ok-by.ensures.answer in
-    ap (λ step. answered (Ok (Some (Goes step (state_of c.in-Some-2.next.value)))) c.solve_side.new.units.left) c.single-step.ensures
-    ∙ sides-answered c.args.sig.now (state_of c.args.s.now) (equation_of c.args.e.now) (tree_of c.args.ty) (tree_of c.args.left) (tree_of c.args.right)
-    c.in-Some.x c.args.units.now.left c.solve_side.new.units.left (Some (tree_of c.in-Some-2.by, state_of c.in-Some-2.next.value)) c.in-Some.ensures answer
+    ap (λ step. answered (Ok (Some (Goes step (state_of c.in-Some-2.next.value)))) c.solve_side.new.kernel.left) c.single-step.ensures
+    ∙ sides-answered c.args.kernel.now.signature (state_of c.args.s.now) (equation_of c.args.e.now) (tree_of c.args.ty) (tree_of c.args.left) (tree_of c.args.right)
+    c.in-Some.x c.args.kernel.now.left c.solve_side.new.kernel.left (Some (tree_of c.in-Some-2.by, state_of c.in-Some-2.next.value)) c.in-Some.ensures answer
 
 pub returns-in-None-clause-answer : goal.returns-in-None-clause-answer
 returns-in-None-clause-answer c =
     let answer = rw c.in-None.is at c.in_ok-by.ensures.answer in
-    let P : Spent (Option Turn) → Type 0 = λ r. Runs (option_map turn_of) c.solve_left-in-None.result c.solve_left-in-None.new.units.left r in
+    let P : Spent (Option Turn) → Type 0 = λ r. Runs (option_map turn_of) c.solve_left-in-None.result c.solve_left-in-None.new.kernel.left r in
     transport P
-    (sides-answered c.args.sig.now (state_of c.args.s.now) (equation_of c.args.e.now) (tree_of c.args.ty) (tree_of c.args.left) (tree_of c.args.right)
-    c.in-Some.x c.args.units.now.left c.solve_side.new.units.left None c.in-Some.ensures answer)
-    c.solve_left-in-None.ensures.answer
+    (sides-answered c.args.kernel.now.signature (state_of c.args.s.now) (equation_of c.args.e.now) (tree_of c.args.ty) (tree_of c.args.left) (tree_of c.args.right)
+    c.in-Some.x c.args.kernel.now.left c.solve_side.new.kernel.left None c.in-Some.ensures answer)
+    (rw c.in_ok-by.ensures.kernel at c.solve_left-in-None.ensures.answer)

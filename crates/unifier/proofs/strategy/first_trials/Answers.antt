@@ -39,26 +39,26 @@ returns-in_err-turn-4-clause-answer c =
     let q = err_from_is_err_and c.from_residual-in_err-turn-4.result c.from_residual-in_err-turn-4.ensures.1 in
     rw (q.1, q.2)
     (λ other.
-    or-refused (deletion_trial S s e) (stuck_trial S e) c.cycle_trial.new.units.left _ _ (c.in_err-turn-4.ensures.answer other)
-    ∙ third-next (solution_trial S s e) (constructor_trial S s e) (cycle_trial S e) (or_else (deletion_trial S s e) (stuck_trial S e)) _ _ c.cycle_trial.new.units.left c.args.units.now.left
-    (rw c.in_default.is at c.in_ok-turn.ensures.answer) (rw c.in_default-2.is at c.in_ok-turn-2.ensures.answer) (rw c.in_default-3.is at c.in_ok-turn-3.ensures.answer))
+    or-refused (deletion_trial S s e) (stuck_trial S e) c.cycle_trial.new.kernel.left _ _ (c.in_err-turn-4.ensures.answer other)
+    ∙ third-next (solution_trial S s e) (constructor_trial S s e) (cycle_trial S e) (or_else (deletion_trial S s e) (stuck_trial S e)) _ _ c.cycle_trial.new.kernel.left c.args.kernel.now.left
+    (rw c.requires.kernel at (rw c.in_default.is at c.in_ok-turn.ensures.answer)) (rw c.in_default-2.is at c.in_ok-turn-2.ensures.answer) (rw c.in_default-3.is at c.in_ok-turn-3.ensures.answer))
 
 pub returns-in-Some-4-clause-answer : goal.returns-in-Some-4-clause-answer
 returns-in-Some-4-clause-answer c =
     let S = c.args.sig.now in
     let s = state_of c.args.s.now in
     let e = equation_of c.args.e.now in
-    or-found (deletion_trial S s e) (stuck_trial S e) c.cycle_trial.new.units.left _ (turn_of c.in-Some-4.turn) (rw c.in-Some-4.is at c.in_ok-turn-4.ensures.answer)
-    ∙ third-next (solution_trial S s e) (constructor_trial S s e) (cycle_trial S e) (or_else (deletion_trial S s e) (stuck_trial S e)) _ _ c.cycle_trial.new.units.left c.args.units.now.left
-    (rw c.in_default.is at c.in_ok-turn.ensures.answer) (rw c.in_default-2.is at c.in_ok-turn-2.ensures.answer) (rw c.in_default-3.is at c.in_ok-turn-3.ensures.answer)
+    or-found (deletion_trial S s e) (stuck_trial S e) c.cycle_trial.new.kernel.left _ (turn_of c.in-Some-4.turn) (rw c.in-Some-4.is at c.in_ok-turn-4.ensures.answer)
+    ∙ third-next (solution_trial S s e) (constructor_trial S s e) (cycle_trial S e) (or_else (deletion_trial S s e) (stuck_trial S e)) _ _ c.cycle_trial.new.kernel.left c.args.kernel.now.left
+    (rw c.requires.kernel at (rw c.in_default.is at c.in_ok-turn.ensures.answer)) (rw c.in_default-2.is at c.in_ok-turn-2.ensures.answer) (rw c.in_default-3.is at c.in_ok-turn-3.ensures.answer)
 
 pub returns-clause-answer : goal.returns-clause-answer
 returns-clause-answer c =
     let S = c.args.sig.now in
     let s = state_of c.args.s.now in
     let e = equation_of c.args.e.now in
-    subst (Runs (λ turn. Some (turn_of turn)) c.stuck.result c.stuck.new.units.left)
-    (or-next (deletion_trial S s e) (stuck_trial S e) c.cycle_trial.new.units.left _ (rw c.in_default-4.is at c.in_ok-turn-4.ensures.answer)
-    ∙ third-next (solution_trial S s e) (constructor_trial S s e) (cycle_trial S e) (or_else (deletion_trial S s e) (stuck_trial S e)) _ _ c.cycle_trial.new.units.left c.args.units.now.left
-    (rw c.in_default.is at c.in_ok-turn.ensures.answer) (rw c.in_default-2.is at c.in_ok-turn-2.ensures.answer) (rw c.in_default-3.is at c.in_ok-turn-3.ensures.answer))
+    subst (Runs (λ turn. Some (turn_of turn)) c.stuck.result c.stuck.new.kernel.left)
+    (or-next (deletion_trial S s e) (stuck_trial S e) c.cycle_trial.new.kernel.left _ (rw c.in_default-4.is at c.in_ok-turn-4.ensures.answer)
+    ∙ third-next (solution_trial S s e) (constructor_trial S s e) (cycle_trial S e) (or_else (deletion_trial S s e) (stuck_trial S e)) _ _ c.cycle_trial.new.kernel.left c.args.kernel.now.left
+    (rw c.requires.kernel at (rw c.in_default.is at c.in_ok-turn.ensures.answer)) (rw c.in_default-2.is at c.in_ok-turn-2.ensures.answer) (rw c.in_default-3.is at c.in_ok-turn-3.ensures.answer))
     c.stuck.ensures.answer

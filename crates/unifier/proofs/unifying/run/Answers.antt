@@ -14,9 +14,10 @@ use Rattle.unifier.proofs.unifying.run.Goals as goal
 
 pub turns-init : goal.turns-init
 turns-init c = record {
-  meant = ap (λ steps. behind_all (steps_of steps) (run_of c.args.sig.now (state_of c.args.start.value) c.args.units.now.left)) c.new-steps.ensures
-      ∙ run-starts c.args.sig.now (state_of c.args.start.value) c.args.units.now.left;
+  meant = ap (λ steps. behind_all (steps_of steps) (run_of c.args.sig.now (state_of c.args.start.value) c.args.kernel.now.left)) c.new-steps.ensures
+      ∙ run-starts c.args.sig.now (state_of c.args.start.value) c.args.kernel.now.left;
   kept = c.requires.state;
+  kernel = c.requires.kernel;
   sum = refl;
   spends = omega arith;
 }
@@ -25,11 +26,12 @@ pub turns-preserved : goal.turns-preserved
 turns-preserved c =
     let S = c.args.sig.now in
     let t = state_of c.in-Goes.next.value in
-    let at = subst (λ s. (Ok (Some (turn_of (Goes c.in-Goes.step c.in-Goes.next))), c.turn.new.units.left) ≡ strategy.turn_of S (state_of s) c.turns.units.left) c.deref.ensures (rw c.in-Goes.is at c.in_ok-end.ensures.answer) in
+    let at = subst (λ s. (Ok (Some (turn_of (Goes c.in-Goes.step c.in-Goes.next))), c.turn.new.kernel.left) ≡ strategy.turn_of S (state_of s) c.turns.kernel.left) c.deref.ensures (rw c.in-Goes.is at c.in_ok-end.ensures.answer) in
     record {
-      meant = ap (λ steps. behind_all steps (run_of S t c.turn.new.units.left)) (ap steps_of c.in_ok-push-in-Goes.ensures.ok ∙ map-append step_of c.turns.steps _)
-          ∙ (run-goes S (state_of c.turns.state.value) t c.turns.units.left c.turn.new.units.left (step_of c.in-Goes.step) (steps_of c.turns.steps) at ∙ c.turns.invariant.meant);
+      meant = ap (λ steps. behind_all steps (run_of S t c.turn.new.kernel.left)) (ap steps_of c.in_ok-push-in-Goes.ensures.ok ∙ map-append step_of c.turns.steps _)
+          ∙ (run-goes S (state_of c.turns.state.value) t c.turns.kernel.left c.turn.new.kernel.left (step_of c.in-Goes.step) (steps_of c.turns.steps) at ∙ c.turns.invariant.meant);
       kept = rw c.in-Goes.is at c.in_ok-end.ensures.kept;
+      kernel = c.in_ok-end.ensures.kernel;
       sum = omega (arith, c.in_ok-end.ensures.sum, c.turns.invariant.sum);
       spends = omega (arith, c.in_ok-end.ensures.spends, c.turns.invariant.spends);
     }
@@ -37,8 +39,8 @@ turns-preserved c =
 pub turns-smaller : goal.turns-smaller
 turns-smaller c =
     let S = c.args.sig.now in
-    let at = subst (λ s. (Ok (Some (turn_of (Goes c.in-Goes.step c.in-Goes.next))), c.turn.new.units.left) ≡ strategy.turn_of S (state_of s) c.turns.units.left) c.deref.ensures (rw c.in-Goes.is at c.in_ok-end.ensures.answer) in
-    turns-fall S (state_of c.turns.state.value) (state_of c.in-Goes.next.value) c.turns.units.left c.turn.new.units.left (step_of c.in-Goes.step) at
+    let at = subst (λ s. (Ok (Some (turn_of (Goes c.in-Goes.step c.in-Goes.next))), c.turn.new.kernel.left) ≡ strategy.turn_of S (state_of s) c.turns.kernel.left) c.deref.ensures (rw c.in-Goes.is at c.in_ok-end.ensures.answer) in
+    turns-fall S (state_of c.turns.state.value) (state_of c.in-Goes.next.value) c.turns.kernel.left c.turn.new.kernel.left (step_of c.in-Goes.step) at
 
 pub returns-in_err-end-clause-answer : goal.returns-in_err-end-clause-answer
 returns-in_err-end-clause-answer c =
@@ -46,8 +48,8 @@ returns-in_err-end-clause-answer c =
     let q = err_from_is_err_and c.from_residual.result c.from_residual.ensures.1 in
     rw (q.1, q.2)
     (λ other.
-    run-refused S (state_of c.turns.state.value) c.turns.units.left c.turn.new.units.left _ (steps_of c.turns.steps)
-    (c.in_err-end.ensures.answer other ∙ ap (λ s. strategy.turn_of S (state_of s) c.turns.units.left) c.deref.ensures)
+    run-refused S (state_of c.turns.state.value) c.turns.kernel.left c.turn.new.kernel.left _ (steps_of c.turns.steps)
+    (c.in_err-end.ensures.answer other ∙ ap (λ s. strategy.turn_of S (state_of s) c.turns.kernel.left) c.deref.ensures)
     ∙ c.turns.invariant.meant)
 
 pub returns-in_default : goal.returns-in_default
@@ -58,11 +60,12 @@ returns-in_default c =
     let there = end-there s turn (code-ends c.in_ok-end.end c.in_default.not-Goes) in
     let given = c.finish.ensures in
     record {
-      answer = gives-runs outcome_of c.finish.result c.turn.new.units.left (Ok (behind_steps (steps_of c.turns.steps) there.0)) (run_of S (state_of c.args.start.value) c.args.units.now.left)
+      answer = gives-runs outcome_of c.finish.result c.turn.new.kernel.left (Ok (behind_steps (steps_of c.turns.steps) there.0)) (run_of S (state_of c.args.start.value) c.args.kernel.now.left)
           (c.finish.ensures there.0 (ap (λ s. end_of (state_of s) turn) c.into_inner.ensures ∙ there.1))
-          (run-ends S s c.turns.units.left c.turn.new.units.left turn there.0 (steps_of c.turns.steps)
-          (c.in_ok-end.ensures.answer ∙ ap (λ s. strategy.turn_of S (state_of s) c.turns.units.left) c.deref.ensures) there.1
+          (run-ends S s c.turns.kernel.left c.turn.new.kernel.left turn there.0 (steps_of c.turns.steps)
+          (c.in_ok-end.ensures.answer ∙ ap (λ s. strategy.turn_of S (state_of s) c.turns.kernel.left) c.deref.ensures) there.1
           ∙ c.turns.invariant.meant);
+      kernel = c.in_ok-end.ensures.kernel;
       sum = omega (arith, c.in_ok-end.ensures.sum, c.turns.invariant.sum);
       spends = omega (arith, c.in_ok-end.ensures.spends, c.turns.invariant.spends);
     }

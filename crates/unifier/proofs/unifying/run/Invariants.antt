@@ -8,11 +8,12 @@ use Rattle.unifier.proofs.unifying.run.Given as goal
 
 abbrev pub invariant-turns : goal.invariant-turns
 invariant-turns l = record {
-  meant : behind_all (steps_of l.steps) (run_of l.sig (state_of l.state.value) l.units.left) ≡ run_of l.sig (state_of l.fn.start.value) l.fn.units.left;
+  meant : behind_all (steps_of l.steps) (run_of l.sig (state_of l.state.value) l.kernel.left) ≡ run_of l.sig (state_of l.fn.start.value) l.fn.kernel.left;
   kept : IsKept l.sig (state_of l.state.value);
-  sum : l.units.left + l.units.spent ≡ l.fn.units.left + l.fn.units.spent;
-  spends : l.units.left ≤ l.fn.units.left;
+  kernel : l.kernel.signature ≡ l.sig;
+  sum : l.kernel.left + l.kernel.spent ≡ l.fn.kernel.left + l.fn.kernel.spent;
+  spends : l.kernel.left ≤ l.fn.kernel.left;
 }
 
 abbrev pub decreases-turns : goal.decreases-turns
-decreases-turns l = turns_from l.sig (state_of l.state.value) l.units.left
+decreases-turns l = turns_from l.sig (state_of l.state.value) l.kernel.left

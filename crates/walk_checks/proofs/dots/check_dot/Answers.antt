@@ -15,6 +15,6 @@ returns-clause-answer c =
     let G = tele_of c.args.ctx.now in
     let written = tree_of c.args.written.now in
     let forced = tree_of c.args.forced.now in
-    goes-on (λ x. written) (granted S (OfDot owner) (infer_of S nesting (reverse G) forced c.args.units.now.left)) (tree_of c.in_ok-ty.ty)
-    (λ type rest. dot_written S owner G (written, forced) type rest) c.inferred.new.units.left c.check_written.new.units.left c.check_written.result
+    goes-on (λ x. written) (granted S (OfDot owner) (infer_of S nesting (reverse G) forced c.args.kernel.now.left)) (tree_of c.in_ok-ty.ty)
+    (λ type rest. dot_written S owner G (written, forced) type rest) c.inferred.new.kernel.left c.check_written.new.kernel.left c.check_written.result
     c.in_ok-ty.ensures.answer c.check_written.ensures.answer

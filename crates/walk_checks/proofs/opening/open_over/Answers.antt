@@ -17,9 +17,9 @@ returns-clause-answer c =
     let S = c.args.s.sig.now in
     let w = c.args.w.now in
     let t = tree_of c.args.t.now in
-    transport (Elaborates opening_of c.with_type.result c.with_type.new.units.left)
-    (open-is (session_of c.args.s) (site_of c.args.site) (walk_of w) t c.args.units.now.left)
+    transport (Elaborates opening_of c.with_type.result c.with_type.new.kernel.left)
+    (open-is (session_of c.args.s) (site_of c.args.site) (walk_of w) t c.args.kernel.now.left)
     (goes-on opening_of
-    (granted S (OfWith (site_of c.args.site)) (infer_of S nesting (reverse (tele_of w.ctx)) t c.args.units.now.left))
+    (granted S (OfWith (site_of c.args.site)) (infer_of S nesting (reverse (tele_of w.ctx)) t c.args.kernel.now.left))
     (tree_of c.in_ok-ty.ty) (λ type rest. type_asked (session_of c.args.s) (site_of c.args.site) (walk_of w) t type rest)
-    c.inferred.new.units.left c.with_type.new.units.left c.with_type.result c.in_ok-ty.ensures.answer c.with_type.ensures.answer)
+    c.inferred.new.kernel.left c.with_type.new.kernel.left c.with_type.result c.in_ok-ty.ensures.answer c.with_type.ensures.answer)

@@ -1,40 +1,43 @@
-use Rattle.std.proofs.Common.{length}
+use Rattle.std.proofs.Common.{length, ap, ◌∙◌, subst as transport}
 use Rattle.function_walks.specs.WalkingMeanings.{session_of}
+use Rattle.theory.specs.Signatures.{Signature}
 use Rattle.core_terms.specs.Meanings.{tree_of, tele_of}
-use Rattle.elaboration.specs.Refusals.{halting}
+use Rattle.elaboration.specs.Refusals.{Elaborating, halting}
 use Rattle.function_refusals.specs.RefusalMeanings.{refusal_of}
 use Rattle.walk_checks.proofs.Chains.{ends-there, goes-on}
 use Rattle.walk_checks.proofs.Scopes.{closed-product, opened-scoped}
 use Rattle.walk_checks.specs.CodeOpening.{goal_asked}
 use Rattle.walk_checks.specs.CheckMeanings.{opening_of, site_of}
-use Rattle.with_abstraction.specs.Abstractions.{abstract_over_of}
+use Rattle.with_abstraction.specs.Abstractions.{Abstracted, abstract_over_of}
+use Rattle.with_abstraction.specs.Laws.{IsScopedAbstraction}
 use Rattle.with_abstraction.specs.Meanings.{abstracted_of}
 use Rattle.walk_checks.proofs.opening.over_its_type.Goals as goal
 
-pub at_goal-requires : goal.at_goal-requires
-at_goal-requires c =
-    closed-product c.args.s.sig.now (length c.args.w.now.ctx) (abstracted_of c.in-Ok.a) c.requires.signature c.in-Ok.ensures.scoped
+pub at_goal-requires-clause-given : goal.at_goal-requires-clause-given
+at_goal-requires-clause-given c =
+    closed-product c.args.s.sig.now (length c.args.w.now.ctx) (abstracted_of c.in-Ok.a) c.requires.given.signature
+    (transport (λ S. IsScopedAbstraction S (length c.args.w.now.ctx) (abstracted_of c.in-Ok.a)) c.requires.kernel c.in-Ok.ensures.scoped)
 
 pub returns-in-Ok-clause-answer : goal.returns-in-Ok-clause-answer
 returns-in-Ok-clause-answer c =
     let w = c.args.w.now in
-    goes-on opening_of
-    (halting
-    (abstract_over_of c.args.s.sig.now (tele_of w.ctx) (tree_of w.goal) (tree_of c.args.t.now) (tree_of c.args.ty.now) c.args.units.now.left))
-    (abstracted_of c.in-Ok.a) (λ a more. goal_asked (session_of c.args.s) (site_of c.args.site) a more) c.abstracted.new.units.left
-    c.at_goal.new.units.left c.at_goal.result c.in-Ok.ensures.answer c.at_goal.ensures.answer
+    let meant : Signature → Elaborating Abstracted =
+    λ S. halting (abstract_over_of S (tele_of w.ctx) (tree_of w.goal) (tree_of c.args.t.now) (tree_of c.args.ty.now) c.args.kernel.now.left) in
+    goes-on opening_of (meant c.args.s.sig.now) (abstracted_of c.in-Ok.a)
+    (λ a more. goal_asked (session_of c.args.s) (site_of c.args.site) a more) c.abstracted.new.kernel.left
+    c.at_goal.new.kernel.left c.at_goal.result (c.in-Ok.ensures.answer ∙ ap meant c.requires.kernel) c.at_goal.ensures.answer
 
 pub returns-in-Err-clause-answer : goal.returns-in-Err-clause-answer
 returns-in-Err-clause-answer c =
     let w = c.args.w.now in
+    let meant : Signature → Elaborating Abstracted =
+    λ S. halting (abstract_over_of S (tele_of w.ctx) (tree_of w.goal) (tree_of c.args.t.now) (tree_of c.args.ty.now) c.args.kernel.now.left) in
     λ other.
-    ends-there
-    (halting
-    (abstract_over_of c.args.s.sig.now (tele_of w.ctx) (tree_of w.goal) (tree_of c.args.t.now) (tree_of c.args.ty.now) c.args.units.now.left))
-    (refusal_of c.in-Err.e) (λ a more. goal_asked (session_of c.args.s) (site_of c.args.site) a more) c.abstracted.new.units.left
-    (c.in-Err.ensures.answer other)
+    ends-there (meant c.args.s.sig.now) (refusal_of c.in-Err.e)
+    (λ a more. goal_asked (session_of c.args.s) (site_of c.args.site) a more) c.abstracted.new.kernel.left
+    (c.in-Err.ensures.answer other ∙ ap meant c.requires.kernel)
 
 pub returns-in-Ok-clause-scoped : goal.returns-in-Ok-clause-scoped
 returns-in-Ok-clause-scoped c =
     opened-scoped c.args.s.sig.now (length c.args.w.now.ctx) (abstracted_of c.in-Ok.a) c.at_goal.result c.at_goal.ensures.same
-    c.in-Ok.ensures.scoped
+    (transport (λ S. IsScopedAbstraction S (length c.args.w.now.ctx) (abstracted_of c.in-Ok.a)) c.requires.kernel c.in-Ok.ensures.scoped)

@@ -13,6 +13,6 @@ pub returns-clause-answer : goal.returns-clause-answer
 returns-clause-answer c =
     let S = c.args.sig.now in
     let P : Term → Type 0 = λ t.
-    Elaborates tree_of c.sort_of.result c.sort_of.new.units.left
-    (granted S (OfGoal (site_of c.args.site)) (infer_sort_of S nesting [] t c.args.units.now.left)) in
+    Elaborates tree_of c.sort_of.result c.sort_of.new.kernel.left
+    (granted S (OfGoal (site_of c.args.site)) (infer_sort_of S nesting [] t c.args.kernel.now.left)) in
     transport P (ok_is c.in_ok-ty.ensures) c.sort_of.ensures.answer
