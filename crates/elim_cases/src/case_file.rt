@@ -2,15 +2,18 @@
 //!
 //! ```text
 //! # its name
-//! $ the words of the command line
+//! $ its words
 //! < a line of the input, as often as there are lines
 //! > a line of the output, as often as there are lines
 //! = the status
 //! ```
 //!
 //! A line feed separates two lines of the input, and none follows the last one; `<` alone is an empty line. Each line of
-//! the output ends with a line feed. `$` alone stands for no words. After a line of the input or of the output, `+ 3 ab` goes
-//! on in that line with `ababab`. Empty lines between the cases are passed over.
+//! the output ends with a line feed. `$` alone stands for no words, and the line of words may be left out. After a line of the
+//! input or of the output, `+ 3 ab` goes on in that line with `ababab`. Empty lines between the cases are passed over.
+//!
+//! For the program the words are those of the command line. For walks and trees they are those of `asked.rt`, the input is a text
+//! of families and functions, the output their walks and trees as in `texts.rt`, and the status is 0.
 use crate::case::Case;
 use std::alloc::{AllocError, AllocFailed, Global};
 

@@ -1,42 +1,60 @@
-//! Runs worked cases: texts for the program with the output and the status that are wanted of them.
+//! Runs the data of the gate: worked cases, examples, generated entries, and walks and trees.
 //!
-//! The words are the names of files of cases; `case_file.rt` says how such a file is written. A line is printed for each
-//! case, and at last `N passed, M failed`. The status is 0 where each file was read and no case failed.
+//! The words are the names of files, and the first folder of a name says what is in the file. In `cases` are runs of the program with
+//! what they write, and in `trees` functions with their walks and trees (`case_file.rt`). In `examples` are texts with a line that
+//! says how they are run (`commands.rt`), and in `entries` core files (`comparing.rt`). A line is printed for each case, each output
+//! and each core file, and at last `N passed, M failed`. The status is 0 where each file was read and none failed.
 #![tactic(auto)]
 
+mod asked;
 mod case;
 mod case_file;
+mod commands;
+mod comparing;
+mod conditions;
+mod examples;
+mod generating;
+mod memory_runs;
+mod patterns;
+mod printing;
 mod running;
+mod tally;
+mod texts;
+mod tree_texts;
+mod worked_cases;
 
+use case::Case;
 use case_file::{FileStop, read_cases};
-use running::run_case;
+use comparing::run_core_file;
+use examples::run_example;
+use running::run_trees;
 use std::process::ExitCode;
 use std::{env, fs, io};
+use tally::Tally;
+use worked_cases::run_program;
 
-/// How many cases passed, and how many failed. A file that can't be read as cases counts as a case that failed.
-#[derive(Drop)]
-struct Tally {
-    passed: u64,
-    failed: u64,
+/// What is run on a case: the program, or the walks and trees of its functions.
+#[derive(Clone, Copy)]
+enum Kind {
+    Program,
+    Trees,
 }
 
-impl Tally {
-    fn count(&mut self, passed: bool) {
-        if passed {
-            self.passed = self.passed.saturating_add(1);
-        } else {
-            self.failed = self.failed.saturating_add(1);
-        }
+/// Runs one case, prints its line, and answers whether it passed.
+fn run_case(rt: &HostRuntime, kind: Kind, case: &Case) -> io::Result<bool> {
+    match kind {
+        Kind::Program => run_program(rt, case),
+        Kind::Trees => run_trees(rt, case),
     }
 }
 
 /// Runs the cases of one file.
-fn run_file(rt: &HostRuntime, name: &str, tally: &mut Tally) -> io::Result<()> {
+fn run_cases(rt: &HostRuntime, kind: Kind, name: &str, tally: &mut Tally) -> io::Result<()> {
     let text = fs::read_to_string(rt, name)?;
     match read_cases(rt.alloc(), text.as_str()) {
         Ok(cases) => {
             for case in cases.iter() {
-                tally.count(run_case(rt, case)?);
+                tally.count(run_case(rt, kind, case)?);
             }
         }
         Err(FileStop::Line(number)) => {
@@ -51,17 +69,32 @@ fn run_file(rt: &HostRuntime, name: &str, tally: &mut Tally) -> io::Result<()> {
     Ok(())
 }
 
-/// Runs the files that the words name, and answers whether no case failed.
+/// Runs one file as its folder says.
+fn run_file(rt: &HostRuntime, name: &str, tally: &mut Tally) -> io::Result<()> {
+    match name.split_once('/') {
+        Some(("cases", _)) => run_cases(rt, Kind::Program, name, tally),
+        Some(("trees", _)) => run_cases(rt, Kind::Trees, name, tally),
+        Some(("examples", _)) => run_example(rt, name, tally),
+        Some(("entries", _)) => {
+            tally.count(run_core_file(rt, name)?);
+            Ok(())
+        }
+        _ => {
+            println!(rt; "FAILED {name}: its folder does not say what is in it")?;
+            tally.count(false);
+            Ok(())
+        }
+    }
+}
+
+/// Runs the files that the words name, and answers whether there was a case and none failed.
 fn run_files(rt: &HostRuntime) -> io::Result<bool> {
-    let mut tally = Tally {
-        passed: 0,
-        failed: 0,
-    };
+    let mut tally = Tally::new();
     for name in env::args(rt)?.skip(1) {
         run_file(rt, name.as_str(), &mut tally)?;
     }
-    println!(rt; "{} passed, {} failed", tally.passed, tally.failed)?;
-    Ok(tally.failed == 0 && tally.passed > 0)
+    println!(rt; "{} passed, {} failed", tally.passed(), tally.failed())?;
+    Ok(tally.is_passed())
 }
 
 fn main(rt: HostRuntime) -> ExitCode {
