@@ -3,9 +3,11 @@ ghost use Rattle.theory.specs.Families as pure;
 ghost use Rattle.theory.specs.Prelude.{prelude};
 ghost use Rattle.theory.specs.Signatures.{FamilyOf, IsEntryAt, IsPrefix, Signature};
 ghost use Rattle.theory.specs.SignatureScopes.{IsFamilyNumber, IsScopedSignature};
+ghost use Rattle.theory.specs.Terms as tree;
 ghost use Rattle.theory.specs.Terms.{top};
 ghost use Rattle.core_terms.specs.Answers.{Gives};
 ghost use Rattle.core_terms.specs.Bounds.{most_height};
+ghost use Rattle.core_terms.specs.Levels as levels;
 ghost use Rattle.core_terms.specs.Meanings.{tree_of};
 ghost use Rattle.core_sig.specs.Drafts.{draft_of};
 ghost use Rattle.core_sig.specs.ScopedDrafts.{IsScopedDraft};
@@ -13,19 +15,20 @@ ghost use Rattle.core_sig.specs.Shapes.{HaveFewArguments, IsFew, argument_shape,
 ghost use Rattle.acyclic_gen.specs.Answers.{Yields};
 ghost use Rattle.acyclic_gen.specs.AcyclicEntries as spec;
 ghost use Rattle.acyclic_gen.specs.Bounds.{AreNear, AreSmallArguments, HaveSmallArguments, IsNearPush};
+ghost use Rattle.acyclic_gen.specs.Pushing.{pushing};
 ghost use Rattle.acyclic_gen.specs.Statements.{has_direct};
 
 use crate::AcyclicStop;
 use crate::carrier::{Carrier, carrier_at, carrier_of};
-use crate::claims::{Claim, Push, eliminator, pushed_whole};
+use crate::claims::{Claim, Push, eliminator};
 use crate::direct_arguments::{Direct, directs, has_direct};
 use crate::lengths::is_small;
 use crate::methods::method_over;
 use crate::naming::{acyclic_name, names_for};
 use crate::point::at_level;
-use crate::pushing::pushing;
-use crate::statements::{no_part, none_within, not_within};
-use case_below_gen::{closed_over, pair_with};
+use crate::pushing::{not_within_pair, pushing};
+use crate::statements::no_part;
+use case_below_gen::closed_over;
 use core_sig::{Arg, Constructor, Draft, Entry, Family, Signature, drafted, recursive_count, unit};
 use core_terms::{Binder, Stop, Term, bind, number_of, variable};
 use std::alloc::Global;
@@ -201,6 +204,31 @@ fn with_part(push: Push, argument: u32) -> Push
     }
 }
 
+/// A push from a direct argument, at the argument and its hypothesis.
+fn pushed_from(
+    alloc: Global,
+    q: Carrier,
+    all: &[Constructor],
+    push: Push,
+    own: &[Arg],
+    depth: u32,
+    d: Direct,
+) -> Result<Term, Stop>
+    requires level { q.level < 100 }
+    requires params { q.params ≤ most_height }
+    requires all_few { HaveFewArguments (map constructor_shape all.now) }
+    requires all_count { length all.now ≤ most_height }
+    requires push { IsNearPush push }
+    requires near { d.argument ≤ 100000 }
+    requires own { AreSmallArguments (map argument_shape own.now) }
+    requires depth { depth ≤ 20000 }
+    ensures { Gives tree_of result (Ok (tree.App (tree.App (pushing q (map constructor_shape all.now) (spec.with_part push d.argument) (map argument_shape own.now) depth) (levels.variable depth d.argument)) (levels.variable depth d.hypothesis))) }
+{
+    let head = pushing(alloc, q, all, with_part(push, d.argument), own, depth)?;
+    let head = Term::new_app(alloc, head, variable(depth, d.argument))?;
+    Term::new_app(alloc, head, variable(depth, d.hypothesis))
+}
+
 /// The tuple of the pushes from the direct arguments of a constructor, at a depth.
 fn pushes(
     alloc: Global,
@@ -224,14 +252,9 @@ fn pushes(
     match directs {
         [] => Ok(Term::Con(unit(q.level), 0)),
         [d, rest @ ..] => {
-            let whole = pushed_whole(push);
-            let first = not_within(alloc, q, depth, whole, at_level(d.argument))?;
-            let second = none_within(alloc, q, depth, whole, rest)?;
-            let here = pushing(alloc, q, all, with_part(push, d.argument), own, depth)?;
-            let here = Term::new_app(alloc, here, variable(depth, d.argument))?;
-            let here = Term::new_app(alloc, here, variable(depth, d.hypothesis))?;
-            let others = pushes(alloc, q, all, push, own, depth, rest)?;
-            pair_with(alloc, q.level, first, second, here, others)
+            let here = pushed_from(alloc, q, all, push, own, depth, *d);
+            let others = pushes(alloc, q, all, push, own, depth, rest);
+            not_within_pair(alloc, q, push, depth, *d, rest, here, others)
         }
     }
 }

@@ -89,7 +89,7 @@ pub fn eliminator(alloc: Global, claim: Claim, q: Carrier, depth: u32) -> Result
 {
     let head = Term::Elim(q.family, claim_level(claim, q));
     let head = applied_to_run(alloc, head, depth, 0, q.params)?;
-    let body = claim_at(alloc, claim, q, depth + 1, at_level(depth))?;
-    let motive = Term::new_lam(alloc, carrier_at(alloc, q, depth)?, body)?;
-    Term::new_app(alloc, head, motive)
+    let body = claim_at(alloc, claim, q, depth + 1, at_level(depth));
+    let motive = Term::function_of(alloc, carrier_at(alloc, q, depth), body);
+    Term::application_of(alloc, Ok(head), motive)
 }

@@ -20,11 +20,12 @@ use crate::claims::{Claim, eliminator};
 use crate::direct_arguments::{Direct, directs};
 use crate::methods::method_over;
 use crate::naming::direct_name;
+use crate::tuples::bound;
 use case_below_gen::{closed_over, pair_of};
 use core_sig::{
     Constructor, Draft, Entry, Family, Signature, drafted, is_few, recursive_count, unit,
 };
-use core_terms::{Binder, Items, Stop, Term, bind, variable};
+use core_terms::{Binder, Items, Stop, Term, variable};
 use std::alloc::Global;
 
 /// The entry `D!direct` for family number `fam`: a motive into the family's own level at each part of a term, where the parts are
@@ -77,9 +78,10 @@ fn direct_over(
     requires { q.params ≤ most_height }
     ensures { Gives tree_of result (Ok (spec.direct_over binder (shape_of f.now) q (tree_of end))) }
 {
-    let end = bind(alloc, binder, carrier_at(alloc, q, q.params + 1)?, end)?;
-    let motive = Term::new_pi(alloc, carrier_at(alloc, q, q.params)?, Term::Sort(q.level))?;
-    let end = bind(alloc, binder, motive, end)?;
+    let end = bound(alloc, binder, carrier_at(alloc, q, q.params + 1), Ok(end));
+    let sort = Ok(Term::Sort(q.level));
+    let motive = Term::product_of(alloc, carrier_at(alloc, q, q.params), sort);
+    let end = bound(alloc, binder, motive, end)?;
     closed_over(alloc, binder, f.params.as_slice(), end)
 }
 

@@ -17,6 +17,7 @@ mod pushing;
 mod refuting;
 mod statements;
 mod stop;
+mod tuples;
 
 pub use acyclic_entries::acyclic_entry;
 pub use carrier::{Carrier, carrier_at, carrier_of};

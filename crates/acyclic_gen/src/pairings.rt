@@ -92,13 +92,10 @@ fn side_method(
         Side::First => Term::Var(1),
         Side::Second => Term::Var(0),
     };
-    let second = side_type(alloc, Side::Second, q, depth + 1, pairing)?;
-    let body = Term::new_lam(alloc, second, body)?;
-    Term::new_lam(
-        alloc,
-        side_type(alloc, Side::First, q, depth, pairing)?,
-        body,
-    )
+    let second = side_type(alloc, Side::Second, q, depth + 1, pairing);
+    let body = Term::function_of(alloc, second, Ok(body));
+    let first = side_type(alloc, Side::First, q, depth, pairing);
+    Term::function_of(alloc, first, body)
 }
 
 /// A side of a pair, at a depth.
@@ -114,16 +111,16 @@ pub fn projection(
     requires depth { depth ≤ 900000 }
     ensures { Gives tree_of result (Ok (spec.projection side q depth (pairing_of pairing.entry) (tree_of both))) }
 {
-    let head = Term::Elim(pair(q.level), q.level);
-    let first = side_type(alloc, Side::First, q, depth, pairing)?;
-    let head = Term::new_app(alloc, head, first)?;
-    let second = side_type(alloc, Side::Second, q, depth, pairing)?;
-    let head = Term::new_app(alloc, head, second)?;
-    let motive = side_motive(alloc, side, q, depth, pairing)?;
-    let head = Term::new_app(alloc, head, motive)?;
-    let method = side_method(alloc, side, q, depth, pairing)?;
-    let head = Term::new_app(alloc, head, method)?;
-    Term::new_app(alloc, head, both)
+    let head = Ok(Term::Elim(pair(q.level), q.level));
+    let first = side_type(alloc, Side::First, q, depth, pairing);
+    let head = Term::application_of(alloc, head, first);
+    let second = side_type(alloc, Side::Second, q, depth, pairing);
+    let head = Term::application_of(alloc, head, second);
+    let motive = side_motive(alloc, side, q, depth, pairing);
+    let head = Term::application_of(alloc, head, motive);
+    let method = side_method(alloc, side, q, depth, pairing);
+    let head = Term::application_of(alloc, head, method);
+    Term::application_of(alloc, head, Ok(both))
 }
 
 /// What a tuple for direct arguments says of the one with the level `wanted`, at a depth.

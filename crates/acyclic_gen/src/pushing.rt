@@ -1,12 +1,16 @@
 ghost use Rattle.std.specs.Prelude.{◌≡◌, ◌≤◌, ◌<◌, ◌+◌, length, map};
 ghost use Rattle.theory.specs.Terms as tree;
+ghost use Rattle.core_terms.specs.Answered.{of_two, shown};
 ghost use Rattle.core_terms.specs.Answers.{Gives};
 ghost use Rattle.core_terms.specs.Bounds.{most_height};
 ghost use Rattle.core_terms.specs.Meanings.{tree_of};
 ghost use Rattle.core_sig.specs.Shapes.{HaveFewArguments, argument_shape, constructor_shape};
+ghost use Rattle.case_below_gen.specs.Components.{pair_with};
 ghost use Rattle.case_below_gen.specs.CourseEntries.{applied_to_methods};
 ghost use Rattle.acyclic_gen.specs.Bounds.{AreSmallArguments, IsNearBranch, IsNearPush};
+ghost use Rattle.acyclic_gen.specs.Claims as claims;
 ghost use Rattle.acyclic_gen.specs.Pushing as spec;
+ghost use Rattle.acyclic_gen.specs.Statements as statements;
 
 use crate::carrier::Carrier;
 use crate::claims::{Claim, Push, eliminator, pushed_part, pushed_whole};
@@ -16,7 +20,8 @@ use crate::pairings::{Pairing, projection};
 use crate::point::at_level;
 use crate::refuting::{Branch, branch_point, refutation};
 use crate::statements::{no_part, none_within, not_within, unequal};
-use case_below_gen::{Side, pair_with};
+use crate::tuples::pair_from;
+use case_below_gen::Side;
 use core_sig::{Arg, Constructor, recursive_count, unit};
 use core_terms::{Stop, Term, copy_whole, variable};
 use std::alloc::Global;
@@ -43,6 +48,27 @@ fn pushed_on(
     Term::new_app(alloc, variable(depth, d.hypothesis), no_part)
 }
 
+/// The pair for a direct argument d and those after it: that the whole is not within d, and that it is within none of the others.
+pub fn not_within_pair(
+    alloc: Global,
+    q: Carrier,
+    push: Push,
+    depth: u32,
+    d: Direct,
+    rest: &[Direct],
+    here: Result<Term, Stop>,
+    others: Result<Term, Stop>,
+) -> Result<Term, Stop>
+    requires push { IsNearPush push }
+    requires depth { depth ≤ 500000 }
+    ensures { Gives tree_of result (of_two (pair_with q.level (statements.not_within q depth (claims.pushed_whole push) (statements.at_level d.argument)) (statements.none_within q depth (claims.pushed_whole push) rest.now)) (shown here) (shown others)) }
+{
+    let whole = pushed_whole(push);
+    let first = not_within(alloc, q, depth, whole, at_level(d.argument));
+    let second = none_within(alloc, q, depth, whole, rest);
+    pair_from(alloc, q.level, first, second, here, others)
+}
+
 /// The tuple of these for the direct arguments, where `tuple` says something of each, at a depth.
 fn pushed_tuple(
     alloc: Global,
@@ -59,14 +85,12 @@ fn pushed_tuple(
     match directs {
         [] => Ok(Term::Con(unit(q.level), 0)),
         [d, rest @ ..] => {
-            let whole = pushed_whole(push);
-            let first = not_within(alloc, q, depth, whole, at_level(d.argument))?;
-            let second = none_within(alloc, q, depth, whole, rest)?;
-            let here = pushed_on(alloc, q, push, depth, *d, rest, copy_whole(alloc, &tuple)?)?;
+            let copy = copy_whole(alloc, &tuple)?;
+            let here = pushed_on(alloc, q, push, depth, *d, rest, copy);
             let several = Pairing::Several(pushed_part(push), *d, rest);
             let tuple = projection(alloc, Side::Second, q, depth, several, tuple)?;
-            let others = pushed_tuple(alloc, q, push, depth, rest, tuple)?;
-            pair_with(alloc, q.level, first, second, here, others)
+            let others = pushed_tuple(alloc, q, push, depth, rest, tuple);
+            not_within_pair(alloc, q, push, depth, *d, rest, here, others)
         }
     }
 }
@@ -90,12 +114,12 @@ fn pushed_pair(
     let depth = branch.given + 1;
     let whole = pushed_whole(push);
     let y = branch_point(branch);
-    let first = unequal(alloc, q, depth, whole, y)?;
-    let second = no_part(alloc, q, depth, whole, y)?;
-    let left = refutation(alloc, q, push, own, branch, depth)?;
+    let first = unequal(alloc, q, depth, whole, y);
+    let second = no_part(alloc, q, depth, whole, y);
+    let left = refutation(alloc, q, push, own, branch, depth);
     let given = variable(depth, branch.given);
-    let right = pushed_tuple(alloc, q, push, depth, directs, given)?;
-    pair_with(alloc, q.level, first, second, left, right)
+    let right = pushed_tuple(alloc, q, push, depth, directs, given);
+    pair_from(alloc, q.level, first, second, left, right)
 }
 
 /// The branch for constructor `number`, at a depth.
@@ -138,10 +162,10 @@ fn push_in(
 {
     let args = con.args.as_slice();
     let directs = directs(alloc, branch.start, branch.hypothesis, args)?;
-    let body = pushed_pair(alloc, q, push, own, branch, directs.as_slice())?;
+    let body = pushed_pair(alloc, q, push, own, branch, directs.as_slice());
     let y = branch_point(branch);
-    let domain = no_part(alloc, q, branch.given, pushed_part(push), y)?;
-    let end = Term::new_lam(alloc, domain, body)?;
+    let domain = no_part(alloc, q, branch.given, pushed_part(push), y);
+    let end = Term::function_of(alloc, domain, body)?;
     method_over(alloc, Claim::Pushed(push), q, branch.start, con, end)
 }
 

@@ -5,7 +5,9 @@ ghost use Rattle.core_terms.specs.Meanings.{tree_of, tele_of};
 ghost use Rattle.core_sig.specs.Shapes.{argument_shape};
 ghost use Rattle.tele_eq.specs.Items.{AreSmall, items_of};
 ghost use Rattle.acyclic_gen.specs.Bounds.{AreSmallArguments, IsNear, IsNearBranch, IsNearPush};
+ghost use Rattle.acyclic_gen.specs.Claims.{pushed_whole};
 ghost use Rattle.acyclic_gen.specs.Pushing as spec;
+ghost use Rattle.acyclic_gen.specs.Statements as statements;
 
 use crate::carrier::Carrier;
 use crate::claims::{Push, position_of, pushed_part, pushed_whole};
@@ -151,6 +153,16 @@ fn by_arguments(
     functions(alloc, equations.into_vec(), end)
 }
 
+/// The equation of both constructors, at a depth.
+fn equation(alloc: Global, q: Carrier, push: Push, y: Point, depth: u32) -> Result<Term, Stop>
+    requires push { IsNearPush push }
+    requires y { IsNear y }
+    ensures { Gives tree_of result (Ok (statements.equal q depth (pushed_whole push) (statements.point_at q depth y))) }
+{
+    let right = point_at(alloc, q, depth, y)?;
+    equal(alloc, q, depth, pushed_whole(push), right)
+}
+
 /// `D!noconf.c.0` at both constructors, their equation and the motive `\_. Empty`, at a depth.
 fn confused(alloc: Global, q: Carrier, push: Push, y: Point, depth: u32) -> Result<Term, Stop>
     requires push { IsNearPush push }
@@ -159,12 +171,11 @@ fn confused(alloc: Global, q: Carrier, push: Push, y: Point, depth: u32) -> Resu
 {
     let head = applied_to_run(alloc, Term::Const(push.noconf), depth, 0, q.params)?;
     let head = applied_to_run(alloc, head, depth, push.first, push.count)?;
-    let head = Term::new_app(alloc, head, point_at(alloc, q, depth, y)?)?;
-    let head = Term::new_app(alloc, head, Term::Var(0))?;
-    let right = point_at(alloc, q, depth, y)?;
-    let domain = equal(alloc, q, depth, pushed_whole(push), right)?;
-    let motive = Term::new_lam(alloc, domain, Term::Fam(EMPTY))?;
-    Term::new_app(alloc, head, motive)
+    let head = Term::application_of(alloc, Ok(head), point_at(alloc, q, depth, y));
+    let head = Term::application_of(alloc, head, Ok(Term::Var(0)));
+    let domain = equation(alloc, q, push, y, depth);
+    let motive = Term::function_of(alloc, domain, Ok(Term::Fam(EMPTY)));
+    Term::application_of(alloc, head, motive)
 }
 
 /// That the constructor at its arguments is not the branch's, at a depth.
@@ -185,14 +196,12 @@ pub fn refutation(
 {
     let y = branch_point(branch);
     let inside = depth + 1;
-    let none = confused(alloc, q, push, y, inside)?;
+    let none = confused(alloc, q, push, y, inside);
     let body = if branch.number == push.constructor {
-        let method = by_arguments(alloc, q, push, own, branch, inside)?;
-        Term::new_app(alloc, none, method)?
+        let method = by_arguments(alloc, q, push, own, branch, inside);
+        Term::application_of(alloc, none, method)
     } else {
         none
     };
-    let right = point_at(alloc, q, depth, y)?;
-    let domain = equal(alloc, q, depth, pushed_whole(push), right)?;
-    Term::new_lam(alloc, domain, body)
+    Term::function_of(alloc, equation(alloc, q, push, y, depth), body)
 }

@@ -20,10 +20,10 @@ pub fn equal(alloc: Global, q: Carrier, depth: u32, x: Point, y: Term) -> Result
     requires { IsNear x }
     ensures { Gives tree_of result (Ok (spec.equal q depth x (tree_of y))) }
 {
-    let head = Term::Fam(equality(q.level));
-    let head = Term::new_app(alloc, head, carrier_at(alloc, q, depth)?)?;
-    let head = Term::new_app(alloc, head, point_at(alloc, q, depth, x)?)?;
-    Term::new_app(alloc, head, y)
+    let head = Ok(Term::Fam(equality(q.level)));
+    let head = Term::application_of(alloc, head, carrier_at(alloc, q, depth));
+    let head = Term::application_of(alloc, head, point_at(alloc, q, depth, x));
+    Term::application_of(alloc, head, Ok(y))
 }
 
 /// `\z. Eq.l (D p) x z -> Empty`, at a depth.
@@ -32,9 +32,9 @@ fn unequal_to(alloc: Global, q: Carrier, depth: u32, x: Point) -> Result<Term, S
     requires depth { depth ≤ 1000000 }
     ensures { Gives tree_of result (Ok (spec.unequal_to q depth x)) }
 {
-    let equal = equal(alloc, q, depth + 1, x, Term::Var(0))?;
-    let body = Term::new_pi(alloc, equal, Term::Fam(EMPTY))?;
-    Term::new_lam(alloc, carrier_at(alloc, q, depth)?, body)
+    let equal = equal(alloc, q, depth + 1, x, Term::Var(0));
+    let body = Term::product_of(alloc, equal, Ok(Term::Fam(EMPTY)));
+    Term::function_of(alloc, carrier_at(alloc, q, depth), body)
 }
 
 /// That x is not y, at a depth.
@@ -55,9 +55,9 @@ pub fn no_part(alloc: Global, q: Carrier, depth: u32, x: Point, y: Point) -> Res
     requires depth { depth ≤ 1000000 }
     ensures { Gives tree_of result (Ok (spec.no_part q depth x y)) }
 {
-    let head = applied_to_run(alloc, Term::Const(q.direct), depth, 0, q.params)?;
-    let head = Term::new_app(alloc, head, unequal_to(alloc, q, depth, x)?)?;
-    Term::new_app(alloc, head, point_at(alloc, q, depth, y)?)
+    let head = applied_to_run(alloc, Term::Const(q.direct), depth, 0, q.params);
+    let head = Term::application_of(alloc, head, unequal_to(alloc, q, depth, x));
+    Term::application_of(alloc, head, point_at(alloc, q, depth, y))
 }
 
 /// That x is neither y nor a part of y, at a depth.

@@ -1,10 +1,12 @@
 -- What course-of-values recursion keeps of the recursive arguments of a constructor: a component for each, and their tuple.
 -- The motive P comes after the parameters, whose levels begin with 0.
-use Rattle.std.specs.Prelude.{ℕ, suc, ◌+◌, ◌-◌, nat_le, if◌then◌else◌, List, [], ◌∷◌}
+use Rattle.std.specs.Prelude.{ℕ, suc, ◌+◌, ◌-◌, nat_le, if◌then◌else◌, List, [], ◌∷◌, Result, Ok}
 use Rattle.theory.specs.Terms.{Term, Sort, Pi, Lam, App, Const, Fam, Con}
 use Rattle.theory.specs.Telescopes.{applied}
 use Rattle.theory.specs.Prelude.{unit_type, pair_type}
+use Rattle.core_terms.specs.Answered.{of_two}
 use Rattle.core_terms.specs.Levels.{variable, run, place}
+use Rattle.core_terms.specs.declared.stop.Stop.{Stop}
 use Rattle.core_sig.specs.ByLevels.{applied_to_targets}
 use Rattle.core_sig.specs.Shapes.{ArgumentShape, by_kind}
 use Rattle.case_below_gen.specs.declared.components.Course.{Course}
@@ -18,6 +20,10 @@ pair_of m A B = App (App (Fam (pair_type m)) A) B
 -- pair.m A B a b
 abbrev pub pair_with : ℕ → Term → Term → Term → Term → Term
 pair_with m A B a b = App (App (App (App (Con (pair_type m) 0) A) B) a) b
+
+-- the same of four answers, or the first refusal among them
+abbrev pub pair_with_answers : ℕ → Result Term Stop → Result Term Stop → Result Term Stop → Result Term Stop → Result Term Stop
+pair_with_answers m A B a b = of_two App (of_two App (of_two App (of_two App (Ok (Con (pair_type m) 0)) A) B) a) b
 
 -- D!below.m p P
 abbrev pub below_at : (q : Course) (depth : ℕ) → Term

@@ -1,23 +1,26 @@
 ghost use Rattle.std.specs.Prelude.{◌≡◌, ◌≤◌, ◌<◌, ◌+◌, IfOk, length, map};
 ghost use Rattle.core_terms.specs.Answers.{Gives};
 ghost use Rattle.core_terms.specs.Meanings.{tree_of};
-ghost use Rattle.core_sig.specs.Shapes.{HaveFewArguments, IsFew, constructor_shape, shape_of};
+ghost use Rattle.core_terms.specs.Levels.{variable};
+ghost use Rattle.core_sig.specs.Shapes.{argument_shape, HaveFewArguments, IsFew, constructor_shape, shape_of};
 ghost use Rattle.theory.specs.Families as pure;
 ghost use Rattle.theory.specs.Signatures.{FamilyOf, IsEntryAt, IsPrefix, Signature};
 ghost use Rattle.theory.specs.Prelude.{prelude};
 ghost use Rattle.theory.specs.SignatureScopes.{IsFamilyNumber, IsScopedSignature};
+ghost use Rattle.theory.specs.Terms as tree;
 ghost use Rattle.theory.specs.Terms.{top};
 ghost use Rattle.core_terms.specs.Bounds.{most_height};
+ghost use Rattle.case_below_gen.specs.Components.{below_at, tuple};
 ghost use Rattle.case_below_gen.specs.CourseEntries as spec;
 ghost use Rattle.core_sig.specs.ScopedDrafts.{IsScopedDraft};
 ghost use Rattle.core_sig.specs.Drafts.{draft_of};
 
 use crate::binding::{at_scrutinee, scrutinee_over};
-use crate::components::{Course, Ending, below_at, components_over, pair_with, tuple};
-use crate::courses::{at_constructor, course_of, eliminator_at, only_name};
+use crate::components::{Course, Ending, below_at, components_over, pair_with_answers, tuple};
+use crate::courses::{at_constructor, course_of, drafted_of, eliminator_at, only_name};
 use crate::steps::{aux_goal, step_over};
 use core_sig::{
-    Constructor, Draft, Entry, Family, Signature, arguments_over, drafted, generated_name, is_few,
+    Constructor, Draft, Entry, Family, Signature, arguments_over, generated_name, is_few,
     recursive_count,
 };
 use core_terms::{Binder, Stop, Term, variable};
@@ -47,9 +50,9 @@ fn aux_of_family(alloc: Global, base: u32, fam: u32, f: &Family, m: u8) -> Resul
     let name = generated_name(alloc, &f.name, b"!aux.", m)?;
     let below = generated_name(alloc, &f.name, b"!below.", m)?;
     let names = only_name(alloc, below)?;
-    let ty = aux_type(alloc, fam, f, m, base)?;
-    let body = aux_term(alloc, fam, f, m, base)?;
-    drafted(name, base, names, ty, body)
+    let ty = aux_type(alloc, fam, f, m, base);
+    let body = aux_term(alloc, fam, f, m, base);
+    drafted_of(name, base, names, ty, body)
 }
 
 fn aux_type(alloc: Global, fam: u32, f: &Family, m: u8, below: u32) -> Result<Term, Stop>
@@ -70,9 +73,9 @@ fn aux_term(alloc: Global, fam: u32, f: &Family, m: u8, below: u32) -> Result<Te
     let start = q.params + 2;
     let inside = start + q.indices + 1;
     let goal = aux_goal(alloc, q, inside + q.indices + 1, inside)?;
-    let motive = scrutinee_over(alloc, Binder::Function, fam, f, inside, goal)?;
-    let head = eliminator_at(alloc, fam, m, q.params, inside)?;
-    let head = Term::new_app(alloc, head, motive)?;
+    let motive = scrutinee_over(alloc, Binder::Function, fam, f, inside, goal);
+    let head = eliminator_at(alloc, fam, m, q.params, inside);
+    let head = Term::application_of(alloc, head, motive)?;
     let head = applied_to_aux_methods(alloc, fam, q, inside, 0, head, f.cons.as_slice())?;
     let end = at_scrutinee(alloc, inside, start, q.indices, head)?;
     step_over(alloc, Binder::Function, fam, f, q, end)
@@ -97,8 +100,8 @@ fn applied_to_aux_methods(
     match cons {
         [] => Ok(head),
         [con, rest @ ..] => {
-            let method = aux_method(alloc, fam, q, depth, number, con)?;
-            let head = Term::new_app(alloc, head, method)?;
+            let method = aux_method(alloc, fam, q, depth, number, con);
+            let head = Term::application_of(alloc, Ok(head), method)?;
             applied_to_aux_methods(alloc, fam, q, depth, number + 1, head, rest)
         }
     }
@@ -146,18 +149,55 @@ fn aux_pair(
     ensures { Gives tree_of result (Ok (spec.aux_pair fam q number first depth hypothesis (constructor_shape con.now))) }
 {
     let args = con.args.as_slice();
-    let p = q.params;
-    let motive = variable(depth, p);
-    let motive = at_constructor(alloc, fam, p, number, first, depth, motive, con)?;
+    let motive = variable(depth, q.params);
+    let motive = at_constructor(alloc, fam, q.params, number, first, depth, motive, con);
+    let below = below_at_constructor(alloc, fam, q, number, first, depth, con);
+    let step = aux_step(alloc, fam, q, number, first, depth, hypothesis, con);
+    let parts = tuple(alloc, q, first, 0, depth, hypothesis, args);
+    pair_with_answers(alloc, q.m, motive, below, step, parts)
+}
+
+/// `D!below.m p P` at the targets of constructor `number` and at the constructor, at a depth.
+fn below_at_constructor(
+    alloc: Global,
+    fam: u32,
+    q: Course,
+    number: u32,
+    first: u32,
+    depth: u32,
+    con: &Constructor,
+) -> Result<Term, Stop>
+    requires params { q.params ≤ most_height }
+    requires first { first ≤ 20000 }
+    requires few { length con.now.args ≤ most_height }
+    requires depth { depth ≤ 100000 }
+    ensures { Gives tree_of result (Ok (spec.at_constructor fam q.params number first depth (below_at q depth) (constructor_shape con.now))) }
+{
     let below = below_at(alloc, q, depth)?;
-    let below = at_constructor(alloc, fam, p, number, first, depth, below, con)?;
-    let step = variable(depth, p + 1);
-    let step = at_constructor(alloc, fam, p, number, first, depth, step, con)?;
-    let step = Term::new_app(
-        alloc,
-        step,
-        tuple(alloc, q, first, 0, depth, hypothesis, args)?,
-    )?;
-    let parts = tuple(alloc, q, first, 0, depth, hypothesis, args)?;
-    pair_with(alloc, q.m, motive, below, step, parts)
+    at_constructor(alloc, fam, q.params, number, first, depth, below, con)
+}
+
+/// The step at constructor `number` with the tuple of the hypotheses.
+fn aux_step(
+    alloc: Global,
+    fam: u32,
+    q: Course,
+    number: u32,
+    first: u32,
+    depth: u32,
+    hypothesis: u32,
+    con: &Constructor,
+) -> Result<Term, Stop>
+    requires params { q.params ≤ most_height }
+    requires first { first ≤ 20000 }
+    requires few { length con.now.args ≤ most_height }
+    requires depth { depth ≤ 100000 }
+    requires hypothesis { hypothesis ≤ 100000 }
+    ensures { Gives tree_of result (Ok (tree.App (spec.at_constructor fam q.params number first depth (variable depth (q.params + 1)) (constructor_shape con.now)) (tuple q first 0 depth hypothesis (map argument_shape con.now.args)))) }
+{
+    let step = variable(depth, q.params + 1);
+    let step = at_constructor(alloc, fam, q.params, number, first, depth, step, con);
+    let args = con.args.as_slice();
+    let parts = tuple(alloc, q, first, 0, depth, hypothesis, args);
+    Term::application_of(alloc, step, parts)
 }

@@ -12,14 +12,14 @@ ghost use Rattle.case_below_gen.specs.CourseEntries as spec;
 ghost use Rattle.core_sig.specs.ScopedDrafts.{IsScopedDraft};
 ghost use Rattle.core_sig.specs.Drafts.{draft_of};
 
-use crate::binding::{at_scrutinee, closed_over, scrutinee_over};
+use crate::binding::{at_scrutinee, bound_of, closed_over, scrutinee_over};
 use crate::components::{Course, Ending, components_over, tuple_type};
-use crate::courses::{course_of, eliminator_at};
+use crate::courses::{course_of, drafted_of, eliminator_at};
 use core_sig::{
-    Constructor, Draft, Entry, Family, Signature, arguments_over, drafted, generated_name, is_few,
+    Constructor, Draft, Entry, Family, Signature, arguments_over, generated_name, is_few,
     motive_type, recursive_count,
 };
-use core_terms::{Binder, Items, Stop, Term, bind};
+use core_terms::{Binder, Items, Stop, Term};
 use std::alloc::Global;
 
 /// The entry `D!below.m` for family number `fam`: the motive into `Type m` at each strict part of a term. It mentions no generated
@@ -44,9 +44,9 @@ fn below_of_family(alloc: Global, base: u32, fam: u32, f: &Family, m: u8) -> Res
         return Err(Stop::Deep);
     }
     let name = generated_name(alloc, &f.name, b"!below.", m)?;
-    let ty = below_over(alloc, Binder::Product, fam, f, m, Term::Sort(m))?;
-    let body = below_term(alloc, fam, f, m)?;
-    drafted(name, base, Items::new(alloc), ty, body)
+    let ty = below_over(alloc, Binder::Product, fam, f, m, Term::Sort(m));
+    let body = below_term(alloc, fam, f, m);
+    drafted_of(name, base, Items::new(alloc), ty, body)
 }
 
 fn below_term(alloc: Global, fam: u32, f: &Family, m: u8) -> Result<Term, Stop>
@@ -56,9 +56,9 @@ fn below_term(alloc: Global, fam: u32, f: &Family, m: u8) -> Result<Term, Stop>
 {
     let q = course_of(f, m, 0);
     let inside = q.params + 1 + q.indices + 1;
-    let head = eliminator_at(alloc, fam, m + 1, q.params, inside)?;
-    let motive = scrutinee_over(alloc, Binder::Function, fam, f, inside, Term::Sort(m))?;
-    let head = Term::new_app(alloc, head, motive)?;
+    let head = eliminator_at(alloc, fam, m + 1, q.params, inside);
+    let motive = scrutinee_over(alloc, Binder::Function, fam, f, inside, Term::Sort(m));
+    let head = Term::application_of(alloc, head, motive)?;
     let head = applied_to_below_methods(alloc, q, inside, 0, head, f.cons.as_slice())?;
     let end = at_scrutinee(alloc, inside, q.params + 1, q.indices, head)?;
     below_over(alloc, Binder::Function, fam, f, m, end)
@@ -78,9 +78,9 @@ fn below_over(
 {
     let params = f.params.as_slice();
     let count = params.len() as u32;
-    let end = scrutinee_over(alloc, binder, fam, f, count + 1, end)?;
-    let motive = motive_type(alloc, fam, f, m, count)?;
-    let end = bind(alloc, binder, motive, end)?;
+    let end = scrutinee_over(alloc, binder, fam, f, count + 1, end);
+    let motive = motive_type(alloc, fam, f, m, count);
+    let end = bound_of(alloc, binder, motive, end)?;
     closed_over(alloc, binder, params, end)
 }
 
@@ -102,8 +102,8 @@ fn applied_to_below_methods(
     match cons {
         [] => Ok(head),
         [con, rest @ ..] => {
-            let method = below_method(alloc, q, depth, con)?;
-            let head = Term::new_app(alloc, head, method)?;
+            let method = below_method(alloc, q, depth, con);
+            let head = Term::application_of(alloc, Ok(head), method)?;
             applied_to_below_methods(alloc, q, depth, number + 1, head, rest)
         }
     }

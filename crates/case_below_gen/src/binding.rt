@@ -1,5 +1,7 @@
 ghost use Rattle.std.specs.Prelude.{◌≡◌, ◌≤◌, ◌+◌};
+ghost use Rattle.core_terms.specs.Answered.{of_two, shown};
 ghost use Rattle.core_terms.specs.Answers.{Gives};
+ghost use Rattle.core_terms.specs.Levels as levels;
 ghost use Rattle.core_terms.specs.Meanings.{tree_of, tele_of};
 ghost use Rattle.core_sig.specs.Shapes.{shape_of};
 ghost use Rattle.case_below_gen.specs.CaseEntries as spec;
@@ -10,6 +12,21 @@ use core_terms::{
     Binder, Stop, Term, applied_to_run, bind, copy_tele, functions, products, variable,
 };
 use std::alloc::Global;
+
+/// A product or a function of two answers. Its height is not tested.
+pub fn bound_of(
+    alloc: Global,
+    binder: Binder,
+    domain: Result<Term, Stop>,
+    body: Result<Term, Stop>,
+) -> Result<Term, Stop>
+    ensures { Gives tree_of result (of_two (levels.bind binder) (shown domain) (shown body)) }
+{
+    match binder {
+        Binder::Product => Term::product_of(alloc, domain, body),
+        Binder::Function => Term::function_of(alloc, domain, body),
+    }
+}
 
 /// Binds a telescope around `end`.
 pub fn closed_over(alloc: Global, binder: Binder, tele: &[Term], end: Term) -> Result<Term, Stop>

@@ -5,8 +5,9 @@ ghost use Rattle.core_terms.specs.Meanings.{tree_of};
 ghost use Rattle.core_sig.specs.Shapes.{HaveFewArguments, constructor_shape};
 ghost use Rattle.case_below_gen.specs.CaseEntries as spec;
 
+use crate::binding::bound_of;
 use core_sig::{Constructor, Motive, arguments_over, conclusion, hypotheses_over, recursive_count};
-use core_terms::{Binder, Stop, Term, applied_to_run, bind, variable};
+use core_terms::{Binder, Stop, Term, applied_to_run, variable};
 use std::alloc::Global;
 
 /// The type of the method without hypotheses for constructor `number`, at a depth.
@@ -58,9 +59,9 @@ pub fn branches_over(
     match cons {
         [] => Ok(end),
         [con, rest @ ..] => {
-            let branch = branch_type(alloc, fam, motive, number, depth, con)?;
-            let rest = branches_over(alloc, binder, fam, motive, number + 1, depth + 1, rest, end)?;
-            bind(alloc, binder, branch, rest)
+            let branch = branch_type(alloc, fam, motive, number, depth, con);
+            let rest = branches_over(alloc, binder, fam, motive, number + 1, depth + 1, rest, end);
+            bound_of(alloc, binder, branch, rest)
         }
     }
 }
@@ -114,8 +115,8 @@ pub fn applied_to_droppings(
     match cons {
         [] => Ok(head),
         [con, rest @ ..] => {
-            let argument = dropping(alloc, motive, method, depth, con)?;
-            let head = Term::new_app(alloc, head, argument)?;
+            let argument = dropping(alloc, motive, method, depth, con);
+            let head = Term::application_of(alloc, Ok(head), argument)?;
             applied_to_droppings(alloc, motive, method + 1, depth, head, rest)
         }
     }

@@ -10,12 +10,11 @@ ghost use Rattle.case_below_gen.specs.CaseEntries as spec;
 ghost use Rattle.core_sig.specs.ScopedDrafts.{IsScopedDraft};
 ghost use Rattle.core_sig.specs.Drafts.{draft_of};
 
-use crate::binding::{at_scrutinee, closed_over, scrutinee_over};
+use crate::binding::{at_scrutinee, bound_of, closed_over, scrutinee_over};
 use crate::branches::{applied_to_droppings, branches_over};
-use core_sig::{
-    Draft, Entry, Family, Motive, Signature, drafted, generated_name, is_few, motive_type,
-};
-use core_terms::{Binder, Items, Stop, Term, applied_to_run, bind, variable};
+use crate::courses::drafted_of;
+use core_sig::{Draft, Entry, Family, Motive, Signature, generated_name, is_few, motive_type};
+use core_terms::{Binder, Items, Stop, Term, applied_to_run, variable};
 use std::alloc::Global;
 
 /// The entry `D!case.m` for family number `fam`: case analysis into `Type m`, the eliminator without hypotheses. It mentions no
@@ -40,9 +39,9 @@ fn case_of_family(alloc: Global, base: u32, fam: u32, f: &Family, m: u8) -> Resu
         return Err(Stop::Deep);
     }
     let name = generated_name(alloc, &f.name, b"!case.", m)?;
-    let ty = case_type(alloc, fam, f, m)?;
-    let body = case_term(alloc, fam, f, m)?;
-    drafted(name, base, Items::new(alloc), ty, body)
+    let ty = case_type(alloc, fam, f, m);
+    let body = case_term(alloc, fam, f, m);
+    drafted_of(name, base, Items::new(alloc), ty, body)
 }
 
 /// The eliminator's type without hypotheses.
@@ -68,8 +67,8 @@ fn case_term(alloc: Global, fam: u32, f: &Family, m: u8) -> Result<Term, Stop>
     let count = f.indices.as_slice().len() as u32;
     let depth = params + 1 + cons.len() as u32;
     let inside = depth + count + 1;
-    let head = applied_to_run(alloc, Term::Elim(fam, m), inside, 0, params)?;
-    let head = Term::new_app(alloc, head, variable(inside, params))?;
+    let head = applied_to_run(alloc, Term::Elim(fam, m), inside, 0, params);
+    let head = Term::application_of(alloc, head, Ok(variable(inside, params)))?;
     let motive = motive_of(f);
     let head = applied_to_droppings(alloc, motive, params + 1, inside, head, cons)?;
     let end = at_scrutinee(alloc, inside, depth, count, head)?;
@@ -92,9 +91,9 @@ fn case_over(
     let cons = f.cons.as_slice();
     let depth = params + 1 + cons.len() as u32;
     let end = scrutinee_over(alloc, binder, fam, f, depth, end)?;
-    let end = branches_over(alloc, binder, fam, motive_of(f), 0, params + 1, cons, end)?;
-    let motive = motive_type(alloc, fam, f, m, params)?;
-    let end = bind(alloc, binder, motive, end)?;
+    let end = branches_over(alloc, binder, fam, motive_of(f), 0, params + 1, cons, end);
+    let motive = motive_type(alloc, fam, f, m, params);
+    let end = bound_of(alloc, binder, motive, end)?;
     closed_over(alloc, binder, f.params.as_slice(), end)
 }
 

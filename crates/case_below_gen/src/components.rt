@@ -1,4 +1,5 @@
 ghost use Rattle.std.specs.Prelude.{◌≡◌, ◌≤◌, ◌+◌, ◌∷◌, [], length, map};
+ghost use Rattle.core_terms.specs.Answered.{of_two, shown};
 ghost use Rattle.core_terms.specs.Answers.{Gives};
 ghost use Rattle.core_terms.specs.Bounds.{most_height};
 ghost use Rattle.core_terms.specs.Meanings.{tree_of};
@@ -32,8 +33,20 @@ pub enum Ending {
 pub fn pair_of(alloc: Global, m: u8, first: Term, second: Term) -> Result<Term, Stop>
     ensures { Gives tree_of result (Ok (spec.pair_of m (tree_of first) (tree_of second))) }
 {
-    let head = Term::new_app(alloc, Term::Fam(pair(m)), first)?;
-    Term::new_app(alloc, head, second)
+    pair_of_answers(alloc, m, Ok(first), Ok(second))
+}
+
+/// `Pair.m A B` of two answers.
+pub fn pair_of_answers(
+    alloc: Global,
+    m: u8,
+    first: Result<Term, Stop>,
+    second: Result<Term, Stop>,
+) -> Result<Term, Stop>
+    ensures { Gives tree_of result (of_two (spec.pair_of m) (shown first) (shown second)) }
+{
+    let head = Term::application_of(alloc, Ok(Term::Fam(pair(m))), first);
+    Term::application_of(alloc, head, second)
 }
 
 /// `pair.m A B a b`.
@@ -47,10 +60,24 @@ pub fn pair_with(
 ) -> Result<Term, Stop>
     ensures { Gives tree_of result (Ok (spec.pair_with m (tree_of first) (tree_of second) (tree_of left) (tree_of right))) }
 {
-    let head = Term::new_app(alloc, Term::Con(pair(m), 0), first)?;
-    let head = Term::new_app(alloc, head, second)?;
-    let head = Term::new_app(alloc, head, left)?;
-    Term::new_app(alloc, head, right)
+    pair_with_answers(alloc, m, Ok(first), Ok(second), Ok(left), Ok(right))
+}
+
+/// `pair.m A B a b` of four answers.
+pub fn pair_with_answers(
+    alloc: Global,
+    m: u8,
+    first: Result<Term, Stop>,
+    second: Result<Term, Stop>,
+    left: Result<Term, Stop>,
+    right: Result<Term, Stop>,
+) -> Result<Term, Stop>
+    ensures { Gives tree_of result (spec.pair_with_answers m (shown first) (shown second) (shown left) (shown right)) }
+{
+    let head = Term::application_of(alloc, Ok(Term::Con(pair(m), 0)), first);
+    let head = Term::application_of(alloc, head, second);
+    let head = Term::application_of(alloc, head, left);
+    Term::application_of(alloc, head, right)
 }
 
 /// `D!below.m p P`.
@@ -94,9 +121,9 @@ fn at_argument(
     requires depth { depth ≤ 1000000 }
     ensures { Gives tree_of result (Ok (spec.at_argument runs.now size depth (tree_of head) at.argument at.start indices (tree_of t.now))) }
 {
-    let head = applied_to_targets(alloc, runs, size, depth, head, indices, t)?;
-    let argument = at_inner(alloc, depth, at.argument, at.start)?;
-    Term::new_app(alloc, head, argument)
+    let head = applied_to_targets(alloc, runs, size, depth, head, indices, t);
+    let argument = at_inner(alloc, depth, at.argument, at.start);
+    Term::application_of(alloc, head, argument)
 }
 
 fn behind_inner(
@@ -117,16 +144,16 @@ fn behind_inner(
         Ending::Level => Ok(Term::Sort(q.m)),
         Ending::Beside => {
             let motive = variable(depth, q.params);
-            let first = at_argument(alloc, runs, size, depth, motive, at, q.indices, t)?;
-            let hypothesis = at_inner(alloc, depth, at.hypothesis, at.start)?;
-            pair_of(alloc, q.m, first, hypothesis)
+            let first = at_argument(alloc, runs, size, depth, motive, at, q.indices, t);
+            let hypothesis = at_inner(alloc, depth, at.hypothesis, at.start);
+            pair_of_answers(alloc, q.m, first, hypothesis)
         }
         Ending::Folded => {
-            let motive = variable(depth, q.params);
-            let first = at_argument(alloc, runs, size, depth, motive, at, q.indices, t)?;
             let below = below_at(alloc, q, depth)?;
-            let second = at_argument(alloc, runs, size, depth, below, at, q.indices, t)?;
-            pair_of(alloc, q.m, first, second)
+            let motive = variable(depth, q.params);
+            let first = at_argument(alloc, runs, size, depth, motive, at, q.indices, t);
+            let second = at_argument(alloc, runs, size, depth, below, at, q.indices, t);
+            pair_of_answers(alloc, q.m, first, second)
         }
     }
 }
@@ -149,7 +176,7 @@ fn component_from(
 {
     match ty {
         Term::Pi(domain, codomain) if count > 0 => {
-            let domain = place(alloc, runs, size, depth, domain)?;
+            let domain = place(alloc, runs, size, depth, domain);
             let rest = component_from(
                 alloc,
                 e,
@@ -160,8 +187,8 @@ fn component_from(
                 at,
                 count - 1,
                 codomain,
-            )?;
-            Term::new_pi(alloc, domain, rest)
+            );
+            Term::product_of(alloc, domain, rest)
         }
         _ => behind_inner(alloc, e, q, runs, size, depth, at, ty),
     }
@@ -220,9 +247,9 @@ pub fn components_over(
         [arg, rest @ ..] => match arg.kind {
             ArgKind::Plain => components_over(alloc, e, q, first, at + 1, depth, rest, end),
             ArgKind::Recursive(count) => {
-                let ty = component(alloc, e, q, first, at, depth, 0, count, &arg.ty)?;
-                let rest = components_over(alloc, e, q, first, at + 1, depth + 1, rest, end)?;
-                Term::new_lam(alloc, ty, rest)
+                let ty = component(alloc, e, q, first, at, depth, 0, count, &arg.ty);
+                let rest = components_over(alloc, e, q, first, at + 1, depth + 1, rest, end);
+                Term::function_of(alloc, ty, rest)
             }
         },
     }
@@ -251,9 +278,9 @@ pub fn tuple_type(
         [arg, rest @ ..] => match arg.kind {
             ArgKind::Plain => tuple_type(alloc, e, q, first, at + 1, depth, hypothesis, rest),
             ArgKind::Recursive(count) => {
-                let ty = component(alloc, e, q, first, at, depth, hypothesis, count, &arg.ty)?;
-                let rest = tuple_type(alloc, e, q, first, at + 1, depth, hypothesis + 1, rest)?;
-                pair_of(alloc, q.m, ty, rest)
+                let ty = component(alloc, e, q, first, at, depth, hypothesis, count, &arg.ty);
+                let rest = tuple_type(alloc, e, q, first, at + 1, depth, hypothesis + 1, rest);
+                pair_of_answers(alloc, q.m, ty, rest)
             }
         },
     }
@@ -282,10 +309,11 @@ pub fn tuple(
             ArgKind::Plain => tuple(alloc, q, first, at + 1, depth, hypothesis, rest),
             ArgKind::Recursive(count) => {
                 let e = Ending::Folded;
-                let ty = component(alloc, e, q, first, at, depth, hypothesis, count, &arg.ty)?;
-                let behind = tuple_type(alloc, e, q, first, at + 1, depth, hypothesis + 1, rest)?;
-                let others = tuple(alloc, q, first, at + 1, depth, hypothesis + 1, rest)?;
-                pair_with(alloc, q.m, ty, behind, variable(depth, hypothesis), others)
+                let ty = component(alloc, e, q, first, at, depth, hypothesis, count, &arg.ty);
+                let behind = tuple_type(alloc, e, q, first, at + 1, depth, hypothesis + 1, rest);
+                let value = Ok(variable(depth, hypothesis));
+                let others = tuple(alloc, q, first, at + 1, depth, hypothesis + 1, rest);
+                pair_with_answers(alloc, q.m, ty, behind, value, others)
             }
         },
     }

@@ -1,14 +1,17 @@
 ghost use Rattle.std.specs.Prelude.{◌≡◌, ◌≤◌, ◌+◌, ◌∷◌, [], length, map, IfOk, OnErr};
-ghost use Rattle.core_terms.specs.Answers.{Gives};
+ghost use Rattle.core_terms.specs.Answered.{shown};
+ghost use Rattle.core_terms.specs.Answers.{Gives, and_then};
 ghost use Rattle.core_terms.specs.Bounds.{most_height};
 ghost use Rattle.core_terms.specs.Meanings.{tree_of};
 ghost use Rattle.core_terms.specs.declared.stop.Stop.TheVariants.{Memory};
+ghost use Rattle.core_sig.specs.Drafts as drafts;
+ghost use Rattle.core_sig.specs.Drafts.{draft_of};
 ghost use Rattle.core_sig.specs.Shapes.{constructor_shape, shape_of};
 ghost use Rattle.case_below_gen.specs.CourseEntries as spec;
 ghost use Rattle.case_below_gen.specs.Projections.{HasFewBinders};
 
 use crate::components::Course;
-use core_sig::{Constructor, Family};
+use core_sig::{Constructor, Draft, Family, drafted};
 use core_terms::{Items, Name, Stop, Term, applied_to_places, applied_to_run};
 use std::alloc::Global;
 
@@ -52,10 +55,23 @@ pub fn at_constructor(
     let count = con.args.as_slice().len() as u32;
     let runs = [(0, params), (first, count)];
     let targets = con.targets.as_slice();
-    let head = applied_to_places(alloc, head, &runs, params + count, depth, targets)?;
     let scrutinee = applied_to_run(alloc, Term::Con(fam, number), depth, 0, params)?;
-    let scrutinee = applied_to_run(alloc, scrutinee, depth, first, count)?;
-    Term::new_app(alloc, head, scrutinee)
+    let scrutinee = applied_to_run(alloc, scrutinee, depth, first, count);
+    let head = applied_to_places(alloc, head, &runs, params + count, depth, targets);
+    Term::application_of(alloc, head, scrutinee)
+}
+
+/// A definition over `base` entries, of answers for its type and its term, or Deep where one of the two is too high.
+pub fn drafted_of(
+    name: Name,
+    base: u32,
+    names: Items<Name>,
+    ty: Result<Term, Stop>,
+    body: Result<Term, Stop>,
+) -> Result<Draft, Stop>
+    ensures { Gives draft_of result (and_then (shown ty) (λ t. and_then (shown body) (λ u. drafts.drafted name base names t u))) }
+{
+    drafted(name, base, names, ty?, body?)
 }
 
 /// A list of one name.

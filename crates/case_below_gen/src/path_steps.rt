@@ -1,63 +1,99 @@
 ghost use Rattle.std.specs.Prelude.{◌≡◌, ◌≤◌, ◌<◌, ◌+◌, length, map};
 ghost use Rattle.core_terms.specs.Answers.{Gives};
+ghost use Rattle.core_terms.specs.Levels.{variable};
 ghost use Rattle.core_terms.specs.Meanings.{tree_of};
 ghost use Rattle.core_sig.specs.Shapes.{argument_shape};
 ghost use Rattle.theory.specs.Terms as tree;
 ghost use Rattle.core_terms.specs.Bounds.{most_height};
+ghost use Rattle.case_below_gen.specs.Components as components;
 ghost use Rattle.case_below_gen.specs.Components.{pair_of as pair_type};
+ghost use Rattle.case_below_gen.specs.declared.components.Ending.TheVariants.{Folded};
 ghost use Rattle.case_below_gen.specs.PathSteps as spec;
 ghost use Rattle.case_below_gen.specs.Projections.{side_variable};
 
-use crate::components::{Course, Ending, below_at, component, pair_of, tuple_type};
+use crate::components::{Course, Ending, below_at, component, pair_of_answers, tuple_type};
 use crate::sides::{Side, side_variable};
 use core_sig::{Arg, ArgKind, applied_to_targets, pair};
 use core_terms::{Stop, Term, applied_to_run, copy_whole, variable};
 use std::alloc::Global;
 
-/// Types of the parts of a pair, and the same one binder further in.
+/// The types of the parts of a pair.
 #[derive(Drop)]
 struct Types {
     first: Term,
     second: Term,
-    first_inside: Term,
-    second_inside: Term,
 }
 
 /// The motive of a projection: the type of the side that is taken.
-fn side_motive(alloc: Global, side: Side, m: u8, types: &Types) -> Result<Term, Stop>
-    ensures { Gives tree_of result (Ok (tree.Lam (pair_type m (tree_of types.now.first) (tree_of types.now.second)) (spec.side_of side (tree_of types.now.first_inside) (tree_of types.now.second_inside)))) }
+fn side_motive(
+    alloc: Global,
+    side: Side,
+    m: u8,
+    types: &Types,
+    inside: &Types,
+) -> Result<Term, Stop>
+    ensures { Gives tree_of result (Ok (tree.Lam (pair_type m (tree_of types.now.first) (tree_of types.now.second)) (spec.side_of side (tree_of inside.now.first) (tree_of inside.now.second)))) }
 {
-    let first = copy_whole(alloc, &types.first)?;
-    let second = copy_whole(alloc, &types.second)?;
-    let domain = pair_of(alloc, m, first, second)?;
+    let first = copy_whole(alloc, &types.first);
+    let second = copy_whole(alloc, &types.second);
+    let domain = pair_of_answers(alloc, m, first, second);
     let goal = match side {
-        Side::First => copy_whole(alloc, &types.first_inside)?,
-        Side::Second => copy_whole(alloc, &types.second_inside)?,
+        Side::First => copy_whole(alloc, &inside.first),
+        Side::Second => copy_whole(alloc, &inside.second),
     };
-    Term::new_lam(alloc, domain, goal)
+    Term::function_of(alloc, domain, goal)
 }
 
 /// The method of a projection.
-fn side_method(alloc: Global, side: Side, types: &Types) -> Result<Term, Stop>
-    ensures { Gives tree_of result (Ok (tree.Lam (tree_of types.now.first) (tree.Lam (tree_of types.now.second_inside) (side_variable side)))) }
+fn side_method(alloc: Global, side: Side, types: &Types, inside: &Types) -> Result<Term, Stop>
+    ensures { Gives tree_of result (Ok (tree.Lam (tree_of types.now.first) (tree.Lam (tree_of inside.now.second) (side_variable side)))) }
 {
-    let first = copy_whole(alloc, &types.first)?;
-    let second = copy_whole(alloc, &types.second_inside)?;
-    let inside = Term::new_lam(alloc, second, side_variable(side))?;
-    Term::new_lam(alloc, first, inside)
+    let second = copy_whole(alloc, &inside.second);
+    let taken = Term::function_of(alloc, second, Ok(side_variable(side)));
+    Term::function_of(alloc, copy_whole(alloc, &types.first), taken)
 }
 
-/// The first or the second of a pair.
-fn projected(alloc: Global, side: Side, m: u8, types: &Types, value: Term) -> Result<Term, Stop>
-    ensures { Gives tree_of result (Ok (spec.projected side m (tree_of types.now.first) (tree_of types.now.second) (tree_of types.now.first_inside) (tree_of types.now.second_inside) (tree_of value))) }
+/// The first or the second of a pair, where `inside` is `types` one binder further in.
+fn projected(
+    alloc: Global,
+    side: Side,
+    m: u8,
+    types: &Types,
+    inside: &Types,
+    value: Term,
+) -> Result<Term, Stop>
+    ensures { Gives tree_of result (Ok (spec.projected side m (tree_of types.now.first) (tree_of types.now.second) (tree_of inside.now.first) (tree_of inside.now.second) (tree_of value))) }
 {
-    let first = copy_whole(alloc, &types.first)?;
-    let second = copy_whole(alloc, &types.second)?;
-    let head = Term::new_app(alloc, Term::Elim(pair(m), m), first)?;
-    let head = Term::new_app(alloc, head, second)?;
-    let head = Term::new_app(alloc, head, side_motive(alloc, side, m, types)?)?;
-    let head = Term::new_app(alloc, head, side_method(alloc, side, types)?)?;
-    Term::new_app(alloc, head, value)
+    let head = Ok(Term::Elim(pair(m), m));
+    let head = Term::application_of(alloc, head, copy_whole(alloc, &types.first));
+    let head = Term::application_of(alloc, head, copy_whole(alloc, &types.second));
+    let head = Term::application_of(alloc, head, side_motive(alloc, side, m, types, inside));
+    let head = Term::application_of(alloc, head, side_method(alloc, side, types, inside));
+    Term::application_of(alloc, head, Ok(value))
+}
+
+/// The types of the component for argument `at` and of the tuple of those after it.
+fn component_types(
+    alloc: Global,
+    q: Course,
+    depth: u32,
+    at: u32,
+    count: u32,
+    ty: &Term,
+    rest: &[Arg],
+) -> Result<Types, Stop>
+    requires params { q.params ≤ most_height }
+    requires at { at + 1 + length rest.now ≤ most_height }
+    requires depth { depth ≤ 20000 }
+    ensures first { Gives (λ types. tree_of types.first) result (Ok (components.component Folded q (q.params + 1) at depth 0 count (tree_of ty.now))) }
+    ensures second { Gives (λ types. tree_of types.second) result (Ok (components.tuple_type Folded q (q.params + 1) (at + 1) depth 0 (map argument_shape rest.now))) }
+{
+    let e = Ending::Folded;
+    let start = q.params + 1;
+    Ok(Types {
+        first: component(alloc, e, q, start, at, depth, 0, count, ty)?,
+        second: tuple_type(alloc, e, q, start, at + 1, depth, 0, rest)?,
+    })
 }
 
 /// The component for argument `at`, or the tuple of those after it, of the tuple of the components from this argument on.
@@ -77,15 +113,9 @@ fn component_side(
     requires depth { depth ≤ 10000 }
     ensures { Gives tree_of result (Ok (spec.component_side side q depth at count (tree_of ty.now) (map argument_shape rest.now) (tree_of value))) }
 {
-    let e = Ending::Folded;
-    let first = q.params + 1;
-    let types = Types {
-        first: component(alloc, e, q, first, at, depth, 0, count, ty)?,
-        second: tuple_type(alloc, e, q, first, at + 1, depth, 0, rest)?,
-        first_inside: component(alloc, e, q, first, at, depth + 1, 0, count, ty)?,
-        second_inside: tuple_type(alloc, e, q, first, at + 1, depth + 1, 0, rest)?,
-    };
-    projected(alloc, side, q.m, &types, value)
+    let types = component_types(alloc, q, depth, at, count, ty, rest)?;
+    let inside = component_types(alloc, q, depth + 1, at, count, ty, rest)?;
+    projected(alloc, side, q.m, &types, &inside, value)
 }
 
 /// The component for argument `wanted`, of the tuple of those for the arguments from `at` on.
@@ -156,10 +186,27 @@ fn at_part(
     let first = q.params + 1;
     let runs = [(0, q.params), (first, to.at), (to.start, to.count)];
     let size = q.params + to.at + to.count;
-    let head = applied_to_targets(alloc, &runs, size, depth, head, q.indices, end)?;
+    let head = applied_to_targets(alloc, &runs, size, depth, head, q.indices, end);
     let argument = variable(depth, first + to.at);
-    let argument = applied_to_run(alloc, argument, depth, to.start, to.count)?;
-    Term::new_app(alloc, head, argument)
+    let argument = applied_to_run(alloc, argument, depth, to.start, to.count);
+    Term::application_of(alloc, head, argument)
+}
+
+/// The types of what a below value keeps for an argument with its inner arguments.
+fn part_types(alloc: Global, q: Course, depth: u32, to: Target, end: &Term) -> Result<Types, Stop>
+    requires params { q.params ≤ most_height }
+    requires at { to.at ≤ most_height }
+    requires start { to.start ≤ 10000 }
+    requires count { to.count ≤ most_height }
+    requires depth { depth ≤ 20000 }
+    ensures first { Gives (λ types. tree_of types.first) result (Ok (spec.at_part q depth to.at to.start to.count (tree_of end.now) (variable depth q.params))) }
+    ensures second { Gives (λ types. tree_of types.second) result (Ok (spec.at_part q depth to.at to.start to.count (tree_of end.now) (components.below_at q depth))) }
+{
+    let below = below_at(alloc, q, depth)?;
+    let second = at_part(alloc, q, depth, to, end, below)?;
+    let motive = variable(depth, q.params);
+    let first = at_part(alloc, q, depth, to, end, motive)?;
+    Ok(Types { first, second })
 }
 
 /// The first or the second of what `value` keeps for an argument with its inner arguments.
@@ -179,17 +226,9 @@ fn part_side(
     requires depth { depth < 20000 }
     ensures { Gives tree_of result (Ok (spec.part_side side q depth to.at to.start to.count (tree_of end.now) (tree_of value))) }
 {
-    let below = below_at(alloc, q, depth)?;
-    let below_inside = below_at(alloc, q, depth + 1)?;
-    let motive = variable(depth, q.params);
-    let motive_inside = variable(depth + 1, q.params);
-    let types = Types {
-        first: at_part(alloc, q, depth, to, end, motive)?,
-        second: at_part(alloc, q, depth, to, end, below)?,
-        first_inside: at_part(alloc, q, depth + 1, to, end, motive_inside)?,
-        second_inside: at_part(alloc, q, depth + 1, to, end, below_inside)?,
-    };
-    projected(alloc, side, q.m, &types, value)
+    let types = part_types(alloc, q, depth, to, end)?;
+    let inside = part_types(alloc, q, depth + 1, to, end)?;
+    projected(alloc, side, q.m, &types, &inside, value)
 }
 
 /// The step to argument `at`, with `count` inner arguments, whose type ends in `end`. The levels are those of the parameters, of

@@ -306,9 +306,9 @@ fn inst_moving(alloc: Global, values: Vec<Term>, moved: u32, t: &Term) -> Result
             Term::new_app(alloc, function, argument)
         }
         Term::App(function, argument) => {
-            let function = inst_under(alloc, values.as_slice(), function, 0)?;
-            let argument = inst_moving(alloc, values, moved, argument)?;
-            Term::new_app(alloc, function, argument)
+            let function = inst_under(alloc, values.as_slice(), function, 0);
+            let argument = inst_moving(alloc, values, moved, argument);
+            Term::application_of(alloc, function, argument)
         }
         _ => inst_under(alloc, values.as_slice(), t, 0),
     }
@@ -359,13 +359,22 @@ fn step_values(
     requires { length d.now.family.now.params ≤ length (spine_of (tree_of whole.now)) }
     ensures { Gives (λ v. tele_of v.items) result (Ok (spec.step_values (descent_of d.now) (tree_of whole.now) (tree_of below) (tele_of inner.items))) }
 {
+    let mut values = values_before(alloc, d, whole)?;
+    values.push(below)?;
+    with_all(values, inner)
+}
+
+/// The terms for the parameters, the motive and the arguments of `whole`.
+#[tactic(auto, using(crate::proofs::TermLists::joined_laws))]
+fn values_before(alloc: Global, d: &Descent, whole: &Term) -> Result<Vec<Term>, Stop>
+    requires { length d.now.family.now.params ≤ length (spine_of (tree_of whole.now)) }
+    ensures { Gives (λ v. tele_of v.items) result (Ok (take (length d.now.family.now.params) (spine_of (tree_of whole.now)) ++ tree_of d.now.motive.now ∷ drop (length d.now.family.now.params) (spine_of (tree_of whole.now)))) }
+{
     let spine = into_spine(alloc, copy_whole(alloc, whole)?)?;
     let params = d.family.params.as_slice().len();
     let mut values = copy_first(alloc, spine.as_slice(), params)?;
     values.push(copy_whole(alloc, d.motive)?)?;
-    let mut values = with_all(values, copy_behind(alloc, spine.as_slice(), params)?)?;
-    values.push(below)?;
-    with_all(values, inner)
+    with_all(values, copy_behind(alloc, spine.as_slice(), params)?)
 }
 
 /// The first `count` terms.

@@ -1,15 +1,16 @@
-ghost use Rattle.std.specs.Prelude.{◌≡◌, ◌≤◌, ◌<◌, ◌+◌, ◌∷◌, [], ◌↔◌, IsTrue, IfOk, OnErr, length};
+ghost use Rattle.std.specs.Prelude.{◌≡◌, ◌≤◌, ◌<◌, ◌+◌, ◌∷◌, [], ◌↔◌, IsTrue, IfOk, OnErr, codes, length};
 ghost use Rattle.core_terms.specs.Answers.{Gives};
 ghost use Rattle.core_terms.specs.Meanings.{tree_of};
 ghost use Rattle.core_terms.specs.declared.stop.Stop.TheVariants.{Memory};
 ghost use Rattle.core_sig.specs.Shapes.{shape_of};
 ghost use Rattle.theory.specs.Families as pure;
 ghost use Rattle.theory.specs.Signatures.{FamilyOf, IsEntryAt, IsPrefix, Signature};
-ghost use Rattle.theory.specs.Prelude.{prelude};
+ghost use Rattle.theory.specs.Prelude.{pair_type, prelude};
 ghost use Rattle.theory.specs.SignatureScopes.{IsFamilyNumber, IsScopedSignature};
 ghost use Rattle.theory.specs.Terms.{top};
 ghost use Rattle.theory.specs.Terms as tree;
 ghost use Rattle.core_terms.specs.Bounds.{most_height};
+ghost use Rattle.case_below_gen.specs.CaseEntries.{at_scrutinee};
 ghost use Rattle.case_below_gen.specs.CourseEntries.{aux_goal, course_of};
 ghost use Rattle.case_below_gen.specs.declared.sides.Side.TheVariants.{First, Second};
 ghost use Rattle.case_below_gen.specs.Projections as spec;
@@ -19,9 +20,9 @@ ghost use Rattle.core_sig.specs.Drafts.{draft_of, generated_name};
 
 use crate::binding::at_scrutinee;
 use crate::components::{Course, below_at};
-use crate::courses::course_of;
+use crate::courses::{course_of, drafted_of};
 use crate::steps::{aux_goal, step_over};
-use core_sig::{Draft, Entry, Family, Signature, drafted, generated_name, pair};
+use core_sig::{Draft, Entry, Family, Signature, generated_name, pair};
 use core_terms::{
     Binder, Items, MAX_HEIGHT, Name, Stop, Term, applied_to_run, number_of, variable,
 };
@@ -83,12 +84,10 @@ fn side_of_family(
         return Err(Stop::Deep);
     }
     let name = side_name(alloc, side, &f.name, m)?;
-    let below = generated_name(alloc, &f.name, b"!below.", m)?;
-    let aux = generated_name(alloc, &f.name, b"!aux.", m)?;
-    let names = two_names(alloc, below, aux)?;
-    let ty = side_entry_type(alloc, side, fam, f, m, base)?;
-    let body = side_entry_term(alloc, side, fam, f, m, base)?;
-    drafted(name, base, names, ty, body)
+    let names = names_below(alloc, &f.name, m)?;
+    let ty = side_entry_type(alloc, side, fam, f, m, base);
+    let body = side_entry_term(alloc, side, fam, f, m, base);
+    drafted_of(name, base, names, ty, body)
 }
 
 /// Whether a family has at most 2,000 parameters and indices.
@@ -110,14 +109,15 @@ fn side_name(alloc: Global, side: Side, family: &Name, m: u8) -> Result<Name, St
     }
 }
 
-/// A list of two names.
-fn two_names(alloc: Global, first: Name, second: Name) -> Result<Items<Name>, Stop>
-    ensures ok { IfOk result (λ names. names ≡ first ∷ second ∷ []) }
+/// The names `D!below.m` and `D!aux.m`.
+fn names_below(alloc: Global, family: &Name, m: u8) -> Result<Items<Name>, Stop>
+    requires { m < 100 }
+    ensures ok { IfOk result (λ names. names ≡ generated_name family.now (codes "!below.") m ∷ generated_name family.now (codes "!aux.") m ∷ []) }
     ensures memory { OnErr result (result ≡ Err Memory) }
 {
     let mut names = Items::new(alloc);
-    names.push(first)?;
-    names.push(second)?;
+    names.push(generated_name(alloc, family, b"!below.", m)?)?;
+    names.push(generated_name(alloc, family, b"!aux.", m)?)?;
     Ok(names)
 }
 
@@ -180,9 +180,9 @@ fn aux_at(alloc: Global, q: Course, aux: u32, depth: u32) -> Result<Term, Stop>
     requires { q.params ≤ most_height }
     ensures { Gives tree_of result (Ok (spec.aux_at q aux depth)) }
 {
-    let head = applied_to_run(alloc, Term::Const(aux), depth, 0, q.params)?;
-    let head = Term::new_app(alloc, head, variable(depth, q.params))?;
-    Term::new_app(alloc, head, variable(depth, q.params + 1))
+    let head = applied_to_run(alloc, Term::Const(aux), depth, 0, q.params);
+    let head = Term::application_of(alloc, head, Ok(variable(depth, q.params)));
+    Term::application_of(alloc, head, Ok(variable(depth, q.params + 1)))
 }
 
 /// The side of `D!aux.m` at the indices, whose levels begin with `start`, and at the scrutinee.
@@ -199,20 +199,34 @@ fn projection(
     requires depth { depth ≤ 1000000 }
     ensures { Gives tree_of result (Ok (spec.projection side q aux depth start)) }
 {
-    let head = Term::Elim(pair(q.m), q.m);
-    let head = Term::new_app(alloc, head, side_type(alloc, Side::First, q, depth, start)?)?;
-    let head = Term::new_app(
-        alloc,
-        head,
-        side_type(alloc, Side::Second, q, depth, start)?,
-    )?;
-    let motive = side_motive(alloc, side, q, depth, start)?;
-    let head = Term::new_app(alloc, head, motive)?;
-    let method = side_method(alloc, side, q, depth, start)?;
-    let head = Term::new_app(alloc, head, method)?;
-    let both = aux_at(alloc, q, aux, depth)?;
-    let both = at_scrutinee(alloc, depth, start, q.indices, both)?;
-    Term::new_app(alloc, head, both)
+    let head = eliminator_of_sides(alloc, q, depth, start);
+    let motive = side_motive(alloc, side, q, depth, start);
+    let head = Term::application_of(alloc, head, motive);
+    let method = side_method(alloc, side, q, depth, start);
+    let head = Term::application_of(alloc, head, method);
+    Term::application_of(alloc, head, both_sides(alloc, q, aux, depth, start))
+}
+
+/// `Pair.m!elim.m A B` at the types of the two sides.
+fn eliminator_of_sides(alloc: Global, q: Course, depth: u32, start: u32) -> Result<Term, Stop>
+    requires start { start + q.indices ≤ 1000000 }
+    ensures { Gives tree_of result (Ok (tree.App (tree.App (tree.Elim (pair_type q.m) q.m) (spec.side_type First q depth start)) (spec.side_type Second q depth start))) }
+{
+    let head = Ok(Term::Elim(pair(q.m), q.m));
+    let first = side_type(alloc, Side::First, q, depth, start);
+    let head = Term::application_of(alloc, head, first);
+    let second = side_type(alloc, Side::Second, q, depth, start);
+    Term::application_of(alloc, head, second)
+}
+
+/// `D!aux.m` at the indices, whose levels begin with `start`, and at the scrutinee.
+fn both_sides(alloc: Global, q: Course, aux: u32, depth: u32, start: u32) -> Result<Term, Stop>
+    requires params { q.params ≤ most_height }
+    requires start { start + q.indices ≤ 1000000 }
+    ensures { Gives tree_of result (Ok (at_scrutinee depth start q.indices (spec.aux_at q aux depth))) }
+{
+    let head = aux_at(alloc, q, aux, depth)?;
+    at_scrutinee(alloc, depth, start, q.indices, head)
 }
 
 fn side_motive(alloc: Global, side: Side, q: Course, depth: u32, start: u32) -> Result<Term, Stop>
@@ -220,8 +234,9 @@ fn side_motive(alloc: Global, side: Side, q: Course, depth: u32, start: u32) -> 
     requires depth { depth ≤ 1000000 }
     ensures { Gives tree_of result (Ok (tree.Lam (aux_goal q depth start) (spec.side_type side q (depth + 1) start))) }
 {
-    let domain = aux_goal(alloc, q, depth, start)?;
-    Term::new_lam(alloc, domain, side_type(alloc, side, q, depth + 1, start)?)
+    let domain = aux_goal(alloc, q, depth, start);
+    let goal = side_type(alloc, side, q, depth + 1, start);
+    Term::function_of(alloc, domain, goal)
 }
 
 fn side_method(alloc: Global, side: Side, q: Course, depth: u32, start: u32) -> Result<Term, Stop>
@@ -229,11 +244,8 @@ fn side_method(alloc: Global, side: Side, q: Course, depth: u32, start: u32) -> 
     requires depth { depth ≤ 1000000 }
     ensures { Gives tree_of result (Ok (tree.Lam (spec.side_type First q depth start) (tree.Lam (spec.side_type Second q (depth + 1) start) (spec.side_variable side)))) }
 {
-    let second = side_type(alloc, Side::Second, q, depth + 1, start)?;
-    let inside = Term::new_lam(alloc, second, side_variable(side))?;
-    Term::new_lam(
-        alloc,
-        side_type(alloc, Side::First, q, depth, start)?,
-        inside,
-    )
+    let second = side_type(alloc, Side::Second, q, depth + 1, start);
+    let inside = Term::function_of(alloc, second, Ok(side_variable(side)));
+    let first = side_type(alloc, Side::First, q, depth, start);
+    Term::function_of(alloc, first, inside)
 }

@@ -6,10 +6,10 @@ ghost use Rattle.core_sig.specs.Shapes.{shape_of};
 ghost use Rattle.case_below_gen.specs.CourseEntries as spec;
 ghost use Rattle.case_below_gen.specs.Projections.{HasFewBinders};
 
-use crate::binding::{at_scrutinee, closed_over, scrutinee_over};
-use crate::components::{Course, below_at, pair_of};
+use crate::binding::{at_scrutinee, bound_of, closed_over, scrutinee_over};
+use crate::components::{Course, below_at, pair_of_answers};
 use core_sig::Family;
-use core_terms::{Binder, Stop, Term, bind, variable};
+use core_terms::{Binder, Stop, Term, variable};
 use std::alloc::Global;
 
 /// Binds the parameters, the motive, the step, the indices and the scrutinee around `end`.
@@ -26,11 +26,11 @@ pub fn step_over(
     requires indices { q.indices ≤ most_height }
     ensures { Gives tree_of result (Ok (spec.step_over binder fam (shape_of f.now) q (tree_of end))) }
 {
-    let end = scrutinee_over(alloc, binder, fam, f, q.params + 2, end)?;
-    let step = step_type(alloc, fam, f, q, q.params + 1)?;
-    let end = bind(alloc, binder, step, end)?;
-    let motive = scrutinee_over(alloc, Binder::Product, fam, f, q.params, Term::Sort(q.m))?;
-    let end = bind(alloc, binder, motive, end)?;
+    let end = scrutinee_over(alloc, binder, fam, f, q.params + 2, end);
+    let step = step_type(alloc, fam, f, q, q.params + 1);
+    let end = bound_of(alloc, binder, step, end);
+    let motive = scrutinee_over(alloc, Binder::Product, fam, f, q.params, Term::Sort(q.m));
+    let end = bound_of(alloc, binder, motive, end)?;
     closed_over(alloc, binder, f.params.as_slice(), end)
 }
 
@@ -43,10 +43,10 @@ fn step_type(alloc: Global, fam: u32, f: &Family, q: Course, depth: u32) -> Resu
 {
     let inside = depth + q.indices + 1;
     let below = below_at(alloc, q, inside)?;
-    let below = at_scrutinee(alloc, inside, depth, q.indices, below)?;
+    let below = at_scrutinee(alloc, inside, depth, q.indices, below);
     let motive = variable(inside + 1, q.params);
-    let goal = at_scrutinee(alloc, inside + 1, depth, q.indices, motive)?;
-    let end = Term::new_pi(alloc, below, goal)?;
+    let goal = at_scrutinee(alloc, inside + 1, depth, q.indices, motive);
+    let end = Term::product_of(alloc, below, goal)?;
     scrutinee_over(alloc, Binder::Product, fam, f, depth, end)
 }
 
@@ -55,9 +55,9 @@ pub fn aux_goal(alloc: Global, q: Course, depth: u32, start: u32) -> Result<Term
     requires { start + q.indices ≤ 1000000 }
     ensures { Gives tree_of result (Ok (spec.aux_goal q depth start)) }
 {
-    let motive = variable(depth, q.params);
-    let first = at_scrutinee(alloc, depth, start, q.indices, motive)?;
     let below = below_at(alloc, q, depth)?;
-    let second = at_scrutinee(alloc, depth, start, q.indices, below)?;
-    pair_of(alloc, q.m, first, second)
+    let motive = variable(depth, q.params);
+    let first = at_scrutinee(alloc, depth, start, q.indices, motive);
+    let second = at_scrutinee(alloc, depth, start, q.indices, below);
+    pair_of_answers(alloc, q.m, first, second)
 }

@@ -45,26 +45,26 @@ pub fn in_signature(alloc: Global, sig: &Signature, plan: &Plan, t: &Term) -> Re
     ensures { Gives tree_of result (Ok (spec.in_signature sig.now (plan_of plan.now) (tree_of t.now))) }
 {
     match t {
-        Term::Pi(domain, codomain) => Term::new_pi(
+        Term::Pi(domain, codomain) => Term::product_of(
             alloc,
-            in_signature(alloc, sig, plan, domain)?,
-            in_signature(alloc, sig, plan, codomain)?,
+            in_signature(alloc, sig, plan, domain),
+            in_signature(alloc, sig, plan, codomain),
         ),
-        Term::Lam(domain, body) => Term::new_lam(
+        Term::Lam(domain, body) => Term::function_of(
             alloc,
-            in_signature(alloc, sig, plan, domain)?,
-            in_signature(alloc, sig, plan, body)?,
+            in_signature(alloc, sig, plan, domain),
+            in_signature(alloc, sig, plan, body),
         ),
-        Term::App(function, argument) => Term::new_app(
+        Term::App(function, argument) => Term::application_of(
             alloc,
-            in_signature(alloc, sig, plan, function)?,
-            in_signature(alloc, sig, plan, argument)?,
+            in_signature(alloc, sig, plan, function),
+            in_signature(alloc, sig, plan, argument),
         ),
-        Term::Let(ty, value, rest) => Term::new_let(
+        Term::Let(ty, value, rest) => Term::local_of(
             alloc,
-            in_signature(alloc, sig, plan, ty)?,
-            in_signature(alloc, sig, plan, value)?,
-            in_signature(alloc, sig, plan, rest)?,
+            in_signature(alloc, sig, plan, ty),
+            in_signature(alloc, sig, plan, value),
+            in_signature(alloc, sig, plan, rest),
         ),
         Term::Const(c) => Ok(Term::Const(own_number(alloc, sig, plan, *c)?)),
         Term::Var(_)

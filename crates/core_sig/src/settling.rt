@@ -122,26 +122,26 @@ fn settle_term(alloc: Global, sig: &Signature, draft: &Draft, t: &Term) -> Resul
     ensures { Gives tree_of result (Ok (renumbered (settled_number sig.now draft.now.base draft.now.names) (tree_of t.now))) }
 {
     match t {
-        Term::Pi(a, b) => Term::new_pi(
+        Term::Pi(a, b) => Term::product_of(
             alloc,
-            settle_term(alloc, sig, draft, a)?,
-            settle_term(alloc, sig, draft, b)?,
+            settle_term(alloc, sig, draft, a),
+            settle_term(alloc, sig, draft, b),
         ),
-        Term::Lam(a, b) => Term::new_lam(
+        Term::Lam(a, b) => Term::function_of(
             alloc,
-            settle_term(alloc, sig, draft, a)?,
-            settle_term(alloc, sig, draft, b)?,
+            settle_term(alloc, sig, draft, a),
+            settle_term(alloc, sig, draft, b),
         ),
-        Term::App(f, a) => Term::new_app(
+        Term::App(f, a) => Term::application_of(
             alloc,
-            settle_term(alloc, sig, draft, f)?,
-            settle_term(alloc, sig, draft, a)?,
+            settle_term(alloc, sig, draft, f),
+            settle_term(alloc, sig, draft, a),
         ),
-        Term::Let(a, t, b) => Term::new_let(
+        Term::Let(a, t, b) => Term::local_of(
             alloc,
-            settle_term(alloc, sig, draft, a)?,
-            settle_term(alloc, sig, draft, t)?,
-            settle_term(alloc, sig, draft, b)?,
+            settle_term(alloc, sig, draft, a),
+            settle_term(alloc, sig, draft, t),
+            settle_term(alloc, sig, draft, b),
         ),
         Term::Const(c) => Ok(Term::Const(settled_number(sig, draft, *c))),
         Term::Var(_)

@@ -22,26 +22,26 @@ pub fn copy_whole(alloc: Global, t: &Term) -> Result<Term, Stop>
     match t {
         Term::Var(n) => Ok(Term::Var(*n)),
         Term::Sort(i) => Ok(Term::Sort(*i)),
-        Term::Pi(domain, codomain) => Term::new_pi(
+        Term::Pi(domain, codomain) => Term::product_of(
             alloc,
-            copy_whole(alloc, domain)?,
-            copy_whole(alloc, codomain)?,
+            copy_whole(alloc, domain),
+            copy_whole(alloc, codomain),
         ),
-        Term::Lam(domain, body) => Term::new_lam(
+        Term::Lam(domain, body) => Term::function_of(
             alloc,
-            copy_whole(alloc, domain)?,
-            copy_whole(alloc, body)?,
+            copy_whole(alloc, domain),
+            copy_whole(alloc, body),
         ),
-        Term::App(function, argument) => Term::new_app(
+        Term::App(function, argument) => Term::application_of(
             alloc,
-            copy_whole(alloc, function)?,
-            copy_whole(alloc, argument)?,
+            copy_whole(alloc, function),
+            copy_whole(alloc, argument),
         ),
-        Term::Let(ty, value, rest) => Term::new_let(
+        Term::Let(ty, value, rest) => Term::local_of(
             alloc,
-            copy_whole(alloc, ty)?,
-            copy_whole(alloc, value)?,
-            copy_whole(alloc, rest)?,
+            copy_whole(alloc, ty),
+            copy_whole(alloc, value),
+            copy_whole(alloc, rest),
         ),
         Term::Const(c) => Ok(Term::Const(*c)),
         Term::Fam(f) => Ok(Term::Fam(*f)),

@@ -117,26 +117,26 @@ fn instance(alloc: Global, values: &[Term], t: &Term, under: u32) -> Result<Term
 {
     match t {
         Term::Var(n) => value(alloc, values, *n, under),
-        Term::Pi(domain, codomain) => Term::new_pi(
+        Term::Pi(domain, codomain) => Term::product_of(
             alloc,
-            instance(alloc, values, domain, under)?,
-            instance(alloc, values, codomain, under + 1)?,
+            instance(alloc, values, domain, under),
+            instance(alloc, values, codomain, under + 1),
         ),
-        Term::Lam(domain, body) => Term::new_lam(
+        Term::Lam(domain, body) => Term::function_of(
             alloc,
-            instance(alloc, values, domain, under)?,
-            instance(alloc, values, body, under + 1)?,
+            instance(alloc, values, domain, under),
+            instance(alloc, values, body, under + 1),
         ),
-        Term::App(function, argument) => Term::new_app(
+        Term::App(function, argument) => Term::application_of(
             alloc,
-            instance(alloc, values, function, under)?,
-            instance(alloc, values, argument, under)?,
+            instance(alloc, values, function, under),
+            instance(alloc, values, argument, under),
         ),
-        Term::Let(ty, bound, rest) => Term::new_let(
+        Term::Let(ty, bound, rest) => Term::local_of(
             alloc,
-            instance(alloc, values, ty, under)?,
-            instance(alloc, values, bound, under)?,
-            instance(alloc, values, rest, under + 1)?,
+            instance(alloc, values, ty, under),
+            instance(alloc, values, bound, under),
+            instance(alloc, values, rest, under + 1),
         ),
         Term::Sort(_)
         | Term::Const(_)

@@ -64,26 +64,26 @@ fn place_under(
 {
     match t {
         Term::Var(n) => Ok(Term::Var(place_var(runs, size, depth, under, *n))),
-        Term::Pi(domain, codomain) => Term::new_pi(
+        Term::Pi(domain, codomain) => Term::product_of(
             alloc,
-            place_under(alloc, runs, size, depth, under, domain)?,
-            place_under(alloc, runs, size, depth, under + 1, codomain)?,
+            place_under(alloc, runs, size, depth, under, domain),
+            place_under(alloc, runs, size, depth, under + 1, codomain),
         ),
-        Term::Lam(domain, body) => Term::new_lam(
+        Term::Lam(domain, body) => Term::function_of(
             alloc,
-            place_under(alloc, runs, size, depth, under, domain)?,
-            place_under(alloc, runs, size, depth, under + 1, body)?,
+            place_under(alloc, runs, size, depth, under, domain),
+            place_under(alloc, runs, size, depth, under + 1, body),
         ),
-        Term::App(function, argument) => Term::new_app(
+        Term::App(function, argument) => Term::application_of(
             alloc,
-            place_under(alloc, runs, size, depth, under, function)?,
-            place_under(alloc, runs, size, depth, under, argument)?,
+            place_under(alloc, runs, size, depth, under, function),
+            place_under(alloc, runs, size, depth, under, argument),
         ),
-        Term::Let(ty, value, rest) => Term::new_let(
+        Term::Let(ty, value, rest) => Term::local_of(
             alloc,
-            place_under(alloc, runs, size, depth, under, ty)?,
-            place_under(alloc, runs, size, depth, under, value)?,
-            place_under(alloc, runs, size, depth, under + 1, rest)?,
+            place_under(alloc, runs, size, depth, under, ty),
+            place_under(alloc, runs, size, depth, under, value),
+            place_under(alloc, runs, size, depth, under + 1, rest),
         ),
         Term::Sort(_)
         | Term::Const(_)

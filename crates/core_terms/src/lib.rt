@@ -1,6 +1,7 @@
 //! The types that every crate shares, terms first, and the calls on them.
 #![tactic(auto)]
 
+mod answered;
 mod building;
 mod case_tree;
 mod copying;

@@ -28,26 +28,26 @@ pub(crate) fn lift_whole(alloc: Global, t: &Term, by: u32, from: u64) -> Result<
 {
     match t {
         Term::Var(n) => Ok(Term::Var(lift_variable(*n, by, from))),
-        Term::Pi(domain, codomain) => Term::new_pi(
+        Term::Pi(domain, codomain) => Term::product_of(
             alloc,
-            lift_whole(alloc, domain, by, from)?,
-            lift_whole(alloc, codomain, by, from + 1)?,
+            lift_whole(alloc, domain, by, from),
+            lift_whole(alloc, codomain, by, from + 1),
         ),
-        Term::Lam(domain, body) => Term::new_lam(
+        Term::Lam(domain, body) => Term::function_of(
             alloc,
-            lift_whole(alloc, domain, by, from)?,
-            lift_whole(alloc, body, by, from + 1)?,
+            lift_whole(alloc, domain, by, from),
+            lift_whole(alloc, body, by, from + 1),
         ),
-        Term::App(function, argument) => Term::new_app(
+        Term::App(function, argument) => Term::application_of(
             alloc,
-            lift_whole(alloc, function, by, from)?,
-            lift_whole(alloc, argument, by, from)?,
+            lift_whole(alloc, function, by, from),
+            lift_whole(alloc, argument, by, from),
         ),
-        Term::Let(ty, value, rest) => Term::new_let(
+        Term::Let(ty, value, rest) => Term::local_of(
             alloc,
-            lift_whole(alloc, ty, by, from)?,
-            lift_whole(alloc, value, by, from)?,
-            lift_whole(alloc, rest, by, from + 1)?,
+            lift_whole(alloc, ty, by, from),
+            lift_whole(alloc, value, by, from),
+            lift_whole(alloc, rest, by, from + 1),
         ),
         Term::Sort(_)
         | Term::Const(_)

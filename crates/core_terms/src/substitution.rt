@@ -72,26 +72,26 @@ fn subst_whole(alloc: Global, t: &Term, at: u64, by: &Term, under: u32) -> Resul
 {
     match t {
         Term::Var(n) => subst_variable(alloc, *n, at, by, under),
-        Term::Pi(domain, codomain) => Term::new_pi(
+        Term::Pi(domain, codomain) => Term::product_of(
             alloc,
-            subst_whole(alloc, domain, at, by, under)?,
-            subst_whole(alloc, codomain, at + 1, by, under + 1)?,
+            subst_whole(alloc, domain, at, by, under),
+            subst_whole(alloc, codomain, at + 1, by, under + 1),
         ),
-        Term::Lam(domain, body) => Term::new_lam(
+        Term::Lam(domain, body) => Term::function_of(
             alloc,
-            subst_whole(alloc, domain, at, by, under)?,
-            subst_whole(alloc, body, at + 1, by, under + 1)?,
+            subst_whole(alloc, domain, at, by, under),
+            subst_whole(alloc, body, at + 1, by, under + 1),
         ),
-        Term::App(function, argument) => Term::new_app(
+        Term::App(function, argument) => Term::application_of(
             alloc,
-            subst_whole(alloc, function, at, by, under)?,
-            subst_whole(alloc, argument, at, by, under)?,
+            subst_whole(alloc, function, at, by, under),
+            subst_whole(alloc, argument, at, by, under),
         ),
-        Term::Let(ty, value, rest) => Term::new_let(
+        Term::Let(ty, value, rest) => Term::local_of(
             alloc,
-            subst_whole(alloc, ty, at, by, under)?,
-            subst_whole(alloc, value, at, by, under)?,
-            subst_whole(alloc, rest, at + 1, by, under + 1)?,
+            subst_whole(alloc, ty, at, by, under),
+            subst_whole(alloc, value, at, by, under),
+            subst_whole(alloc, rest, at + 1, by, under + 1),
         ),
         Term::Sort(_)
         | Term::Const(_)

@@ -16,14 +16,13 @@ use Rattle.tree_translation.specs.Naming.{Naming}
 use Rattle.tree_translation.specs.Standings.{Standing}
 use Rattle.cycle_terms.specs.CodeCycles.{by_refutation, cycle_in, first_equation, refuted, transported}
 
-pub refuted-is : (r : Result code.Term Stop) (number : Naming) (s : Standing) (from_left : Bool) (f : Family) (side : Term) (c : Search) (e tuple component type proof : Term)
+pub refuted-is : (r : Result code.Term Stop) (number : Naming) (s : Standing) (from_left : Bool) (f : Family) (side : Term) (c : Search) (e tuple component proof : Term)
     → Gives tree_of r (Ok (App component proof)) → e ≡ first_equation s → tuple ≡ transported number from_left f c side e → component ≡ component_for c side tuple
-    → type ≡ carrier_type c → proof ≡ reflexivity f.level type (Var c.x) → Gives tree_of r (Ok (refuted number s from_left f side c))
-refuted-is r number s from_left f side c e tuple component type proof given first made found typed proved =
+    → proof ≡ reflexivity f.level (carrier_type c) (Var c.x) → Gives tree_of r (Ok (refuted number s from_left f side c))
+refuted-is r number s from_left f side c e tuple component proof given first made found proved =
     let P : Term → Type 0 = λ u. Gives tree_of r (Ok u) in
     transport P
-    (ap₂ App (found ∙ ap (component_for c side) (made ∙ ap (transported number from_left f c side) first))
-    (proved ∙ ap (λ a. reflexivity f.level a (Var c.x)) typed))
+    (ap₂ App (found ∙ ap (component_for c side) (made ∙ ap (transported number from_left f c side) first)) proved)
     given
 
 pub searched-is : (r : Result code.Term Stop) (number : Naming) (L : ℕ) (s : Standing) (x : ℕ) (from_left : Bool) (n : ℕ) (f : Family) (shape : Shape) (ps : List Term) (side : Term) (q : Carrier) (y : ℕ)

@@ -1,4 +1,6 @@
 ghost use Rattle.std.specs.Prelude.{◌≡◌, Ok};
+ghost use Rattle.theory.specs.Signatures as signatures;
+ghost use Rattle.theory.specs.Terms as tree;
 ghost use Rattle.core_terms.specs.Answers.{Gives};
 ghost use Rattle.core_terms.specs.Meanings.{tree_of, tele_of};
 ghost use Rattle.core_sig.specs.Meanings.{family_of};
@@ -34,6 +36,14 @@ fn first_equation(s: &Standing) -> Result<Term, Stop>
     Ok(Term::Var(depth.saturating_sub(next(s.depth)?)))
 }
 
+/// The reflexivity of the variable.
+fn own_reflexivity(alloc: Global, c: &Search) -> Result<Term, Stop>
+    ensures { Gives tree_of result (Ok (signatures.reflexivity (family_of c.now.family.now).level (spec.carrier_type (search_of c.now)) (tree.Var (search_of c.now).x))) }
+{
+    let ty = carrier_type(alloc, c)?;
+    reflexivity(alloc, c.family.level, ty, Term::Var(c.x))
+}
+
 /// What acyclicity says of the variable, applied to its reflexivity.
 fn refuted(
     alloc: Global,
@@ -47,8 +57,7 @@ fn refuted(
 {
     let tuple = transported(alloc, naming, from_left, c, side, first_equation(s)?)?;
     let component = component_for(alloc, c, side, tuple)?;
-    let ty = carrier_type(alloc, c)?;
-    let proof = reflexivity(alloc, c.family.level, ty, Term::Var(c.x))?;
+    let proof = own_reflexivity(alloc, c)?;
     Term::new_app(alloc, component, proof)
 }
 
@@ -73,10 +82,10 @@ fn by_refutation(
 ) -> Result<Term, Stop>
     ensures { Gives tree_of result (Ok (parts.by_refutation (naming_of naming.entry) level (standing_of s.now) from_left (family_of c.now.family.now) (tree_of side.now) (search_of c.now))) }
 {
-    let motive = goal_motive(alloc, s)?;
-    let head = Term::new_app(alloc, Term::Elim(EMPTY, level), motive)?;
-    let empty = refuted(alloc, naming, s, from_left, side, c)?;
-    Term::new_app(alloc, head, empty)
+    let head = Ok(Term::Elim(EMPTY, level));
+    let head = Term::application_of(alloc, head, goal_motive(alloc, s));
+    let empty = refuted(alloc, naming, s, from_left, side, c);
+    Term::application_of(alloc, head, empty)
 }
 
 /// The number that a name has.

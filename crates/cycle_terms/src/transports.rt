@@ -1,7 +1,9 @@
 ghost use Rattle.std.specs.Prelude.{◌≡◌, ◌≤◌, Ok};
+ghost use Rattle.theory.specs.Terms as tree;
 ghost use Rattle.core_terms.specs.Answers.{Gives};
 ghost use Rattle.core_terms.specs.Meanings.{tree_of};
 ghost use Rattle.core_sig.specs.Meanings.{family_of};
+ghost use Rattle.acyclic_gen.specs.AcyclicEntries as entries;
 ghost use Rattle.tree_translation.specs.CycleTerms as spec;
 ghost use Rattle.run_terms.specs.CodeNaming.{naming_of};
 ghost use Rattle.cycle_terms.specs.CodeCycles as parts;
@@ -10,7 +12,7 @@ ghost use Rattle.cycle_terms.specs.SearchMeanings.{search_of};
 use crate::levels::after_variable;
 use crate::searching::Search;
 use acyclic_gen::{Carrier, at_level, carrier_at, equal, no_part};
-use core_sig::equality;
+use core_sig::{Family, equality};
 use core_terms::{Stop, Term, applied, copy_tele, copy_whole, variable};
 use run_terms::{Naming, acyclic_name, constant, instance, left_name};
 use std::alloc::Global;
@@ -32,9 +34,9 @@ fn motive_at(alloc: Global, q: Carrier, from_left: bool, depth: u32) -> Result<T
     requires { depth ≤ 90000 }
     ensures { Gives tree_of result (Ok (parts.motive_at q from_left depth)) }
 {
-    let body = no_part(alloc, q, depth + 2, at_level(q.params), at_level(depth))?;
-    let body = Term::new_lam(alloc, motive_equation(alloc, q, from_left, depth)?, body)?;
-    Term::new_lam(alloc, carrier_at(alloc, q, depth)?, body)
+    let body = no_part(alloc, q, depth + 2, at_level(q.params), at_level(depth));
+    let body = Term::function_of(alloc, motive_equation(alloc, q, from_left, depth), body);
+    Term::function_of(alloc, carrier_at(alloc, q, depth), body)
 }
 
 /// `\z e. D!direct ps (ne x) z`, where the parameters have the first levels, and x the next one.
@@ -75,12 +77,19 @@ pub fn carrier_type(alloc: Global, c: &Search) -> Result<Term, Stop>
     applied(alloc, Term::Fam(c.number), ps.into_vec())
 }
 
+/// `D!acyclic`.
+fn acyclic_constant(alloc: Global, naming: Naming, family: &Family) -> Result<Term, Stop>
+    ensures { Gives tree_of result (Ok (tree.Const (naming_of naming.entry (entries.acyclic_name (family_of family.now).name)))) }
+{
+    let name = acyclic_name(alloc, family)?;
+    constant(naming, &name)
+}
+
 /// `D!acyclic ps x`.
 fn acyclic_of(alloc: Global, naming: Naming, c: &Search) -> Result<Term, Stop>
     ensures { Gives tree_of result (Ok (parts.acyclic_of (naming_of naming.entry) (family_of c.now.family.now).name (search_of c.now))) }
 {
-    let name = acyclic_name(alloc, c.family)?;
-    let head = constant(naming, &name)?;
+    let head = acyclic_constant(alloc, naming, c.family)?;
     let ps = copy_tele(alloc, c.parameters)?;
     let head = applied(alloc, head, ps.into_vec())?;
     Term::new_app(alloc, head, Term::Var(c.x))
@@ -97,11 +106,12 @@ pub fn transported(
 ) -> Result<Term, Stop>
     ensures { Gives tree_of result (Ok (parts.transported (naming_of naming.entry) from_left (family_of c.now.family.now) (search_of c.now) (tree_of side.now) (tree_of e))) }
 {
-    let head = transport_head(alloc, naming, from_left, c.family.level)?;
-    let head = Term::new_app(alloc, head, carrier_type(alloc, c)?)?;
-    let head = Term::new_app(alloc, head, Term::Var(c.x))?;
-    let head = Term::new_app(alloc, head, motive_of(alloc, c, from_left)?)?;
-    let head = Term::new_app(alloc, head, acyclic_of(alloc, naming, c)?)?;
-    let head = Term::new_app(alloc, head, copy_whole(alloc, side)?)?;
-    Term::new_app(alloc, head, e)
+    let motive = motive_of(alloc, c, from_left)?;
+    let head = transport_head(alloc, naming, from_left, c.family.level);
+    let head = Term::application_of(alloc, head, carrier_type(alloc, c));
+    let head = Term::application_of(alloc, head, Ok(Term::Var(c.x)));
+    let head = Term::application_of(alloc, head, Ok(motive));
+    let head = Term::application_of(alloc, head, acyclic_of(alloc, naming, c));
+    let head = Term::application_of(alloc, head, copy_whole(alloc, side));
+    Term::application_of(alloc, head, Ok(e))
 }

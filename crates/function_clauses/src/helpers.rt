@@ -48,32 +48,32 @@ fn renamed(alloc: Global, a: &Abstracted, under: u32, t: &Term) -> Result<Term, 
         Term::Var(n) => renamed_variable(alloc, a, under, *n),
         Term::Pi(domain, codomain) => {
             let inner = next(under)?;
-            Term::new_pi(
+            Term::product_of(
                 alloc,
-                renamed(alloc, a, under, domain)?,
-                renamed(alloc, a, inner, codomain)?,
+                renamed(alloc, a, under, domain),
+                renamed(alloc, a, inner, codomain),
             )
         }
         Term::Lam(domain, body) => {
             let inner = next(under)?;
-            Term::new_lam(
+            Term::function_of(
                 alloc,
-                renamed(alloc, a, under, domain)?,
-                renamed(alloc, a, inner, body)?,
+                renamed(alloc, a, under, domain),
+                renamed(alloc, a, inner, body),
             )
         }
-        Term::App(function, argument) => Term::new_app(
+        Term::App(function, argument) => Term::application_of(
             alloc,
-            renamed(alloc, a, under, function)?,
-            renamed(alloc, a, under, argument)?,
+            renamed(alloc, a, under, function),
+            renamed(alloc, a, under, argument),
         ),
         Term::Let(ty, value, rest) => {
             let inner = next(under)?;
-            Term::new_let(
+            Term::local_of(
                 alloc,
-                renamed(alloc, a, under, ty)?,
-                renamed(alloc, a, under, value)?,
-                renamed(alloc, a, inner, rest)?,
+                renamed(alloc, a, under, ty),
+                renamed(alloc, a, under, value),
+                renamed(alloc, a, inner, rest),
             )
         }
         Term::Sort(_)

@@ -124,26 +124,26 @@ fn renumbered(alloc: Global, base: u32, places: &[u32], t: &Term) -> Result<Term
     ensures { Gives tree_of result (Ok (settling.renumbered (spec.number_among base places.now) (tree_of t.now))) }
 {
     match t {
-        Term::Pi(a, b) => Term::new_pi(
+        Term::Pi(a, b) => Term::product_of(
             alloc,
-            renumbered(alloc, base, places, a)?,
-            renumbered(alloc, base, places, b)?,
+            renumbered(alloc, base, places, a),
+            renumbered(alloc, base, places, b),
         ),
-        Term::Lam(a, b) => Term::new_lam(
+        Term::Lam(a, b) => Term::function_of(
             alloc,
-            renumbered(alloc, base, places, a)?,
-            renumbered(alloc, base, places, b)?,
+            renumbered(alloc, base, places, a),
+            renumbered(alloc, base, places, b),
         ),
-        Term::App(f, a) => Term::new_app(
+        Term::App(f, a) => Term::application_of(
             alloc,
-            renumbered(alloc, base, places, f)?,
-            renumbered(alloc, base, places, a)?,
+            renumbered(alloc, base, places, f),
+            renumbered(alloc, base, places, a),
         ),
-        Term::Let(a, t, b) => Term::new_let(
+        Term::Let(a, t, b) => Term::local_of(
             alloc,
-            renumbered(alloc, base, places, a)?,
-            renumbered(alloc, base, places, t)?,
-            renumbered(alloc, base, places, b)?,
+            renumbered(alloc, base, places, a),
+            renumbered(alloc, base, places, t),
+            renumbered(alloc, base, places, b),
         ),
         Term::Const(c) => Ok(Term::Const(number_among(base, places, *c)?)),
         Term::Var(_)

@@ -25,20 +25,24 @@ fn reflexivity(alloc: Global, i: u8, ty: u32, x: u32) -> Result<Term, Stop>
     Term::new_app(alloc, constructor, Term::Var(x))
 }
 
+/// What comes after the motive: that it holds of each equation of the term with itself, where it holds of the reflexivity.
+fn after_motive(alloc: Global, i: u8) -> Result<Term, Stop>
+    ensures { Gives tree_of result (Ok (tree.Pi (tree.App (tree.Var 0) (spec.reflexivity i (tree.Var 2) (tree.Var 1))) (tree.Pi (spec.equation i (tree.Var 3) (tree.Var 2) (tree.Var 2)) (tree.App (tree.Var 2) (tree.Var 0))))) }
+{
+    let conclusion = Term::application_of(alloc, Ok(Term::Var(2)), Ok(Term::Var(0)));
+    let equation = reflexive_equation(alloc, i, 3, 2);
+    let eliminated = Term::product_of(alloc, equation, conclusion);
+    let base = Term::application_of(alloc, Ok(Term::Var(0)), reflexivity(alloc, i, 2, 1));
+    Term::product_of(alloc, base, eliminated)
+}
+
 /// The type of the axiom K of `Eq.i` at level `m` (Streicher, "Investigations into intensional type theory", 1993).
 pub fn axiom_k_type(alloc: Global, i: u8, m: u8) -> Result<Term, Stop>
     ensures { Gives tree_of result (Ok (spec.axiom_k_type i m)) }
 {
-    let conclusion = Term::new_app(alloc, Term::Var(2), Term::Var(0))?;
-    let equation = reflexive_equation(alloc, i, 3, 2)?;
-    let eliminated = Term::new_pi(alloc, equation, conclusion)?;
-    let base = Term::new_app(alloc, Term::Var(0), reflexivity(alloc, i, 2, 1)?)?;
-    let method = Term::new_pi(alloc, base, eliminated)?;
-    let motive = Term::new_pi(alloc, reflexive_equation(alloc, i, 1, 0)?, Term::Sort(m))?;
-    let over_motive = Term::new_pi(alloc, motive, method)?;
-    Term::new_pi(
-        alloc,
-        Term::Sort(i),
-        Term::new_pi(alloc, Term::Var(0), over_motive)?,
-    )
+    let equation = reflexive_equation(alloc, i, 1, 0);
+    let motive = Term::product_of(alloc, equation, Ok(Term::Sort(m)));
+    let over_motive = Term::product_of(alloc, motive, after_motive(alloc, i));
+    let over_term = Term::product_of(alloc, Ok(Term::Var(0)), over_motive);
+    Term::product_of(alloc, Ok(Term::Sort(i)), over_term)
 }

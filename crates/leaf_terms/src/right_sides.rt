@@ -351,27 +351,27 @@ fn head_with_calls(
     match t {
         Term::Pi(domain, codomain) => {
             let inner = next(under)?;
-            Term::new_pi(
+            Term::product_of(
                 alloc,
-                part_with_calls(alloc, w, l, under, domain)?,
-                part_with_calls(alloc, w, l, inner, codomain)?,
+                part_with_calls(alloc, w, l, under, domain),
+                part_with_calls(alloc, w, l, inner, codomain),
             )
         }
         Term::Lam(domain, body) => {
             let inner = next(under)?;
-            Term::new_lam(
+            Term::function_of(
                 alloc,
-                part_with_calls(alloc, w, l, under, domain)?,
-                part_with_calls(alloc, w, l, inner, body)?,
+                part_with_calls(alloc, w, l, under, domain),
+                part_with_calls(alloc, w, l, inner, body),
             )
         }
         Term::Let(ty, value, rest) => {
             let inner = next(under)?;
-            Term::new_let(
+            Term::local_of(
                 alloc,
-                part_with_calls(alloc, w, l, under, ty)?,
-                part_with_calls(alloc, w, l, under, value)?,
-                part_with_calls(alloc, w, l, inner, rest)?,
+                part_with_calls(alloc, w, l, under, ty),
+                part_with_calls(alloc, w, l, under, value),
+                part_with_calls(alloc, w, l, inner, rest),
             )
         }
         Term::Var(_)

@@ -1,8 +1,10 @@
-ghost use Rattle.std.specs.Prelude.{◌≡◌, ◌≤◌, ◌<◌, ◌+◌, ◌++◌, Ok, IfOk, length, map, take};
+ghost use Rattle.std.specs.Prelude.{◌≡◌, ◌≤◌, ◌<◌, ◌+◌, ◌++◌, ◌^◌, Ok, IfOk, length, map, take};
 ghost use Rattle.core_terms.specs.Answers.{Gives};
 ghost use Rattle.core_terms.specs.Levels as level;
-ghost use Rattle.core_terms.specs.Meanings.{tele_of};
+ghost use Rattle.core_terms.specs.Meanings.{tele_of, tree_of};
 ghost use Rattle.core_sig.specs.Shapes.{argument_shape, constructor_shape, shape_of};
+ghost use Rattle.theory.specs.Telescopes.{applied};
+ghost use Rattle.theory.specs.Terms as tree;
 ghost use Rattle.tele_eq.specs.Items.{AreSmall, AreSmallTerms, items_of};
 ghost use Rattle.noconf_gen.specs.Compared as spec;
 ghost use Rattle.noconf_gen.specs.Fitting.{FitsIndices, FitsMember, HaveLowTypes};
@@ -133,7 +135,24 @@ pub fn constructed(
         targets,
         Items::new(alloc),
     )?;
-    let whole = applied_to_run(alloc, Term::Con(fam, number), depth, 0, params)?;
-    terms.push(applied_to_run(alloc, whole, depth, first, count)?)?;
+    let whole = whole_constructor(alloc, fam, number, params, first, count, depth)?;
+    terms.push(whole)?;
     Ok(terms)
+}
+
+/// Constructor `number` at the parameters and at `count` arguments, whose levels begin with `first`, at a depth.
+fn whole_constructor(
+    alloc: Global,
+    fam: u32,
+    number: u32,
+    params: u32,
+    first: u32,
+    count: u32,
+    depth: u32,
+) -> Result<Term, Stop>
+    requires { first + count < 2 ^ 32 }
+    ensures { Gives tree_of result (Ok (applied (applied (tree.Con fam number) (level.run depth 0 params)) (level.run depth first count))) }
+{
+    let whole = applied_to_run(alloc, Term::Con(fam, number), depth, 0, params)?;
+    applied_to_run(alloc, whole, depth, first, count)
 }

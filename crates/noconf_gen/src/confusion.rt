@@ -1,10 +1,13 @@
 ghost use Rattle.std.specs.Prelude.{◌≡◌, ◌≤◌, ◌<◌, ◌+◌, Ok, Some, length, slice_get};
 ghost use Rattle.core_terms.specs.Answers.{Gives};
 ghost use Rattle.core_terms.specs.Bounds.{most_height};
-ghost use Rattle.core_terms.specs.Levels.{run};
+ghost use Rattle.core_terms.specs.Levels.{run, variable};
 ghost use Rattle.core_terms.specs.Meanings.{tree_of, tele_of};
 ghost use Rattle.core_sig.specs.Shapes.{constructor_shape, shape_of};
 ghost use Rattle.tele_eq.specs.Congruences as tele;
+ghost use Rattle.tele_eq.specs.Items.{AreSmall, AreSmallTerms, items_of};
+ghost use Rattle.tele_eq.specs.TelescopicEquality.{equations};
+ghost use Rattle.theory.specs.Telescopes.{applied};
 ghost use Rattle.noconf_gen.specs.CodeMembers.{IsFitMember, IsFitSubject, member_of};
 ghost use Rattle.noconf_gen.specs.Compared.{argument_items, constructed, member_items};
 ghost use Rattle.noconf_gen.specs.Fitting.{FitsIndices, FitsMember};
@@ -14,9 +17,9 @@ use crate::compared::{argument_items, constructed, member_items};
 use crate::lengths::{arity, index_count, parameter_count};
 use crate::members::{Member, motive_type};
 use core_sig::{Constructor, Family};
-use core_terms::{Stop, Tele, Term, applied, applied_to_run, products, variable};
+use core_terms::{Items, Stop, Tele, Term, applied, applied_to_run, products, variable};
 use std::alloc::Global;
-use tele_eq::{cong_whole, tele_equations_whole, variables_of_run};
+use tele_eq::{Item, cong_whole, tele_equations_whole, variables_of_run};
 
 /// The constructor that no confusion is about, with its number, and its family with its number.
 #[derive(Clone, Copy)]
@@ -66,7 +69,6 @@ fn congruences(
     let count = arity(con);
     let from = argument_items(alloc, params, depth, con)?;
     let to = member_items(alloc, subject.fam, subject.family, depth)?;
-    let inside = depth + count;
     let number = subject.number;
     let terms = constructed(
         alloc,
@@ -76,12 +78,85 @@ fn congruences(
         number,
         depth,
         con,
-        inside,
+        depth + count,
     )?;
+    congruences_along(
+        alloc, &from, &to, &terms, first, second, start, depth, count,
+    )
+}
+
+/// Congruences of terms at variables whose levels begin with `first` and `second`, along equations whose levels begin with
+/// `start`: `count` of each.
+fn congruences_along(
+    alloc: Global,
+    from: &Items<Item>,
+    to: &Items<Item>,
+    terms: &Tele,
+    first: u32,
+    second: u32,
+    start: u32,
+    depth: u32,
+    count: u32,
+) -> Result<Tele, Stop>
+    requires few_from { length from.now ≤ 1000 }
+    requires few_to { length to.now ≤ 1000 }
+    requires from { AreSmall (items_of from.now) }
+    requires to { AreSmall (items_of to.now) }
+    requires terms { AreSmallTerms (tele_of terms.now) }
+    requires first { first ≤ 50000 }
+    requires second { second ≤ 50000 }
+    requires start { start ≤ 50000 }
+    requires depth { depth ≤ 50000 }
+    requires count { count ≤ most_height }
+    ensures { Gives tele_of result (Ok (tele.congruences (items_of from.now) (items_of to.now) (tele_of terms.now) (run depth first count) (run depth second count) (run depth start count))) }
+{
     let left = variables_of_run(alloc, depth, first, count)?;
     let right = variables_of_run(alloc, depth, second, count)?;
     let eqs = variables_of_run(alloc, depth, start, count)?;
-    cong_whole(alloc, &from, &to, &terms, &left, &right, &eqs)
+    cong_whole(alloc, from, to, terms, &left, &right, &eqs)
+}
+
+/// The equations of the arguments, whose levels begin with `first` and `second`, at a depth.
+fn argument_equations(
+    alloc: Global,
+    subject: Subject,
+    first: u32,
+    second: u32,
+    depth: u32,
+) -> Result<Tele, Stop>
+    requires fits { IsFitSubject subject }
+    requires first { first ≤ 50000 }
+    requires second { second ≤ 50000 }
+    requires depth { depth ≤ 40000 }
+    ensures { Gives tele_of result (Ok (equations (argument_items (length (shape_of subject.entry.family.now).parameters) depth (constructor_shape subject.entry.con.now)) (run depth first (length (constructor_shape subject.entry.con.now).arguments)) (run depth second (length (constructor_shape subject.entry.con.now).arguments)))) }
+{
+    let params = parameter_count(subject.family);
+    let count = arity(subject.con);
+    let items = argument_items(alloc, params, depth, subject.con)?;
+    let left = variables_of_run(alloc, depth, first, count)?;
+    let right = variables_of_run(alloc, depth, second, count)?;
+    tele_equations_whole(alloc, &items, &left, &right)
+}
+
+/// A motive at the congruences of equal arguments, whose levels begin with `first` and `second`, along equations whose levels
+/// begin with `depth`.
+fn at_congruences(
+    alloc: Global,
+    subject: Subject,
+    first: u32,
+    second: u32,
+    motive: u32,
+    depth: u32,
+) -> Result<Term, Stop>
+    requires fits { IsFitSubject subject }
+    requires first { first ≤ 50000 }
+    requires second { second ≤ 50000 }
+    requires depth { depth ≤ 40000 }
+    ensures { Gives tree_of result (Ok (applied (variable (depth + length (constructor_shape subject.entry.con.now).arguments) motive) (spec.congruences_at subject.entry.fam (shape_of subject.entry.family.now) subject.entry.number (constructor_shape subject.entry.con.now) first second depth (depth + length (constructor_shape subject.entry.con.now).arguments)))) }
+{
+    let inside = depth + arity(subject.con);
+    let congruences = congruences(alloc, subject, first, second, depth, inside)?;
+    applied(alloc, variable(inside, motive), congruences.into_vec())
 }
 
 /// That a motive holds at the congruences of equal arguments, whose levels begin with `first` and `second`, at a depth.
@@ -99,15 +174,8 @@ pub fn injective_type(
     requires depth { depth ≤ 40000 }
     ensures { Gives tree_of result (Ok (spec.injective_type subject.entry.fam (shape_of subject.entry.family.now) subject.entry.number (constructor_shape subject.entry.con.now) first second motive depth)) }
 {
-    let params = parameter_count(subject.family);
-    let count = arity(subject.con);
-    let items = argument_items(alloc, params, depth, subject.con)?;
-    let left = variables_of_run(alloc, depth, first, count)?;
-    let right = variables_of_run(alloc, depth, second, count)?;
-    let equations = tele_equations_whole(alloc, &items, &left, &right)?;
-    let inside = depth + count;
-    let congruences = congruences(alloc, subject, first, second, depth, inside)?;
-    let end = applied(alloc, variable(inside, motive), congruences.into_vec())?;
+    let equations = argument_equations(alloc, subject, first, second, depth)?;
+    let end = at_congruences(alloc, subject, first, second, motive, depth)?;
     products(alloc, equations.into_vec(), end)
 }
 
@@ -139,9 +207,9 @@ fn conflict_type(
     ensures { Gives tree_of result (Ok (spec.conflict_type fam (shape_of f.now) (member_of fam (shape_of f.now) left.entry) (member_of fam (shape_of f.now) right.entry) m start depth)) }
 {
     let indices = f.indices.as_slice().len() as u32;
-    let end = concluded(alloc, indices, depth, start, depth + 1)?;
-    let motive = motive_type(alloc, fam, f, left, right, m, depth)?;
-    Term::new_pi(alloc, motive, end)
+    let end = concluded(alloc, indices, depth, start, depth + 1);
+    let motive = motive_type(alloc, fam, f, left, right, m, depth);
+    Term::product_of(alloc, motive, end)
 }
 
 /// What equations of a constructor at two lists of arguments come to, whose levels begin with `first` and `second`, at a depth:
@@ -163,13 +231,13 @@ fn injection_type(
     ensures { Gives tree_of result (Ok (spec.injection_type subject.entry.fam (shape_of subject.entry.family.now) subject.entry.number (constructor_shape subject.entry.con.now) first second m start depth)) }
 {
     let indices = subject.family.indices.as_slice().len() as u32;
-    let end = concluded(alloc, indices, depth, start, depth + 2)?;
-    let premise = injective_type(alloc, subject, first, second, depth, depth + 1)?;
-    let end = Term::new_pi(alloc, premise, end)?;
+    let end = concluded(alloc, indices, depth, start, depth + 2);
+    let premise = injective_type(alloc, subject, first, second, depth, depth + 1);
+    let end = Term::product_of(alloc, premise, end);
     let left = Member::Constructed(subject.con, subject.number, first);
     let right = Member::Constructed(subject.con, subject.number, second);
-    let motive = motive_type(alloc, subject.fam, subject.family, left, right, m, depth)?;
-    Term::new_pi(alloc, motive, end)
+    let motive = motive_type(alloc, subject.fam, subject.family, left, right, m, depth);
+    Term::product_of(alloc, motive, end)
 }
 
 /// What equations of the constructor, at arguments after the parameters, and constructor `at`, at arguments whose levels begin

@@ -3,7 +3,9 @@ ghost use Rattle.core_terms.specs.Answers.{Gives};
 ghost use Rattle.core_terms.specs.Meanings.{tree_of, tele_of};
 ghost use Rattle.core_sig.specs.Shapes.{constructor_shape, shape_of};
 ghost use Rattle.tele_eq.specs.Items.{AreSmallTerms};
+ghost use Rattle.tele_eq.specs.TelescopicEquality.{equations};
 ghost use Rattle.noconf_gen.specs.CodeMembers.{IsFitMember, member_of};
+ghost use Rattle.noconf_gen.specs.Compared as items;
 ghost use Rattle.noconf_gen.specs.Fitting.{FitsIndices, FitsSubject};
 ghost use Rattle.noconf_gen.specs.NoConfusionTypes as spec;
 
@@ -47,6 +49,27 @@ fn member_terms(
     }
 }
 
+/// The equations of two members, at a depth.
+fn member_equations(
+    alloc: Global,
+    fam: u32,
+    f: &Family,
+    left: Member,
+    right: Member,
+    depth: u32,
+) -> Result<Tele, Stop>
+    requires fits { FitsIndices (shape_of f.now) }
+    requires left { IsFitMember (shape_of f.now) left }
+    requires right { IsFitMember (shape_of f.now) right }
+    requires depth { depth ≤ 100000 }
+    ensures { Gives tele_of result (Ok (equations (items.member_items fam (shape_of f.now) depth) (member_of fam (shape_of f.now) left.entry depth) (member_of fam (shape_of f.now) right.entry depth))) }
+{
+    let items = member_items(alloc, fam, f, depth)?;
+    let left = member_terms(alloc, fam, f, left, depth)?;
+    let right = member_terms(alloc, fam, f, right, depth)?;
+    tele_equations_whole(alloc, &items, &left, &right)
+}
+
 /// Binds the equations of two members around `end`, at a depth.
 pub fn equations_over(
     alloc: Global,
@@ -64,10 +87,7 @@ pub fn equations_over(
     requires depth { depth ≤ 100000 }
     ensures { Gives tree_of result (Ok (spec.equations_over binder fam (shape_of f.now) (member_of fam (shape_of f.now) left.entry) (member_of fam (shape_of f.now) right.entry) depth (tree_of end))) }
 {
-    let items = member_items(alloc, fam, f, depth)?;
-    let left = member_terms(alloc, fam, f, left, depth)?;
-    let right = member_terms(alloc, fam, f, right, depth)?;
-    let equations = tele_equations_whole(alloc, &items, &left, &right)?.into_vec();
+    let equations = member_equations(alloc, fam, f, left, right, depth)?.into_vec();
     match binder {
         Binder::Product => products(alloc, equations, end),
         Binder::Function => functions(alloc, equations, end),

@@ -55,8 +55,7 @@ fn nct_of_subject(alloc: Global, base: u32, subject: Subject, m: u8) -> Result<D
     }
     let j = f.level.max(m + 1);
     let name = constructor_entry_name(alloc, f, b"!nct.", subject.con, m)?;
-    let analysis = generated_name(alloc, &f.name, b"!case.", j + 1)?;
-    let names = only_name(alloc, analysis)?;
+    let names = only_name(alloc, generated_name(alloc, &f.name, b"!case.", j + 1)?)?;
     let ty = nct_type(alloc, subject, j)?;
     let body = nct_term(alloc, subject, m, j, base)?;
     drafted(name, base, names, ty, body)
@@ -87,8 +86,9 @@ fn nct_term(alloc: Global, subject: Subject, m: u8, j: u8, analysis: u32) -> Res
     let indices = index_count(f);
     let start = params + arity(subject.con);
     let depth = start + indices + 1;
-    let head = applied_to_run(alloc, Term::Const(analysis), depth, 0, params)?;
-    let head = Term::new_app(alloc, head, analysis_motive(alloc, subject, j, depth)?)?;
+    let head = applied_to_run(alloc, Term::Const(analysis), depth, 0, params);
+    let motive = analysis_motive(alloc, subject, j, depth);
+    let head = Term::application_of(alloc, head, motive)?;
     let head = applied_to_confusions(alloc, subject, m, depth, 0, head, f.cons.as_slice())?;
     let end = at_scrutinee(alloc, depth, start, indices, head)?;
     members_over(alloc, Binder::Function, subject.fam, f, subject.con, end)

@@ -1,19 +1,23 @@
 ghost use Rattle.std.specs.Prelude.{◌≡◌, ◌≤◌, ◌<◌, ◌+◌, Ok, IfOk, length, max};
 ghost use Rattle.core_terms.specs.Answers.{Gives};
-ghost use Rattle.core_terms.specs.Meanings.{tree_of};
+ghost use Rattle.core_terms.specs.Levels.{run, variable};
+ghost use Rattle.core_terms.specs.Meanings.{tele_of, tree_of};
 ghost use Rattle.core_terms.specs.declared.levels.Binder.TheVariants.{Function};
 ghost use Rattle.core_sig.specs.Drafts.{draft_of};
 ghost use Rattle.core_sig.specs.ScopedDrafts.{IsScopedDraft};
 ghost use Rattle.core_sig.specs.Shapes.{constructor_shape, shape_of};
-ghost use Rattle.tele_eq.specs.Items.{IsSmall};
+ghost use Rattle.tele_eq.specs.Items.{AreSmall, AreSmallTerms, IsSmall, items_of};
+ghost use Rattle.tele_eq.specs.TelescopicEquality.{elimination as eliminated, reflexivities};
 ghost use Rattle.theory.specs.Families as pure;
 ghost use Rattle.theory.specs.Prelude.{prelude};
 ghost use Rattle.theory.specs.Signatures.{FamilyOf, IsEntryAt, IsPrefix, Signature};
 ghost use Rattle.theory.specs.SignatureScopes.{IsConstructorNumber, IsScopedSignature};
+ghost use Rattle.theory.specs.Telescopes.{applied};
 ghost use Rattle.theory.specs.Terms as tree;
 ghost use Rattle.theory.specs.Terms.{top};
 ghost use Rattle.core_terms.specs.Bounds.{context_limit};
 ghost use Rattle.noconf_gen.specs.CodeMembers.{IsFitSubject};
+ghost use Rattle.noconf_gen.specs.Compared.{argument_items};
 ghost use Rattle.noconf_gen.specs.Fitting.{HasConfusionLevel};
 ghost use Rattle.noconf_gen.specs.NoConfusion as spec;
 
@@ -25,9 +29,9 @@ use crate::members::{Member, equations_over, members_over, motive_type};
 use crate::naming::constructor_entry_name;
 use case_below_gen::only_name;
 use core_sig::{Draft, Entry, Signature, drafted};
-use core_terms::{Binder, MAX_HEIGHT, Stop, Term, applied, applied_to_run, variable};
+use core_terms::{Binder, Items, MAX_HEIGHT, Stop, Tele, Term, applied, applied_to_run, variable};
 use std::alloc::Global;
-use tele_eq::{refl_list_whole, telescopic_j_whole, variables_of_run};
+use tele_eq::{Item, refl_list_whole, telescopic_j_whole, variables_of_run};
 
 /// The entry `D!noconf.c.m` for constructor `con` of family number `fam`: `D!nct.c.m` from the equations. Deep where its type or
 /// its term is too high. Its size grows as that of `D!nct.c.m`.
@@ -63,8 +67,7 @@ fn noconf_of_subject(alloc: Global, base: u32, subject: Subject, m: u8) -> Resul
     }
     let j = f.level.max(m + 1);
     let name = constructor_entry_name(alloc, f, b"!noconf.", con, m)?;
-    let nct = constructor_entry_name(alloc, f, b"!nct.", con, m)?;
-    let names = only_name(alloc, nct)?;
+    let names = only_name(alloc, constructor_entry_name(alloc, f, b"!nct.", con, m)?)?;
     let start = reflexive_base(alloc, subject, m, whole_depth(subject))?;
     if start.height() > MAX_HEIGHT {
         return Err(Stop::Deep);
@@ -129,10 +132,33 @@ fn elimination(alloc: Global, subject: Subject, j: u8, nct: u32, base: Term) -> 
         con,
         whole,
     )?;
+    elimination_along(alloc, &items, &left, start, count, j, nct, &base)
+}
+
+/// The telescopic J from terms to `count` variables, whose levels begin with `start`, along the equations after these.
+fn elimination_along(
+    alloc: Global,
+    items: &Items<Item>,
+    left: &Tele,
+    start: u32,
+    count: u32,
+    j: u8,
+    nct: u32,
+    base: &Term,
+) -> Result<Term, Stop>
+    requires few { length items.now ≤ 1000 }
+    requires items { AreSmall (items_of items.now) }
+    requires left { AreSmallTerms (tele_of left.now) }
+    requires start { start ≤ 1000 }
+    requires count { count ≤ 1001 }
+    requires base { IsSmall (tree_of base.now) }
+    ensures { Gives tree_of result (Ok (eliminated (items_of items.now) j (applied (tree.Const nct) (run (start + count + count) 0 start)) (tree_of base.now) (tele_of left.now) (run (start + count + count) start count) (run (start + count + count) (start + count) count))) }
+{
+    let whole = start + count + count;
     let right = variables_of_run(alloc, whole, start, count)?;
     let eqs = variables_of_run(alloc, whole, start + count, count)?;
     let head = applied_to_run(alloc, Term::Const(nct), whole, 0, start)?;
-    telescopic_j_whole(alloc, &items, &left, &right, &eqs, j, &head, &base)
+    telescopic_j_whole(alloc, items, left, &right, &eqs, j, &head, base)
 }
 
 /// The part for reflexivities, at a depth: a motive's case at equal arguments, at the reflexivities of these.
@@ -142,18 +168,27 @@ fn reflexive_base(alloc: Global, subject: Subject, m: u8, depth: u32) -> Result<
     ensures is { Gives tree_of result (Ok (spec.reflexive_base subject.entry.fam (shape_of subject.entry.family.now) subject.entry.number (constructor_shape subject.entry.con.now) m depth)) }
     ensures free { IfOk result (λ t. tree.free_of (tree_of t) ≤ context_limit) }
 {
-    let con = subject.con;
     let params = parameter_count(subject.family);
-    let count = arity(con);
+    let premise = injective_type(alloc, subject, params, params, depth, depth + 1);
+    let left = Member::Constructed(subject.con, subject.number, params);
+    let motive = motive_type(alloc, subject.fam, subject.family, left, left, m, depth);
+    let end = at_reflexivities(alloc, subject, depth);
+    Term::function_of(alloc, motive, Term::function_of(alloc, premise, end))
+}
+
+/// A premise at the reflexivities of the arguments, where a motive and the premise are bound at a depth.
+fn at_reflexivities(alloc: Global, subject: Subject, depth: u32) -> Result<Term, Stop>
+    requires fits { IsFitSubject subject }
+    requires depth { depth ≤ 20000 }
+    ensures { Gives tree_of result (Ok (applied (variable (depth + 2) (depth + 1)) (reflexivities (argument_items (length (shape_of subject.entry.family.now).parameters) (depth + 2) (constructor_shape subject.entry.con.now)) (run (depth + 2) (length (shape_of subject.entry.family.now).parameters) (length (constructor_shape subject.entry.con.now).arguments))))) }
+{
+    let params = parameter_count(subject.family);
+    let count = arity(subject.con);
     let inside = depth + 2;
-    let items = argument_items(alloc, params, inside, con)?;
+    let items = argument_items(alloc, params, inside, subject.con)?;
     let terms = variables_of_run(alloc, inside, params, count)?;
     let reflexivities = refl_list_whole(alloc, &items, &terms)?;
-    let end = applied(alloc, variable(inside, depth + 1), reflexivities.into_vec())?;
-    let premise = injective_type(alloc, subject, params, params, depth, depth + 1)?;
-    let left = Member::Constructed(con, subject.number, params);
-    let motive = motive_type(alloc, subject.fam, subject.family, left, left, m, depth)?;
-    Term::new_lam(alloc, motive, Term::new_lam(alloc, premise, end)?)
+    applied(alloc, variable(inside, depth + 1), reflexivities.into_vec())
 }
 
 /// Binds the parameters, the arguments, a member and the equations around `end`.

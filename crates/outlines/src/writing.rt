@@ -69,16 +69,16 @@ pub fn written(
         Outline::Whole(t) => placed_under(alloc, levels, depth, under, t),
         Outline::Lam(domain, body) => {
             let inner = next(under)?;
-            Term::new_lam(
+            Term::function_of(
                 alloc,
-                placed_under(alloc, levels, depth, under, domain)?,
-                written(alloc, levels, depth, inner, body)?,
+                placed_under(alloc, levels, depth, under, domain),
+                written(alloc, levels, depth, inner, body),
             )
         }
-        Outline::App(function, argument) => Term::new_app(
+        Outline::App(function, argument) => Term::application_of(
             alloc,
-            written(alloc, levels, depth, under, function)?,
-            written(alloc, levels, depth, under, argument)?,
+            written(alloc, levels, depth, under, function),
+            written(alloc, levels, depth, under, argument),
         ),
         Outline::Placed(own, at, inner) => {
             placed_again(alloc, levels, depth, under, own.as_slice(), *at, inner)

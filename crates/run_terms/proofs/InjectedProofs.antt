@@ -13,10 +13,19 @@ use Rattle.tree_translation.specs.Comparisons.{Comparison}
 use Rattle.run_terms.specs.CodeInjections.{arguments_of, group_made, injected_made, proofs_after, terms_at}
 use Rattle.run_terms.specs.Made.{congruences_made, equations_made}
 
-pub proofs-are : (c : Comparison) (count : ℕ) (ps : List Term) (X Y : List Item) (Z us vs es : List Term) → X ≡ argument_items c.n ps c.left.constructor
-    → Y ≡ family_items c.n c.family ps → Z ≡ constructor_terms c.n c.left.number ps c.left.constructor → us ≡ lifted count c.left.arguments
-    → vs ≡ lifted count c.right.arguments → es ≡ variables count → congruences_made X Y Z us vs es ≡ proofs_after c count ps
-proofs-are c count ps X Y Z us vs es ex ey ez eu ev ee = rw (ex, ey, ez, eu, ev, ee)
+-- the congruences of terms over two telescopes, after the equations of the arguments
+abbrev pub congruences_between : (c : Comparison) (count : ℕ) (X Y : List Item) (Z : List Term) → Result (List Term) Stop
+congruences_between c count X Y Z =
+    congruences_made X Y Z (lifted count c.left.arguments) (lifted count c.right.arguments) (variables count)
+
+pub sides-are : (c : Comparison) (count : ℕ) (X Y : List Item) (Z us vs es : List Term) → us ≡ lifted count c.left.arguments
+    → vs ≡ lifted count c.right.arguments → es ≡ variables count → congruences_made X Y Z us vs es ≡ congruences_between c count X Y Z
+sides-are c count X Y Z us vs es eu ev ee = rw (eu, ev, ee)
+
+pub proofs-are : (c : Comparison) (count : ℕ) (ps : List Term) (X Y : List Item) (Z : List Term) → X ≡ argument_items c.n ps c.left.constructor
+    → Y ≡ family_items c.n c.family ps → Z ≡ constructor_terms c.n c.left.number ps c.left.constructor
+    → congruences_between c count X Y Z ≡ proofs_after c count ps
+proofs-are c count ps X Y Z ex ey ez = rw (ex, ey, ez)
 
 pub injected-are : (s : State) (g : ℕ) (c : Comparison) (X : List Item) (types proofs terms : List Term) → X ≡ arguments_of c
     → ◌≡◌ {A = Result (List Term) Stop} (Ok types) (equations_made X c.left.arguments c.right.arguments)

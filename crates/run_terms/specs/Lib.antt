@@ -1,3 +1,4 @@
+pub mod AnsweredParts
 pub mod CodeConfusions
 pub mod CodeHidden
 pub mod CodeInjections

@@ -136,32 +136,32 @@ fn lowered_at(alloc: Global, k: u32, under: u32, t: &Term) -> Result<Term, Stop>
         Term::Var(n) => Ok(Term::Var(lowered_variable(k, under, *n))),
         Term::Pi(domain, codomain) => {
             let inner = next(under)?;
-            Term::new_pi(
+            Term::product_of(
                 alloc,
-                lowered_at(alloc, k, under, domain)?,
-                lowered_at(alloc, k, inner, codomain)?,
+                lowered_at(alloc, k, under, domain),
+                lowered_at(alloc, k, inner, codomain),
             )
         }
         Term::Lam(domain, body) => {
             let inner = next(under)?;
-            Term::new_lam(
+            Term::function_of(
                 alloc,
-                lowered_at(alloc, k, under, domain)?,
-                lowered_at(alloc, k, inner, body)?,
+                lowered_at(alloc, k, under, domain),
+                lowered_at(alloc, k, inner, body),
             )
         }
-        Term::App(function, argument) => Term::new_app(
+        Term::App(function, argument) => Term::application_of(
             alloc,
-            lowered_at(alloc, k, under, function)?,
-            lowered_at(alloc, k, under, argument)?,
+            lowered_at(alloc, k, under, function),
+            lowered_at(alloc, k, under, argument),
         ),
         Term::Let(ty, value, rest) => {
             let inner = next(under)?;
-            Term::new_let(
+            Term::local_of(
                 alloc,
-                lowered_at(alloc, k, under, ty)?,
-                lowered_at(alloc, k, under, value)?,
-                lowered_at(alloc, k, inner, rest)?,
+                lowered_at(alloc, k, under, ty),
+                lowered_at(alloc, k, under, value),
+                lowered_at(alloc, k, inner, rest),
             )
         }
         Term::Sort(_)

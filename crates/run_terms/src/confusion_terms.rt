@@ -2,7 +2,11 @@ ghost use Rattle.std.specs.Prelude.{◌≡◌, ◌+◌, ◌++◌, Ok, length};
 ghost use Rattle.core_terms.specs.Answers.{Gives};
 ghost use Rattle.core_terms.specs.Meanings.{tree_of, tele_of};
 ghost use Rattle.theory.specs.Telescopes.{applied};
-ghost use Rattle.tree_translation.specs.Standings.{all_here};
+ghost use Rattle.theory.specs.Terms as tree;
+ghost use Rattle.tree_translation.specs.Comparisons.{right_member};
+ghost use Rattle.tree_translation.specs.Naming.{noconf_name};
+ghost use Rattle.tree_translation.specs.SolutionTerms.{remaining_goal};
+ghost use Rattle.tree_translation.specs.Standings.{all_here, inside, levels_from, placed};
 ghost use Rattle.run_terms.specs.CodeConfusions as spec;
 ghost use Rattle.run_terms.specs.CodeNaming.{naming_of};
 ghost use Rattle.run_terms.specs.ComparisonMeanings.{comparison_of};
@@ -82,6 +86,23 @@ fn applied_to_group(
     applied_to_first(alloc, head, s, next(k)?)
 }
 
+/// `D!noconf.c.L`.
+fn confusion(alloc: Global, naming: Naming, level: u8, c: &Comparison) -> Result<Term, Stop>
+    ensures { Gives tree_of result (Ok (tree.Const (naming_of naming.entry (noconf_name (comparison_of c.now).family (comparison_of c.now).left.number level)))) }
+{
+    let built = c.left.built;
+    let name = noconf_name(alloc, built.record, built.number, level)?;
+    constant(naming, &name)
+}
+
+/// `head` at the right member of a comparison.
+fn applied_to_right(alloc: Global, head: Term, s: &Standing, c: &Comparison) -> Result<Term, Stop>
+    ensures { Gives tree_of result (Ok (applied (tree_of head) (all_here (standing_of s.now) (right_member (comparison_of c.now))))) }
+{
+    let right = right_member(alloc, c)?;
+    applied_here(alloc, head, s, right.as_slice())
+}
+
 /// `D!noconf.c.L ps as vs (c' ps bs) E`, where what comes before the equations of the group is given.
 #[tactic(auto, using(crate::proofs::Spines::spines))]
 fn confused(
@@ -95,25 +116,30 @@ fn confused(
 ) -> Result<Term, Stop>
     ensures { Gives tree_of result (Ok (spec.confused_with (naming_of naming.entry) level (standing_of s.now) k (comparison_of c.now) (tele_of before.now))) }
 {
-    let built = c.left.built;
-    let name = noconf_name(alloc, built.record, built.number, level)?;
-    let right = right_member(alloc, c)?;
-    let head = constant(naming, &name)?;
+    let head = confusion(alloc, naming, level, c)?;
     let head = applied_here(alloc, head, s, c.parameters.as_slice())?;
     let head = applied_here(alloc, head, s, c.left.arguments.as_slice())?;
-    let head = applied_here(alloc, head, s, right.as_slice())?;
+    let head = applied_to_right(alloc, head, s, c)?;
     applied_to_group(alloc, head, s, before, k)
 }
 
-/// `\E. E2 -> G`.
-fn injection_motive(alloc: Global, s: &Standing, g: u32, types: Tele) -> Result<Term, Stop>
-    ensures { Gives tree_of result (Ok (spec.injection_motive (standing_of s.now) g (tele_of types))) }
+/// `E2 -> G`, after a group of `k + 1` equations that are bound anew.
+fn goal_after_group(alloc: Global, s: &Standing, k: u32) -> Result<Term, Stop>
+    ensures { Gives tree_of result (Ok (remaining_goal (standing_of s.now) (k + 1) (standing_of s.now).variables (levels_from (inside (standing_of s.now)) (k + 1)) (inside (standing_of s.now) + (k + 1)))) }
 {
+    let g = next(k)?;
     let depth = inside(s)?;
+    let end = sum(depth, g)?;
     let equations = with_levels(depth, g, Items::new(alloc))?;
     let variables = s.variables.as_slice();
-    let end = sum(depth, g)?;
-    let goal = remaining_goal(alloc, s, g, variables, equations.as_slice(), end)?;
+    remaining_goal(alloc, s, g, variables, equations.as_slice(), end)
+}
+
+/// `\E. E2 -> G`.
+fn injection_motive(alloc: Global, s: &Standing, k: u32, types: Tele) -> Result<Term, Stop>
+    ensures { Gives tree_of result (Ok (spec.injection_motive (standing_of s.now) (k + 1) (tele_of types))) }
+{
+    let goal = goal_after_group(alloc, s, k)?;
     functions(alloc, types.into_vec(), goal)
 }
 
@@ -132,20 +158,26 @@ pub fn inject_term(
 {
     let types = compared_equations(alloc, s, c)?;
     let before = before_group(alloc, c, k)?;
-    let g = next(k)?;
-    let head = confused(alloc, naming, level, s, k, c, before.as_slice())?;
-    let head = Term::new_app(alloc, head, injection_motive(alloc, s, g, types)?)?;
-    let head = Term::new_app(alloc, head, inner)?;
-    applied_to_further(alloc, head, s, g)
+    let head = confused(alloc, naming, level, s, k, c, before.as_slice());
+    let head = Term::application_of(alloc, head, injection_motive(alloc, s, k, types));
+    let head = Term::application_of(alloc, head, Ok(inner));
+    applied_to_further(alloc, head?, s, next(k)?)
+}
+
+/// `G`, after the equations and some that are bound anew.
+fn goal_after_types(alloc: Global, s: &Standing, types: &[Term]) -> Result<Term, Stop>
+    ensures { Gives tree_of result (Ok (placed (standing_of s.now).variables (inside (standing_of s.now) + length (tele_of types.now)) (standing_of s.now).goal)) }
+{
+    let count = number_of(types.len())?;
+    let end = sum(inside(s)?, count)?;
+    placed(alloc, s.variables.as_slice(), end, &s.goal)
 }
 
 /// `\E. G`.
 fn conflict_motive(alloc: Global, s: &Standing, types: Tele) -> Result<Term, Stop>
     ensures { Gives tree_of result (Ok (spec.conflict_motive (standing_of s.now) (tele_of types))) }
 {
-    let count = number_of(types.as_slice().len())?;
-    let end = sum(inside(s)?, count)?;
-    let goal = placed(alloc, s.variables.as_slice(), end, &s.goal)?;
+    let goal = goal_after_types(alloc, s, types.as_slice())?;
     functions(alloc, types.into_vec(), goal)
 }
 
@@ -162,6 +194,6 @@ pub fn conflict_term(
 {
     let types = compared_equations(alloc, s, c)?;
     let before = before_group(alloc, c, k)?;
-    let head = confused(alloc, naming, level, s, k, c, before.as_slice())?;
-    Term::new_app(alloc, head, conflict_motive(alloc, s, types)?)
+    let head = confused(alloc, naming, level, s, k, c, before.as_slice());
+    Term::application_of(alloc, head, conflict_motive(alloc, s, types))
 }

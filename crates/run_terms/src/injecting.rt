@@ -23,7 +23,7 @@ use crate::instances::{all_instantiated, all_raised, at_nearest, items_at};
 use crate::moving::{Sides, moved};
 use crate::places::{After, Places};
 use crate::standings::after_first;
-use crate::state::{Equation, State};
+use crate::state::{Equation, State, equation_between};
 use core_sig::Constructor;
 use core_terms::{Items, Stop, Tele, Term, copy_whole, number_of, sum};
 use std::alloc::Global;
@@ -94,15 +94,14 @@ fn equations_at(
 fn equation_at(alloc: Global, x: &Item, ty: &Term, u: &Term, v: &Term) -> Result<Equation, Stop>
     ensures { Gives equation_of result (Ok (equation_with (item_of x.now) (tree_of ty.now) (tree_of u.now) (tree_of v.now))) }
 {
-    Ok(Equation {
-        place: Item {
-            ty: copy_whole(alloc, &x.ty)?,
-            level: x.level,
-        },
-        ty: copy_whole(alloc, ty)?,
-        left: copy_whole(alloc, u)?,
-        right: copy_whole(alloc, v)?,
-    })
+    let place = Item {
+        ty: copy_whole(alloc, &x.ty)?,
+        level: x.level,
+    };
+    let ty = copy_whole(alloc, ty)?;
+    let left = copy_whole(alloc, u);
+    let right = copy_whole(alloc, v);
+    equation_between(place, ty, left, right)
 }
 
 /// What stands for the first `count` places after a context: terms over the variables up to a depth.

@@ -4,8 +4,11 @@ ghost use Rattle.core_terms.specs.Meanings.{tele_of};
 ghost use Rattle.core_sig.specs.Kinds.{HaveKinds};
 ghost use Rattle.core_sig.specs.Meanings.{family_of};
 ghost use Rattle.tele_eq.specs.Items.{items_of};
+ghost use Rattle.theory.specs.Telescopes.{variables};
+ghost use Rattle.unification.specs.Injecting.{lifted};
 ghost use Rattle.run_terms.specs.CodeInjections as spec;
 ghost use Rattle.run_terms.specs.ComparisonMeanings.{comparison_of};
+ghost use Rattle.run_terms.specs.Made as made;
 ghost use Rattle.run_terms.specs.StandingMeanings.{equations_of, standing_of, state_of};
 
 use crate::comparisons::Comparison;
@@ -35,6 +38,23 @@ fn terms_at(alloc: Global, c: &Comparison, ps: &[Term]) -> Result<Tele, Stop>
     constructor_terms(alloc, built.family, built.number, ps, built.con)
 }
 
+/// What proves the equations between terms over two telescopes, after the equations of the arguments, or Deep.
+fn proofs_between(
+    alloc: Global,
+    c: &Comparison,
+    count: u32,
+    from: &Items<Item>,
+    to: &Items<Item>,
+    terms: &Tele,
+) -> Result<Tele, Stop>
+    ensures { Gives tele_of result (made.congruences_made (items_of from.now) (items_of to.now) (tele_of terms.now) (lifted count (comparison_of c.now).left.arguments) (lifted count (comparison_of c.now).right.arguments) (variables count)) }
+{
+    let left = all_raised(alloc, count, c.left.arguments.as_slice())?;
+    let right = all_raised(alloc, count, c.right.arguments.as_slice())?;
+    let eqs = with_variables(Items::new(alloc), count)?;
+    congruences_made(alloc, from, to, terms, &left, &right, &eqs)
+}
+
 /// What proves each equation of a group, after the equations of the arguments, at the parameters that the equations have, or Deep.
 fn proofs_after(alloc: Global, c: &Comparison, count: u32, ps: &[Term]) -> Result<Tele, Stop>
     requires kinds { HaveKinds c.now.left.built.family (family_of c.now.left.built.record.now) 0 c.now.left.built.con.now.args }
@@ -45,10 +65,7 @@ fn proofs_after(alloc: Global, c: &Comparison, count: u32, ps: &[Term]) -> Resul
     let from = argument_items(alloc, ps, built.con)?;
     let to = family_items(alloc, built.family, built.record, ps)?;
     let terms = terms_at(alloc, c, ps)?;
-    let left = all_raised(alloc, count, c.left.arguments.as_slice())?;
-    let right = all_raised(alloc, count, c.right.arguments.as_slice())?;
-    let eqs = with_variables(Items::new(alloc), count)?;
-    congruences_made(alloc, &from, &to, &terms, &left, &right, &eqs)
+    proofs_between(alloc, c, count, &from, &to, &terms)
 }
 
 /// What proves each equation of a group, after the equations of the arguments, or Deep.

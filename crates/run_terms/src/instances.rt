@@ -42,32 +42,32 @@ pub fn instance(alloc: Global, values: &[Term], t: &Term, under: u32) -> Result<
         Term::Var(n) => value(alloc, values, *n, under),
         Term::Pi(domain, codomain) => {
             let inner = next(under)?;
-            Term::new_pi(
+            Term::product_of(
                 alloc,
-                instance(alloc, values, domain, under)?,
-                instance(alloc, values, codomain, inner)?,
+                instance(alloc, values, domain, under),
+                instance(alloc, values, codomain, inner),
             )
         }
         Term::Lam(domain, body) => {
             let inner = next(under)?;
-            Term::new_lam(
+            Term::function_of(
                 alloc,
-                instance(alloc, values, domain, under)?,
-                instance(alloc, values, body, inner)?,
+                instance(alloc, values, domain, under),
+                instance(alloc, values, body, inner),
             )
         }
-        Term::App(function, argument) => Term::new_app(
+        Term::App(function, argument) => Term::application_of(
             alloc,
-            instance(alloc, values, function, under)?,
-            instance(alloc, values, argument, under)?,
+            instance(alloc, values, function, under),
+            instance(alloc, values, argument, under),
         ),
         Term::Let(ty, bound, rest) => {
             let inner = next(under)?;
-            Term::new_let(
+            Term::local_of(
                 alloc,
-                instance(alloc, values, ty, under)?,
-                instance(alloc, values, bound, under)?,
-                instance(alloc, values, rest, inner)?,
+                instance(alloc, values, ty, under),
+                instance(alloc, values, bound, under),
+                instance(alloc, values, rest, inner),
             )
         }
         Term::Sort(_)

@@ -10,7 +10,7 @@ ghost use Rattle.run_terms.specs.CodePlaces.{environment_of, side_of};
 ghost use Rattle.run_terms.specs.StandingMeanings.{equation_of, equations_of};
 
 use crate::places::{Places, put};
-use crate::state::Equation;
+use crate::state::{Equation, equation_between};
 use core_terms::{Items, Stop, Tele, Term, copy_whole, next};
 use std::alloc::Global;
 use tele_eq::Item;
@@ -71,15 +71,14 @@ fn moved_equation(
 ) -> Result<Equation, Stop>
     ensures { Gives equation_of result (Ok (equation_moved (environment_of items.entry) (environment_of types.entry) (side_of sides.entry) size depth (equation_of e.now))) }
 {
-    Ok(Equation {
-        place: Item {
-            ty: put(alloc, items, size, depth, &e.place.ty)?,
-            level: e.place.level,
-        },
-        ty: put(alloc, types, size, depth, &e.ty)?,
-        left: side(alloc, sides, &e.left)?,
-        right: side(alloc, sides, &e.right)?,
-    })
+    let place = Item {
+        ty: put(alloc, items, size, depth, &e.place.ty)?,
+        level: e.place.level,
+    };
+    let ty = put(alloc, types, size, depth, &e.ty)?;
+    let left = side(alloc, sides, &e.left);
+    let right = side(alloc, sides, &e.right);
+    equation_between(place, ty, left, right)
 }
 
 /// The type of the variable with level `j`, at a depth, or Type 0.

@@ -147,32 +147,32 @@ pub fn put_under(
         Term::Var(n) => put_variable(alloc, places, size, depth, under, *n),
         Term::Pi(domain, codomain) => {
             let inner = next(under)?;
-            Term::new_pi(
+            Term::product_of(
                 alloc,
-                put_under(alloc, places, size, depth, under, domain)?,
-                put_under(alloc, places, size, depth, inner, codomain)?,
+                put_under(alloc, places, size, depth, under, domain),
+                put_under(alloc, places, size, depth, inner, codomain),
             )
         }
         Term::Lam(domain, body) => {
             let inner = next(under)?;
-            Term::new_lam(
+            Term::function_of(
                 alloc,
-                put_under(alloc, places, size, depth, under, domain)?,
-                put_under(alloc, places, size, depth, inner, body)?,
+                put_under(alloc, places, size, depth, under, domain),
+                put_under(alloc, places, size, depth, inner, body),
             )
         }
-        Term::App(function, argument) => Term::new_app(
+        Term::App(function, argument) => Term::application_of(
             alloc,
-            put_under(alloc, places, size, depth, under, function)?,
-            put_under(alloc, places, size, depth, under, argument)?,
+            put_under(alloc, places, size, depth, under, function),
+            put_under(alloc, places, size, depth, under, argument),
         ),
         Term::Let(ty, value, rest) => {
             let inner = next(under)?;
-            Term::new_let(
+            Term::local_of(
                 alloc,
-                put_under(alloc, places, size, depth, under, ty)?,
-                put_under(alloc, places, size, depth, under, value)?,
-                put_under(alloc, places, size, depth, inner, rest)?,
+                put_under(alloc, places, size, depth, under, ty),
+                put_under(alloc, places, size, depth, under, value),
+                put_under(alloc, places, size, depth, inner, rest),
             )
         }
         Term::Sort(_)

@@ -16,32 +16,32 @@ pub fn raised(alloc: Global, by: u32, from: u32, t: &Term) -> Result<Term, Stop>
         Term::Var(n) => Ok(Term::Var(sum(*n, by)?)),
         Term::Pi(domain, codomain) => {
             let inner = next(from)?;
-            Term::new_pi(
+            Term::product_of(
                 alloc,
-                raised(alloc, by, from, domain)?,
-                raised(alloc, by, inner, codomain)?,
+                raised(alloc, by, from, domain),
+                raised(alloc, by, inner, codomain),
             )
         }
         Term::Lam(domain, body) => {
             let inner = next(from)?;
-            Term::new_lam(
+            Term::function_of(
                 alloc,
-                raised(alloc, by, from, domain)?,
-                raised(alloc, by, inner, body)?,
+                raised(alloc, by, from, domain),
+                raised(alloc, by, inner, body),
             )
         }
-        Term::App(function, argument) => Term::new_app(
+        Term::App(function, argument) => Term::application_of(
             alloc,
-            raised(alloc, by, from, function)?,
-            raised(alloc, by, from, argument)?,
+            raised(alloc, by, from, function),
+            raised(alloc, by, from, argument),
         ),
         Term::Let(ty, value, rest) => {
             let inner = next(from)?;
-            Term::new_let(
+            Term::local_of(
                 alloc,
-                raised(alloc, by, from, ty)?,
-                raised(alloc, by, from, value)?,
-                raised(alloc, by, inner, rest)?,
+                raised(alloc, by, from, ty),
+                raised(alloc, by, from, value),
+                raised(alloc, by, inner, rest),
             )
         }
         Term::Sort(_)

@@ -19,7 +19,7 @@ use crate::moving::{Sides, moved, new_context};
 use crate::occurrences::{dependants, opposite, others};
 use crate::places::{After, Places, put};
 use crate::standings::{after_first, first_level, inside};
-use crate::state::{Equation, Standing, State};
+use crate::state::{Equation, Standing, State, standing_at};
 use core_sig::equality;
 use core_terms::{Items, Stop, Tele, Term, copy_tele, copy_whole, next, number_of, sum};
 use std::alloc::Global;
@@ -31,6 +31,32 @@ pub fn reflexivity(alloc: Global, level: u8, ty: Term, a: Term) -> Result<Term, 
 {
     let head = Term::Con(equality(level), 0);
     Term::new_app(alloc, Term::new_app(alloc, head, ty)?, a)
+}
+
+/// `refl.i A a`, of copies.
+fn copied_reflexivity(alloc: Global, level: u8, ty: &Term, a: &Term) -> Result<Term, Stop>
+    ensures { Gives tree_of result (Ok (signatures.reflexivity level (tree_of ty.now) (tree_of a.now))) }
+{
+    let head = Ok(Term::Con(equality(level), 0));
+    let head = Term::application_of(alloc, head, copy_whole(alloc, ty));
+    Term::application_of(alloc, head, copy_whole(alloc, a))
+}
+
+/// `refl.i A u` of what is solved, over the variables in their new order.
+fn solved_reflexivity(
+    alloc: Global,
+    level: u8,
+    solution: Solution,
+    depth: u32,
+    ty: &Term,
+) -> Result<Term, Stop>
+    ensures { Gives tree_of result (Ok (signatures.reflexivity level (environments.put (solving.reordered solution.entry.order.now) solution.entry.size depth (tree_of ty.now)) (environments.put (solving.reordered solution.entry.order.now) solution.entry.size depth (tree_of solution.entry.by.now)))) }
+{
+    let reordered = Places::Reordered(solution.order);
+    let size = solution.size;
+    let head = Ok(Term::Con(equality(level), 0));
+    let head = Term::application_of(alloc, head, put(alloc, reordered, size, depth, ty));
+    Term::application_of(alloc, head, put(alloc, reordered, size, depth, solution.by))
 }
 
 /// What stands for the first place after a context of `size` variables, of which `depth` are left: the term.
@@ -92,9 +118,8 @@ fn after_solved_at(
 {
     let reordered = Places::Reordered(solution.order);
     let size = solution.size;
-    let ty = put(alloc, reordered, size, depth, ty)?;
+    let proof = solved_reflexivity(alloc, level, solution, depth, ty)?;
     let by = put(alloc, reordered, size, depth, solution.by)?;
-    let proof = reflexivity(alloc, level, ty, copy_whole(alloc, &by)?)?;
     let sides = Sides::Solved(solution, depth);
     moved_after_first(alloc, s, Some(solution), sides, size, depth, by, proof)
 }
@@ -164,20 +189,14 @@ fn solved_in(
 {
     let level = first_level(&s.state);
     let depth = number_of(solution.order.len())?;
+    let end = sum(inside(s)?, count)?;
     let hidden = s.hidden.as_slice();
-    Ok(Standing {
-        state: solved_state(alloc, &s.state, level, solution, ty)?,
-        goal: put(
-            alloc,
-            Places::Solved(solution),
-            solution.size,
-            depth,
-            &s.goal,
-        )?,
-        hidden: with_places(solution.order, hidden, Items::new(alloc))?,
-        variables: solved_variables(alloc, s, kept, count)?,
-        depth: sum(inside(s)?, count)?,
-    })
+    let places = Places::Solved(solution);
+    let state = solved_state(alloc, &s.state, level, solution, ty)?;
+    let goal = put(alloc, places, solution.size, depth, &s.goal)?;
+    let hidden = with_places(solution.order, hidden, Items::new(alloc));
+    let variables = solved_variables(alloc, s, kept, count);
+    standing_at(state, goal, hidden, variables, end)
 }
 
 /// The level of the variable `x`.
@@ -249,16 +268,13 @@ pub fn with_equations(
 ) -> Result<Standing, Stop>
     ensures { Gives standing_of result (Ok (spec.with_state (standing_of s.now) (record (standing_of s.now).state { equations = equations_of equations }))) }
 {
-    Ok(Standing {
-        state: State {
-            ctx: copy_tele(alloc, s.state.ctx.as_slice())?,
-            equations,
-        },
-        goal: copy_whole(alloc, &s.goal)?,
-        hidden: with_all(Items::new(alloc), s.hidden.as_slice())?,
-        variables: with_all(Items::new(alloc), s.variables.as_slice())?,
-        depth: inside(s)?,
-    })
+    let depth = inside(s)?;
+    let ctx = copy_tele(alloc, s.state.ctx.as_slice())?;
+    let goal = copy_whole(alloc, &s.goal)?;
+    let state = State { ctx, equations };
+    let hidden = with_all(Items::new(alloc), s.hidden.as_slice());
+    let variables = with_all(Items::new(alloc), s.variables.as_slice());
+    standing_at(state, goal, hidden, variables, depth)
 }
 
 /// The equations after the first one, once it is deleted.
@@ -272,8 +288,7 @@ fn after_deleted(
     ensures { Gives equations_of result (Ok ((solving.deleted_state (state_of s.now) level (tree_of ty.now) (tree_of by.now)).equations)) }
 {
     let size = number_of(s.ctx.as_slice().len())?;
-    let ty = copy_whole(alloc, ty)?;
-    let proof = reflexivity(alloc, level, ty, copy_whole(alloc, by)?)?;
+    let proof = copied_reflexivity(alloc, level, ty, by)?;
     let by = copy_whole(alloc, by)?;
     moved_after_first(alloc, s, None, Sides::Same, size, size, by, proof)
 }

@@ -14,7 +14,7 @@ use crate::hidden::step_in;
 use crate::injections::injected_standing;
 use crate::level_lists::with_all;
 use crate::replays::{deleted_standing, solved_standing};
-use crate::state::{Equation, Standing, State};
+use crate::state::{Equation, Standing, State, equation_between, standing_at};
 use core_sig::Signature;
 use core_terms::{Items, MAX_HEIGHT, Rule, Step, Stop, copy_tele, copy_whole};
 use std::alloc::Global;
@@ -23,15 +23,14 @@ use tele_eq::Item;
 fn copy_equation(alloc: Global, e: &Equation) -> Result<Equation, Stop>
     ensures { Gives equation_of result (Ok (equation_of e.now)) }
 {
-    Ok(Equation {
-        place: Item {
-            ty: copy_whole(alloc, &e.place.ty)?,
-            level: e.place.level,
-        },
-        ty: copy_whole(alloc, &e.ty)?,
-        left: copy_whole(alloc, &e.left)?,
-        right: copy_whole(alloc, &e.right)?,
-    })
+    let place = Item {
+        ty: copy_whole(alloc, &e.place.ty)?,
+        level: e.place.level,
+    };
+    let ty = copy_whole(alloc, &e.ty)?;
+    let left = copy_whole(alloc, &e.left);
+    let right = copy_whole(alloc, &e.right);
+    equation_between(place, ty, left, right)
 }
 
 /// Equations, followed by others.
@@ -65,13 +64,11 @@ fn copy_state(alloc: Global, s: &State) -> Result<State, Stop>
 pub fn copy_standing(alloc: Global, s: &Standing) -> Result<Standing, Stop>
     ensures { Gives standing_of result (Ok (standing_of s.now)) }
 {
-    Ok(Standing {
-        state: copy_state(alloc, &s.state)?,
-        goal: copy_whole(alloc, &s.goal)?,
-        hidden: with_all(Items::new(alloc), s.hidden.as_slice())?,
-        variables: with_all(Items::new(alloc), s.variables.as_slice())?,
-        depth: s.depth,
-    })
+    let state = copy_state(alloc, &s.state)?;
+    let goal = copy_whole(alloc, &s.goal)?;
+    let hidden = with_all(Items::new(alloc), s.hidden.as_slice());
+    let variables = with_all(Items::new(alloc), s.variables.as_slice());
+    standing_at(state, goal, hidden, variables, s.depth)
 }
 
 /// The standing after an injectivity, where the comparison has all parameters.

@@ -4,9 +4,10 @@ ghost use Rattle.core_terms.specs.Meanings.{tree_of};
 ghost use Rattle.tele_eq.specs.Items.{each_position};
 ghost use Rattle.theory.specs.Signatures as signatures;
 ghost use Rattle.theory.specs.Telescopes.{applied};
+ghost use Rattle.theory.specs.Terms as tree;
 ghost use Rattle.tree_translation.specs.Replays as replays;
 ghost use Rattle.tree_translation.specs.SolutionTerms as spec;
-ghost use Rattle.tree_translation.specs.Standings.{here};
+ghost use Rattle.tree_translation.specs.Standings.{here, inside};
 ghost use Rattle.run_terms.specs.CodeNaming.{naming_of};
 ghost use Rattle.run_terms.specs.CodeSolutions.{applied_to_moved, deletion_motive, fixed_levels, method_by, motive_body, motive_by, motive_equation, motive_level, motive_levels, remaining, solution_by};
 ghost use Rattle.run_terms.specs.StandingMeanings.{equations_of, standing_of};
@@ -42,9 +43,9 @@ fn goal_after(
     ensures { Gives tree_of result (Ok (remaining (tree_of goal.now) (equations_of equations.now) variables.now before.now depth)) }
 {
     let end = sum(depth, number_of(equations.len())?)?;
-    let goal = placed(alloc, variables, end, goal)?;
     let levels = joined(alloc, variables, before)?;
     let types = placed_types(alloc, levels, depth, equations, Items::new(alloc))?;
+    let goal = placed(alloc, variables, end, goal)?;
     products(alloc, types.into_vec(), goal)
 }
 
@@ -121,12 +122,12 @@ fn within(alloc: Global, s: &Standing, t: &Term) -> Result<Term, Stop>
 }
 
 /// `Eq.i A u v`.
-pub fn equation(alloc: Global, i: u8, ty: Term, left: Term, right: Term) -> Result<Term, Stop>
+fn equation(alloc: Global, i: u8, ty: Term, left: Term, right: Term) -> Result<Term, Stop>
     ensures { Gives tree_of result (Ok (signatures.equation i (tree_of ty) (tree_of left) (tree_of right))) }
 {
-    let head = Term::new_app(alloc, Term::Fam(equality(i)), ty)?;
-    let head = Term::new_app(alloc, head, left)?;
-    Term::new_app(alloc, head, right)
+    let head = Term::application_of(alloc, Ok(Term::Fam(equality(i))), Ok(ty));
+    let head = Term::application_of(alloc, head, Ok(left));
+    Term::application_of(alloc, head, Ok(right))
 }
 
 /// `Eq.i A u z` where the variable is on the right, and `Eq.i A z u` where it is on the left.
@@ -197,6 +198,23 @@ fn motive_after(
     motive_body(alloc, s, levels.as_slice(), moved, depth)
 }
 
+/// `\(e : its equation with u). (dependants as they stand) -> (E2 as they stand) -> G`, one binder further in.
+fn motive_inside(
+    alloc: Global,
+    s: &Standing,
+    x: u32,
+    moved: &[u32],
+    on_right: bool,
+    ty: &Term,
+    by: &Term,
+) -> Result<Term, Stop>
+    ensures { Gives tree_of result (Ok (tree.Lam (motive_equation (standing_of s.now) on_right (tree_of ty.now) (tree_of by.now)) (motive_body (standing_of s.now) (motive_levels (standing_of s.now) x moved.now (inside (standing_of s.now))) moved.now (inside (standing_of s.now))))) }
+{
+    let depth = inside(s)?;
+    let domain = motive_equation(alloc, s, on_right, ty, by);
+    Term::function_of(alloc, domain, motive_after(alloc, s, x, moved, depth))
+}
+
 /// `\(x : A) (e : its equation with u). (dependants as they stand) -> (E2 as they stand) -> G`, where the dependants are given.
 fn solution_motive(
     alloc: Global,
@@ -209,10 +227,8 @@ fn solution_motive(
 ) -> Result<Term, Stop>
     ensures { Gives tree_of result (Ok (motive_by (standing_of s.now) x moved.now on_right (tree_of ty.now) (tree_of by.now))) }
 {
-    let body = motive_after(alloc, s, x, moved, inside(s)?)?;
-    let domain = motive_equation(alloc, s, on_right, ty, by)?;
-    let body = Term::new_lam(alloc, domain, body)?;
-    Term::new_lam(alloc, here(alloc, s, ty)?, body)
+    let body = motive_inside(alloc, s, x, moved, on_right, ty, by);
+    Term::function_of(alloc, here(alloc, s, ty), body)
 }
 
 /// The levels of the variables that stay before the equations, where the dependants of `x` are given.
@@ -251,11 +267,12 @@ fn applied_to_moved(
 ) -> Result<Term, Stop>
     ensures { Gives tree_of result (Ok (applied_to_moved (tree_of head) (standing_of s.now) x moved.now)) }
 {
-    let head = Term::new_app(alloc, head, here(alloc, s, &Term::Var(x))?)?;
-    let head = applied_to_first(alloc, head, s, 1)?;
+    let depth = inside(s)?;
+    let head = Term::application_of(alloc, Ok(head), here(alloc, s, &Term::Var(x)));
+    let head = applied_to_first(alloc, head?, s, 1);
     let variables = s.variables.as_slice();
-    let head = applied_to_variables_at(alloc, head, inside(s)?, variables, moved)?;
-    applied_to_further(alloc, head, s, 1)
+    let head = applied_to_variables_at(alloc, head?, depth, variables, moved);
+    applied_to_further(alloc, head?, s, 1)
 }
 
 /// `head A u`.
@@ -268,8 +285,8 @@ fn applied_to_sides(
 ) -> Result<Term, Stop>
     ensures { Gives tree_of result (Ok (applied (tree_of head) (here (standing_of s.now) (tree_of ty.now) ∷ here (standing_of s.now) (tree_of by.now) ∷ []))) }
 {
-    let head = Term::new_app(alloc, head, here(alloc, s, ty)?)?;
-    Term::new_app(alloc, head, here(alloc, s, by)?)
+    let head = Term::application_of(alloc, Ok(head), here(alloc, s, ty));
+    Term::application_of(alloc, head, here(alloc, s, by))
 }
 
 /// `head A u motive method x e1 dependants E2`, where the dependants are given.
@@ -287,12 +304,12 @@ fn solution_by(
 ) -> Result<Term, Stop>
     ensures { Gives tree_of result (Ok (solution_by (tree_of head) (standing_of s.now) x moved.now on_right (tree_of ty.now) (tree_of by.now) (standing_of next.now) (tree_of inner))) }
 {
-    let motive = solution_motive(alloc, s, x, moved, on_right, ty, by)?;
-    let method = solution_method(alloc, s, x, moved, next, inner)?;
-    let head = applied_to_sides(alloc, head, s, ty, by)?;
-    let head = Term::new_app(alloc, head, motive)?;
-    let head = Term::new_app(alloc, head, method)?;
-    applied_to_moved(alloc, head, s, x, moved)
+    let motive = solution_motive(alloc, s, x, moved, on_right, ty, by);
+    let method = solution_method(alloc, s, x, moved, next, inner);
+    let head = applied_to_sides(alloc, head, s, ty, by);
+    let head = Term::application_of(alloc, head, motive);
+    let head = Term::application_of(alloc, head, method);
+    applied_to_moved(alloc, head?, s, x, moved)
 }
 
 /// `head A u motive method x e1 dependants E2`.
@@ -352,6 +369,15 @@ pub fn solve_left_term(
     solution_term(alloc, head, s, x, false, ty, by, next, inner)
 }
 
+/// `Eq.i A u u`.
+fn deletion_equation(alloc: Global, s: &Standing, ty: &Term, by: &Term) -> Result<Term, Stop>
+    ensures { Gives tree_of result (Ok (signatures.equation (replays.level_of_first (standing_of s.now).state.equations) (here (standing_of s.now) (tree_of ty.now)) (here (standing_of s.now) (tree_of by.now)) (here (standing_of s.now) (tree_of by.now)))) }
+{
+    let head = Term::Fam(equality(first_level(&s.state)));
+    let head = applied_to_sides(alloc, head, s, ty, by);
+    Term::application_of(alloc, head, here(alloc, s, by))
+}
+
 /// `\(e : Eq.i A u u). E2 -> G`.
 fn deletion_motive(alloc: Global, s: &Standing, ty: &Term, by: &Term) -> Result<Term, Stop>
     ensures { Gives tree_of result (Ok (deletion_motive (standing_of s.now) (tree_of ty.now) (tree_of by.now))) }
@@ -359,11 +385,8 @@ fn deletion_motive(alloc: Global, s: &Standing, ty: &Term, by: &Term) -> Result<
     let depth = inside(s)?;
     let equations = [depth];
     let variables = s.variables.as_slice();
-    let goal = remaining_goal(alloc, s, 1, variables, &equations, next(depth)?)?;
-    let (left, right) = (here(alloc, s, by)?, here(alloc, s, by)?);
-    let level = first_level(&s.state);
-    let domain = equation(alloc, level, here(alloc, s, ty)?, left, right)?;
-    Term::new_lam(alloc, domain, goal)
+    let goal = remaining_goal(alloc, s, 1, variables, &equations, next(depth)?);
+    Term::function_of(alloc, deletion_equation(alloc, s, ty, by), goal)
 }
 
 /// The term of a deletion, from the term of the next state.
@@ -378,12 +401,11 @@ pub fn delete_term(
 ) -> Result<Term, Stop>
     ensures { Gives tree_of result (Ok (spec.delete_term level (standing_of s.now) (tree_of ty.now) (tree_of by.now) (tree_of inner))) }
 {
-    let motive = deletion_motive(alloc, s, ty, by)?;
+    let motive = deletion_motive(alloc, s, ty, by);
     let head = Term::AxiomK(first_level(&s.state), level);
-    let head = Term::new_app(alloc, head, here(alloc, s, ty)?)?;
-    let head = Term::new_app(alloc, head, here(alloc, s, by)?)?;
-    let head = Term::new_app(alloc, head, motive)?;
-    let head = Term::new_app(alloc, head, inner)?;
-    let head = applied_to_first(alloc, head, s, 1)?;
-    applied_to_further(alloc, head, s, 1)
+    let head = applied_to_sides(alloc, head, s, ty, by);
+    let head = Term::application_of(alloc, head, motive);
+    let head = Term::application_of(alloc, head, Ok(inner));
+    let head = applied_to_first(alloc, head?, s, 1);
+    applied_to_further(alloc, head?, s, 1)
 }

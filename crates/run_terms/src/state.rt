@@ -1,4 +1,11 @@
-use core_terms::{Items, Tele, Term};
+ghost use Rattle.core_terms.specs.Answered.{shown};
+ghost use Rattle.core_terms.specs.Answers.{Gives};
+ghost use Rattle.core_terms.specs.Meanings.{tree_of};
+ghost use Rattle.tele_eq.specs.Items.{item_of};
+ghost use Rattle.run_terms.specs.AnsweredParts.{equation_between, standing_at};
+ghost use Rattle.run_terms.specs.StandingMeanings.{equation_of, standing_of, state_of};
+
+use core_terms::{Items, Stop, Tele, Term};
 use tele_eq::Item;
 
 /// An equation between two terms of a context: its place in a telescope, its type as it is, after the equations before it, and
@@ -28,4 +35,44 @@ pub struct Standing {
     pub hidden: Items<u32>,
     pub variables: Items<u32>,
     pub depth: u32,
+}
+
+/// The equation at a place of two answers, its sides.
+pub(crate) fn equation_between(
+    place: Item,
+    ty: Term,
+    left: Result<Term, Stop>,
+    right: Result<Term, Stop>,
+) -> Result<Equation, Stop>
+    ensures { Gives equation_of result (equation_between (item_of place) (tree_of ty) (shown left) (shown right)) }
+{
+    let left = left?;
+    let right = right?;
+    Ok(Equation {
+        place,
+        ty,
+        left,
+        right,
+    })
+}
+
+/// The standing of a state at a depth, where the levels of its hidden variables and of its variables are answers.
+pub(crate) fn standing_at(
+    state: State,
+    goal: Term,
+    hidden: Result<Items<u32>, Stop>,
+    variables: Result<Items<u32>, Stop>,
+    depth: u32,
+) -> Result<Standing, Stop>
+    ensures { Gives standing_of result (standing_at (state_of state) (tree_of goal) hidden variables depth) }
+{
+    let hidden = hidden?;
+    let variables = variables?;
+    Ok(Standing {
+        state,
+        goal,
+        hidden,
+        variables,
+        depth,
+    })
 }

@@ -1,9 +1,10 @@
-ghost use Rattle.std.specs.Prelude.{◌≡◌, true, cond, Ok, length, map};
+ghost use Rattle.std.specs.Prelude.{◌≡◌, ◌+◌, true, cond, Ok, length, map};
 ghost use Rattle.core_terms.specs.Answers.{Gives, and_then};
 ghost use Rattle.core_terms.specs.Meanings.{tree_of, tele_of};
 ghost use Rattle.core_terms.specs.TreeMeanings.{steps_of};
 ghost use Rattle.core_sig.specs.Meanings.{constructor_of, family_of};
 ghost use Rattle.theory.specs.Telescopes as telescopes;
+ghost use Rattle.unification.specs.Injecting as injecting;
 ghost use Rattle.unification.specs.Records as records;
 ghost use Rattle.tree_translation.specs.RunTerms.{no_term};
 ghost use Rattle.tree_translation.specs.Splits as splits;
@@ -18,7 +19,7 @@ ghost use Rattle.split_terms.specs.NodeMeanings.{AllFitIn, FitsIn, node_of};
 
 use crate::members::{scrutinee, with_types};
 use crate::node::Node;
-use crate::problems::{arguments_at, branch_standing};
+use crate::problems::{arguments_at, branch_standing, indices_after};
 use crate::runs::run_term;
 use clause_walks::Member;
 use core_sig::{Constructor, Signature};
@@ -30,15 +31,22 @@ use run_terms::{
 use std::alloc::Global;
 use tele_eq::variables;
 
+/// The indices and the variable that is split, after so many variables.
+fn scrutinee_after(alloc: Global, m: &Member, x: u32, count: u32) -> Result<Tele, Stop>
+    ensures { Gives tele_of result (Ok (injecting.lifted count (splits.scrutinee (member_meant m.now) x))) }
+{
+    let terms = scrutinee(alloc, m, x)?;
+    all_raised(alloc, count, terms.as_slice())
+}
+
 /// The types of the equations in the motive of a split, or Deep where something in them is too high.
 fn motive_equations(alloc: Global, m: &Member, x: u32) -> Result<Tele, Stop>
     ensures { Gives tele_of result (spec.motive_equations (member_meant m.now) x) }
 {
     let count = next(number_of(m.indices.as_slice().len())?)?;
-    let params = all_raised(alloc, count, m.params.as_slice())?;
-    let items = family_items(alloc, m.number, m.family, params.as_slice())?;
+    let items = indices_after(alloc, m, count)?;
     let left = variables(alloc, count)?;
-    let right = all_raised(alloc, count, scrutinee(alloc, m, x)?.as_slice())?;
+    let right = scrutinee_after(alloc, m, x, count)?;
     equations_made(alloc, &items, &left, &right)
 }
 
@@ -51,12 +59,19 @@ fn over_family(alloc: Global, m: &Member, inner: Term) -> Result<Term, Stop>
     functions(alloc, types.into_vec(), inner)
 }
 
+/// How many variables the motive of a split binds: the indices, the one of the family, and the equations with these types.
+fn bound_count(m: &Member, types: &[Term]) -> Result<u32, Stop>
+    ensures { Gives (λ n. n) result (Ok (length m.now.indices + 1 + length types.now)) }
+{
+    let count = next(number_of(m.indices.as_slice().len())?)?;
+    sum(count, number_of(types.len())?)
+}
+
 /// The motive of a split, where its equations have these types.
 fn motive_with(alloc: Global, node: &Node, m: &Member, types: Tele) -> Result<Term, Stop>
     ensures { Gives tree_of result (Ok (spec.motive_with (node_of node.now) (member_meant m.now) (tele_of types))) }
 {
-    let count = next(number_of(m.indices.as_slice().len())?)?;
-    let count = sum(count, number_of(types.as_slice().len())?)?;
+    let count = bound_count(m, types.as_slice())?;
     let goal = raised(alloc, count, 0, &node.goal)?;
     over_family(alloc, m, products(alloc, types.into_vec(), goal)?)
 }

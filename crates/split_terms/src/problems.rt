@@ -46,7 +46,7 @@ fn terms_at(alloc: Global, m: &Member, number: u32, con: &Constructor) -> Result
 }
 
 /// The telescope of the family's indices, with the family at them, after so many arguments.
-fn indices_after(alloc: Global, m: &Member, count: u32) -> Result<Items<Item>, Stop>
+pub fn indices_after(alloc: Global, m: &Member, count: u32) -> Result<Items<Item>, Stop>
     ensures { Gives items_of result (Ok (records.family_items m.now.number (family_of m.now.family.now) (injecting.lifted count (tele_of m.now.params)))) }
 {
     let params = all_raised(alloc, count, m.params.as_slice())?;

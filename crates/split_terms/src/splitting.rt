@@ -2,9 +2,14 @@ ghost use Rattle.std.specs.Prelude.{◌≡◌, Ok, length, map};
 ghost use Rattle.core_terms.specs.Answers.{Gives};
 ghost use Rattle.core_terms.specs.Meanings.{tree_of, tele_of};
 ghost use Rattle.core_terms.specs.TreeMeanings.{steps_of};
+ghost use Rattle.core_sig.specs.Meanings.{family_of};
+ghost use Rattle.theory.specs.Terms as tree;
+ghost use Rattle.unification.specs.Records as records;
+ghost use Rattle.tree_translation.specs.Naming as names;
 ghost use Rattle.clause_walks.specs.LookMeanings.{member_meant};
 ghost use Rattle.outlines.specs.OutlineMeanings.{outline_of, outlines_of};
 ghost use Rattle.run_terms.specs.CodeNaming.{naming_of};
+ghost use Rattle.run_terms.specs.Made as made;
 ghost use Rattle.split_terms.specs.CodeSplits as spec;
 ghost use Rattle.split_terms.specs.NodeMeanings.{IsWhole, named_of, node_of};
 
@@ -14,10 +19,18 @@ use crate::node::Node;
 use crate::split_naming::split_names;
 use clause_walks::Member;
 use core_sig::Signature;
-use core_terms::{Items, Name, Step, Stop, Term, applied, checked, copy_tele};
+use core_terms::{Items, Name, Step, Stop, Tele, Term, applied, checked, copy_tele};
 use outlines::{Outline, Outlines, at_head, first_whole, whole};
 use run_terms::{Naming, case_name, constant, family_items, reflexivities_made, with_names};
 use std::alloc::Global;
+
+/// `D!case.L`.
+fn case_constant(alloc: Global, naming: Naming, level: u8, m: &Member) -> Result<Term, Stop>
+    ensures { Gives tree_of result (Ok (tree.Const (naming_of naming.entry (names.case_name (member_meant m.now).family level)))) }
+{
+    let name = case_name(alloc, m.family, level)?;
+    constant(naming, &name)
+}
 
 /// `D!case.L ps motive`.
 fn split_head(
@@ -29,11 +42,18 @@ fn split_head(
 ) -> Result<Term, Stop>
     ensures { Gives tree_of result (Ok (spec.split_head (naming_of naming.entry) level (member_meant m.now) (tree_of motive))) }
 {
-    let name = case_name(alloc, m.family, level)?;
-    let head = constant(naming, &name)?;
+    let head = case_constant(alloc, naming, level, m)?;
     let params = copy_tele(alloc, m.params.as_slice())?;
     let head = applied(alloc, head, params.into_vec())?;
     Term::new_app(alloc, head, motive)
+}
+
+/// The reflexivities of the indices and the variable, or Deep where something in these is too high.
+fn reflexivities_of(alloc: Global, m: &Member, terms: &Tele) -> Result<Tele, Stop>
+    ensures { Gives tele_of result (made.reflexivities_made (records.family_items m.now.number (family_of m.now.family.now) (tele_of m.now.params)) (tele_of terms.now)) }
+{
+    let items = family_items(alloc, m.number, m.family, m.params.as_slice())?;
+    reflexivities_made(alloc, &items, terms)
 }
 
 /// `head` applied to the indices, the variable and their reflexivities, or Deep where something in these is too high.
@@ -41,8 +61,7 @@ fn applied_to_scrutinee(alloc: Global, m: &Member, x: u32, head: Term) -> Result
     ensures { Gives tree_of result (spec.split_end (member_meant m.now) x (tree_of head)) }
 {
     let terms = scrutinee(alloc, m, x)?;
-    let items = family_items(alloc, m.number, m.family, m.params.as_slice())?;
-    let refls = reflexivities_made(alloc, &items, &terms)?;
+    let refls = reflexivities_of(alloc, m, &terms)?;
     let head = applied(alloc, head, terms.into_vec())?;
     applied(alloc, head, refls.into_vec())
 }

@@ -12,11 +12,11 @@ use crate::environment::{at, left_at};
 use crate::goals::{applied_goal, base_term, proof_at, transport_type};
 use crate::sides::{Goal, Left, Map, Pairs, Sides};
 use crate::typing::{
-    all_positions, common_level, greatest_level, left_equation, left_type, level_at, reflexive,
-    type_with,
+    all_positions, bound_of, common_level, greatest_level, left_eliminator, left_equation,
+    left_type, level_at, reflexive, type_with,
 };
 use core_sig::equality;
-use core_terms::{Binder, Stop, Term, bind, variable};
+use core_terms::{Binder, Stop, Term, variable};
 use std::alloc::Global;
 
 /// The equation at position `j`, at a depth, with the left side that `n` levels of transports give.
@@ -38,11 +38,12 @@ pub(crate) fn equation(
     requires depth { depth + levels_of_pairs n pairs * 1010000 ≤ 2030000000 }
     ensures { Gives tree_of result (Ok (spec.equation (items_of tele.now) (spec.left_below n (items_of tele.now) (left_of left.entry)) (environment_of (left_of left.entry) pairs.entry) (equations_of (items_of tele.now) (left_of left.entry) pairs.entry) depth j)) }
 {
-    let head = Term::Fam(equality(level_at(tele, j)));
-    let head = Term::new_app(alloc, head, type_with(alloc, tele, left, pairs, depth, j)?)?;
-    let w = left_below(alloc, n, tele, left, pairs, depth, j)?;
-    let head = Term::new_app(alloc, head, w)?;
-    Term::new_app(alloc, head, at(alloc, left, pairs, depth, j)?)
+    let head = Ok(Term::Fam(equality(level_at(tele, j))));
+    let ty = type_with(alloc, tele, left, pairs, depth, j);
+    let head = Term::application_of(alloc, head, ty);
+    let w = left_below(alloc, n, tele, left, pairs, depth, j);
+    let head = Term::application_of(alloc, head, w);
+    Term::application_of(alloc, head, at(alloc, left, pairs, depth, j))
 }
 
 /// The left term at position `j`, transported where its type depends on earlier positions.
@@ -99,8 +100,8 @@ pub(crate) fn transported(
 {
     let m = greatest_level(tele, level_at(tele, j), positions);
     let goal = Goal::Transport(j);
-    let carried = telescopic_j(alloc, n, tele, left, m, goal, positions, pairs, depth)?;
-    Term::new_app(alloc, carried, left_at(alloc, left, depth, j)?)
+    let carried = telescopic_j(alloc, n, tele, left, m, goal, positions, pairs, depth);
+    Term::application_of(alloc, carried, left_at(alloc, left, depth, j))
 }
 
 /// The telescopic J into a goal.
@@ -138,9 +139,7 @@ pub(crate) fn telescopic_j(
             let binder = Binder::Function;
             let method = equations_over(alloc, n, tele, left, binder, rest, inner, depth, base)?;
             let motive = motive(alloc, n, tele, left, goal, *s, rest, positions, depth)?;
-            let head = Term::Elim(equality(level_at(tele, *s)), m);
-            let head = Term::new_app(alloc, head, left_type(alloc, tele, left, depth, *s)?)?;
-            let head = Term::new_app(alloc, head, left_at(alloc, left, depth, *s)?)?;
+            let head = left_eliminator(alloc, tele, left, m, depth, *s)?;
             let head = Term::new_app(alloc, Term::new_app(alloc, head, motive)?, method)?;
             applied_to_pairs(alloc, tele, left, head, positions, pairs, depth)
         }
@@ -177,9 +176,9 @@ fn motive(
     let binder = Binder::Product;
     let end = equations_over(alloc, n, tele, left, binder, rest, sides, depth + 2, end)?;
     let z = variable(depth + 1, depth);
-    let first = left_equation(alloc, tele, left, depth + 1, s, z)?;
-    let ty = left_type(alloc, tele, left, depth, s)?;
-    Term::new_lam(alloc, ty, Term::new_lam(alloc, first, end)?)
+    let first = left_equation(alloc, tele, left, depth + 1, s, z);
+    let body = Term::function_of(alloc, first, Ok(end));
+    Term::function_of(alloc, left_type(alloc, tele, left, depth, s), body)
 }
 
 /// What a telescopic J gives, at a depth.
@@ -238,9 +237,10 @@ fn equations_over(
         [t, rest @ ..] => {
             let inner = equations_over(alloc, n, tele, left, binder, rest, sides, depth + 2, end)?;
             let pairs = Pairs::Plain(sides);
-            let equation = equation(alloc, n, tele, left, pairs, depth + 1, *t)?;
-            let ty = type_with(alloc, tele, left, pairs, depth, *t)?;
-            bind(alloc, binder, ty, bind(alloc, binder, equation, inner)?)
+            let equation = equation(alloc, n, tele, left, pairs, depth + 1, *t);
+            let inner = bound_of(alloc, binder, equation, Ok(inner));
+            let ty = type_with(alloc, tele, left, pairs, depth, *t);
+            bound_of(alloc, binder, ty, inner)
         }
     }
 }
@@ -267,13 +267,14 @@ fn applied_to_pairs(
     match positions {
         [] => Ok(head),
         [t, rest @ ..] => {
-            let head = Term::new_app(alloc, head, at(alloc, left, pairs, depth, *t)?)?;
+            let z = at(alloc, left, pairs, depth, *t);
+            let head = Term::application_of(alloc, Ok(head), z);
             let e = match pairs {
-                Pairs::Plain(sides) => proof_at(alloc, tele, left, sides, depth, *t)?,
-                Pairs::Mapped(map, c, sides) => congruence_below(alloc, map, c, sides, depth, *t)?,
+                Pairs::Plain(sides) => proof_at(alloc, tele, left, sides, depth, *t),
+                Pairs::Mapped(map, c, sides) => congruence_below(alloc, map, c, sides, depth, *t),
             };
-            let head = Term::new_app(alloc, head, e)?;
-            applied_to_pairs(alloc, tele, left, head, rest, pairs, depth)
+            let head = Term::application_of(alloc, head, e);
+            applied_to_pairs(alloc, tele, left, head?, rest, pairs, depth)
         }
     }
 }

@@ -1,5 +1,7 @@
 ghost use Rattle.std.specs.Prelude.{◌≡◌, ◌≤◌, ◌<◌, ◌+◌, ◌++◌, Ok, IfOk, length};
+ghost use Rattle.core_terms.specs.Answered.{of_two, shown};
 ghost use Rattle.core_terms.specs.Answers.{Gives};
+ghost use Rattle.core_terms.specs.Levels as levels;
 ghost use Rattle.core_terms.specs.Meanings.{tree_of, tele_of};
 ghost use Rattle.tele_eq.specs.CodeEnvironments.{AreSmallPairs, IsSmallLeft, environment_of, left_of};
 ghost use Rattle.tele_eq.specs.Congruences as congruences;
@@ -7,13 +9,14 @@ ghost use Rattle.tele_eq.specs.Environments as environments;
 ghost use Rattle.tele_eq.specs.Items.{AreSmall, items_of};
 ghost use Rattle.tele_eq.specs.Items as items;
 ghost use Rattle.tele_eq.specs.TelescopicEquality as spec;
-ghost use Rattle.theory.specs.Signatures.{equation};
+ghost use Rattle.theory.specs.Signatures as signatures;
+ghost use Rattle.theory.specs.Terms as tree;
 
 use crate::Item;
 use crate::environment::{left_at, put};
 use crate::sides::{Left, Pairs, Sides};
 use core_sig::equality;
-use core_terms::{Stop, Term};
+use core_terms::{Binder, Stop, Term};
 use std::alloc::Global;
 
 /// The level at a position, or 0 after the last one.
@@ -107,9 +110,9 @@ pub(crate) fn reflexive(
     requires depth { depth ≤ 2040000000 }
     ensures { Gives tree_of result (Ok (spec.reflexive (items_of tele.now) (left_of left.entry) depth j)) }
 {
-    let head = Term::Con(equality(level_at(tele, j)), 0);
-    let head = Term::new_app(alloc, head, left_type(alloc, tele, left, depth, j)?)?;
-    Term::new_app(alloc, head, left_at(alloc, left, depth, j)?)
+    let head = Ok(Term::Con(equality(level_at(tele, j)), 0));
+    let head = Term::application_of(alloc, head, left_type(alloc, tele, left, depth, j));
+    Term::application_of(alloc, head, left_at(alloc, left, depth, j))
 }
 
 /// The equation of the left term at a position and a term, at the type that the left terms have.
@@ -124,12 +127,46 @@ pub(crate) fn left_equation(
     requires items { AreSmall (items_of tele.now) }
     requires left { IsSmallLeft left }
     requires depth { depth ≤ 2040000000 }
-    ensures { Gives tree_of result (Ok (equation (items.level_at (items_of tele.now) j) (spec.type_with (items_of tele.now) (left_of left.entry) depth j) (left_of left.entry depth j) (tree_of right))) }
+    ensures { Gives tree_of result (Ok (signatures.equation (items.level_at (items_of tele.now) j) (spec.type_with (items_of tele.now) (left_of left.entry) depth j) (left_of left.entry depth j) (tree_of right))) }
 {
-    let head = Term::Fam(equality(level_at(tele, j)));
-    let head = Term::new_app(alloc, head, left_type(alloc, tele, left, depth, j)?)?;
-    let head = Term::new_app(alloc, head, left_at(alloc, left, depth, j)?)?;
-    Term::new_app(alloc, head, right)
+    let head = Ok(Term::Fam(equality(level_at(tele, j))));
+    let head = Term::application_of(alloc, head, left_type(alloc, tele, left, depth, j));
+    let head = Term::application_of(alloc, head, left_at(alloc, left, depth, j));
+    Term::application_of(alloc, head, Ok(right))
+}
+
+/// The eliminator into Type `m` of equations with the left term at a position.
+pub(crate) fn left_eliminator(
+    alloc: Global,
+    tele: &[Item],
+    left: Left,
+    m: u8,
+    depth: u32,
+    j: u32,
+) -> Result<Term, Stop>
+    requires items { AreSmall (items_of tele.now) }
+    requires left { IsSmallLeft left }
+    requires depth { depth ≤ 2040000000 }
+    ensures { Gives tree_of result (Ok (tree.App (tree.App (tree.Elim (signatures.equality (items.level_at (items_of tele.now) j)) m) (spec.type_with (items_of tele.now) (left_of left.entry) depth j)) (left_of left.entry depth j))) }
+{
+    let head = Ok(Term::Elim(equality(level_at(tele, j)), m));
+    let head = Term::application_of(alloc, head, left_type(alloc, tele, left, depth, j));
+    Term::application_of(alloc, head, left_at(alloc, left, depth, j))
+}
+
+/// A product or a function of two answers. Its height is not tested.
+pub(crate) fn bound_of(
+    alloc: Global,
+    binder: Binder,
+    domain: Result<Term, Stop>,
+    body: Result<Term, Stop>,
+) -> Result<Term, Stop>
+    ensures { Gives tree_of result (of_two (levels.bind binder) (shown domain) (shown body)) }
+{
+    match binder {
+        Binder::Product => Term::product_of(alloc, domain, body),
+        Binder::Function => Term::function_of(alloc, domain, body),
+    }
 }
 
 /// The greatest of a level and those at some positions.

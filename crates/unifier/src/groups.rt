@@ -78,26 +78,26 @@ fn lowered(alloc: Global, k: u32, under: u32, t: &Term) -> Result<Term, Stop>
 {
     match t {
         Term::Var(n) => Ok(Term::Var(lowered_variable(k, under, *n))),
-        Term::Pi(domain, codomain) => Term::new_pi(
+        Term::Pi(domain, codomain) => Term::product_of(
             alloc,
-            lowered(alloc, k, under, domain)?,
-            lowered(alloc, k, under + 1, codomain)?,
+            lowered(alloc, k, under, domain),
+            lowered(alloc, k, under + 1, codomain),
         ),
-        Term::Lam(domain, body) => Term::new_lam(
+        Term::Lam(domain, body) => Term::function_of(
             alloc,
-            lowered(alloc, k, under, domain)?,
-            lowered(alloc, k, under + 1, body)?,
+            lowered(alloc, k, under, domain),
+            lowered(alloc, k, under + 1, body),
         ),
-        Term::App(function, argument) => Term::new_app(
+        Term::App(function, argument) => Term::application_of(
             alloc,
-            lowered(alloc, k, under, function)?,
-            lowered(alloc, k, under, argument)?,
+            lowered(alloc, k, under, function),
+            lowered(alloc, k, under, argument),
         ),
-        Term::Let(ty, value, rest) => Term::new_let(
+        Term::Let(ty, value, rest) => Term::local_of(
             alloc,
-            lowered(alloc, k, under, ty)?,
-            lowered(alloc, k, under, value)?,
-            lowered(alloc, k, under + 1, rest)?,
+            lowered(alloc, k, under, ty),
+            lowered(alloc, k, under, value),
+            lowered(alloc, k, under + 1, rest),
         ),
         Term::Sort(_)
         | Term::Const(_)

@@ -73,26 +73,26 @@ pub(crate) fn raised(alloc: Global, by: u32, from: u32, t: &Term) -> Result<Term
     match t {
         Term::Var(n) if *n < from => Ok(Term::Var(*n)),
         Term::Var(n) => Ok(Term::Var(*n + by)),
-        Term::Pi(domain, codomain) => Term::new_pi(
+        Term::Pi(domain, codomain) => Term::product_of(
             alloc,
-            raised(alloc, by, from, domain)?,
-            raised(alloc, by, from + 1, codomain)?,
+            raised(alloc, by, from, domain),
+            raised(alloc, by, from + 1, codomain),
         ),
-        Term::Lam(domain, body) => Term::new_lam(
+        Term::Lam(domain, body) => Term::function_of(
             alloc,
-            raised(alloc, by, from, domain)?,
-            raised(alloc, by, from + 1, body)?,
+            raised(alloc, by, from, domain),
+            raised(alloc, by, from + 1, body),
         ),
-        Term::App(function, argument) => Term::new_app(
+        Term::App(function, argument) => Term::application_of(
             alloc,
-            raised(alloc, by, from, function)?,
-            raised(alloc, by, from, argument)?,
+            raised(alloc, by, from, function),
+            raised(alloc, by, from, argument),
         ),
-        Term::Let(ty, value, rest) => Term::new_let(
+        Term::Let(ty, value, rest) => Term::local_of(
             alloc,
-            raised(alloc, by, from, ty)?,
-            raised(alloc, by, from, value)?,
-            raised(alloc, by, from + 1, rest)?,
+            raised(alloc, by, from, ty),
+            raised(alloc, by, from, value),
+            raised(alloc, by, from + 1, rest),
         ),
         Term::Sort(_)
         | Term::Const(_)
@@ -194,26 +194,26 @@ fn put_under(
 {
     match t {
         Term::Var(n) => put_variable(alloc, places, size, depth, under, *n),
-        Term::Pi(domain, codomain) => Term::new_pi(
+        Term::Pi(domain, codomain) => Term::product_of(
             alloc,
-            put_under(alloc, places, size, depth, under, domain)?,
-            put_under(alloc, places, size, depth, under + 1, codomain)?,
+            put_under(alloc, places, size, depth, under, domain),
+            put_under(alloc, places, size, depth, under + 1, codomain),
         ),
-        Term::Lam(domain, body) => Term::new_lam(
+        Term::Lam(domain, body) => Term::function_of(
             alloc,
-            put_under(alloc, places, size, depth, under, domain)?,
-            put_under(alloc, places, size, depth, under + 1, body)?,
+            put_under(alloc, places, size, depth, under, domain),
+            put_under(alloc, places, size, depth, under + 1, body),
         ),
-        Term::App(function, argument) => Term::new_app(
+        Term::App(function, argument) => Term::application_of(
             alloc,
-            put_under(alloc, places, size, depth, under, function)?,
-            put_under(alloc, places, size, depth, under, argument)?,
+            put_under(alloc, places, size, depth, under, function),
+            put_under(alloc, places, size, depth, under, argument),
         ),
-        Term::Let(ty, value, rest) => Term::new_let(
+        Term::Let(ty, value, rest) => Term::local_of(
             alloc,
-            put_under(alloc, places, size, depth, under, ty)?,
-            put_under(alloc, places, size, depth, under, value)?,
-            put_under(alloc, places, size, depth, under + 1, rest)?,
+            put_under(alloc, places, size, depth, under, ty),
+            put_under(alloc, places, size, depth, under, value),
+            put_under(alloc, places, size, depth, under + 1, rest),
         ),
         Term::Sort(_)
         | Term::Const(_)

@@ -48,26 +48,26 @@ fn put_under(
 {
     match t {
         Term::Var(n) => Ok(put_variable(order, size, depth, under, *n)),
-        Term::Pi(domain, codomain) => Term::new_pi(
+        Term::Pi(domain, codomain) => Term::product_of(
             alloc,
-            put_under(alloc, order, size, depth, under, domain)?,
-            put_under(alloc, order, size, depth, under + 1, codomain)?,
+            put_under(alloc, order, size, depth, under, domain),
+            put_under(alloc, order, size, depth, under + 1, codomain),
         ),
-        Term::Lam(domain, body) => Term::new_lam(
+        Term::Lam(domain, body) => Term::function_of(
             alloc,
-            put_under(alloc, order, size, depth, under, domain)?,
-            put_under(alloc, order, size, depth, under + 1, body)?,
+            put_under(alloc, order, size, depth, under, domain),
+            put_under(alloc, order, size, depth, under + 1, body),
         ),
-        Term::App(function, argument) => Term::new_app(
+        Term::App(function, argument) => Term::application_of(
             alloc,
-            put_under(alloc, order, size, depth, under, function)?,
-            put_under(alloc, order, size, depth, under, argument)?,
+            put_under(alloc, order, size, depth, under, function),
+            put_under(alloc, order, size, depth, under, argument),
         ),
-        Term::Let(ty, value, rest) => Term::new_let(
+        Term::Let(ty, value, rest) => Term::local_of(
             alloc,
-            put_under(alloc, order, size, depth, under, ty)?,
-            put_under(alloc, order, size, depth, under, value)?,
-            put_under(alloc, order, size, depth, under + 1, rest)?,
+            put_under(alloc, order, size, depth, under, ty),
+            put_under(alloc, order, size, depth, under, value),
+            put_under(alloc, order, size, depth, under + 1, rest),
         ),
         Term::Sort(_)
         | Term::Const(_)

@@ -64,26 +64,26 @@ pub(crate) fn without_under(alloc: Global, t: &Term, under: u32, u: &Term) -> Re
     }
     match u {
         Term::Var(n) => Ok(Term::Var(if *n < under { *n } else { *n + 1 })),
-        Term::Pi(domain, codomain) => Term::new_pi(
+        Term::Pi(domain, codomain) => Term::product_of(
             alloc,
-            without_under(alloc, t, under, domain)?,
-            without_under(alloc, t, under + 1, codomain)?,
+            without_under(alloc, t, under, domain),
+            without_under(alloc, t, under + 1, codomain),
         ),
-        Term::Lam(domain, body) => Term::new_lam(
+        Term::Lam(domain, body) => Term::function_of(
             alloc,
-            without_under(alloc, t, under, domain)?,
-            without_under(alloc, t, under + 1, body)?,
+            without_under(alloc, t, under, domain),
+            without_under(alloc, t, under + 1, body),
         ),
-        Term::App(function, argument) => Term::new_app(
+        Term::App(function, argument) => Term::application_of(
             alloc,
-            without_under(alloc, t, under, function)?,
-            without_under(alloc, t, under, argument)?,
+            without_under(alloc, t, under, function),
+            without_under(alloc, t, under, argument),
         ),
-        Term::Let(ty, value, rest) => Term::new_let(
+        Term::Let(ty, value, rest) => Term::local_of(
             alloc,
-            without_under(alloc, t, under, ty)?,
-            without_under(alloc, t, under, value)?,
-            without_under(alloc, t, under + 1, rest)?,
+            without_under(alloc, t, under, ty),
+            without_under(alloc, t, under, value),
+            without_under(alloc, t, under + 1, rest),
         ),
         Term::Sort(_)
         | Term::Const(_)

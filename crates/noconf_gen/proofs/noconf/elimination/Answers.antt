@@ -1,26 +1,13 @@
-use Rattle.std.proofs.Common.{◌≡◌, ◌+◌, length, ap, ◌∙◌, subst, sym, arith}
+use Rattle.std.proofs.Common.{◌≡◌, ◌+◌, length, ap, ◌∙◌}
 use Rattle.theory.specs.Terms.Term.{Const}
 use Rattle.theory.specs.Telescopes.{applied}
 use Rattle.core_terms.specs.Levels.{run}
 use Rattle.core_terms.specs.Meanings.{tree_of}
 use Rattle.core_terms.proofs.Builders.{ok_is}
 use Rattle.core_sig.specs.Shapes.{constructor_shape, shape_of}
-use Rattle.tele_eq.specs.Items.{IsSmall}
 use Rattle.noconf_gen.specs.Compared.{member_items, constructed}
 use Rattle.noconf_gen.proofs.SameParts.{elimination-same}
-use Rattle.noconf_gen.proofs.SmallTerms.{small-constant}
 use Rattle.noconf_gen.proofs.noconf.elimination.Goals as goal
-
-pub telescopic_j_whole-requires-clause-goal_head : goal.telescopic_j_whole-requires-clause-goal_head
-telescopic_j_whole-requires-clause-goal_head c =
-    let few = c.requires.fits.arguments.arguments in
-    let low = c.requires.fits.indices.indices in
-    let start = c.parameter_count-params.result + c.arity.result in
-    let count = c.index_count-indices.result + 1 in
-    let p = c.parameter_count-params.ensures in
-    let a = c.arity.ensures in
-    let k = c.index_count-indices.ensures in
-    subst IsSmall (sym (ok_is c.in_ok-head.ensures)) (small-constant c.args.nct (start + count + count) start (omega arith) (omega arith))
 
 pub returns : goal.returns
 returns c =
@@ -37,13 +24,12 @@ returns c =
     let same_start : START ≡ start = ap (λ x. x + c.arity.result) c.parameter_count-params.ensures ∙ ap (λ x. p + x) c.arity.ensures in
     let same_count : COUNT ≡ k + 1 = ap (λ x. x + 1) c.index_count-indices.ensures in
     let same_whole : WHOLE ≡ whole = ap (λ x. x + COUNT + COUNT) same_start ∙ ap (λ x. start + x + x) same_count in
-    elimination-same c.telescopic_j_whole.result c.args.j _ (member_items s.fam f whole) _ (applied (Const c.args.nct) (run whole 0 start)) (tree_of c.args.base)
+    elimination-same c.elimination_along.result c.args.j _ (member_items s.fam f whole) _ (applied (Const c.args.nct) (run whole 0 start)) (tree_of c.args.base)
     _ (constructed s.fam p k s.number p d whole) _ (run whole start (k + 1)) _ (run whole (start + (k + 1)) (k + 1))
     (ok_is c.in_ok-items.ensures.is ∙ ap (member_items s.fam f) same_whole)
-    (ok_is c.in_ok-head.ensures ∙ (ap (λ x. applied (Const c.args.nct) (run x 0 START)) same_whole ∙ ap (λ x. applied (Const c.args.nct) (run whole 0 x)) same_start))
+    (ap (λ x. applied (Const c.args.nct) (run x 0 START)) same_whole ∙ ap (λ x. applied (Const c.args.nct) (run whole 0 x)) same_start)
     (ok_is c.in_ok-left.ensures.is
     ∙ (ap (λ x. constructed s.fam x c.index_count-indices.result s.number x d WHOLE) c.parameter_count-params.ensures
     ∙ (ap (λ x. constructed s.fam p x s.number p d WHOLE) c.index_count-indices.ensures ∙ ap (constructed s.fam p k s.number p d) same_whole)))
-    (ok_is c.in_ok-right.ensures.is ∙ (ap (λ x. run x START COUNT) same_whole ∙ (ap (λ x. run whole x COUNT) same_start ∙ ap (run whole start) same_count)))
-    (ok_is c.in_ok-eqs.ensures.is
-    ∙ (ap (λ x. run x (START + COUNT) COUNT) same_whole ∙ (ap (λ x. run whole (x + COUNT) COUNT) same_start ∙ ap (λ x. run whole (start + x) x) same_count))) c.telescopic_j_whole.ensures
+    (ap (λ x. run x START COUNT) same_whole ∙ (ap (λ x. run whole x COUNT) same_start ∙ ap (run whole start) same_count))
+    (ap (λ x. run x (START + COUNT) COUNT) same_whole ∙ (ap (λ x. run whole (x + COUNT) COUNT) same_start ∙ ap (λ x. run whole (start + x) x) same_count)) c.elimination_along.ensures

@@ -1,6 +1,5 @@
-use Rattle.std.proofs.Common.{Ok, List, ap, ap₂, sym, length, ◌∙◌, subst as transport}
+use Rattle.std.proofs.Common.{Ok, List, ap, sym, length, ◌∙◌, subst as transport}
 use Rattle.std.proofs.lemmas.List.{length-map}
-use Rattle.theory.specs.Signatures.{reflexivity}
 use Rattle.core_terms.specs.Answers.{Gives}
 use Rattle.core_terms.specs.Meanings.{tree_of}
 use Rattle.core_terms.proofs.Builders.{ok_is}
@@ -17,5 +16,5 @@ returns c =
     (tree_of c.in_ok-proof.proof)
     (c.in_ok-size.ensures.ok ∙ (ap length c.as_slice.ensures ∙ sym (length-map c.args.s.now.ctx tree_of)))
     (ok_is c.in_ok-by.ensures)
-    (ok_is c.in_ok-proof.ensures ∙ ap₂ (λ A u. reflexivity c.args.level A u) (ok_is c.in_ok-ty.ensures) (ok_is c.in_ok-copy_whole.ensures)))
+    (ok_is c.in_ok-proof.ensures))
     c.moved_after_first.ensures
