@@ -1,4 +1,4 @@
-ghost use Rattle.std.specs.Prelude.{◌≡◌, ◌+◌, ◌++◌, [], ◌∷◌, Ok};
+ghost use Rattle.std.specs.Prelude.{◌≡◌, ◌+◌, ◌++◌, [], ◌∷◌, map, Ok};
 ghost use Rattle.core_terms.specs.Answers.{Gives};
 ghost use Rattle.core_terms.specs.Meanings.{tree_of};
 ghost use Rattle.core_terms.specs.PatternMeanings.{clauses_of};
@@ -6,12 +6,12 @@ ghost use Rattle.core_terms.specs.TreeMeanings.{walk_of};
 ghost use Rattle.elaboration.specs.Walking as spec;
 ghost use Rattle.function_clauses.specs.CodeClauses as code;
 ghost use Rattle.function_clauses.specs.ScrutineeMeanings.{scrutinee_of};
-ghost use Rattle.function_walks.specs.WalkingMeanings.{given_of};
+ghost use Rattle.function_walks.specs.WalkingMeanings.{given_of, opened_of, walked_of};
 ghost use Rattle.structural_rec.specs.Meanings.{use_of};
 
 use crate::parts::Scrutinee;
 use core_terms::{Clause, Items, Stop, Term, Walk, copy_tele, copy_whole};
-use function_walks::{Given, Walked};
+use function_walks::{Given, Opened, Walked};
 use std::alloc::Global;
 use structural_rec::Use;
 
@@ -67,15 +67,41 @@ pub(crate) fn nothing<'a>(alloc: Global) -> Given<'a>
     }
 }
 
+/// Two kinds of items, each with others of its kind after them.
+fn both_of<A: Drop, B: Drop>(
+    first: Items<A>,
+    others: Items<A>,
+    second: Items<B>,
+    more: Items<B>,
+) -> Result<(Items<A>, Items<B>), Stop>
+    ensures { Gives (λ v. v) result (Ok (first ++ others, second ++ more)) }
+{
+    Ok((both(first, others)?, both(second, more)?))
+}
+
 /// What some clauses give, and others after them.
 pub(crate) fn joined<'a>(first: Given<'a>, others: Given<'a>) -> Result<Given<'a>, Stop>
     ensures { Gives given_of result (Ok (spec.joined (given_of first.entry) (given_of others.entry))) }
 {
+    let (walks, sides) = both_of(first.walks, others.walks, first.sides, others.sides)?;
+    let (helpers, uses) = both_of(first.helpers, others.helpers, first.uses, others.uses)?;
     Ok(Given {
-        walks: both(first.walks, others.walks)?,
-        sides: both(first.sides, others.sides)?,
-        helpers: both(first.helpers, others.helpers)?,
-        uses: both(first.uses, others.uses)?,
+        walks,
+        sides,
+        helpers,
+        uses,
+    })
+}
+
+/// What a clause gives without a helper: its walk, its side and what it says of the function.
+fn own_given<'a>(alloc: Global, w: Walk, side: Term, uses: Items<Use>) -> Result<Given<'a>, Stop>
+    ensures { Gives given_of result (Ok (record { walks = walk_of w ∷ []; sides = tree_of side ∷ []; helpers = []; uses = map use_of uses })) }
+{
+    Ok(Given {
+        walks: alone(alloc, w)?,
+        sides: alone(alloc, side)?,
+        helpers: Items::new(alloc),
+        uses,
     })
 }
 
@@ -90,26 +116,46 @@ pub(crate) fn side_given<'a>(
 ) -> Result<Given<'a>, Stop>
     ensures { Gives given_of result (Ok (spec.side_given k number (walk_of w) (tree_of side.now) (tree_of body.now))) }
 {
-    let one = used(alloc, k, number, &w, body)?;
-    let side = copy_whole(alloc, side)?;
-    Ok(Given {
-        walks: alone(alloc, w)?,
-        sides: alone(alloc, side)?,
-        helpers: Items::new(alloc),
-        uses: alone(alloc, one)?,
-    })
+    let uses = alone(alloc, used(alloc, k, number, &w, body)?)?;
+    own_given(alloc, w, copy_whole(alloc, side)?, uses)
 }
 
 /// What a clause gives that has neither a right side nor a scrutinee.
 pub(crate) fn absurd_given<'a>(alloc: Global, w: Walk) -> Result<Given<'a>, Stop>
     ensures { Gives given_of result (Ok (spec.absurd_given (walk_of w))) }
 {
-    Ok(Given {
-        walks: alone(alloc, w)?,
-        sides: alone(alloc, Term::Sort(0))?,
-        helpers: Items::new(alloc),
-        uses: Items::new(alloc),
-    })
+    own_given(alloc, w, Term::Sort(0), Items::new(alloc))
+}
+
+/// The helper of a clause before the helpers inside, where the clauses inside have these walks and sides.
+fn inside<'a>(
+    part: Opened,
+    inner: &'a Items<Clause>,
+    walks: Items<Walk>,
+    sides: Items<Term>,
+    helpers: Items<Walked<'a>>,
+) -> Result<Items<Walked<'a>>, Stop>
+    ensures { Gives (map walked_of) result (Ok (record { part = opened_of part; clauses = clauses_of inner.now; walks = map walk_of walks; sides = map tree_of sides } ∷ map walked_of helpers.entry)) }
+{
+    let helper = Walked {
+        part,
+        clauses: inner,
+        walks,
+        sides,
+    };
+    before(helper, helpers)
+}
+
+/// What is given, with these helpers.
+fn with_helpers<'a>(own: Given<'a>, helpers: Items<Walked<'a>>) -> Given<'a>
+    ensures { given_of result ≡ record (given_of own.entry) { helpers = map walked_of helpers.entry } }
+{
+    Given {
+        walks: own.walks,
+        sides: own.sides,
+        helpers,
+        uses: own.uses,
+    }
 }
 
 /// What a clause gives that has a scrutinee, with what the clauses inside give: its helper comes before the helpers inside.
@@ -125,16 +171,7 @@ pub(crate) fn with_given<'a>(
     ensures { Gives given_of result (Ok (code.with_scrutinee k number (walk_of w) (scrutinee_of x) (clauses_of inner.now) (given_of given.entry))) }
 {
     let one = used(alloc, k, number, &w, &x.term)?;
-    let helper = Walked {
-        part: x.part,
-        clauses: inner,
-        walks: given.walks,
-        sides: given.sides,
-    };
-    Ok(Given {
-        walks: alone(alloc, w)?,
-        sides: alone(alloc, x.side)?,
-        helpers: before(helper, given.helpers)?,
-        uses: before(one, given.uses)?,
-    })
+    let helpers = inside(x.part, inner, given.walks, given.sides, given.helpers)?;
+    let own = own_given(alloc, w, x.side, before(one, given.uses)?)?;
+    Ok(with_helpers(own, helpers))
 }
