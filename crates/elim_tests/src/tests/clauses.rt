@@ -1,7 +1,7 @@
 // Functions by clauses: where their text goes wrong, and what their names stand for.
 use core_sig::Signature;
 use core_terms::Pat;
-use resolve::resolve_fun;
+use resolve::{FunCore, resolve_fun};
 use std::alloc::Global;
 use std::test::Fail;
 use surface_syntax::SyntaxStop::Syntax;
@@ -27,27 +27,41 @@ fn wrong_tokens(rt: HostRuntime) {
     assert!(rt; stop(alloc, b"fun f : N { f (") == Some(Syntax(15)));
 }
 
-/// The arity of the function that a text declares alone, with how many clauses of one bound variable it has.
-fn resolved(alloc: Global, text: &[u8]) -> Result<(u32, usize), Fail> {
-    let sig = Signature::prelude(alloc, false)?;
+/// The arity of a function, and how many of its clauses have one bound variable.
+fn counts(function: &FunCore) -> (u32, usize) {
+    let single = function
+        .clauses
+        .as_slice()
+        .iter()
+        .filter(|c| matches!(c.pats.as_slice(), [Pat::Bind]));
+    (function.arity, single.count())
+}
+
+/// The same of a declaration, if it is a function.
+fn resolved(alloc: Global, d: &Decl) -> Result<(u32, usize), Fail> {
+    match d {
+        Decl::Fun { .. } => {
+            let sig = Signature::prelude(alloc, false)?;
+            let function = resolve_fun(alloc, &sig, d)?;
+            Ok(counts(&function))
+        }
+        _ => Err(Fail::new("no function")),
+    }
+}
+
+/// The same of the function that a text declares alone.
+fn declared(alloc: Global, text: &[u8]) -> Result<(u32, usize), Fail> {
     let found = tokens(alloc, text)?;
     let decls = parse(alloc, text, &found)?;
     match decls.as_slice() {
-        [d @ Decl::Fun { .. }] => {
-            let function = resolve_fun(alloc, &sig, d)?;
-            let clauses = function.clauses.as_slice();
-            let single = clauses
-                .iter()
-                .filter(|c| matches!(c.pats.as_slice(), [Pat::Bind]));
-            Ok((function.arity, single.count()))
-        }
-        _ => Err(Fail::new("no function")),
+        [d] => resolved(alloc, d),
+        _ => Err(Fail::new("one declaration")),
     }
 }
 
 #[test]
 fn names_of_clauses(rt: HostRuntime) -> Result<(), Fail> {
     let text = b"fun f : Empty -> Empty { f x = x ; f y = y }";
-    assert_eq!(rt; resolved(rt.alloc(), text)?, (1, 2));
+    assert_eq!(rt; declared(rt.alloc(), text)?, (1, 2));
     Ok(())
 }

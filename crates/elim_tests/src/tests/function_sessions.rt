@@ -5,7 +5,7 @@ use function_session::{Refused, elaborate};
 use std::alloc::Global;
 use std::process::Abort;
 use std::test::Fail;
-use surface_syntax::{parse, tokens};
+use surface_syntax::{Decl, parse, tokens};
 
 const BEFORE: &str = "data Nat : Type 0 { zero : Nat ; suc : Nat -> Nat }
     data Bool : Type 0 { true : Bool ; false : Bool }
@@ -114,31 +114,51 @@ fn kind(refused: &Refused) -> &'static str {
     }
 }
 
-/// Adds the declarations of a text to the session, up to the first that is refused, and answers why it is.
+/// Why a session refuses a declaration, if it does.
+fn refusal(alloc: Global, session: &mut Session, d: &Decl) -> Option<&'static str> {
+    match elaborate(alloc, session, d) {
+        Ok(_) => None,
+        Err(refused) => Some(kind(&refused)),
+    }
+}
+
+/// Adds declarations to the session, up to the first that is refused, and answers why it is.
+fn declare_all(alloc: Global, session: &mut Session, decls: &[Decl]) -> &'static str {
+    for d in decls {
+        if let Some(why) = refusal(alloc, session, d) {
+            return why;
+        }
+    }
+    "accepted"
+}
+
+/// The same of the declarations of a text.
 fn declare(alloc: Global, session: &mut Session, text: &str) -> Result<&'static str, Fail> {
     let found = tokens(alloc, text.as_bytes())?;
     let decls = parse(alloc, text.as_bytes(), &found)?;
-    for d in decls.as_slice() {
-        if let Err(refused) = elaborate(alloc, session, d) {
-            return Ok(kind(&refused));
-        }
-    }
-    Ok("accepted")
+    Ok(declare_all(alloc, session, decls.as_slice()))
+}
+
+/// The session answers so to the declarations of a text.
+fn assert_answers(
+    rt: &impl Abort,
+    alloc: Global,
+    session: &mut Session,
+    text: &str,
+    wanted: &str,
+) -> Result<(), Fail> {
+    assert_eq!(rt; declare(alloc, session, text)?, wanted, "{text}");
+    Ok(())
 }
 
 /// A session whose declarations may spend so many units refuses the function of a text, and goes on.
 fn go_on(rt: &impl Abort, alloc: Global, fuel: u64, text: &str, wanted: &str) -> Result<(), Fail> {
     let mut session = Session::new(alloc, false, fuel)?;
-    assert_eq!(rt; declare(alloc, &mut session, BEFORE)?, "accepted");
+    assert_answers(rt, alloc, &mut session, BEFORE, "accepted")?;
     let entries = session.signature().len();
-    assert_eq!(rt; declare(alloc, &mut session, text)?, wanted, "{text}");
+    assert_answers(rt, alloc, &mut session, text, wanted)?;
     assert_eq!(rt; session.signature().len(), entries, "{text}");
-    assert_eq!(rt;
-        declare(alloc, &mut session, ACCEPTED)?,
-        "accepted",
-        "{text}"
-    );
-    Ok(())
+    assert_answers(rt, alloc, &mut session, ACCEPTED, "accepted")
 }
 
 /// Each function but that of `Fuel` spends fewer than 1,700 units up to its refusal, and that one needs more to be accepted.

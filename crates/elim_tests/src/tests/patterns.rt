@@ -22,17 +22,19 @@ fn star(alloc: Global) -> Result<Items<Pat>, Stop> {
     pattern(alloc, Pat::Con(unit(0), 0, Items::new(alloc)))
 }
 
+/// Whether the pattern of the member of Unit.0 and a term match, and whether they are apart.
+fn star_and(alloc: Global, sig: &Signature, t: Term) -> Result<(bool, bool), Stop> {
+    let star = star(alloc)?;
+    let terms = term(alloc, t)?;
+    Ok((matches(sig, &star, &terms), apart(sig, &star, &terms)))
+}
+
 #[test]
 fn unit_matches(rt: HostRuntime) -> Result<(), Fail> {
     let alloc = rt.alloc();
     let sig = Signature::prelude(alloc, false)?;
-    let star = star(alloc)?;
-    let whole = term(alloc, Term::Con(unit(0), 0))?;
-    assert!(rt; matches(&sig, &star, &whole));
-    assert!(rt; !apart(&sig, &star, &whole));
-    let variable = term(alloc, Term::Var(0))?;
-    assert!(rt; !matches(&sig, &star, &variable));
-    assert!(rt; !apart(&sig, &star, &variable));
+    assert!(rt; matches!(star_and(alloc, &sig, Term::Con(unit(0), 0))?, (true, false)));
+    assert!(rt; matches!(star_and(alloc, &sig, Term::Var(0))?, (false, false)));
     Ok(())
 }
 

@@ -36,19 +36,45 @@ fn redex(alloc: Global) -> Result<Term, Stop> {
     Term::new_app(alloc, function, Term::Sort(0))
 }
 
+/// Whether the redex steps to its argument.
+fn steps_to_its_argument(
+    rt: &impl Abort,
+    alloc: Global,
+    sig: &Signature,
+    left: &mut Units,
+) -> Result<bool, Stop>
+    requires { IsScopedSignature sig.now }
+{
+    let t = redex(alloc)?;
+    assert!(rt; can_reduce(sig, &t));
+    let step = head_step(alloc, sig, &t, true, left)?;
+    Ok(matches!(step, Some(Term::Sort(0))))
+}
+
+/// Whether the argument is the normal form of the redex.
+fn has_its_argument_as_form(
+    rt: &impl Abort,
+    alloc: Global,
+    sig: &Signature,
+    left: &mut Units,
+) -> Result<bool, Stop>
+    requires { IsScopedSignature sig.now }
+{
+    let t = redex(alloc)?;
+    assert!(rt; can_reduce(sig, &t));
+    let form = normal(alloc, sig, &t, true, left)?;
+    Ok(form.same(&Term::Sort(0)))
+}
+
 #[test]
 fn steps_and_forms(rt: HostRuntime) -> Result<(), Fail> {
     let alloc = rt.alloc();
     let sig = scoped_prelude(alloc)?;
-    let t = redex(alloc)?;
-    assert!(rt; can_reduce(&sig, &t));
     let mut left = units(2);
-    let step = head_step(alloc, &sig, &t, true, &mut left)?;
-    assert!(rt; matches!(step, Some(Term::Sort(0))));
-    let form = normal(alloc, &sig, &t, true, &mut left)?;
-    assert!(rt; form.same(&Term::Sort(0)));
+    assert!(rt; steps_to_its_argument(&rt, alloc, &sig, &mut left)?);
+    assert!(rt; has_its_argument_as_form(&rt, alloc, &sig, &mut left)?);
     assert_eq!(rt; left.left, 0);
-    let none = normal(alloc, &sig, &t, true, &mut left);
+    let none = has_its_argument_as_form(&rt, alloc, &sig, &mut left);
     assert!(rt; matches!(none, Err(Stop::Fuel)));
     Ok(())
 }
@@ -107,18 +133,36 @@ fn tower(alloc: Global, domains: u32, end: Term) -> Result<Term, Stop> {
     Ok(t)
 }
 
+/// Whether a tower is its own head form, which is found without units.
+fn is_its_own_form(
+    rt: &impl Abort,
+    alloc: Global,
+    sig: &Signature,
+    domains: u32,
+) -> Result<bool, Stop>
+    requires { IsScopedSignature sig.now }
+{
+    let t = tower(alloc, domains, Term::Sort(0))?;
+    assert!(rt; can_reduce(sig, &t));
+    let form = whnf(alloc, sig, &t, true, &mut units(0))?;
+    Ok(form.same(&t))
+}
+
 #[test]
 fn greatest_height(rt: HostRuntime) -> Result<(), Fail> {
     let alloc = rt.alloc();
     let sig = scoped_prelude(alloc)?;
-    let highest = tower(alloc, MAX_HEIGHT - 1, Term::Sort(0))?;
-    assert!(rt; can_reduce(&sig, &highest));
-    assert!(rt; whnf(alloc, &sig, &highest, true, &mut units(0))?.same(&highest));
-    let too_high = tower(alloc, MAX_HEIGHT, Term::Sort(0))?;
-    assert!(rt; can_reduce(&sig, &too_high));
-    let form = whnf(alloc, &sig, &too_high, true, &mut units(0));
-    assert!(rt; matches!(form, Err(Stop::Deep)));
+    assert!(rt; is_its_own_form(&rt, alloc, &sig, MAX_HEIGHT - 1)?);
+    let too_high = is_its_own_form(&rt, alloc, &sig, MAX_HEIGHT);
+    assert!(rt; matches!(too_high, Err(Stop::Deep)));
     Ok(())
+}
+
+/// A function whose body is a tower over its variable, applied to a tower.
+fn growing(alloc: Global) -> Result<Term, Stop> {
+    let body = tower(alloc, 1000, Term::Var(1000));
+    let function = Term::function_of(alloc, Ok(Term::Sort(9)), body);
+    Term::application_of(alloc, function, tower(alloc, 1000, Term::Sort(0)))
 }
 
 /// One step makes a term that is too high.
@@ -126,8 +170,7 @@ fn greatest_height(rt: HostRuntime) -> Result<(), Fail> {
 fn grows_too_high(rt: HostRuntime) -> Result<(), Fail> {
     let alloc = rt.alloc();
     let sig = scoped_prelude(alloc)?;
-    let function = Term::new_lam(alloc, Term::Sort(9), tower(alloc, 1000, Term::Var(1000))?)?;
-    let t = Term::new_app(alloc, function, tower(alloc, 1000, Term::Sort(0))?)?;
+    let t = growing(alloc)?;
     assert!(rt; can_reduce(&sig, &t));
     let step = head_step(alloc, &sig, &t, true, &mut units(1));
     assert!(rt; matches!(step, Err(Stop::Deep)));

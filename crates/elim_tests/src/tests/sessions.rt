@@ -2,6 +2,7 @@
 use super::IDENTITY;
 use elab_session::Session;
 use std::alloc::Global;
+use std::process::Abort;
 use std::test::Fail;
 use surface_syntax::{parse, tokens};
 
@@ -32,15 +33,20 @@ fn accepts(alloc: Global, session: &mut Session, text: &str) -> Result<bool, Fai
     }
 }
 
+/// A session refuses the declaration of a text, has the entries that it had, and accepts the identity.
+fn go_on(rt: &impl Abort, alloc: Global, text: &str) -> Result<(), Fail> {
+    let mut session = Session::new(alloc, false, 16)?;
+    let entries = session.signature().len();
+    assert!(rt; !accepts(alloc, &mut session, text)?, "{text}");
+    assert_eq!(rt; session.signature().len(), entries, "{text}");
+    assert!(rt; accepts(alloc, &mut session, IDENTITY)?, "{text}");
+    Ok(())
+}
+
 #[test]
 fn go_on_after_refusals(rt: HostRuntime) -> Result<(), Fail> {
-    let alloc = rt.alloc();
     for text in REFUSED {
-        let mut session = Session::new(alloc, false, 16)?;
-        let entries = session.signature().len();
-        assert!(rt; !accepts(alloc, &mut session, text)?, "{text}");
-        assert_eq!(rt; session.signature().len(), entries, "{text}");
-        assert!(rt; accepts(alloc, &mut session, IDENTITY)?, "{text}");
+        go_on(&rt, rt.alloc(), text)?;
     }
     Ok(())
 }
