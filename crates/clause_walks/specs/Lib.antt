@@ -1,3 +1,4 @@
+pub mod AnsweredPairs
 pub mod CodeDots
 pub mod CodeWalks
 pub mod CodeWorking

@@ -1,12 +1,14 @@
 -- What the code finds of open pairs and of the runs at their variables.
-use Rattle.std.specs.Prelude.{List, map, Result, Ok, Err}
+use Rattle.std.specs.Prelude.{ℕ, List, map, Result, Ok, Err}
+use Rattle.theory.specs.Telescopes.{Telescope}
 use Rattle.core_terms.specs.Meanings.{tree_of, tele_of}
+use Rattle.core_terms.specs.PatternMeanings.{pat_of}
 use Rattle.core_sig.specs.Meanings.{family_of}
 use Rattle.unifier.specs.Meanings.{outcome_of}
 use Rattle.case_trees.specs.Problems as problems
 use Rattle.case_trees.specs.Looking as looking
+use Rattle.case_trees.specs.Stops as stops
 use Rattle.clause_walks.specs.Reaching as pure
-use Rattle.clause_walks.specs.Stops.{stop_of}
 use Rattle.clause_walks.specs.declared.problems.Member.{Member}
 use Rattle.clause_walks.specs.declared.running.Ran.{Ran}
 use Rattle.clause_walks.specs.declared.running.StuckRun.{StuckRun}
@@ -18,6 +20,7 @@ use Rattle.clause_walks.specs.declared.reaching.Reach.{Reach}
 use Rattle.clause_walks.specs.declared.reaching.Reach.TheVariants as reach
 use Rattle.clause_walks.specs.declared.looking.Arrival.{Arrival}
 use Rattle.clause_walks.specs.declared.looking.Arrival.TheVariants as arrival
+use Rattle.clause_walks.specs.declared.looking.Unmatched.{Unmatched}
 
 abbrev pub member_meant : Member → problems.Member
 member_meant m = record {
@@ -61,7 +64,15 @@ abbrev pub reach_of : Reach → looking.Look pure.Reached
 reach_of (reach.Found r) = looking.Found (reached_of r)
 reach_of (reach.Passed r) = looking.Passed (stuck_of r)
 
-abbrev pub arrival_of : Arrival → pure.Arrival
-arrival_of (arrival.Found r) = pure.Arrives (reached_of r)
-arrival_of (arrival.Stuck e) = pure.IsStuck (stop_of e)
-arrival_of (arrival.Forced e) = pure.IsForced (stop_of e)
+-- what says that a run was stuck
+abbrev pub stuck_stop : (clause : ℕ) → StuckRun → stops.TreeStop
+stuck_stop clause r = looking.stuck_at clause (stuck_of r)
+
+-- what says that a term is neither a constructor nor a variable
+abbrev pub unmatched_stop : (clause : ℕ) → Telescope → Unmatched → stops.TreeStop
+unmatched_stop clause context u = stops.Forced clause context (pat_of u.pat.now) (tree_of u.term)
+
+abbrev pub arrival_of : (clause : ℕ) → Telescope → Arrival → pure.Arrival
+arrival_of clause context (arrival.Found r) = pure.Arrives (reached_of r)
+arrival_of clause context (arrival.Stuck r) = pure.IsStuck (stuck_stop clause r)
+arrival_of clause context (arrival.Forced u) = pure.IsForced (unmatched_stop clause context u)

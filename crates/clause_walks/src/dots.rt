@@ -115,8 +115,21 @@ fn ends(alloc: Global, pairs: &[Pair]) -> Result<(Tele, Items<(Term, Term)>), St
     ensures { Gives ends_of result (ends_made (pairs_of pairs.now)) }
 {
     let bound = all_bound(alloc, pairs)?;
-    let binds = with_none(alloc, bound.as_slice(), Items::new(alloc))?;
-    let dots = kept_dots(alloc, pairs, bound.as_slice(), binds.as_slice())?;
+    ends_over(alloc, pairs, bound.as_slice())
+}
+
+/// The same where these are the terms of the clause's variables.
+fn ends_over(
+    alloc: Global,
+    pairs: &[Pair],
+    bound: &[Option<&Term>],
+) -> Result<(Tele, Items<(Term, Term)>), Stop>
+    requires bound { bound_of bound.now ≡ all_bound_of (pairs_of pairs.now) }
+    requires binds { AreOverSo most_levels (map spec.or_none (bound_of bound.now)) }
+    ensures { Gives ends_of result (ends_made (pairs_of pairs.now)) }
+{
+    let binds = with_none(alloc, bound, Items::new(alloc))?;
+    let dots = kept_dots(alloc, pairs, bound, binds.as_slice())?;
     Ok((binds, dots))
 }
 

@@ -117,16 +117,26 @@ pub fn point_keeping(
     ensures few { IfOk result (λ q. length q.context ≤ most_levels) }
 {
     let terms = keep_all(alloc, sig, pairs, p.terms.as_slice())?;
+    bounded_point(with_terms(p, terms))
+}
+
+/// The point with these terms of the columns.
+fn with_terms(p: Point, terms: Tele) -> Point
+    ensures context { result.context ≡ p.context }
+    ensures goal { result.goal ≡ p.goal }
+    ensures substitution { result.substitution ≡ p.substitution }
+    ensures terms { result.terms ≡ terms }
+{
     let Point {
         context,
         goal,
         substitution,
         ..
     } = p;
-    bounded_point(Point {
+    Point {
         context,
         goal,
         substitution,
         terms,
-    })
+    }
 }

@@ -1,19 +1,19 @@
-ghost use Rattle.std.specs.Prelude.{◌≡◌, ◌≤◌, ◌+◌, length, option_map, IfOk, None, Some, Ok};
+ghost use Rattle.std.specs.Prelude.{◌≡◌, ◌≤◌, ◌+◌, length, option_map, IfOk, None, Some, Ok, Err, ℕ};
 ghost use Rattle.core_terms.specs.Answers.{Gives};
 ghost use Rattle.core_terms.specs.Meanings.{tree_of, tele_of};
 ghost use Rattle.core_terms.specs.PatternMeanings.{pat_of};
 ghost use Rattle.theory.specs.SignatureScopes.{IsScoped};
+ghost use Rattle.theory.specs.Telescopes.{Telescope};
 ghost use Rattle.unification.specs.ScopedStates.{IsReady};
 ghost use Rattle.case_trees.specs.Looking as looking;
 ghost use Rattle.unification.specs.Solutions.{variable_in as variable_meant};
 ghost use Rattle.case_trees.specs.Pairs as pairs_spec;
-ghost use Rattle.case_trees.specs.Stops as stops;
 ghost use Rattle.clause_walks.specs.LookConditions.{IsContext};
-ghost use Rattle.clause_walks.specs.LookMeanings.{arrival_of, reach_of, reached_of};
+ghost use Rattle.clause_walks.specs.LookMeanings.{arrival_of, reached_of, stuck_stop, unmatched_stop};
 ghost use Rattle.clause_walks.specs.OpenPairs.{AreScopedOpen, all_open_of};
 ghost use Rattle.clause_walks.specs.ReachedRuns.{IsReached};
 ghost use Rattle.clause_walks.specs.Reaching as spec;
-ghost use Rattle.clause_walks.specs.Stops.{Yields, stop_of};
+ghost use Rattle.clause_walks.specs.Stops.{Tells, Yields, stop_of};
 
 use crate::open_pair::OpenPair;
 use crate::reaching::{Reach, Reached, reach_at};
@@ -25,116 +25,138 @@ use kernel_check::Kernel;
 use std::alloc::Global;
 use unifier::variable_in;
 
-/// What an open pair comes to: it is reached, or what says why it is not.
+/// A pattern that asks for a constructor, with a term that is neither one nor a variable.
 #[derive(Debug, Drop)]
-pub(crate) enum Arrival {
-    Found(Reached),
-    Stuck(TreeStop),
-    Forced(TreeStop),
+pub(crate) struct Unmatched<'a> {
+    pub pat: &'a Pat,
+    pub term: Term,
 }
 
-/// The first of two, or the later one if the first is None.
-fn or_later(first: Option<TreeStop>, later: TreeStop) -> Option<TreeStop>
-    ensures { option_map stop_of result ≡ pairs_spec.or_later (option_map stop_of first) (Some (stop_of later)) }
+/// What an open pair comes to: it is reached, or what says why it is not.
+#[derive(Debug, Drop)]
+pub(crate) enum Arrival<'a> {
+    Found(Reached),
+    Stuck(StuckRun),
+    Forced(Unmatched<'a>),
+}
+
+/// The first stuck run: the later one if there was none yet.
+fn keep_stuck(first: &mut Option<StuckRun>, later: StuckRun)
+    ensures { (clause : ℕ) → option_map (stuck_stop clause) first.new ≡ pairs_spec.or_later (option_map (stuck_stop clause) first.old) (Some (stuck_stop clause later)) }
 {
-    match first {
-        Some(stop) => Some(stop),
-        None => Some(later),
+    if first.is_none() {
+        *first = Some(later);
+    }
+}
+
+/// The first pair that is not matched: the later one if there was none yet.
+fn keep_unmatched<'a>(first: &mut Option<Unmatched<'a>>, later: Unmatched<'a>)
+    ensures { (clause : ℕ) (context : Telescope) → option_map (unmatched_stop clause context) first.new ≡ pairs_spec.or_later (option_map (unmatched_stop clause context) first.old) (Some (unmatched_stop clause context later.entry)) }
+{
+    if first.is_none() {
+        *first = Some(later);
     }
 }
 
 /// What ends the looking where no pair is reached.
-fn none_found(stuck: Option<TreeStop>, forced: Option<TreeStop>) -> TreeStop
-    ensures { stop_of result ≡ looking.none_found (option_map stop_of stuck) (option_map stop_of forced) }
+fn none_found(
+    alloc: Global,
+    clause: u32,
+    ctx: &[Term],
+    stuck: &mut Option<StuckRun>,
+    forced: &mut Option<Unmatched>,
+) -> Result<Reached, TreeStop>
+    ensures { Tells reached_of result (Err (looking.none_found (option_map (stuck_stop clause) stuck.old) (option_map (unmatched_stop clause (tele_of ctx.now)) forced.old))) }
 {
-    match stuck {
-        Some(stop) => stop,
-        None => match forced {
-            Some(stop) => stop,
-            None => TreeStop::Stop(Stop::Deep),
-        },
+    if let Some(run) = stuck.take() {
+        return Err(stuck_at(clause, run));
+    }
+    match forced.take() {
+        Some(unmatched) => Err(forced_at(alloc, clause, ctx, unmatched)?),
+        None => Err(TreeStop::Stop(Stop::Deep)),
     }
 }
 
-/// What a look comes to.
-fn arrived(clause: u32, look: Reach) -> Arrival
-    ensures { arrival_of result ≡ spec.arrival clause (reach_of look) }
+/// What says that a run was stuck.
+fn stuck_at(clause: u32, run: StuckRun) -> TreeStop
+    ensures { stop_of result ≡ stuck_stop clause run }
 {
-    match look {
-        Reach::Found(found) => Arrival::Found(found),
-        Reach::Passed(
-            StuckRun {
-                ctx,
-                left,
-                right,
-                why,
-            },
-        ) => Arrival::Stuck(TreeStop::Stuck {
-            clause,
-            ctx,
-            left,
-            right,
-            why,
-        }),
+    let StuckRun {
+        ctx,
+        left,
+        right,
+        why,
+    } = run;
+    TreeStop::Stuck {
+        clause,
+        ctx,
+        left,
+        right,
+        why,
     }
 }
 
 /// What says that a term is neither a constructor nor a variable.
-fn forced(alloc: Global, clause: u32, ctx: &[Term], pat: &Pat, term: Term) -> Result<Arrival, Stop>
-    ensures { Gives arrival_of result (Ok (spec.IsForced (stops.Forced clause (tele_of ctx.now) (pat_of pat.now) (tree_of term)))) }
+fn forced_at(
+    alloc: Global,
+    clause: u32,
+    ctx: &[Term],
+    unmatched: Unmatched,
+) -> Result<TreeStop, Stop>
+    ensures { Gives stop_of result (Ok (unmatched_stop clause (tele_of ctx.now) unmatched.entry)) }
 {
-    Ok(Arrival::Forced(TreeStop::Forced {
+    Ok(TreeStop::Forced {
         clause,
         ctx: copy_tele(alloc, ctx)?,
-        pat: copy_pat(alloc, pat)?,
-        term,
-    }))
+        pat: copy_pat(alloc, unmatched.pat)?,
+        term: unmatched.term,
+    })
 }
 
 /// What an open pair with this tidied term comes to.
-fn arrive_at(
+fn arrive_at<'a>(
     alloc: Global,
     sig: &Signature,
     own: bool,
     clause: u32,
     ctx: &[Term],
-    pat: &Pat,
+    pat: &'a Pat,
     term: Term,
     kernel: &mut Kernel<'_>,
-) -> Result<Arrival, TreeStop>
+) -> Result<Arrival<'a>, TreeStop>
     requires kernel { kernel.old.signature ≡ sig.now }
     requires ready { IsReady sig.now }
     requires context { IsContext sig.now (tele_of ctx.now) }
     requires term { IsScoped sig.now (length ctx.now) (tree_of term) }
-    ensures answer { Yields arrival_of result kernel.new.left (spec.arrive_at sig.now own clause (tele_of ctx.now) (pat_of pat.now) (tree_of term) (variable_meant (tree_of term)) kernel.old.left) }
+    ensures answer { Yields (arrival_of clause (tele_of ctx.now)) result kernel.new.left (spec.arrive_at sig.now own clause (tele_of ctx.now) (pat_of pat.now) (tree_of term) (variable_meant (tree_of term)) kernel.old.left) }
     ensures sum { kernel.new.left + kernel.new.spent ≡ kernel.old.left + kernel.old.spent }
     ensures spends { kernel.new.left ≤ kernel.old.left }
     ensures kernel { kernel.new.signature ≡ sig.now }
 {
-    match variable_in(&term) {
-        None => Ok(forced(alloc, clause, ctx, pat, term)?),
-        Some(x) => {
-            let look = reach_at(alloc, sig, own, clause, ctx, pat, x, kernel)?;
-            Ok(arrived(clause, look))
-        }
+    let Some(x) = variable_in(&term) else {
+        return Ok(Arrival::Forced(Unmatched { pat, term }));
+    };
+    match reach_at(alloc, sig, own, clause, ctx, pat, x, kernel)? {
+        Reach::Found(found) => Ok(Arrival::Found(found)),
+        Reach::Passed(run) => Ok(Arrival::Stuck(run)),
     }
 }
 
 /// What an open pair comes to, which is tidied first.
-fn arrive(
+fn arrive<'a>(
     alloc: Global,
     sig: &Signature,
     own: bool,
     clause: u32,
     ctx: &[Term],
-    pair: OpenPair,
+    pair: OpenPair<'a>,
     kernel: &mut Kernel<'_>,
-) -> Result<Arrival, TreeStop>
+) -> Result<Arrival<'a>, TreeStop>
     requires kernel { kernel.old.signature ≡ sig.now }
     requires ready { IsReady sig.now }
     requires context { IsContext sig.now (tele_of ctx.now) }
     requires term { IsScoped sig.now (length ctx.now) (tree_of pair.term.now) }
-    ensures answer { Yields arrival_of result kernel.new.left (spec.arrive sig.now own clause (tele_of ctx.now) (pat_of pair.entry.pat.now) (tree_of pair.entry.term.now) kernel.old.left) }
+    ensures answer { Yields (arrival_of clause (tele_of ctx.now)) result kernel.new.left (spec.arrive sig.now own clause (tele_of ctx.now) (pat_of pair.entry.pat.now) (tree_of pair.entry.term.now) kernel.old.left) }
     ensures sum { kernel.new.left + kernel.new.spent ≡ kernel.old.left + kernel.old.spent }
     ensures spends { kernel.new.left ≤ kernel.old.left }
     ensures kernel { kernel.new.signature ≡ sig.now }
@@ -144,37 +166,37 @@ fn arrive(
 }
 
 /// The looking from a pair on, with what the pairs before it left.
-fn look_from(
+fn look_from<'a>(
     alloc: Global,
     sig: &Signature,
     own: bool,
     clause: u32,
     ctx: &[Term],
-    pairs: &[OpenPair],
-    stuck: Option<TreeStop>,
-    forced: Option<TreeStop>,
+    pairs: &[OpenPair<'a>],
+    stuck: &mut Option<StuckRun>,
+    forced: &mut Option<Unmatched<'a>>,
     kernel: &mut Kernel<'_>,
 ) -> Result<Reached, TreeStop>
     requires kernel { kernel.old.signature ≡ sig.now }
     requires ready { IsReady sig.now }
     requires context { IsContext sig.now (tele_of ctx.now) }
     requires pairs { AreScopedOpen sig.now (length ctx.now) (all_open_of pairs.now) }
-    ensures answer { Yields reached_of result kernel.new.left (looking.first_found sig.now clause (tele_of ctx.now) (spec.reach sig.now own clause (tele_of ctx.now)) (all_open_of pairs.now) (option_map stop_of stuck) (option_map stop_of forced) kernel.old.left) }
+    ensures answer { Yields reached_of result kernel.new.left (looking.first_found sig.now clause (tele_of ctx.now) (spec.reach sig.now own clause (tele_of ctx.now)) (all_open_of pairs.now) (option_map (stuck_stop clause) stuck.old) (option_map (unmatched_stop clause (tele_of ctx.now)) forced.old) kernel.old.left) }
     ensures sum { kernel.new.left + kernel.new.spent ≡ kernel.old.left + kernel.old.spent }
     ensures spends { kernel.new.left ≤ kernel.old.left }
     ensures kernel { kernel.new.signature ≡ sig.now }
 {
     let [pair, rest @ ..] = pairs else {
-        return Err(none_found(stuck, forced));
+        return none_found(alloc, clause, ctx, stuck, forced);
     };
     match arrive(alloc, sig, own, clause, ctx, *pair, kernel)? {
         Arrival::Found(found) => Ok(found),
-        Arrival::Stuck(stop) => {
-            let stuck = or_later(stuck, stop);
+        Arrival::Stuck(run) => {
+            keep_stuck(stuck, run);
             look_from(alloc, sig, own, clause, ctx, rest, stuck, forced, kernel)
         }
-        Arrival::Forced(stop) => {
-            let forced = or_later(forced, stop);
+        Arrival::Forced(unmatched) => {
+            keep_unmatched(forced, unmatched);
             look_from(alloc, sig, own, clause, ctx, rest, stuck, forced, kernel)
         }
     }
@@ -204,5 +226,17 @@ pub fn first_found(
     ensures kernel { kernel.new.signature ≡ sig.now }
     ensures reached { IfOk result (λ r. IsReached sig.now (length ctx.now) (reached_of r)) }
 {
-    look_from(alloc, sig, own, clause, ctx, pairs, None, None, kernel)
+    let mut stuck = None;
+    let mut forced = None;
+    look_from(
+        alloc,
+        sig,
+        own,
+        clause,
+        ctx,
+        pairs,
+        &mut stuck,
+        &mut forced,
+        kernel,
+    )
 }

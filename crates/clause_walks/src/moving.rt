@@ -9,6 +9,7 @@ ghost use Rattle.clause_walks.specs.PointConditions.{AreOverSo};
 ghost use Rattle.unifier.specs.Conditions.{most_levels};
 
 use crate::Pair;
+use crate::pairs::{binds_with, clashes_with, keeps_with, waits_with};
 use core_terms::{Items, Stop, Term, inst, inst_terms};
 use std::alloc::Global;
 
@@ -19,16 +20,16 @@ fn moved_pair<'a>(alloc: Global, solution: &[Term], pair: &Pair<'a>) -> Result<P
     ensures { Gives pair_of result (behind.pair_made (tele_of solution.now) (pair_of pair.now)) }
 {
     match pair {
-        Pair::Waits(pat, t) => Ok(Pair::Waits(*pat, inst(alloc, solution, t)?)),
-        Pair::Binds(t) => Ok(Pair::Binds(inst(alloc, solution, t)?)),
+        Pair::Waits(pat, t) => waits_with(*pat, inst(alloc, solution, t)),
+        Pair::Binds(t) => binds_with(inst(alloc, solution, t)),
         Pair::Passes(_) => Ok(Pair::Passes(Term::Sort(0))),
-        Pair::Keeps(written, t) => Ok(Pair::Keeps(*written, inst(alloc, solution, t)?)),
+        Pair::Keeps(written, t) => keeps_with(*written, inst(alloc, solution, t)),
         Pair::Builds(n, number, ps, pairs) => {
             let ps = inst_terms(alloc, solution, ps.as_slice())?;
             let pairs = moved_onto(alloc, solution, pairs.as_slice(), Items::new(alloc))?;
             Ok(Pair::Builds(*n, *number, ps, pairs))
         }
-        Pair::Clashes(pat, t) => Ok(Pair::Clashes(*pat, inst(alloc, solution, t)?)),
+        Pair::Clashes(pat, t) => clashes_with(*pat, inst(alloc, solution, t)),
     }
 }
 

@@ -1,8 +1,10 @@
 ghost use Rattle.std.specs.Prelude.{◌≡◌, Ok};
+ghost use Rattle.core_terms.specs.Answered.{shown};
 ghost use Rattle.core_terms.specs.Answers.{Gives};
 ghost use Rattle.core_terms.specs.Meanings.{tree_of, tele_of};
 ghost use Rattle.core_terms.specs.PatternMeanings.{pat_of, pats_of};
 ghost use Rattle.case_trees.specs.Pairs as spec;
+ghost use Rattle.clause_walks.specs.AnsweredPairs.{of_term};
 ghost use Rattle.clause_walks.specs.Meanings.{pair_of, pairs_of, behind};
 
 use core_terms::{Items, Pat, Stop, Tele, Term, copy_tele, copy_whole};
@@ -34,7 +36,42 @@ pub fn waiting<'a>(alloc: Global, pats: &'a [Pat], terms: &[Term]) -> Result<Ite
 pub(crate) fn waits<'a>(alloc: Global, pat: &'a Pat, t: &Term) -> Result<Pair<'a>, Stop>
     ensures { Gives pair_of result (Ok (spec.Waits (pat_of pat.now) (tree_of t.now))) }
 {
-    Ok(Pair::Waits(pat, copy_whole(alloc, t)?))
+    waits_with(pat, copy_whole(alloc, t))
+}
+
+/// A pattern that waits with a term that is answered.
+pub(crate) fn waits_with<'a>(pat: &'a Pat, t: Result<Term, Stop>) -> Result<Pair<'a>, Stop>
+    ensures { Gives pair_of result (of_term (spec.Waits (pat_of pat.now)) (shown t)) }
+{
+    Ok(Pair::Waits(pat, t?))
+}
+
+/// A variable that has a term that is answered.
+pub(crate) fn binds_with<'a>(t: Result<Term, Stop>) -> Result<Pair<'a>, Stop>
+    ensures { Gives pair_of result (of_term spec.Binds (shown t)) }
+{
+    Ok(Pair::Binds(t?))
+}
+
+/// A wildcard with a term that is answered.
+pub(crate) fn passes_with<'a>(t: Result<Term, Stop>) -> Result<Pair<'a>, Stop>
+    ensures { Gives pair_of result (of_term spec.Passes (shown t)) }
+{
+    Ok(Pair::Passes(t?))
+}
+
+/// What is written in a dot, with a term that is answered.
+pub(crate) fn keeps_with<'a>(written: &'a Term, t: Result<Term, Stop>) -> Result<Pair<'a>, Stop>
+    ensures { Gives pair_of result (of_term (spec.Keeps (tree_of written.now)) (shown t)) }
+{
+    Ok(Pair::Keeps(written, t?))
+}
+
+/// A pattern that clashes with a term that is answered.
+pub(crate) fn clashes_with<'a>(pat: &'a Pat, t: Result<Term, Stop>) -> Result<Pair<'a>, Stop>
+    ensures { Gives pair_of result (of_term (spec.Clashes (pat_of pat.now)) (shown t)) }
+{
+    Ok(Pair::Clashes(pat, t?))
 }
 
 /// The same after pairs that are made.
@@ -86,15 +123,15 @@ pub(crate) fn copy_pair<'a>(alloc: Global, pair: &Pair<'a>) -> Result<Pair<'a>, 
     ensures { Gives pair_of result (Ok (pair_of pair.now)) }
 {
     match pair {
-        Pair::Waits(pat, t) => Ok(Pair::Waits(*pat, copy_whole(alloc, t)?)),
-        Pair::Binds(t) => Ok(Pair::Binds(copy_whole(alloc, t)?)),
-        Pair::Passes(t) => Ok(Pair::Passes(copy_whole(alloc, t)?)),
-        Pair::Keeps(written, t) => Ok(Pair::Keeps(*written, copy_whole(alloc, t)?)),
+        Pair::Waits(pat, t) => waits_with(*pat, copy_whole(alloc, t)),
+        Pair::Binds(t) => binds_with(copy_whole(alloc, t)),
+        Pair::Passes(t) => passes_with(copy_whole(alloc, t)),
+        Pair::Keeps(written, t) => keeps_with(*written, copy_whole(alloc, t)),
         Pair::Builds(n, number, ps, pairs) => {
             let copies = copy_after(alloc, pairs.as_slice(), Items::new(alloc))?;
             copied_builds(alloc, *n, *number, ps, copies)
         }
-        Pair::Clashes(pat, t) => Ok(Pair::Clashes(*pat, copy_whole(alloc, t)?)),
+        Pair::Clashes(pat, t) => clashes_with(*pat, copy_whole(alloc, t)),
     }
 }
 

@@ -19,7 +19,10 @@ ghost use Rattle.clause_walks.specs.Meanings.{pair_of, pairs_of};
 ghost use Rattle.clause_walks.specs.PairConditions.{AreKeptPairs};
 
 use crate::Pair;
-use crate::pairs::{clashes, copied_builds, copy_after, copy_pair, waiting_after, waits};
+use crate::pairs::{
+    binds_with, clashes, copied_builds, copy_after, copy_pair, keeps_with, passes_with,
+    waiting_after, waits,
+};
 use core_sig::Signature;
 use core_terms::{Items, MAX_HEIGHT, Pat, Stop, Term, copy_whole};
 use kernel_check::Kernel;
@@ -117,9 +120,9 @@ fn work_pattern<'a>(
     ensures kernel { kernel.new.signature ≡ sig.now }
 {
     match pat {
-        Pat::Bind => Ok(Pair::Binds(copy_whole(alloc, t)?)),
-        Pat::Wild => Ok(Pair::Passes(copy_whole(alloc, t)?)),
-        Pat::Dot(written) => Ok(Pair::Keeps(written, copy_whole(alloc, t)?)),
+        Pat::Bind => binds_with(copy_whole(alloc, t)),
+        Pat::Wild => passes_with(copy_whole(alloc, t)),
+        Pat::Dot(written) => keeps_with(written, copy_whole(alloc, t)),
         Pat::Con(n, number, pats) => {
             let w = compared_head(sig, room, t, kernel)?;
             compared(

@@ -29,7 +29,7 @@ pub(crate) fn few_place(p: Place) -> Result<Place, Stop>
 }
 
 /// The place after a solution, or Deep where something there is too high.
-pub(crate) fn place_after(
+fn place_after(
     alloc: Global,
     sig: &Signature,
     p: &Place,
@@ -46,24 +46,27 @@ pub(crate) fn place_after(
     few_place(moved)
 }
 
-/// The place with other terms for the variables of the tree's node.
-pub(crate) fn with_values(p: Place, values: Tele) -> Place
-    ensures { place_of result ≡ record (place_of p) { values = tele_of values } }
+/// The same in a box of its own.
+pub(crate) fn boxed_after(
+    alloc: Global,
+    sig: &Signature,
+    p: &Place,
+    ctx: &[Term],
+    subst: &[Term],
+) -> Result<Box<Place>, Stop>
+    requires place { IsKeptPlace sig.now (place_of p.now) }
+    requires solved { IsSolvedIn sig.now (tele_of ctx.now) (tele_of subst.now) }
+    ensures answer { Gives (λ q. place_of q.value) result (spec.bounded_place (spec.moved_place (place_of p.now) (tele_of ctx.now) (tele_of subst.now))) }
+    ensures kept { IfOk result (λ q. IsKeptPlace sig.now (place_of q.value)) }
 {
-    let Place {
-        ctx,
-        ty,
-        left,
-        right,
-        terms,
-        ..
-    } = p;
-    Place {
-        ctx,
-        ty,
-        left,
-        right,
-        terms,
-        values,
-    }
+    let place = place_after(alloc, sig, p, ctx, subst)?;
+    Ok(Box::new(alloc, place)?)
+}
+
+/// The place with other terms for the variables of the tree's node.
+pub(crate) fn with_values(mut p: Box<Place>, values: Tele) -> Box<Place>
+    ensures { place_of result.value ≡ record (place_of p.value) { values = tele_of values } }
+{
+    p.values = values;
+    p
 }

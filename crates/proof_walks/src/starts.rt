@@ -103,6 +103,22 @@ fn start(
     scoped_place(sig, few_place(place)?)
 }
 
+/// The same in a box of its own.
+fn boxed_start(
+    alloc: Global,
+    sig: &Signature,
+    plan: &Plan,
+    k: u32,
+    walk: &Walk,
+    e: Goal,
+) -> Result<Box<Place>, Stop>
+    ensures answer { Gives (λ q. place_of q.value) result (spec.start_made sig.now (plan_of plan.now) k (walk_of walk.now) (goal_of e.entry)) }
+    ensures kept { IfOk result (λ q. IsKeptPlace sig.now (place_of q.value)) }
+{
+    let place = start(alloc, sig, plan, k, walk, e)?;
+    Ok(Box::new(alloc, place)?)
+}
+
 /// The walk of a clause of part k of a plan, whose own walk and whose equation are given, through a tree.
 ///
 /// It is Deep where recursion is looked for in a telescope that is too high, and where something of the equation or of the clause's own
@@ -148,6 +164,6 @@ pub fn equation_proof_with(
     ensures kernel { kernel.new.signature ≡ sig.now }
     ensures kept { IfOk result (λ proof. AreKeptLeaves sig.now (leaves_in (proof_of proof))) }
 {
-    let place = start(alloc, sig, plan, k, walk, e)?;
+    let place = boxed_start(alloc, sig, plan, k, walk, e)?;
     walk_tree(alloc, sig, tree, place, kernel)
 }

@@ -18,7 +18,7 @@ ghost use Rattle.unification.specs.ScopedStates.{IsReady};
 ghost use Rattle.clause_walks.specs.PairConditions.{IsSolving};
 
 use crate::nodes::{Variable, constructor_met, variable_met};
-use crate::places::{place_after, with_values};
+use crate::places::{boxed_after, with_values};
 use crate::runs::{all_runs, steps_of_runs, stuck, stuck_run};
 use clause_walks::{Ran, Runs};
 use core_sig::Signature;
@@ -45,13 +45,13 @@ pub(crate) fn walk_tree(
     alloc: Global,
     sig: &Signature,
     tree: &Tree,
-    p: Place,
+    p: Box<Place>,
     kernel: &mut Kernel<'_>,
 ) -> Result<Proof, ReportStop>
     requires kernel { kernel.old.signature ≡ sig.now }
     requires ready { IsReady sig.now }
-    requires place { IsKeptPlace sig.now (place_of p) }
-    ensures answer { Reports proof_of result kernel.new.left (walks.walk_tree sig.now (case_tree_of tree.now) (place_of p) kernel.old.left) }
+    requires place { IsKeptPlace sig.now (place_of p.value) }
+    ensures answer { Reports proof_of result kernel.new.left (walks.walk_tree sig.now (case_tree_of tree.now) (place_of p.value) kernel.old.left) }
     ensures sum { kernel.new.left + kernel.new.spent ≡ kernel.old.left + kernel.old.spent }
     ensures spends { kernel.new.left ≤ kernel.old.left }
     ensures kernel { kernel.new.signature ≡ sig.now }
@@ -60,7 +60,7 @@ pub(crate) fn walk_tree(
     match tree {
         Tree::Leaf { clause, .. } => Ok(Proof::Ends {
             clause: *clause,
-            place: p,
+            place: Box::into_inner(p),
         }),
         Tree::Split {
             var,
@@ -85,13 +85,13 @@ fn walk_node(
     alloc: Global,
     sig: &Signature,
     node: Node,
-    p: Place,
+    p: Box<Place>,
     kernel: &mut Kernel<'_>,
 ) -> Result<Proof, ReportStop>
     requires kernel { kernel.old.signature ≡ sig.now }
     requires ready { IsReady sig.now }
-    requires place { IsKeptPlace sig.now (place_of p) }
-    ensures answer { Reports proof_of result kernel.new.left (spec.walk_node sig.now (node_of node.entry) (place_of p) kernel.old.left) }
+    requires place { IsKeptPlace sig.now (place_of p.value) }
+    ensures answer { Reports proof_of result kernel.new.left (spec.walk_node sig.now (node_of node.entry) (place_of p.value) kernel.old.left) }
     ensures sum { kernel.new.left + kernel.new.spent ≡ kernel.old.left + kernel.old.spent }
     ensures spends { kernel.new.left ≤ kernel.old.left }
     ensures kernel { kernel.new.signature ≡ sig.now }
@@ -114,14 +114,14 @@ fn at_other(
     sig: &Signature,
     node: Node,
     t: Term,
-    p: Place,
+    p: Box<Place>,
     kernel: &mut Kernel<'_>,
 ) -> Result<Proof, ReportStop>
     requires kernel { kernel.old.signature ≡ sig.now }
     requires ready { IsReady sig.now }
-    requires place { IsKeptPlace sig.now (place_of p) }
-    requires term { IsScoped sig.now (length p.ctx) (tree_of t) }
-    ensures answer { Reports proof_of result kernel.new.left (walks.at_other sig.now node.entry.family (tree_of t) (spec.splitting sig.now (node_of node.entry) (tree_of t)) (place_of p) kernel.old.left) }
+    requires place { IsKeptPlace sig.now (place_of p.value) }
+    requires term { IsScoped sig.now (length p.value.ctx) (tree_of t) }
+    ensures answer { Reports proof_of result kernel.new.left (walks.at_other sig.now node.entry.family (tree_of t) (spec.splitting sig.now (node_of node.entry) (tree_of t)) (place_of p.value) kernel.old.left) }
     ensures sum { kernel.new.left + kernel.new.spent ≡ kernel.old.left + kernel.old.spent }
     ensures spends { kernel.new.left ≤ kernel.old.left }
     ensures kernel { kernel.new.signature ≡ sig.now }
@@ -142,14 +142,14 @@ fn take_branch(
     branches: &[Branch],
     number: u32,
     arguments: &[Term],
-    p: Place,
+    p: Box<Place>,
     kernel: &mut Kernel<'_>,
 ) -> Result<Proof, ReportStop>
     requires kernel { kernel.old.signature ≡ sig.now }
     requires ready { IsReady sig.now }
-    requires place { IsKeptPlace sig.now (place_of p) }
-    requires arguments { AreScoped sig.now (length p.ctx) (tele_of arguments.now) }
-    ensures answer { Reports proof_of result kernel.new.left (walks.take_branch sig.now (branches_of branches.now) number (tele_of arguments.now) (place_of p) kernel.old.left) }
+    requires place { IsKeptPlace sig.now (place_of p.value) }
+    requires arguments { AreScoped sig.now (length p.value.ctx) (tele_of arguments.now) }
+    ensures answer { Reports proof_of result kernel.new.left (walks.take_branch sig.now (branches_of branches.now) number (tele_of arguments.now) (place_of p.value) kernel.old.left) }
     ensures sum { kernel.new.left + kernel.new.spent ≡ kernel.old.left + kernel.old.spent }
     ensures spends { kernel.new.left ≤ kernel.old.left }
     ensures kernel { kernel.new.signature ≡ sig.now }
@@ -174,14 +174,14 @@ fn enter_branch(
     sig: &Signature,
     branch: &Branch,
     arguments: &[Term],
-    p: Place,
+    p: Box<Place>,
     kernel: &mut Kernel<'_>,
 ) -> Result<Proof, ReportStop>
     requires kernel { kernel.old.signature ≡ sig.now }
     requires ready { IsReady sig.now }
-    requires place { IsKeptPlace sig.now (place_of p) }
-    requires arguments { AreScoped sig.now (length p.ctx) (tele_of arguments.now) }
-    ensures answer { Reports proof_of result kernel.new.left (walks.enter_branch sig.now (branch_of branch.now) (tele_of arguments.now) (place_of p) kernel.old.left) }
+    requires place { IsKeptPlace sig.now (place_of p.value) }
+    requires arguments { AreScoped sig.now (length p.value.ctx) (tele_of arguments.now) }
+    ensures answer { Reports proof_of result kernel.new.left (walks.enter_branch sig.now (branch_of branch.now) (tele_of arguments.now) (place_of p.value) kernel.old.left) }
     ensures sum { kernel.new.left + kernel.new.spent ≡ kernel.old.left + kernel.old.spent }
     ensures spends { kernel.new.left ≤ kernel.old.left }
     ensures kernel { kernel.new.signature ≡ sig.now }
@@ -209,23 +209,31 @@ fn split_variable(
     sig: &Signature,
     node: Node,
     v: Variable,
-    p: Place,
+    p: Box<Place>,
     kernel: &mut Kernel<'_>,
 ) -> Result<Proof, ReportStop>
     requires kernel { kernel.old.signature ≡ sig.now }
     requires ready { IsReady sig.now }
-    requires place { IsKeptPlace sig.now (place_of p) }
-    requires variable { IsVariableOf sig.now (length p.ctx) node.splits v }
-    ensures answer { Reports proof_of result kernel.new.left (walks.split_variable sig.now (spec.walk_node sig.now (spec.again (node_of node.entry))) v.entry.number (tree_of v.entry.ty) (member_meant v.entry.member) (place_of p) kernel.old.left) }
+    requires place { IsKeptPlace sig.now (place_of p.value) }
+    requires variable { IsVariableOf sig.now (length p.value.ctx) node.splits v }
+    ensures answer { Reports proof_of result kernel.new.left (walks.split_variable sig.now (spec.walk_node sig.now (spec.again (node_of node.entry))) v.entry.number (tree_of v.entry.ty) (member_meant v.entry.member) (place_of p.value) kernel.old.left) }
     ensures sum { kernel.new.left + kernel.new.spent ≡ kernel.old.left + kernel.old.spent }
     ensures spends { kernel.new.left ≤ kernel.old.left }
     ensures kernel { kernel.new.signature ≡ sig.now }
     ensures kept { IfOk result (λ proof. IsKeptProof sig.now (proof_of proof)) }
 {
-    match all_runs(alloc, sig, p.ctx.as_slice(), v.number, &v.member, kernel)? {
+    let place: &Place = &p;
+    match all_runs(
+        alloc,
+        sig,
+        place.ctx.as_slice(),
+        v.number,
+        &v.member,
+        kernel,
+    )? {
         Runs::Found(runs) => {
             let none = Items::new(alloc);
-            let proofs = solved_branches(alloc, sig, node, &p, runs.as_slice(), none, kernel)?;
+            let proofs = solved_branches(alloc, sig, node, place, runs.as_slice(), none, kernel)?;
             Ok(split_with(alloc, p, v, runs, proofs)?)
         }
         Runs::Passed(run) => Err(stuck_run(run)),
@@ -235,17 +243,17 @@ fn split_variable(
 /// The split of a variable, with the steps of these runs and these proofs.
 fn split_with(
     alloc: Global,
-    p: Place,
+    p: Box<Place>,
     v: Variable,
     runs: Items<Ran>,
     proofs: Items<Proof>,
 ) -> Result<Proof, Stop>
-    ensures { Gives proof_of result (Ok (walks.Splits (place_of p) v.entry.number (tree_of v.entry.ty) (runs_spec.steps_of_ends (ends_of runs)) (proofs_of proofs))) }
+    ensures { Gives proof_of result (Ok (walks.Splits (place_of p.value) v.entry.number (tree_of v.entry.ty) (runs_spec.steps_of_ends (ends_of runs)) (proofs_of proofs))) }
 {
     let runs = steps_of_runs(alloc, runs)?;
     let Variable { number, ty, .. } = v;
     Ok(Proof::Splits {
-        place: p,
+        place: Box::into_inner(p),
         x: number,
         ty,
         runs,
@@ -308,7 +316,7 @@ fn with_solved(
 {
     match &run.outcome {
         Outcome::Solved { ctx, subst, .. } => {
-            let q = place_after(alloc, sig, p, ctx.as_slice(), subst.as_slice())?;
+            let q = boxed_after(alloc, sig, p, ctx.as_slice(), subst.as_slice())?;
             let again = Node {
                 family: node.family,
                 variable: node.variable,
