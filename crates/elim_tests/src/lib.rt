@@ -1,5 +1,5 @@
-//! What the worked cases don't reach: devices that fail, bytes that are no text, limits of the lower crates, and a session
-//! after each kind of refusal.
+//! What the worked cases don't reach of the program: devices that fail, bytes that are no text, texts that are nested too deep, and a
+//! session after each kind of refusal of a function.
 #![tactic(auto)]
 
 #[cfg(test)]

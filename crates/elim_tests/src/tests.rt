@@ -1,15 +1,8 @@
 // A definition and its output, and runs of the program over memory.
 mod bytes;
-mod clauses;
 mod devices;
-mod drafts;
 mod function_sessions;
 mod nesting;
-mod patterns;
-mod ports;
-mod reductions;
-mod sessions;
-mod terms;
 
 ghost use Rattle.std.specs.Prelude.{◌≤◌};
 

@@ -15,7 +15,7 @@ use Rattle.elim_program.specs.Acceptance.{AcceptedIsShown, IsAccepted}
 use Rattle.elim_program.specs.Headline.{IsShown}
 use Rattle.elim_program.specs.Outputs.{head_lines}
 use Rattle.elim_program.specs.Written.{IsWritten}
-use Rattle.program_laws.specs.Laws.{GivesByTheGrammar}
+use Rattle.headline.specs.program_laws.Laws.{GivesByTheGrammar}
 use Rattle.headline.specs.FullHeadline.{AcceptedIsTheShown, IsOfTheSame}
 
 -- ---- the head lines say whether axiom K is on

@@ -7,9 +7,9 @@ use Rattle.elim_program.specs.Acceptance.{Acceptance, IsAccepted}
 use Rattle.elim_program.specs.Headline.{IsShown}
 use Rattle.elim_program.specs.Lines.{lines_of, text_of}
 use Rattle.elim_program.specs.Outputs.{accepted_line}
-use Rattle.program_laws.specs.CoreFiles.{IsCoreFile}
-use Rattle.program_laws.specs.Laws.{WithoutK}
-use Rattle.verified_laws.specs.AcceptedLines.{LinesAreCoreFiles, LinesAreReports}
+use Rattle.headline.specs.program_laws.CoreFiles.{IsCoreFile}
+use Rattle.headline.specs.program_laws.Laws.{WithoutK}
+use Rattle.headline.specs.verified_laws.AcceptedLines.{LinesAreCoreFiles, LinesAreReports}
 use Rattle.headline.specs.FullHeadline.{AcceptedIsTheShown, FullHeadline, IsFullyShown, IsOfTheSame}
 
 clauses-lack : LinesLackAxiomK → (words : List (List ℕ)) (bytes : List ℕ) (above : List (List ℕ)) (name : List ℕ) (shown : IsShown words bytes above name)

@@ -6,9 +6,9 @@ use Rattle.elim_program.specs.Headline.{IsShown}
 use Rattle.elim_program.specs.Lines.{lines_of, text_of}
 use Rattle.elim_program.specs.Outputs.{Output, accepted_line}
 use Rattle.k_laws.specs.Lines.{LinesLack}
-use Rattle.program_laws.specs.CoreFiles.{IsCoreFile}
-use Rattle.program_laws.specs.WithoutK.{AreWithoutK}
-use Rattle.verified_laws.specs.AcceptedLines.{IsReported}
+use Rattle.headline.specs.program_laws.CoreFiles.{IsCoreFile}
+use Rattle.headline.specs.program_laws.WithoutK.{AreWithoutK}
+use Rattle.headline.specs.verified_laws.AcceptedLines.{IsReported}
 
 -- What is shown is what the elaborator accepts: the same declaration of the text, over the same entries, with the same signature after it
 -- and the same clauses.

@@ -1,10 +1,10 @@
 //! The laws of the lines that accept a declaration.
 ghost use Rattle.headline.specs.FullHeadline.{AcceptedIsTheShown, FullHeadline};
 
+use crate::program_laws::{gives_by_the_grammar, without_k};
+use crate::verified_laws::lines::{lines_are_core_files, lines_are_reports};
 use elim_program::laws::{acceptance, accepted_is_shown};
 use k_laws::laws::lines_lack_axiom_k;
-use program_laws::laws::{gives_by_the_grammar, without_k};
-use verified_laws::lines::{lines_are_core_files, lines_are_reports};
 use written_functions::laws::functions_are_by_clauses;
 
 /// What the elaborator accepts is what the headline says of it.

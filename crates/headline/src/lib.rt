@@ -2,6 +2,10 @@
 #![tactic(auto)]
 
 pub mod laws;
+pub mod line_laws;
+pub mod program_laws;
 mod running;
+pub mod verified_laws;
+pub mod writing_laws;
 
 pub use running::run;

@@ -32,8 +32,8 @@ use Rattle.draft_scopes.specs.Laws.{IsNamedOver}
 use Rattle.draft_scopes.proofs.RenumberedDrafts.{in_order-scoped}
 use Rattle.draft_checks.specs.Checks.{enterable, has_draft_entries, is_draft_entry, is_draft_number, is_draft_term, names_enter}
 use Rattle.draft_entering.specs.Conditions.{IsGeneratedName}
-use Rattle.drafts_in_turn.proofs.RunNames.{IsFitting}
-use Rattle.drafts_in_turn.proofs.EnteringInTurn.{generated-enters}
+use Rattle.report_laws.proofs.drafts_in_turn.RunNames.{IsFitting}
+use Rattle.report_laws.proofs.drafts_in_turn.EnteringInTurn.{generated-enters}
 use Rattle.clause_reports.specs.Equations.{Equation, part_at}
 use Rattle.clause_reports.specs.Laws.{IsOver}
 use Rattle.clause_reports.specs.ProofTerms.{candidate, proof_name, proof_names, proof_term}

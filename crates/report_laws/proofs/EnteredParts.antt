@@ -40,7 +40,7 @@ use Rattle.draft_entering.specs.Conditions.{IsGeneratedName, IsOpen}
 use Rattle.draft_entering.specs.Depths.{entry_own_name, own_name}
 use Rattle.draft_entering.specs.Tables.{IsMadeOf, names_by}
 use Rattle.draft_entering.proofs.TableLookups.{found-listed, generated-made, listed-named}
-use Rattle.drafts_in_turn.proofs.EnteredDraft.{draft-defined, entry-defines, renumbered-name}
+use Rattle.report_laws.proofs.drafts_in_turn.EnteredDraft.{draft-defined, entry-defines, renumbered-name}
 use Rattle.elaboration.specs.Functions.{enter_drafts, enter_plan, enter_values, first_domains, recursion_in}
 use Rattle.elaboration.specs.Refusals.{answers, or_halts, owner_of, reporting}
 use Rattle.elaboration.proofs.Keeping.{no_report-has}

@@ -38,16 +38,16 @@ use Rattle.clause_reports.proofs.Keeping.{Grows, grows_on, grows_same, weaker, p
 use Rattle.clause_reports.proofs.ReportKeeping.{GrowsBy, report-grows}
 use Rattle.clause_equations.proofs.MadeEquations.{found-low}
 use Rattle.draft_entering.proofs.Entered.{next-assoc}
-use Rattle.plan_drafts.specs.Laws.{IsPlanFor}
+use Rattle.report_laws.specs.plan_drafts.Laws.{IsPlanFor}
 use Rattle.plan_laws.specs.Laws.{IsPlanOf, PlanIsOfFunction, PlanIsPlanned}
 use Rattle.plan_laws.specs.MadePlans.{PlanIsMade}
 use Rattle.plan_laws.proofs.Answering.{if-ok}
 use Rattle.plan_laws.proofs.ExactPlans.{domains-low, next-same}
-use Rattle.made_functions.specs.Laws.{LinesAreReported, PartsInTurn, WalksInTurn}
-use Rattle.drafts_in_turn.specs.Laws.{FunctionEntersInTurn, HasLevel}
-use Rattle.drafts_in_turn.proofs.ClosedOrders.{plan-closed}
-use Rattle.drafts_in_turn.proofs.FamilyLevels.{family-level, level-low}
-use Rattle.drafts_in_turn.proofs.PartLevels.{ArePartsLow, part-low, plan-low}
+use Rattle.report_laws.specs.made_functions.Laws.{LinesAreReported, PartsInTurn, WalksInTurn}
+use Rattle.report_laws.specs.drafts_in_turn.Laws.{FunctionEntersInTurn, HasLevel}
+use Rattle.report_laws.proofs.drafts_in_turn.ClosedOrders.{plan-closed}
+use Rattle.report_laws.proofs.drafts_in_turn.FamilyLevels.{family-level, level-low}
+use Rattle.report_laws.proofs.drafts_in_turn.PartLevels.{ArePartsLow, part-low, plan-low}
 use Rattle.report_laws.specs.Functions.{FunctionIsMeant, PlanReports}
 use Rattle.report_laws.specs.Reportable.{IsReportable}
 use Rattle.report_laws.proofs.EnteredParts.{HasPlan, domains-are, plan-has}

@@ -15,7 +15,7 @@ use Rattle.replay_laws.proofs.SeenMembers.{member-entry}
 use Rattle.run_laws.proofs.AnsweredSplits.{IsSplitOver, branch-run, whole-member, whole_of}
 use Rattle.entry_laws.proofs.OnlyConstants.{Each, each-append}
 use Rattle.draft_entering.specs.Conditions.{IsGeneratedName}
-use Rattle.drafts_in_turn.proofs.RunNames.{IsFitting, can-analyse, problem-names}
+use Rattle.report_laws.proofs.drafts_in_turn.RunNames.{IsFitting, can-analyse, problem-names}
 use Rattle.clause_reports.specs.ProofTerms.{all_proof_names, goal_node, proof_names}
 use Rattle.clause_reports.specs.ProofWalks.{Place, Proof, Proofs}
 use Rattle.report_laws.proofs.WalkedProofs.{AreFrom, AreProofs, IsProof, from-first, from-next}

@@ -3,11 +3,11 @@ use Rattle.std.specs.Prelude.{◌≡◌, ℕ, true, IfOk, []}
 use Rattle.theory.specs.Signatures.{Signature}
 use Rattle.theory.specs.WellFormed.{IsWellFormed}
 use Rattle.draft_checks.specs.Checks.{unmarked}
-use Rattle.drafts_in_turn.specs.Laws.{HasLevel}
+use Rattle.report_laws.specs.drafts_in_turn.Laws.{HasLevel}
 use Rattle.elaboration.specs.Functions.{enter_plan, function_of, report_parts}
 use Rattle.family_check.specs.Scopes.{HasPrelude}
 use Rattle.function_lines.specs.FunctionMade.{function_made, parts_reported}
-use Rattle.plan_drafts.specs.Laws.{IsPlanFor}
+use Rattle.report_laws.specs.plan_drafts.Laws.{IsPlanFor}
 use Rattle.plan_laws.specs.Conditions.{IsFunctionFor}
 use Rattle.plan_laws.specs.MadePlans.{BeginsAlwaysClosed}
 use Rattle.resolve.specs.Functions.{Function}

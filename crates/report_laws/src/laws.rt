@@ -2,9 +2,9 @@
 ghost use Rattle.report_laws.specs.Functions.{FunctionIsMeant, PlanReports};
 ghost use Rattle.report_laws.specs.Laws.{ReportIsMade};
 
+use crate::drafts_in_turn::function_enters_in_turn;
+use crate::made_functions::lines_are_reported;
 use draft_checks::laws::unmarked_is_open;
-use drafts_in_turn::laws::function_enters_in_turn;
-use made_functions::laws::lines_are_reported;
 use plan_laws::laws::{plan_is_made, plan_is_of_function, plan_is_planned};
 
 /// The report of a clause is made with each refusal that is meant, and with the same units.

@@ -1,5 +1,0 @@
-use Rattle.drafts_in_turn.proofs.FunctionNames.{enters-in_turn}
-use Rattle.drafts_in_turn.proofs.laws.function_enters_in_turn.Goals as goal
-
-pub returns : goal.returns
-returns c = enters-in_turn c.function_names_enter.ensures c.function_enters.ensures

@@ -1,0 +1,94 @@
+-- The lines of a function, and of a declaration.
+use Rattle.std.proofs.Common.{◌≡◌, ℕ, [], Ok, sym, subst as transport, arith}
+use Rattle.theory.specs.Signatures.{Definition, Signature}
+use Rattle.theory.specs.SignatureScopes.{HasEntries}
+use Rattle.theory.specs.WellFormed.{IsWellFormed, pushed}
+use Rattle.core_terms.proofs.Answers.{Answers, and_next-has}
+use Rattle.kernel_check.specs.Checking.{infer_sort_of}
+use Rattle.kernel_reduce.specs.Reduction.{nesting}
+use Rattle.surface_syntax.specs.Trees as surf
+use Rattle.elab_session.proofs.Resolved.{prelude-stays}
+use Rattle.elab_session.specs.Declaring.{accepted_as}
+use Rattle.tree_translation.specs.Plans.{Plan}
+use Rattle.clause_reports.proofs.Keeping.{Any, any, Grows, grows_on, weaker}
+use Rattle.elaboration.specs.Functions.{Lines, enter_plan, function_level, function_of, plan_of, report_parts}
+use Rattle.elaboration.specs.Refusals.{OfType, granted}
+use Rattle.family_check.specs.Scopes.{HasPrelude}
+use Rattle.function_lines.proofs.Provisional.{provisional-over}
+use Rattle.function_lines.specs.Conditions.{IsFunctionOver}
+use Rattle.function_session.proofs.Keeping.{function-has}
+use Rattle.function_session.proofs.OwnEntry.{HasOwn, plan-enters}
+use Rattle.function_session.proofs.Written.{function-scoped, itself}
+use Rattle.function_session.specs.Elaborating.{with_lines}
+use Rattle.function_session.specs.Evidence.{references_from}
+use Rattle.resolve.specs.Functions.{Function}
+use Rattle.headline.specs.line_laws.Laws.{DeclarationReports, FunctionReports, HasReports, HasReportedLines}
+use Rattle.headline.proofs.line_laws.PlanWalks.{IsPlanScoped, plan-scoped}
+use Rattle.headline.proofs.line_laws.Reports.{AreReports, IsBase, lines-from, parts-report}
+use Rattle.written_functions.specs.Clauses.{with_own}
+use Rattle.written_functions.proofs.Functions.{pushed-longer}
+
+grown : (S T : Signature) (f : Function) (plan : Plan) → IsPlanScoped S f plan → HasOwn S plan.name plan.type T → Grows S T
+grown S T f plan p h =
+    grows_on S h.before T h.longer
+    (grows_on h.before (pushed h.before (Definition plan.name plan.type h.body)) T h.enters h.entered)
+
+base-there : (S T : Signature) (f : Function) (plan : Plan) → IsPlanScoped S f plan → IsWellFormed S → HasPrelude S → HasOwn S plan.name plan.type T
+    → IsBase plan T
+base-there S T f plan p well first h = record {
+  well = (grown S T f plan p h).keeps well first;
+  prelude = prelude-stays S T first (grown S T f plan p h).prefix;
+  low = omega (arith, p.base, pushed-longer S h.before T plan.name plan.type h.body h.longer h.entered);
+}
+
+-- a plan that is known
+record IsKnown (S : Signature) (f : Function) (level left : ℕ) (plan : Plan) : Type 0 where
+  scoped : IsPlanScoped S f plan
+  planned : (plan_of S f level left).0 ≡ Ok plan
+
+plan-known : (S : Signature) (f : Function) (level left : ℕ) → IsFunctionOver (with_own S f) f → Answers (IsKnown S f level left) (plan_of S f level left)
+plan-known S f level left over =
+    itself (IsPlanScoped S f) (IsKnown S f level left) (plan_of S f level left).0 (plan-scoped S f level left over)
+    (λ plan p is. record { scoped = p; planned = is })
+
+function-reports-over : (S : Signature) (f : Function) (fuel : ℕ) → IsWellFormed S → HasPrelude S → HasEntries S f.type → IsFunctionOver (with_own S f) f
+    → Answers (HasReports S f) (function_of S f fuel)
+function-reports-over S f fuel well first entries over =
+    let P = HasReports S f in
+    let found = granted S OfType (infer_sort_of S nesting [] f.type fuel) in
+    and_next-has Any P found _ (any found.0) (λ sort rest u.
+    and_next-has Any P (function_level S sort, rest) _ (any (function_level S sort)) (λ level more v.
+    and_next-has (IsKnown S f level more) P (plan_of S f level more) _ (plan-known S f level more over) (λ plan end k.
+    let p = k.scoped in
+    and_next-has (HasOwn S plan.name plan.type) P (enter_plan S plan end) _
+    (plan-enters S plan end p.base (transport (HasEntries S) (sym p.type) entries)) (λ T last own.
+    let g = grown S T f plan p own in
+    weaker (AreReports T plan (references_from 0 plan.parts)) P (report_parts plan 0 plan.parts T last).0
+    (λ l r. record {
+      level = level;
+      left = more;
+      plan = plan;
+      planned = k.planned;
+      lines = lines-from S T l.signature plan (references_from 0 plan.parts) l.lines g.prefix r.evidence;
+    })
+    (parts-report S f plan p 0 plan.parts p.walks T last (base-there S T f plan p well first own))))))
+
+pub function-reports : FunctionReports
+function-reports S f fuel well first entries over = function-reports-over S f fuel well first entries over
+
+pub declaration-reports : DeclarationReports
+declaration-reports S fuel x ty cs ready =
+    function-has (HasReportedLines S x ty cs) S fuel x ty cs (λ f is.
+    let scoped = function-scoped S (surf.Fun x ty cs) f is in
+    weaker (HasReports S f) (λ (l : Lines). HasReportedLines S x ty cs (with_lines (accepted_as x.text l.signature) l.lines)) (function_of S f fuel).0
+    (λ l h. record {
+      given = f;
+      resolved = is;
+      level = h.level;
+      left = h.left;
+      plan = h.plan;
+      planned = h.planned;
+      lines = h.lines;
+    })
+    (function-reports-over S f fuel ready.well_formed ready.prelude scoped.type.scoped.entries
+    (provisional-over S f ready scoped)))

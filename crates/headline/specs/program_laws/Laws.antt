@@ -1,0 +1,69 @@
+-- Laws that use the headline of the program.
+use Rattle.std.specs.Prelude.{◌≡◌, ◌<◌, ◌++◌, ℕ, false, List, length, None, Ok, IfErr}
+use Rattle.theory.specs.Signatures.{Signature}
+use Rattle.surface_syntax.specs.Parses.{parsed}
+use Rattle.surface_syntax.specs.Trees.{Decl}
+use Rattle.surface_syntax.specs.declared.token.Token.{Token}
+use Rattle.elab_session.specs.declared.refusal.Refusal.{Refusal}
+use Rattle.function_session.specs.Elaborating.{Declaration, Function, Refused, elaborate_of}
+use Rattle.elim_program.specs.DefinedOutputs.{IsOutput}
+use Rattle.elim_program.specs.FunctionRefusals as functions
+use Rattle.elim_program.specs.Headline.{IsShown}
+use Rattle.elim_program.specs.Lines.{lines_of, text_of}
+use Rattle.elim_program.specs.Outputs.{Output}
+use Rattle.elim_program.specs.Reading.{IsRead}
+use Rattle.elim_program.specs.Refusals as refusals
+use Rattle.elim_program.specs.Texts.{Gives}
+use Rattle.elim_program.specs.Unbuilt.{unbuilt}
+use Rattle.elim_program.specs.VerifyHeadline.{IsVerified}
+use Rattle.headline.specs.program_laws.Answers.{SaysOf}
+use Rattle.headline.specs.program_laws.CoreFiles.{IsCoreFile, IsWritable}
+use Rattle.headline.specs.program_laws.LastLines.{last_line, status_by}
+use Rattle.headline.specs.program_laws.WithoutK.{HasNoK, AreWithoutK}
+
+-- for all words and bytes an output is defined
+abbrev pub HasOutput : Type 0
+HasOutput = (words : List (List ℕ)) (bytes : List ℕ) → (out : Output) × IsOutput words bytes out
+
+-- what the tokens of a text are read as has its reason in the grammar
+abbrev pub ReadsByTheGrammar : Type 0
+ReadsByTheGrammar = (bytes : List ℕ) (tokens : List Token) → SaysOf bytes tokens (parsed bytes tokens)
+
+-- The declarations that a text gives are those that the grammar has for its tokens, and all of them are built.
+abbrev pub GivesByTheGrammar : Type 0
+GivesByTheGrammar = (bytes : List ℕ) (decls : List Decl) → Gives bytes (Ok decls) → (is : IsRead bytes decls) × (unbuilt bytes is.tokens ≡ None)
+
+-- The status is the one that the last line shows: `Refused` exactly where it begins with `# refused `, `Usage` exactly where
+-- it begins with `# usage `, and else `Done`.
+abbrev pub StatusFollows : Type 0
+StatusFollows = (words : List (List ℕ)) (bytes : List ℕ) (out : Output) → IsOutput words bytes out → out.status ≡ status_by (last_line out.lines)
+
+-- the refusal of a declaration has a text
+abbrev pub HasReason : Refused → Type 0
+HasReason (Declaration e) = 0 < length (refusals.refusal_text e)
+HasReason (Function e) = 0 < length (functions.refusal_text e)
+
+-- Each line that is defined for a refusal has a reason: of an entry of a core file, of a declaration.
+abbrev pub ReasonsAreGiven : Type 0
+ReasonsAreGiven =
+    ((e : Refusal) → 0 < length (refusals.refusal_text e))
+    × ((S : Signature) (fuel : ℕ) (d : Decl) → IfErr (elaborate_of S fuel d) HasReason)
+
+-- Where the words do not ask for K, no line above the one that accepts a declaration is that of an instance of K, and no
+-- entry of the signature that they show holds K.
+abbrev pub WithoutK : Type 0
+WithoutK =
+    (words : List (List ℕ)) (bytes : List ℕ) (above : List (List ℕ)) (name : List ℕ) (shown : IsShown words bytes above name)
+    → shown.k ≡ false → AreWithoutK above shown.after
+
+-- the same of the entries of a core file that are verified
+abbrev pub VerifiedWithoutK : Type 0
+VerifiedWithoutK =
+    (text : List ℕ) (above : List (List ℕ)) (name : List ℕ) (verified : IsVerified false text above name) → HasNoK verified.signature
+
+-- One signature: where the entries that are accepted can be written in a core file, the lines above the one that accepts a
+-- declaration are a core file, and what is read from it, entry by entry, is the signature that has the declaration.
+abbrev pub OneSignature : Type 0
+OneSignature =
+    (words : List (List ℕ)) (bytes text : List ℕ) (above below : List (List ℕ)) (name : List ℕ) → lines_of text ≡ above ++ below
+    → (shown : IsShown words bytes above name) → IsWritable shown.after → IsCoreFile shown.k (text_of above) shown.after

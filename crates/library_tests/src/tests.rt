@@ -1,0 +1,7 @@
+mod clauses;
+mod drafts;
+mod patterns;
+mod ports;
+mod reductions;
+mod sessions;
+mod terms;

@@ -1,4 +1,0 @@
-//! The drafts of a resolved function: they are scoped, and are made.
-#![tactic(auto)]
-
-pub mod laws;
