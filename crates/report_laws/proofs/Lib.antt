@@ -1,6 +1,3 @@
-pub mod plan_drafts
-pub mod made_functions
-pub mod drafts_in_turn
 pub mod WalkedProofs
 pub mod MadeProofs
 pub mod ProofNames
