@@ -7,8 +7,8 @@ use Rattle.core_terms.specs.Patterns as pattern
 use Rattle.core_terms.specs.Patterns.{Pat, Pats}
 use Rattle.unification.specs.Built.{Built, built_of}
 use Rattle.unification.proofs.Constructors.{built-is}
-use Rattle.pattern_vectors.specs.Columns.{IsWhole, AreWhole}
-use Rattle.pattern_vectors.specs.Matching.{is_as_long, is_constructor, is_apart, is_apart_from, has_apart, is_there}
+use Rattle.case_trees.specs.pattern_vectors.Columns.{IsWhole, AreWhole}
+use Rattle.case_trees.specs.pattern_vectors.Matching.{is_as_long, is_constructor, is_apart, is_apart_from, has_apart, is_there}
 use Rattle.case_trees.specs.Pairs.{Pair, Pairs, Waits, Builds, Clashes, cons, waiting, term_in, terms_in}
 use Rattle.case_trees.specs.Keeping.{kept_over, unless_built, keep, keep_all}
 use Rattle.case_trees.proofs.Arguments.{built-with}

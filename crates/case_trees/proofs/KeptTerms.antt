@@ -7,9 +7,9 @@ use Rattle.theory.proofs.Lists.{some_is}
 use Rattle.core_terms.specs.Patterns as pattern
 use Rattle.core_terms.specs.Patterns.{Pat, Pats}
 use Rattle.unification.specs.Built.{Built, built_of}
-use Rattle.pattern_vectors.specs.Matching.{is_as_long, is_constructor, is_apart, is_apart_from, has_apart, is_there}
-use Rattle.pattern_vectors.proofs.Opens.{as-long-counted}
-use Rattle.pattern_vectors.proofs.Separate.{and-both}
+use Rattle.case_trees.specs.pattern_vectors.Matching.{is_as_long, is_constructor, is_apart, is_apart_from, has_apart, is_there}
+use Rattle.case_trees.proofs.pattern_vectors.Opens.{as-long-counted}
+use Rattle.case_trees.proofs.pattern_vectors.Separate.{and-both}
 use Rattle.unification.proofs.Constructors.{built-is}
 use Rattle.case_trees.proofs.Arguments.{built-with}
 use Rattle.case_trees.specs.HeadSteps.{HeadForm}

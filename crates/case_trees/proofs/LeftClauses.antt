@@ -13,11 +13,11 @@ use Rattle.core_terms.specs.Clauses as clause
 use Rattle.core_terms.specs.Clauses.{Clause, Clauses, Right, Is}
 use Rattle.core_terms.specs.declared.stop.Stop.{Stop}
 use Rattle.core_terms.specs.declared.stop.Stop.TheVariants.{Deep}
-use Rattle.pattern_vectors.specs.Columns.{AreWhole}
-use Rattle.pattern_vectors.specs.Matching.{is_as_long, matches_all, has_apart, are_apart}
-use Rattle.pattern_vectors.proofs.Opens.{as-long-counted}
-use Rattle.pattern_vectors.proofs.Separate.{and-both}
-use Rattle.pattern_vectors.proofs.Staying.{apart_stays}
+use Rattle.case_trees.specs.pattern_vectors.Columns.{AreWhole}
+use Rattle.case_trees.specs.pattern_vectors.Matching.{is_as_long, matches_all, has_apart, are_apart}
+use Rattle.case_trees.proofs.pattern_vectors.Opens.{as-long-counted}
+use Rattle.case_trees.proofs.pattern_vectors.Separate.{and-both}
+use Rattle.case_trees.proofs.pattern_vectors.Staying.{apart_stays}
 use Rattle.case_trees.specs.Pairs.{Pair, Pairs, Waits, Binds, Passes, Keeps, Builds, Clashes, nil, cons, waiting, clashes, some_clashes, with_terms, all_with_terms, all_open, all_bound, are_low_pairs}
 use Rattle.case_trees.specs.Points.{under_solution, moved_pairs}
 use Rattle.case_trees.specs.OwnWalks.{or_none}

@@ -13,7 +13,7 @@ use Rattle.core_terms.specs.Clauses.{Clauses, Right, Is}
 use Rattle.core_terms.specs.declared.stop.Stop.{Stop}
 use Rattle.core_terms.specs.declared.stop.Stop.TheVariants.{Deep}
 use Rattle.tele_eq.specs.ReflexivityLaws.{EachConverts}
-use Rattle.pattern_vectors.specs.Columns.{AreWhole}
+use Rattle.case_trees.specs.pattern_vectors.Columns.{AreWhole}
 use Rattle.unification.proofs.UnderInstances.{each-same, each-inst}
 use Rattle.case_trees.specs.Pairs.{Pairs, terms_in, are_low_pairs}
 use Rattle.case_trees.specs.Keeping.{keep_all}

@@ -10,7 +10,7 @@ use Rattle.core_terms.specs.Patterns.{Pat, Pats}
 use Rattle.core_terms.specs.declared.stop.Stop.TheVariants.{Fuel}
 use Rattle.kernel_reduce.specs.Reduction.{whnf_of}
 use Rattle.kernel_reduce.specs.Tidying.{tidy_of}
-use Rattle.pattern_vectors.specs.Matching.{is_constructor}
+use Rattle.case_trees.specs.pattern_vectors.Matching.{is_constructor}
 use Rattle.unification.specs.Built.{Built, built_of}
 use Rattle.unification.specs.Outcomes as outcome
 use Rattle.unification.specs.Outcomes.{Outcome}

@@ -8,8 +8,8 @@ use Rattle.theory.proofs.Lists.{some_is}
 use Rattle.core_terms.specs.Patterns as pattern
 use Rattle.core_terms.specs.Patterns.{Pat, Pats}
 use Rattle.unification.specs.Built.{Built, built_of}
-use Rattle.pattern_vectors.specs.Columns.{IsWhole, AreWhole}
-use Rattle.pattern_vectors.specs.Matching.{is_as_long}
+use Rattle.case_trees.specs.pattern_vectors.Columns.{IsWhole, AreWhole}
+use Rattle.case_trees.specs.pattern_vectors.Matching.{is_as_long}
 use Rattle.case_trees.specs.Pairs.{Pair, Pairs, Builds, waiting, term_in, terms_in}
 use Rattle.case_trees.specs.Keeping.{kept_over, unless_built, keep, keep_all}
 use Rattle.case_trees.proofs.HeadForms.{rests-itself, built-rests}

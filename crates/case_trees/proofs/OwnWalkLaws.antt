@@ -11,9 +11,9 @@ use Rattle.core_terms.specs.Patterns.{Pat, Pats}
 use Rattle.core_terms.specs.Clauses.{Right, Is}
 use Rattle.core_terms.specs.CaseTrees.{Walk}
 use Rattle.unification.specs.Built.{built_of}
-use Rattle.pattern_vectors.specs.Columns.{AreWhole}
-use Rattle.pattern_vectors.specs.Matching.{is_constructor, matches, matches_all, matches_built}
-use Rattle.pattern_vectors.proofs.Separate.{and-both}
+use Rattle.case_trees.specs.pattern_vectors.Columns.{AreWhole}
+use Rattle.case_trees.specs.pattern_vectors.Matching.{is_constructor, matches, matches_all, matches_built}
+use Rattle.case_trees.proofs.pattern_vectors.Separate.{and-both}
 use Rattle.case_trees.specs.Pairs.{Pair, Pairs, waiting, term_in, terms_in, some_clashes, open_in, all_open, all_bound, all_dots, all_left}
 use Rattle.case_trees.specs.Keeping.{keep_all}
 use Rattle.case_trees.specs.Points.{Point, bounded_point, start_at, under_solution, moved_point, moved_pairs, solution_for}

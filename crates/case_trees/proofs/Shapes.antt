@@ -11,10 +11,10 @@ use Rattle.core_terms.specs.Patterns as pattern
 use Rattle.core_terms.specs.Patterns.{Pat, Pats}
 use Rattle.kernel_reduce.specs.Entries.{constructor_at}
 use Rattle.unification.specs.Built.{Built, built_of}
-use Rattle.pattern_vectors.specs.Columns.{IsWhole, AreWhole}
-use Rattle.pattern_vectors.specs.Matching.{is_as_long, is_constructor, matches, matches_all, matches_built, is_apart}
+use Rattle.case_trees.specs.pattern_vectors.Columns.{IsWhole, AreWhole}
+use Rattle.case_trees.specs.pattern_vectors.Matching.{is_as_long, is_constructor, matches, matches_all, matches_built, is_apart}
 use Rattle.unification.proofs.Constructors.{found-constructor, instance_of, built-instance}
-use Rattle.pattern_vectors.proofs.Opens.{as-long-counted, numbers-same}
+use Rattle.case_trees.proofs.pattern_vectors.Opens.{as-long-counted, numbers-same}
 use Rattle.case_trees.specs.Pairs.{Pair, Pairs, Waits, Binds, Passes, Keeps, Builds, Clashes, nil, cons, waiting, term_in, terms_in, clashes, some_clashes, open_in, all_open, with_terms, all_with_terms}
 use Rattle.case_trees.proofs.Workings as work
 use Rattle.case_trees.proofs.Workings.{ReducesTo, Works, WorkAll, Becomes, AllBecome}

@@ -10,13 +10,13 @@ use Rattle.theory.proofs.Instantiation.{inst-applied}
 use Rattle.core_terms.specs.Patterns as pattern
 use Rattle.core_terms.specs.Patterns.{Pat, Pats}
 use Rattle.unification.specs.Built.{Built, built_of}
-use Rattle.pattern_vectors.specs.Matching.{is_as_long, is_constructor, matches, matches_all, matches_built, is_apart, is_apart_from, has_apart}
+use Rattle.case_trees.specs.pattern_vectors.Matching.{is_as_long, is_constructor, matches, matches_all, matches_built, is_apart, is_apart_from, has_apart}
 use Rattle.unification.proofs.Constructors.{instance_of, built-instance}
 use Rattle.case_trees.specs.Pairs.{Pair, Pairs, Waits, Binds, Passes, Keeps, Builds, Clashes, nil, cons, term_in, terms_in, clashes, some_clashes, with_terms, all_with_terms}
 use Rattle.case_trees.proofs.HeadChains.{form-stays}
 use Rattle.case_trees.proofs.Shapes as shape
 use Rattle.case_trees.proofs.Shapes.{HasShape, HaveShapes, IsDone, AreDone, done-parts, whole-long, works-shape, work-shapes, apart-constructor, apart-absurd, is_clash-apart}
-use Rattle.pattern_vectors.proofs.Staying.{apart-stays}
+use Rattle.case_trees.proofs.pattern_vectors.Staying.{apart-stays}
 use Rattle.case_trees.specs.Kept as kept
 use Rattle.case_trees.specs.Kept.{KeptFrom, KeptAll, at_arguments}
 use Rattle.case_trees.proofs.KeptTerms.{built-view, kept-trans, apart-kept, either-column}

@@ -18,7 +18,7 @@ use Rattle.unification.specs.Outcomes as outcome
 use Rattle.unification.specs.Outcomes.{Outcome}
 use Rattle.unification.specs.Runs.{unify_of}
 use Rattle.unification.proofs.RunProperties.{unify-spends}
-use Rattle.pattern_vectors.specs.Matching.{is_constructor}
+use Rattle.case_trees.specs.pattern_vectors.Matching.{is_constructor}
 use Rattle.case_trees.specs.Pairs.{Pair, Pairs, Waits, Binds, Passes, Keeps, Builds, Clashes, nil, cons, terms_in, waiting, clashes, first_clash, all_open, all_left}
 use Rattle.case_trees.specs.Working.{Rooms, of_columns, of_arguments, compared_head, compared, unless_clash, work_pattern, work_patterns, work_pair, work_pairs}
 use Rattle.case_trees.specs.Points.{Point, bounded_point, start_at, point_keeping}

@@ -13,10 +13,10 @@ use Rattle.core_terms.specs.CaseTrees as tree
 use Rattle.core_terms.specs.CaseTrees.{Tree, Branch, Branches}
 use Rattle.core_terms.specs.declared.stop.Stop.{Stop}
 use Rattle.core_terms.specs.declared.stop.Stop.TheVariants.{Deep}
-use Rattle.pattern_vectors.specs.Columns.{AreWhole}
-use Rattle.pattern_vectors.specs.Matching.{matches_all, has_apart, are_apart}
-use Rattle.pattern_vectors.proofs.Staying.{all-stay, apart_stays}
-use Rattle.pattern_vectors.proofs.Separate.{matched_is_not_apart}
+use Rattle.case_trees.specs.pattern_vectors.Columns.{AreWhole}
+use Rattle.case_trees.specs.pattern_vectors.Matching.{matches_all, has_apart, are_apart}
+use Rattle.case_trees.proofs.pattern_vectors.Staying.{all-stay, apart_stays}
+use Rattle.case_trees.proofs.pattern_vectors.Separate.{matched_is_not_apart}
 use Rattle.unification.specs.Outcomes as outcome
 use Rattle.unification.specs.Outcomes.{Outcome}
 use Rattle.unification.proofs.UnderInstances.{closed-bodies}

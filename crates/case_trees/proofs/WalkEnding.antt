@@ -15,8 +15,8 @@ use Rattle.core_terms.specs.Patterns as pattern
 use Rattle.core_terms.specs.Patterns.{Pat, Pats}
 use Rattle.core_terms.specs.Clauses.{Right, Is}
 use Rattle.core_terms.specs.CaseTrees.{Walk}
-use Rattle.pattern_vectors.specs.Columns.{AreWhole}
-use Rattle.pattern_vectors.specs.Matching.{matches_all}
+use Rattle.case_trees.specs.pattern_vectors.Columns.{AreWhole}
+use Rattle.case_trees.specs.pattern_vectors.Matching.{matches_all}
 use Rattle.unification.specs.ScopedStates.{IsReady}
 use Rattle.case_trees.specs.Pairs.{Pairs, waiting, terms_in, all_open, all_left, all_bound, all_dots}
 use Rattle.case_trees.specs.Keeping.{keep_all}

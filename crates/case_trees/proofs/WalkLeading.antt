@@ -3,7 +3,7 @@ use Rattle.std.proofs.Common.{ℕ, sym, subst as transport}
 use Rattle.theory.specs.Signatures.{Signature, HasClosedBodies}
 use Rattle.core_terms.specs.Patterns.{Pats}
 use Rattle.core_terms.specs.Clauses.{Is}
-use Rattle.pattern_vectors.specs.Columns.{AreWhole}
+use Rattle.case_trees.specs.pattern_vectors.Columns.{AreWhole}
 use Rattle.unification.proofs.UnderInstances.{closed-bodies}
 use Rattle.case_trees.specs.Pairs.{Pairs, waiting, terms_in, all_open, all_left}
 use Rattle.case_trees.specs.Keeping.{keep_all}

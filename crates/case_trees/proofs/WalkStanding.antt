@@ -17,7 +17,7 @@ use Rattle.kernel_reduce.specs.Laws.{IsHeadForm}
 use Rattle.kernel_reduce.proofs.ReductionLaws.{whnf-is_head_form}
 use Rattle.kernel_reduce.proofs.ScopedReduction.{whnf-scoped}
 use Rattle.tele_eq.specs.ReflexivityLaws.{EachConverts}
-use Rattle.pattern_vectors.specs.Matching.{is_as_long, is_there, is_apart_from, is_apart, has_apart, are_apart}
+use Rattle.case_trees.specs.pattern_vectors.Matching.{is_as_long, is_there, is_apart_from, is_apart, has_apart, are_apart}
 use Rattle.unification.specs.Built.{built_of}
 use Rattle.unification.specs.Solutions.{variable_in}
 use Rattle.unification.specs.Outcomes as outcome

@@ -7,7 +7,7 @@ use Rattle.core_terms.specs.Patterns.{Pat, Pats}
 use Rattle.kernel_reduce.specs.Laws.{IsHeadForm}
 use Rattle.tele_eq.specs.ReflexivityLaws.{EachConverts}
 use Rattle.unification.specs.Built.{Built, built_of}
-use Rattle.pattern_vectors.specs.Matching.{is_constructor}
+use Rattle.case_trees.specs.pattern_vectors.Matching.{is_constructor}
 use Rattle.case_trees.specs.Points.{Point}
 use Rattle.case_trees.specs.Standing.{IsNode}
 

@@ -15,7 +15,7 @@ use Rattle.tele_eq.specs.ReflexivityLaws.{EachConverts}
 use Rattle.unification.specs.Built.{Built, built_of}
 use Rattle.unification.specs.Outcomes.{Solved, Absurd, Stuck}
 use Rattle.unification.specs.declared.why.Why.{Why}
-use Rattle.pattern_vectors.specs.Matching.{is_constructor, are_apart}
+use Rattle.case_trees.specs.pattern_vectors.Matching.{is_constructor, are_apart}
 use Rattle.case_trees.specs.Points.{Point}
 use Rattle.case_trees.specs.Problems.{Member, member_of, type_of_variable, problem_of}
 use Rattle.case_trees.specs.Looking.{if_expected}

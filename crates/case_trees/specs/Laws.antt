@@ -14,7 +14,7 @@ use Rattle.core_terms.specs.declared.case_tree.Origin.TheVariants.{Old, Arg}
 use Rattle.core_terms.specs.declared.stop.Stop.TheVariants.{Fuel}
 use Rattle.kernel_reduce.specs.Laws.{IsHeadForm}
 use Rattle.tele_eq.specs.ReflexivityLaws.{EachConverts}
-use Rattle.pattern_vectors.specs.Matching.{matches_all, are_apart}
+use Rattle.case_trees.specs.pattern_vectors.Matching.{matches_all, are_apart}
 use Rattle.unification.specs.Outcomes.{Outcome, Solved}
 use Rattle.unification.specs.ScopedStates.{IsReady, IsScopedProblem}
 use Rattle.unification.specs.States.{Problem}

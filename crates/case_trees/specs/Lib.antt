@@ -1,3 +1,4 @@
+pub mod pattern_vectors
 pub mod Asking
 pub mod Causes
 pub mod HeadSteps

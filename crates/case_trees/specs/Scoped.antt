@@ -10,8 +10,8 @@ use Rattle.core_terms.specs.Clauses as clause
 use Rattle.core_terms.specs.Clauses.{Clause, Clauses, Is}
 use Rattle.core_terms.specs.CaseTrees as tree
 use Rattle.core_terms.specs.CaseTrees.{Step, Walk, Tree, Branch, Branches}
-use Rattle.pattern_vectors.specs.Columns.{AreWhole}
-use Rattle.pattern_vectors.specs.Matching.{is_as_long}
+use Rattle.case_trees.specs.pattern_vectors.Columns.{AreWhole}
+use Rattle.case_trees.specs.pattern_vectors.Matching.{is_as_long}
 use Rattle.unification.specs.ScopedStates.{AreScopedSteps}
 use Rattle.case_trees.specs.Pairs.{Pair, Pairs, Waits, Binds, Passes, Keeps, Builds, Clashes, nil, cons, all_unbound}
 use Rattle.case_trees.specs.Points.{Point}

@@ -9,7 +9,7 @@ use Rattle.core_terms.specs.Clauses.{Clauses, Right, Is}
 use Rattle.core_terms.specs.Patterns as pattern
 use Rattle.core_terms.specs.Patterns.{Pat, Pats}
 use Rattle.tele_eq.specs.ReflexivityLaws.{EachConverts}
-use Rattle.pattern_vectors.specs.Matching.{are_apart}
+use Rattle.case_trees.specs.pattern_vectors.Matching.{are_apart}
 use Rattle.case_trees.specs.Asking.{Asks}
 use Rattle.case_trees.specs.Places.{clause_at}
 use Rattle.case_trees.specs.Points.{Point}

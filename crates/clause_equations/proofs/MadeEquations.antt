@@ -29,7 +29,7 @@ equation-at-is S plan k pats side site =
     and_then (bounded (pure.right_side S plan side site)) (λ v. Ok (code.equation_of_sides site u v))))
     (left-is S plan k pats site)
 
--- what is found, where it is looked for in a low telescope
+-- the recursion that is found, where it is looked for in a low telescope
 pub found-low : (S : Signature) (tele : Telescope) (position : Option ℕ) → (is_none position || are_low tele) ≡ true
     → made_at S tele position ≡ Ok (option_and_then (recursion_at S tele) position)
 found-low S tele None e = refl

@@ -21,7 +21,7 @@ use Rattle.clause_reports.specs.Equations.{Site, Equation, number_of, part_name,
 abbrev pub params_in : Option Built → Option ℕ
 params_in b = option_map (λ b. length b.family.parameters) b
 
--- the head of a term at so many of its arguments and at what is shown of the others, or the term itself
+-- the head of a term at so many of its arguments and at the others as they are shown, or the term itself
 abbrev pub shown_at : (show : List Term → List Term) (t : Term) → Option ℕ → Term
 shown_at show t None = t
 shown_at show t (Some count) = applied (head_of t) (take count (spine_of t) ++ show (drop count (spine_of t)))

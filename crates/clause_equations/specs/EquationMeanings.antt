@@ -1,4 +1,4 @@
--- What places of clauses and equations in the code stand for.
+-- The meanings of places of clauses and of equations in the code.
 use Rattle.core_terms.specs.Meanings.{tree_of, tele_of}
 use Rattle.clause_reports.specs.Equations as pure
 use Rattle.clause_equations.specs.declared.sides.Equation.{Equation}

@@ -1,5 +1,5 @@
--- What is answered as the equation of a clause is that equation, and no refusal but one is added: Deep where recursion is looked for in
--- a telescope with a type that is too high.
+-- The equation of a clause that the code makes is the clause's equation, and no refusal but one is added: Deep where recursion is looked
+-- for in a telescope with a type that is too high.
 use Rattle.std.specs.Prelude.{◌≡◌, ℕ, ◌||◌, true, false, is_none, Ok, Err}
 use Rattle.theory.specs.Signatures.{Signature}
 use Rattle.core_terms.specs.Answers.{are_low}

@@ -127,11 +127,11 @@ fn equation_in(
 
 /// The equation of a clause of part k of a plan, whose own walk is given.
 ///
-/// It is over the context of the walk and of its goal's type. The left side is the function at what the patterns show of the terms of
-/// its columns, or helper k at the terms for its telescope and, where the function is recursive, at the values of the recursion. The
-/// right side is the clause's own with its bindings, or the call of a helper, with those values too. The function and its helpers have
-/// the numbers of the signature. It is Deep where a side is higher than 2,000, or where the plan has a position for recursion
-/// and a type of the function's own telescope is too high.
+/// It is over the context of the walk and of its goal's type. The left side is the function at the terms of its columns
+/// as the patterns show them, or helper k at the terms for its telescope and, where the function is recursive, at the
+/// values of the recursion. The right side is the clause's own with its bindings, or the call of a helper, with those
+/// values too. The function and its helpers have the numbers of the signature. It is Deep where a side is higher than
+/// 2,000, or where the plan has a decreasing argument and a type of the function's own telescope is too high.
 pub fn equation(
     alloc: Global,
     sig: &Signature,

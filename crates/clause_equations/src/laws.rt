@@ -1,6 +1,6 @@
 ghost use Rattle.clause_equations.specs.Laws.{EquationIsDeep, EquationIsMade, EquationMadeIsEquation};
 
-/// What is answered as the equation of a clause is that equation.
+/// The equation of a clause that the code makes is the clause's equation.
 pub fn equation_made_is_equation()
     ensures { EquationMadeIsEquation }
 {}

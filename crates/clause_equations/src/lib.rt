@@ -1,4 +1,4 @@
-//! The equation of a clause: the function applied to what the clause's patterns show, and its right side.
+//! The equation of a clause: the function applied to terms as the clause's patterns show them, and its right side.
 #![tactic(auto)]
 
 mod clauses;
@@ -6,6 +6,7 @@ mod constants;
 mod last_arguments;
 pub mod laws;
 mod parts;
+pub mod shadow_vectors;
 mod showing;
 mod sides;
 

@@ -58,7 +58,7 @@ fn spine(alloc: Global, t: &Term) -> Result<Vec<Term>, Stop>
     into_spine(alloc, t)
 }
 
-/// The head of a term at its parameters and at what the patterns show of its other arguments.
+/// The head of a term at its parameters and at its other arguments as the patterns show them.
 #[cycle(showing)]
 fn shown_after(
     alloc: Global,
@@ -78,7 +78,8 @@ fn shown_after(
     applied(alloc, head, made.into_vec())
 }
 
-/// What the patterns of a constructor's arguments show of a term: the term itself, where it is no constructor with all its arguments.
+/// A term as the patterns of a constructor's arguments show it: the term itself, where it is no constructor with all
+/// its arguments.
 #[cycle(showing)]
 fn shown_constructor(
     alloc: Global,
@@ -101,7 +102,7 @@ fn shown_constructor(
     }
 }
 
-/// What a pattern shows of a term.
+/// A term as a pattern shows it.
 #[cycle(showing)]
 fn shown(
     alloc: Global,
@@ -120,10 +121,10 @@ fn shown(
     }
 }
 
-/// Terms, followed by what patterns show of others.
+/// Terms, followed by others as patterns show them.
 ///
-/// A dot shows the term that is written there, with the clause's bindings; a constructor shows itself at what its patterns show of its
-/// arguments, where the term is that constructor with all of them; any other pattern shows the term.
+/// A dot shows the term that is written there, with the clause's bindings; a constructor shows itself at its arguments
+/// as its patterns show them, where the term is that constructor with all of them; any other pattern shows the term.
 #[cycle(showing)]
 pub fn with_shown(
     alloc: Global,

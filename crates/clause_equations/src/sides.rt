@@ -49,7 +49,7 @@ fn part_constant(alloc: Global, sig: &Signature, plan: &Plan, k: u32) -> Result<
     Ok(Term::Const(entry_number(sig, &name)))
 }
 
-/// The function at what its patterns show.
+/// The function at its columns' terms as its patterns show them.
 fn function_side(
     alloc: Global,
     sig: &Signature,
@@ -92,8 +92,8 @@ fn helper_side(
     applied_to_last(alloc, sig, plan, r, site.terms, head)
 }
 
-/// The left side of a clause of part k: the function at what its patterns show, or a helper at the terms of its telescope. Nothing tests
-/// its height.
+/// The left side of a clause of part k: the function at its columns' terms as its patterns show them, or a helper at
+/// the terms of its telescope. Nothing tests its height.
 pub fn left_side(
     alloc: Global,
     sig: &Signature,

@@ -1,4 +1,4 @@
--- What is answered of a candidate that enters, or does not.
+-- The line of a clause whose candidate enters, or does not.
 use Rattle.std.proofs.Common.{◌≡◌, ◌⊎◌, inl, inr, ℕ, List, Result, Ok, Err, refl, ap, subst as transport, arith}
 use Rattle.theory.specs.Signatures.{Signature}
 use Rattle.core_terms.specs.Answers.{Unless}
@@ -13,16 +13,16 @@ use Rattle.clause_reports.specs.ProofWalks.{Proof}
 use Rattle.clause_reports.specs.Reports.{Reported, reported}
 use Rattle.clause_reports.specs.Stops as stops
 use Rattle.clause_reports.specs.Stops.{Reporting, Halts}
-use Rattle.draft_entering.specs.Depths.{own_name}
-use Rattle.draft_entering.specs.Stops.{IsUnforeseen, Reports, stop_of}
-use Rattle.draft_entering.specs.declared.stop.ReportStop.{ReportStop}
-use Rattle.draft_entering.specs.declared.stop.ReportStop.TheVariants.{Stop, Stuck, Rejected}
+use Rattle.drafts.specs.draft_entering.Depths.{own_name}
+use Rattle.drafts.specs.draft_entering.Stops.{IsUnforeseen, Reports, stop_of}
+use Rattle.drafts.specs.declared.draft_entering.stop.ReportStop.{ReportStop}
+use Rattle.drafts.specs.declared.draft_entering.stop.ReportStop.TheVariants.{Stop, Stuck, Rejected}
 use Rattle.clause_lines.specs.CodeReports.{PlannedClause, clause_report, denied_made, entering_made, on_entered, report_made}
 use Rattle.clause_lines.specs.LineMeanings.{line_of}
 use Rattle.clause_lines.specs.declared.line.Line.{Line}
 use Rattle.clause_lines.specs.declared.line.Line.TheVariants.{Proved}
 
--- what is answered where the draft's entering is known
+-- the line of a clause by the answer of entering its candidate
 on_entering : Signature → PlannedClause → Proof → (name : List ℕ) → Reporting Entered → Reporting Reported
 on_entering S c proof name entered = on_entered S c proof name entered.0 entered.1
 
@@ -32,9 +32,9 @@ pub entered-proved : (S T : Signature) (c : PlannedClause) (proof : Proof) (d : 
 unfolding on_entering entering_made
 entered-proved S T c proof d number left end is = ap (on_entering S c proof (own_name d)) is
 
--- ---- want of memory
+-- ---- out of memory
 
--- a refusal is want of memory, or not
+-- a refusal is out of memory, or not
 memory-or-not : (e : ReportStop) → (e ≡ Stop variant.Memory) ⊎ (¬ (e ≡ Stop variant.Memory))
 memory-or-not (Stop variant.Memory) = inl refl
 memory-or-not (Stop variant.Fuel) = inr (λ h. absurd (grind arith))
@@ -57,7 +57,7 @@ refusal-is {A} e f n m h = err-is (ap (λ (r : Reporting A). r.0) h)
     err-is : ◌≡◌ {A = Result A stops.ReportStop} (Err e) (Err f) → e ≡ f
     err-is k = cc
 
--- where memory ran out, that is answered, and nothing is said
+-- where memory ran out, the answer is Memory, and nothing else has to hold
 of-memory : (T : Signature) (result : Result Line ReportStop) (left end : ℕ) (meant : Reporting Reported)
     → Reports (λ l. reported T (line_of l)) result end (Err (Halts variant.Memory), left) → Reports (λ l. reported T (line_of l)) result end meant
 of-memory T (Ok line) left end meant h = absurd (grind arith)

@@ -1,9 +1,9 @@
--- Where the first of two calls answers something, the second does so too: how this goes from parts to what is made of them.
+-- Where the first of two calls answers something, the second answers it too: how this goes from parts to calls that are made of them.
 use Rattle.std.proofs.Common.{◌≡◌, ℕ, Bool, true, false, cond, Result, Ok, Err, IfOk, refl, sym, ap, subst as transport}
 use Rattle.core_terms.specs.Answers.{SpentOr, and_next, on_answer}
 use Rattle.core_terms.specs.declared.stop.Stop.{Stop}
 use Rattle.clause_reports.specs.Stops.{answers, or_halts}
-use Rattle.draft_entering.proofs.NamedDrafts.{err-ok}
+use Rattle.drafts.proofs.draft_entering.NamedDrafts.{err-ok}
 
 abbrev pub spent : {A E : Type 0} → Result A E → ℕ → SpentOr E A
 spent r n = (r, n)
@@ -33,7 +33,7 @@ follows-next {A} {B} {E} made meant go on h k = by made.0 made.1 h
     by (Ok a) n h = transport (λ m. Follows (go a n) (and_next m on)) (sym (h a n refl)) (k a n)
     by (Err e) n h = refused e n (and_next meant on)
 
--- the same where the first goes on in two steps
+-- one call after another, where the first goes on in two steps
 pub follows-twice : {A B C E : Type 0} (made meant : SpentOr E A) (mid : A → ℕ → SpentOr E B) (go : B → ℕ → SpentOr E C) (on : A → ℕ → SpentOr E C)
     → Follows made meant → ((a : A) (rest : ℕ) → Follows (and_next (mid a rest) go) (on a rest))
     → Follows (and_next (and_next made mid) go) (and_next meant on)
@@ -55,7 +55,7 @@ pub halts-follow : {A : Type 0} (made meant : Result A Stop) (left : ℕ) → ((
 halts-follow (Ok a) meant left h = transport (λ m. Follows (spent (Ok a) left) (answers (or_halts m) left)) (sym (h a refl)) (follows-same (spent (Ok a) left))
 halts-follow (Err e) meant left h = refused _ left (answers (or_halts meant) left)
 
--- what holds of each answer of the second holds of each answer of the first
+-- a property of each answer of the second is one of each answer of the first
 pub follows-has : {A E : Type 0} (P : A → Type 0) (made meant : SpentOr E A) → Follows made meant → IfOk meant.0 P → IfOk made.0 P
 follows-has {A} {E} P made meant h k = by made.0 made.1 h
   where

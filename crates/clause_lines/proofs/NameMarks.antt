@@ -1,4 +1,4 @@
--- How the names of proofs of clauses end: otherwise than those of what is generated, and of instances.
+-- How the names of proofs of clauses end: otherwise than those of generated entries and of instances.
 use Rattle.std.proofs.Common.{◌≡◌, ℕ, zero, suc, ◌+◌, ◌≤◌, ◌/◌, ◌%◌, ◌==◌, Bool, true, false, cond, nat_lt, List, [], ◌∷◌, ◌++◌, codes, refl, sym, ap, ◌∙◌, arith}
 use Rattle.std.specs.Fmt.{decimal, digits, digits_onto, digit_glyph}
 use Rattle.std.proofs.lemmas.Bool.{ne_eqb}
@@ -6,8 +6,8 @@ use Rattle.theory.specs.PreludeFamilies.{level_text}
 use Rattle.core_text.specs.SymbolNames.{axiom_k_name, eliminator_name}
 use Rattle.clause_reports.specs.Generated.{Generated, name_of}
 use Rattle.clause_reports.specs.Generated.Generated.{Case, Below, Aux, Rec, All, ConfusionType, NoConfusion, Direct, Acyclic, Left}
-use Rattle.noconf_gen.specs.NoConfusionTypes.{constructor_name}
-use Rattle.proof_terms.specs.CodeProofs.{name_made}
+use Rattle.generators.specs.noconf_gen.NoConfusionTypes.{constructor_name}
+use Rattle.proof_walks.specs.proof_terms.CodeProofs.{name_made}
 
 -- ---- marks
 
@@ -76,7 +76,7 @@ IsOther name = ¬ (mark_after 0 name ≡ 99)
 dot-other : (name : List ℕ) → mark_after 0 name ≡ 46 → IsOther name
 dot-other name e h = absurd (omega (arith, e, h))
 
--- a text that ends in a dot, and digits
+-- bytes that end in a dot, and digits after them
 dotted : (text bytes : List ℕ) → AreDigits bytes → mark_after 0 text ≡ 46 → IsOther (text ++ bytes)
 dotted text bytes h e = dot-other (text ++ bytes)
     (mark-append 0 text bytes ∙ ap (λ m. mark_after m bytes) e ∙ digits-keep 46 (λ k. omega arith) bytes h)

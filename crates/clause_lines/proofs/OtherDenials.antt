@@ -1,4 +1,4 @@
--- What is denied on the way to the proof of a clause is not that proof: it has another name.
+-- An entry that is rejected on the way to the proof of a clause is not that proof: it has another name.
 use Rattle.std.proofs.Common.{◌≡◌, ℕ, zero, suc, ◌-◌, Bool, true, false, cond, Option, Some, None, List, [], ◌∷◌, length, Result, Ok, Err, IfOk, refl, sym, subst as transport}
 use Rattle.theory.specs.Families.{Family}
 use Rattle.theory.specs.Signatures.{Signature, Entry, EliminatorAt, AxiomKAt}
@@ -17,12 +17,12 @@ use Rattle.tree_translation.specs.Needed.{is_found}
 use Rattle.clause_reports.specs.DraftEntering.{Mention, Eliminates, AssumesK, Names, Entering, mentioned, with_entry, enter_eliminator, enter_axiom_k, enter_generated, enter_mention, enter_all, enter_entry, enter_with, enter_chain, longest_chain, enter_needed}
 use Rattle.clause_reports.specs.Generated.{Generated, generated_by, generated_draft, name_of}
 use Rattle.clause_reports.specs.Stops.{ReportStop, Reporting, Halts, Stuck, Rejected, answers, or_halts, or_rejected, entry_name, entering}
-use Rattle.draft_entering.specs.Depths.{entry_own_name, own_name}
-use Rattle.draft_entering.specs.Tables.{IsMadeOf, names_by}
-use Rattle.draft_entering.proofs.TableLookups.{generated-made}
+use Rattle.drafts.specs.draft_entering.Depths.{entry_own_name, own_name}
+use Rattle.drafts.specs.draft_entering.Tables.{IsMadeOf, names_by}
+use Rattle.drafts.proofs.draft_entering.TableLookups.{generated-made}
 use Rattle.clause_lines.proofs.NameMarks.{IsOther, axiom_k-other, eliminator-other, generated-other}
 
--- what is denied has another name
+-- the entry that is rejected has another name
 abbrev pub DeniesOthers : {A : Type 0} → Result A ReportStop → Type 0
 DeniesOthers (Ok a) = Unit {0}
 DeniesOthers (Err (Halts e)) = Unit {0}
@@ -63,7 +63,7 @@ axiom_k-denies S i m false left = tt
 
 -- ---- drafts
 
--- drafts with other names are denied by other names
+-- where a draft with another name enters, the entry that is rejected has another name
 abbrev EntersOthers : Entering → Type 0
 EntersOthers enter = (S : Signature) (d : Draft) (left : ℕ) → IsOther (own_name d) → DeniesOthers (enter S d left).0
 

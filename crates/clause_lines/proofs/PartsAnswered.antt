@@ -1,8 +1,8 @@
--- What is answered of the parts of a report is what is meant.
+-- The parts of a report that the code makes are those of the definition, and so the report is.
 use Rattle.leaf_terms.proofs.RecursionFound.{recursion-found}
-use Rattle.replay_laws.proofs.ReplayedSteps.{after_step-is_step}
+use Rattle.entry_laws.proofs.replay_laws.ReplayedSteps.{after_step-is_step}
 use Rattle.clause_equations.proofs.MadeEquations.{equation-made-is}
-use Rattle.proof_terms.proofs.ProofsMade.{candidate-is}
+use Rattle.proof_walks.proofs.proof_terms.ProofsMade.{candidate-is}
 use Rattle.proof_walks.proofs.WalkLaws.{walk-answers}
 use Rattle.clause_lines.specs.Laws.{ReportAnswers, ReportMadeKeepsWellFormed}
 use Rattle.clause_lines.proofs.ReportsAnswered.{ArePartsAnswered, answered, kept}

@@ -1,4 +1,4 @@
--- What is compared and what is reduced has entries, and few variables.
+-- Terms that are compared or reduced have entries, and few variables.
 use Rattle.std.proofs.Common.{◌≡◌, ℕ, ◌≤◌, true, cond, Err, [], ◌∷◌, length, sym, ap, ◌∙◌, arith}
 use Rattle.std.proofs.lemmas.Bool.{and_parts}
 use Rattle.theory.specs.Terms.{Term}
@@ -25,7 +25,7 @@ compared-reduce S n u v scoped few h =
       terms = scoped-more S n most_variables (u ∷ v ∷ []) (omega (arith, few)) (term-tells S n u p.0, (term-tells S n v p.1, tt));
     }
 
--- where terms can be compared, the comparison over this signature is what is answered
+-- where terms can be compared, the answer is their comparison over this signature
 pub compared-is : (K S : Signature) → K ≡ S → (n : ℕ) (u v : Term) (left : ℕ) → can_be_compared S n u v ≡ true
     → halting (convertible_of K nesting u v left) ≡ sides_compared S n u v left
 compared-is K S same n u v left h =

@@ -1,4 +1,4 @@
--- What is answered as the line of a clause is that line.
+-- The line of a clause that the code answers is the line as it is defined.
 use Rattle.std.proofs.Common.{◌≡◌, ◌≢◌, ℕ, Bool, true, false, cond, bytes_eq, List, [], ◌++◌, get_or, length, map, Result, Ok, Err, refl, sym, ap, ◌∙◌, subst as transport, arith}
 use Rattle.std.proofs.lemmas.Slice.Eq.{bytes_eq-Decides}
 use Rattle.theory.specs.Terms.{Term}
@@ -27,10 +27,10 @@ use Rattle.clause_equations.specs.CodeEquations.{equation_made}
 use Rattle.clause_equations.specs.Laws.{EquationMadeIsEquation}
 use Rattle.leaf_terms.specs.RecursionMade.{RecursionIsFound}
 use Rattle.split_terms.specs.Laws.{StepsAreThese}
-use Rattle.draft_checks.specs.Checks.{enterable}
-use Rattle.draft_entering.specs.Depths.{own_name}
-use Rattle.proof_terms.specs.CodeProofs.{name_made}
-use Rattle.proof_terms.specs.Laws.{CandidateIsThis}
+use Rattle.drafts.specs.draft_checks.Checks.{enterable}
+use Rattle.drafts.specs.draft_entering.Depths.{own_name}
+use Rattle.proof_walks.specs.proof_terms.CodeProofs.{name_made}
+use Rattle.proof_walks.specs.proof_terms.Laws.{CandidateIsThis}
 use Rattle.proof_walks.specs.Laws.{WalkAnswers}
 use Rattle.proof_walks.specs.Starts.{walk_made}
 use Rattle.clause_lines.specs.CodeReports.{Known, Candidate, in_plan, equation_converts, shadowed_made, on_entered, entering_made, candidate_of, with_candidate, proof_judged, unless_converts, sides_judged, equation_judged, on_judged, report_made}
@@ -73,7 +73,7 @@ candidate-own S plan c e proof d is =
     ordered-own (name_made (part_name plan c.part) c.clause) (length S.entries) (proof_names S L proof)
     (λ number. products e.context (equation L e.type e.left e.right)) (λ number. functions e.context (proof_term S number L proof)) d is
 
--- what is known of the parts
+-- the laws of the parts of a report
 pub record ArePartsAnswered : Type 0 where
   pub recursion : RecursionIsFound
   pub steps : (S : Signature) → StepsAreThese S
@@ -82,9 +82,9 @@ pub record ArePartsAnswered : Type 0 where
   pub walks : WalkAnswers
 
 module _ (laws : ArePartsAnswered) where
-  -- ---- what enters
+  -- ---- entering
 
-  -- a candidate with the name of a proof is denied itself where what is denied has this name
+  -- a candidate with the name of a proof is itself rejected where the rejected entry has this name
   entered-follows : (S : Signature) (plan : Plan) (c : Reference) (proof : Proof) (name : List ℕ) (r : Result Entered ReportStop) (left : ℕ)
       → Follows (on_entered S (in_plan plan c) proof name r left) (on_candidate S plan c proof r left)
   entered-follows S plan c proof name (Ok e) left = follows-same (spent (Ok (reported e.signature (pure.Proved e.number))) left)
@@ -98,7 +98,7 @@ module _ (laws : ArePartsAnswered) where
   is-denied name other false is marked h = refl
   is-denied name other true is marked h = absurd (h (ap (mark_after 0) ((bytes_eq-Decides other name).0 is) ∙ marked))
 
-  -- what is needed is denied by another name
+  -- an entry that the candidate needs is rejected under another name
   needed-follows : (S : Signature) (plan : Plan) (c : Reference) (proof : Proof) (name : List ℕ) → mark_after 0 name ≡ 99
       → (first : Reporting Signature) → DeniesOthers first.0 → (go : Signature → ℕ → Reporting Entered)
       → Follows (on_entered S (in_plan plan c) proof name (and_next first go).0 (and_next first go).1)

@@ -1,4 +1,4 @@
--- What is answered of a clause whose candidate is denied is what is meant.
+-- The answer for a clause whose candidate is rejected is the one that is meant.
 use Rattle.std.proofs.Common.{◌≡◌, ℕ, zero, suc, Bool, true, false, ◌&&◌, not, nat_lt, cond, Option, Some, List, [], ◌∷◌, length, Result, Ok, Err, refl, sym, ap, ◌∙◌, subst as transport}
 use Rattle.theory.specs.Terms.{Term}
 use Rattle.theory.specs.Telescopes.{Telescope}
@@ -84,7 +84,7 @@ module _ (found : RecursionIsFound) where
           (all-follow S plan c (order_at c.part plan (part_at plan c.part) (recursion_of S plan)) leaves left))
       by (Err e) is = refused (Halts e) left (convert_at_all S plan c.part c.clause (order_in S plan c.part) c.walk leaves left)
 
-  -- ---- the vector
+  -- ---- the arguments
 
   if-follows : (S : Signature) (r : Rejection) (earlier : ℕ) (context : Telescope) (vector : List Term) (leaves : List TreeLeaf) (holds : Bool) (left : ℕ)
       → Follows (answers (if_shadowed S (Rejected r) earlier context vector leaves holds) left)

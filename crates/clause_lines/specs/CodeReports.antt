@@ -1,6 +1,6 @@
 -- The line of a clause as the code finds it. It is the clause's own, or Deep: where the equation, its walk or its proof is Deep; where a
--- side of an equation names what is no entry, or has a variable that its context lacks; and where a proof names something that is neither
--- an entry nor generated.
+-- side of an equation names a number that is no entry's, or has a variable that its context lacks; and where a proof names something that
+-- is neither an entry nor generated.
 use Rattle.std.specs.Prelude.{ℕ, zero, suc, Bool, true, false, ◌&&◌, not, nat_lt, cond, bytes_eq, Option, None, List, [], ◌∷◌, length, map, Result, Ok, Err}
 use Rattle.theory.specs.Terms.{Term}
 use Rattle.theory.specs.Telescopes.{Telescope}
@@ -13,7 +13,7 @@ use Rattle.core_sig.specs.Drafts.{Draft}
 use Rattle.family_check.specs.Entering.{Entered}
 use Rattle.kernel_reduce.specs.Comparison.{convertible_of}
 use Rattle.kernel_reduce.specs.Reduction.{nesting}
-use Rattle.pattern_vectors.specs.Matching.{matches_all}
+use Rattle.case_trees.specs.pattern_vectors.Matching.{matches_all}
 use Rattle.tree_translation.specs.Plans.{Plan, Part, own_part}
 use Rattle.tree_translation.specs.Recursion.{Recursion, order_of}
 use Rattle.leaf_terms.specs.RecursionMade.{recursion_made}
@@ -24,9 +24,9 @@ use Rattle.clause_reports.specs.Reports.{Line, Definitional, Proved, Shadowed, A
 use Rattle.clause_reports.specs.Shadows.{TreeLeaf, leaves_of, vector_of}
 use Rattle.clause_reports.specs.Stops.{ReportStop, Reporting, Halts, Stuck, Rejected, answers, or_halts, halting}
 use Rattle.clause_equations.specs.CodeEquations.{equation_at, equation_made}
-use Rattle.draft_checks.specs.Checks.{enterable}
-use Rattle.draft_entering.specs.Depths.{own_name}
-use Rattle.proof_terms.specs.CodeProofs.{candidate_made, name_made}
+use Rattle.drafts.specs.draft_checks.Checks.{enterable}
+use Rattle.drafts.specs.draft_entering.Depths.{own_name}
+use Rattle.proof_walks.specs.proof_terms.CodeProofs.{candidate_made, name_made}
 use Rattle.proof_walks.specs.PlaceScopes.{is_scoped}
 use Rattle.proof_walks.specs.Starts.{walk_made}
 
@@ -68,11 +68,11 @@ first_order c r = order_at c.number c.plan c.part r
 abbrev pub equation_in : Signature → PlannedClause → Option Recursion → Site → Result Equation Stop
 equation_in S c r site = equation_at S c.plan r c.number (pats_of c.part c.clause) (side_of c.part c.clause) site
 
--- the same at a leaf
+-- the equation of the clause at a leaf
 abbrev pub equation_there : Signature → PlannedClause → Option Recursion → (order : List ℕ) → TreeLeaf → Result Equation Stop
 equation_there S c r order l = equation_in S c r (leaf_site order c.walk l.context l.goal l.substitution l.terms l.binds)
 
--- whether it converts there
+-- whether the equation converts there
 abbrev pub converts_there : Signature → PlannedClause → Option Recursion → (order : List ℕ) → TreeLeaf → ℕ → Reporting Bool
 converts_there S c r order l left =
     and_next (answers (or_halts (equation_there S c r order l)) left) (λ e rest. equation_converts S e rest)
@@ -89,13 +89,13 @@ converts_with S c leaves r left = converts_at_all S c r (first_order c r) leaves
 abbrev pub converts_at_leaves : Signature → PlannedClause → List TreeLeaf → ℕ → Reporting Bool
 converts_at_leaves S c leaves left = and_next (answers (or_halts (recursion_made S c.plan)) left) (converts_with S c leaves)
 
--- ---- shadowed clauses: `stop` is the denial of the candidate
+-- ---- shadowed clauses: `stop` is the rejection of the candidate
 
 abbrev pub if_shadowed : Signature → (stop : ReportStop) → (earlier : ℕ) → Telescope → (vector : List Term) → List TreeLeaf → Bool → Result Reported ReportStop
 if_shadowed S stop earlier context vector leaves true = Ok (reported S (Shadowed earlier context vector (map shown_leaf leaves)))
 if_shadowed S stop earlier context vector leaves false = Err stop
 
--- both clauses match the vector
+-- both clauses match the arguments
 abbrev pub both_match : Signature → PlannedClause → (earlier : ℕ) → (vector : List Term) → Bool
 both_match S c earlier vector = matches_all S (pats_of c.part c.clause) vector && matches_all S (pats_of c.part earlier) vector
 
@@ -122,7 +122,7 @@ abbrev pub is_earlier : Signature → (clause : ℕ) → ℕ × Place → ℕ �
 is_earlier S clause leaf left =
     and_next (place_converts S leaf.1 left) (λ holds rest. answers (Ok (not holds && nat_lt leaf.0 clause)) rest)
 
--- at the first such leaf
+-- the line by the first such leaf, or `stop`
 abbrev pub shadowed_among : Signature → PlannedClause → (stop : ReportStop) → List (ℕ × Place) → ℕ → Reporting Reported
 shadowed_among S c stop [] left = answers (Err stop) left
 shadowed_among S c stop (leaf ∷ leaves) left =
@@ -134,7 +134,7 @@ shadowed_made S c proof stop left = shadowed_among S c stop (leaves_in proof) le
 
 -- ---- the candidate
 
--- what is denied is the entry with this name
+-- the entry with this name is the one that is rejected
 abbrev pub denies : (name : List ℕ) → ReportStop → Bool
 denies name (Rejected r) = bytes_eq r.entry name
 denies name (Halts e) = false
@@ -157,7 +157,7 @@ candidate_of S c e proof = candidate_made S (name_made (part_name c.plan c.numbe
 
 -- ---- the report
 
--- What is known of a clause before anything enters: its line, or a proof of its equation with the candidate.
+-- The judgement of a clause, before anything enters: its line, or a proof of its equation with the candidate.
 pub data Judgement : Type 0 where
   Known : Line → Judgement
   Candidate : Proof → Draft → Judgement

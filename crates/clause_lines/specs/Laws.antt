@@ -1,4 +1,4 @@
--- What is answered as the line of a clause is that line.
+-- The line of a clause that the code answers is the line as it is defined.
 use Rattle.std.specs.Prelude.{◌≡◌, ℕ, Ok, IfOk}
 use Rattle.theory.specs.Signatures.{Signature, IsPrefix}
 use Rattle.theory.specs.WellFormed.{IsWellFormed}

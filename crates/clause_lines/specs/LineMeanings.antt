@@ -1,4 +1,4 @@
--- What lines, and clauses of plans, stand for.
+-- The meanings of lines, and of clauses of plans.
 use Rattle.std.specs.Prelude.{List, map}
 use Rattle.theory.specs.Terms.{Term}
 use Rattle.theory.specs.Telescopes.{Telescope}
@@ -15,9 +15,9 @@ use Rattle.clause_lines.specs.declared.line.Line.{Line}
 use Rattle.clause_lines.specs.declared.line.Line.TheVariants.{Definitional, Proved, Shadowed, Absurd}
 use Rattle.core_sig.specs.Drafts.{draft_of}
 use Rattle.clause_reports.specs.ProofWalks.{leaves_in}
-use Rattle.draft_entering.specs.Conditions.{IsEnterableDraft}
+use Rattle.drafts.specs.draft_entering.Conditions.{IsEnterableDraft}
 use Rattle.leaf_terms.specs.PlanMeanings.{part_of, plan_of}
-use Rattle.proof_terms.specs.ProofMeanings.{proof_of}
+use Rattle.proof_walks.specs.proof_terms.ProofMeanings.{proof_of}
 use Rattle.proof_walks.specs.PlaceScopes.{AreKeptLeaves}
 
 -- the context and the terms of a leaf

@@ -1,4 +1,4 @@
-//! What is known of a clause before anything enters.
+//! The judgement of a clause, before anything enters the signature.
 ghost use Rattle.std.specs.Prelude.{◌≡◌, ◌≤◌, ◌+◌, IfOk};
 ghost use Rattle.clause_equations.specs.EquationMeanings.{equation_of};
 ghost use Rattle.clause_lines.specs.CodeReports as spec;
@@ -6,9 +6,9 @@ ghost use Rattle.clause_lines.specs.LineMeanings.{IsJudged, clause_of, judged_of
 ghost use Rattle.clause_reports.specs.ProofWalks.{leaves_in};
 ghost use Rattle.core_sig.specs.Drafts.{draft_of};
 ghost use Rattle.core_terms.specs.Answers.{Gives, StandsFor};
-ghost use Rattle.draft_entering.specs.Conditions.{IsOpen};
-ghost use Rattle.draft_entering.specs.Stops.{IsUnforeseen, Reports, stop_of};
-ghost use Rattle.proof_terms.specs.ProofMeanings.{goal_of as goal_meant, proof_of};
+ghost use Rattle.drafts.specs.draft_entering.Conditions.{IsOpen};
+ghost use Rattle.drafts.specs.draft_entering.Stops.{IsUnforeseen, Reports, stop_of};
+ghost use Rattle.proof_walks.specs.proof_terms.ProofMeanings.{goal_of as goal_meant, proof_of};
 ghost use Rattle.proof_walks.specs.PlaceScopes.{AreKeptLeaves};
 ghost use Rattle.proof_walks.specs.Starts.{walk_made};
 
@@ -16,18 +16,18 @@ use crate::Line;
 use crate::clause::PlannedClause;
 use crate::names::proof_name;
 use crate::sides::equation_converts;
+use clause_equations::shadow_vectors::some_absurd;
 use clause_equations::{Equation, equation, pats_at};
 use core_sig::{Draft, Signature};
 use core_terms::Stop;
-use draft_checks::is_enterable;
-use draft_entering::ReportStop;
+use drafts::draft_checks::is_enterable;
+use drafts::draft_entering::ReportStop;
 use kernel_check::Kernel;
-use proof_terms::{Goal, Proof, candidate};
 use proof_walks::equation_proof_with;
-use shadow_vectors::some_absurd;
+use proof_walks::proof_terms::{Goal, Proof, candidate};
 use std::alloc::Global;
 
-/// What is known of a clause before anything enters: its line, or a proof of its equation with the candidate.
+/// The judgement of a clause, before anything enters: its line, or a proof of its equation with the candidate.
 #[derive(Drop)]
 pub enum Judgement {
     Known(Line),
@@ -73,7 +73,7 @@ fn with_candidate(sig: &Signature, proof: Proof, draft: Draft) -> Result<Judgeme
     }
 }
 
-/// What is known of a clause by the proof of its equation.
+/// The judgement of a clause by the proof of its equation.
 fn proof_judged(
     alloc: Global,
     sig: &Signature,
@@ -117,7 +117,7 @@ fn proof_of_equation(
     )
 }
 
-/// What is known of a clause whose equation does not convert.
+/// The judgement of a clause whose equation does not convert.
 fn walk_judged(
     alloc: Global,
     sig: &Signature,
@@ -137,7 +137,7 @@ fn walk_judged(
     proof_judged(alloc, sig, c, e, proof)
 }
 
-/// What is known of a clause by its equation.
+/// The judgement of a clause by its equation.
 fn sides_judged(
     alloc: Global,
     sig: &Signature,
@@ -159,7 +159,7 @@ fn sides_judged(
     walk_judged(alloc, sig, c, e, kernel)
 }
 
-/// What is known of a clause that has a right side.
+/// The judgement of a clause that has a right side.
 fn equation_judged(
     alloc: Global,
     sig: &Signature,
@@ -178,7 +178,7 @@ fn equation_judged(
     sides_judged(alloc, sig, c, &e, kernel)
 }
 
-/// What is known of a clause before anything enters.
+/// The judgement of a clause, before anything enters.
 pub(crate) fn judged(
     alloc: Global,
     sig: &Signature,

@@ -1,7 +1,7 @@
-//! What is answered as the line of a clause is that line.
+//! The line of a clause that the code answers is the line as it is defined.
 ghost use Rattle.clause_lines.specs.Laws.{ReportAnswers, ReportMadeKeepsWellFormed};
 
-/// What is answered as the line of a clause is that line.
+/// The line of a clause that the code answers is the line as it is defined.
 pub fn report_answers()
     ensures { ReportAnswers }
 {}

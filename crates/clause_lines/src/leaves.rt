@@ -5,20 +5,20 @@ ghost use Rattle.clause_equations.specs.EquationMeanings.{equation_of, site_of};
 ghost use Rattle.clause_lines.specs.CodeReports as spec;
 ghost use Rattle.clause_lines.specs.LineMeanings.{clause_of};
 ghost use Rattle.core_terms.specs.Answers.{Gives};
-ghost use Rattle.draft_entering.specs.Stops.{Reports};
+ghost use Rattle.drafts.specs.draft_entering.Stops.{Reports};
 ghost use Rattle.leaf_terms.specs.RecursionMeanings.{recursion_of as recursion_meant};
-ghost use Rattle.shadow_vectors.specs.LeafMeanings.{all_leaves_of, leaf_of};
+ghost use Rattle.clause_equations.specs.shadow_vectors.LeafMeanings.{all_leaves_of, leaf_of};
 ghost use Rattle.theory.specs.SignatureScopes.{IsScopedSignature};
 
 use crate::clause::PlannedClause;
 use crate::sides::equation_converts;
+use clause_equations::shadow_vectors::TreeLeaf;
 use clause_equations::{Equation, Site, equation_at, pats_at, side_or};
 use core_sig::Signature;
 use core_terms::{Items, Stop, Term, number_of};
-use draft_entering::ReportStop;
+use drafts::draft_entering::ReportStop;
 use kernel_check::Kernel;
 use leaf_terms::{Recursion, in_old_order, mapping, order_of, own_tele, recursion_of};
-use shadow_vectors::TreeLeaf;
 use std::alloc::Global;
 
 /// The order of the variables from which the tree of the clause's part starts.
@@ -123,7 +123,7 @@ fn converts_at_all(
     }
 }
 
-/// The same, with the function's recursion, if there is one.
+/// Whether the equation of the clause converts at each of these leaves, with the function's recursion, if there is one.
 fn converts_with(
     alloc: Global,
     sig: &Signature,

@@ -1,7 +1,8 @@
-//! The lines of clauses: what holds of each clause of a function.
+//! The lines of the clauses of a function.
 //!
-//! The equation of a clause holds by conversion, or a proof of it enters the signature. Where the proof is denied, an earlier clause may
-//! shadow the clause: both match a vector, and the equation converts at each leaf of the clause.
+//! The equation of a clause holds by conversion, or a proof of it enters the signature. Where the proof is rejected, an
+//! earlier clause may shadow the clause: both match the same arguments, and the equation converts at each leaf of the
+//! clause.
 #![tactic(auto)]
 
 mod clause;

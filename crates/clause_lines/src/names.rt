@@ -3,7 +3,7 @@ ghost use Rattle.std.specs.Prelude.{◌++◌, Ok, codes, decimal};
 ghost use Rattle.clause_reports.specs.Equations.{part_name as part_meant};
 ghost use Rattle.core_terms.specs.Answers.{Gives};
 ghost use Rattle.leaf_terms.specs.PlanMeanings.{plan_of};
-ghost use Rattle.proof_terms.specs.CodeProofs as spec;
+ghost use Rattle.proof_walks.specs.proof_terms.CodeProofs as spec;
 
 use clause_equations::part_name;
 use core_terms::{Name, Stop, next};

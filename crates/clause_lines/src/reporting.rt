@@ -5,11 +5,11 @@ ghost use Rattle.clause_reports.specs.ProofWalks.{leaves_in};
 ghost use Rattle.clause_reports.specs.Reports.{reported};
 ghost use Rattle.core_sig.specs.Drafts.{draft_of};
 ghost use Rattle.core_terms.specs.TreeMeanings.{walk_of};
-ghost use Rattle.draft_entering.specs.Conditions.{Extends, IsEnterableDraft, IsOpen};
-ghost use Rattle.draft_entering.specs.Depths.{own_name as own_meant};
-ghost use Rattle.draft_entering.specs.Stops.{Reports, stop_of};
+ghost use Rattle.drafts.specs.draft_entering.Conditions.{Extends, IsEnterableDraft, IsOpen};
+ghost use Rattle.drafts.specs.draft_entering.Depths.{own_name as own_meant};
+ghost use Rattle.drafts.specs.draft_entering.Stops.{Reports, stop_of};
 ghost use Rattle.leaf_terms.specs.PlanMeanings.{plan_of};
-ghost use Rattle.proof_terms.specs.ProofMeanings.{proof_of};
+ghost use Rattle.proof_walks.specs.proof_terms.ProofMeanings.{proof_of};
 ghost use Rattle.proof_walks.specs.PlaceScopes.{AreKeptLeaves};
 
 use crate::Line;
@@ -19,10 +19,10 @@ use crate::shadowing::shadowed;
 use clause_equations::part_or;
 use core_sig::{Draft, Entry, Signature};
 use core_terms::{Units, Walk};
-use draft_entering::{ReportStop, enter_draft};
+use drafts::draft_entering::{ReportStop, enter_draft};
 use kernel_check::Kernel;
 use leaf_terms::{Plan, no_part};
-use proof_terms::Proof;
+use proof_walks::proof_terms::Proof;
 use std::alloc::Global;
 
 /// The name of a draft's definition, or no bytes.
@@ -35,7 +35,7 @@ fn own_name(draft: &Draft) -> &[u8]
     }
 }
 
-/// Whether what is denied is the entry with this name.
+/// Whether the entry with this name is the one that is rejected.
 fn denies(name: &[u8], stop: &ReportStop) -> bool
     ensures { result ≡ spec.denies name.now (stop_of stop.now) }
 {
@@ -96,7 +96,7 @@ fn entered(
     }
 }
 
-/// What is known of a clause before anything enters.
+/// The judgement of a clause, before anything enters.
 fn judgement(
     alloc: Global,
     sig: &Signature,
@@ -138,10 +138,10 @@ fn clause_report(
 
 /// The line of clause `clause`, counted from 0, of a part of a plan, whose own walk is given.
 ///
-/// The equation of the clause holds by conversion, or a proof of it, with what the proof needs, is added to the signature. If the
-/// checker denies the proof itself, and an earlier clause shadows the clause, the signature stays as it was; so it does after an
-/// error. The units that were spent stay spent. The answer is Deep if the equation, its walk or its proof is Deep, if a side names
-/// what is no entry, or if the proof may not enter.
+/// The equation of the clause holds by conversion, or a proof of it, with the entries that the proof needs, is added to
+/// the signature. If the checker rejects the proof itself, and an earlier clause shadows the clause, the signature
+/// stays as it was; so it does after an error. The units that were spent stay spent. The answer is Deep if the
+/// equation, its walk or its proof is Deep, if a side names a number that is no entry's, or if the proof may not enter.
 pub fn report(
     alloc: Global,
     sig: &mut Signature,

@@ -9,12 +9,12 @@ ghost use Rattle.clause_reports.specs.Shadows as shadows;
 ghost use Rattle.clause_reports.specs.Stops.{halting};
 ghost use Rattle.core_terms.specs.Answers.{Gives, StandsFor};
 ghost use Rattle.core_terms.specs.Meanings.{tree_of, tele_of};
-ghost use Rattle.draft_entering.specs.Stops.{IsUnforeseen, Reports, stop_of};
+ghost use Rattle.drafts.specs.draft_entering.Stops.{IsUnforeseen, Reports, stop_of};
 ghost use Rattle.leaf_terms.specs.PlanMeanings.{part_of};
-ghost use Rattle.proof_terms.specs.ProofMeanings.{place_of, proof_of};
+ghost use Rattle.proof_walks.specs.proof_terms.ProofMeanings.{place_of, proof_of};
 ghost use Rattle.proof_walks.specs.PlaceScopes.{AreKeptLeaves, IsKeptPlace};
 ghost use Rattle.proof_walks.specs.WalkMeanings.{leaf_of, leaves_of as proof_leaves};
-ghost use Rattle.shadow_vectors.specs.LeafMeanings.{all_leaves_of, leaf_of as tree_leaf};
+ghost use Rattle.clause_equations.specs.shadow_vectors.LeafMeanings.{all_leaves_of, leaf_of as tree_leaf};
 ghost use Rattle.theory.specs.Signatures.{Signature as signature};
 ghost use Rattle.unification.specs.ScopedStates.{IsReady};
 
@@ -22,16 +22,16 @@ use crate::Line;
 use crate::clause::{PlannedClause, match_at};
 use crate::leaves::converts_at_leaves;
 use clause_equations::pats_at;
+use clause_equations::shadow_vectors::{TreeLeaf, leaves_of, vector_of};
 use core_sig::Signature;
 use core_terms::{Items, Stop, Tele, Term, copy_tele};
-use draft_entering::ReportStop;
+use drafts::draft_entering::ReportStop;
 use kernel_check::Kernel;
-use proof_terms::{Place, Proof};
+use proof_walks::proof_terms::{Place, Proof};
 use proof_walks::{Leaf, leaves_in};
-use shadow_vectors::{TreeLeaf, leaves_of, vector_of};
 use std::alloc::Global;
 
-// ---- the vector
+// ---- the arguments
 
 /// Whether the sides at a leaf of a proof convert.
 #[tactic(auto, unfolding(crate::specs::CodeReports::place_converts))]
@@ -59,7 +59,7 @@ fn is_earlier(clause: u32, leaf: Leaf, kernel: &mut Kernel<'_>) -> Result<bool, 
     Ok(!holds && leaf.clause < clause)
 }
 
-/// The vector that an earlier clause takes from the terms of the clause at a leaf of its proof.
+/// The arguments that an earlier clause takes from the terms of the clause at a leaf of its proof.
 fn vector_at(
     alloc: Global,
     sig: &Signature,
@@ -81,7 +81,7 @@ fn vector_at(
     Ok(vector_of(alloc, sig, own, other, p.terms.as_slice(), kernel)?)
 }
 
-/// Whether the clause and an earlier one match a vector.
+/// Whether the clause and an earlier one match the same arguments.
 fn both_match(sig: &Signature, c: PlannedClause, earlier: u32, vector: &Tele) -> bool
     ensures { result ≡ spec.both_match sig.now (clause_of c.entry) earlier (tele_of vector.now) }
 {
@@ -91,7 +91,7 @@ fn both_match(sig: &Signature, c: PlannedClause, earlier: u32, vector: &Tele) ->
 
 // ---- the line
 
-/// What is shown of a leaf: its context and its terms.
+/// The context and the terms of a leaf, which the line shows.
 fn shown(alloc: Global, leaf: TreeLeaf) -> Result<(Tele, Tele), Stop>
     ensures { Gives leaf_shown result (Ok (shown_leaf (tree_leaf leaf.entry))) }
 {
@@ -99,7 +99,7 @@ fn shown(alloc: Global, leaf: TreeLeaf) -> Result<(Tele, Tele), Stop>
     Ok((ctx, copy_tele(alloc, leaf.terms)?))
 }
 
-/// What is shown of leaves, after what was made before.
+/// The contexts and the terms of leaves, after those that were made before.
 fn with_shown(
     alloc: Global,
     leaves: &[TreeLeaf],
@@ -136,7 +136,7 @@ fn shadowed_line(
     })
 }
 
-/// That line, or the denial of the candidate where the equation does not convert at each leaf.
+/// That line, or the rejection of the candidate where the equation does not convert at each leaf.
 fn if_shadowed(
     alloc: Global,
     stop: ReportStop,
@@ -155,7 +155,8 @@ fn if_shadowed(
     }
 }
 
-/// The line of a clause that matches a vector with an earlier one, and has these leaves, or the denial of its candidate.
+/// The line of a clause that matches the arguments as an earlier one does and has these leaves, or the rejection of its
+/// candidate.
 fn at_matched(
     alloc: Global,
     sig: &Signature,
@@ -178,7 +179,8 @@ fn at_matched(
     if_shadowed(alloc, stop, earlier, ctx, vector, leaves, holds)
 }
 
-/// The same with the leaves of the clause in its part's tree.
+/// The line of a clause that matches the arguments as an earlier one does, by its leaves in its part's tree, or the
+/// rejection of its candidate.
 fn at_leaves(
     alloc: Global,
     sig: &Signature,
@@ -210,7 +212,7 @@ fn at_leaves(
     )
 }
 
-/// The line of a clause whose vector is found, or the denial of its candidate.
+/// The line of a clause whose arguments are found, or the rejection of its candidate.
 fn at_vector(
     alloc: Global,
     sig: &Signature,
@@ -235,7 +237,7 @@ fn at_vector(
     }
 }
 
-/// The same at a leaf of the proof, which belongs to an earlier clause.
+/// The line of a clause by a leaf of its proof that belongs to an earlier clause, or the rejection of its candidate.
 fn at_place(
     alloc: Global,
     sig: &Signature,
@@ -266,7 +268,8 @@ fn at_place(
     )
 }
 
-/// The same at the first of these leaves of the proof at which the sides do not convert and whose clause is an earlier one.
+/// The line of a clause by the first of these leaves of its proof at which the sides do not convert and whose clause is
+/// an earlier one, or the rejection of its candidate.
 fn shadowed_among(
     alloc: Global,
     sig: &Signature,
@@ -294,7 +297,7 @@ fn shadowed_among(
     }
 }
 
-/// The line of a clause whose candidate is denied where an earlier clause shadows it, or that denial.
+/// The line of a clause whose candidate is rejected where an earlier clause shadows it, or that rejection.
 pub(crate) fn shadowed(
     alloc: Global,
     sig: &Signature,

@@ -4,7 +4,7 @@ ghost use Rattle.clause_equations.specs.EquationMeanings.{equation_of};
 ghost use Rattle.clause_lines.specs.CodeReports as spec;
 ghost use Rattle.core_terms.specs.Answers.{Gives};
 ghost use Rattle.core_terms.specs.Meanings.{tree_of};
-ghost use Rattle.draft_entering.specs.Stops.{Reports};
+ghost use Rattle.drafts.specs.draft_entering.Stops.{Reports};
 ghost use Rattle.proof_walks.specs.PlaceScopes as scopes;
 ghost use Rattle.theory.specs.SignatureScopes.{IsScopedSignature};
 ghost use Rattle.unifier.specs.Conditions.{most_levels};
@@ -12,7 +12,7 @@ ghost use Rattle.unifier.specs.Conditions.{most_levels};
 use clause_equations::Equation;
 use core_sig::{Signature, is_scoped};
 use core_terms::{Stop, Term};
-use draft_entering::ReportStop;
+use drafts::draft_entering::ReportStop;
 use kernel_check::Kernel;
 
 /// How many variables a context may have; with more, memory is short.
@@ -66,7 +66,8 @@ fn sides_compared(
     }
 }
 
-/// Whether the sides of an equation convert, or Deep where one of them is not over the equation's context or names what is no entry.
+/// Whether the sides of an equation convert, or Deep where one of them is not over the equation's context or names a
+/// number that is no entry's.
 pub(crate) fn equation_converts(
     sig: &Signature,
     e: &Equation,

@@ -1,4 +1,4 @@
--- What enters comes after the entries that are there, and a well-formed signature stays well formed.
+-- New entries come after those that are there, and a well-formed signature stays well formed.
 use Rattle.std.proofs.Common.{◌≡◌, subst as transport, sym, refl, ℕ, zero, suc, Bool, true, false, cond, Option, Some, None, List, [], ◌∷◌, length, Result, Ok, Err, IfOk, arith, length-append}
 use Rattle.theory.specs.Terms.{Term}
 use Rattle.theory.specs.Families.{Family}
@@ -51,7 +51,7 @@ weaker P Q (Err e) k h = tt
 abbrev pub Any : {A : Type 0} → A → Type 0
 Any a = Unit {0}
 
--- what two facts of an answer give
+-- a consequence of two facts of one answer
 pub weaker-of-two : {A E : Type 0} (P Q Z : A → Type 0) (r : Result A E) → IfOk r P → IfOk r Q → ((a : A) → P a → Q a → Z a) → IfOk r Z
 weaker-of-two P Q Z (Ok a) p q k = k a p q
 weaker-of-two P Q Z (Err e) p q k = tt
@@ -60,7 +60,7 @@ pub any : {A E : Type 0} (r : Result A E) → IfOk r Any
 any (Ok a) = tt
 any (Err e) = tt
 
--- the signature of what entered
+-- the signature after an entry
 abbrev pub GrowsTo : Signature → Entered → Type 0
 GrowsTo S e = Grows S e.signature
 

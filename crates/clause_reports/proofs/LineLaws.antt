@@ -1,4 +1,4 @@
--- The laws of reports follow from what each line says.
+-- The laws of reports follow from the statement of each line.
 use Rattle.std.proofs.Common.{◌≡◌, ◌↔◌, subst as transport, refl, ℕ, Bool, true, false, cond, Result, Ok, Err, IfOk, arith}
 use Rattle.theory.specs.Signatures.{Signature}
 use Rattle.core_terms.proofs.Answers.{Answers}

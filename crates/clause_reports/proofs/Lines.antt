@@ -1,4 +1,4 @@
--- What a line of a clause says, however it is found.
+-- The statement that the line of a clause makes, however the line is found.
 use Rattle.std.proofs.Common.{◌≡◌, ◌<◌, subst as transport, refl, ℕ, Bool, true, false, cond, ◌&&◌, nat_lt, IsTrue, Option, Some, None, List, [], ◌∷◌, map, All, Result, Ok, Err, IfOk, arith}
 use Rattle.std.proofs.lemmas.Bool.Decides.{nat_tests}
 use Rattle.std.proofs.lemmas.List.Elements.{All-cons, All-nil}
@@ -15,7 +15,7 @@ use Rattle.kernel_reduce.specs.Comparison.{convertible_of}
 use Rattle.kernel_reduce.specs.Reduction.{nesting}
 use Rattle.kernel_reduce.proofs.ComparisonLaws.{convertible-converts}
 use Rattle.kernel_reduce.proofs.LookUps.{both-true}
-use Rattle.pattern_vectors.specs.Matching.{matches_all}
+use Rattle.case_trees.specs.pattern_vectors.Matching.{matches_all}
 use Rattle.tree_translation.specs.Plans.{Plan}
 use Rattle.clause_reports.specs.DraftEntering.{enter_all, enter_needed, mentioned}
 use Rattle.clause_reports.specs.Equations.{Equation, equation_of, part_at, pats_of}
@@ -38,7 +38,7 @@ after : {A B E : Type 0} (Q : B → Type 0) (first : SpentOr E A) (go : A → �
     → ((a : A) → Answers Q (go a first.1)) → Answers Q (and_next first go)
 after Q first go k = on_answer-then Q first.0 first.1 go k
 
--- the same after a call that only halts, whose answer is known
+-- after a call whose only refusal is a halt, and whose answer may be used as an equation
 after_halts : {A B : Type 0} (Q : B → Type 0) (r : Result A Stop) (left : ℕ) (go : A → ℕ → Reporting B)
     → ((a : A) → r ≡ Ok a → Answers Q (go a left)) → Answers Q (and_next (answers (or_halts r) left) go)
 after_halts Q (Ok a) left go k = k a refl
@@ -48,7 +48,7 @@ converts-when : (S : Signature) (a b : Term) (left : ℕ) (holds : Bool) → (co
 converts-when S a b left holds said h =
     transport (λ r. IfOk r (λ yes. IsTrue yes → Converts S a b)) said (convertible-converts S nesting a b left) h
 
--- ---- what is said
+-- ---- the statements of lines
 
 -- the equation of the clause is there, and its sides convert
 pub record SidesConvert (S : Signature) (answer : Result Equation Stop) : Type 0 where
@@ -69,7 +69,7 @@ pub record IsShadow (S : Signature) (plan : Plan) (c : Reference) (earlier : ℕ
   pub converts : All (ConvertsAt S plan c.part c.clause (order_in S plan c.part) c.walk) (leaves_of c.clause (part_at plan c.part).tree)
   pub same : T ≡ S
 
--- what a line says of a clause, with the signature that it comes with
+-- the statement of a line about its clause, with the signature T that it comes with
 abbrev pub Says : Signature → Plan → Reference → (T : Signature) → Line → Type 0
 Says S plan c T Definitional = SidesConvert S (equation_of S plan c.part c.clause c.walk) × (T ≡ S)
 Says S plan c T (Proved n) = IsProved S plan c.part c.clause (λ e. equation_of S plan c.part c.clause c.walk ≡ Ok e) T n

@@ -1,4 +1,4 @@
--- The type of a candidate is the closed equation type: numbering anew leaves what is over the entries before.
+-- The type of a candidate is the closed equation type: numbering anew leaves terms alone that are over the entries before.
 use Rattle.std.proofs.Common.{◌≡◌, ◌<◌, subst as transport, sym, refl, ap, ap₂, ◌∙◌, ℕ, ◌+◌, List, [], ◌∷◌, length, Result, Ok, Err, IfOk}
 use Rattle.std.proofs.lemmas.Option.{slice_get_within}
 use Rattle.theory.specs.Terms.{Term, Var, Sort, Pi, Lam, App, Let, Const, Fam, Con, Elim, AxiomK}

@@ -1,4 +1,4 @@
--- A report leaves the signature, or one that has grown by what entered.
+-- A report leaves the signature as it is, or one that has grown by the entries of a proof.
 use Rattle.std.proofs.Common.{ℕ, Bool, true, false, cond, ◌&&◌, Option, Some, None, List, Result, Ok, Err, IfOk}
 use Rattle.theory.specs.Terms.{Term}
 use Rattle.theory.specs.Telescopes.{Telescope}
@@ -11,7 +11,7 @@ use Rattle.core_sig.specs.Settling.{renumbered_entry, settled_number}
 use Rattle.kernel_reduce.specs.Comparison.{convertible_of}
 use Rattle.kernel_reduce.specs.Reduction.{nesting}
 use Rattle.family_check.specs.Entering.{Entered}
-use Rattle.pattern_vectors.specs.Matching.{matches_all}
+use Rattle.case_trees.specs.pattern_vectors.Matching.{matches_all}
 use Rattle.tree_translation.specs.Plans.{Plan}
 use Rattle.clause_reports.specs.DraftEntering.{enter_all, enter_entry, enter_needed, mentioned}
 use Rattle.clause_reports.specs.Equations.{Equation, equation_of, part_at, pats_of}

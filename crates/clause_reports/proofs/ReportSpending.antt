@@ -16,7 +16,7 @@ use Rattle.kernel_reduce.proofs.ComparisonLaws.{convertible-spends}
 use Rattle.kernel_reduce.proofs.ReductionLaws.{whnf-spends}
 use Rattle.family_check.specs.Entering.{Entered}
 use Rattle.unification.specs.Built.{Built, built_of}
-use Rattle.pattern_vectors.specs.Matching.{is_constructor, matches_all}
+use Rattle.case_trees.specs.pattern_vectors.Matching.{is_constructor, matches_all}
 use Rattle.tree_translation.specs.Plans.{Plan}
 use Rattle.clause_reports.specs.DraftEntering.{enter_all, enter_entry, enter_needed, mentioned}
 use Rattle.case_trees.specs.Kept.{at_arguments}
@@ -30,7 +30,7 @@ use Rattle.clause_reports.specs.Stops.{Rejection, Rejected, Halts, Stuck, Report
 use Rattle.clause_reports.proofs.Spending.{enter_all-spends, enter_entry-spends, enter_needed-spends}
 use Rattle.clause_reports.proofs.WalkSpending.{walk_tree-spends}
 
--- ---- vectors
+-- ---- argument lists
 
 earlier_leaf-spends : (S : Signature) (clause : ℕ) (leaves : List (ℕ × Place)) (left : ℕ) → (earlier_leaf S clause leaves left).1 ≤ left
 earlier_leaf-spends S clause [] left = omega arith

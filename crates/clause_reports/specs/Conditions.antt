@@ -1,4 +1,4 @@
--- What a report asks for: a plan that is translated, and a signature that has its entries.
+-- The conditions of a report: a plan that is translated, and a signature that has its entries.
 use Rattle.std.specs.Prelude.{◌≡◌, ◌<◌, ◌-◌, ℕ, Option, Some, None, List, length, slice_get}
 use Rattle.theory.specs.Terms.{Term, top}
 use Rattle.theory.specs.Signatures.{Signature, Definition, IsPrefix}

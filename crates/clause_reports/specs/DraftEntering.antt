@@ -15,7 +15,7 @@ use Rattle.tree_translation.specs.Needed.{entry_terms, is_found}
 use Rattle.clause_reports.specs.Generated.{Generated, generated_by, generated_draft}
 use Rattle.clause_reports.specs.Stops.{Reporting, Halts, answers, or_halts, entering}
 
--- ---- what is mentioned
+-- ---- mentions
 
 -- the eliminator of family n into Type m, the axiom K of Eq.i into Type m, or the name of a generated entry
 pub data Mention : Type 0 where
@@ -23,7 +23,7 @@ pub data Mention : Type 0 where
   AssumesK : (i m : ℕ) → Mention
   Names : (name : List ℕ) → Mention
 
--- what a term over `base` entries and names mentions, from the left
+-- the mentions in a term over `base` entries and names, from the left
 abbrev pub mentions_in : (base : ℕ) (names : List (List ℕ)) → Term → List Mention
 mentions_in base names (Pi a b) = mentions_in base names a ++ mentions_in base names b
 mentions_in base names (Lam a b) = mentions_in base names a ++ mentions_in base names b
@@ -34,7 +34,7 @@ mentions_in base names (Elim n m) = Eliminates n m ∷ []
 mentions_in base names (AxiomK i m) = AssumesK i m ∷ []
 mentions_in base names _ = []
 
--- what a draft mentions, in its type and then in its term
+-- the mentions in a draft's type and then in its term
 abbrev pub mentioned : Draft → List Mention
 mentioned d = flat_map (mentions_in d.base d.names) (entry_terms d.entry)
 
@@ -80,7 +80,7 @@ enter_entry S (Definition name type body) left =
     entering S (Definition name type body) (define_of S name type body left)
 enter_entry S e left = answers (Err (Halts Deep)) left
 
--- what the draft mentions, and then the draft, with the numbers that its names have
+-- the entries that the draft mentions, and then the draft, with the numbers that its names have
 abbrev pub enter_with : Entering → Entering
 enter_with enter S d left =
     and_next (enter_all enter S (mentioned d) left) (λ T rest.

@@ -44,7 +44,7 @@ own_number S plan c = cond (nat_lt c plan.base) c (number_of S (part_name plan (
 abbrev pub in_signature : Signature → Plan → Term → Term
 in_signature S plan t = renumbered (own_number S plan) t
 
--- ---- what the patterns show
+-- ---- terms as the patterns show them
 
 abbrev pub shown_built : (show : List Term → List Term) → (t : Term) → Option Built → Term
 shown_built show t None = t
@@ -96,7 +96,7 @@ abbrev pub last_argument : Signature → Plan → Option Recursion → (terms : 
 last_argument S plan None terms = []
 last_argument S plan (Some r) terms = values_of_recursion S plan r (take plan.arity terms) ∷ []
 
--- The left side: the function at what its patterns show, or a helper at the terms of its telescope.
+-- The left side: the function at its columns' terms as the patterns show them, or a helper at the terms of its telescope.
 abbrev pub left_side : Signature → Plan → (k : ℕ) → Pats → Site → Term
 left_side S plan zero pats site =
     applied (Const (number_of S plan.name)) (all_shown S (λ t. in_signature S plan (under_solution site.binds t)) pats site.terms)

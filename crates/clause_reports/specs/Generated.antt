@@ -11,14 +11,14 @@ use Rattle.case_below_gen.specs.CaseEntries.{case_entry}
 use Rattle.case_below_gen.specs.CourseEntries.{below_entry, aux_entry}
 use Rattle.case_below_gen.specs.Projections.{rec_entry, all_entry}
 use Rattle.case_below_gen.specs.LeftEntries.{left_entry}
-use Rattle.noconf_gen.specs.NoConfusionTypes.{constructor_mark, constructor_name, nct_entry}
-use Rattle.noconf_gen.specs.NoConfusion.{noconf_entry}
-use Rattle.acyclic_gen.specs.DirectEntries.{direct_name, direct_draft}
-use Rattle.acyclic_gen.specs.AcyclicEntries.{acyclic_name, acyclic_draft}
+use Rattle.generators.specs.noconf_gen.NoConfusionTypes.{constructor_mark, constructor_name, nct_entry}
+use Rattle.generators.specs.noconf_gen.NoConfusion.{noconf_entry}
+use Rattle.generators.specs.acyclic_gen.DirectEntries.{direct_name, direct_draft}
+use Rattle.generators.specs.acyclic_gen.AcyclicEntries.{acyclic_name, acyclic_draft}
 use Rattle.unification.specs.Built.{has_no_indices}
 use Rattle.tree_translation.specs.Naming.{left_name}
 
--- what is generated for family number n with the record f, and for one of its constructors, or for the identity family Eq.i
+-- the entries that are generated for family number n with the record f, for one of its constructors, or for the identity family Eq.i
 pub data Generated : Type 0 where
   Case : (n : ℕ) → Family → (m : ℕ) → Generated
   Below : (n : ℕ) → Family → (m : ℕ) → Generated
@@ -93,7 +93,7 @@ of_identities = flat_map (λ i. map (Left i) levels) levels
 abbrev pub all_generated : Signature → List Generated
 all_generated S = filter is_generated (of_entries 0 S.entries ++ of_identities)
 
--- what has this name
+-- the one with this name
 abbrev pub generated_by : Signature → (name : List ℕ) → Option Generated
 generated_by S name = first_in (λ g. bytes_eq (name_of g) name) (all_generated S)
 

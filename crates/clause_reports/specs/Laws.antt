@@ -1,4 +1,4 @@
--- What holds of the reports of clauses, however they are found.
+-- The laws of the reports of clauses, however these are found.
 use Rattle.std.specs.Prelude.{◌≡◌, ◌↔◌, ℕ, suc, ◌<◌, ◌≤◌, true, false, Ok, IfOk, List, All, length, map}
 use Rattle.theory.specs.Terms.{Term, Const}
 use Rattle.theory.specs.Telescopes.{applied}
@@ -9,7 +9,7 @@ use Rattle.theory.specs.WellFormed.{IsWellFormed}
 use Rattle.core_sig.specs.Drafts.{Draft}
 use Rattle.family_check.specs.Entering.{Entered}
 use Rattle.family_check.specs.Scopes.{HasPrelude}
-use Rattle.pattern_vectors.specs.Matching.{matches_all}
+use Rattle.case_trees.specs.pattern_vectors.Matching.{matches_all}
 use Rattle.case_trees.specs.Points.{under_solution}
 use Rattle.tree_translation.specs.Plans.{Plan}
 use Rattle.clause_reports.specs.Conditions.{IsEntered, IsReference}
@@ -89,8 +89,8 @@ ProvedHasType =
     (closed_type (part_at plan c.part).level e) body)
     × IsPrefix S r.signature × (IsWellFormed S → HasPrelude S → IsWellFormed r.signature))
 
--- shadowed: an earlier clause and the clause itself match the vector; the leaves are all leaves of the clause in its tree, in order, and the
--- equation converts at each of them
+-- shadowed: an earlier clause and the clause itself match the arguments; the leaves are all leaves of the clause in its tree, in order, and
+-- the equation converts at each of them
 abbrev pub ShadowedMatches : Type 0
 ShadowedMatches =
     OfReports (λ S plan c r. (earlier : ℕ) (context vector : List Term) (leaves : List (List Term × List Term)) →

@@ -1,4 +1,5 @@
--- What is said of each clause of a function.
+pub mod elaboration
+-- The report of each clause of a function.
 pub mod Conditions
 pub mod DraftEntering
 pub mod Equations

@@ -39,7 +39,7 @@ pub record Place : Type 0 where
   pub terms : List Term
   pub values : List Term
 
--- what the walk comes to: leaves, each of a clause of the tree, below splits of variables with the runs of all constructors
+-- the result of a walk: leaves, each of a clause of the tree, below splits of variables with the runs of all constructors
 mutual
   pub data Proof : Type 0 where
     Ends : (clause : ℕ) → Place → Proof
@@ -81,7 +81,7 @@ bounded_place p =
 abbrev pub Walking : Type 0
 Walking = Place → ℕ → Reporting Proof
 
--- what is done at a variable, whose reduced type is the family that the tree splits
+-- how the walk goes on at a variable, whose reduced type is the family that the tree splits
 abbrev pub Splitting : Type 0
 Splitting = (x : ℕ) (type : Term) → Member → Walking
 
@@ -139,7 +139,7 @@ with_runs go x type p (Found runs) left =
     answers (Ok (Splits p x type (map (λ run. steps_in run.outcome) runs) proofs)) rest)
 with_runs go x type p (Passed r) left = answers (Err (Stuck r.context r.left r.right r.why)) left
 
--- Running problems knows no other refusals than want of units and heights.
+-- Running problems is refused only where units or heights run out.
 abbrev pub halted : TreeStop → ReportStop
 halted (tree_stop.Halts e) = Halts e
 halted other = Halts Deep
@@ -197,7 +197,7 @@ first_place S plan k w e = record {
 abbrev pub walk_of : Signature → Plan → (k : ℕ) → Walk → Equation → Tree → ℕ → Reporting Proof
 walk_of S plan k w e t left = walk_tree S t (first_place S plan k w e) left
 
--- ---- what it reaches
+-- ---- the leaves that it reaches
 
 abbrev mutual
   -- the leaves, in their order

@@ -1,4 +1,4 @@
--- What holds of a clause: its equation by conversion; else by a proof; else it is shadowed by an earlier clause.
+-- The report of a clause: its equation holds by conversion; else by a proof; else the clause is shadowed by an earlier one.
 use Rattle.std.specs.Prelude.{ℕ, zero, suc, Bool, true, false, ◌||◌, ◌&&◌, cond, Option, Some, None, List, map, length, Result, Ok, Err}
 use Rattle.theory.specs.Terms.{Term}
 use Rattle.theory.specs.Telescopes.{Telescope}
@@ -12,7 +12,7 @@ use Rattle.core_sig.specs.Settling.{renumbered_entry, settled_number}
 use Rattle.family_check.specs.Entering.{Entered}
 use Rattle.kernel_reduce.specs.Comparison.{convertible_of}
 use Rattle.kernel_reduce.specs.Reduction.{nesting}
-use Rattle.pattern_vectors.specs.Matching.{matches_all}
+use Rattle.case_trees.specs.pattern_vectors.Matching.{matches_all}
 use Rattle.tree_translation.specs.Plans.{Plan, own_part}
 use Rattle.tree_translation.specs.Recursion.{recursion_of, order_of}
 use Rattle.clause_reports.specs.DraftEntering.{enter_all, enter_entry, enter_needed, mentioned}
@@ -22,8 +22,8 @@ use Rattle.clause_reports.specs.ProofTerms.{candidate}
 use Rattle.clause_reports.specs.Shadows.{TreeLeaf, earlier_leaf, vector_of, leaves_of, convert_at_all}
 use Rattle.clause_reports.specs.Stops.{Rejection, ReportStop, Reporting, Rejected, answers, or_halts, halting}
 
--- `Definitional`: the sides convert. `Proved n`: entry n proves the equation. `Shadowed earlier context vector leaves`: the earlier
--- clause takes the vector; the equation converts at the leaves, which are all leaves of the clause in the tree. `Absurd`: the clause has no
+-- `Definitional`: the sides convert. `Proved n`: entry n proves the equation. `Shadowed earlier context vector leaves`: the earlier clause
+-- takes these arguments; the equation converts at the leaves, which are all leaves of the clause in the tree. `Absurd`: the clause has no
 -- right side.
 pub data Line : Type 0 where
   Definitional : Line
@@ -72,7 +72,7 @@ abbrev pub if_shadowed : Signature → Rejection → (earlier : ℕ) → Telesco
 if_shadowed S r earlier context vector leaves true = Ok (reported S (Shadowed earlier context vector (map shown_leaf leaves)))
 if_shadowed S r earlier context vector leaves false = Err (Rejected r)
 
--- a vector that both clauses match, and an equation that converts at each leaf of the clause
+-- shadowed where both clauses match the arguments and the equation converts at each leaf of the clause; else the candidate's rejection
 abbrev pub at_vector : Signature → Plan → Reference → Rejection → (earlier : ℕ) → Telescope → (vector : List Term) → ℕ → Reporting Reported
 at_vector S plan c r earlier context vector left =
     let part = part_at plan c.part in
@@ -89,14 +89,14 @@ at_leaf S plan c r (Some leaf) left =
     and_next (halting (vector_of S (pats_of part c.clause) (pats_of part leaf.0) leaf.1.terms left)) (λ vector rest.
     at_vector S plan c r leaf.0 leaf.1.context vector rest)
 
--- a clause whose candidate is denied
+-- a clause whose candidate is rejected
 abbrev pub shadowed : Signature → Plan → Reference → Proof → Rejection → ℕ → Reporting Reported
 shadowed S plan c proof r left =
     and_next (earlier_leaf S c.clause (leaves_in proof) left) (λ leaf rest. at_leaf S plan c r leaf rest)
 
 -- ---- the report
 
--- what comes of the candidate itself; what it needs has entered
+-- the report by the answer of entering the candidate; the entries that it needs are there
 abbrev pub on_candidate : Signature → Plan → Reference → Proof → Result Entered ReportStop → ℕ → Reporting Reported
 on_candidate S plan c proof (Ok e) left = answers (Ok (reported e.signature (Proved e.number))) left
 on_candidate S plan c proof (Err (Rejected r)) left = shadowed S plan c proof r left

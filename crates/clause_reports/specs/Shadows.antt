@@ -1,4 +1,4 @@
--- A clause whose equation has no proof: an earlier clause that takes a vector from it.
+-- A clause whose equation has no proof: an earlier clause that takes arguments from it.
 use Rattle.std.specs.Prelude.{ℕ, Bool, true, false, nat_lt, ◌==◌, cond, Option, Some, None, List, [], ◌∷◌, ◌++◌, Result, Ok}
 use Rattle.theory.specs.Terms.{Term}
 use Rattle.theory.specs.Telescopes.{Telescope}
@@ -12,14 +12,14 @@ use Rattle.core_terms.specs.declared.stop.Stop.{Stop}
 use Rattle.kernel_reduce.specs.Comparison.{convertible_of}
 use Rattle.kernel_reduce.specs.Reduction.{answered, nesting, whnf_of}
 use Rattle.unification.specs.Built.{Built, built_of}
-use Rattle.pattern_vectors.specs.Matching.{is_constructor}
+use Rattle.case_trees.specs.pattern_vectors.Matching.{is_constructor}
 use Rattle.tree_translation.specs.Plans.{Plan}
 use Rattle.case_trees.specs.Kept.{at_arguments}
 use Rattle.clause_reports.specs.Equations.{Equation, equation_at, leaf_site, part_at, pats_of, side_of}
 use Rattle.clause_reports.specs.ProofWalks.{Place}
 use Rattle.clause_reports.specs.Stops.{Reporting, answers, or_halts, halting}
 
--- ---- the vector
+-- ---- the arguments
 
 -- The first leaf at which the sides do not convert and whose clause is an earlier one. The sides are compared before the
 -- clauses are.

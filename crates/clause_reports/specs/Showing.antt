@@ -7,9 +7,9 @@ use Rattle.theory.specs.Signatures.{Signature, FamilyOf, IsEntryAt}
 use Rattle.core_terms.specs.Patterns as pattern
 use Rattle.core_terms.specs.Patterns.{Pat, Pats}
 
--- `Shows S written pat t binds`: the term shows the pattern, whose variables have these terms, in the order of the text. A variable is
--- shown by its binding, a dot by its term as it is written, `_` by any term, and a constructor pattern by the constructor at some
--- parameters and at arguments that show its patterns.
+-- `Shows S written pat t binds`: the term shows the pattern, whose variables have these terms, in the order in which they are written. A
+-- variable is shown by its binding, a dot by its term as it is written, `_` by any term, and a constructor pattern by the constructor at
+-- some parameters and at arguments that show its patterns.
 mutual
   pub data Shows (S : Signature) (written : Term → Term) : Pat → Term → List Term → Type 0 where
     binds : (t : Term) → Shows S written pattern.Bind t (t ∷ [])

@@ -1,4 +1,4 @@
--- What ends a report of a clause, and with what.
+-- The refusals of a report, with their evidence.
 use Rattle.std.specs.Prelude.{ℕ, List, Result, Ok, Err, length}
 use Rattle.theory.specs.Terms.{Term}
 use Rattle.theory.specs.Telescopes.{Telescope}
@@ -20,8 +20,8 @@ entry_name S (EliminatorAt n m) = eliminator_name (name_at S n) m
 entry_name S (AxiomKAt i m) = axiom_k_name i m
 entry_name S (Definition name type body) = name
 
--- An entry that the checker denies, with what is shown of it over the signature in which that arose: its name and its line, and of
--- the denial the place, the context and the reason.
+-- An entry that the checker rejects, as it is shown over the signature in which that arose: its name and its line, and the place, the
+-- context and the reason of the rejection.
 pub record Rejection : Type 0 where
   pub entry : List ℕ
   pub line : List ℕ
@@ -31,7 +31,7 @@ pub record Rejection : Type 0 where
 
 -- `Halts e`: units or heights ran out.
 -- `Stuck context left right why`: the walk through the tree does not go on.
--- `Rejected r`: the checker denies an entry.
+-- `Rejected r`: the checker rejects an entry.
 pub data ReportStop : Type 0 where
   Halts : Stop → ReportStop
   Stuck : Telescope → (left right : Term) → Why → ReportStop
@@ -51,7 +51,7 @@ or_halts (Err e) = Err (Halts e)
 abbrev pub halting : {A : Type 0} → Spent A → Reporting A
 halting spent = (or_halts spent.0, spent.1)
 
--- the entry that would come next in the signature, and why it is denied
+-- the entry that would come next in the signature, and why it is rejected
 abbrev pub rejection : Signature → Entry → Denial → Rejection
 rejection S e d = record {
   entry = entry_name S e;
@@ -61,7 +61,7 @@ rejection S e d = record {
   reason = reason_text S d.reason;
 }
 
--- Why an entry does not enter. Its names are new and its levels fit, so only a denial is left as the cause.
+-- Why an entry does not enter. Its names are new and its levels fit, so only a rejection by the checker is left as the cause.
 abbrev pub not_entered : Signature → Entry → family.FamilyStop → ReportStop
 not_entered S e (family.Stopped stop) = Halts stop
 not_entered S e (family.Denied site d) = Rejected (rejection S e d)

@@ -6,7 +6,7 @@ pub fn entering_spends()
     ensures { EnteringSpends }
 {}
 
-/// What enters comes last, after others that were not there.
+/// A draft that enters extends the signature, and its entry is the last one.
 pub fn entering_adds()
     ensures { EnteringAdds }
 {}
@@ -36,7 +36,7 @@ pub fn proved_has_type()
     ensures { ProvedHasType }
 {}
 
-/// A shadowed clause and an earlier one match the vector, and its equation converts at all its leaves.
+/// A shadowed clause and an earlier one match the same arguments, and its equation converts at all its leaves.
 pub fn shadowed_matches()
     ensures { ShadowedMatches }
 {}

@@ -1,4 +1,4 @@
--- What the code answers at the branch of a run is what is meant.
+-- The branch of a run that the code answers is the one that is meant.
 use Rattle.std.proofs.Common.{◌≡◌, ℕ, suc, ◌-◌, ◌<◌, ◌≤◌, Result, Ok, Err, List, length, sym, ap, ap₂, ◌∙◌, subst as transport, arith}
 use Rattle.std.proofs.lemmas.List.{length-map}
 use Rattle.std.proofs.lemmas.Result.{IfOk-at_ok}
@@ -90,7 +90,7 @@ module _ (S : Signature) (k : ℕ) (p : Point) (live : List Live) (r : RunEnd) (
         answers (Ok (tree.Solved steps (origins_behind steps r.context (first_origins (length p.context) r.arguments)) subtree)) end) h
         ∙ (ap (λ go. over_solved go p r steps node left) (sym (goes-on some n less)) ∙ from-next))
 
--- ---- what is known of a run
+-- ---- the facts of a run
 
 -- its steps can be followed
 pub run-followed : (S : Signature) (n : ℕ) (r : RunEnd) (steps : List Step) (context : Telescope) (solution : List Term) → IsReady S → IsRunEnd S n r

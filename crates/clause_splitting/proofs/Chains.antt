@@ -1,4 +1,4 @@
--- What is refused first is refused by the whole, unless memory ran out.
+-- A refusal of the first call is that of the whole, unless memory ran out.
 use Rattle.std.proofs.Common.{◌≡◌, ℕ, Result, Ok, Err, ap}
 use Rattle.core_terms.specs.Answers as answer
 use Rattle.core_terms.specs.Answers.{Unless, and_next}
@@ -20,7 +20,7 @@ pub stops-first : {A B : Type 0} (e : TreeStop) (left : ℕ) (first : Stopping A
     → Unless (IsUnforeseen e) (◌≡◌ {A = Stopping B} (Err (stop_of e), left) (and_next first go))
 stops-first e left first go h = λ other. ap (λ r. and_next r go) (h other)
 
--- what is answered first goes on
+-- an answer of the first call is the one that the second goes on with
 pub goes-first : {A B : Type 0} (a : A) (left : ℕ) (first : Stopping A) (go : A → ℕ → Stopping B) → ◌≡◌ {A = Stopping A} (Ok a, left) first
     → go a left ≡ and_next first go
 goes-first a left first go h = ap (λ r. and_next r go) h

@@ -116,7 +116,7 @@ run-followed S s left end result ready good (goes _ t _ rest _ step result' is r
     behind (Ok outcome) h = before-followed S s t step outcome good right.good.0.0 low right.follows h
     behind (Err e) h = tt
 
--- what a problem comes to
+-- the steps of a problem's outcome can be followed
 pub unify-followed : (S : Signature) (p : Problem) (left : ℕ) → IsReady S → IsScopedProblem S p → length p.context ≤ most_levels
     → IfOk (unify_of S p left).0 (λ outcome. Follows p.context outcome)
 unify-followed S p left ready scoped few =

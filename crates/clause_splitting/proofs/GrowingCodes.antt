@@ -1,4 +1,4 @@
--- What the code answers at a node, at a split and at its branches is what is meant.
+-- The nodes, splits and branches that the code answers are those that are meant.
 use Rattle.std.proofs.Common.{◌≡◌, ℕ, ◌+◌, ◌<◌, ◌≤◌, Option, Result, Ok, Err, List, [], ◌∷◌, ◌++◌, length, map, drop, get_or, sym, ap, ◌∙◌, arith}
 use Rattle.std.proofs.lemmas.List.{map-append}
 use Rattle.theory.specs.Signatures.{Signature}

@@ -17,7 +17,7 @@ use Rattle.clause_walks.proofs.TurnCodes.{alike}
 use Rattle.clause_walks.specs.Reaching.{end_of_run, reached_split, reach}
 use Rattle.clause_splitting.specs.Growing.{reached_from, reached_at, branch_from, branches_from, with_branches, split_from, grown_from}
 
--- what is made of an answer goes on
+-- a call after an answer that is changed by `make`
 pub next-made : {A B C E : Type 0} (first : SpentOr E A) (make : A → B) (go : B → ℕ → SpentOr E C)
     → and_next (and_next first (λ a rest. (Ok (make a), rest))) go ≡ and_next first (λ a rest. go (make a) rest)
 next-made {A = A} {E = E} first make go = by first.0 first.1

@@ -1,4 +1,4 @@
--- What is known of a node stays known as its clauses are worked, and after a solution.
+-- A node that meets its conditions meets them as its clauses are worked, and after a solution.
 use Rattle.std.proofs.Common.{◌≡◌, ℕ, ◌≤◌, Bool, true, false, cond, Result, Ok, Err, IfOk, List, [], ◌∷◌, ◌++◌, length, map, take, refl, sym, ap, subst as transport}
 use Rattle.std.proofs.lemmas.Result.{IfOk-at_ok}
 use Rattle.theory.specs.Terms.{Term}
@@ -83,7 +83,7 @@ pub moved-first : (solution : List Term) (c : Live) (live : List Live)
 moved-first solution c live =
     ap (λ pairs. moved_before c.number (bounded_pairs pairs) (moved_live solution (forget_live live))) (sym (moved-forgotten solution c.pairs))
 
--- what is known of a clause that is moved
+-- the conditions on clauses that are moved
 record AreMovedTo (S : Signature) (m : ℕ) (us : List Term) (live : List Live) : Type 0 where
   kept : AreKeptLive S m live
   covers : CoverLive S live us

@@ -60,7 +60,7 @@ module _ (S : Signature) (context : Telescope) (goal : Term) (terms : List Term)
 
 -- ---- refusals
 
--- what is refused is scoped
+-- a refusal is scoped
 pub denied-scoped : {A B : Type 0} (S : Signature) (f : A → B) (r : Result A TreeStop) (left : ℕ) (meant : Stopping B) → Yields f r left meant
     → ((e : stops.TreeStop) → meant.0 ≡ Err e → IsScopedStop S e) → IfErr r (λ e. IsScopedStop S (stop_of e))
 denied-scoped S f (Ok a) left meant h k = tt

@@ -33,7 +33,7 @@ use Rattle.clause_splitting.specs.declared.nodes.Node.{Node}
 use Rattle.clause_splitting.proofs.Chains.{goes-first, stops-first}
 use Rattle.clause_splitting.proofs.NodeCodes.{with-first}
 
--- ---- what the first clause reaches
+-- ---- the end that the first clause reaches
 
 -- with an open pair
 reached-open : (S : Signature) (p : _) (c : pure.Live) (pairs : List (Pat × Term)) (left : ℕ) → false ≡ (length pairs == 0)

@@ -1,4 +1,4 @@
--- What the code is asked about: nodes over few variables, whose clauses have scoped terms that are no higher than 2,000.
+-- The conditions on the nodes of the code: they are over few variables, and their clauses have scoped terms no higher than 2,000.
 use Rattle.std.specs.Prelude.{ℕ, List, [], ◌∷◌, length}
 use Rattle.theory.specs.Signatures.{Signature}
 use Rattle.case_trees.specs.Trees.{Live, Node}

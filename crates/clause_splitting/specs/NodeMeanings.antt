@@ -1,4 +1,4 @@
--- What the clauses and the nodes of the code stand for.
+-- The clauses and the nodes that those of the code represent.
 use Rattle.std.specs.Prelude.{List, map}
 use Rattle.case_trees.specs.Trees as pure
 use Rattle.clause_walks.specs.Meanings.{pairs_of}

@@ -19,7 +19,7 @@ use Rattle.unification.specs.Built.{built_of}
 use Rattle.unifier.specs.CodeBuilt.{IfThere, IsBuiltAs, split_of, teles_of}
 use Rattle.unifier.specs.declared.built.Built.{Built}
 use Rattle.unifier.proofs.BuiltCodes.{code-of, code-there, from_code, of-built, split-first, split-rest}
-use Rattle.pattern_vectors.specs.Matching.{is_constructor}
+use Rattle.case_trees.specs.pattern_vectors.Matching.{is_constructor}
 use Rattle.case_trees.specs.Pairs.{Pair, Pairs, Builds, Clashes}
 use Rattle.case_trees.specs.Working.{of_arguments, builds, compared, work_patterns}
 use Rattle.clause_walks.proofs.WorkingCodes.{refused-next, answered-next}

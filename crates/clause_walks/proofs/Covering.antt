@@ -11,7 +11,7 @@ use Rattle.core_terms.specs.Clauses.{Clauses, Is}
 use Rattle.core_terms.specs.declared.stop.Stop.{Stop}
 use Rattle.unification.specs.Built.{Built, built_of}
 use Rattle.unification.proofs.Constructors.{instance_of, built-instance}
-use Rattle.pattern_vectors.specs.Columns.{IsWhole, AreWhole}
+use Rattle.case_trees.specs.pattern_vectors.Columns.{IsWhole, AreWhole}
 use Rattle.case_trees.specs.Pairs.{Pair, Pairs, Waits, Binds, Passes, Keeps, Builds, Clashes, nil, cons, waiting, term_in, terms_in, with_terms, all_with_terms}
 use Rattle.case_trees.specs.Keeping.{kept_over, keep, keep_all}
 use Rattle.case_trees.specs.Points.{under_solution, moved_pairs}

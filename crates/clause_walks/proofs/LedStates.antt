@@ -4,7 +4,7 @@ use Rattle.theory.specs.Terms.{Term}
 use Rattle.theory.specs.Telescopes.{Telescope}
 use Rattle.theory.specs.Signatures.{Signature}
 use Rattle.core_terms.specs.Patterns.{Pats}
-use Rattle.pattern_vectors.specs.Columns.{AreWhole}
+use Rattle.case_trees.specs.pattern_vectors.Columns.{AreWhole}
 use Rattle.case_trees.specs.Keeping.{keep_all}
 use Rattle.case_trees.specs.Pairs.{Pairs, waiting}
 use Rattle.case_trees.specs.Points.{Point, bounded_point, bounded_pairs, start_at, moved_point, moved_pairs, solution_for, point_keeping}

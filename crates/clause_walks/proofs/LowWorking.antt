@@ -14,8 +14,8 @@ use Rattle.core_terms.proofs.Builders.{height-applied}
 use Rattle.kernel_reduce.specs.Reduction.{whnf_of}
 use Rattle.unification.specs.Built.{Built, built_of}
 use Rattle.unification.proofs.Constructors.{built-is}
-use Rattle.pattern_vectors.specs.Matching.{is_constructor}
-use Rattle.pattern_vectors.proofs.Separate.{and-both}
+use Rattle.case_trees.specs.pattern_vectors.Matching.{is_constructor}
+use Rattle.case_trees.proofs.pattern_vectors.Separate.{and-both}
 use Rattle.case_trees.specs.Pairs.{Pair, Pairs, Waits, Binds, Passes, Keeps, Builds, Clashes, nil, cons, terms_in, waiting, clashes, is_low_pair, are_low_pairs}
 use Rattle.case_trees.specs.Working.{Rooms, of_columns, of_arguments, in_room, compared_head, compared, against_absurd, unless_clash, work_pattern, work_patterns, work_pair, work_pairs}
 use Rattle.case_trees.proofs.Answered.{and_next-ok}

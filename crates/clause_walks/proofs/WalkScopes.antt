@@ -10,7 +10,7 @@ use Rattle.core_terms.specs.TreeMeanings.{walk_of}
 use Rattle.core_terms.specs.declared.case_tree.Walk.{Walk}
 use Rattle.core_terms.specs.declared.pattern.Clause as code
 use Rattle.core_terms.specs.declared.pattern.Right.TheFolds.{the_lemmas}
-use Rattle.pattern_vectors.specs.Columns.{AreWhole}
+use Rattle.case_trees.specs.pattern_vectors.Columns.{AreWhole}
 use Rattle.case_trees.specs.Laws.{IsGiven}
 use Rattle.case_trees.specs.OwnWalks.{own_walk_of}
 use Rattle.case_trees.specs.Scoped.{IsClauseFor, IsClauseOf, IsScopedStop, IsScopedWalk}

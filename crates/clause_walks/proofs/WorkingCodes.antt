@@ -14,8 +14,8 @@ use Rattle.core_terms.specs.declared.pattern.Pat as pattern
 use Rattle.core_terms.specs.declared.stop.Stop.{Stop}
 use Rattle.core_terms.specs.declared.term.Term as term
 use Rattle.kernel_reduce.specs.Reduction.{answered}
-use Rattle.pattern_vectors.specs.Meeting as size
-use Rattle.pattern_vectors.proofs.CommonColumns.{rest-of}
+use Rattle.case_trees.specs.pattern_vectors.Meeting as size
+use Rattle.case_trees.proofs.pattern_vectors.CommonColumns.{rest-of}
 use Rattle.case_trees.specs.Pairs.{Pair, Pairs, Builds, cons, term_in, terms_in, clashes}
 use Rattle.case_trees.specs.Working.{Rooms, unless_clash, work_patterns, work_pair, work_pairs}
 use Rattle.case_trees.proofs.ScopedWorking.{applied-parts}

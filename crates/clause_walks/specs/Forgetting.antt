@@ -4,7 +4,7 @@ use Rattle.std.specs.Prelude.{◌≡◌, ℕ, zero, suc, Some, List, [], ◌∷�
 use Rattle.theory.specs.Terms.{Term, Sort}
 use Rattle.theory.specs.Signatures.{Signature}
 use Rattle.unification.specs.Built.{Built, built_of}
-use Rattle.pattern_vectors.specs.Columns.{IsWhole}
+use Rattle.case_trees.specs.pattern_vectors.Columns.{IsWhole}
 use Rattle.case_trees.specs.Pairs.{Pair, Pairs, Waits, Binds, Passes, Keeps, Builds, Clashes, nil, cons}
 use Rattle.case_trees.specs.OwnWalks as walk
 use Rattle.case_trees.specs.OwnWalks.{Walking}

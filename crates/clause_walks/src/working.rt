@@ -11,7 +11,7 @@ ghost use Rattle.unification.specs.Built as built;
 ghost use Rattle.unification.specs.ScopedStates.{IsReady};
 ghost use Rattle.unifier.specs.CodeBuilt.{IfThere, IsBuiltAs};
 ghost use Rattle.unifier.specs.Conditions.{most_levels};
-ghost use Rattle.pattern_vectors.specs.Matching.{is_constructor};
+ghost use Rattle.case_trees.specs.pattern_vectors.Matching.{is_constructor};
 ghost use Rattle.case_trees.specs.Pairs.{term_in, terms_in, waiting as waiting_meant};
 ghost use Rattle.case_trees.specs.Working as spec;
 ghost use Rattle.clause_walks.specs.CodeWorking.{if_room, onto, rooms_of};

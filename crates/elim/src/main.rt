@@ -6,7 +6,7 @@ use std::env;
 use std::io::ErrorKind;
 use std::process::ExitCode;
 
-/// The statuses where the runtime does not give the words: for want of memory, and for another cause.
+/// The statuses where the runtime does not give the words: out of memory, and for another cause.
 const NO_MEMORY: u8 = 5;
 
 const NO_WORDS: u8 = 6;

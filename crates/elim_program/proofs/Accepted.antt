@@ -7,8 +7,8 @@ use Rattle.theory.specs.Prelude.{prelude}
 use Rattle.surface_syntax.specs.Trees as surf
 use Rattle.elab_session.specs.Sessions.{IsReady}
 use Rattle.elab_session.proofs.PreludeReady.{prelude-ready}
-use Rattle.elaboration.specs.Functions.{ClauseLine}
-use Rattle.elaboration.specs.Refusals as function
+use Rattle.clause_reports.specs.elaboration.Functions.{ClauseLine}
+use Rattle.clause_reports.specs.elaboration.Refusals as function
 use Rattle.clause_reports.specs.Reports.{Line, Definitional, Proved, Shadowed, Absurd}
 use Rattle.function_session.specs.Elaborating.{Elaborated, Refused, Declaration, Function, elaborate_of}
 use Rattle.function_session.specs.Laws.{KeepsReady, IsAsWritten}
@@ -31,7 +31,7 @@ use Rattle.elim_program.specs.Works.{none_counted, on_worked, with_accepted, wor
 use Rattle.elim_program.proofs.Lines.{entries-core, core-lines-core, core-lines-append, third, not_empty, not_one, after_heads, IsOther, AreOther, core-other, both-other, none_accepted, AreNotes, both-notes, core-lines-notes, Found, here, later_on, find, if_ok}
 use Rattle.elim_program.proofs.FileLines.{accepts-none}
 
--- What is known before the declarations `ds` of a text: those before it were accepted, and `earlier` are their lines.
+-- The state before the declarations `ds` of a source file: those before it were accepted, and `earlier` are their lines.
 record IsBefore (command : Command) (all ds : List surf.Decl) (earlier : List (List ℕ)) (S : Signature) : Type 0 where
   done : List surf.Decl
   parts : all ≡ done ++ ds
@@ -40,7 +40,7 @@ record IsBefore (command : Command) (all ds : List surf.Decl) (earlier : List (L
   has_k : S.has_k ≡ command.k
   shown : Shows (prelude command.k) S (core_lines earlier)
 
--- a declaration of the text that is accepted
+-- a declaration of the source file that is accepted
 record IsFound (command : Command) (all : List surf.Decl) (lines : List (List ℕ)) (name : List ℕ) : Type 0 where
   front : List surf.Decl
   declaration : surf.Decl
@@ -179,7 +179,7 @@ shows-more P S T clauses earlier shows longer =
     core-lines-append earlier (lines_after S T ++ clause_lines T clauses) ∙ ap (λ ls. core_lines earlier ++ ls) (entries-and-clauses-core S T clauses) in
     subst Q (sym core) (more S T (core_lines earlier) shows longer)
 
--- what is known after a declaration that is accepted
+-- the state after a declaration that is accepted
 onward : (command : Command) (all : List surf.Decl) (d : surf.Decl) (ds : List surf.Decl) (earlier : List (List ℕ)) (S : Signature) (a : Elaborated) →
     IsBefore command all (d ∷ ds) earlier S → elaborate_of S command.fuel d ≡ Ok a → KeepsReady S a
     → IsBefore command all ds ((earlier ++ own_lines S a) ++ accepted_line a.name ∷ []) a.signature
@@ -256,7 +256,7 @@ found command all S (d ∷ ds) earlier above below name b e =
             ∙ ap (λ ls. earlier ++ ls) (sym f) in
             subst P place (rec a.signature later ((earlier ++ own_lines S a) ++ accepted_line a.name ∷ []) (onward command all d ds earlier S a b er on) r)
 
--- what is found in a text is accepted
+-- a declaration of a source file that the elaborator accepts is accepted as `IsAccepted` says
 as_accepted : (words : List (List ℕ)) (bytes : List ℕ) (command : Command) (decls : List surf.Decl) (lines : List (List ℕ)) (name : List ℕ) →
     asked words ≡ Some command → Gives bytes (Ok decls) → IsFound command decls lines name → IsAccepted words bytes (head_lines command.k ++ lines) name
 as_accepted words bytes command decls lines name asks gives f = record {

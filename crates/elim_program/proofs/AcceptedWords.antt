@@ -15,7 +15,7 @@ use Rattle.elim_program.specs.CommandLine.{command_line}
 use Rattle.elim_program.proofs.CommandWalks.{Finds, Passes, bare, mode_word, with_fuel, with_fuel_and_k, with_k, with_k_and_fuel}
 use Rattle.elim_program.proofs.FuelNumbers.{fuel_accepted, fuel_digit}
 
--- the units that a text asks for, or no text
+-- the units that a word asks for, or those by default where there is no such word
 abbrev pub FuelIs : ℕ → Option Text → Type 0
 FuelIs n None = n ≡ default_fuel
 FuelIs n (Some text) = fuel_of text ≡ Some n
@@ -79,7 +79,7 @@ flags_found (a ∷ b ∷ c ∷ []) given e verify = go (is_k a && is_fuel b) ref
     go false is false is_y e = cc
 flags_found (a ∷ b ∷ c ∷ d ∷ rest) given e verify = cc
 
--- what the words ask for in a mode
+-- the command of the words in a mode
 abbrev pub asked_in : Bool → List Text → Option Command
 asked_in true words = verify_asked words
 asked_in false words = asked words
@@ -119,7 +119,7 @@ found (word ∷ words) h = go (bytes_eq word (codes "compile")) refl (bytes_eq w
     go false is true is_y None f h = cc
     go false is false is_y f f_is h = cc
 
--- ---- what is read of what the command finds
+-- ---- the words that the command finds, as they are read
 
 flag_read : (k r : Bool) (o : Option Text) → o ≡ Some (bool_text k) → (o ≡ Some (codes "true") → r ≡ true) → (o ≡ Some (codes "false") → r ≡ false) → r ≡ k
 flag_read true r o is on off = on is

@@ -36,7 +36,7 @@ shape = (built command_line).top
 abbrev walk_of : List Text → Walk
 walk_of words = walk shape.rules [] nothing_held words
 
--- what the command asks of the words once they are walked: where the walk ended, and that each word passed
+-- the command's conditions on the words once they are walked: where the walk ended, and that each word passed
 abbrev passes_at : Walk → Bool → Bool
 passes_at w passed = entered_passes (built command_line) w.stopped
     && (passed && (settle_passes shape.rules shape.args_override_self w.held

@@ -1,4 +1,4 @@
--- What a declaration gives is written in line, where its words and the names of the signature are in line.
+-- The lines of a declaration, accepted or refused, hold no line feed, where its words and the names of the signature hold none.
 use Rattle.std.proofs.Common.{ℕ, List, Result, Ok, Err, IfOk}
 use Rattle.theory.specs.Signatures.{Signature}
 use Rattle.core_terms.proofs.Answers.{Splits}
@@ -7,9 +7,9 @@ use Rattle.surface_syntax.specs.Trees as surf
 use Rattle.surface_syntax.specs.declared.tree.Word.{Word}
 use Rattle.resolve.specs.Functions as function
 use Rattle.resolve.specs.declared.stop.ResolveStop.{ResolveStop}
-use Rattle.elaboration.specs.Functions.{Lines}
-use Rattle.function_lines.specs.FunctionMade.{function_made}
-use Rattle.elaboration.specs.Refusals as refusal
+use Rattle.clause_reports.specs.elaboration.Functions.{Lines}
+use Rattle.function_session.specs.function_lines.FunctionMade.{function_made}
+use Rattle.clause_reports.specs.elaboration.Refusals as refusal
 use Rattle.elab_session.specs.Declaring as session
 use Rattle.elab_session.specs.Laws.{IsAsWritten}
 use Rattle.elab_session.specs.Sessions.{IsReady}

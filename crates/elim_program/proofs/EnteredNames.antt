@@ -1,4 +1,4 @@
--- What enters for a function has names in line, and so is written what the checker denies.
+-- The names of the entries that a function adds hold no line feed, and so the lines of a rejected entry hold none.
 use Rattle.std.proofs.Common.{◌≡◌, ℕ, zero, suc, Bool, true, false, cond, List, [], ◌∷◌, ◌++◌, length, map, codes, Option, Some, None, Result, Ok, Err, IfOk, refl, sym, ap, subst, ◌∙◌}
 use Rattle.std.specs.Prelude.{get_or, position, nat_lt, ◌&&◌, slice_get, decimal}
 use Rattle.theory.specs.Terms.{Term, top}
@@ -22,16 +22,16 @@ use Rattle.family_check.specs.Entering.{Entered, enter_instance, unless_there, i
 use Rattle.family_check.specs.Outcomes.{FamilyStop}
 use Rattle.family_check.specs.Outcomes as family
 use Rattle.kernel_reduce.specs.Entries.{family_at}
-use Rattle.noconf_gen.specs.NoConfusionTypes.{constructor_mark, constructor_name}
+use Rattle.generators.specs.noconf_gen.NoConfusionTypes.{constructor_mark, constructor_name}
 use Rattle.tree_translation.specs.Needed.{is_found}
 use Rattle.clause_reports.specs.DraftEntering.{Mention, Eliminates, AssumesK, Names, Entering, mentioned, with_entry, enter_eliminator, enter_axiom_k, enter_generated, enter_mention, enter_all, enter_entry, enter_with, enter_chain, longest_chain, enter_needed, enter_draft_of}
 use Rattle.clause_reports.specs.Generated as gen
 use Rattle.clause_reports.specs.Generated.{Generated, name_of, generated_by, generated_draft}
 use Rattle.clause_reports.specs.Stops.{entry_name, Rejection, ReportStop, Halts, Stuck, Rejected, Reporting, answers, or_halts, rejection, not_entered, or_rejected, entering}
-use Rattle.draft_entering.specs.Conditions.{IsDefinition}
-use Rattle.draft_entering.specs.Depths.{entry_own_name}
-use Rattle.draft_entering.specs.Tables.{IsListed, names_by, IsMadeOf}
-use Rattle.draft_entering.proofs.TableLookups.{found-listed, generated-made}
+use Rattle.drafts.specs.draft_entering.Conditions.{IsDefinition}
+use Rattle.drafts.specs.draft_entering.Depths.{entry_own_name}
+use Rattle.drafts.specs.draft_entering.Tables.{IsListed, names_by, IsMadeOf}
+use Rattle.drafts.proofs.draft_entering.TableLookups.{found-listed, generated-made}
 use Rattle.elab_session.proofs.Adding.{define-enters, instance-enters}
 use Rattle.elim_program.proofs.SessionInLine.{NamesIn, has-names, each-last, context-in, reason-in, level-in}
 use Rattle.elim_program.proofs.TokensInLine.{Each}
@@ -42,7 +42,7 @@ EntryIn e = AreInLine (names_of e)
 abbrev pub IsIn : List ℕ → Type 0
 IsIn text = is_in_line text ≡ true
 
--- ---- what the checker denies
+-- ---- entries that the checker rejects
 
 pub record RejectionIn (r : Rejection) : Type 0 where
   pub entry : IsIn r.entry

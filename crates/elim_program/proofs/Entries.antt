@@ -25,7 +25,7 @@ use Rattle.elim_program.specs.Texts.{is_memory}
 use Rattle.elim_program.specs.Verifies.{BoundIsEnough, after_entry, after_head, entries, next_block, read_block, unread, unread_block}
 use Rattle.elim_program.proofs.Following.{IsWriting, Writes, writing, written_all, written_last, written_one, written_part, written_rest}
 
--- What is read can enter.
+-- An entry that is read may be added to the signature.
 
 pub scoped-raw : (S : Signature) (raw : RawFamily) → IsEntryOver S (RawFamilyOf raw) → IsScopedRaw S raw
 scoped-raw S raw is = record {
@@ -79,7 +79,7 @@ next before now whole text fuel S from g = go g.most g.enough g.writing
     go zero lt t = absurd (omega (arith, lt))
     go (suc most) lt t = record { others = most; enough = omega (arith, lt); writing = t }
 
--- what the code read stands for what is read next
+-- the code's answer is the entry that is read next
 abbrev IsRead : Signature → List ℕ → ℕ → Result (Option (code.Entry × ℕ)) CoreTextStop → Type 0
 IsRead S text from r = ReadsEntry (length S.entries) r (entry_from S text from)
 

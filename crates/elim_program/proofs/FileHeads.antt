@@ -15,7 +15,7 @@ shared-within (x ∷ xs) (y ∷ ys) = go (x == y) (shared-within xs ys)
     go true le = omega (arith, le)
     go false le = omega arith
 
--- what is known of a head that is read: where it ends, and that it has axiom K only where that is allowed
+-- a head that is read ends within the file, and has axiom K only where that is allowed
 pub record IsHead (k has_k : Bool) (from : ℕ) (text : List ℕ) : Type 0 where
   pub within : from ≤ length text
   pub allowed : has_k ≡ true → k ≡ true

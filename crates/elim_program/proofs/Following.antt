@@ -1,4 +1,4 @@
--- What is written part by part follows the whole output.
+-- Parts that are written one after the other are a front of the whole output.
 use Rattle.std.proofs.Common.{◌≡◌, ◌≢◌, ℕ, ◌+◌, ◌<◌, ◌≤◌, ◌↔◌, ◌⊎◌, inl, inr, Bool, true, false, nat_lt, List, [], ◌∷◌, ◌++◌, length, take, drop, Option, Some, None, Result, Ok, Err, IfSome, IsOk, refl, sym, ap, subst, ◌∙◌, arith, append_assoc, append-nil}
 use Rattle.std.specs.Prelude.{if◌then◌else◌}
 use Rattle.std.specs.Io.KnownBytes.{Appends}
@@ -33,7 +33,7 @@ pub no_bytes : (known : Option (List ℕ)) → (bytes : List ℕ) × IfSome know
 no_bytes None = ([], tt, tt)
 no_bytes (Some k) = (k, refl, tt)
 
--- A text that did not go out whole.
+-- An output of which not all was written.
 
 abbrev pub IsLost : Status → Type 0
 IsLost status = (status ≡ WriteFault) ⊎ (status ≡ NoMemory)
@@ -127,7 +127,7 @@ not_more x y z f h e =
     let none : f.0 ≡ [] = no_items f.0 (omega (arith, l1, l2)) in
     h (sym (f.1 ∙ ap (λ l. x ++ l) none ∙ append-nil x))
 
--- what failed of a part fails of the whole
+-- a failure of a part is one of the whole
 failed_part : (status : Status) (front x y z whole : List ℕ) → IsFront x y → Failed status x y → whole ≡ front ++ (y ++ z) → Failed status (front ++ x) whole
 failed_part WriteFault front x y z whole f h e = λ k. not_more x y z f h (append_cancel_left front x (y ++ z) (k ∙ e))
 failed_part NoMemory front x y z whole f h e = tt
@@ -158,7 +158,7 @@ written_part before middle after whole b rest status t one =
       ),
     )
 
--- what is still to come went out, or a front of it
+-- the rest of the output was written, or a front of it
 pub written_rest : (before middle after : Option (List ℕ)) (whole rest : Block) (r : Result Bool Status) → IsWriting before middle whole rest → Writes middle after r rest → Writes before after r whole
 written_rest before middle after whole rest (Ok b) t one = (
   t.text ++ one.0,

@@ -16,9 +16,9 @@ use Rattle.kernel_check.specs.Checking.{infer_of, infer_sort_of, check_of}
 use Rattle.kernel_reduce.specs.Comparison.{convertible_of}
 use Rattle.kernel_reduce.specs.Reduction.{nesting}
 use Rattle.resolve.specs.Functions.{Function}
-use Rattle.structural_rec.specs.Calls.{has_constant}
-use Rattle.structural_rec.specs.Choices.{Choice, Failing, NotRecursive, At, NotSmaller, choose}
-use Rattle.structural_rec.specs.Uses.{Use}
+use Rattle.tree_translation.specs.structural_rec.Calls.{has_constant}
+use Rattle.tree_translation.specs.structural_rec.Choices.{Choice, Failing, NotRecursive, At, NotSmaller, choose}
+use Rattle.tree_translation.specs.structural_rec.Uses.{Use}
 use Rattle.case_trees.specs.OwnWalks.{own_walk_of}
 use Rattle.case_trees.specs.Points.{under_solution}
 use Rattle.case_trees.specs.Stops.{Stopping}
@@ -32,17 +32,17 @@ use Rattle.tree_translation.specs.TreeTerms.{tree_names}
 use Rattle.with_abstraction.specs.Abstractions.{Abstracted, abstract_over_of}
 use Rattle.leaf_terms.specs.RecursionMade.{made_at}
 use Rattle.function_entries.specs.CodeEntries.{translate_made}
-use Rattle.translation_laws.proofs.MadeEntries.{translate_made-is_entries}
-use Rattle.order_scopes.specs.Laws.{begins_closed}
+use Rattle.exact_laws.proofs.translation_laws.MadeEntries.{translate_made-is_entries}
+use Rattle.entry_laws.specs.order_scopes.Laws.{begins_closed}
 use Rattle.clause_reports.specs.DraftEntering.{enter_draft_of, enter_needed, enter_mention, Names}
 use Rattle.clause_reports.specs.Equations.{part_named}
-use Rattle.draft_checks.specs.Checks.{enterable, unmarked}
+use Rattle.drafts.specs.draft_checks.Checks.{enterable, unmarked}
 use Rattle.clause_lines.specs.CodeReports.{report_made}
-use Rattle.elaboration.specs.Functions.{ClauseLine, Lines, function_level, failing_call, position_chosen, own_part, helpers_finished}
-use Rattle.elaboration.specs.Refusals.{Owner, OfType, OfDot, OfSide, OfWith, OfGoal, Halts, SelfInType, Elaborating, answers, or_halts, halting, granted, level_too_high, owner_of, reporting, walking}
-use Rattle.elaboration.specs.Walking.{Session, Opened, Walked, greatest_level, if_forced, check_dot, after_dots, without_self, if_low_level, and_level, open_over, opened, walk_clause, walk_right, walk_clauses}
+use Rattle.clause_reports.specs.elaboration.Functions.{ClauseLine, Lines, function_level, failing_call, position_chosen, own_part, helpers_finished}
+use Rattle.clause_reports.specs.elaboration.Refusals.{Owner, OfType, OfDot, OfSide, OfWith, OfGoal, Halts, SelfInType, Elaborating, answers, or_halts, halting, granted, level_too_high, owner_of, reporting, walking}
+use Rattle.clause_reports.specs.elaboration.Walking.{Session, Opened, Walked, greatest_level, if_forced, check_dot, after_dots, without_self, if_low_level, and_level, open_over, opened, walk_clause, walk_right, walk_clauses}
 use Rattle.function_plans.specs.CodePlans.{own_tree_of, own_tree_made, own_finished_made, are_low_uses, chosen_made, own_alone, parts_made, plan_made}
-use Rattle.function_lines.specs.FunctionMade.{level_of, session_at, plan_over, checked_entered, draft_entered, drafts_entered, values_name, values_entered, translated, plan_entered, clause_line, reference_of, clause_reported, walks_reported, parts_reported, function_made}
+use Rattle.function_session.specs.function_lines.FunctionMade.{level_of, session_at, plan_over, checked_entered, draft_entered, drafts_entered, values_name, values_entered, translated, plan_entered, clause_line, reference_of, clause_reported, walks_reported, parts_reported, function_made}
 use Rattle.elim_program.proofs.EnteredNames.{IsIn, EntryIn, NamesAfter, DraftIn, enter_draft-in, enter_needed-in, enter_mention-in}
 use Rattle.elim_program.proofs.FunctionTexts.{RefusalIn, ClauseIn, CallIn, at-owner, halts-in, granted-in, level-too-high-in, mismatch-in, walking-in, reporting-in, or-halts-in, self-in, not-smaller-in}
 use Rattle.elim_program.proofs.QuietWalks.{Any}

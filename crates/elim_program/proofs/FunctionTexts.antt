@@ -1,4 +1,4 @@
--- What is written of functions by clauses is in line where names are.
+-- The lines of functions by clauses hold no line feed where the names hold none.
 use Rattle.std.proofs.Common.{ℕ, ◌+◌, List, [], ◌∷◌, ◌++◌, map, codes, Result, Ok, Err, refl}
 use Rattle.std.specs.Prelude.{decimal}
 use Rattle.theory.specs.Terms.{Term, Sort}
@@ -21,8 +21,8 @@ use Rattle.clause_reports.specs.Reports.{Line, Definitional, Proved, Shadowed, A
 use Rattle.clause_reports.specs.Stops as report
 use Rattle.clause_reports.specs.Stops.{ReportStop}
 use Rattle.core_text.specs.ContextText.{context_text, reason_text}
-use Rattle.elaboration.specs.Functions.{ClauseLine}
-use Rattle.elaboration.specs.Refusals.{Owner, Part, FailingCall, Refusal, Halts, Stuck, DotMismatch, SelfInType, NotSmaller, ill_typed, or_ill_typed, level_too_high, pattern_text, of_tree, or_ends, of_report, or_no_report, or_halts, owner_of}
+use Rattle.clause_reports.specs.elaboration.Functions.{ClauseLine}
+use Rattle.clause_reports.specs.elaboration.Refusals.{Owner, Part, FailingCall, Refusal, Halts, Stuck, DotMismatch, SelfInType, NotSmaller, ill_typed, or_ill_typed, level_too_high, pattern_text, of_tree, or_ends, of_report, or_no_report, or_halts, owner_of}
 use Rattle.elim_program.specs.ClauseTexts.{vector_text, line_text, clause_line, leaf_line, leaf_lines, with_leaves, clause_lines}
 use Rattle.elim_program.specs.FunctionRefusals.{owner_text, part_text, why_text, failing_call_text, failing_calls_text, sides_text, denial_text, refusal_text, candidate_lines, refusal_lines}
 use Rattle.elim_program.specs.Refusals.{place_text}
@@ -33,7 +33,7 @@ use Rattle.elim_program.proofs.TokensInLine.{Each}
 
 -- ---- parts of lines
 
--- two texts with a space between them
+-- two strings with a space between them
 pub apart : (a b : List ℕ) → IsIn a → IsIn b → IsIn (a ++ codes " " ++ b)
 apart a b h k = both (a ++ codes " ") b (both a (codes " ") h refl) k
 

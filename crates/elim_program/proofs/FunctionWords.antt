@@ -1,4 +1,4 @@
--- What refuses the names in a function by clauses is in line where its words are.
+-- The reason why a function's names are refused holds no line feed, where the function's words hold none.
 use Rattle.std.proofs.Common.{◌≡◌, ℕ, ◌+◌, ◌==◌, Bool, true, false, List, [], ◌++◌, length, Option, Some, None, Ok, Err}
 use Rattle.std.specs.Prelude.{if◌then◌else◌, bytes_eq}
 use Rattle.std.specs.List.{list_any}

@@ -78,7 +78,7 @@ abbrev mutual
 abbrev pub TypedIn : surf.Typed → Type 0
 TypedIn p = WordIn p.name × UsesInLine p.ty
 
--- A declaration whose words are in line; of one that is not built yet the name alone is looked at.
+-- A declaration whose words are in line; of one that is not implemented yet the name alone is looked at.
 abbrev pub DeclInLine : surf.Decl → Type 0
 DeclInLine (surf.Def x ty body) = WordIn x × UsesInLine ty × UsesInLine body
 DeclInLine (surf.Data x params ty cons) = WordIn x × Each TypedIn params × UsesInLine ty × Each TypedIn cons

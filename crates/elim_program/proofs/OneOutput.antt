@@ -44,7 +44,7 @@ same-kind : (p : Piece) (k l : TokenKind) (n m : ℕ) → p ≡ Found k n → p 
 unfolding kind-of
 same-kind p k l n m e f = ap (kind-of k) (sym e ∙ f)
 
--- what is read up to a place at which nothing is found
+-- tokens that are read up to a place at which nothing is found are the same, and so are their end and the rest
 record AreSame (ts us : List Token) (a b : ℕ) (r s : List ℕ) : Type 0 where
   tokens : ts ≡ us
   end : a ≡ b

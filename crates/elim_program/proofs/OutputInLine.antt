@@ -80,7 +80,7 @@ declarations-in fuel S (d ∷ ds) ready names h =
     go (Ok a) on k rec =
         join (accepted_lines S a) (declarations fuel a.signature ds).lines (accepted-lines-in S a k) (rec a.signature on.ready k.names)
 
--- what a text gives is in line
+-- the declarations of a source file are in line
 abbrev AnswerIn : texts.Answer → Type 0
 AnswerIn (Ok ds) = Each DeclInLine ds
 AnswerIn (Err e) = Unit {0}
@@ -97,7 +97,7 @@ given-in bytes answer (tokens found within are) = go (unbuilt bytes found) refl 
     go None e (Wrong n) q = tt
     go None e (Deep n) q = tt
 
--- the lines of a text that is read
+-- the lines of a source file that is read
 pub written-in : (bytes : List ℕ) (fuel : ℕ) (k : Bool) (ds : List surf.Decl) → Gives bytes (Ok ds) → AreInLine (declarations fuel (prelude k) ds).lines
 written-in bytes fuel k ds gives = declarations-in fuel (prelude k) ds (prelude-ready (prelude k) k refl) (prelude-in k) (given-in bytes (Ok ds) gives)
 
@@ -145,7 +145,7 @@ output-in words bytes out (verifies command asks) =
 output-in words bytes out (works work answer asks gives) =
     join (head_lines false) (work_block work answer).lines (heads-in false) (work-in work answer (given-in (work_text work.count) answer gives))
 
--- the first lines of a text of lines are lines of the output
+-- the first lines of a front of the output are lines of the output
 pub acceptance_of_front : (words : List (List ℕ)) (bytes text : List ℕ) (out : Output) → IsOutput words bytes out → IsFront text (text_of out.lines) → SaysAccepted words bytes text
 acceptance_of_front words bytes text out is front above below name line =
     let more = lines-front text front.0 in

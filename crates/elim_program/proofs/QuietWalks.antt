@@ -1,4 +1,4 @@
--- Walks for proofs of equations deny no entry.
+-- A walk for the proof of an equation never ends with a rejected entry.
 use Rattle.std.proofs.Common.{ℕ, zero, suc, ◌==◌, Bool, true, false, cond, Option, Some, None, List, [], ◌∷◌, Result, Ok, Err}
 use Rattle.theory.specs.Terms.{Term}
 use Rattle.theory.specs.Signatures.{Signature}
@@ -23,7 +23,7 @@ use Rattle.elim_program.proofs.EnteredNames.{ReportIn}
 abbrev pub Any : {A : Type 0} → A → Type 0
 Any a = Unit {0}
 
--- no entry is denied
+-- no entry is rejected
 abbrev pub Quiet : {A : Type 0} → Reporting A → Type 0
 Quiet r = Splits Any ReportIn r.0
 

@@ -1,4 +1,4 @@
--- What is read of a core file: its names hold no line feed, and an instance is not there yet.
+-- The names of an entry that is read from a core file hold no line feed, and an instance that is read is not in the signature yet.
 use Rattle.std.proofs.Common.{◌≡◌, ℕ, zero, suc, ◌+◌, ◌-◌, Bool, true, false, not, List, [], ◌∷◌, ◌++◌, map, length, drop, take, Option, Some, None, Result, Ok, Err, codes, refl, sym, ap, subst, ◌∙◌, arith}
 use Rattle.std.specs.Prelude.{◌==◌, ◌&&◌, ◌||◌, if◌then◌else◌, nat_le}
 use Rattle.std.specs.List.{list_all, list_any}

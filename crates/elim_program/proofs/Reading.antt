@@ -1,4 +1,4 @@
--- The declarations that a text gives are those that the grammar has for it.
+-- The declarations that are read from a source file are those that the grammar has for it.
 use Rattle.std.proofs.Common.{◌≡◌, ℕ, List, Option, Some, None, Result, Ok, Err, refl, subst}
 use Rattle.surface_syntax.specs.Grammar as grammar
 use Rattle.surface_syntax.specs.Lexemes.{lexemes_of}

@@ -1,4 +1,4 @@
--- What a report of a clause leaves has names in line, and what it denies is written in line.
+-- After the report of a clause the names of the signature hold no line feed, and a refusal in it is written without one.
 use Rattle.std.proofs.Common.{ℕ, zero, suc, ◌+◌, nat_lt, Bool, true, false, cond, Option, List, [], ◌∷◌, ◌++◌, length, map, get_or, codes, Result, Ok, Err, IfOk, refl, arith}
 use Rattle.std.specs.Prelude.{◌%◌, ◌/◌, decimal}
 use Rattle.theory.specs.Terms.{Term}
@@ -29,9 +29,9 @@ use Rattle.clause_reports.specs.Shadows.{TreeLeaf, vector_of, leaves_of}
 use Rattle.clause_reports.specs.Stops.{Halts, ReportStop, Reporting, answers, or_halts, halting}
 use Rattle.clause_reports.proofs.Keeping.{any}
 use Rattle.clause_equations.specs.CodeEquations.{equation_made}
-use Rattle.draft_checks.specs.Checks.{enterable}
-use Rattle.draft_entering.specs.Depths.{own_name}
-use Rattle.proof_terms.specs.CodeProofs.{body_made, name_made, table_made}
+use Rattle.drafts.specs.draft_checks.Checks.{enterable}
+use Rattle.drafts.specs.draft_entering.Depths.{own_name}
+use Rattle.proof_walks.specs.proof_terms.CodeProofs.{body_made, name_made, table_made}
 use Rattle.proof_walks.specs.Starts.{start_made, walk_made}
 use Rattle.clause_lines.specs.CodeReports.{PlannedClause, Judgement, Known, Candidate, in_plan, can_be_compared, equation_converts, first_order, equation_there, converts_there, converts_at_all, converts_at_leaves, if_shadowed, both_match, at_matched, at_vector_made, at_place, place_converts, is_earlier, shadowed_among, shadowed_made, denies, on_entered, entering_made, candidate_of, proof_judged, unless_converts, equation_judged, judged, on_judged, report_made}
 use Rattle.elim_program.proofs.EnteredNames.{IsIn, ReportIn, NamesAfter, DraftIn, enter_draft-in}

@@ -1,4 +1,4 @@
--- What a declaration whose words are in line gives holds no line feed, over a signature whose names hold none.
+-- The lines of a declaration hold no line feed, where its words and the names of the signature hold none.
 use Rattle.std.proofs.Common.{◌≡◌, ℕ, zero, suc, ◌+◌, ◌/◌, ◌%◌, Bool, true, false, List, [], ◌∷◌, ◌++◌, length, map, Option, Some, None, IfSome, Result, Ok, Err, All, refl, sym, subst, arith}
 use Rattle.std.specs.Prelude.{◌||◌, codes, decimal, if◌then◌else◌, slice_get, is_some, nat_le, nat_lt, cond, bytes_eq}
 use Rattle.std.specs.List.{range_with_len, list_any}
@@ -220,7 +220,7 @@ data-in : (S : Signature) (x : Word) (params : List surf.Typed) (ty : surf.Surf)
 data-in S x params ty cons hx hp ht hc =
     further RawIn EntryNamesIn (resolve_family.family S x params ty cons) _ (family-in S x params ty cons hx hp ht hc) (λ raw n. n)
 
--- Texts of refusals.
+-- Refusals as they are printed.
 
 abbrev pub TextIn : Refusal → Type 0
 TextIn e = is_in_line (refusal_text e) ≡ true
@@ -340,7 +340,7 @@ entry-refused-in S names start fuel (RawAxiomK i m) h = unentered-in (λ site. S
 entry-refused-in S names start fuel (RawDefinition name type body) h =
     unentered-in (λ site. S) [] (λ site. names) tt (Some (record { text = name; start = start })) h fuel
 
--- what refuses a declaration is in line
+-- the refusal of a declaration is in line
 pub refused-in : (S : Signature) (fuel : ℕ) (d : surf.Decl) → NamesIn S → DeclInLine d → RefusesIn (session.declare_of S fuel d)
 refused-in S fuel (surf.Def x ty body) names h =
     resolved-in EntryNamesIn S fuel x (session.resolve_definition S x ty body) (definition-in S x ty body h.0 h.1 h.2) (λ raw n. entry-refused-in S names x.start fuel raw n)
@@ -350,7 +350,7 @@ refused-in S fuel (surf.Decide x f e) names h = both (codes "NotYet ") (decimal 
 refused-in S fuel (surf.Mutual params members f tag tags) names h = both (codes "NotYet ") (decimal (first_name members f).start) refl (decimal-in (first_name members f).start)
 refused-in S fuel (surf.Fun x ty clauses) names h = both (codes "NotYet ") (decimal x.start) refl (decimal-in x.start)
 
--- what is accepted has a name in line, and the names of its signature are in line
+-- an accepted declaration has a name in line, and the names of its signature are in line
 pub record AcceptedIn (a : session.Declared) : Type 0 where
   pub name : is_in_line a.name ≡ true
   pub names : NamesIn a.signature

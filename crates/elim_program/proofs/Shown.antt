@@ -1,4 +1,4 @@
--- What is accepted is what the headline says.
+-- A declaration that is accepted is shown by the lines above it, as the headline says.
 use Rattle.std.proofs.Common.{◌≡◌, ℕ, Bool, true, false, List, [], ◌∷◌, ◌++◌, codes, Option, Some, None, Ok, refl, sym, ap, subst, ◌∙◌, arith}
 use Rattle.std.specs.Prelude.{Contains, IsTrue, bytes_eq, ◌&&◌, if◌then◌else◌}
 use Rattle.std.proofs.lemmas.Bool.{true≢false}

@@ -1,4 +1,4 @@
--- No reason for which a text is refused is empty.
+-- No reason for which a source file is refused is empty.
 use Rattle.std.proofs.Common.{arith}
 use Rattle.elim_program.specs.Refusals.{StopsHaveReasons}
 use Rattle.elim_program.specs.declared.text_stop.TextStop.TheVariants as stop

@@ -4,7 +4,7 @@ use Rattle.std.specs.Prelude.{◌==◌, if◌then◌else◌, OnOk, slice_get, co
 use Rattle.std.proofs.lemmas.Bool.{and_parts, false≢true}
 use Rattle.theory.specs.Signatures.{Signature}
 use Rattle.core_text.specs.Lines.{is_in_line, AreInLine}
-use Rattle.elaboration.specs.Functions.{ClauseLine}
+use Rattle.clause_reports.specs.elaboration.Functions.{ClauseLine}
 use Rattle.elim_program.specs.ClauseTexts.{clause_line, leaf_lines, with_leaves, clause_lines, clauses_text}
 use Rattle.elim_program.specs.Lines.{longer, lines_of, text_of}
 use Rattle.elim_program.specs.Outputs.{line_of, entry_lines}

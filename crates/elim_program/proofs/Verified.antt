@@ -32,7 +32,7 @@ use Rattle.elim_program.proofs.Lines.{third, first_line, not_empty, not_one, aft
 use Rattle.elim_program.proofs.OneOutput.{not-both-asked, same-command, work-no-verify}
 use Rattle.elim_program.proofs.ReadInLine.{is-read}
 
--- what is known before the entries from an offset on, with the lines of those before them
+-- the state before the entries from an offset on, with the lines of those before them
 record IsBefore (k : Bool) (text : List ℕ) (S : Signature) (from : ℕ) (earlier : List (List ℕ)) : Type 0 where
   names : List (List ℕ)
   held : Holds k text S from names
@@ -40,7 +40,7 @@ record IsBefore (k : Bool) (text : List ℕ) (S : Signature) (from : ℕ) (earli
   lines : earlier ≡ map verified_line names
   within : from ≤ length text
 
--- what is known after an entry
+-- the state after an entry
 onward : (k : Bool) (text : List ℕ) (S T : Signature) (from to : ℕ) (earlier : List (List ℕ)) (raw : RawEntry) → IsBefore k text S from earlier → entry_from S text from ≡ Ok (Some (raw, to)) → Adds S raw T → IsReady T → to ≤ length text →
     IsBefore k text T to (earlier ++ verified_line (read_name S raw) ∷ [])
 onward k text S T from to earlier raw b is adds ready within = record {
@@ -136,7 +136,7 @@ file-found k fuel text above below name e = go (head_of k text) refl e
           within = (is-head k has_k from text is).within;
         }) e
 
--- what is not too long is the text itself
+-- a file that is not too long is read whole
 text-found : (command : Command) (bytes : List ℕ) (above below : List (List ℕ)) (name : List ℕ) → (file_block command (limited bytes)).lines ≡ above ++ verified_line name ∷ below → IsFound command.k bytes above name
 unfolding third
 text-found command bytes above below name e = go (nat_lt 1048576 (length bytes)) e

@@ -1,4 +1,4 @@
--- What a run wrote, seen as a whole.
+-- A run that ends without an error has written a whole output.
 use Rattle.std.specs.Prelude.{◌||◌, is_some}
 use Rattle.std.proofs.lemmas.Bool.{true≢false}
 use Rattle.std.proofs.Common.{◌≡◌, ◌≢◌, ℕ, ◌⊎◌, inl, inr, Bool, true, false, List, Option, Some, None, Result, Err, IfSome, refl, subst}
@@ -43,7 +43,7 @@ complete words left before after status r nr nw nm = go r.wrote
     go (nothing a (inr e)) = absurd (nm e)
     go (output out is f h v) = finished words left before after status r.bytes r.known out is f nw nm
 
--- what follows a defined output has the headline
+-- a run that follows a defined output has the headline
 pub follow : (words : List (List ℕ)) (bytes : List ℕ) (before after : Option (List ℕ)) (status : Status) (out : Output) → IsOutput words bytes out → Follows out before after status →
     Wrote words bytes before after status
 follow words bytes before after status out is f = output out is f (headline_of_front words bytes f.text out is f.front) (verify_headline_of_front words bytes f.text out is f.front)
@@ -53,7 +53,7 @@ pub usage_runs : (words : List (List ℕ)) (left before after : Option (List ℕ
 usage_runs words left before after status none neither other follows =
     let b = no_bytes left in record { bytes = b.0; known = b.1; wrote = follow words b.0 before after status usage (refused_words none neither other) follows }
 
--- what is written where no bytes are read
+-- a run that reads no bytes
 pub unread_runs : (words : List (List ℕ)) (left before after : Option (List ℕ)) (status : Status) → ((bytes : List ℕ) → Wrote words bytes before after status) → Runs words left before after status
 unread_runs words left before after status wrote = let b = no_bytes left in record { bytes = b.0; known = b.1; wrote = wrote b.0 }
 
@@ -69,7 +69,7 @@ none-of : {A : Type 0} (o : Option A) → is_some o ≡ false → o ≡ None
 none-of None e = refl
 none-of (Some a) e = absurd (true≢false e)
 
--- the same where the words are not accepted
+-- a run whose words are not accepted
 pub unaccepted_runs : (words : List (List ℕ)) (left before after : Option (List ℕ)) (status : Status) → asks_for_source words ≡ false → work_asked words ≡ None → Follows usage before after status
     → Runs words left before after status
 unaccepted_runs words left before after status refused other follows =

@@ -1,4 +1,4 @@
--- What the mode `work` counts is what `compile` writes.
+-- The mode `work` counts the clauses of the lines that `compile` writes.
 use Rattle.std.proofs.Common.{ℕ, true, false, List, [], ◌∷◌, Result, Ok, Err, refl, sym, ap, ◌∙◌, append_assoc}
 use Rattle.theory.specs.Signatures.{Signature}
 use Rattle.function_session.specs.Elaborating.{Elaborated, Refused, elaborate_of}

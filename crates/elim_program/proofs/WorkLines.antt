@@ -1,4 +1,4 @@
--- How the mode `work` makes its text, and the lines where it is refused.
+-- How the mode `work` makes its source file, and the lines where it is refused.
 use Rattle.std.proofs.Common.{◌≡◌, ◌≢◌, ℕ, zero, suc, ◌+◌, ◌-◌, ◌≤◌, true, List, [], ◌∷◌, ◌++◌, length, map, get_or, Result, Ok, Err, refl, ap, subst, ◌∙◌, arith, append_assoc}
 use Rattle.std.specs.Prelude.{OnOk}
 use Rattle.theory.specs.Signatures.{Signature}

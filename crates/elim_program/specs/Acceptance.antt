@@ -59,7 +59,7 @@ abbrev pub SaysAccepted : List (List ℕ) → List ℕ → List ℕ → Type 0
 SaysAccepted words bytes text =
     (above below : List (List ℕ)) (name : List ℕ) → lines_of text ≡ above ++ accepted_line name ∷ below → IsAccepted words bytes above name
 
--- the same for each output that is defined, and for what was written of it
+-- each line that accepts a declaration is right, in each output that is defined and in each front of it
 abbrev pub Acceptance : Type 0
 Acceptance =
     (words : List (List ℕ)) (bytes : List ℕ) (out : Output) → IsOutput words bytes out → (text rest : List ℕ) → text_of out.lines ≡ text ++ rest → SaysAccepted words bytes text

@@ -7,14 +7,14 @@ use Rattle.core_text.specs.SymbolNames.{name_at}
 use Rattle.core_text.specs.TermText.{spaced}
 use Rattle.clause_reports.specs.Reports.{Line, Definitional, Proved, Shadowed, Absurd}
 use Rattle.core_text.specs.ContextText.{context_text}
-use Rattle.elaboration.specs.Functions.{ClauseLine}
+use Rattle.clause_reports.specs.elaboration.Functions.{ClauseLine}
 use Rattle.elim_program.specs.Lines.{text_of}
 
 -- a context and terms over it, each after a space
 abbrev pub vector_text : Signature → Telescope → List Term → List ℕ
 vector_text S context terms = context_text S context ++ spaced S terms
 
--- What holds of a clause. Earlier clauses are counted from 1.
+-- The end of a clause's line. Earlier clauses are counted from 1.
 abbrev pub line_text : Signature → Line → List ℕ
 line_text S Definitional = codes "definitional"
 line_text S (Proved n) = codes "proved " ++ name_at S n
@@ -43,7 +43,7 @@ abbrev pub clause_lines : Signature → List ClauseLine → List (List ℕ)
 clause_lines S [] = []
 clause_lines S (c ∷ clauses) = with_leaves S c ++ clause_lines S clauses
 
--- the same as a text
+-- the lines of the clauses as one text
 abbrev pub clauses_text : Signature → List ClauseLine → List ℕ
 clauses_text S [] = []
 clauses_text S (c ∷ clauses) = text_of (with_leaves S c) ++ clauses_text S clauses

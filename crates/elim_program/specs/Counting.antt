@@ -1,4 +1,4 @@
--- What the code counts, and what is meant.
+-- The code's counts are those that are defined.
 use Rattle.std.specs.Prelude.{◌≡◌, ℕ, true, List, Result, Ok, Err}
 use Rattle.elim_program.specs.declared.block.Block as code
 use Rattle.elim_program.specs.declared.counts.Counts.{Counts}

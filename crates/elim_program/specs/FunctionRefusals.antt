@@ -2,14 +2,14 @@
 use Rattle.std.specs.Prelude.{ℕ, List, [], ◌∷◌, ◌++◌, codes, decimal}
 use Rattle.unification.specs.declared.why.Why.{Why}
 use Rattle.unification.specs.declared.why.Why.TheVariants.{NeedsK, NotRigid, OccursNotRigid, Depends, NeedsIndexEquations}
-use Rattle.elaboration.specs.Refusals.{Owner, Part, OfType, OfDot, OfSide, OfWith, OfGoal, FailingCall, Refusal, IllTyped, WrongConstructor, Stuck, Uncovered, NotAbsurd, Impossible, DotMismatch, SelfInType, NotSmaller, Rejected}
+use Rattle.clause_reports.specs.elaboration.Refusals.{Owner, Part, OfType, OfDot, OfSide, OfWith, OfGoal, FailingCall, Refusal, IllTyped, WrongConstructor, Stuck, Uncovered, NotAbsurd, Impossible, DotMismatch, SelfInType, NotSmaller, Rejected}
 use Rattle.elim_program.specs.Refusals.{place_text}
 
 -- a function or helper, and the number of its clause
 abbrev pub owner_text : Owner → List ℕ
 owner_text o = o.function ++ codes " " ++ decimal o.clause
 
--- the written part that the checker denies
+-- the written part that the checker rejects
 abbrev pub part_text : Part → List ℕ
 part_text OfType = codes "type"
 part_text (OfDot o) = codes "dot " ++ owner_text o
@@ -40,7 +40,7 @@ sides_text context left right = context ++ codes " " ++ left ++ codes " = " ++ r
 abbrev pub denial_text : (place context reason : List ℕ) → List ℕ
 denial_text place context reason = place_text place ++ codes " " ++ context ++ codes " " ++ reason
 
--- Why a walk or a case tree of a function ends; other refusals have no such text. In a vector a space precedes each term.
+-- Why a walk or a case tree of a function ends; other refusals have no such text. In a list of arguments a space precedes each.
 abbrev pub ended_text : Refusal → List ℕ
 ended_text (WrongConstructor owner context type) =
     codes "WrongConstructor " ++ owner_text owner ++ codes " " ++ context ++ codes " " ++ type
@@ -63,7 +63,7 @@ refusal_text (NotSmaller calls) = codes "NotSmaller" ++ failing_calls_text calls
 refusal_text (Rejected r) = codes "Rejected " ++ r.entry ++ codes " " ++ denial_text r.place r.context r.reason
 refusal_text e = ended_text e
 
--- the core line of an entry that the checker denies
+-- the core line of an entry that the checker rejects
 abbrev pub candidate_lines : Refusal → List (List ℕ)
 candidate_lines (Rejected r) = (codes "# candidate " ++ r.line) ∷ []
 candidate_lines e = []

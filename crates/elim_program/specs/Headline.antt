@@ -1,10 +1,10 @@
--- What an accepted declaration is.
+-- The headline: a declaration that a line says is accepted is shown by the lines above it.
 use Rattle.std.specs.Prelude.{◌≡◌, ◌==◌, ℕ, Bool, true, not, if◌then◌else◌, List, [], ◌∷◌, ◌++◌, Contains, IsTrue, codes}
 use Rattle.theory.specs.Signatures.{Signature, IsPrefix}
 use Rattle.theory.specs.Prelude.{prelude}
 use Rattle.theory.specs.WellFormed.{IsWellFormed}
 use Rattle.surface_syntax.specs.Trees.{Decl}
-use Rattle.elaboration.specs.Functions.{ClauseLine}
+use Rattle.clause_reports.specs.elaboration.Functions.{ClauseLine}
 use Rattle.elim_program.specs.ClauseTexts.{clause_lines}
 use Rattle.elim_program.specs.Lines.{lines_of, text_of}
 use Rattle.elim_program.specs.DefinedOutputs.{IsOutput}
@@ -27,7 +27,7 @@ pub data Shows (P : Signature) : Signature → List (List ℕ) → Type 0 where
   none : Shows P P []
   more : (S T : Signature) (lines : List (List ℕ)) → Shows P S lines → IsPrefix S T → Shows P T (lines ++ lines_after S T)
 
--- The declaration is in the text, and over the entries `before` it comes to what is written: the signature `after` it, which is well
+-- The declaration is in the file, and over the entries `before` it comes to what is written: the signature `after` it, which is well
 -- formed, with one line for each clause of a function. The lines `above` are the head lines, then those that show the entries
 -- `before` from the prelude on, and last those of the declaration: its entries and its clauses. The prelude has axiom K only where
 -- the words ask for it.

@@ -72,7 +72,7 @@ declarations fuel S [] = block [] false
 declarations fuel S (d ∷ ds) =
     followed (declared_block S d (elaborate_of S fuel d)) (declarations fuel (after S (elaborate_of S fuel d)) ds)
 
--- the lines of what a text gives
+-- the lines of a source file: those of its declarations, or that of its refusal
 abbrev pub text_block : Command → Answer → Block
 text_block command (Ok ds) = declarations command.fuel (prelude command.k) ds
 text_block command (Err e) = block (stop_line e ∷ []) true

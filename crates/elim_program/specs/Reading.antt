@@ -1,4 +1,4 @@
--- The declarations that the grammar has for a text.
+-- The declarations that the grammar has for a source file.
 use Rattle.std.specs.Prelude.{◌≤◌, ℕ, List, length}
 use Rattle.surface_syntax.specs.Grammar as grammar
 use Rattle.surface_syntax.specs.Lexemes.{lexemes_of}
@@ -7,7 +7,7 @@ use Rattle.surface_syntax.specs.Trees.{Decl}
 use Rattle.surface_syntax.specs.declared.token.Token.{Token}
 use Rattle.elim_program.specs.Texts.{limit}
 
--- the bytes are no more than a text may have, they split into tokens, and the grammar has these declarations for the tokens
+-- the bytes are no more than a source file may have, they split into tokens, and the grammar has these declarations for the tokens
 pub record IsRead (bytes : List ℕ) (decls : List Decl) : Type 0 where
   pub few : length bytes ≤ limit
   pub tokens : List Token

@@ -7,8 +7,8 @@ use Rattle.elab_session.specs.declared.refusal.Refusal.TheVariants as refusal
 use Rattle.elim_program.specs.declared.text_stop.TextStop.{TextStop}
 use Rattle.elim_program.specs.declared.text_stop.TextStop.TheVariants as stop
 
--- Why a text is refused at one of its bytes, or whole. Want of memory has a text here and below, so that no reason is empty; a run that
--- comes to it ends with the status `NoMemory` and does not write it.
+-- Why a source file is refused at one of its bytes, or whole. `Memory` has a text here and below, so that no reason is empty; a run
+-- that is out of memory ends with the status `NoMemory` and does not write it.
 abbrev pub stop_text : TextStop → List ℕ
 stop_text stop.Memory = codes "Memory"
 stop_text stop.TooLong = codes "TooLong 1048576"
@@ -19,7 +19,7 @@ stop_text (stop.Nested offset) = codes "Nested " ++ decimal offset
 stop_text (stop.Syntax offset) = codes "Syntax " ++ decimal offset
 stop_text (stop.NotCoreText offset) = codes "NotCoreText " ++ decimal offset
 
--- no text is refused without a reason
+-- no source file is refused without a reason
 abbrev pub StopsHaveReasons : Type 0
 StopsHaveReasons = (e : TextStop) → 0 < length (stop_text e)
 

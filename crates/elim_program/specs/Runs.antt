@@ -1,4 +1,4 @@
--- What a run did.
+-- The output and the status of a run.
 use Rattle.std.specs.Prelude.{◌≡◌, ◌≢◌, ℕ, Bool, List, [], ◌++◌, Option, Result, Ok, Err, IfSome, ◌⊎◌}
 use Rattle.std.specs.Io.KnownBytes.{Appends}
 use Rattle.elim_program.specs.declared.status.Status.{Status}
@@ -12,15 +12,15 @@ use Rattle.elim_program.specs.VerifyHeadline.{IsVerifyHeadline}
 abbrev pub IsFront : List ℕ → List ℕ → Type 0
 IsFront front text = (rest : List ℕ) × (text ≡ front ++ rest)
 
--- what a status says of the text that was written: `Done`, `Refused` and `Usage` come exactly where the whole output
--- was written and has that status, and only want of memory may take their place
+-- The meaning of a status for the text that was written: `Done`, `Refused` and `Usage` come exactly where the whole output
+-- was written and has that status, and only `NoMemory` may take their place.
 abbrev pub Says : Status → Output → List ℕ → Type 0
 Says ReadFault out text = ⊥
 Says WriteFault out text = text ≢ text_of out.lines
 Says NoMemory out text = Unit {0}
 Says answer out text = (text ≡ text_of out.lines) × (out.status ≡ answer)
 
--- what was written is the front of an output, and the status says how much of it
+-- the bytes that were written are a front of an output, and the status says how much of it
 pub record Follows (out : Output) (before after : Option (List ℕ)) (status : Status) : Type 0 where
   pub text : List ℕ
   pub appended : Appends before after text
@@ -28,7 +28,7 @@ pub record Follows (out : Output) (before after : Option (List ℕ)) (status : S
   pub says : Says status out text
 
 -- A run follows an output that is defined for its words and the bytes, or it ended before it wrote anything: by a fault of
--- the source, or for want of memory. The headlines: if a whole line of what was written says that a declaration is
+-- the source, or out of memory. The headlines: if a whole line of what was written says that a declaration is
 -- accepted, the lines above it show the declaration. If one says that an entry of a core file is verified, the entries
 -- verified up to it are a signature by the rules.
 pub data Wrote (words : List (List ℕ)) (bytes : List ℕ) (before after : Option (List ℕ)) (status : Status) : Type 0 where

@@ -1,4 +1,4 @@
--- What a text gives: its declarations, or why it is refused before any of them is looked at.
+-- A source file gives its declarations, or the reason why it is refused before any of them is looked at.
 use Rattle.std.specs.Prelude.{◌≡◌, ℕ, Bool, true, false, ◌<◌, ◌≤◌, nat_lt, if◌then◌else◌, List, length, Option, Some, None, Result, Ok, Err, map}
 use Rattle.std.specs.Str.{IsValidUpTo}
 use Rattle.core_terms.specs.Answers.{Unless}
@@ -14,15 +14,15 @@ use Rattle.elim_program.specs.Unbuilt.{unbuilt}
 use Rattle.elim_program.specs.declared.text_stop.TextStop.{TextStop}
 use Rattle.elim_program.specs.declared.text_stop.TextStop.TheVariants as stop
 
--- the declarations of a text, or its refusal
+-- the declarations of a source file, or its refusal
 abbrev pub Answer : Type 0
 Answer = Result (List Decl) TextStop
 
--- the most bytes of a text
+-- the most bytes of a source file
 abbrev pub limit : ℕ
 limit = 1048576
 
--- the bytes of a text that is read, or None for a longer one
+-- the bytes of a source file that is read, or None for a longer one
 abbrev pub limited : List ℕ → Option (List ℕ)
 limited bytes = if nat_lt limit (length bytes) then None else Some bytes
 
@@ -37,13 +37,13 @@ abbrev pub read : Result (List Decl) SyntaxStop → Answer
 read (Ok decls) = Ok decls
 read (Err e) = Err (stop_of e)
 
--- what is not built yet comes before what the grammar says
+-- a declaration that is not implemented yet comes before an answer of the grammar
 abbrev pub unless_unbuilt : Option ℕ → Answer → Answer
 unless_unbuilt (Some offset) answer = Err (stop.NotYet offset)
 unless_unbuilt None answer = answer
 
--- What the bytes give. The first of these decides: they are too many; they are no UTF-8; somewhere there is no token. Otherwise it
--- is what is not built yet, or what the grammar says of the tokens.
+-- The answer for the bytes. The first of these decides: they are too many; they are no UTF-8; somewhere there is no token.
+-- Otherwise a declaration that is not implemented yet decides, or else the grammar.
 pub data Gives (bytes : List ℕ) : Answer → Type 0 where
   too_long : limit < length bytes → Gives bytes (Err stop.TooLong)
   not_utf8 : (offset : ℕ) → length bytes ≤ limit → IsValidUpTo bytes offset → Gives bytes (Err (stop.NotUtf8 offset))
@@ -55,7 +55,7 @@ abbrev pub answer_of : Result (List code.Decl) TextStop → Answer
 answer_of (Ok decls) = Ok (map decl_of decls)
 answer_of (Err e) = Err e
 
--- the refusals that nothing rules out: want of memory alone
+-- the refusal that nothing rules out: out of memory
 abbrev pub IsUnforeseen : TextStop → Type 0
 IsUnforeseen e = e ≡ stop.Memory
 

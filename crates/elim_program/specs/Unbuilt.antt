@@ -1,4 +1,4 @@
--- The declarations that the grammar has and that are not built yet: families that refer to each other, and decisions of
+-- The declarations that the grammar has and that are not implemented yet: families that refer to each other, and decisions of
 -- equality.
 use Rattle.std.specs.Prelude.{ℕ, Bool, true, false, ◌&&◌, ◌||◌, if◌then◌else◌, List, [], ◌∷◌, codes, Option, Some, None, slice_range}
 use Rattle.surface_syntax.specs.Spelling.{is_text}
@@ -31,14 +31,14 @@ family_at bytes family token =
     if is_spelled (codes "data") bytes token then Some token.start
     else (if is_spelled (codes "def") bytes token || is_spelled (codes "fun") bytes token then None else family)
 
--- The first token of a declaration that is not built, where the token shows it: the `def` before a name and `=`, or the `data`
--- of a family whose `}` has `with` after it.
+-- The first token of a declaration that is not implemented, where the token shows it: the `def` before a name and `=`, or the
+-- `data` of a family whose `}` has `with` after it.
 abbrev pub shown_unbuilt : List ℕ → Option ℕ → Token → List Token → Option ℕ
 shown_unbuilt bytes family token tokens =
     if is_spelled (codes "def") bytes token && begins_decision bytes tokens then Some token.start
     else (if is_spelled (codes "}") bytes token && begins_next_family bytes tokens then family else None)
 
--- what is shown, or else what is found after it
+-- the first of two offsets that is there
 abbrev pub or_later : Option ℕ → Option ℕ → Option ℕ
 or_later (Some offset) later = Some offset
 or_later None later = later
@@ -48,6 +48,6 @@ unbuilt_after bytes family [] = None
 unbuilt_after bytes family (token ∷ tokens) =
     or_later (shown_unbuilt bytes family token tokens) (unbuilt_after bytes (family_at bytes family token) tokens)
 
--- the offset of the first token of a declaration that is not built yet
+-- the offset of the first token of a declaration that is not implemented yet
 abbrev pub unbuilt : List ℕ → List Token → Option ℕ
 unbuilt bytes tokens = unbuilt_after bytes None tokens

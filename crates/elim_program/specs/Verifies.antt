@@ -1,4 +1,4 @@
--- What is said of the entries of a core file, one by one, up to the first that is refused.
+-- The lines for the entries of a core file, one by one, up to the first that is refused.
 use Rattle.std.specs.Prelude.{◌≡◌, ℕ, zero, suc, ◌-◌, ◌<◌, ◌≤◌, Bool, true, false, List, [], ◌∷◌, ◌++◌, length, codes, Option, Some, None, Result, Ok, Err}
 use Rattle.theory.specs.Terms.{Elim, AxiomK}
 use Rattle.theory.specs.Signatures.{Signature}
@@ -68,7 +68,7 @@ abbrev pub after_head : ℕ → List ℕ → Result (Bool × ℕ) CoreTextStop �
 after_head fuel text (Ok p) = entries text fuel (suc (length text)) (prelude p.0) p.1
 after_head fuel text (Err e) = unread_block e
 
--- the lines of a core file, or of a text that is too long to be read
+-- the lines of a core file, or of a file that is too long to be read
 abbrev pub file_block : Command → Option (List ℕ) → Block
 file_block command (Some text) = after_head command.fuel text (head_of command.k text)
 file_block command None = block (stop_line stop.TooLong ∷ []) true

@@ -1,4 +1,4 @@
--- What the verified entries of a core file are.
+-- The verified entries of a core file are a signature by the rules.
 use Rattle.std.specs.Prelude.{◌≡◌, ℕ, Bool, IsTrue, List, [], ◌∷◌, ◌++◌, map, Some, Ok}
 use Rattle.theory.specs.Prelude.{prelude}
 use Rattle.theory.specs.Signatures.{Signature}
@@ -40,7 +40,7 @@ IsVerifyHeadline words bytes text =
     (command : Command) → verify_asked words ≡ Some command → (above below : List (List ℕ)) (name : List ℕ)
     → lines_of text ≡ above ++ verified_line name ∷ below → IsVerified command.k bytes above name
 
--- The same, and the signature is one that a session may have.
+-- The lines are those of verified entries (`IsVerified`), and the signature is one that a session may have.
 pub record IsVerifiedReady (k : Bool) (text : List ℕ) (above : List (List ℕ)) (name : List ℕ) : Type 0 where
   pub verified : IsVerified k text above name
   pub ready : IsReady verified.signature
@@ -50,7 +50,7 @@ SaysVerified words bytes text =
     (command : Command) → verify_asked words ≡ Some command → (above below : List (List ℕ)) (name : List ℕ)
     → lines_of text ≡ above ++ verified_line name ∷ below → IsVerifiedReady command.k bytes above name
 
--- the same for each output that is defined, and for what was written of it
+-- each line that verifies an entry is right, in each output that is defined and in each front of it
 abbrev pub VerifiedIsReady : Type 0
 VerifiedIsReady =
     (words : List (List ℕ)) (bytes : List ℕ) (out : Output) → IsOutput words bytes out → (text rest : List ℕ) → text_of out.lines ≡ text ++ rest → SaysVerified words bytes text

@@ -39,7 +39,7 @@ is_k word = is_text word (codes "--k")
 abbrev pub is_fuel : List ℕ → Bool
 is_fuel word = is_text word (codes "--fuel")
 
--- what the words after the mode ask for
+-- the flags after the mode
 abbrev pub flags : List (List ℕ) → Option Command
 flags [] = Some (command false default_fuel)
 flags (a ∷ []) = if is_k a then Some (command true default_fuel) else None
@@ -49,12 +49,12 @@ flags (a ∷ b ∷ c ∷ []) =
     else (if is_fuel a && is_k c then with_fuel true (fuel_of b) else None)
 flags _ = None
 
--- what the words ask for where they ask to compile a text
+-- the command of the words, where they ask to compile a source file
 abbrev pub asked : List (List ℕ) → Option Command
 asked [] = None
 asked (mode ∷ words) = if is_text mode (codes "compile") then flags words else None
 
--- what the words ask for where they ask to verify a core file
+-- the command of the words, where they ask to verify a core file
 abbrev pub verify_asked : List (List ℕ) → Option Command
 verify_asked [] = None
 verify_asked (mode ∷ words) = if is_text mode (codes "verify") then flags words else None
@@ -72,14 +72,14 @@ abbrev pub work_of : Option ℕ → Option ℕ → Option Work
 work_of (Some count) (Some fuel) = Some (record { count = count; fuel = fuel })
 work_of _ _ = None
 
--- what the words ask for where they ask for the mode `work`: its number follows it directly, and `--fuel` may come after that
+-- the arguments of the mode `work`, where the words ask for it: its number follows it directly, and `--fuel` may come after that
 abbrev pub work_asked : List (List ℕ) → Option Work
 work_asked (mode ∷ count ∷ []) = if is_text mode (codes "work") then work_of (count_of count) (Some default_fuel) else None
 work_asked (mode ∷ count ∷ flag ∷ fuel ∷ []) =
     if is_text mode (codes "work") && is_fuel flag then work_of (count_of count) (fuel_of fuel) else None
 work_asked _ = None
 
--- the words ask to compile the text of the source, or to verify the core file that it holds
+-- the words ask to compile the source file, or to verify the core file that the source holds
 abbrev pub asks_for_source : List (List ℕ) → Bool
 asks_for_source words = is_some (asked words) || is_some (verify_asked words)
 

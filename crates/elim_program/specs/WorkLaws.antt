@@ -1,4 +1,4 @@
--- The mode `work` counts what `compile` writes for the same text.
+-- The mode `work` counts the clauses of the lines that `compile` writes for the same source file.
 use Rattle.std.specs.Prelude.{◌≡◌, ℕ, true, false, List, [], ◌∷◌, ◌++◌, Result, Ok, Err}
 use Rattle.theory.specs.Signatures.{Signature}
 use Rattle.surface_syntax.specs.Trees as surf
@@ -7,7 +7,7 @@ use Rattle.elim_program.specs.declared.counts.Counts.{Counts}
 use Rattle.elim_program.specs.Outputs.{Block, accepted_lines, block, declarations}
 use Rattle.elim_program.specs.Works.{with_accepted, worked}
 
--- what is accepted, with the signature before it
+-- a declaration that is accepted, with the signature before it
 abbrev pub Accepting : Type 0
 Accepting = Signature × Elaborated
 
@@ -15,7 +15,7 @@ abbrev pub on_accepting : Signature → Result Elaborated Refused → (Signature
 on_accepting S (Ok a) go = (S, a) ∷ go a.signature
 on_accepting S (Err e) go = []
 
--- what is accepted of declarations, one by one up to the first that is refused
+-- the declarations that are accepted, one by one up to the first that is refused
 abbrev pub acceptings : ℕ → Signature → List surf.Decl → List Accepting
 acceptings fuel S [] = []
 acceptings fuel S (d ∷ ds) = on_accepting S (elaborate_of S fuel d) (λ T. acceptings fuel T ds)
@@ -30,7 +30,7 @@ abbrev pub acceptings_counted : Counts → List Accepting → Counts
 acceptings_counted c [] = c
 acceptings_counted c (one ∷ more) = acceptings_counted (with_accepted c one.1) more
 
--- what is counted is what these lines say, or the last lines are those of the refusal
+-- the counts are those of these lines, or the last lines are those of the refusal
 abbrev pub IsCountOf : Counts → List Accepting → Block → Result Counts (List (List ℕ)) → Type 0
 IsCountOf c all written (Ok n) = (written ≡ block (acceptings_lines all) false) × (n ≡ acceptings_counted c all)
 IsCountOf c all written (Err lines) = written ≡ block (acceptings_lines all ++ lines) true

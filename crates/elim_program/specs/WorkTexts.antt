@@ -1,10 +1,10 @@
--- The text that the mode `work` compiles, and its summary.
+-- The source file that the mode `work` compiles, and its summary.
 use Rattle.std.specs.Prelude.{ℕ, zero, suc, ◌+◌, ◌==◌, if◌then◌else◌, List, [], ◌∷◌, ◌++◌, codes, decimal}
 use Rattle.elim_program.specs.declared.counts.Counts.{Counts}
 
--- ---- the text
+-- ---- the source file
 
--- a text with the number in the place of each `#`
+-- the template with the number in the place of each `#`
 abbrev pub numbered : ℕ → List ℕ → List ℕ
 numbered k [] = []
 numbered k (c ∷ cs) = if c == 35 then decimal k ++ numbered k cs else c ∷ numbered k cs

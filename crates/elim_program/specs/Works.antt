@@ -1,10 +1,10 @@
--- The mode `work`: how many clauses of its text have each line.
+-- The mode `work`: how many clauses of its source file have each line.
 use Rattle.std.specs.Prelude.{ℕ, ◌+◌, true, false, List, [], ◌∷◌, Result, Ok, Err}
 use Rattle.theory.specs.Prelude.{prelude}
 use Rattle.theory.specs.Signatures.{Signature}
 use Rattle.surface_syntax.specs.Trees as surf
 use Rattle.clause_reports.specs.Reports.{Line, Definitional, Proved, Shadowed, Absurd}
-use Rattle.elaboration.specs.Functions.{ClauseLine}
+use Rattle.clause_reports.specs.elaboration.Functions.{ClauseLine}
 use Rattle.function_session.specs.Elaborating.{Elaborated, Refused, elaborate_of}
 use Rattle.elim_program.specs.declared.counts.Counts.{Counts}
 use Rattle.elim_program.specs.declared.words.Work.{Work}
@@ -36,7 +36,7 @@ one_accepted c = record c { accepted = c.accepted + 1 }
 abbrev pub with_accepted : Counts → Elaborated → Counts
 with_accepted c a = all_counted (one_accepted c) a.lines
 
--- what is counted, or the lines of a refusal
+-- the counts after a declaration, or the lines of its refusal
 abbrev pub on_worked : surf.Decl → Result Elaborated Refused → (Elaborated → Result Counts (List (List ℕ))) → Result Counts (List (List ℕ))
 on_worked d (Ok a) go = go a
 on_worked d (Err e) go = Err (refused_lines (declared_name d) e)

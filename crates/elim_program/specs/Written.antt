@@ -1,4 +1,4 @@
--- What each form of declaration comes to: the signature with what is written.
+-- The signature after each form of declaration: the one before it and the entries that the declaration writes.
 use Rattle.std.specs.Prelude.{◌≡◌, ℕ, List, [], length, Ok}
 use Rattle.theory.specs.Terms.{Term}
 use Rattle.theory.specs.Families.{Family}
@@ -10,11 +10,11 @@ use Rattle.surface_syntax.specs.declared.tree.Word.{Word}
 use Rattle.resolve.specs.Families.{family}
 use Rattle.resolve.specs.Resolving.{resolve_term}
 use Rattle.family_check.specs.Laws.{IsAsDeclared}
-use Rattle.elaboration.specs.Functions.{ClauseLine}
+use Rattle.clause_reports.specs.elaboration.Functions.{ClauseLine}
 use Rattle.written_functions.specs.Functions.{IsByClauses}
 
--- T is S with one entry more, the definition that is written: its type and its body are the core terms that the written ones
--- stand for, by the typing rules the type has a sort, and the body has the type.
+-- T is S with one entry more, the definition that is written: its type and its body are the core terms of the written ones;
+-- by the typing rules the type has a sort, and the body has the type.
 pub record IsDefinitionWritten (S : Signature) (x : Word) (ty body : surf.Surf) (T : Signature) : Type 0 where
   pub type : Term
   pub term : Term
@@ -23,8 +23,8 @@ pub record IsDefinitionWritten (S : Signature) (x : Word) (ty body : surf.Surf) 
   pub typed : IsDefinition S type term
   pub added : T ≡ pushed S (Definition x.text type term)
 
--- T is S with one entry more, the family that is written: it has the names, the parameters and the types that the written ones
--- stand for, and is formed by the rules.
+-- T is S with one entry more, the family that is written: it has the names, the parameters and the types of the written one,
+-- and is formed by the rules.
 pub record IsFamilyWritten (S : Signature) (x : Word) (params : List surf.Typed) (ty : surf.Surf) (cons : List surf.Typed) (T : Signature) : Type 0 where
   pub raw : RawFamily
   pub entry : Family

@@ -7,8 +7,8 @@ ghost use Rattle.elim_program.specs.Lines.{text_of};
 ghost use Rattle.elim_program.specs.Outputs as spec;
 ghost use Rattle.elim_program.specs.Refusals.{stop_line, refusal_line};
 ghost use Rattle.elim_program.specs.Verifies.{verified_line};
-ghost use Rattle.function_lines.specs.LineMeanings.{clause_line_of};
-ghost use Rattle.function_refusals.specs.RefusalMeanings.{refusal_of};
+ghost use Rattle.function_session.specs.function_lines.LineMeanings.{clause_line_of};
+ghost use Rattle.function_checks.specs.function_refusals.RefusalMeanings.{refusal_of};
 
 use crate::clause_texts::write_clauses;
 use crate::refusals::{write_refusal, write_stop};
@@ -18,8 +18,8 @@ use core_sig::Signature;
 use core_terms::Name;
 use core_text::print_entry;
 use elab_session::Refusal;
-use function_lines::ClauseLine;
-use function_refusals::Refusal as FunctionRefusal;
+use function_checks::function_refusals::Refusal as FunctionRefusal;
+use function_session::function_lines::ClauseLine;
 use std::alloc::Global;
 
 /// Lines, each with its line feed, and whether the last one refuses.
@@ -29,7 +29,7 @@ pub(crate) struct Block {
     pub refused: bool,
 }
 
-/// The last line, where a text is refused before its declarations are looked at.
+/// The last line, where a source file is refused before its declarations are looked at.
 pub(crate) fn stop_block(alloc: Global, stop: TextStop) -> Result<Block, Status>
     ensures { Makes result (spec.block (stop_line stop ∷ []) true) }
 {

@@ -6,7 +6,7 @@ ghost use Rattle.core_text.specs.TermText.{spaced};
 ghost use Rattle.elim_program.specs.ClauseTexts as spec;
 ghost use Rattle.elim_program.specs.Lines.{text_of};
 ghost use Rattle.elim_program.specs.declared.status.Status.TheVariants.{NoMemory};
-ghost use Rattle.function_lines.specs.LineMeanings.{clause_line_of};
+ghost use Rattle.function_session.specs.function_lines.LineMeanings.{clause_line_of};
 
 use crate::Status;
 use crate::refusals::write_number;
@@ -14,7 +14,7 @@ use clause_lines::Line;
 use core_sig::Signature;
 use core_terms::{Tele, Term};
 use core_text::{context_text, print_term};
-use function_lines::ClauseLine;
+use function_session::function_lines::ClauseLine;
 use std::alloc::Global;
 
 fn write_terms(
@@ -64,7 +64,7 @@ fn write_proved(alloc: Global, out: &mut Vec<u8>, sig: &Signature, entry: u32) -
     Ok(())
 }
 
-/// Writes which clause takes a vector, and which vector.
+/// Writes which clause takes the arguments that are shown, and these arguments.
 fn write_shadowed(
     alloc: Global,
     out: &mut Vec<u8>,

@@ -54,7 +54,7 @@ fn matched<'a>(alloc: Global, words: &'a [String]) -> Result<ArgMatches<'a>, Sta
     }
 }
 
-/// What the words want of the source.
+/// Reads from the words whether the source is compiled or verified, with axiom K or not, and with how many units.
 pub(crate) fn asked(alloc: Global, words: &[String]) -> Result<Asked, Status>
     requires { spec.asks_for_source (map string_bytes words.now) ≡ true }
     ensures ok { IfOk result (spec.Asks (map string_bytes words.now)) }

@@ -2,11 +2,11 @@ ghost use Rattle.std.specs.Prelude.{◌≡◌, ◌+◌, map, Err, IfOk, OnErr};
 ghost use Rattle.clause_lines.specs.LineMeanings.{line_of};
 ghost use Rattle.core_terms.specs.declared.stop.Stop.TheVariants.{Memory};
 ghost use Rattle.elim_program.specs.Works as spec;
-ghost use Rattle.function_lines.specs.LineMeanings.{clause_line_of};
+ghost use Rattle.function_session.specs.function_lines.LineMeanings.{clause_line_of};
 
 use clause_lines::Line;
 use core_terms::{Stop, next};
-use function_lines::ClauseLine;
+use function_session::function_lines::ClauseLine;
 
 /// How many declarations are accepted, and how many clauses have each line.
 #[derive(Clone, Copy, Debug, PartialEq, Eq)]

@@ -26,7 +26,7 @@ pub(crate) fn declared_name(d: &Decl) -> &Name
     &declared_word(d).text
 }
 
-/// The lines of a declaration that is refused, or want of memory.
+/// The lines of a declaration that is refused, or `NoMemory`.
 pub(crate) fn refused_block(alloc: Global, name: &Name, refused: &Refused) -> Result<Block, Status>
     ensures made { Makes result (spec.block (spec.refused_lines name.now (refused_of refused.now)) true) }
     ensures memory { IsUnforeseen refused.now → result ≡ Err Status.NoMemory }

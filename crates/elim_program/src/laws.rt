@@ -22,7 +22,7 @@ pub fn headline()
     ensures { Headline }
 {}
 
-/// No text is refused without a reason.
+/// No source file is refused without a reason.
 pub fn stops_have_reasons()
     ensures { StopsHaveReasons }
 {}
@@ -43,7 +43,7 @@ pub fn verified_is_ready()
     ensures { VerifiedIsReady }
 {}
 
-/// What is written and the status are a function of the words and the bytes.
+/// The output and the status are a function of the words and the bytes.
 pub fn has_one_output()
     ensures { HasOneOutput }
 {}

@@ -68,7 +68,7 @@ fn write_part(out: &mut Vec<u8>, part: &PartName) -> Result<(), AllocError>
     }
 }
 
-/// Writes what the checker denies.
+/// Writes the part that the checker rejects.
 fn write_denial(
     out: &mut Vec<u8>,
     part: &PartName,
@@ -128,7 +128,7 @@ pub(crate) fn write_refusal(out: &mut Vec<u8>, refusal: &Refusal) -> Result<(), 
     }
 }
 
-/// Writes why a text is refused at one of its bytes, or whole.
+/// Writes why a source file is refused at one of its bytes, or whole.
 pub(crate) fn write_stop(out: &mut Vec<u8>, stop: TextStop) -> Result<(), AllocError>
     ensures { OnOk result (out.new.items ≡ out.old.items ++ spec.stop_text stop) }
 {

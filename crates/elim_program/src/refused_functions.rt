@@ -1,12 +1,12 @@
 ghost use Rattle.std.specs.Prelude.{◌≡◌, ◌++◌, [], codes, map, OnOk};
-ghost use Rattle.elaboration.specs.Refusals as pure;
+ghost use Rattle.clause_reports.specs.elaboration.Refusals as pure;
 ghost use Rattle.elim_program.specs.FunctionRefusals as spec;
 ghost use Rattle.elim_program.specs.Lines.{text_of};
-ghost use Rattle.function_refusals.specs.RefusalMeanings.{failing_of, owner_meant, part_of, refusal_of};
+ghost use Rattle.function_checks.specs.function_refusals.RefusalMeanings.{failing_of, owner_meant, part_of, refusal_of};
 
 use crate::refusals::{write_number, write_place};
 use core_terms::Name;
-use function_refusals::{FailingCall, Owner, Refusal, Text, WrittenPart};
+use function_checks::function_refusals::{FailingCall, Owner, Refusal, Text, WrittenPart};
 use std::alloc::AllocError;
 use unification::Why;
 
@@ -98,7 +98,7 @@ fn write_sides(out: &mut Vec<u8>, ctx: &[u8], left: &[u8], right: &[u8]) -> Resu
     write_after(out, b" = ", right)
 }
 
-/// Writes where and why the checker denies something.
+/// Writes where and why the checker rejects something.
 fn write_denial(
     out: &mut Vec<u8>,
     place: &[u8],
@@ -316,7 +316,7 @@ fn write_refusal(out: &mut Vec<u8>, refusal: &Refusal) -> Result<(), AllocError>
     }
 }
 
-/// Writes the core line of an entry that the checker denies.
+/// Writes the core line of an entry that the checker rejects.
 fn write_candidates(out: &mut Vec<u8>, refusal: &Refusal) -> Result<(), AllocError>
     ensures { OnOk result (out.new.items ≡ out.old.items ++ text_of (spec.candidate_lines (refusal_of refusal.now))) }
 {

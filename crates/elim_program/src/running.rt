@@ -29,7 +29,7 @@ const HEAD: &[u8] = b"elim 1\nprelude\n";
 
 const HEAD_WITH_K: &[u8] = b"elim 1\nprelude k\n";
 
-/// Writes a text whole, or a front of it.
+/// Writes all of the bytes, or a front of them.
 pub(crate) fn send<K: Sink>(sink: &mut K, bytes: &[u8]) -> Result<(), Status>
     ensures sent { (text : List ℕ) × Appends (K.written sink.old) (K.written sink.new) text × Sent result text bytes.now }
     ensures fault { result ≡ Err Status.WriteFault → Rose (K.faults sink.old) (K.faults sink.new) }
@@ -63,7 +63,7 @@ pub(crate) fn head(k: bool) -> &'static [u8]
     if k { HEAD_WITH_K } else { HEAD }
 }
 
-/// Writes the line of a text that is refused.
+/// Writes the line of a source file that is refused.
 pub(crate) fn write_stop_line<K: Sink>(
     alloc: Global,
     stop: TextStop,
@@ -79,7 +79,7 @@ pub(crate) fn write_stop_line<K: Sink>(
     Ok(block.refused)
 }
 
-/// Writes what the text gives, and answers whether the last line refuses.
+/// Writes the lines of a source file, and answers whether the last line refuses.
 fn write_whole_text<K: Sink>(
     alloc: Global,
     command: Command,
@@ -99,7 +99,7 @@ fn write_whole_text<K: Sink>(
     }
 }
 
-/// Writes the head lines and what the text gives.
+/// Writes the head lines and the lines of a source file.
 fn write_output<K: Sink>(
     alloc: Global,
     command: Command,
@@ -120,7 +120,7 @@ fn write_output<K: Sink>(
     }
 }
 
-/// Compiles a text.
+/// Compiles a source file.
 fn compile<K: Sink>(
     alloc: Global,
     command: Command,
@@ -156,7 +156,7 @@ fn refuse_words<K: Sink>(sink: &mut K) -> Status
     }
 }
 
-/// Writes what the words ask for of a text.
+/// Compiles or verifies the bytes of the source, as the words ask for.
 fn answer<K: Sink>(
     alloc: Global,
     words: &[String],
@@ -176,8 +176,8 @@ fn answer<K: Sink>(
     }
 }
 
-/// Compiles the text of `source`, or verifies the core file that it holds, or counts the clauses of a text of its own, as the
-/// words ask for, and writes the lines to `sink`.
+/// Compiles the source file, or verifies the core file that `source` holds, or counts the clauses of a source file of
+/// its own, as the words ask for, and writes the lines to `sink`.
 ///
 /// `words` are those after the program's name. The source is read whole before the first write; for `work`, or where the words
 /// are not accepted, it is not read.
@@ -187,9 +187,9 @@ pub fn run<S: Source, K: Sink>(
     source: &mut S,
     sink: &mut K,
 ) -> Status
-    // What was written follows a defined output, or nothing was written. Each whole line `# accepted NAME` has its headline:
-    // the lines above it show that the declaration has its written type. So has each whole line `# verified NAME`: the entries
-    // that are verified up to it are a well-formed signature.
+    // The bytes that were written are a front of a defined output, or nothing was written. Each whole line
+    // `# accepted NAME` has its headline: the lines above it show that the declaration has its written type. So has
+    // each whole line `# verified NAME`: the entries that are verified up to it are a well-formed signature.
     ensures runs { Runs (map string_bytes words.now) (S.left source.old) (K.written sink.old) (K.written sink.new) result }
     ensures read_fault { result ≡ Status.ReadFault → Rose (S.faults source.old) (S.faults source.new) }
     ensures write_fault { result ≡ Status.WriteFault → Rose (K.faults sink.old) (K.faults sink.new) }

@@ -43,7 +43,7 @@ impl From<AllocError> for Status {
     }
 }
 
-/// A call that prints stops for want of memory alone.
+/// A call that prints stops only when it is out of memory.
 impl From<Stop> for Status {
     ghost use Rattle.std.specs.Prelude.{◌≡◌};
 

@@ -5,10 +5,11 @@ ghost use Rattle.elim_program.specs.Verifies as verifies;
 use core_text::CoreTextStop;
 use surface_syntax::SyntaxStop;
 
-/// Why a text is refused at one of its bytes, or whole; each offset is one in bytes.
+/// Why a source file is refused at one of its bytes, or whole; each offset is one in bytes.
 ///
-/// `TooLong` is a text of more than 1,048,576 bytes, and `NotYet` what is not built yet. `NotCoreText` is that of core text,
-/// `Nested` that of core text or of the grammar, and the others are those of the tokens and of the grammar.
+/// `TooLong` is a file of more than 1,048,576 bytes, and `NotYet` a declaration that is not implemented yet.
+/// `NotCoreText` is that of core text, `Nested` that of core text or of the grammar, and the others are those of the
+/// tokens and of the grammar.
 #[derive(Clone, Copy, Debug, PartialEq, Eq)]
 pub(crate) enum TextStop {
     Memory,
@@ -21,7 +22,7 @@ pub(crate) enum TextStop {
     NotCoreText(u32),
 }
 
-/// Why a text has no tokens or no declarations.
+/// Why a source file has no tokens or no declarations.
 pub(crate) fn stop_of(stop: SyntaxStop) -> TextStop
     ensures { result ≡ spec.stop_of stop }
 {

@@ -8,7 +8,7 @@ use core_terms::Items;
 use std::alloc::Global;
 use surface_syntax::{Decl, parse, tokens};
 
-/// The most bytes of a text.
+/// The most bytes of a source file.
 pub(crate) const LIMIT: u32 = 1_048_576;
 
 fn written(alloc: Global, bytes: &[u8]) -> Result<Items<Decl>, TextStop>
@@ -28,7 +28,7 @@ fn written(alloc: Global, bytes: &[u8]) -> Result<Items<Decl>, TextStop>
     }
 }
 
-/// The declarations of a text; None is a text that is too long.
+/// The declarations of a source file; None is a file that is too long.
 pub(crate) fn declarations(alloc: Global, text: &Option<Items<u8>>) -> Result<Items<Decl>, TextStop>
     requires { IfSome text.now (λ bytes. length bytes ≤ limit) }
     ensures { (bytes : List ℕ) → text.now ≡ limited bytes → Says bytes result }

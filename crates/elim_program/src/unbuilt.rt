@@ -55,7 +55,7 @@ fn family_at(bytes: &[u8], family: Option<u32>, token: &Token) -> Option<u32>
     }
 }
 
-/// The first token of a declaration that is not built, where the token shows it.
+/// The first token of a declaration that is not implemented, where the token shows it.
 fn shown_unbuilt(bytes: &[u8], family: Option<u32>, token: &Token, tokens: &[Token]) -> Option<u32>
     ensures { result ≡ spec.shown_unbuilt bytes.now family token.now tokens.now }
 {
@@ -68,7 +68,7 @@ fn shown_unbuilt(bytes: &[u8], family: Option<u32>, token: &Token, tokens: &[Tok
     }
 }
 
-/// The offset of the first token of a declaration that is not built yet.
+/// The offset of the first token of a declaration that is not implemented yet.
 pub(crate) fn unbuilt(bytes: &[u8], tokens: &[Token]) -> Option<u32>
     ensures { result ≡ spec.unbuilt bytes.now tokens.now }
 {

@@ -162,7 +162,7 @@ fn write_file<K: Sink>(
     }
 }
 
-/// The same of a text that may be too long.
+/// Writes the lines of a core file; None is a file that is too long.
 fn write_whole_text<K: Sink>(
     alloc: Global,
     command: Command,

@@ -9,14 +9,14 @@ pub(crate) struct Command {
     pub fuel: u64,
 }
 
-/// What the words want of the source: its text is compiled, or its core file is verified.
+/// The words ask to compile the source file, or to verify the core file that the source holds.
 #[derive(Clone, Copy, Debug, PartialEq, Eq)]
 pub(crate) enum Asked {
     Compile(Command),
     Verify(Command),
 }
 
-/// What the mode `work` is asked for: how many families and functions its text has, and the units that each declaration may
+/// The arguments of the mode `work`: how many families and functions it makes, and the units that each declaration may
 /// spend.
 #[derive(Clone, Copy, Debug, PartialEq, Eq)]
 pub(crate) struct Work {
@@ -127,7 +127,7 @@ fn work_of(count: Option<u64>, fuel: Option<u64>) -> Option<Work>
     }
 }
 
-/// What the words ask for where they ask for the mode `work`.
+/// The arguments of the mode `work`, where the words ask for it.
 pub(crate) fn work_asked(words: &[String]) -> Option<Work>
     ensures asked { result ≡ spec.work_asked (map string_bytes words.now) }
     ensures within { IfSome result (λ work. work.count ≤ 200) }
@@ -151,7 +151,7 @@ pub(crate) fn work_asked(words: &[String]) -> Option<Work>
     }
 }
 
-/// Whether the words ask to compile the text of the source, or to verify the core file that it holds.
+/// Whether the words ask to compile the source file, or to verify the core file that the source holds.
 pub(crate) fn asks_for_source(words: &[String]) -> bool
     ensures { result ≡ spec.asks_for_source (map string_bytes words.now) }
 {

@@ -52,7 +52,7 @@ fn write_text(out: &mut Vec<u8>, from: u64, count: u64) -> Result<(), AllocError
     write_text(out, from + 1, count - 1)
 }
 
-/// The text, or None where it is longer than a text may be.
+/// The source file of `work`, or None where it is longer than a source file may be.
 pub(crate) fn work_text(alloc: Global, count: u64) -> Result<Option<Items<u8>>, Status>
     requires { count ≤ 200 }
     ensures ok { IfOk result (λ text. text ≡ limited (spec.work_text count)) }

@@ -50,7 +50,7 @@ fn count_declarations(
     }
 }
 
-/// The lines of the declarations of a text.
+/// The lines of the declarations of a source file.
 fn declarations_block(alloc: Global, work: Work, decls: &[Decl]) -> Result<Block, Status>
     ensures { Makes result (spec.work_block work (Ok (map decl_of decls.now))) }
 {
@@ -62,7 +62,7 @@ fn declarations_block(alloc: Global, work: Work, decls: &[Decl]) -> Result<Block
     }
 }
 
-/// The lines of what a text gives.
+/// The lines for the declarations of a source file, or for its refusal.
 fn answer_block(
     alloc: Global,
     work: Work,
@@ -76,7 +76,7 @@ fn answer_block(
     }
 }
 
-/// Makes the lines of what a text gives, and writes them. The answer is whether the last line refuses.
+/// Makes the lines of a source file, and writes them. The answer is whether the last line refuses.
 fn write_answer<K: Sink>(
     alloc: Global,
     work: Work,
@@ -96,7 +96,7 @@ fn write_answer<K: Sink>(
     Ok(block.refused)
 }
 
-/// Writes the head lines and the lines of what a text gives.
+/// Writes the head lines and the lines of a source file.
 fn write_output<K: Sink>(
     alloc: Global,
     work: Work,
@@ -117,7 +117,7 @@ fn write_output<K: Sink>(
     }
 }
 
-/// Compiles the text of `work`, and writes how many of its clauses have each line.
+/// Compiles the source file of `work`, and writes how many of its clauses have each line.
 fn count_text<K: Sink>(alloc: Global, work: Work, text: &Option<Items<u8>>, sink: &mut K) -> Status
     requires { IfSome text.now (λ bytes. length bytes ≤ limit) }
     ensures wrote { (words : List (List ℕ)) (bytes : List ℕ) → work_asked words ≡ Some work → text.now ≡ limited (work_text work.count)
@@ -136,7 +136,7 @@ fn count_text<K: Sink>(alloc: Global, work: Work, text: &Option<Items<u8>>, sink
     }
 }
 
-/// Makes the text of `work`, compiles it, and writes how many of its clauses have each line.
+/// Makes the source file of `work`, compiles it, and writes how many of its clauses have each line.
 pub(crate) fn write_work<K: Sink>(alloc: Global, work: Work, sink: &mut K) -> Status
     requires { work.count ≤ 200 }
     ensures wrote { (words : List (List ℕ)) (bytes : List ℕ) → work_asked words ≡ Some work → Wrote words bytes (K.written sink.old) (K.written sink.new) result }

@@ -118,7 +118,7 @@ pub record CanBeMade (G : List ℕ → Type 0) (S : Signature) (plan : Plan) : T
   pub recursion : (r : Recursion) → recursion_of S plan ≡ Some r → G (below_name r.family plan.level) × G (rec_name r.family plan.level)
 
 module _ (G : List ℕ → Type 0) (S : Signature) (plan : Plan) (planned : IsPlanned S plan) (made : CanBeMade G S plan) where
-  -- what is known before the helpers: the motive, with recursion
+  -- the names that are known before the helpers: that of the motive, with recursion
   before_helpers : Option Recursion → List (List ℕ)
   before_helpers None = []
   before_helpers (Some r) = motive_name plan.name ∷ []

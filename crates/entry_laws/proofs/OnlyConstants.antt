@@ -122,7 +122,7 @@ only-lift (Con n c) by from h = HasOnly.of_con
 only-lift (Elim n m) by from h = HasOnly.of_elim
 only-lift (AxiomK i m) by from h = HasOnly.of_axiom
 
--- what is put for each variable
+-- the term that is put for each variable has constants of one kind
 abbrev pub PutsOnly : (ℕ → Type 0) → (ℕ → Term) → Type 0
 PutsOnly Q s = (v : ℕ) → HasOnly Q (s v)
 

@@ -14,15 +14,15 @@ use Rattle.case_below_gen.specs.Paths.{with_arguments}
 use Rattle.case_below_gen.specs.Projections.{side_variable}
 use Rattle.case_below_gen.specs.declared.sides.Side.{Side}
 use Rattle.case_below_gen.specs.declared.sides.Side.TheVariants.{First, Second}
-use Rattle.acyclic_gen.specs.AcyclicEntries.{acyclic_name}
-use Rattle.acyclic_gen.specs.DirectEntries.{direct_name}
-use Rattle.acyclic_gen.specs.Statements.{carrier_at, head_at, point_at, at_level, equal, unequal_to, unequal, no_part, not_within, directs, none_within}
-use Rattle.acyclic_gen.specs.Pairings.{Pairing, Within, Several, side_type, projection, component}
-use Rattle.acyclic_gen.specs.declared.carrier.Carrier.{Carrier}
-use Rattle.acyclic_gen.specs.declared.direct_arguments.Direct.{Direct}
-use Rattle.acyclic_gen.specs.declared.point.Head.{Head}
-use Rattle.acyclic_gen.specs.declared.point.Head.TheVariants.{Variable, Constructor}
-use Rattle.acyclic_gen.specs.declared.point.Point.{Point}
+use Rattle.generators.specs.acyclic_gen.AcyclicEntries.{acyclic_name}
+use Rattle.generators.specs.acyclic_gen.DirectEntries.{direct_name}
+use Rattle.generators.specs.acyclic_gen.Statements.{carrier_at, head_at, point_at, at_level, equal, unequal_to, unequal, no_part, not_within, directs, none_within}
+use Rattle.generators.specs.acyclic_gen.Pairings.{Pairing, Within, Several, side_type, projection, component}
+use Rattle.generators.specs.declared.acyclic_gen.carrier.Carrier.{Carrier}
+use Rattle.generators.specs.declared.acyclic_gen.direct_arguments.Direct.{Direct}
+use Rattle.generators.specs.declared.acyclic_gen.point.Head.{Head}
+use Rattle.generators.specs.declared.acyclic_gen.point.Head.TheVariants.{Variable, Constructor}
+use Rattle.generators.specs.declared.acyclic_gen.point.Point.{Point}
 use Rattle.unification.specs.Built.{Built}
 use Rattle.tree_translation.specs.Naming.{Naming, left_name}
 use Rattle.tree_translation.specs.Standings.{Standing, inside, here}

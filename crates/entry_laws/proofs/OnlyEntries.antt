@@ -18,8 +18,8 @@ use Rattle.core_sig.specs.DraftScopes.{IsDraftNumber, IsDraftTerm}
 use Rattle.kernel_reduce.specs.Entries.{family_at}
 use Rattle.kernel_reduce.proofs.LookUps.{family-found}
 use Rattle.kernel_reduce.proofs.StepLaws.{some-next, some-map}
-use Rattle.structural_rec.specs.Positions.{admission}
-use Rattle.structural_rec.specs.Uses.{Use}
+use Rattle.tree_translation.specs.structural_rec.Positions.{admission}
+use Rattle.tree_translation.specs.structural_rec.Uses.{Use}
 use Rattle.tele_eq.specs.Items.{each_position}
 use Rattle.tele_eq.specs.Levels.{place_in}
 use Rattle.unification.specs.Solving.{reordered}
@@ -41,7 +41,7 @@ use Rattle.entry_laws.proofs.OnlyTrees.{only-tree_term}
 use Rattle.entry_laws.proofs.SameNames.{blank, blanks, blank-applied, IsLikeNode, tree-names}
 use Rattle.entry_laws.proofs.TableNames.{IsInTable, candidates-numbered, HasNames, draft-names}
 
--- ---- what a plan gives
+-- ---- the parts of a plan
 
 -- the entries of the signature are below each limit from the base on
 pub covers-more : (S : Signature) (base k : ℕ) → base ≡ length S.entries → CoversConstants (λ c. c < base + k) S
@@ -95,7 +95,7 @@ side-called S number plan at w c side l base covers named h (IsSide.absurd pats 
 
 -- ---- parts
 
--- what is used of a part
+-- a part of a plan, with its uses and its start
 pub record IsPart (S : Signature) (plan : Plan) (at : ℕ) (part : Part) : Type 0 where
   pub uses : List Use
   pub context : Telescope
@@ -133,10 +133,6 @@ recursion-entry S plan r e =
     some-next (λ r. IsEntryAt S r.admission.number (FamilyOf r.family)) _ (admission S (own_part plan).tele j) (λ a _.
     some-map (λ r. IsEntryAt S r.admission.number (FamilyOf r.family)) _ (family_at S a.number) (λ f found. family-found S a.number f found))))
     e
-
--- a recursion of the plan
-abbrev pub IsRecursionOf : Signature → Plan → Option Recursion → Type 0
-IsRecursionOf S plan o = recursion_of S plan ≡ o
 
 recursion-only : {Q : ℕ → Type 0} (S : Signature) (number : Naming) (plan : Plan) (r : Recursion) → FamiliesOnly Q S → recursion_of S plan ≡ Some r
     → Q (number (below_name r.family plan.level)) → Q (number (motive_name plan.name)) → RecursionOnly Q number plan r

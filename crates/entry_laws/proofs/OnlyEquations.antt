@@ -12,7 +12,7 @@ use Rattle.tele_eq.specs.TelescopicEquality.{type_with, reflexive, Lefts, equati
 use Rattle.tele_eq.specs.Congruences.{images, common_level, congruence_below, congruences}
 use Rattle.entry_laws.proofs.OnlyConstants.{Each, each-get, HasOnly, only-chosen, only-lift, only-bind}
 
--- ---- what stands for variables
+-- ---- terms for variables
 
 -- each term that an environment has
 abbrev pub SuppliesOnly : (ℕ → Type 0) → Environment → Type 0
@@ -83,7 +83,7 @@ pub only-reflexive : {Q : ℕ → Type 0} (X : List Item) (u : Environment) → 
 only-reflexive X u items hu depth j =
     only-reflexivity (level_at X j) (type_with X u depth j) (u depth j) (only-type_with X u depth j items hu) (hu depth j)
 
--- what equations have on their left
+-- the left sides of equations have constants of one kind, where the terms of the two environments have
 abbrev pub LeftsOnly : (ℕ → Type 0) → Lefts → Type 0
 LeftsOnly Q w = (z e : Environment) → SuppliesOnly Q z → SuppliesOnly Q e → SuppliesOnly Q (w z e)
 

@@ -1,4 +1,4 @@
--- What a family of the signature brings at parameters: its terms, and those of its members, have constants of one kind.
+-- At parameters whose constants are of one kind, the terms of a family, of its members and of its constructors have no others.
 use Rattle.std.proofs.Common.{◌≡◌, ℕ, zero, suc, ◌+◌, ◌==◌, Option, Some, None, IfSome, List, [], ◌∷◌, ◌++◌, map, length, slice_get, All, sym, subst}
 use Rattle.std.proofs.lemmas.Option.{none-some}
 use Rattle.std.proofs.lemmas.List.Elements.{All-head, All-tail}
@@ -226,7 +226,7 @@ only-member_at {Q} S (Fam n) spine families all =
 only-member_at S (Var x) spine families all = tt
 only-member_at S _ spine families all = tt
 
--- what holds of something that is there holds of it
+-- a property of an optional value holds of the value that is there
 pub if-there : {X : Type 0} (P : X → Type 0) (o : Option X) (x : X) → IfSome o P → o ≡ Some x → P x
 if-there P (Some y) x h e = subst P (some_is e) h
 if-there P None x h e = absurd (none-some x e)

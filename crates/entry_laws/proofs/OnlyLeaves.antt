@@ -140,7 +140,7 @@ only-below_behind : {Q : ℕ → Type 0} (number : Naming) (plan : Plan) (under 
 only-below_behind number plan under None ho = Each.none
 only-below_behind number plan under (Some r) ho = Each.more (only-lift r.1 under 0 ho.1) Each.none
 
--- what stands for a constant of a right side has Q, at any arguments that have it
+-- the term for a constant of a right side has Q, at any arguments that have it
 abbrev pub IsCalled : (ℕ → Type 0) → Naming → Plan → Place → ℕ → Type 0
 IsCalled Q number plan l c = (under : ℕ) (arguments : List Term) → Each (HasOnly Q) arguments → HasOnly Q (constant_at number plan l under c arguments)
 
@@ -208,7 +208,7 @@ only-place_with {Q} number plan n hidden (Some r) terms ho all = record { terms 
     by [] = tt
     by (p ∷ levels) = (ho, HasOnly.of_var)
 
--- What a leaf asks for: each constant of a side is called, at any place.
+-- The conditions on a leaf: each constant of a side is called, at any place.
 pub record LeafOnly (Q : ℕ → Type 0) (number : Naming) (plan : Plan) (o : Option Recursion) (part : Part) : Type 0 where
   pub recursion : OptionOnly (RecursionOnly Q number plan) o
   pub sides : (clause : ℕ) (l : Place) → PlaceOnly Q number plan l → HasOnly (IsCalled Q number plan l) (get_or part.sides clause (Sort 0))

@@ -31,9 +31,6 @@ use Rattle.entry_laws.proofs.OnlyFamilies.{ArgumentOnly, ConstructorOnly, Family
 
 -- ---- shapes
 
-abbrev pub ShapeArgumentOnly : (ℕ → Type 0) → ArgumentShape → Type 0
-ShapeArgumentOnly Q a = HasOnly Q a.type
-
 abbrev pub ArgumentsOnly : (ℕ → Type 0) → List ArgumentShape → Type 0
 ArgumentsOnly Q arguments = Each (λ a. HasOnly Q a.type) arguments
 

@@ -205,7 +205,7 @@ only-compared_by s (suc k) type left right h ht hl hr =
       indices = each-take (suc k) (right_sides s.equations) (only-right_sides s.equations h.equations);
     }
 
--- what holds of what is there
+-- a property of an optional value, where it is there
 abbrev pub OptionOnly : {X : Type 0} → (X → Type 0) → Option X → Type 0
 OptionOnly P None = Unit {0}
 OptionOnly P (Some x) = P x

@@ -140,7 +140,7 @@ only-next_node S node x number steps (Some m) families hn hm hs = only-node_behi
 
 -- ---- trees
 
--- What a translation asks for. R is what holds of the constants of the signature.
+-- The conditions on a translation. R is a property of the constants of the signature.
 pub record TreeOnly (Q R : ℕ → Type 0) (w : Translation) : Type 0 where
   pub families : FamiliesOnly Q w.signature
   pub covers : CoversConstants Q w.signature

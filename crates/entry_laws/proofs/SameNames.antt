@@ -94,7 +94,7 @@ term_at-blank [] j = refl
 term_at-blank (t ∷ ts) zero = refl
 term_at-blank (t ∷ ts) (suc j) = term_at-blank ts j
 
--- what an environment has, without constants
+-- the terms of an environment without their constants
 abbrev blanked : Environment → Environment
 blanked s depth j = blank (s depth j)
 

@@ -1,4 +1,4 @@
--- What is made of a plan is what is meant.
+-- The entries that the code makes of a plan are those that are meant.
 use Rattle.std.proofs.Common.{◌≡◌, ℕ, ◌+◌, Option, Some, None, List, [], ◌∷◌, ◌++◌, drop, Result, Ok, refl, sym, ap, ap₂, ◌∙◌, subst as transport, arith}
 use mathlib.Core.Path.{fun_ext}
 use Rattle.theory.specs.Terms.{Term}

@@ -23,7 +23,7 @@ among-snoc j [] i = refl
 among-snoc j (k ∷ seen) i =
     ap (λ b. (k == j) || b) (among-snoc j seen i) ∙ or-swap (k == j) (i == j) (is_among j seen)
 
--- the same places are left out
+-- lists with the same elements leave out the same places
 once-same : (seen other places : List ℕ) → ((j : ℕ) → is_among j seen ≡ is_among j other) → once seen places ≡ once other places
 once-same seen other [] same = refl
 once-same seen other (i ∷ places) same =

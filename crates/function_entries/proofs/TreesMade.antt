@@ -1,4 +1,4 @@
--- What is made of a tree is what is meant.
+-- The term and the names that the code makes of a tree are those that are meant.
 use Rattle.std.proofs.Common.{◌≡◌, ℕ, ◌+◌, Option, Some, None, List, [], ◌∷◌, ◌++◌, length, Result, Ok, slice_get, sym, ap, ◌∙◌}
 use Rattle.theory.specs.Terms.{Term}
 use Rattle.theory.specs.Families.{Constructor}

@@ -33,7 +33,7 @@ renumbered_draft name base table places t u =
 abbrev pub numbered : (name : List ℕ) (base : ℕ) (table : List (List ℕ)) (t u : Term) → Result Draft Stop
 numbered name base table t u = renumbered_draft name base table (places_of base t u) t u
 
--- the same of a type and a term that may be refused
+-- the draft of a type and a term that are made with the numbers of these names, and may be refused
 abbrev pub numbered_made : (name : List ℕ) (base : ℕ) (table : List (List ℕ)) (type term : Naming → Result Term Stop) → Result Draft Stop
 numbered_made name base table type term =
     and_then (type (number_in base table)) (λ t. and_then (term (number_in base table)) (numbered name base table t))

@@ -1,5 +1,5 @@
--- What is answered as the term of a tree, as its names and as the entries of a plan is what is meant, where each next standing of a run is
--- the one that is meant.
+-- The term of a tree, its names and the entries of a plan that the code makes are those of the definitions, where each next standing of a
+-- run is the one that is meant.
 use Rattle.std.specs.Prelude.{◌≡◌, ℕ, List, ◌++◌, Ok}
 use Rattle.theory.specs.Terms.{Term}
 use Rattle.theory.specs.Signatures.{Signature}

@@ -1,4 +1,4 @@
--- How large trees are: what calls on them fall by.
+-- The sizes of trees, which decrease from call to call.
 use Rattle.std.specs.Prelude.{ℕ, ◌+◌}
 use Rattle.core_terms.specs.CaseTrees.{Tree, Leaf, Split, Branch, Absurd, Solved, Branches, nil, cons}
 

@@ -1,4 +1,4 @@
--- What the variable that a node is split on stands for.
+-- The meaning of the variable that a node is split on.
 use Rattle.std.specs.Prelude.{Option, option_map, IfSome}
 use Rattle.case_trees.specs.Problems.{Member}
 use Rattle.clause_walks.specs.LookMeanings.{member_meant}

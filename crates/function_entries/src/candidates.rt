@@ -54,7 +54,7 @@ fn with_later_helpers(
     with_helpers(alloc, &plan.name, next(at)?, count, made)
 }
 
-/// What right sides of part `at` may mention.
+/// The names that right sides of part `at` may mention.
 pub fn side_names(
     alloc: Global,
     plan: &Plan,

@@ -111,8 +111,9 @@ fn entries_from(
     }
 }
 
-/// The entries of a function in their order, as drafts: with recursion its motive, its helpers, the highest number first, its step and the
-/// function itself, and else the helpers and the function. Deep where a type or a term is too high, or something on the way to it.
+/// The entries of a function in their order, as drafts: with recursion its motive, its helpers, the highest number
+/// first, its step and the function itself, and else the helpers and the function. Deep where a type or a term of an
+/// entry is too high, or a term on the way to it.
 pub fn translate(alloc: Global, sig: &Signature, plan: &Plan) -> Result<Items<Draft>, Stop>
     ensures { Gives (map draft_of) result (spec.translate_made sig.now (plan_of plan.now)) }
 {

@@ -1,17 +1,17 @@
-//! What is answered is what is meant.
+//! The terms, names and entries that the code makes are those of the definitions.
 ghost use Rattle.function_entries.specs.Laws.{TranslateIsEntries, TreeIsTerm, TreeNamesAreThese};
 
-/// What is answered as the term of a tree is that term.
+/// The term that the code makes of a tree is the tree's term.
 pub fn tree_is_term()
     ensures { TreeIsTerm }
 {}
 
-/// What is answered as the names of a tree are those names.
+/// The names that the code finds in a tree are the tree's names.
 pub fn tree_names_are_these()
     ensures { TreeNamesAreThese }
 {}
 
-/// What is answered as the entries of a plan are those entries.
+/// The entries that the code makes of a plan are the plan's entries.
 pub fn translate_is_entries()
     ensures { TranslateIsEntries }
 {}

@@ -68,7 +68,7 @@ pub fn split_variable<'a>(
     Ok(SplitVariable { number, member })
 }
 
-/// The same node in memory of its own.
+/// A copy of the node in memory of its own.
 fn copy_node(alloc: Global, node: &Node) -> Result<Node, Stop>
     ensures { Gives node_of result (Ok (node_of node.now)) }
 {

@@ -16,7 +16,7 @@ use crate::trees::tree_term;
 use core_sig::{Draft, Signature};
 use core_terms::{Items, Name, Stop, Term, copy_tele, copy_whole, functions, products};
 use leaf_terms::{Part, Plan, Recursion, Translation};
-use outlines::whole;
+use run_terms::outlines::whole;
 use run_terms::with_names;
 use split_terms::Node;
 use std::alloc::Global;

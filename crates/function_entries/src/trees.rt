@@ -2,7 +2,7 @@ ghost use Rattle.std.specs.Prelude.{◌≡◌, Ok, map};
 ghost use Rattle.core_terms.specs.Answers.{Gives};
 ghost use Rattle.core_terms.specs.Meanings.{tree_of, tele_of};
 ghost use Rattle.core_terms.specs.TreeMeanings.{branch_of, branches_of, case_tree_of};
-ghost use Rattle.outlines.specs.OutlineMeanings.{outline_of, outlines_of};
+ghost use Rattle.run_terms.specs.outlines.OutlineMeanings.{outline_of, outlines_of};
 ghost use Rattle.split_terms.specs.NodeMeanings.{node_of};
 ghost use Rattle.leaf_terms.specs.PlaceMeanings.{HasFamily, translation_of};
 ghost use Rattle.function_entries.specs.CodeTrees as spec;
@@ -11,7 +11,7 @@ ghost use Rattle.function_entries.specs.SplitMeanings.{IsWholeSplit, family_of_s
 use crate::nodes::{SplitVariable, next_node, runs_of, split_variable, type_in, variable_count};
 use core_terms::{Branch, Items, Stop, Term, Tree, next};
 use leaf_terms::{Translation, leaf_term};
-use outlines::{Outline, Outlines, listed};
+use run_terms::outlines::{Outline, Outlines, listed};
 use split_terms::{Node, split_outline};
 use std::alloc::Global;
 

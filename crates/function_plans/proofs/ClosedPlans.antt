@@ -3,11 +3,11 @@ use Rattle.std.proofs.Common.{◌≡◌, ℕ, Bool, true, false, cond, Option, o
 use Rattle.core_terms.specs.Answers.{and_next}
 use Rattle.core_terms.specs.CaseTrees.{Tree}
 use Rattle.core_terms.specs.declared.stop.Stop.{Stop}
-use Rattle.elaboration.specs.Functions.{finished, helpers_finished}
-use Rattle.elaboration.specs.Refusals.{Elaborating, Refusal, answers, or_halts}
-use Rattle.elaboration.specs.Walking.{Session, Walked}
+use Rattle.clause_reports.specs.elaboration.Functions.{finished, helpers_finished}
+use Rattle.clause_reports.specs.elaboration.Refusals.{Elaborating, Refusal, answers, or_halts}
+use Rattle.clause_reports.specs.elaboration.Walking.{Session, Walked}
 use Rattle.leaf_terms.specs.RecursionMade.{made_at}
-use Rattle.order_scopes.specs.Laws.{begins_closed}
+use Rattle.entry_laws.specs.order_scopes.Laws.{begins_closed}
 use Rattle.tree_translation.specs.Plans.{Part, Plan, own_part, no_part}
 use Rattle.tree_translation.specs.Recursion.{Recursion, order_of, ordered_telescope, recursion_at, recursion_of}
 use Rattle.function_plans.specs.CodePlans.{chosen_made, helpers_after, own_alone, own_finished_made, own_tree_made, own_tree_of, parts_made, parts_with, planned}

@@ -7,7 +7,7 @@ use Rattle.core_terms.specs.Clauses.{Clauses, Is}
 use Rattle.core_terms.specs.Patterns as pattern
 use Rattle.core_terms.specs.Patterns.{Pats}
 use Rattle.case_trees.specs.Scoped.{AreClausesFor}
-use Rattle.pattern_vectors.specs.Matching.{is_as_long}
+use Rattle.case_trees.specs.pattern_vectors.Matching.{is_as_long}
 
 pub as_long-same : (pats : Pats) (us vs : List Term) → length us ≡ length vs → is_as_long pats us ≡ is_as_long pats vs
 as_long-same pattern.nil [] [] e = refl

@@ -4,9 +4,9 @@ use Rattle.core_terms.specs.Answers.{and_next, on_answer}
 use Rattle.core_terms.specs.CaseTrees.{Tree}
 use Rattle.case_trees.specs.Trees.{split_of}
 use Rattle.clause_reports.specs.Equations.{part_named}
-use Rattle.elaboration.specs.Functions.{finished, helper_level, helpers_finished}
-use Rattle.elaboration.specs.Refusals.{Elaborating, Refusal, answers, walking}
-use Rattle.elaboration.specs.Walking.{Session, Walked}
+use Rattle.clause_reports.specs.elaboration.Functions.{finished, helper_level, helpers_finished}
+use Rattle.clause_reports.specs.elaboration.Refusals.{Elaborating, Refusal, answers, walking}
+use Rattle.clause_reports.specs.elaboration.Walking.{Session, Walked}
 use Rattle.function_plans.specs.CodePlans.{helpers_after}
 use Rattle.tele_eq.proofs.Growing.{snoc-append}
 use Rattle.tree_translation.specs.Plans.{Part}

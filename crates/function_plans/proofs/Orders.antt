@@ -5,8 +5,8 @@ use Rattle.core_terms.specs.declared.stop.Stop.TheVariants.{Deep}
 use Rattle.core_terms.proofs.Builders.{ok_is}
 use Rattle.core_terms.specs.Answers.{are_low}
 use Rattle.leaf_terms.specs.RecursionMade.{made_at}
-use Rattle.order_scopes.proofs.RecursionOrders.{recursion-ordered}
-use Rattle.structural_rec.specs.Laws.{IsOrder}
+use Rattle.entry_laws.proofs.order_scopes.RecursionOrders.{recursion-ordered}
+use Rattle.tree_translation.specs.structural_rec.Laws.{IsOrder}
 use Rattle.theory.specs.Signatures.{Signature}
 use Rattle.theory.specs.Telescopes.{Telescope}
 use Rattle.tree_translation.specs.Recursion.{Recursion, order_of, recursion_at}

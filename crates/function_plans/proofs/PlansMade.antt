@@ -5,13 +5,13 @@ use Rattle.theory.specs.Telescopes.{Telescope}
 use Rattle.core_terms.specs.Answers.{and_next, are_low, on_answer}
 use Rattle.core_terms.specs.declared.stop.Stop.{Stop}
 use Rattle.core_terms.specs.declared.stop.Stop.TheVariants.{Deep}
-use Rattle.elaboration.specs.Functions.{finished, helpers_finished, own_finished, position_chosen, recursion_in}
-use Rattle.elaboration.specs.Refusals.{Elaborating, Refusal, answers, or_halts}
-use Rattle.elaboration.specs.Walking.{Session, Walked}
+use Rattle.clause_reports.specs.elaboration.Functions.{finished, helpers_finished, own_finished, position_chosen, recursion_in}
+use Rattle.clause_reports.specs.elaboration.Refusals.{Elaborating, Refusal, answers, or_halts}
+use Rattle.clause_reports.specs.elaboration.Walking.{Session, Walked}
 use Rattle.leaf_terms.specs.RecursionMade.{made_at}
-use Rattle.order_scopes.specs.Laws.{begins_closed}
-use Rattle.structural_rec.specs.Choices.{choose}
-use Rattle.structural_rec.specs.Uses.{Use}
+use Rattle.entry_laws.specs.order_scopes.Laws.{begins_closed}
+use Rattle.tree_translation.specs.structural_rec.Choices.{choose}
+use Rattle.tree_translation.specs.structural_rec.Uses.{Use}
 use Rattle.tree_translation.specs.Plans.{Part, Plan}
 use Rattle.tree_translation.specs.Recursion.{Recursion, order_of, ordered_telescope, recursion_at}
 use Rattle.function_plans.specs.CodePlans.{are_low_uses, chosen_made, own_finished_made, own_tree_made, own_tree_of, parts_made, parts_with, planned}
@@ -56,7 +56,7 @@ with-joined : (s : Session) (r : Option Recursion) (level : ℕ) (w : Walked) (h
     ≡ and_next (own_finished_made s r w more) (after_own s r level helpers P)
 with-joined s r level w helpers P more = joined-parts (own_finished_made s r w more).0 (own_finished_made s r w more).1 (helpers_finished s r level 1 helpers) P
 
--- ---- what is made answers what is meant
+-- ---- the code answers what is meant
 
 own-refines : (s : Session) (r : Option Recursion) (w : Walked) (left : ℕ) → Refines (own_finished_made s r w left) (own_finished s r w left)
 own-refines s r w left =

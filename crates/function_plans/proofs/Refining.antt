@@ -1,7 +1,7 @@
--- What is made answers what is meant, wherever it answers; and what came before an answer.
+-- Where a call of the code answers, it answers what is meant; and the answers of the calls before it.
 use Rattle.std.proofs.Common.{◌≡◌, ℕ, Bool, true, false, cond, Result, Ok, Err, refl, ap, ◌∙◌}
 use Rattle.core_terms.specs.Answers.{and_next, on_answer}
-use Rattle.elaboration.specs.Refusals.{Elaborating, Refusal, answers}
+use Rattle.clause_reports.specs.elaboration.Refusals.{Elaborating, Refusal, answers}
 
 abbrev pub Refines : {A : Type 0} → (made meant : Elaborating A) → Type 0
 Refines {A} made meant = (a : A) (n : ℕ) → made ≡ answers (Ok a) n → meant ≡ answers (Ok a) n
@@ -21,7 +21,7 @@ pub cond-answer : {A : Type 0} (test : Bool) (r : Result A Refusal) (e : Refusal
 cond-answer true r e left = λ a n same. same
 cond-answer false r e left = λ a n same. absurd (refused-answers e left a n same)
 
--- ---- what came before an answer
+-- ---- the calls before an answer
 
 pub record Passes {A B : Type 0} (p : Elaborating A) (go : A → ℕ → Elaborating B) (b : B) (n : ℕ) : Type 0 where
   pub first : A

@@ -1,4 +1,4 @@
--- Signatures that have the same families at the same numbers give the same position of recursion.
+-- Signatures that have the same families at the same numbers give the same decreasing argument.
 use mathlib.Core.Path.{fun_ext}
 use Rattle.std.proofs.Common.{◌≡◌, ℕ, zero, suc, ◌+◌, not, cond, Option, Some, None, option_map, option_and_then, List, [], ◌∷◌, ◌++◌, length, find, slice_get, nat_le, ◌&&◌, refl, sym, ap, ap₂, ◌∙◌}
 use Rattle.std.specs.Option.{option_or}
@@ -9,15 +9,15 @@ use Rattle.theory.specs.Signatures.{Signature, Entry}
 use Rattle.theory.specs.Spines.{head_of, spine_of}
 use Rattle.theory.specs.WellFormed.{provisional}
 use Rattle.kernel_reduce.specs.Entries.{family_at, family_in}
-use Rattle.structural_rec.specs.Calls.{Call, calls}
-use Rattle.structural_rec.specs.Choices.{NotRecursive, choose, failing_at, failing_in, failing_row, first_failing, first_usable, or_later}
-use Rattle.structural_rec.specs.Fitting.{both_pass, fits, is_same, is_smaller, part_in, pass_at}
-use Rattle.structural_rec.specs.Positions.{Admission, admission, admission_in, admission_of, admission_with, family_number}
-use Rattle.structural_rec.specs.Uses.{Use, is_recursive}
+use Rattle.tree_translation.specs.structural_rec.Calls.{Call, calls}
+use Rattle.tree_translation.specs.structural_rec.Choices.{NotRecursive, choose, failing_at, failing_in, failing_row, first_failing, first_usable, or_later}
+use Rattle.tree_translation.specs.structural_rec.Fitting.{both_pass, fits, is_same, is_smaller, part_in, pass_at}
+use Rattle.tree_translation.specs.structural_rec.Positions.{Admission, admission, admission_in, admission_of, admission_with, family_number}
+use Rattle.tree_translation.specs.structural_rec.Uses.{Use, is_recursive}
 use Rattle.tree_translation.specs.Recursion.{recursion_at, recursion_with}
-use Rattle.elaboration.specs.Functions.{recursion_in}
+use Rattle.clause_reports.specs.elaboration.Functions.{recursion_in}
 
--- the same family at each number
+-- both have one family at each number
 abbrev pub HaveSame : Signature → Signature → Type 0
 HaveSame S T = (n : ℕ) → family_at S n ≡ family_at T n
 

@@ -8,11 +8,11 @@ use Rattle.unification.specs.ScopedStates.{IsReady}
 use Rattle.unification.proofs.ScopedRecords.{variables-scoped}
 use Rattle.case_trees.specs.Laws.{IsGiven}
 use Rattle.case_trees.specs.Scoped.{AreClausesFor}
-use Rattle.elaboration.specs.Walking.{Session, Walked}
-use Rattle.order_scopes.specs.Laws.{begins_closed}
-use Rattle.order_scopes.proofs.OrderedScopes as orders
-use Rattle.order_scopes.proofs.OrderLengths.{order-counted}
-use Rattle.structural_rec.specs.Laws.{IsOrder}
+use Rattle.clause_reports.specs.elaboration.Walking.{Session, Walked}
+use Rattle.entry_laws.specs.order_scopes.Laws.{begins_closed}
+use Rattle.entry_laws.proofs.order_scopes.OrderedScopes as orders
+use Rattle.entry_laws.proofs.order_scopes.OrderLengths.{order-counted}
+use Rattle.tree_translation.specs.structural_rec.Laws.{IsOrder}
 use Rattle.tree_translation.specs.Entries.{ordered_variables}
 use Rattle.tree_translation.specs.Recursion.{ordered_telescope, ordered_term}
 use Rattle.unifier.specs.Conditions.{most_levels}
@@ -77,7 +77,7 @@ module _ (S : Signature) (w : Walked) (context : Telescope) (count : ℕ) (order
   pub start-few : length context ≤ most_levels
   start-few = subst (λ n. n ≤ most_levels) (sym context-long) is.own.walked.few
 
--- ---- what the tree that is made is
+-- ---- the tree that is made
 
 pub made-closed : (s : Session) (w : Walked) (count : ℕ) (order : List ℕ) (left : ℕ) → begins_closed (ordered_telescope w.part.tele order) ≡ true
     → own_tree_made s w count order left ≡ own_tree_of s w count order left

@@ -7,15 +7,15 @@ use Rattle.core_terms.specs.Answers.{and_next, are_low, is_low}
 use Rattle.core_terms.specs.CaseTrees.{Tree}
 use Rattle.core_terms.specs.declared.stop.Stop.TheVariants.{Deep}
 use Rattle.case_trees.specs.Trees.{split_of}
-use Rattle.elaboration.specs.Functions.{finished, helpers_finished, own_finished, position_chosen, recursion_in}
-use Rattle.elaboration.specs.Refusals.{Elaborating, Halts, Refusal, answers, or_halts, walking}
-use Rattle.elaboration.specs.Walking.{Session, Walked}
-use Rattle.function_walks.specs.Conditions.{IsWalked}
+use Rattle.clause_reports.specs.elaboration.Functions.{finished, helpers_finished, own_finished, position_chosen, recursion_in}
+use Rattle.clause_reports.specs.elaboration.Refusals.{Elaborating, Halts, Refusal, answers, or_halts, walking}
+use Rattle.clause_reports.specs.elaboration.Walking.{Session, Walked}
+use Rattle.function_checks.specs.function_walks.Conditions.{IsWalked}
 use Rattle.leaf_terms.specs.RecursionMade.{made_at}
-use Rattle.order_scopes.specs.Laws.{begins_closed}
-use Rattle.structural_rec.specs.Choices.{choose}
-use Rattle.structural_rec.specs.Laws.{IsOrder}
-use Rattle.structural_rec.specs.Uses.{Use}
+use Rattle.entry_laws.specs.order_scopes.Laws.{begins_closed}
+use Rattle.tree_translation.specs.structural_rec.Choices.{choose}
+use Rattle.tree_translation.specs.structural_rec.Laws.{IsOrder}
+use Rattle.tree_translation.specs.structural_rec.Uses.{Use}
 use Rattle.tree_translation.specs.Entries.{ordered_variables}
 use Rattle.tree_translation.specs.Plans.{Part, Plan}
 use Rattle.tree_translation.specs.Recursion.{Recursion, order_of, ordered_telescope, ordered_term}
@@ -27,8 +27,8 @@ own_tree_of s w count order left =
     (split_of s.signature (ordered_telescope w.part.tele order) (ordered_term count order w.part.goal) (ordered_variables order count)
     w.clauses left)
 
--- The same, or Deep where the types in that order begin with one over other variables, as those of no context do. The type of an index
--- that comes first in the family's order mentions a later one there.
+-- The tree of the own part's clauses, or Deep where the types in that order begin with one over other variables, as those of no context do.
+-- The type of an index that comes first in the family's order mentions a later one there.
 abbrev pub own_tree_made : Session → Walked → (count : ℕ) (order : List ℕ) → ℕ → Elaborating Tree
 own_tree_made s w count order left =
     cond (begins_closed (ordered_telescope w.part.tele order)) (own_tree_of s w count order left) (answers (Err (Halts Deep)) left)
@@ -44,7 +44,7 @@ abbrev pub helpers_after : (made : List Part) → Session → Option Recursion �
 helpers_after made s r level number helpers left =
     and_next (helpers_finished s r level number helpers left) (λ parts end. answers (Ok (made ++ parts)) end)
 
--- What the trees of a function ask of its own part, which has a column for each type of its telescope.
+-- The conditions of a function's trees on its own part, which has a column for each type of its telescope.
 pub record IsOwnWalked (S : Signature) (w : Walked) : Type 0 where
   pub walked : IsWalked S w
   pub columns : length w.part.terms ≡ length w.part.tele
@@ -63,7 +63,7 @@ abbrev pub are_low_uses : List Use → Bool
 are_low_uses [] = true
 are_low_uses (u ∷ uses) = (are_low u.terms && is_low u.body) && are_low_uses uses
 
--- Deep where something in the uses or in the telescope is too high
+-- Deep where a term of the uses or a type of the telescope is too high
 abbrev pub chosen_made : Session → Telescope → List Use → Result (Option ℕ) Refusal
 chosen_made s tele uses =
     cond (are_low tele && are_low_uses uses) (position_chosen s (choose s.signature tele s.own uses)) (Err (Halts Deep))
@@ -77,7 +77,7 @@ own_alone s r w left = and_next (own_finished_made s r w left) (λ own end. answ
 abbrev pub parts_with : Session → Option Recursion → (level : ℕ) → Walked → (helpers : List Walked) → ℕ → Elaborating (List Part)
 parts_with s r level w helpers left = and_next (own_alone s r w left) (λ made end. helpers_after made s r level 1 helpers end)
 
--- the same with recursion at a position of the function's telescope
+-- the function's own part and those of its helpers, with recursion at a position of the function's telescope
 abbrev pub parts_made : Session → (position : Option ℕ) → (level : ℕ) → Walked → (helpers : List Walked) → ℕ → Elaborating (List Part)
 parts_made s position level w helpers left =
     and_next (answers (or_halts (made_at s.signature w.part.tele position)) left) (λ r more. parts_with s r level w helpers more)
@@ -99,7 +99,7 @@ plan_made s type arity level w helpers uses left =
     and_next (answers (chosen_made s w.part.tele uses) left) (λ position more.
     and_next (parts_made s position level w helpers more) (λ parts end. answers (Ok (planned s type arity level position parts)) end))
 
--- what the definition of a plan goes on with, once the clauses are walked
+-- the plan as it is defined, once the clauses are walked
 abbrev pub plan_after : Session → (type : Term) (arity level : ℕ) → Walked → (helpers : List Walked) → List Use → ℕ → Elaborating Plan
 plan_after s type arity level w helpers uses left =
     and_next (answers (position_chosen s (choose s.signature w.part.tele s.own uses)) left) (λ position more.

@@ -2,11 +2,11 @@
 use Rattle.std.specs.Prelude.{◌≡◌, ℕ, ◌&&◌, true, Option, List, length, Ok}
 use Rattle.theory.specs.Terms.{Term}
 use Rattle.core_terms.specs.Answers.{are_low}
-use Rattle.elaboration.specs.Functions.{recursion_in}
-use Rattle.elaboration.specs.Refusals.{answers}
-use Rattle.elaboration.specs.Walking.{Session, Walked}
-use Rattle.order_scopes.specs.Laws.{begins_closed}
-use Rattle.structural_rec.specs.Uses.{Use}
+use Rattle.clause_reports.specs.elaboration.Functions.{recursion_in}
+use Rattle.clause_reports.specs.elaboration.Refusals.{answers}
+use Rattle.clause_reports.specs.elaboration.Walking.{Session, Walked}
+use Rattle.entry_laws.specs.order_scopes.Laws.{begins_closed}
+use Rattle.tree_translation.specs.structural_rec.Uses.{Use}
 use Rattle.tree_translation.specs.Plans.{Plan, own_part}
 use Rattle.tree_translation.specs.Recursion.{order_of, ordered_telescope, recursion_of}
 use Rattle.function_plans.specs.CodePlans.{are_low_uses, plan_after, plan_made}
@@ -17,8 +17,8 @@ PlanAnswers =
     (s : Session) (type : Term) (arity level : ℕ) (w : Walked) (helpers : List Walked) (uses : List Use) (left rest : ℕ) (plan : Plan) →
     plan_made s type arity level w helpers uses left ≡ answers (Ok plan) rest → plan_after s type arity level w helpers uses left ≡ answers (Ok plan) rest
 
--- Refusals are those that are meant too, where the telescope and what the walks say of the function are low, and the telescope begins with
--- a type over no variables in whatever order of recursion.
+-- Refusals are those that are meant too, where the telescope and the uses of the function are low, and the telescope begins with a type
+-- over no variables in whatever order of recursion.
 abbrev pub PlanIsThis : Type 0
 PlanIsThis =
     (s : Session) (type : Term) (arity level : ℕ) (w : Walked) (helpers : List Walked) (uses : List Use) (left : ℕ) →

@@ -1,20 +1,20 @@
 ghost use Rattle.std.specs.Prelude.{◌≡◌, ◌++◌, Ok, map};
 ghost use Rattle.core_terms.specs.Answers.{Gives};
 ghost use Rattle.core_terms.specs.Meanings.{tele_of};
-ghost use Rattle.elaboration.specs.Functions as spec;
+ghost use Rattle.clause_reports.specs.elaboration.Functions as spec;
 ghost use Rattle.function_plans.specs.CodePlans.{chosen_made};
-ghost use Rattle.function_refusals.specs.RefusalMeanings.{Tells, failing_of};
-ghost use Rattle.function_walks.specs.WalkingMeanings.{session_of};
-ghost use Rattle.structural_rec.specs.Meanings as choices;
+ghost use Rattle.function_checks.specs.function_refusals.RefusalMeanings.{Tells, failing_of};
+ghost use Rattle.function_checks.specs.function_walks.WalkingMeanings.{session_of};
+ghost use Rattle.tree_translation.specs.structural_rec.Meanings as choices;
 
 use crate::smallness::{small_telescope, small_uses};
 use clause_equations::part_name;
 use core_terms::{Items, Stop, Tele, number_of};
 use core_text::print_term;
-use function_refusals::{FailingCall, Refusal, owner_of};
-use function_walks::Session;
+use function_checks::function_refusals::{FailingCall, Refusal, owner_of};
+use function_checks::function_walks::Session;
 use std::alloc::Global;
-use structural_rec::{Choice, Failing, Use, choose_position};
+use tree_translation::structural_rec::{Choice, Failing, Use, choose_position};
 
 /// A call that does not fit a position, as it is shown.
 fn failing_call(alloc: Global, s: Session, row: &Failing) -> Result<FailingCall, Stop>
@@ -62,7 +62,7 @@ pub fn position_chosen(alloc: Global, s: Session, choice: &Choice) -> Result<Opt
     }
 }
 
-/// The position that is chosen, or Deep where something in the uses or in the telescope is too high.
+/// The position that is chosen, or Deep where a term of the uses or a type of the telescope is too high.
 pub fn chosen(
     alloc: Global,
     s: Session,

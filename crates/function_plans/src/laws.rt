@@ -1,4 +1,4 @@
-//! What is made of a function whose clauses are walked is its plan.
+//! The plan that the code makes of a function whose clauses are walked is the one that is meant.
 ghost use Rattle.function_plans.specs.Laws.{PlanAnswers, PlanBeginsClosed, PlanIsThis};
 
 /// A plan that is made is the one that is meant.
@@ -6,8 +6,8 @@ pub fn plan_answers()
     ensures { PlanAnswers }
 {}
 
-/// What is made is what is meant, where the telescope and what the walks say of the function are low, and each order of recursion begins
-/// with a type over no variables.
+/// The plan that is made, or the refusal, is the one that is meant, where the telescope and the uses of the function
+/// are low, and each order of recursion begins with a type over no variables.
 pub fn plan_is_this()
     ensures { PlanIsThis }
 {}

@@ -3,14 +3,14 @@ ghost use Rattle.std.specs.Option.{option_copied};
 ghost use Rattle.core_terms.specs.Answers.{Gives};
 ghost use Rattle.core_terms.specs.Meanings.{tree_of, tele_of};
 ghost use Rattle.function_plans.specs.CodePlans.{IsOwnWalked, own_alone, parts_made, parts_with, plan_made};
-ghost use Rattle.function_refusals.specs.RefusalMeanings.{Elaborates};
-ghost use Rattle.function_walks.specs.Conditions.{AreWalked};
-ghost use Rattle.function_walks.specs.WalkingMeanings.{session_of, walked_of};
+ghost use Rattle.function_checks.specs.function_refusals.RefusalMeanings.{Elaborates};
+ghost use Rattle.function_checks.specs.function_walks.Conditions.{AreWalked};
+ghost use Rattle.function_checks.specs.function_walks.WalkingMeanings.{session_of, walked_of};
 ghost use Rattle.leaf_terms.specs.PlanMeanings.{parts_of, plan_of};
 ghost use Rattle.leaf_terms.specs.RecursionMade.{made_at};
 ghost use Rattle.leaf_terms.specs.RecursionMeanings.{recursion_of};
-ghost use Rattle.structural_rec.specs.Laws.{IsOrder};
-ghost use Rattle.structural_rec.specs.Meanings.{uses_of};
+ghost use Rattle.tree_translation.specs.structural_rec.Laws.{IsOrder};
+ghost use Rattle.tree_translation.specs.structural_rec.Meanings.{uses_of};
 ghost use Rattle.tree_translation.specs.Recursion as recursion;
 
 use crate::choosing::chosen;
@@ -18,12 +18,12 @@ use crate::finishing::own_finished;
 use crate::helpers::helpers_finished;
 use core_sig::Signature;
 use core_terms::{Items, Stop, Term, copy_name};
-use function_refusals::Refusal;
-use function_walks::{Session, Walked};
+use function_checks::function_refusals::Refusal;
+use function_checks::function_walks::{Session, Walked};
 use kernel_check::Kernel;
 use leaf_terms::{Part, Plan, Recursion, recursion_at};
 use std::alloc::Global;
-use structural_rec::Use;
+use tree_translation::structural_rec::Use;
 
 /// Recursion at a position of a telescope, or none where there is no position.
 fn recursion_in<'a>(
@@ -106,8 +106,8 @@ fn parts_at(
     all_parts(alloc, s, r.as_ref(), level, w, helpers, kernel)
 }
 
-/// The plan of a function whose clauses are walked, with its helpers and what the walks say of it, or Deep where something in the uses
-/// or in the telescope is too high, or where the order of recursion begins with a type over others.
+/// The plan of a function whose clauses are walked, with its helpers and the uses in the walks, or Deep where a term of
+/// the uses or a type of the telescope is too high, or where the order of recursion begins with a type over others.
 pub fn plan(
     alloc: Global,
     s: Session,

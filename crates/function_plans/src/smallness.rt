@@ -3,13 +3,13 @@ ghost use Rattle.core_terms.specs.Answers.{IsUnforeseen, Unless, are_low, is_low
 ghost use Rattle.core_terms.specs.Meanings.{tree_of, tele_of};
 ghost use Rattle.core_terms.specs.declared.stop.Stop.TheVariants.{Deep};
 ghost use Rattle.function_plans.specs.CodePlans.{are_low_uses};
-ghost use Rattle.structural_rec.specs.Conditions.{AreSmallUses, IsSmallTelescope};
-ghost use Rattle.structural_rec.specs.Meanings.{uses_of};
+ghost use Rattle.tree_translation.specs.structural_rec.Conditions.{AreSmallUses, IsSmallTelescope};
+ghost use Rattle.tree_translation.specs.structural_rec.Meanings.{uses_of};
 ghost use Rattle.tele_eq.specs.Items.{AreSmallTerms, IsSmall};
 
 use core_terms::{Stop, Term};
 use run_terms::{small_term, small_terms};
-use structural_rec::Use;
+use tree_translation::structural_rec::Use;
 
 /// Deep where a type of a telescope is too high, and Memory where its variables have too great numbers. Memory is short too where the
 /// telescope has more than 2,000 types, since a type of so many is too high.
@@ -24,7 +24,8 @@ pub(crate) fn small_telescope(tele: &[Term]) -> Result<(), Stop>
     small_terms(tele)
 }
 
-/// The same of a right side or a scrutinee, and the terms of its clause.
+/// Deep where a right side or a scrutinee, or a term of its clause, is too high, and Memory where variables have too
+/// great numbers.
 fn small_use(u: &Use) -> Result<(), Stop>
     ensures small { OnOk result (AreSmallTerms (tele_of u.now.terms) × IsSmall (tree_of u.now.body)) }
     ensures low { OnOk result ((are_low (tele_of u.now.terms) && is_low (tree_of u.now.body)) ≡ true) }
@@ -34,7 +35,7 @@ fn small_use(u: &Use) -> Result<(), Stop>
     small_term(&u.body)
 }
 
-/// The same of all of them.
+/// Deep where a term of some use is too high, and Memory where variables have too great numbers.
 pub(crate) fn small_uses(uses: &[Use]) -> Result<(), Stop>
     ensures small { OnOk result (AreSmallUses (uses_of uses.now)) }
     ensures low { OnOk result (are_low_uses (uses_of uses.now) ≡ true) }

@@ -1,15 +1,15 @@
--- What the answer of a call says, from what the calls inside it answered.
+-- The properties of a call's answer, by the answers of the calls inside it.
 use Rattle.std.proofs.Common.{◌≡◌, ◌≢◌, ℕ, List, Result, Ok, Err, IfOk, OnErr, sym, ap, ◌∙◌, subst as transport}
 use Rattle.theory.specs.Signatures.{Signature}
 use Rattle.core_terms.specs.declared.stop.Stop.TheVariants as stop
 use Rattle.surface_syntax.specs.declared.tree.Word.{Word}
-use Rattle.elaboration.specs.Functions.{Lines}
-use Rattle.elaboration.specs.Refusals.{Elaborating}
-use Rattle.function_refusals.specs.RefusalMeanings.{refusal_of}
-use Rattle.function_refusals.specs.declared.refusal.Refusal as function
-use Rattle.function_refusals.specs.declared.refusal.Refusal.TheVariants.{Stop}
-use Rattle.function_lines.specs.LineMeanings.{lines_of}
-use Rattle.function_lines.specs.declared.lines.ClauseLine.{ClauseLine}
+use Rattle.clause_reports.specs.elaboration.Functions.{Lines}
+use Rattle.clause_reports.specs.elaboration.Refusals.{Elaborating}
+use Rattle.function_checks.specs.function_refusals.RefusalMeanings.{refusal_of}
+use Rattle.function_checks.specs.declared.function_refusals.refusal.Refusal as function
+use Rattle.function_checks.specs.declared.function_refusals.refusal.Refusal.TheVariants.{Stop}
+use Rattle.function_session.specs.function_lines.LineMeanings.{lines_of}
+use Rattle.function_session.specs.declared.function_lines.lines.ClauseLine.{ClauseLine}
 use Rattle.elab_session.specs.declared.refusal.Refusal as session
 use Rattle.elab_session.specs.declared.refusal.Refusal.TheVariants.{Memory}
 use Rattle.function_session.specs.Elaborating as pure
@@ -19,7 +19,7 @@ use Rattle.function_session.specs.declared.elaborated.Elaborated.{Elaborated}
 use Rattle.function_session.specs.declared.refused.Refused.{Refused}
 use Rattle.function_session.specs.declared.refused.Refused.TheVariants.{Declaration, Function}
 
--- what holds of the answer that is meant holds of the answer
+-- a property of the answer that is meant is one of the answer
 pub says : (P : pure.Elaborated → Type 0) (T : Signature) (r : Result Elaborated Refused) (meant : Result pure.Elaborated pure.Refused)
     → Answers T r meant → IfOk meant P → IfOk r (λ a. P (elaborated_in T a))
 says P T (Ok a) meant is h = transport (λ m. IfOk m P) (sym is) h
@@ -40,7 +40,7 @@ pub enters : (T : Signature) (x : Word) (fuel left : ℕ) (lines : List ClauseLi
 enters T x fuel left lines name meant is named =
     transport (λ (m : Elaborating Lines). accepts T lines name ≡ on_lines x fuel m.0) is (ap (accepts T lines) named)
 
--- a refusal that stands for want of memory is want of memory
+-- a refusal whose meaning is out of memory is out of memory
 declares-memory : (r : Refused) → refused_of r ≡ pure.Declaration Memory → r ≡ Declaration Memory
 declares-memory (Declaration e) is = ap Declaration (inner is)
   where

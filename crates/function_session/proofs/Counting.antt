@@ -3,7 +3,7 @@ use Rattle.std.proofs.Common.{◌≡◌, ℕ, zero, suc, ◌+◌, List, [], ◌�
 use Rattle.core_terms.specs.Clauses as clause
 use Rattle.core_terms.specs.Clauses.{Clauses}
 use Rattle.clause_reports.specs.Equations.{part_named}
-use Rattle.elaboration.specs.Refusals.{Owner, owner_of}
+use Rattle.clause_reports.specs.elaboration.Refusals.{Owner, owner_of}
 use Rattle.function_session.specs.Laws.{owners, owners_from}
 
 -- how many clauses there are
@@ -16,7 +16,7 @@ abbrev pub numbered : (name : List ℕ) → (k number count : ℕ) → List Owne
 numbered name k number zero = []
 numbered name k number (suc count) = owner_of (part_named name k) number ∷ numbered name k (number + 1) count
 
--- the same of the parts from part k on
+-- so many clauses of each part from part k on
 abbrev pub numbered_from : (name : List ℕ) → (k : ℕ) → List ℕ → List Owner
 numbered_from name k [] = []
 numbered_from name k (count ∷ counts) = numbered name k 0 count ++ numbered_from name (k + 1) counts

@@ -1,4 +1,4 @@
--- What a declaration keeps.
+-- After a declaration the signature is again that of a session, and the earlier entries stay.
 use Rattle.std.proofs.Common.{◌≡◌, ℕ, [], Result, Ok, Err, IfOk, refl, subst as transport}
 use Rattle.theory.specs.Signatures.{Signature, IsPrefix}
 use Rattle.theory.specs.WellFormed.{IsWellFormed}
@@ -7,13 +7,13 @@ use Rattle.surface_syntax.specs.declared.tree.Word.{Word}
 use Rattle.resolve.specs.Functions.{Function, function}
 use Rattle.resolve.specs.declared.stop.ResolveStop.{ResolveStop}
 use Rattle.clause_reports.proofs.Keeping.{Any, any, weaker}
-use Rattle.elaboration.specs.Functions.{Lines, function_of}
-use Rattle.elaboration.specs.Refusals as refusal
-use Rattle.elaboration.specs.Refusals.{Elaborating}
-use Rattle.elaboration.proofs.Keeping.{function-keeps}
-use Rattle.function_lines.specs.FunctionMade.{function_made}
-use Rattle.function_lines.proofs.FunctionAnswers.{function-answers}
-use Rattle.function_lines.proofs.Results.{longer-ready}
+use Rattle.clause_reports.specs.elaboration.Functions.{Lines, function_of}
+use Rattle.clause_reports.specs.elaboration.Refusals as refusal
+use Rattle.clause_reports.specs.elaboration.Refusals.{Elaborating}
+use Rattle.clause_reports.proofs.elaboration.Keeping.{function-keeps}
+use Rattle.function_session.specs.function_lines.FunctionMade.{function_made}
+use Rattle.function_session.proofs.function_lines.FunctionAnswers.{function-answers}
+use Rattle.function_session.proofs.function_lines.Results.{longer-ready}
 use Rattle.elab_session.specs.Declaring.{Declared, accepted_as, declare_of}
 use Rattle.elab_session.specs.Sessions.{IsReady}
 use Rattle.elab_session.specs.declared.refusal.Refusal as session
@@ -36,7 +36,7 @@ on_lines-has : (P : Elaborated → Type 0) (x : Word) (fuel : ℕ) (r : Result L
 on_lines-has P x fuel (Ok l) h = h
 on_lines-has P x fuel (Err e) h = tt
 
--- what holds of the lines that are meant holds of those that are made
+-- a property of the lines that are meant is one of those that are made
 made-has : (P : Lines → Type 0) (S : Signature) (f : Function) (fuel : ℕ) → IfOk (function_of S f fuel).0 P → IfOk (function_made S f fuel).0 P
 made-has P S f fuel h = by (function_made S f fuel) refl
   where
@@ -44,7 +44,7 @@ made-has P S f fuel h = by (function_made S f fuel) refl
     by (Ok l, left) is = transport (λ (m : Elaborating Lines). IfOk m.0 P) (function-answers S f fuel l left is) h
     by (Err e, left) is = tt
 
--- what holds of a function that is added, from what holds of its lines
+-- a property of a function that is added, by that of its lines
 pub function-has : (P : Elaborated → Type 0) (S : Signature) (fuel : ℕ) (x : Word) (ty : surf.Surf) (clauses : surf.Clauses)
     → ((f : Function) → function S x ty clauses ≡ Ok f
     → IfOk (function_of S f fuel).0 (λ l. P (with_lines (accepted_as x.text l.signature) l.lines)))
@@ -54,7 +54,7 @@ function-has P S fuel x ty clauses h =
     on_lines-has P x fuel (function_made S f fuel).0
     (made-has (λ l. P (with_lines (accepted_as x.text l.signature) l.lines)) S f fuel (h f is)))
 
--- ---- what stays
+-- ---- the signature
 
 function-ready : (S : Signature) (fuel : ℕ) (x : Word) (ty : surf.Surf) (clauses : surf.Clauses) → IsReady S
     → IfOk (elaborate_function S fuel x ty clauses) (KeepsReady S)

@@ -25,9 +25,9 @@ use Rattle.tree_translation.proofs.WrittenType.{function-typed, last-is, entries
 use Rattle.clause_reports.specs.DraftEntering.{enter_all, enter_draft_of, enter_entry, enter_needed, mentioned}
 use Rattle.clause_reports.specs.Stops as report
 use Rattle.clause_reports.proofs.Keeping.{Grows, GrowsTo, grows_same, grows_on, weaker, Any, any, entering-grows, enter_all-grows, enter_entry-grows, enter_needed-grows, weaker-of-two}
-use Rattle.elaboration.specs.Refusals.{or_halts, owner_of, reporting}
-use Rattle.elaboration.specs.Functions.{enter_drafts, enter_plan, enter_values, first_domains, recursion_in}
-use Rattle.elaboration.proofs.Keeping.{no_report-has, enter_values-grows}
+use Rattle.clause_reports.specs.elaboration.Refusals.{or_halts, owner_of, reporting}
+use Rattle.clause_reports.specs.elaboration.Functions.{enter_drafts, enter_plan, enter_values, first_domains, recursion_in}
+use Rattle.clause_reports.proofs.elaboration.Keeping.{no_report-has, enter_values-grows}
 use Rattle.elab_session.proofs.Resolved.{last-entry, prelude-stays}
 use Rattle.elab_session.proofs.WrittenDefinitions.{definition-of}
 

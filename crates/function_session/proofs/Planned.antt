@@ -13,7 +13,7 @@ use Rattle.case_trees.specs.OwnWalks.{own_walk_of}
 use Rattle.case_trees.specs.Points.{under_solution}
 use Rattle.case_trees.specs.Trees.{split_of}
 use Rattle.core_terms.specs.Answers.{bounded}
-use Rattle.structural_rec.specs.Choices.{choose}
+use Rattle.tree_translation.specs.structural_rec.Choices.{choose}
 use Rattle.tree_translation.specs.Entries.{ordered_variables}
 use Rattle.tree_translation.specs.Plans.{Plan, Part}
 use Rattle.tree_translation.specs.Recursion.{Recursion, order_of, ordered_telescope, ordered_term}
@@ -22,9 +22,9 @@ use Rattle.clause_reports.proofs.Keeping.{Any, any}
 use Rattle.resolve.specs.Functions.{Function}
 use Rattle.kernel_check.specs.Checking.{check_of}
 use Rattle.kernel_reduce.specs.Reduction.{nesting}
-use Rattle.elaboration.specs.Refusals.{Elaborating, Owner, OfSide, granted, or_halts, owner_of, walking}
-use Rattle.elaboration.specs.Functions.{helpers_finished, own_finished, own_part, plan_of, position_chosen, recursion_in}
-use Rattle.elaboration.specs.Walking.{Given, Opened, Session, Walked, after_dots, check_dot, open_over, opened, walk_clause, walk_clauses, walk_right}
+use Rattle.clause_reports.specs.elaboration.Refusals.{Elaborating, Owner, OfSide, granted, or_halts, owner_of, walking}
+use Rattle.clause_reports.specs.elaboration.Functions.{helpers_finished, own_finished, own_part, plan_of, position_chosen, recursion_in}
+use Rattle.clause_reports.specs.elaboration.Walking.{Given, Opened, Session, Walked, after_dots, check_dot, open_over, opened, walk_clause, walk_clauses, walk_right}
 use Rattle.function_session.specs.Laws.{inner, inner_of, inner_right}
 use Rattle.function_session.proofs.Counting.{count_of}
 

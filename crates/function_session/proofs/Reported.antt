@@ -14,14 +14,14 @@ use Rattle.clause_reports.proofs.Keeping.{Grows, grows_same, grows_on, weaker-of
 use Rattle.clause_reports.proofs.Lines.{Said, report-says}
 use Rattle.clause_reports.proofs.Lines as found
 use Rattle.clause_reports.proofs.ReportKeeping.{GrowsBy, report-grows}
-use Rattle.elaboration.specs.Functions.{ClauseLine, Following, Lines, report_parts, report_walks, with_line}
-use Rattle.elaboration.specs.Refusals.{Owner, owner_of, reporting}
-use Rattle.elaboration.proofs.Keeping.{no_report-has}
+use Rattle.clause_reports.specs.elaboration.Functions.{ClauseLine, Following, Lines, report_parts, report_walks, with_line}
+use Rattle.clause_reports.specs.elaboration.Refusals.{Owner, owner_of, reporting}
+use Rattle.clause_reports.proofs.elaboration.Keeping.{no_report-has}
 use Rattle.function_session.specs.Evidence.{AreLinesOf, HasConverting, Says, line_owner, references, references_from}
 use Rattle.function_session.proofs.Counting.{numbered, numbered_from}
 use Rattle.function_session.proofs.Planned.{part_counts}
 
--- ---- what a line says
+-- ---- the statement of a line
 
 -- the equation of the clause at a leaf converts
 abbrev ConvertsAt : Signature → Plan → Reference → TreeLeaf → Type 0
@@ -98,7 +98,7 @@ one-more S plan c clauses owners r lines g said h = record {
   );
 }
 
--- a report grows the signature, and says what holds
+-- a report extends the signature, and the statement of its line holds
 pub record Told (S : Signature) (plan : Plan) (c : Reference) (r : Reported) : Type 0 where
   pub grows : Grows S r.signature
   pub said : Said S plan c r

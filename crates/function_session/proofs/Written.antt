@@ -1,4 +1,4 @@
--- What is accepted is as written.
+-- An accepted declaration is as written.
 use Rattle.std.proofs.Common.{◌≡◌, ℕ, List, [], ◌∷◌, map, length, Result, Ok, Err, IfOk, refl, sym, ap, ◌∙◌, subst as transport}
 use Rattle.theory.specs.Terms.{Term, Const}
 use Rattle.theory.specs.Signatures.{Definition, Signature, IsPrefix}
@@ -28,8 +28,8 @@ use Rattle.kernel_check.proofs.Soundness.{infer_sort-is_sound}
 use Rattle.kernel_reduce.specs.Reduction.{nesting}
 use Rattle.clause_reports.proofs.Keeping.{Any, any, weaker, Grows, grows_on}
 use Rattle.tree_translation.specs.Plans.{Plan}
-use Rattle.elaboration.specs.Functions.{Lines, enter_plan, function_level, function_of, plan_of, report_parts}
-use Rattle.elaboration.specs.Refusals.{OfType, Part, granted, or_ill_typed}
+use Rattle.clause_reports.specs.elaboration.Functions.{Lines, enter_plan, function_level, function_of, plan_of, report_parts}
+use Rattle.clause_reports.specs.elaboration.Refusals.{OfType, Part, granted, or_ill_typed}
 use Rattle.elab_session.specs.Declaring.{Declared, accepted_as, declare_of}
 use Rattle.elab_session.specs.Laws as session
 use Rattle.elab_session.specs.Sessions.{IsReady}
@@ -45,7 +45,7 @@ use Rattle.function_session.proofs.Reported.{Reports, lines-from, parts-report}
 
 -- ---- resolved functions
 
--- a function that is resolved has the name that is written, and the type that the written one stands for
+-- a function that is resolved has the name that is written, and the type to which the written one is resolved
 pub record IsNewFunction (S : Signature) (x : Word) (ty : surf.Surf) (f : Function) : Type 0 where
   pub name : f.name ≡ x.text
   pub type : resolve_term S [] ty ≡ Ok f.type
@@ -77,7 +77,7 @@ granted-has P S part (Ok (Yes type)) h = h
 granted-has P S part (Ok (No d)) h = tt
 granted-has P S part (Err e) h = tt
 
--- what is said of the lines of a function
+-- the facts about an accepted function and its lines
 record IsElaborated (S : Signature) (f : Function) (l : Lines) : Type 0 where
   pub sort : HasSort S [] f.type
   pub with_plan : Signature

@@ -1,19 +1,19 @@
--- One declaration over a signature, also a function by clauses: its names, then what the checker says of each written part, with one
--- count of units that starts at the fuel. The first refusal in this order is the answer.
+-- One declaration over a signature, also a function by clauses: its names, then the checker's answer for each written part, with one count
+-- of units that starts at the fuel. The first refusal in this order is the answer.
 use Rattle.std.specs.Prelude.{ℕ, List, [], Result, Ok, Err}
 use Rattle.theory.specs.Signatures.{Signature}
 use Rattle.surface_syntax.specs.Trees as surf
 use Rattle.surface_syntax.specs.declared.tree.Word.{Word}
 use Rattle.resolve.specs.Functions as function
 use Rattle.resolve.specs.declared.stop.ResolveStop.{ResolveStop}
-use Rattle.elaboration.specs.Functions.{ClauseLine, Lines}
-use Rattle.elaboration.specs.Refusals as refusal
-use Rattle.function_lines.specs.FunctionMade.{function_made}
+use Rattle.clause_reports.specs.elaboration.Functions.{ClauseLine, Lines}
+use Rattle.clause_reports.specs.elaboration.Refusals as refusal
+use Rattle.function_session.specs.function_lines.FunctionMade.{function_made}
 use Rattle.elab_session.specs.Declaring.{Declared, accepted_as, declare_of}
 use Rattle.elab_session.specs.Refusals.{stopped, unresolved}
 use Rattle.elab_session.specs.declared.refusal.Refusal as session
 
--- the name of what was accepted, the lines of a function's clauses, and the signature that has it
+-- the name of an accepted declaration, the lines of a function's clauses, and the signature that has it
 pub record Elaborated : Type 0 where
   pub name : List ℕ
   pub lines : List ClauseLine
@@ -35,13 +35,12 @@ abbrev pub without_lines : Result Declared session.Refusal → Result Elaborated
 without_lines (Ok d) = Ok (with_lines d [])
 without_lines (Err e) = Err (Declaration e)
 
--- Why a function that may spend `fuel` units is refused. Want of units, height or memory is never a refusal of functions
--- alone.
+-- Why a function that may spend `fuel` units is refused. Units, heights or memory that run out are never a refusal of functions alone.
 abbrev pub refused_function : (fuel : ℕ) → refusal.Refusal → Refused
 refused_function fuel (refusal.Halts e) = Declaration (stopped fuel e)
 refused_function fuel e = Function e
 
--- what entered under the name x, or what refused it
+-- the function that is accepted under the name x, or its refusal
 abbrev pub on_lines : Word → (fuel : ℕ) → Result Lines refusal.Refusal → Result Elaborated Refused
 on_lines x fuel (Ok l) = Ok (with_lines (accepted_as x.text l.signature) l.lines)
 on_lines x fuel (Err e) = Err (refused_function fuel e)
@@ -50,7 +49,7 @@ on_lines x fuel (Err e) = Err (refused_function fuel e)
 abbrev pub enter_function : Signature → (fuel : ℕ) → Word → function.Function → Result Elaborated Refused
 enter_function S fuel x f = on_lines x fuel (function_made S f fuel).0
 
--- goes on with what is resolved
+-- goes on with the resolved function
 abbrev pub on_function : Result function.Function ResolveStop → (function.Function → Result Elaborated Refused) → Result Elaborated Refused
 on_function (Ok f) go = go f
 on_function (Err e) go = Err (Declaration (unresolved e))
@@ -58,7 +57,7 @@ on_function (Err e) go = Err (Declaration (unresolved e))
 abbrev pub elaborate_function : Signature → (fuel : ℕ) → Word → surf.Surf → surf.Clauses → Result Elaborated Refused
 elaborate_function S fuel x ty clauses = on_function (function.function S x ty clauses) (enter_function S fuel x)
 
--- A declaration. One of a form that is not built yet is refused at its first name.
+-- A declaration. One of a form that is not implemented yet is refused at its first name.
 abbrev pub elaborate_of : Signature → (fuel : ℕ) → surf.Decl → Result Elaborated Refused
 elaborate_of S fuel (surf.Def x ty body) = without_lines (declare_of S fuel (surf.Def x ty body))
 elaborate_of S fuel (surf.Data x params ty cons) = without_lines (declare_of S fuel (surf.Data x params ty cons))

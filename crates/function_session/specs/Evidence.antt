@@ -1,4 +1,4 @@
--- What the lines of clauses say of them.
+-- The statements that the lines of clauses make about them.
 use Rattle.std.specs.Prelude.{◌≡◌, ◌<◌, ℕ, ◌+◌, true, List, [], ◌∷◌, ◌++◌, All, map, Result, Ok}
 use Rattle.theory.specs.Terms.{Term}
 use Rattle.theory.specs.Telescopes.{Telescope}
@@ -6,15 +6,15 @@ use Rattle.theory.specs.Conversion.{Converts}
 use Rattle.theory.specs.Signatures.{Signature, Definition, IsEntryAt, IsPrefix, equation}
 use Rattle.core_terms.specs.CaseTrees.{Walk}
 use Rattle.core_terms.specs.declared.stop.Stop.{Stop}
-use Rattle.pattern_vectors.specs.Matching.{matches_all}
+use Rattle.case_trees.specs.pattern_vectors.Matching.{matches_all}
 use Rattle.tree_translation.specs.Plans.{Plan, Part}
 use Rattle.clause_reports.specs.Equations.{Equation, equation_of, part_at, part_named, pats_of, closed_type}
 use Rattle.clause_reports.specs.Laws.{IsOver}
 use Rattle.clause_reports.specs.ProofTerms.{proof_name}
 use Rattle.clause_reports.specs.Reports.{Line, Definitional, Proved, Shadowed, Absurd, Reference, some_absurd, order_in, shown_leaf}
 use Rattle.clause_reports.specs.Shadows.{TreeLeaf, equation_at_leaf, leaves_of}
-use Rattle.elaboration.specs.Functions.{ClauseLine}
-use Rattle.elaboration.specs.Refusals.{Owner, owner_of}
+use Rattle.clause_reports.specs.elaboration.Functions.{ClauseLine}
+use Rattle.clause_reports.specs.elaboration.Refusals.{Owner, owner_of}
 
 -- ---- one line
 
@@ -34,8 +34,8 @@ pub record IsProofEntry (S : Signature) (plan : Plan) (c : Reference) (T : Signa
       (Definition (proof_name plan c.part c.clause)
       (closed_type (part_at plan c.part).level given) body)
 
--- An earlier clause takes the vector, which the clause matches too. The leaves are all leaves of the clause in its tree, and its equation
--- converts at each of them.
+-- An earlier clause takes the arguments, which the clause matches too. The leaves are all leaves of the clause in its tree, and its
+-- equation converts at each of them.
 pub record IsShadow (S : Signature) (plan : Plan) (c : Reference) (earlier : ℕ) (vector : List Term) (leaves : List (Telescope × List Term)) : Type 0 where
   pub before : earlier < c.clause
   pub own : matches_all S (pats_of (part_at plan c.part) c.clause) vector ≡ true
@@ -44,7 +44,7 @@ pub record IsShadow (S : Signature) (plan : Plan) (c : Reference) (earlier : ℕ
   pub converts : All (λ (leaf : TreeLeaf). HasConverting S (equation_at_leaf S plan c.part c.clause (order_in S plan c.part) c.walk leaf))
       (leaves_of c.clause (part_at plan c.part).tree)
 
--- What a line says of a clause of the plan, over the signature S before it and T after it.
+-- The statement of a line about a clause of the plan, over the signature S before it and T after it.
 abbrev pub Says : Signature → Plan → Reference → (T : Signature) → Line → Type 0
 Says S plan c T Definitional = HasConverting S (equation_of S plan c.part c.clause c.walk)
 Says S plan c T (Proved n) = IsProofEntry S plan c T n
@@ -56,7 +56,7 @@ Says S plan c T Absurd = some_absurd (pats_of (part_at plan c.part) c.clause) �
 abbrev pub line_owner : ClauseLine → Owner
 line_owner l = record { function = l.function; clause = l.clause }
 
--- The line of a clause of the plan. What it says holds over a signature `before` and one `after` it, both between S and T.
+-- The line of a clause of the plan. Its statement holds over a signature `before` and one `after` it, both between S and T.
 pub record IsLineOf (S T : Signature) (plan : Plan) (c : Reference) (l : ClauseLine) : Type 0 where
   pub owner : line_owner l ≡ owner_of (part_named plan.name c.part) c.clause
   pub before : Signature
@@ -77,7 +77,7 @@ abbrev pub references : (k number : ℕ) → List Walk → List Reference
 references k number [] = []
 references k number (w ∷ walks) = record { part = k; clause = number; walk = w } ∷ references k (number + 1) walks
 
--- the same of the parts from part k on
+-- the clauses of the parts from part k on, by their walks
 abbrev pub references_from : (k : ℕ) → List Part → List Reference
 references_from k [] = []
 references_from k (part ∷ parts) = references k 0 part.walks ++ references_from (k + 1) parts

@@ -1,4 +1,4 @@
--- What one declaration keeps, and what holds of the things that it accepts.
+-- The laws of one declaration: the signature stays that of a session, and an accepted declaration is as written.
 use Rattle.std.specs.Prelude.{◌≡◌, ℕ, ◌+◌, List, [], ◌∷◌, ◌++◌, map, Ok, IfOk}
 use Rattle.theory.specs.Terms.{Term}
 use Rattle.theory.specs.Signatures.{Definition, Signature, IsPrefix}
@@ -12,8 +12,8 @@ use Rattle.resolve.specs.Functions.{Function, function}
 use Rattle.resolve.specs.Resolving.{resolve_term}
 use Rattle.tree_translation.specs.Plans.{Plan}
 use Rattle.clause_reports.specs.Equations.{part_named}
-use Rattle.elaboration.specs.Functions.{plan_of}
-use Rattle.elaboration.specs.Refusals.{Owner, owner_of}
+use Rattle.clause_reports.specs.elaboration.Functions.{plan_of}
+use Rattle.clause_reports.specs.elaboration.Refusals.{Owner, owner_of}
 use Rattle.elab_session.specs.Declaring.{accepted_as}
 use Rattle.elab_session.specs.Laws as session
 use Rattle.elab_session.specs.Sessions.{IsReady}
@@ -30,7 +30,8 @@ ElaborateKeepsReady = (S : Signature) (fuel : ℕ) (d : surf.Decl) → IsReady S
 
 -- ---- the clauses of a function
 
--- The clauses inside each `with` of some clauses, in the order of the text: those of an outer one come before those inside it.
+-- The clauses inside each `with` of some clauses, in the order in which they are written: those of an outer one come before those inside
+-- it.
 abbrev mutual
   pub inner : Clauses → List Clauses
   inner clause.nil = []
@@ -49,7 +50,7 @@ abbrev pub owners : (name : List ℕ) → (k number : ℕ) → Clauses → List 
 owners name k number clause.nil = []
 owners name k number (clause.cons c clauses) = owner_of (part_named name k) number ∷ owners name k (number + 1) clauses
 
--- the same of the parts from part k on
+-- the clauses of the parts from part k on, by the names of the function's parts
 abbrev pub owners_from : (name : List ℕ) → (k : ℕ) → List Clauses → List Owner
 owners_from name k [] = []
 owners_from name k (clauses ∷ parts) = owners name k 0 clauses ++ owners_from name (k + 1) parts
@@ -58,12 +59,12 @@ owners_from name k (clauses ∷ parts) = owners name k 0 clauses ++ owners_from 
 abbrev pub clause_owners : Function → List Owner
 clause_owners f = owners_from f.name 0 (f.clauses ∷ inner f.clauses)
 
--- ---- what is accepted
+-- ---- accepted declarations
 
--- A function was added that is written by clauses. Its type is the core term that the written one stands for, and by the typing rules
+-- A function was added that is written by clauses. Its type is the core term to which the written one is resolved, and by the typing rules
 -- over the entries before it has a sort. All new entries are formed by the rules over those before them. One of them is the function, a
--- definition with the declared name and exactly this type. Each clause has one line, in the order of the clauses, and what the line says
--- holds of the clause in the plan of the function.
+-- definition with the declared name and exactly this type. Each clause has one line, in the order of the clauses, and the statement of the
+-- line holds of the clause in the plan of the function.
 pub record IsWrittenFunction (S : Signature) (x : Word) (ty : surf.Surf) (clauses : surf.Clauses) (a : Elaborated) : Type 0 where
   pub given : Function
   pub resolved : function S x ty clauses ≡ Ok given

@@ -1,3 +1,4 @@
+pub mod function_lines
 pub mod Elaborating
 pub mod Evidence
 pub mod Laws

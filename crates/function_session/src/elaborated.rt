@@ -1,5 +1,5 @@
+use crate::function_lines::ClauseLine;
 use core_terms::{Items, Name};
-use function_lines::ClauseLine;
 
 /// A declaration that was accepted, by its name. A function has a line for each of its clauses, in the order of the clauses; other declarations
 /// have none.

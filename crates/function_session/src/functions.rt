@@ -4,15 +4,15 @@ ghost use Rattle.resolve.specs.DeclaredNames.{declared_word};
 ghost use Rattle.resolve.specs.Functions.{IsFun, resolve_fun};
 ghost use Rattle.resolve.specs.PatternMeanings.{fun_of};
 ghost use Rattle.elab_session.specs.Sessions.{IsReady};
-ghost use Rattle.function_lines.specs.Conditions.{IsWorkingOn};
+ghost use Rattle.function_session.specs.function_lines.Conditions.{IsWorkingOn};
 ghost use Rattle.function_session.specs.Elaborating as spec;
 ghost use Rattle.function_session.specs.Meanings.{Answers};
 
+use crate::function_lines::function;
 use crate::refused::refused_function;
 use crate::{Elaborated, Refused};
 use core_sig::Signature;
 use core_terms::{Units, copy_name};
-use function_lines::function;
 use resolve::{FunCore, declared_word, resolve_fun};
 use std::alloc::Global;
 use surface_syntax::{Decl, Word};

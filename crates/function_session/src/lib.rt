@@ -4,6 +4,7 @@
 
 mod elaborated;
 mod elaborating;
+pub mod function_lines;
 mod functions;
 pub mod laws;
 mod refused;

@@ -1,7 +1,7 @@
 ghost use Rattle.std.specs.Prelude.{◌≡◌};
 ghost use Rattle.elab_session.specs.Refusals.{unresolved};
 ghost use Rattle.elab_session.specs.declared.refusal.Refusal.TheVariants.{Memory};
-ghost use Rattle.function_refusals.specs.RefusalMeanings.{refusal_of};
+ghost use Rattle.function_checks.specs.function_refusals.RefusalMeanings.{refusal_of};
 ghost use Rattle.function_session.specs.Elaborating as spec;
 ghost use Rattle.function_session.specs.Meanings.{refused_of};
 ghost use Rattle.function_session.specs.declared.refused.Refused.TheVariants.{Declaration};
@@ -17,7 +17,7 @@ use std::alloc::AllocError;
 #[derive(Debug, Drop)]
 pub enum Refused {
     Declaration(elab_session::Refusal),
-    Function(function_refusals::Refusal),
+    Function(function_checks::function_refusals::Refusal),
 }
 
 impl From<AllocError> for Refused {
@@ -45,11 +45,16 @@ impl From<elab_session::Refusal> for Refused {
 }
 
 /// Why a function that may spend `fuel` units is refused.
-pub(crate) fn refused_function(fuel: u64, refusal: function_refusals::Refusal) -> Refused
+pub(crate) fn refused_function(
+    fuel: u64,
+    refusal: function_checks::function_refusals::Refusal,
+) -> Refused
     ensures { refused_of result ≡ spec.refused_function fuel (refusal_of refusal) }
 {
     match refusal {
-        function_refusals::Refusal::Stop(stop) => Refused::Declaration(stopped(fuel, stop)),
+        function_checks::function_refusals::Refusal::Stop(stop) => Refused::Declaration(stopped(
+            fuel, stop,
+        )),
         other => Refused::Function(other),
     }
 }

@@ -1,4 +1,4 @@
--- What the elaborator accepts is what the headline says of it.
+-- A declaration that the elaborator accepts is shown as the headline says.
 use Rattle.std.proofs.Common.{◌≡◌, ℕ, Bool, true, false, List, ◌∷◌, ◌++◌, codes, Ok, IfOk, refl, sym, ap, subst, ◌∙◌, arith}
 use Rattle.std.specs.Prelude.{Contains, IsTrue, is_some, slice_get}
 use Rattle.std.proofs.lemmas.List.Elements.{Contains-append_right}

@@ -1,4 +1,4 @@
--- What a line accepts is shown in full.
+-- A declaration that a line accepts is shown in full.
 use Rattle.std.proofs.Common.{◌≡◌, ◌∙◌, ℕ, false, IfOk, List, ◌∷◌, ◌++◌, sym, subst, subst₂}
 use Rattle.function_session.specs.Elaborating.{Elaborated}
 use Rattle.k_laws.specs.Lines.{LinesLack}

@@ -1,4 +1,4 @@
--- What a run wrote has the full headline.
+-- The output of a run has the full headline.
 use Rattle.std.specs.Prelude.{ℕ, List, Option}
 use Rattle.elim_program.specs.declared.status.Status.{Status}
 use Rattle.elim_program.specs.Runs as old

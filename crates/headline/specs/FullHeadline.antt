@@ -10,8 +10,8 @@ use Rattle.headline.specs.program_laws.CoreFiles.{IsCoreFile}
 use Rattle.headline.specs.program_laws.WithoutK.{AreWithoutK}
 use Rattle.headline.specs.verified_laws.AcceptedLines.{IsReported}
 
--- What is shown is what the elaborator accepts: the same declaration of the text, over the same entries, with the same signature after it
--- and the same clauses.
+-- The headline and the elaborator speak of the same declaration of the source file, over the same entries, with the same signature
+-- after it and the same clauses.
 pub record IsOfTheSame (words : List (List ℕ)) (bytes : List ℕ) (above : List (List ℕ)) (name : List ℕ) (shown : IsShown words bytes above name)
     (accepted : IsAccepted words bytes above name) : Type 0 where
   pub k : shown.k ≡ accepted.command.k
@@ -42,12 +42,12 @@ abbrev pub IsFullHeadline : List (List ℕ) → List ℕ → List ℕ → Type 0
 IsFullHeadline words bytes text =
     (above below : List (List ℕ)) (name : List ℕ) → lines_of text ≡ above ++ accepted_line name ∷ below → IsFullyShown words bytes above name
 
--- the same for each output that is defined, and for what was written of it
+-- each output that is defined has the full headline, and so has each front of it
 abbrev pub FullHeadline : Type 0
 FullHeadline =
     (words : List (List ℕ)) (bytes : List ℕ) (out : Output) → IsOutput words bytes out → (text rest : List ℕ) → text_of out.lines ≡ text ++ rest → IsFullHeadline words bytes text
 
--- the headline is about what the elaborator accepts
+-- each declaration that the elaborator accepts is shown by the lines above it
 abbrev pub AcceptedIsTheShown : Type 0
 AcceptedIsTheShown =
     (words : List (List ℕ)) (bytes : List ℕ) (above : List (List ℕ)) (name : List ℕ) (accepted : IsAccepted words bytes above name)

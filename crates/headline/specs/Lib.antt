@@ -1,3 +1,4 @@
+pub mod meaning_laws
 pub mod line_laws
 pub mod program_laws
 pub mod writing_laws

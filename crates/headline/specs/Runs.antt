@@ -1,4 +1,4 @@
--- What a run did.
+-- The output and the status of a run.
 use Rattle.std.specs.Prelude.{◌≡◌, ℕ, List, [], Option, IfSome, ◌⊎◌}
 use Rattle.std.specs.Io.KnownBytes.{Appends}
 use Rattle.elim_program.specs.declared.status.Status.{Status}
@@ -10,7 +10,7 @@ use Rattle.elim_program.specs.VerifyHeadline.{IsVerifyHeadline}
 use Rattle.headline.specs.FullHeadline.{IsFullHeadline}
 
 -- A run follows an output that is defined for its words and the bytes, or it ended before it wrote anything: by a fault of
--- the source, or for want of memory. If a whole line of what was written says that a declaration is accepted, the lines above show it in
+-- the source, or out of memory. If a whole line of what was written says that a declaration is accepted, the lines above show it in
 -- full (`IsFullyShown`). If one says that an entry of a core file is verified, the entries verified up to it are a signature by the rules.
 pub data HasWritten (words : List (List ℕ)) (bytes : List ℕ) (before after : Option (List ℕ)) (status : Status) : Type 0 where
   nothing : Appends before after [] → (status ≡ ReadFault) ⊎ (status ≡ NoMemory) → HasWritten words bytes before after status

@@ -7,7 +7,7 @@ use elim_program::laws::{acceptance, accepted_is_shown};
 use k_laws::laws::lines_lack_axiom_k;
 use written_functions::laws::functions_are_by_clauses;
 
-/// What the elaborator accepts is what the headline says of it.
+/// A declaration that the elaborator accepts is shown as the headline says.
 pub fn accepted_is_the_shown()
     ensures { AcceptedIsTheShown }
 {

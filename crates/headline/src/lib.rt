@@ -3,6 +3,7 @@
 
 pub mod laws;
 pub mod line_laws;
+pub mod meaning_laws;
 pub mod program_laws;
 mod running;
 pub mod verified_laws;

@@ -1,4 +1,4 @@
-//! What the lines of a function's clauses say: each is the report of its clause, and a proof is one by the typing rules.
+//! Each line of a function's clauses is the report of its clause, and a proof is one by the typing rules.
 ghost use Rattle.headline.specs.line_laws.Laws.{DeclarationReports, FunctionReports, PatternsAreWritten};
 
 /// Each line of a function is the report of its clause. A line that names a proof names a definition of the clause's closed equation type,
@@ -7,7 +7,7 @@ pub fn function_reports()
     ensures { FunctionReports }
 {}
 
-/// The same of a function that a session accepts.
+/// Each line of a function that a session accepts is the report of its clause, and a proof is one by the rules.
 pub fn declaration_reports()
     ensures { DeclarationReports }
 {}

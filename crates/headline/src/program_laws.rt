@@ -11,7 +11,7 @@ pub fn reads_by_the_grammar()
     ensures { ReadsByTheGrammar }
 {}
 
-/// The declarations of a text are those that the grammar has for it.
+/// The declarations of a source file are those that the grammar has for it.
 pub fn gives_by_the_grammar()
     ensures { GivesByTheGrammar }
 {}
@@ -26,7 +26,7 @@ pub fn reasons_are_given()
     ensures { ReasonsAreGiven }
 {}
 
-/// Where the words do not ask for axiom K, nothing of an accepted text holds it.
+/// Where the words do not ask for axiom K, no entry of an accepted source file holds it.
 pub fn without_k()
     ensures { WithoutK }
 {}

@@ -9,8 +9,8 @@ use elim_ports::{Sink, Source};
 use elim_program::Status;
 use std::alloc::Global;
 
-/// Compiles the text of `source`, or verifies the core file that it holds, or counts the clauses of a text of its own, as the
-/// words ask for, and writes the lines to `sink`.
+/// Compiles the source file, or verifies the core file that `source` holds, or counts the clauses of a source file of
+/// its own, as the words ask for, and writes the lines to `sink`.
 ///
 /// `words` are those after the program's name. The source is read whole before the first write; for `work`, or where the words
 /// are not accepted, it is not read.
@@ -20,10 +20,11 @@ pub fn run<S: Source, K: Sink>(
     source: &mut S,
     sink: &mut K,
 ) -> Status
-    // What was written follows a defined output, or nothing was written. Each whole line `# accepted NAME` has the full headline: the
-    // lines above show that the declaration has its written type; they are one core file, without K unless the words ask for it; and
-    // the elaborator accepts this declaration with these lines. Each whole line `# verified NAME` has its headline: the entries that
-    // are verified up to it are a well-formed signature.
+    // The bytes that were written are a front of a defined output, or nothing was written. Each whole line
+    // `# accepted NAME` has the full headline: the lines above show that the declaration has its written type; they are
+    // one core file, without K unless the words ask for it; and the elaborator accepts this declaration with these
+    // lines. Each whole line `# verified NAME` has its headline: the entries that are verified up to it are a
+    // well-formed signature.
     ensures runs { HasRun (map string_bytes words.now) (S.left source.old) (K.written sink.old) (K.written sink.new) result }
     ensures read_fault { result ≡ Status.ReadFault → Rose (S.faults source.old) (S.faults source.new) }
     ensures write_fault { result ≡ Status.WriteFault → Rose (K.faults sink.old) (K.faults sink.new) }

@@ -1,10 +1,10 @@
-//! The core file of the signature that an accepted text gives is verified with the same fuel; and what holds of each line that accepts
-//! a declaration.
+//! The core file of the signature that an accepted source file gives is verified with the same fuel; and laws of each
+//! line that accepts a declaration.
 pub mod lines;
 
 ghost use Rattle.headline.specs.verified_laws.Laws.{AcceptedIsVerified, CompiledIsVerified, CoreFileIsVerified, EachIsNamed, OutputVerifies, TextIsChecked};
 
-/// Where no declaration of a text is refused, each entry of the signature that they give is accepted by itself.
+/// Where no declaration of a source file is refused, each entry of the signature that they give is accepted by itself.
 pub fn text_is_checked()
     ensures { TextIsChecked }
 {}
@@ -19,7 +19,7 @@ pub fn core_file_is_verified()
     ensures { CoreFileIsVerified }
 {}
 
-/// A core file of the signature that an accepted text gives is verified with the same fuel.
+/// A core file of the signature that an accepted source file gives is verified with the same fuel.
 pub fn accepted_is_verified()
     ensures { AcceptedIsVerified }
 {}
@@ -29,7 +29,7 @@ pub fn output_verifies()
     ensures { OutputVerifies }
 {}
 
-/// What `compile` writes, where no declaration is refused, is verified entry by entry with the same fuel.
+/// The output of `compile`, where no declaration is refused, is verified entry by entry with the same fuel.
 pub fn compiled_is_verified()
     ensures { CompiledIsVerified }
 {}

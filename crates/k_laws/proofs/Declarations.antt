@@ -23,8 +23,8 @@ use Rattle.elab_session.specs.Declaring.{Declared, declare_of}
 use Rattle.elab_session.specs.Sessions.{IsReady}
 use Rattle.elab_session.specs.declared.refusal.Refusal as session
 use Rattle.elab_session.proofs.Resolved.{prelude-stays}
-use Rattle.elaboration.specs.Functions.{Following, Lines, enter_drafts, enter_plan, enter_values, first_domains, function_level, function_of, recursion_in, report_parts, report_walks}
-use Rattle.elaboration.specs.Refusals.{OfType, Owner, answers, granted, or_halts, or_no_report, owner_of, reporting}
+use Rattle.clause_reports.specs.elaboration.Functions.{Following, Lines, enter_drafts, enter_plan, enter_values, first_domains, function_level, function_of, recursion_in, report_parts, report_walks}
+use Rattle.clause_reports.specs.elaboration.Refusals.{OfType, Owner, answers, granted, or_halts, or_no_report, owner_of, reporting}
 use Rattle.function_session.specs.Elaborating.{Elaborated, without_lines}
 use Rattle.function_session.proofs.Keeping.{function-has}
 use Rattle.k_laws.specs.Lacking.{SignatureLacks}
@@ -93,7 +93,7 @@ EndsLack l = LinesLack l.lines
 abbrev Follows : Following → Type 0
 Follows following = (S : Signature) (left : ℕ) → IsOff S → Ends EndsLack (following S left)
 
--- what is shown of a clause, and the signature after it
+-- the line of a clause shows no K, and the signature after it extends the one before
 abbrev IsTold : Signature → Reported → Type 0
 IsTold S r = ReportedLacks r × GrowsBy S r
 

@@ -1,4 +1,4 @@
--- What is found of an open pair: the family of a variable, and the runs of its constructors, with solutions without K.
+-- The family of a variable in an open pair, and the runs of its constructors, with solutions without K.
 use Rattle.std.proofs.Common.{ℕ, ◌+◌, ◌==◌, true, Option, Some, None, Result, Ok, Err, List, [], ◌∷◌}
 use Rattle.theory.specs.Terms.{Term}
 use Rattle.theory.specs.Telescopes.{Telescope}
@@ -32,7 +32,7 @@ halts h = now (halted h.only)
 
 -- ---- the first that is found
 
--- what is found has P
+-- a value that is found has P
 abbrev pub LookHas : {A : Type 0} → (A → Type 0) → Look A → Type 0
 LookHas P (There a) = P a
 LookHas P (Passed r) = Unit {0}

@@ -8,7 +8,7 @@ use Rattle.theory.specs.AxiomKLaws.{LacksAxiomK}
 use Rattle.core_terms.specs.CaseTrees.{Tree}
 use Rattle.core_terms.specs.Levels.{variable}
 use Rattle.resolve.specs.Functions.{Function}
-use Rattle.structural_rec.specs.Choices.{choose}
+use Rattle.tree_translation.specs.structural_rec.Choices.{choose}
 use Rattle.tele_eq.specs.Items.{each_position}
 use Rattle.tele_eq.specs.Levels.{place_in}
 use Rattle.unification.specs.Solving.{reordered}
@@ -16,9 +16,9 @@ use Rattle.tree_translation.specs.Entries.{ordered_variables}
 use Rattle.tree_translation.specs.Plans.{Part, Plan, no_part}
 use Rattle.tree_translation.specs.Recursion.{Recursion, order_of, ordered_telescope, ordered_term}
 use Rattle.clause_reports.specs.Equations.{part_named}
-use Rattle.elaboration.specs.Functions.{finished, first_domains, helper_level, helpers_finished, own_finished, own_part, plan_of, position_chosen, recursion_in}
-use Rattle.elaboration.specs.Refusals.{answers}
-use Rattle.elaboration.specs.Walking.{Session, Walked}
+use Rattle.clause_reports.specs.elaboration.Functions.{finished, first_domains, helper_level, helpers_finished, own_finished, own_part, plan_of, position_chosen, recursion_in}
+use Rattle.clause_reports.specs.elaboration.Refusals.{answers}
+use Rattle.clause_reports.specs.elaboration.Walking.{Session, Walked}
 use Rattle.k_laws.specs.Lacking.{Lack, SignatureLacks}
 use Rattle.k_laws.specs.Walking.{TreeLacks}
 use Rattle.k_laws.proofs.Runs.{Ends, Any, anyhow, done, next}

@@ -25,7 +25,7 @@ use Rattle.k_laws.proofs.Terms.{instantiated, solved, mapped, appended, applies,
 use Rattle.k_laws.proofs.Kernel.{whnf}
 use Rattle.k_laws.proofs.Trials.{BuiltLacks, built}
 
--- ---- what is put for variables
+-- ---- terms for variables
 
 pub put-in : (solution : List Term) (t : Term) → Lack solution → LacksAxiomK t → LacksAxiomK (under_solution solution t)
 put-in solution t h k = instantiated (fill no_variable solution) t (solved solution h) k
@@ -111,7 +111,7 @@ pub pairs-moved : (solution : List Term) (pairs : Pairs) → Lack solution → P
 pairs-moved solution pairs h k =
     transport Lack (sym (terms-moved (fill no_variable solution) pairs)) (all-put solution (terms_in pairs) h k)
 
--- ---- what is kept of comparisons
+-- ---- the comparisons that are kept
 
 kept : (S : Signature) (n number : ℕ) (ps : List Term) (pairs : Pairs) → ((ts : List Term) → Lack ts → Lack (keep_all S pairs ts)) → (b : Option Built)
     → LacksAxiomK (applied (Con n number) (ps ++ terms_in pairs)) → IfSome b BuiltLacks

@@ -1,5 +1,5 @@
--- What a family's record brings at terms without K has none: the types of a constructor's arguments, its targets, and the right side of
--- iota.
+-- At terms without K, the parts of a family's record have none: the types of a constructor's arguments, its targets, and the right side
+-- of iota.
 use Rattle.std.proofs.Common.{ℕ, zero, suc, ◌+◌, List, [], ◌∷◌, ◌++◌, length, map, slice_get}
 use Rattle.theory.specs.Terms.{Term}
 use Rattle.theory.specs.Terms.Term.{Var, App, Fam, Con, Elim}

@@ -1,4 +1,4 @@
--- Resolved terms hold no K: no name stands for it.
+-- Resolved terms hold no K: no name resolves to it.
 use Rattle.std.proofs.Common.{ℕ, ◌+◌, Bool, true, false, List, [], ◌∷◌, length, Option, Some, None, option_map, IfSome, bytes_eq, slice_get}
 use Rattle.std.specs.Prelude.{if◌then◌else◌}
 use Rattle.theory.specs.Terms as tree
@@ -54,7 +54,7 @@ one-more own t known h k name = by (bytes_eq own name)
 abbrev Owes : (Scope → Answer) → Type 0
 Owes answer = (scope : Scope) → Gives LacksAxiomK (answer scope)
 
--- what makes a term of two parts
+-- a term of two parts has no K, where the parts have none
 abbrev Makes : (Term → Term → Term) → Type 0
 Makes make = (a b : Term) → LacksAxiomK a → LacksAxiomK b → LacksAxiomK (make a b)
 

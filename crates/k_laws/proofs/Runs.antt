@@ -1,4 +1,4 @@
--- What is made of computations whose answers have a property has one again.
+-- A computation that consists of computations whose answers have a property has one of its answer.
 use Rattle.std.proofs.Common.{ℕ, zero, suc, Bool, true, false, cond, if◌then◌else◌, Option, Some, None, IfSome, Result, Ok, Err, IfOk}
 use Rattle.theory.specs.Terms.{Term}
 use Rattle.core_terms.specs.Answers.{Spent, SpentOr, on_answer, and_next, and_then, bounded}
@@ -8,7 +8,7 @@ use Rattle.kernel_reduce.specs.Reduction.{charge, if_low}
 pub record Gives {A E : Type 0} (P : A → Type 0) (answer : Result A E) : Type 0 where
   pub is : IfOk answer P
 
--- the same with the units that are left
+-- such an answer, with the units that are left
 pub record Ends {A E : Type 0} (P : A → Type 0) (spent : SpentOr E A) : Type 0 where
   pub only : Gives P spent.0
 
@@ -94,7 +94,7 @@ if-else {A} {E} {P} test {x} {y} h k = by test
     by true = h
     by false = k
 
--- what has one property has another one
+-- an answer with a property has a weaker one
 pub weaker : {A E : Type 0} {P Q : A → Type 0} {r : Result A E} → ((a : A) → P a → Q a) → Gives P r → Gives Q r
 weaker {A} {E} {P} {Q} {r} k h = by r h.is
   where

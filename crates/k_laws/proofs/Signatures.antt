@@ -84,10 +84,6 @@ module _ (S : Signature) (formed : IsWellFormed S) (off : S.has_k ≡ false) whe
 pub well-formed-lacks : (S : Signature) → IsWellFormed S → S.has_k ≡ false → SignatureLacks S
 well-formed-lacks S formed off = lacking S formed off
 
--- what has a sort there
-pub sorted-lacks : (S : Signature) → IsWellFormed S → S.has_k ≡ false → (a : Term) → HasSort S [] a → LacksAxiomK a
-sorted-lacks S formed off a h = sorted S formed off a h
-
 -- ---- with a provisional definition
 
 abbrev TypeLacks : Entry → Type 0

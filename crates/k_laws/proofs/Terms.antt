@@ -1,4 +1,4 @@
--- What is made of terms without K has none: by lifting, by renaming, by putting terms for variables, as a head with its spine, in lists.
+-- Terms without K have none after lifting, after renaming, with terms for variables, as a head with its spine, and in lists.
 use Rattle.std.proofs.Common.{ℕ, zero, suc, ◌+◌, ◌-◌, ◌==◌, nat_lt, Bool, true, false, cond, List, [], ◌∷◌, ◌++◌, map, take, drop, reverse, slice_get}
 use mathlib.Core.List.{reverse_aux}
 use Rattle.theory.specs.Terms.{Term, lift, subst}

@@ -1,4 +1,4 @@
--- The vector of a shadowed clause: terms without K, reduced as far as two clauses look into them.
+-- The arguments that a shadowed clause shows: terms without K, reduced as far as two clauses look into them.
 use Rattle.std.proofs.Common.{ℕ, true, Option, Some, None, IfSome, List, [], ◌∷◌, ◌++◌}
 use Rattle.theory.specs.Terms.{Term}
 use Rattle.theory.specs.Terms.Term.{Con}

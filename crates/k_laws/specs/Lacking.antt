@@ -29,14 +29,14 @@ abbrev pub ConstructorsLack : List Constructor → Type 0
 ConstructorsLack [] = Unit {0}
 ConstructorsLack (c ∷ constructors) = ConstructorLacks c × ConstructorsLack constructors
 
--- what reduction takes out of an entry
+-- the parts of an entry that reduction uses hold no K
 abbrev pub EntryLacks : Entry → Type 0
 EntryLacks (FamilyOf f) = ConstructorsLack f.constructors
 EntryLacks (EliminatorAt n m) = Unit {0}
 EntryLacks (AxiomKAt i m) = Unit {0}
 EntryLacks (Definition name type body) = LacksAxiomK body
 
--- the same of each entry, and of the type of each symbol
+-- no entry holds K for reduction, and no type of a symbol holds it
 pub record SignatureLacks (S : Signature) : Type 0 where
   pub entries : (n : ℕ) (e : Entry) → IsEntryAt S n e → EntryLacks e
   pub types : (t a : Term) → TypeOf S t a → LacksAxiomK a

@@ -19,7 +19,7 @@ use Rattle.k_laws.specs.Lacking.{Lack, SignatureLacks}
 use Rattle.k_laws.specs.Lines.{LinesLack}
 use Rattle.k_laws.specs.Walking.{OutcomeLacks, ProblemLacks, TreeLacks, VerdictLacks, WalkLacks}
 
--- ---- what brings no K in
+-- ---- calls that bring no K in
 
 -- A well-formed signature in which K is off holds no symbol of it.
 abbrev pub WellFormedLacks : Type 0
@@ -60,7 +60,7 @@ SplitLacks =
 -- ---- lines
 
 -- Over a signature of a session in which K is off, the lines of each declaration that is accepted show no symbol of K: it is in no type
--- of a context, in no term of a vector and in no term of a leaf.
+-- of a context, in no argument that is shown and in no term of a leaf.
 abbrev pub LinesLackAxiomK : Type 0
 LinesLackAxiomK =
     (S : Signature) (fuel : ℕ) (d : surf.Decl) → IsReady S → S.has_k ≡ false →

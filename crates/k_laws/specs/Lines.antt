@@ -3,7 +3,7 @@ use Rattle.std.specs.Prelude.{List, [], ◌∷◌}
 use Rattle.theory.specs.Terms.{Term}
 use Rattle.theory.specs.Telescopes.{Telescope}
 use Rattle.clause_reports.specs.Reports.{Line, Definitional, Proved, Shadowed, Absurd}
-use Rattle.elaboration.specs.Functions.{ClauseLine}
+use Rattle.clause_reports.specs.elaboration.Functions.{ClauseLine}
 use Rattle.k_laws.specs.Lacking.{Lack}
 
 -- a leaf is shown by its context and its terms
@@ -11,7 +11,7 @@ abbrev pub LeavesLack : List (Telescope × List Term) → Type 0
 LeavesLack [] = Unit {0}
 LeavesLack (leaf ∷ leaves) = (Lack leaf.0 × Lack leaf.1) × LeavesLack leaves
 
--- The line of a shadowed clause shows a context, a vector and leaves. No other line shows a term.
+-- The line of a shadowed clause shows a context, arguments and leaves. No other line shows a term.
 abbrev pub LineLacks : Line → Type 0
 LineLacks (Shadowed earlier context vector leaves) = Lack context × Lack vector × LeavesLack leaves
 LineLacks Definitional = Unit {0}

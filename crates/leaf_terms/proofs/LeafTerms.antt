@@ -1,4 +1,5 @@
--- What is made of a right side is what is meant, or Deep: and then only where that is too high, or some argument was not made.
+-- The term that the code makes of a right side is the one that is meant, or Deep: and then only where that is too high, or some argument
+-- was not made.
 use Rattle.std.proofs.Common.{◌≡◌, ℕ, ◌+◌, ◌-◌, ◌<◌, ◌≤◌, ◌==◌, nat_lt, Bool, true, false, ◌&&◌, if◌then◌else◌, cond, Option, Some, None, option_map, List, [], ◌∷◌, ◌++◌, drop, get_or, zero, suc, Result, Ok, Err, inl, inr, refl, ap, sym, ◌∙◌, subst as transport, arith}
 use Rattle.std.proofs.lemmas.Bool.{true≢false}
 use Rattle.std.proofs.lemmas.Bool.Decides.{nat_tests}
@@ -30,7 +31,7 @@ use Rattle.leaf_terms.proofs.TowerHeights.{tower-high}
 abbrev IsDeep : Stop → Type 0
 IsDeep e = e ≡ Deep
 
--- what is made of a term; none only where the term is too high
+-- the term that is made for t is like it; there is none only where t is too high
 abbrev pub Stands : Option Term → Term → Type 0
 Stands None t = 2000 < height t
 Stands (Some s) t = IsLike s t
@@ -253,7 +254,7 @@ calls-mean number plan l under os ts (AxiomK i m) all = head-means (AxiomK i m) 
 
 -- ---- leaves
 
--- what is made is answered unless it is too high
+-- a term that is made is answered unless it is too high
 bounded-is : (o : Option Term) (t : Term) → Stands o t → low_or_deep o ≡ bounded t
 bounded-is None t h = sym (bounded-high t h)
 bounded-is (Some s) t h = alike-bounded s t h.alike

@@ -1,5 +1,4 @@
 pub mod Digits
-pub mod FoundFamilies
 pub mod LeafTerms
 pub mod Lengths
 pub mod PartHeights

@@ -33,7 +33,7 @@ pub seen-whole : (s t r : Term) → Alike s t → height r ≤ 2000 → is_appli
 seen-whole s t r (inl same) low = ap (is_applied r zero) same
 seen-whole s t r (inr (high, high')) low = high-apart s r high low ∙ sym (high-apart t r high' low)
 
--- Equal or both too high, and told apart by no low term.
+-- Equal or both too high, and distinguished by no low term.
 pub record IsLike (s t : Term) : Type 0 where
   pub alike : Alike s t
   pub seen : AreSeenAlike s t

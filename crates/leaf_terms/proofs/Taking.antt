@@ -1,4 +1,4 @@
--- Terms that are taken out of a list, or passed over at its beginning: what stays of the others.
+-- Terms of a list that are replaced, or passed over at its beginning, and the others.
 use Rattle.std.proofs.Common.{◌≡◌, ℕ, ◌≤◌, false, List, [], ◌∷◌, ◌++◌, drop, length, set, refl, ap, ap₂, ◌∙◌, arith}
 use Rattle.std.proofs.lemmas.List.{drop-append-le, get_or-set_other, length-map, map-append, map-set}
 use Rattle.theory.specs.Terms.{Term, Sort, App}
@@ -12,7 +12,7 @@ use Rattle.unification.proofs.Levels.{not-among-head, not-among-tail}
 
 pub ruleset taking = (map-set)
 
--- a term is taken out that stands at none of the positions
+-- a term is replaced that is at none of the positions
 pub terms_at-set : (positions : List ℕ) (terms : List Term) (j : ℕ) (t : Term) → is_among j positions ≡ false
     → terms_at positions (set terms j t) ≡ terms_at positions terms
 terms_at-set [] terms j t h = refl

@@ -1,4 +1,4 @@
--- The tower in the place of what is too high is too high itself.
+-- The tower in the place of a term that is too high is too high itself.
 use Rattle.std.proofs.Common.{ℕ, zero, suc, ◌<◌, ◌≤◌, arith}
 use Rattle.std.proofs.lemmas.List.{map-append}
 use Rattle.theory.specs.Terms.{height}

@@ -1,5 +1,5 @@
--- Calls, none of which is the argument of another one at the position of recursion. Such an argument is no strict part of a term of a
--- pattern, so the right sides of a function that is accepted have none.
+-- Calls, none of which is the decreasing argument of another one. Such an argument is no strict part of a term of a pattern, so the right
+-- sides of a function that is accepted have none.
 use Rattle.std.specs.Prelude.{◌≡◌, ℕ, ◌==◌, Bool, true, false, Some, IfSome, length, get_or, slice_get}
 use Rattle.theory.specs.Terms.{Term, Sort, Pi, Lam, App, Let, Const}
 use Rattle.theory.specs.Spines.{head_of, spine_of}
@@ -20,7 +20,7 @@ CallsStandApart base position (Let a t b) =
     CallsStandApart base position a × CallsStandApart base position t × CallsStandApart base position b
 CallsStandApart base position t = Unit {0}
 
--- the same of each right side of a plan
+-- no call in a right side of the plan is the decreasing argument of another one
 abbrev pub PlanCallsApart : Plan → Type 0
 PlanCallsApart plan =
     (k : ℕ) (part : Part) → slice_get plan.parts k ≡ Some part → (clause : ℕ) →

@@ -1,5 +1,5 @@
--- Right sides at leaves as the code makes them. What is too high is not made: a tower takes its place, which is higher than a term may
--- be, and a right side that still has a tower is Deep. So nothing is refused for an argument that a call drops.
+-- Right sides at leaves as the code makes them. A term that is too high is not made: a tower takes its place, which is higher than a term
+-- may be, and a right side that still has a tower is Deep. So nothing is refused for an argument that a call drops.
 use Rattle.std.specs.Prelude.{ℕ, zero, suc, ◌+◌, ◌-◌, ◌==◌, nat_lt, cond, Option, Some, None, option_map, List, [], ◌∷◌, ◌++◌, map, drop, get_or, Result, Ok, Err}
 use Rattle.theory.specs.Terms.{Term, Sort, Pi, Lam, App, Let, Const, lift}
 use Rattle.theory.specs.Substitutions.{inst, fill}
@@ -19,14 +19,14 @@ use Rattle.tree_translation.specs.Plans.{Plan, Part}
 use Rattle.tree_translation.specs.Recursion.{Recursion, remaining_positions, terms_at}
 use Rattle.tree_translation.specs.RightSides.{Place, descent_at, helper_call, place_with, values_at}
 
--- ---- what is too high
+-- ---- terms that are too high
 
 -- a term with so many binders one inside the other
 unfoldable pub tower : (count : ℕ) → Term
 tower zero = Sort 0
 tower (suc count) = Pi (tower count) (Sort 0)
 
--- what stands for a term that is not made since it is too high
+-- the tower in the place of a term that is not made since it is too high
 unfoldable pub too_high : Term
 too_high = tower 2001
 

@@ -1,4 +1,4 @@
--- What is answered as the term of a leaf is that term, and no other refusal than Deep is meant.
+-- The term that the code makes of a leaf is the leaf's term, and no other refusal than Deep is meant.
 use Rattle.std.specs.Prelude.{◌≡◌, ℕ, Option, List, Ok, Err}
 use Rattle.theory.specs.Terms.{Term}
 use Rattle.core_terms.specs.declared.stop.Stop.{Stop}

@@ -1,4 +1,4 @@
--- What places of leaves, descents and what leaves are made of stand for.
+-- The meanings of places of leaves, of descents and of the data from which leaves are made.
 use Rattle.std.specs.Prelude.{option_map, map, IfSome, List, Option}
 use Rattle.std.specs.Option.{option_copied}
 use Rattle.core_terms.specs.Meanings.{tree_of, tele_of}
@@ -39,7 +39,7 @@ below_of b = (recursion_of b.recursion.now, tree_of b.term)
 abbrev pub leaf_of : Place → sides.Place
 leaf_of l = record { terms = tele_of l.terms; recursion = option_map below_of l.below }
 
--- the same at a place
+-- the family of recursion at a place is in the signature, where there is recursion
 abbrev pub HasPlaceFamily : Signature → Place → Type 0
 HasPlaceFamily S l =
     IfSome l.below (λ b. IsEntryAt S b.recursion.now.admission.number (FamilyOf (recursion_of b.recursion.now).family))

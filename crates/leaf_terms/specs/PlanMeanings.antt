@@ -1,4 +1,4 @@
--- What plans and their parts in the code stand for.
+-- The meanings of plans and of their parts in the code.
 use Rattle.std.specs.Prelude.{List, map}
 use Rattle.core_terms.specs.Meanings.{tree_of, tele_of}
 use Rattle.core_terms.specs.PatternMeanings.{pats_of}

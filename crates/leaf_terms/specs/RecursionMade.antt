@@ -19,6 +19,6 @@ made_at S tele (Some j) = recursion_at_made S tele j
 abbrev pub recursion_made : Signature → Plan → Result (Option Recursion) Stop
 recursion_made S plan = made_at S (own_part plan).tele plan.position
 
--- what is found is the recursion of the plan
+-- the recursion that is found is that of the plan
 abbrev pub RecursionIsFound : Type 0
 RecursionIsFound = (S : Signature) (plan : Plan) (r : Option Recursion) → recursion_made S plan ≡ Ok r → r ≡ recursion_of S plan

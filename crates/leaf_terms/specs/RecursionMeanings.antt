@@ -1,6 +1,6 @@
--- What recursion at a position stands for.
+-- The meaning of recursion at a position.
 use Rattle.core_sig.specs.Meanings.{family_of}
-use Rattle.structural_rec.specs.Meanings.{admission_of}
+use Rattle.tree_translation.specs.structural_rec.Meanings.{admission_of}
 use Rattle.tree_translation.specs.Recursion as pure
 use Rattle.leaf_terms.specs.declared.recursion.Recursion.{Recursion}
 

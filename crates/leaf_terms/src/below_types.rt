@@ -98,7 +98,7 @@ fn type_with(alloc: Global, values: &[Term], tele: &[Term], position: u32) -> Re
     }
 }
 
-/// The same where all terms of the telescope are given.
+/// The type at a position of a telescope, where terms for the whole telescope are given.
 fn type_at(alloc: Global, tele: &[Term], position: u32, terms: &[Term]) -> Result<Term, Stop>
     ensures { Gives tree_of result (Ok (inst (fill no_variable (take position (tele_of terms.now))) (items.term_at (tele_of tele.now) position))) }
 {

@@ -28,7 +28,7 @@ pub fn step_name(alloc: Global, function: &Name) -> Result<Name, Stop>
     Ok(Name::from_vec(marked(alloc, function, b"!step")?))
 }
 
-/// A text with a digit after it.
+/// Bytes with a digit after them.
 fn with_digit(mut text: Vec<u8>, n: u32) -> Result<Vec<u8>, Stop>
     requires { n < 10 }
     ensures { Gives (λ v. v.items) result (Ok (text.items ++ (48 + n) ∷ [])) }
@@ -37,7 +37,7 @@ fn with_digit(mut text: Vec<u8>, n: u32) -> Result<Vec<u8>, Stop>
     Ok(text)
 }
 
-/// A text with the digits of a number after it, which has at most so many and one.
+/// Bytes with the digits of a number after them, which has at most so many and one.
 #[tactic(auto, using(crate::proofs::Digits::numerals))]
 fn with_digits(text: Vec<u8>, more: u32, n: u32) -> Result<Vec<u8>, Stop>
     requires { n < 10 ^ (more + 1) }

@@ -6,7 +6,7 @@ pub fn recursion_is_found()
     ensures { RecursionIsFound }
 {}
 
-/// What is answered as the term of a leaf is that term.
+/// The term that the code makes of a leaf is the leaf's term.
 pub fn leaf_is_term()
     ensures { LeafIsTerm }
 {}

@@ -22,7 +22,7 @@ use core_terms::{Items, Stop, Tele, Term, Walk, head, variable};
 use run_terms::{Naming, all_placed, instance, visible};
 use std::alloc::Global;
 
-/// What the leaves of a tree are made of.
+/// The data from which the terms of a tree's leaves are made.
 #[derive(Clone, Copy)]
 pub struct Translation<'a> {
     pub sig: &'a Signature,
@@ -43,8 +43,8 @@ fn is_helper(base: u32, t: &Term) -> bool
     }
 }
 
-/// The terms for the variables of the context of a clause's walk, by what the comparison with a leaf says. There are none without a
-/// walk.
+/// The terms for the variables of the context of a clause's walk, by its comparison with a leaf. There are none without
+/// a walk.
 fn values_in_walk(
     alloc: Global,
     walks: &[Walk],
@@ -66,7 +66,8 @@ fn values_in_walk(
     }
 }
 
-/// The same with a leaf's own substitution.
+/// The terms for the variables of the context of a clause's walk, by a leaf's own substitution, which is in the order
+/// of the tree.
 fn values_of_helper(
     alloc: Global,
     w: &Translation,
@@ -201,10 +202,10 @@ fn leaf_with(
     made_in(alloc, w, &place, &side)
 }
 
-/// The term of a leaf over its whole context of `n` variables, of which some are hidden: the right side of its clause, with the
-/// leaf's terms for the clause's variables, where each call of the function is a path in the below value. Deep where it is too high,
-/// where a call is there and the leaf's term at the position of recursion is too high, or where the argument of a call at that position
-/// is itself the call of a path that is too high.
+/// The term of a leaf over its whole context of `n` variables, of which some are hidden: the right side of its clause,
+/// with the leaf's terms for the clause's variables, where each call of the function is a path in the below value. Deep
+/// where it is too high, where there is a call and the leaf's term for the decreasing argument is too high, or where
+/// the decreasing argument of a call is itself the call of a path that is too high.
 pub fn leaf_term(
     alloc: Global,
     w: &Translation,

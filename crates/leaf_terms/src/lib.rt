@@ -1,4 +1,5 @@
-//! What the entries of a function are made of, and the terms of leaves: right sides with recursive calls as paths.
+//! The plans from which the entries of a function are made, and the terms of leaves: right sides with recursive calls
+//! as paths.
 #![tactic(auto)]
 
 mod applying;

@@ -64,7 +64,8 @@ fn have_one_constructor(w: &Term, t: &Term) -> bool
     are_one_constructor(head(w), head(t)) && have_as_many(w, t)
 }
 
-/// What `t` has at the first place at which `w` has variable x, where places under constructors that both have are looked at.
+/// The subterm of `t` at the first place at which `w` has variable x, where places under constructors that both have
+/// are looked at.
 #[cycle(found)]
 fn found_in<'a>(x: u32, w: &Term, t: &'a Term) -> Option<&'a Term>
     ensures { option_map tree_of (option_copied result) ≡ spec.found_in x (tree_of w.now) (tree_of t.now) }
@@ -85,7 +86,7 @@ fn found_in<'a>(x: u32, w: &Term, t: &'a Term) -> Option<&'a Term>
     }
 }
 
-/// The same among the arguments of a constructor, its parameters included.
+/// The subterm of `t` at the first such place among the arguments of a constructor, its parameters included.
 #[cycle(found)]
 fn found_along<'a>(x: u32, w: &Term, t: &'a Term) -> Option<&'a Term>
     ensures { option_map tree_of (option_copied result) ≡ spec.found_along x (tree_of w.now) (tree_of t.now) }
@@ -102,7 +103,7 @@ fn found_along<'a>(x: u32, w: &Term, t: &'a Term) -> Option<&'a Term>
     }
 }
 
-/// The same among two lists of terms, place by place.
+/// The subterm at the first such place among two lists of terms, place by place.
 fn found_among<'a>(x: u32, ws: &[Term], ts: &'a [Term]) -> Option<&'a Term>
     ensures { option_map tree_of (option_copied result) ≡ spec.found_among x (tele_of ws.now) (tele_of ts.now) }
 {
@@ -118,7 +119,7 @@ fn found_among<'a>(x: u32, ws: &[Term], ts: &'a [Term]) -> Option<&'a Term>
     }
 }
 
-/// What is found for variable x, or Type 0.
+/// The term that is found for variable x, or Type 0.
 fn found_or_sort(alloc: Global, x: u32, ws: &[Term], ts: &[Term]) -> Result<Term, Stop>
     ensures { Gives tree_of result (Ok (spec.or_sort (spec.found_among x (tele_of ws.now) (tele_of ts.now)))) }
 {
@@ -128,7 +129,8 @@ fn found_or_sort(alloc: Global, x: u32, ws: &[Term], ts: &[Term]) -> Result<Term
     }
 }
 
-/// Terms, followed by what is found for the variables of a walk's context of `count` variables, for `left` of them from level j on.
+/// Terms, followed by those that are found for the variables of a walk's context of `count` variables, for `left` of
+/// them from level j on.
 #[tactic(auto, using(tele_eq::proofs::Growing::growing))]
 fn with_found(
     alloc: Global,

@@ -9,7 +9,7 @@ use crate::recursion::Recursion;
 use core_terms::{Items, Stop, Tele, Term};
 use run_terms::{Places, joined, new_context, put, with_all, with_levels};
 use std::alloc::Global;
-use structural_rec::recursion_order;
+use tree_translation::structural_rec::recursion_order;
 
 /// is and x: the positions of the indices, and the position itself.
 pub(crate) fn scrutinee_positions(alloc: Global, r: &Recursion) -> Result<Items<u32>, Stop>

@@ -19,7 +19,7 @@ use std::alloc::Global;
 /// How many variables may be free in a term that a path is made of.
 const MOST_INNER_VARIABLES: u64 = 3221225472;
 
-/// What a path is made for: a part of terms of family `fam`, with the motive into `Type level`, where the constant `below` is
+/// The data of a path: a part of terms of family `fam`, and the motive into `Type level`, where the constant `below` is
 /// `D!below.level`.
 #[derive(Clone, Copy)]
 pub struct Descent<'a> {
@@ -83,7 +83,8 @@ fn found_or_below(
     }
 }
 
-/// The same, and Deep where the term is too high.
+/// The path to a strict part of a term in a below value for the term, or the below value itself where it is no strict
+/// part. None where the path is too high, and Deep where the term is.
 pub fn path_or_below(
     alloc: Global,
     sig: &Signature,

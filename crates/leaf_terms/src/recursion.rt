@@ -2,7 +2,7 @@ ghost use Rattle.std.specs.Prelude.{◌≡◌, Ok, option_map};
 ghost use Rattle.core_terms.specs.Answers.{Gives};
 ghost use Rattle.core_terms.specs.Meanings.{tele_of};
 ghost use Rattle.kernel_reduce.specs.Entries.{family_at};
-ghost use Rattle.structural_rec.specs.Meanings.{admission_of};
+ghost use Rattle.tree_translation.specs.structural_rec.Meanings.{admission_of};
 ghost use Rattle.tele_eq.specs.Items.{AreSmallTerms};
 ghost use Rattle.tree_translation.specs.Plans.{own_part};
 ghost use Rattle.tree_translation.specs.Recursion as spec;
@@ -16,9 +16,10 @@ use core_terms::{Stop, Term};
 use kernel_reduce::family;
 use run_terms::small_terms;
 use std::alloc::Global;
-use structural_rec::{Admission, find_admission};
+use tree_translation::structural_rec::{Admission, find_admission};
 
-/// A position at which a function is recursive, what recursion there rests on, and the family of its type.
+/// A position at which a function is recursive, the fixed positions and the indices of recursion there, and the family
+/// of its type.
 #[derive(Drop)]
 pub struct Recursion<'a> {
     pub position: u32,
@@ -36,7 +37,7 @@ pub fn own_tele(plan: &Plan) -> &[Term]
     }
 }
 
-/// Recursion at position `j` with what it rests on, where its family is known.
+/// Recursion at position `j`, with its fixed positions and its indices, where its family is known.
 fn with_family<'a>(sig: &'a Signature, j: u32, admission: Admission) -> Option<Recursion<'a>>
     ensures { option_map recursion_of result ≡ option_map (spec.recursion_with j (admission_of admission)) (family_at sig.now (admission_of admission).number) }
 {

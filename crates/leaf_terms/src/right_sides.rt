@@ -122,7 +122,7 @@ fn path_to_part(
     path_or_below(alloc, w.sig, &d, term_or(terms, r.position, &none), below)
 }
 
-/// The same, and Deep without a part.
+/// The path to a part, or the below value. None where the path is too high, and Deep without a part.
 fn path_for(
     alloc: Global,
     w: &Translation,
@@ -189,7 +189,8 @@ fn call_by_path(
     }
 }
 
-/// The same under so many binders.
+/// The call of the function with these arguments under so many binders, over which the leaf's terms and the below value
+/// are lifted.
 fn call_with(
     alloc: Global,
     w: &Translation,

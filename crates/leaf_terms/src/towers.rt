@@ -19,7 +19,7 @@ fn tower(alloc: Global, count: u32) -> Result<Term, Stop>
     Term::new_pi(alloc, inner, Term::Sort(0))
 }
 
-/// What stands for a term that is not made since it is too high.
+/// The tower in the place of a term that is not made since it is too high.
 #[tactic(auto, unfolding(crate::specs::CodeRightSides::too_high))]
 fn too_high(alloc: Global) -> Result<Term, Stop>
     ensures { Gives tree_of result (Ok spec.too_high) }
@@ -37,7 +37,7 @@ pub fn or_tower(alloc: Global, t: Option<Term>) -> Result<Term, Stop>
     }
 }
 
-/// The same of each argument.
+/// The arguments, with a tower in the place of each one that is too high.
 #[tactic(auto, using(crate::proofs::TowerHeights::growing_lists))]
 pub fn or_towers(alloc: Global, arguments: Vec<Option<Term>>) -> Result<Vec<Term>, Stop>
     ensures { Gives (λ v. tele_of v.items) result (Ok (spec.or_towers (arguments_of arguments.items))) }

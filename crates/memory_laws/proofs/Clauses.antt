@@ -12,8 +12,8 @@ use Rattle.core_terms.specs.Verdicts.{Verdict}
 use Rattle.core_terms.specs.Verdicts.Verdict.{Yes, No}
 use Rattle.core_terms.specs.declared.stop.Stop.{Stop}
 use Rattle.kernel_reduce.specs.Reduction.{nesting}
-use Rattle.structural_rec.specs.Choices.{At, Choice, NotRecursive, NotSmaller, choose}
-use Rattle.structural_rec.specs.Uses.{Use}
+use Rattle.tree_translation.specs.structural_rec.Choices.{At, Choice, NotRecursive, NotSmaller, choose}
+use Rattle.tree_translation.specs.structural_rec.Uses.{Use}
 use Rattle.case_trees.specs.Points.{under_solution}
 use Rattle.case_trees.specs.Stops as tree
 use Rattle.case_trees.specs.Stops.{Stopping, TreeStop}
@@ -24,10 +24,10 @@ use Rattle.tree_translation.specs.Recursion.{Recursion, order_of, ordered_telesc
 use Rattle.clause_reports.specs.Equations.{part_named}
 use Rattle.clause_reports.specs.Stops as report
 use Rattle.clause_reports.specs.Stops.{ReportStop, Reporting}
-use Rattle.elaboration.specs.Functions.{helpers_finished, position_chosen}
-use Rattle.elaboration.specs.Refusals as refusal
-use Rattle.elaboration.specs.Refusals.{Elaborating, OfDot, OfGoal, OfSide, OfWith, Owner, Refusal, granted, halting, of_report, of_tree, or_ends, or_halts, or_ill_typed, or_no_report, owner_of, reporting, walking}
-use Rattle.elaboration.specs.Walking.{Opened, Session, Walked, after_dots, and_level, check_dot, if_forced, if_low_level, open_over, opened, walk_clause, walk_clauses, walk_right, without_self}
+use Rattle.clause_reports.specs.elaboration.Functions.{helpers_finished, position_chosen}
+use Rattle.clause_reports.specs.elaboration.Refusals as refusal
+use Rattle.clause_reports.specs.elaboration.Refusals.{Elaborating, OfDot, OfGoal, OfSide, OfWith, Owner, Refusal, granted, halting, of_report, of_tree, or_ends, or_halts, or_ill_typed, or_no_report, owner_of, reporting, walking}
+use Rattle.clause_reports.specs.elaboration.Walking.{Opened, Session, Walked, after_dots, and_level, check_dot, if_forced, if_low_level, open_over, opened, walk_clause, walk_clauses, walk_right, without_self}
 use Rattle.function_plans.specs.CodePlans.{chosen_made, own_finished_made, own_tree_made, parts_with, plan_made}
 use Rattle.memory_laws.specs.Foreseen.{IsForeseen, IsForeseenFunction, IsForeseenReport, IsForeseenTree}
 use Rattle.memory_laws.proofs.Runs.{Only, Ends, ok, no, now, done, next, either, either-ends, low, if-low}

@@ -26,7 +26,7 @@ use Rattle.core_text.specs.ReadLaws.{IsReadEntry}
 use Rattle.memory_laws.proofs.Declared.{enter-needs-no-memory}
 use Rattle.memory_laws.proofs.Runs.{Only, ok, no, and-then, if-else}
 
--- what refuses a core text is a place in it
+-- a core text is refused at a place in it
 abbrev IsPlaceOf : CoreTextStop → Type 0
 IsPlaceOf stop.Memory = ⊥
 IsPlaceOf _ = Unit {0}
@@ -271,7 +271,7 @@ pub head-read : HeadReadForeseen
 head-read k text =
     never-memory (head_of k text) (if-else (has_head false text) ok (if-else (cond k (has_head true text) false) ok (no tt)))
 
--- ---- what is read
+-- ---- entries that are read
 
 of-family : (S : Signature) (raw : RawEntry) → IsReadEntry S raw → IsOfFamily S raw
 of-family S (RawFamilyOf raw) is = tt

@@ -25,7 +25,7 @@ use Rattle.memory_laws.proofs.Runs.{Only, Ends, ok, no, now, done, next}
 use Rattle.memory_laws.proofs.Families.{declare, define, instance, axiom-k}
 use Rattle.memory_laws.proofs.Names.{a-family, new-name, resolved}
 
--- the refusal of a declaration is no want of memory
+-- the refusal of a declaration is not out of memory
 abbrev pub IsForeseenRefusal : Refusal → Type 0
 IsForeseenRefusal Memory = ⊥
 IsForeseenRefusal _ = Unit {0}

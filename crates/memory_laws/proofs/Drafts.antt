@@ -19,7 +19,7 @@ use Rattle.memory_laws.specs.Foreseen.{IsForeseen, IsForeseenEntry, IsForeseenIn
 use Rattle.memory_laws.proofs.Runs.{Only, Ends, ok, no, now, done, next, and-then, either-ends, low}
 use Rattle.memory_laws.proofs.Families.{as-entry, axiom-k, define, instance}
 
--- ---- want of units and of height among the ends of a report
+-- ---- out of units and too high among the ends of a report
 
 pub halted : {A : Type 0} {r : Result A Stop} → Only IsForeseen r → Only IsForeseenReport (or_halts r)
 halted {A} {r} h = by r h
@@ -31,7 +31,7 @@ halted {A} {r} h = by r h
 pub halts : {A : Type 0} {spent : Spent A} → Ends IsForeseen spent → Ends IsForeseenReport (halting spent)
 halts h = now (halted h.only)
 
--- what is refused for its height alone
+-- an answer that is refused for its height alone
 pub only-deep : {A : Type 0} (r : Result A Stop) → ((e : Stop) → r ≡ Err e → e ≡ Deep) → Only IsForeseen r
 only-deep (Ok a) h = ok
 only-deep (Err e) h = no (transport IsForeseen (sym (h e refl)) tt)
@@ -78,7 +78,7 @@ instance-enters : {A : Type 0} (S : Signature) (e : Entry) {outcome : Outcome A}
     → Ends IsForeseenReport (entering S e outcome)
 instance-enters S e h = now (rejected S e _ (as-entered _ h.only))
 
--- ---- what is mentioned
+-- ---- mentioned entries
 
 abbrev Enters : Entering → Type 0
 Enters enter = (S : Signature) (d : Draft) (left : ℕ) → Ends IsForeseenReport (enter S d left)

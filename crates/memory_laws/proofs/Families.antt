@@ -24,7 +24,7 @@ use Rattle.memory_laws.specs.Foreseen.{IsForeseen, IsForeseenEntry, IsForeseenIn
 use Rattle.memory_laws.proofs.Runs.{Only, Ends, ok, no, now, done, next, either, each}
 use Rattle.memory_laws.proofs.Kernel.{infer-sort, check}
 
--- ---- what the checker says of a part
+-- ---- the checker's answer for a part
 
 on-part : (site : Site) (r : Result Verdict Stop) → Only IsForeseen r → Only IsForeseenEntry (on_part site r)
 on-part site (Ok (Yes type)) h = ok

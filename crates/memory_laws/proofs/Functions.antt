@@ -13,16 +13,16 @@ use Rattle.surface_syntax.specs.declared.tree.Word.{Word}
 use Rattle.tree_translation.specs.Plans.{Part, Plan}
 use Rattle.clause_reports.specs.DraftEntering.{Names}
 use Rattle.clause_reports.specs.Equations.{part_named}
-use Rattle.elaboration.specs.Functions.{ClauseLine, Lines, first_domains, function_level, own_part}
-use Rattle.elaboration.specs.Refusals as refusal
-use Rattle.elaboration.specs.Refusals.{OfType, Refusal, owner_of}
-use Rattle.elaboration.specs.Walking.{Opened, Session}
+use Rattle.clause_reports.specs.elaboration.Functions.{ClauseLine, Lines, first_domains, function_level, own_part}
+use Rattle.clause_reports.specs.elaboration.Refusals as refusal
+use Rattle.clause_reports.specs.elaboration.Refusals.{OfType, Refusal, owner_of}
+use Rattle.clause_reports.specs.elaboration.Walking.{Opened, Session}
 use Rattle.elab_session.specs.Declaring.{Declared}
 use Rattle.elab_session.specs.declared.refusal.Refusal as session
 use Rattle.elab_session.specs.declared.refusal.Refusal.TheVariants.{Memory}
-use Rattle.function_lines.specs.FunctionMade.{clause_line, clause_reported, draft_entered, drafts_entered, function_made, level_of, parts_reported, plan_entered, plan_from, reference_of, session_at, translated, values_entered, values_name, walks_reported}
+use Rattle.function_session.specs.function_lines.FunctionMade.{clause_line, clause_reported, draft_entered, drafts_entered, function_made, level_of, parts_reported, plan_entered, plan_from, reference_of, session_at, translated, values_entered, values_name, walks_reported}
 use Rattle.function_session.specs.Elaborating.{Declaration, Elaborated, Function as OfFunction, Refused, elaborate_of, enter_function, on_function, on_lines, refused_function, without_lines}
-use Rattle.translation_laws.proofs.MadeEntries.{translate_made-only_deep}
+use Rattle.exact_laws.proofs.translation_laws.MadeEntries.{translate_made-only_deep}
 use Rattle.memory_laws.specs.Foreseen.{IsForeseen, IsForeseenFunction, IsForeseenName}
 use Rattle.memory_laws.proofs.Runs.{Only, Ends, ok, no, now, done, next, and-then, either, either-ends}
 use Rattle.memory_laws.proofs.Kernel.{infer-sort}
@@ -103,7 +103,7 @@ makes S f fuel =
 
 -- ---- declarations
 
--- the refusal of a declaration is no want of memory
+-- the refusal of a declaration is not out of memory
 abbrev IsForeseenRefused : Refused → Type 0
 IsForeseenRefused (Declaration e) = IsForeseenRefusal e
 IsForeseenRefused (OfFunction e) = Unit {0}

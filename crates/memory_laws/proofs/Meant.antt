@@ -11,7 +11,7 @@ use Rattle.core_sig.specs.Settling.{renumbered_entry, settled_number}
 use Rattle.family_check.specs.Entering.{Entered}
 use Rattle.kernel_reduce.specs.Reduction.{nesting}
 use Rattle.resolve.specs.Functions.{Function}
-use Rattle.structural_rec.specs.Choices.{choose}
+use Rattle.tree_translation.specs.structural_rec.Choices.{choose}
 use Rattle.tree_translation.specs.Entries.{ordered_variables}
 use Rattle.tree_translation.specs.Plans.{Part, Plan}
 use Rattle.tree_translation.specs.Recursion.{Recursion, order_of, ordered_telescope, ordered_term}
@@ -24,9 +24,9 @@ use Rattle.clause_reports.specs.ProofWalks.{Place, Proof, first_place, leaves_in
 use Rattle.clause_reports.specs.Reports.{Reference, at_leaf, at_vector, if_shadowed, on_candidate, order_in, report_of, shadowed, unless_converts, with_candidate}
 use Rattle.clause_reports.specs.Shadows.{TreeLeaf, convert_at_all, earlier_leaf, equation_at_leaf, leaves_of}
 use Rattle.clause_reports.specs.Stops.{Halts, Rejected, Rejection, ReportStop, Stuck}
-use Rattle.elaboration.specs.Functions.{Following, enter_drafts, enter_plan, enter_values, own_finished, own_part, plan_of, recursion_in, report_parts, report_walks, first_domains}
-use Rattle.elaboration.specs.Refusals.{OfType, owner_of}
-use Rattle.elaboration.specs.Walking.{Session, Walked}
+use Rattle.clause_reports.specs.elaboration.Functions.{Following, enter_drafts, enter_plan, enter_values, own_finished, own_part, plan_of, recursion_in, report_parts, report_walks, first_domains}
+use Rattle.clause_reports.specs.elaboration.Refusals.{OfType, owner_of}
+use Rattle.clause_reports.specs.elaboration.Walking.{Session, Walked}
 use Rattle.memory_laws.specs.Foreseen.{IsForeseen, IsForeseenFunction, IsForeseenReport}
 use Rattle.memory_laws.specs.Laws.{MeantForeseen}
 use Rattle.memory_laws.proofs.Runs.{Only, Ends, ok, no, now, done, next, and-then, either-ends, low}

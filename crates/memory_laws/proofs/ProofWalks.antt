@@ -22,9 +22,9 @@ use Rattle.clause_reports.specs.ProofWalks.{Branching, Ends as Leaf, Place, Proo
 use Rattle.clause_reports.specs.Stops.{Reporting}
 use Rattle.clause_equations.specs.CodeEquations.{equation_at, equation_made, left_side, right_side}
 use Rattle.core_terms.specs.Patterns.{Pats}
-use Rattle.proof_terms.specs.CodeProofs.{all_names_made, candidate_made, candidate_with, names_made, proof_made, proofs_made}
+use Rattle.proof_walks.specs.proof_terms.CodeProofs.{all_names_made, candidate_made, candidate_with, names_made, proof_made, proofs_made}
 use Rattle.proof_walks.specs.Starts.{place_at, scoped_place, start_made, values_made, walk_made}
-use Rattle.run_laws.proofs.MadeSplits.{split-only_deep, split_names-only_deep}
+use Rattle.exact_laws.proofs.run_laws.MadeSplits.{split-only_deep, split_names-only_deep}
 use Rattle.memory_laws.specs.Foreseen.{IsForeseen, IsForeseenReport, IsForeseenTree}
 use Rattle.memory_laws.proofs.Runs.{Only, Ends, ok, no, now, done, next, and-then, either, either-ends, deep, low}
 use Rattle.memory_laws.proofs.Kernel.{tidy, whnf}

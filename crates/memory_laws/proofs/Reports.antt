@@ -1,4 +1,4 @@
--- What holds of the clauses of a function.
+-- The reports of clauses are refused only out of units, for a height, or for a cause of their own.
 use Rattle.std.proofs.Common.{ℕ, Bool, true, false, Option, Some, None, Result, Ok, Err, List, [], ◌∷◌, length}
 use Rattle.theory.specs.Terms.{Term}
 use Rattle.theory.specs.Telescopes.{Telescope}
@@ -18,16 +18,16 @@ use Rattle.clause_reports.specs.ProofWalks.{Place, Proof, leaves_in}
 use Rattle.clause_reports.specs.Reports.{Reference}
 use Rattle.clause_reports.specs.Shadows.{TreeLeaf, all_reduced, leaves_of, reduced_arguments, reduced_by, vector_of}
 use Rattle.clause_reports.specs.Stops.{ReportStop}
-use Rattle.draft_entering.specs.Depths.{own_name}
+use Rattle.drafts.specs.draft_entering.Depths.{own_name}
 use Rattle.clause_lines.specs.CodeReports.{Candidate, Judgement, Known, PlannedClause, at_place, at_vector_made, converts_at_all, converts_at_leaves, converts_there, denied_made, denies, entering_made, equation_converts, equation_there, first_order, if_shadowed, in_plan, is_earlier, judged, on_entered, on_judged, place_converts, proof_judged, report_made, shadowed_among, sides_compared, unless_converts, walk_judged}
-use Rattle.proof_terms.specs.CodeProofs.{name_made}
+use Rattle.proof_walks.specs.proof_terms.CodeProofs.{name_made}
 use Rattle.memory_laws.specs.Foreseen.{IsForeseen, IsForeseenReport}
 use Rattle.memory_laws.proofs.Runs.{Only, Ends, ok, no, now, done, next, and-then, either, either-ends, low}
 use Rattle.memory_laws.proofs.Kernel.{convertible, whnf}
 use Rattle.memory_laws.proofs.Drafts.{draft-enters, halted, halts}
 use Rattle.memory_laws.proofs.ProofWalks.{candidate, equation, equation-low, recursion, walk-proved}
 
--- ---- the vector of two clauses
+-- ---- the arguments that two clauses take
 
 arguments : (n number : ℕ) {reduce : List Term → ℕ → Spent (List Term)} → ((us : List Term) (left : ℕ) → Ends IsForeseen (reduce us left))
     → (w : Term) (b : Option Built) (left : ℕ) → Ends IsForeseen (reduced_arguments n number reduce w b left)
@@ -79,7 +79,7 @@ leaves-convert : (S : Signature) (c : PlannedClause) (leaves : List TreeLeaf) (l
 leaves-convert S c leaves left =
     next (now {left = left} (halted (recursion S c.plan))) (λ r rest. all-convert S c r (first_order c r) leaves rest)
 
--- ---- shadowed clauses, where the denial of the candidate is `stop`
+-- ---- shadowed clauses, where the rejection of the candidate is `stop`
 
 shadow : (S : Signature) (stop : ReportStop) → IsForeseenReport stop → (earlier : ℕ) (context : Telescope) (vector : List Term) (leaves : List TreeLeaf) (holds : Bool)
     → Only IsForeseenReport (if_shadowed S stop earlier context vector leaves holds)

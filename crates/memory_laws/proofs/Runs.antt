@@ -1,4 +1,4 @@
--- What is made of computations that are refused in a certain way alone is refused in this way alone.
+-- A computation that consists of computations with one kind of refusal has only this kind of refusal.
 use Rattle.std.proofs.Common.{ℕ, zero, suc, ◌+◌, Bool, true, false, cond, if◌then◌else◌, Result, Ok, Err, IfErr, List, [], ◌∷◌}
 use Rattle.theory.specs.Terms.{Term}
 use Rattle.core_terms.specs.Answers.{Spent, SpentOr, on_answer, and_next, and_then, bounded, bounded_terms}
@@ -11,7 +11,7 @@ use Rattle.memory_laws.specs.Foreseen.{IsForeseen}
 pub record Only {A E : Type 0} (P : E → Type 0) (answer : Result A E) : Type 0 where
   pub is : IfErr answer P
 
--- the same with the units that are left
+-- such an answer, with the units that are left
 pub record Ends {A E : Type 0} (P : E → Type 0) (spent : SpentOr E A) : Type 0 where
   pub only : Only P spent.0
 
@@ -73,7 +73,7 @@ pub each : {S X A E : Type 0} {P : E → Type 0} {one : S → ℕ → X → ℕ 
 each more h s k [] left = done
 each more h s k (x ∷ xs) left = next (h s k x left) (λ a rest. next (each more h (more s x) (k + 1) xs rest) (λ others end. done))
 
--- ---- want of units and of height
+-- ---- out of units, and too high
 
 pub deep : {A : Type 0} → Only {A = A} IsForeseen (Err Deep)
 deep = no tt

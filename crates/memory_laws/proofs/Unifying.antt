@@ -30,7 +30,7 @@ use Rattle.memory_laws.specs.Foreseen.{IsForeseen}
 use Rattle.memory_laws.proofs.Runs.{Only, Ends, ok, now, done, next, and-then, either, either-ends, deep, lows}
 use Rattle.memory_laws.proofs.Kernel.{both-end, convertible, normal, some-low, tidy, whnf}
 
--- what begins with any number of units
+-- a computation has such a refusal alone, with any number of units
 abbrev Tried : {A : Type 0} → (ℕ → Spent A) → Type 0
 Tried run = (left : ℕ) → Ends IsForeseen (run left)
 

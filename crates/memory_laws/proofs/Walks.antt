@@ -29,7 +29,7 @@ use Rattle.memory_laws.proofs.Runs.{Only, Ends, ok, no, now, done, next, and-the
 use Rattle.memory_laws.proofs.Kernel.{tidy, whnf}
 use Rattle.memory_laws.proofs.Unifying.{unify}
 
--- want of units and of height among the ends of a walk
+-- out of units and too high among the ends of a walk
 pub halted : {A : Type 0} {r : Result A Stop} → Only IsForeseen r → Only IsForeseenTree (or_halts r)
 halted {A} {r} h = by r h
   where
@@ -100,7 +100,7 @@ kept S p pairs = either _ ok deep
 
 -- ---- looking
 
--- what ends a search
+-- the end of a search, if there is one
 abbrev IsFine : Option TreeStop → Type 0
 IsFine None = Unit {0}
 IsFine (Some e) = IsForeseenTree e

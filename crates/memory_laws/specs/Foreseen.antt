@@ -8,17 +8,17 @@ use Rattle.case_trees.specs.Stops as tree
 use Rattle.case_trees.specs.Stops.{TreeStop}
 use Rattle.clause_reports.specs.Stops as report
 use Rattle.clause_reports.specs.Stops.{ReportStop}
-use Rattle.elaboration.specs.Refusals as refusal
-use Rattle.elaboration.specs.Refusals.{Refusal}
+use Rattle.clause_reports.specs.elaboration.Refusals as refusal
+use Rattle.clause_reports.specs.elaboration.Refusals.{Refusal}
 
--- want of units or of height: neither want of memory, nor a pool of terms that is full, which a session shows as want of memory
+-- out of units or too high: neither out of memory, nor a pool of terms that is full, which a session shows as out of memory
 abbrev pub IsForeseen : Stop → Type 0
 IsForeseen Memory = ⊥
 IsForeseen PoolFull = ⊥
 IsForeseen Fuel = Unit {0}
 IsForeseen Deep = Unit {0}
 
--- ---- the same of refusals that hold another one
+-- ---- refusals that hold such a one
 
 abbrev pub IsForeseenName : ResolveStop → Type 0
 IsForeseenName resolving.Memory = ⊥

@@ -1,4 +1,4 @@
--- What is refused, by definition, is refused for want of units, for a height or for a cause of its own, and never for want of memory.
+-- A refusal by definition is out of units, for a height or for a cause of its own, and never out of memory.
 use Rattle.std.specs.Prelude.{◌≡◌, ◌≢◌, ◌≤◌, ℕ, Bool, Ok, Err, IfErr, List, length, Some}
 use Rattle.theory.specs.Terms.{Term}
 use Rattle.theory.specs.Telescopes.{Context}
@@ -19,8 +19,8 @@ use Rattle.surface_syntax.specs.Trees as surf
 use Rattle.elab_session.specs.Declaring.{declare_of}
 use Rattle.elab_session.specs.Entering.{enter_of}
 use Rattle.elab_session.specs.declared.refusal.Refusal.TheVariants.{Memory}
-use Rattle.elaboration.specs.Functions.{function_of}
-use Rattle.function_lines.specs.FunctionMade.{function_made}
+use Rattle.clause_reports.specs.elaboration.Functions.{function_of}
+use Rattle.function_session.specs.function_lines.FunctionMade.{function_made}
 use Rattle.function_session.specs.Elaborating.{Declaration, elaborate_of}
 use Rattle.memory_laws.specs.Foreseen.{IsForeseen, IsForeseenEntry, IsForeseenFunction, IsForeseenInstance}
 
@@ -75,7 +75,7 @@ abbrev pub IsOfFamily : Signature → RawEntry → Type 0
 IsOfFamily S (RawEliminator n m) = IsFamilyNumber S n
 IsOfFamily S raw = Unit {0}
 
--- The eliminator of what is no family is refused for want of memory by definition, and nothing else is.
+-- By definition the eliminator of an entry that is no family is refused as out of memory, and nothing else is.
 abbrev pub EnterNeedsNoMemory : Type 0
 EnterNeedsNoMemory = (S : Signature) (fuel : ℕ) (raw : RawEntry) → IsOfFamily S raw → enter_of S fuel raw ≢ Err Memory
 
@@ -90,7 +90,7 @@ ReadEntryNeedsNoMemory =
 abbrev pub FunctionForeseen : Type 0
 FunctionForeseen = (S : Signature) (f : Function) (fuel : ℕ) → IfErr (function_made S f fuel).0 IsForeseenFunction
 
--- the same of a function as it is meant
+-- a function as it is meant is refused for such a reason alone
 abbrev pub MeantForeseen : Type 0
 MeantForeseen = (S : Signature) (f : Function) (fuel : ℕ) → IfErr (function_of S f fuel).0 IsForeseenFunction
 

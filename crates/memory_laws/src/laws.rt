@@ -1,7 +1,7 @@
-//! What is refused, by definition, is never refused for want of memory.
+//! A refusal by definition is never out of memory.
 ghost use Rattle.memory_laws.specs.Laws.{AxiomKForeseen, CheckForeseen, ConvertibleForeseen, DeclareNeedsNoMemory, DefinitionForeseen, ElaborateNeedsNoMemory, EliminatorForeseen, EnterNeedsNoMemory, EntryReadForeseen, FamilyForeseen, FunctionForeseen, HeadReadForeseen, InferForeseen, InferSortForeseen, MeantForeseen, NormalForeseen, ReadEntryNeedsNoMemory, SubtypeForeseen, WhnfForeseen};
 
-/// A head form is refused for want of units or for a height alone.
+/// A head form is refused only out of units or for a height.
 pub fn whnf_is_foreseen()
     ensures { WhnfForeseen }
 {}
@@ -21,7 +21,7 @@ pub fn subtype_is_foreseen()
     ensures { SubtypeForeseen }
 {}
 
-/// So is the type of a term, beside what the checker denies.
+/// So is the type of a term, beside the checker's rejections.
 pub fn infer_is_foreseen()
     ensures { InferForeseen }
 {}
@@ -36,7 +36,7 @@ pub fn check_is_foreseen()
     ensures { CheckForeseen }
 {}
 
-/// A family is refused for want of units, for a height, or for a cause of its own.
+/// A family is refused out of units, for a height, or for a cause of its own.
 pub fn family_is_foreseen()
     ensures { FamilyForeseen }
 {}
@@ -56,27 +56,27 @@ pub fn axiom_k_is_foreseen()
     ensures { AxiomKForeseen }
 {}
 
-/// The head lines of a core file are never refused for want of memory.
+/// The head lines of a core file are never refused as out of memory.
 pub fn head_read_is_foreseen()
     ensures { HeadReadForeseen }
 {}
 
-/// What a core file goes on with is never refused so when it is read.
+/// The next entry of a core file is never refused so when it is read.
 pub fn entry_read_is_foreseen()
     ensures { EntryReadForeseen }
 {}
 
-/// An entry is never refused so, unless it is the eliminator of what is no family.
+/// An entry is never refused so, unless it is the eliminator of an entry that is no family.
 pub fn enter_needs_no_memory()
     ensures { EnterNeedsNoMemory }
 {}
 
-/// No entry is that is read from a core file.
+/// No entry that is read from a core file is refused so.
 pub fn read_entry_needs_no_memory()
     ensures { ReadEntryNeedsNoMemory }
 {}
 
-/// A function by clauses is refused for want of units, for a height, or for a cause of its own.
+/// A function by clauses is refused out of units, for a height, or for a cause of its own.
 pub fn function_is_foreseen()
     ensures { FunctionForeseen }
 {}
@@ -86,7 +86,7 @@ pub fn meant_is_foreseen()
     ensures { MeantForeseen }
 {}
 
-/// A definition or a family is never refused for want of memory.
+/// A definition or a family is never refused as out of memory.
 pub fn declare_needs_no_memory()
     ensures { DeclareNeedsNoMemory }
 {}

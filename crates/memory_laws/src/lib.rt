@@ -1,4 +1,4 @@
-//! No definition of what a declaration answers comes to want of memory.
+//! By definition no declaration runs out of memory.
 #![tactic(auto)]
 
 pub mod laws;

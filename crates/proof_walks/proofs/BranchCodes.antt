@@ -21,8 +21,8 @@ use Rattle.clause_walks.specs.Reaching.{RunEnd}
 use Rattle.clause_walks.specs.declared.running.Ran.{Ran}
 use Rattle.clause_reports.specs.ProofWalks.{Place, Proof, Splits, Proofs, Walking, at_origin, at_other, enter_branch, split_variable, take_branch, walk_tree}
 use Rattle.clause_reports.specs.Stops.{ReportStop, Reporting, Halts, answers}
-use Rattle.proof_terms.specs.ProofMeanings.{proof_of, proofs, proofs_of}
-use Rattle.proof_terms.specs.declared.proof.Proof as code
+use Rattle.proof_walks.specs.proof_terms.ProofMeanings.{proof_of, proofs, proofs_of}
+use Rattle.proof_walks.specs.declared.proof_terms.proof.Proof as code
 use Rattle.proof_walks.specs.NodeWalks.{Node, again as again_of, splitting, walk_node, Variable, variable_met}
 use Rattle.proof_walks.specs.PlaceScopes.{IsKeptProof, AreKeptProofs}
 use Rattle.proof_walks.specs.SolvedRuns.{AreSolving, all_runs, outcomes_in, solved_outcomes, steps_of_ends, onto, with_outcome}

@@ -1,4 +1,4 @@
--- What is made of lists that are joined.
+-- Functions of lists that are joined.
 use Rattle.std.proofs.lemmas.List.{map-append}
 
 pub ruleset joining = (map-append)

@@ -27,8 +27,8 @@ use Rattle.unifier.specs.Conditions.{most_levels}
 use Rattle.case_trees.proofs.ScopedPoints.{under-scoped, all-under-scoped}
 use Rattle.clause_walks.specs.PairConditions.{IsSolvedIn}
 use Rattle.clause_reports.specs.ProofWalks.{Place, Proof, Ends, Splits, Proofs, nil, cons, value_at, at_origin, moved_place, bounded_place, leaves_in, all_leaves}
-use Rattle.proof_terms.specs.ProofMeanings.{place_of, proofs}
-use Rattle.proof_terms.specs.declared.proof.Place as code
+use Rattle.proof_walks.specs.proof_terms.ProofMeanings.{place_of, proofs}
+use Rattle.proof_walks.specs.declared.proof_terms.proof.Place as code
 use Rattle.proof_walks.specs.Laws.{KeptReduces, OpenIsReady}
 use Rattle.proof_walks.specs.PlaceScopes.{IsScopedPlace, IsKeptPlace, IsKeptProof, AreKeptProofs, AreKeptLeaves}
 
@@ -67,8 +67,6 @@ module _ (S : Signature) (n : ℕ) (values arguments : List Term) (all : All (Is
   origins-scoped [] = All-nil (IsScoped S n)
   origins-scoped (o ∷ origins) =
       All-cons (IsScoped S n) (at_origin values arguments o) (map (at_origin values arguments) origins) (origin-scoped o) (origins-scoped origins)
-
--- ---- what calls are asked about
 
 -- ---- the next places
 

@@ -13,7 +13,7 @@ use Rattle.case_trees.specs.Stops as trees
 use Rattle.clause_walks.specs.Reaching.{RunEnd, end_of_run, ends_behind}
 use Rattle.clause_reports.specs.ProofWalks.{Place, Proof, Splits, Proofs, nil, cons, Walking, bounded_place, moved_place, solved_branch, solved_branches, with_runs, or_halted, split_variable}
 use Rattle.clause_reports.specs.Stops.{ReportStop, Reporting, Stuck, or_halts, answers}
-use Rattle.proof_terms.specs.ProofMeanings.{proofs}
+use Rattle.proof_walks.specs.proof_terms.ProofMeanings.{proofs}
 use Rattle.proof_walks.specs.SolvedRuns.{halted_runs, all_runs, outcomes_in, steps_of_ends, solved_outcomes, joined, onto, with_outcome, with_ends}
 
 -- ---- outcomes

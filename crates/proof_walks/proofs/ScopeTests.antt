@@ -1,4 +1,4 @@
--- The tests answer true exactly for what is scoped.
+-- The tests answer true exactly where terms, telescopes and places are scoped.
 use Rattle.std.proofs.Common.{◌≡◌, ◌≤◌, ◌↔◌, ℕ, ◌+◌, nat_le, Bool, true, false, ◌&&◌, IsTrue, List, [], ◌∷◌, length, refl, arith}
 use Rattle.std.proofs.lemmas.Bool.Decides.{nat_tests}
 use Rattle.std.proofs.lemmas.List.Elements.{All-nil, All-cons}

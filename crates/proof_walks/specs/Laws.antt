@@ -1,4 +1,4 @@
--- What is answered as the walk of a clause is that walk, but for Deep; and what is found at a leaf can be reduced.
+-- The walk of a clause that the code makes is the walk as it is defined, except where it is Deep; and the terms at a leaf can be reduced.
 use Rattle.std.specs.Prelude.{◌≡◌, ◌≢◌, ℕ, ◌||◌, true, is_none, Result, Err}
 use Rattle.theory.specs.Signatures.{Signature}
 use Rattle.core_terms.specs.Answers.{are_low}
@@ -10,7 +10,7 @@ use Rattle.unification.specs.ScopedStates.{IsReady}
 use Rattle.clause_reports.specs.Equations.{Equation}
 use Rattle.clause_reports.specs.ProofWalks.{Place, Proof, first_place, walk_of}
 use Rattle.clause_reports.specs.Stops.{ReportStop, Reporting, Halts}
-use Rattle.draft_entering.specs.Conditions.{IsOpen}
+use Rattle.drafts.specs.draft_entering.Conditions.{IsOpen}
 use Rattle.proof_walks.specs.PlaceScopes.{IsKeptPlace, is_scoped_place}
 use Rattle.proof_walks.specs.Starts.{walk_made}
 

@@ -1,3 +1,5 @@
+pub mod proof_terms
+pub mod proof_places
 pub mod Laws
 pub mod NodeConditions
 pub mod NodeWalks

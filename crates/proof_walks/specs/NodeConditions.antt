@@ -1,4 +1,4 @@
--- What is known of a variable that is split.
+-- The conditions on a variable that is split.
 use Rattle.std.specs.Prelude.{◌≡◌, ◌<◌, ℕ, Bool, true}
 use Rattle.theory.specs.Signatures.{Signature}
 use Rattle.clause_walks.specs.LookConditions.{IsMember}

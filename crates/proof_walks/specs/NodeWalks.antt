@@ -22,7 +22,7 @@ pub record Node : Type 0 where
   pub branches : Branches
   pub splits : Bool
 
--- the same, looked at again
+-- the split when it is looked at again
 abbrev pub again : Node → Node
 again node = record { family = node.family; variable = node.variable; branches = node.branches; splits = false }
 
@@ -30,7 +30,7 @@ abbrev pub splitting_by : Signature → (splits : Bool) → Node → (t : Term) 
 splitting_by S true node t = split_variable S (looked_again S node.family node.variable (take_branch S node.branches))
 splitting_by S false node t = no_splitting t
 
--- what is done at a variable that is the term t of the split's variable
+-- how the walk goes on where the term t of the split's variable is a variable
 abbrev pub splitting : Signature → Node → (t : Term) → Splitting
 splitting S node t = splitting_by S node.splits node t
 

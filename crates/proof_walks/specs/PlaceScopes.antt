@@ -1,4 +1,4 @@
--- What is known of places: their terms are scoped, and their contexts have so few variables that their numbers fit 32 bits.
+-- The invariants of places: their terms are scoped, and their contexts have so few variables that their numbers fit 32 bits.
 use Rattle.std.specs.Prelude.{◌≤◌, ℕ, ◌+◌, nat_le, Bool, true, ◌&&◌, List, [], ◌∷◌, length, All}
 use Rattle.theory.specs.Terms.{Term, free_of}
 use Rattle.theory.specs.Telescopes.{Telescope}

@@ -1,4 +1,4 @@
--- How large trees and proofs are: what calls on them fall by.
+-- The sizes of trees and proofs, which decrease from call to call.
 use Rattle.std.specs.Prelude.{ℕ, ◌+◌, Bool, true, false}
 use Rattle.core_terms.specs.CaseTrees.{Tree, Leaf, Split, Branch, Absurd, Solved, Branches, nil, cons}
 

@@ -14,7 +14,7 @@ use Rattle.clause_walks.specs.Reaching.{RunEnd, ends_behind}
 use Rattle.clause_reports.specs.ProofWalks.{Place, Proof, Splits, Proofs, nil, cons, Walking, solved_branch, or_halted, bounded_place, moved_place}
 use Rattle.clause_reports.specs.Stops.{Reporting, Stuck, answers, or_halts}
 
--- running problems knows no other refusals than want of units and heights
+-- running problems is refused only where units or heights run out
 abbrev pub halted_runs : {A : Type 0} → Stopping A → Reporting A
 halted_runs runs = answers (or_halted runs.0) runs.1
 

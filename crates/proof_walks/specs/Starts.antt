@@ -1,5 +1,5 @@
--- Where the walk of a clause starts as the code finds it: Deep where recursion is looked for in a telescope that is too high, and where
--- something at the first place is not scoped.
+-- Where the walk of a clause starts as the code finds it: Deep where recursion is looked for in a telescope that is too high, and where a
+-- term at the first place is not scoped.
 use Rattle.std.specs.Prelude.{ℕ, zero, suc, cond, Option, List, length, Result, Ok, Err}
 use Rattle.theory.specs.Terms.{Term}
 use Rattle.theory.specs.Signatures.{Signature}

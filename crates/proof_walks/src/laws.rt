@@ -1,6 +1,6 @@
 ghost use Rattle.proof_walks.specs.Laws.{KeptReduces, OpenIsReady, WalkAnswers, WalkIsMade};
 
-/// What is answered as the walk of a clause is that walk, unless it is Deep.
+/// The walk of a clause that the code makes is the walk as it is defined, unless the code answers Deep.
 pub fn walk_answers()
     ensures { WalkAnswers }
 {}

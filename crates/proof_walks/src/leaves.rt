@@ -2,11 +2,11 @@ ghost use Rattle.std.specs.Prelude.{◌≡◌, ◌++◌, Ok, Err, OnErr, OnOk};
 ghost use Rattle.core_terms.specs.Answers.{Gives};
 ghost use Rattle.core_terms.specs.declared.stop.Stop.TheVariants.{Memory};
 ghost use Rattle.clause_reports.specs.ProofWalks as spec;
-ghost use Rattle.proof_terms.specs.ProofMeanings.{proof_of, proofs_of};
+ghost use Rattle.proof_walks.specs.proof_terms.ProofMeanings.{proof_of, proofs_of};
 ghost use Rattle.proof_walks.specs.WalkMeanings.{leaves_of};
 
+use crate::proof_terms::{Place, Proof};
 use core_terms::{Items, Stop};
-use proof_terms::{Place, Proof};
 use std::alloc::Global;
 
 /// A leaf of a proof: the number of the clause of the tree that it belongs to, and its place.
@@ -31,7 +31,7 @@ fn add_leaves<'a>(proof: &'a Proof, found: &mut Items<Leaf<'a>>) -> Result<(), S
     }
 }
 
-/// The same of proofs, one after the other.
+/// The leaves of proofs, one after the other, after those that are found.
 #[cycle(leaves)]
 fn add_all<'a>(proofs: &'a [Proof], found: &mut Items<Leaf<'a>>) -> Result<(), Stop>
     ensures ok { OnOk result (leaves_of found.new ≡ leaves_of found.old ++ spec.all_leaves (proofs_of proofs.now)) }

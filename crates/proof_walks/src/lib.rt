@@ -8,6 +8,8 @@ pub mod laws;
 mod leaves;
 mod nodes;
 mod places;
+pub mod proof_places;
+pub mod proof_terms;
 mod runs;
 mod scopes;
 mod starts;

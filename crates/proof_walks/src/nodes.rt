@@ -1,4 +1,4 @@
-//! What is found at a split of the tree: a constructor, or a variable that is split.
+//! The constructor that the walk finds at a split of the tree, or the variable that is split there.
 ghost use Rattle.std.specs.Prelude.{◌≡◌, ◌≤◌, ◌<◌, ◌+◌, true, IfOk, IfSome, Ok, length, option_map};
 ghost use Rattle.core_terms.specs.Answers.{Gives, Runs as RunsAs};
 ghost use Rattle.core_terms.specs.Meanings.{tree_of, tele_of};

@@ -4,14 +4,14 @@ ghost use Rattle.core_terms.specs.Answers.{Gives};
 ghost use Rattle.core_terms.specs.Meanings.{tele_of};
 ghost use Rattle.clause_walks.specs.PairConditions.{IsSolvedIn};
 ghost use Rattle.clause_reports.specs.ProofWalks as spec;
-ghost use Rattle.proof_terms.specs.ProofMeanings.{place_of};
+ghost use Rattle.proof_walks.specs.proof_terms.ProofMeanings.{place_of};
 ghost use Rattle.proof_walks.specs.PlaceScopes.{IsKeptPlace};
 ghost use Rattle.unifier.specs.Conditions.{most_levels};
 
+use crate::proof_places::moved_place;
+use crate::proof_terms::Place;
 use core_sig::Signature;
 use core_terms::{Stop, Tele, Term, copy_tele};
-use proof_places::moved_place;
-use proof_terms::Place;
 use std::alloc::Global;
 
 /// How many variables a context may have; with more, memory is short.
@@ -28,7 +28,7 @@ pub(crate) fn few_place(p: Place) -> Result<Place, Stop>
     Ok(p)
 }
 
-/// The place after a solution, or Deep where something there is too high.
+/// The place after a solution, or Deep where a term there is too high.
 fn place_after(
     alloc: Global,
     sig: &Signature,
@@ -46,7 +46,7 @@ fn place_after(
     few_place(moved)
 }
 
-/// The same in a box of its own.
+/// The place after a solution in a box of its own, or Deep where a term there is too high.
 pub(crate) fn boxed_after(
     alloc: Global,
     sig: &Signature,

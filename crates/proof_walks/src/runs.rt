@@ -10,8 +10,8 @@ ghost use Rattle.clause_walks.specs.LookConditions.{IsContext, IsMember};
 ghost use Rattle.clause_walks.specs.LookMeanings.{ends_of, member_meant, runs_of, stuck_of};
 ghost use Rattle.clause_walks.specs.Stops as tree_stops;
 ghost use Rattle.clause_walks.specs.declared.stops.TreeStop.TheVariants as tree_stop;
-ghost use Rattle.draft_entering.specs.Stops.{Reports, stop_of};
-ghost use Rattle.draft_entering.specs.declared.stop.ReportStop.TheVariants as report_stop;
+ghost use Rattle.drafts.specs.draft_entering.Stops.{Reports, stop_of};
+ghost use Rattle.drafts.specs.declared.draft_entering.stop.ReportStop.TheVariants as report_stop;
 ghost use Rattle.proof_walks.specs.SolvedRuns as spec;
 ghost use Rattle.unification.specs.Outcomes as outcomes;
 ghost use Rattle.unification.specs.declared.why.Why.TheVariants as why;
@@ -21,13 +21,13 @@ ghost use Rattle.unifier.specs.Meanings.{outcome_of};
 use clause_walks::{Member, Ran, Runs, StuckRun, TreeStop, run_from};
 use core_sig::Signature;
 use core_terms::{Items, Step, Stop, Term, copy_tele, copy_whole};
-use draft_entering::ReportStop;
+use drafts::draft_entering::ReportStop;
 use kernel_check::Kernel;
 use std::alloc::Global;
 use unification::Why;
 use unifier::Outcome;
 
-/// What ends a walk where running the problems of constructors is refused: units or heights ran out.
+/// The refusal of a walk where running the problems of constructors is refused: units or heights ran out.
 fn halted(stop: TreeStop) -> ReportStop
     ensures is { stop_of result ≡ walks.halted (tree_stops.stop_of stop) }
     ensures memory { stop ≡ tree_stop.Stop Memory → result ≡ report_stop.Stop Memory }
@@ -38,7 +38,7 @@ fn halted(stop: TreeStop) -> ReportStop
     }
 }
 
-/// What ends a walk where a run is stuck.
+/// The refusal of a walk where a run is stuck.
 pub(crate) fn stuck_run(run: StuckRun) -> ReportStop
     ensures { stop_of result ≡ stops.Stuck (stuck_of run).context (stuck_of run).left (stuck_of run).right (stuck_of run).why }
 {
@@ -56,7 +56,7 @@ pub(crate) fn stuck_run(run: StuckRun) -> ReportStop
     }
 }
 
-/// What ends a walk at two terms that are no constructors.
+/// The refusal of a walk at two terms that are no constructors.
 pub(crate) fn stuck(
     alloc: Global,
     ctx: &[Term],

@@ -1,13 +1,13 @@
 //! Tests that say whether a place is scoped.
 ghost use Rattle.std.specs.Prelude.{◌≡◌, ◌≤◌, ◌+◌, length};
 ghost use Rattle.core_terms.specs.Meanings.{tree_of, tele_of};
-ghost use Rattle.proof_terms.specs.ProofMeanings.{place_of};
+ghost use Rattle.proof_walks.specs.proof_terms.ProofMeanings.{place_of};
 ghost use Rattle.proof_walks.specs.PlaceScopes as spec;
 ghost use Rattle.unifier.specs.Conditions.{most_levels};
 
+use crate::proof_terms::Place;
 use core_sig::Signature;
 use core_terms::Term;
-use proof_terms::Place;
 
 /// Whether a term is over `n` variables, and each number in it has its entry.
 fn is_scoped(sig: &Signature, n: u32, t: &Term) -> bool

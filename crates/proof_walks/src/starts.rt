@@ -5,23 +5,23 @@ ghost use Rattle.core_terms.specs.Answers.{Gives};
 ghost use Rattle.core_terms.specs.Meanings.{tele_of};
 ghost use Rattle.core_terms.specs.TreeMeanings.{case_tree_of, walk_of};
 ghost use Rattle.clause_reports.specs.ProofWalks.{leaves_in};
-ghost use Rattle.draft_entering.specs.Stops.{Reports};
+ghost use Rattle.drafts.specs.draft_entering.Stops.{Reports};
 ghost use Rattle.leaf_terms.specs.PlanMeanings.{plan_of};
 ghost use Rattle.leaf_terms.specs.RecursionMeanings.{recursion_of};
-ghost use Rattle.proof_terms.specs.ProofMeanings.{goal_of, place_of, proof_of};
+ghost use Rattle.proof_walks.specs.proof_terms.ProofMeanings.{goal_of, place_of, proof_of};
 ghost use Rattle.proof_walks.specs.PlaceScopes.{AreKeptLeaves, IsKeptPlace};
 ghost use Rattle.proof_walks.specs.Starts as spec;
 ghost use Rattle.unification.specs.ScopedStates.{IsReady};
 
 use crate::places::few_place;
+use crate::proof_terms::{Goal, Place, Proof};
 use crate::scopes::is_scoped_place;
 use crate::walking::walk_tree;
 use core_sig::Signature;
 use core_terms::{Stop, Tele, Term, Tree, Units, Walk, copy_tele, copy_whole, number_of};
-use draft_entering::ReportStop;
+use drafts::draft_entering::ReportStop;
 use kernel_check::Kernel;
 use leaf_terms::{Plan, Recursion, order_of, own_tele, recursion_of, terms_at};
-use proof_terms::{Goal, Place, Proof};
 use std::alloc::Global;
 
 /// The terms of the function's columns in the order of its recursion.
@@ -103,7 +103,7 @@ fn start(
     scoped_place(sig, few_place(place)?)
 }
 
-/// The same in a box of its own.
+/// The place where the walk of a clause starts in a box of its own, or Deep.
 fn boxed_start(
     alloc: Global,
     sig: &Signature,
@@ -121,8 +121,9 @@ fn boxed_start(
 
 /// The walk of a clause of part k of a plan, whose own walk and whose equation are given, through a tree.
 ///
-/// It is Deep where recursion is looked for in a telescope that is too high, and where something of the equation or of the clause's own
-/// walk is not scoped over the signature and the context of the equation. Each leaf is at a place that is scoped.
+/// It is Deep where recursion is looked for in a telescope that is too high, and where a term of the equation or of the
+/// clause's own walk is not scoped over the signature and the context of the equation. Each leaf is at a place that is
+/// scoped.
 pub fn equation_proof(
     alloc: Global,
     sig: &Signature,

@@ -7,8 +7,8 @@ ghost use Rattle.kernel_reduce.specs.WellScoped.{AreScoped};
 ghost use Rattle.theory.specs.SignatureScopes.{IsScoped};
 ghost use Rattle.clause_reports.specs.ProofWalks as walks;
 ghost use Rattle.clause_walks.specs.LookMeanings.{ends_of, member_meant, ran_of};
-ghost use Rattle.draft_entering.specs.Stops.{Reports};
-ghost use Rattle.proof_terms.specs.ProofMeanings.{place_of, proof_of, proofs_of};
+ghost use Rattle.drafts.specs.draft_entering.Stops.{Reports};
+ghost use Rattle.proof_walks.specs.proof_terms.ProofMeanings.{place_of, proof_of, proofs_of};
 ghost use Rattle.proof_walks.specs.NodeConditions.{IsVariableOf};
 ghost use Rattle.proof_walks.specs.NodeWalks as spec;
 ghost use Rattle.proof_walks.specs.PlaceScopes.{AreKeptProofs, IsKeptPlace, IsKeptProof};
@@ -19,14 +19,14 @@ ghost use Rattle.clause_walks.specs.PairConditions.{IsSolving};
 
 use crate::nodes::{Variable, constructor_met, variable_met};
 use crate::places::{boxed_after, with_values};
+use crate::proof_places::{value_at, values_in_branch};
+use crate::proof_terms::{Place, Proof};
 use crate::runs::{all_runs, steps_of_runs, stuck, stuck_run};
 use clause_walks::{Ran, Runs};
 use core_sig::Signature;
 use core_terms::{Branch, Items, Stop, Term, Tree};
-use draft_entering::ReportStop;
+use drafts::draft_entering::ReportStop;
 use kernel_check::Kernel;
-use proof_places::{value_at, values_in_branch};
-use proof_terms::{Place, Proof};
 use std::alloc::Global;
 use unifier::Outcome;
 

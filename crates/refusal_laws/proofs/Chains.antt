@@ -1,4 +1,4 @@
--- What holds of the refusal, where calls are one after the other.
+-- A property of the refusal, where calls are one after the other.
 use Rattle.std.proofs.Common.{◌≡◌, ℕ, List, Result, Ok, Err, IfErr, refl, subst as transport}
 use Rattle.core_terms.specs.Answers.{SpentOr, and_next, on_answer}
 use Rattle.core_terms.proofs.Answers.{Splits}
@@ -8,7 +8,7 @@ use Rattle.core_terms.specs.declared.stop.Stop.{Stop}
 use Rattle.case_trees.specs.Stops.{TreeStop}
 use Rattle.clause_reports.specs.Stops as report
 use Rattle.clause_reports.specs.Stops.{ReportStop}
-use Rattle.elaboration.specs.Refusals.{Owner, Part, Refusal, ill_typed, of_tree, or_ends, or_halts, or_ill_typed, or_no_report}
+use Rattle.clause_reports.specs.elaboration.Refusals.{Owner, Part, Refusal, ill_typed, of_tree, or_ends, or_halts, or_ill_typed, or_no_report}
 use Rattle.resolve.specs.Functions.{Function}
 use Rattle.refusal_laws.specs.Causes.{Caused, IsDenied, IsIllTyped}
 
@@ -26,7 +26,7 @@ pub next-refuses : {A B E : Type 0} (P : A → Type 0) (N : E → Type 0) (first
     → Splits P N first.0 → ((a : A) (rest : ℕ) → P a → Refuses N (go a rest)) → Refuses N (and_next first go)
 next-refuses P N first go h k = on_answer-refuses P N first.0 first.1 go h k
 
--- what is known of an answer is that it is the answer
+-- a result is its own answer, or a refusal that has N
 pub splits-is : {A E : Type 0} (N : E → Type 0) (r : Result A E) → IfErr r N → Splits (λ a. r ≡ Ok a) N r
 splits-is N (Ok a) h = refl
 splits-is N (Err e) h = h
@@ -38,9 +38,9 @@ refused P N (Err e) h = h
 pub refused-err : {A E : Type 0} (N : E → Type 0) (r : Result A E) (e : E) → r ≡ Err e → IfErr r N → N e
 refused-err N r e is h = transport (λ x. IfErr x N) is h
 
--- ---- what no cause is asked of
+-- ---- refusals without a condition on their cause
 
--- what the checker denies
+-- rejections of the checker
 pub granted-caused : (S : Signature) (f : Function) (T : Signature) (part : Part) (asked : Result Verdict Stop)
     → ((d : Denial) → asked ≡ Ok (No d) → IsIllTyped (ill_typed T part d)) → IfErr (or_ill_typed T part asked) (Caused S f)
 granted-caused S f T part (Ok (Yes type)) h = tt
@@ -51,7 +51,7 @@ pub halts-caused : {A : Type 0} (S : Signature) (f : Function) (r : Result A Sto
 halts-caused S f (Ok a) = tt
 halts-caused S f (Err e) = tt
 
--- what ends a report is of no account, or a denial
+-- the end of a report is a rejection of the checker, or has no condition
 abbrev pub IfRejected : ReportStop → Type 0
 IfRejected (report.Rejected r) = IsDenied r
 IfRejected (report.Halts e) = Unit {0}

@@ -1,4 +1,4 @@
--- What a declaration is refused for has its cause at the function that is written; and each cause for itself.
+-- The reason for which a declaration is refused has its cause at the function that is written; and so has each kind of refusal.
 use Rattle.std.proofs.Common.{◌≡◌, ◌⊎◌, ℕ, Result, Ok, Err, refl, sym, subst as transport}
 use Rattle.theory.specs.Signatures.{Signature}
 use Rattle.surface_syntax.specs.Trees as surf
@@ -6,11 +6,11 @@ use Rattle.surface_syntax.specs.declared.tree.Word.{Word}
 use Rattle.elab_session.specs.Declaring.{Declared, declare_of}
 use Rattle.elab_session.specs.Sessions.{IsReady}
 use Rattle.elab_session.specs.declared.refusal.Refusal as declared
-use Rattle.elaboration.specs.Functions.{Lines}
-use Rattle.elaboration.specs.Refusals as refusal
-use Rattle.elaboration.specs.Refusals.{Refusal}
-use Rattle.function_lines.proofs.Provisional.{provisional-over}
-use Rattle.function_lines.specs.FunctionMade.{function_made}
+use Rattle.clause_reports.specs.elaboration.Functions.{Lines}
+use Rattle.clause_reports.specs.elaboration.Refusals as refusal
+use Rattle.clause_reports.specs.elaboration.Refusals.{Refusal}
+use Rattle.function_session.proofs.function_lines.Provisional.{provisional-over}
+use Rattle.function_session.specs.function_lines.FunctionMade.{function_made}
 use Rattle.function_session.proofs.Written.{function-scoped}
 use Rattle.function_session.specs.Elaborating.{Elaborated, Function as OfFunction, on_function, on_lines, refused_function, without_lines, enter_function}
 use Rattle.resolve.specs.Functions.{Function, function}

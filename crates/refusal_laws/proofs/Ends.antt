@@ -9,9 +9,9 @@ use Rattle.core_terms.specs.Clauses as clause
 use Rattle.core_terms.specs.Clauses.{Clauses, Is}
 use Rattle.core_terms.specs.Patterns.{Pat, Pats}
 use Rattle.tele_eq.specs.ReflexivityLaws.{EachConverts}
-use Rattle.pattern_vectors.proofs.Separate.{matched_is_not_apart}
-use Rattle.pattern_vectors.proofs.Staying.{apart_stays}
-use Rattle.pattern_vectors.specs.Matching.{are_apart, matches_all}
+use Rattle.case_trees.proofs.pattern_vectors.Separate.{matched_is_not_apart}
+use Rattle.case_trees.proofs.pattern_vectors.Staying.{apart_stays}
+use Rattle.case_trees.specs.pattern_vectors.Matching.{are_apart, matches_all}
 use Rattle.case_trees.specs.Causes as cause
 use Rattle.case_trees.specs.Causes.{AllApart, CommonCause, TreeCause, WalkCause}
 use Rattle.case_trees.specs.Points.{Point, start_at}
@@ -21,13 +21,13 @@ use Rattle.case_trees.specs.Stops as stop
 use Rattle.case_trees.specs.Stops.{TreeStop}
 use Rattle.clause_reports.specs.Equations.{part_named}
 use Rattle.core_text.specs.ContextText.{context_text}
-use Rattle.elaboration.specs.Refusals.{of_tree}
-use Rattle.elaboration.specs.Walking.{Opened}
+use Rattle.clause_reports.specs.elaboration.Refusals.{of_tree}
+use Rattle.clause_reports.specs.elaboration.Walking.{Opened}
 use Rattle.resolve.specs.Functions.{Function}
 use Rattle.refusal_laws.specs.Causes.{Caused, EndCause, of_walk, of_split, IsEnd, IsPartAt, IsUncovered, NoneMatches}
 use Rattle.written_functions.specs.Clauses.{with_own}
 
--- ---- what is apart is not matched
+-- ---- terms that are apart from patterns do not match them
 
 unmatched : (S : Signature) (pats : Pats) (us : List Term) → are_apart S pats us ≡ true → matches_all S pats us ≡ false
 unmatched S pats us far = by (matches_all S pats us) refl
@@ -41,9 +41,9 @@ none-matches S clause.nil terms s h = tt
 none-matches S (clause.cons (Is pats binds right) clauses) terms s h =
     (unmatched S pats (map (inst s) terms) (apart_stays S s pats terms h.0), none-matches S clauses terms s h.1)
 
--- ---- vectors that are not covered
+-- ---- arguments that are not covered
 
--- the vector of an uncovered end, from a start of the tree
+-- the arguments of an uncovered end, from a start of the tree
 record HasVector (S : Signature) (start : Point) (clauses : Clauses) (types : Telescope) (terms : List Term) : Type 0 where
   point : Point
   reached : IsNode S start point
@@ -78,7 +78,7 @@ tree-vector S start clauses _ (cause.halted e) = tt
 tree-vector S start clauses _ (cause.uncovered p terms reached converts apart) =
     record { point = p; reached = reached; context = refl; converts = converts; apart = apart }
 
--- ---- what is said of an end
+-- ---- the causes of an end
 
 uncovered-is : (S : Signature) (f : Function) (k : ℕ) (part : Opened) (clauses : Clauses) (types : Telescope) (terms : List Term) → IsPartAt S f k part clauses
     → IsScopedStop (with_own S f) (stop.Uncovered types terms) → EndCause S f k part clauses (stop.Uncovered types terms)

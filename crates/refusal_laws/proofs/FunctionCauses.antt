@@ -18,12 +18,12 @@ use Rattle.clause_reports.specs.DraftEntering.{Names, enter_draft_of, enter_ment
 use Rattle.clause_reports.specs.Equations.{part_named}
 use Rattle.clause_reports.specs.Generated.{all_name}
 use Rattle.clause_reports.specs.Reports.{Reference, report_of}
-use Rattle.draft_checks.specs.Checks.{enterable, unmarked}
-use Rattle.elaboration.specs.Functions.{ClauseLine, Following, enter_drafts, enter_plan, enter_values, first_domains, function_level, function_of, plan_of, recursion_in, report_parts, report_walks}
-use Rattle.elaboration.specs.Refusals.{Halts, OfType, answers, granted, level_too_high, or_halts, owner_of, reporting}
-use Rattle.elaboration.specs.Walking.{greatest_level}
-use Rattle.function_lines.specs.Conditions.{IsFunctionOver}
-use Rattle.function_lines.specs.FunctionMade.{all_entered, checked_entered, clause_line, clause_reported, draft_entered, drafts_entered, function_made, level_of, parts_reported, plan_entered, plan_over, plan_reported, reference_of, translated, values_entered, values_name, walks_reported}
+use Rattle.drafts.specs.draft_checks.Checks.{enterable, unmarked}
+use Rattle.clause_reports.specs.elaboration.Functions.{ClauseLine, Following, enter_drafts, enter_plan, enter_values, first_domains, function_level, function_of, plan_of, recursion_in, report_parts, report_walks}
+use Rattle.clause_reports.specs.elaboration.Refusals.{Halts, OfType, answers, granted, level_too_high, or_halts, owner_of, reporting}
+use Rattle.clause_reports.specs.elaboration.Walking.{greatest_level}
+use Rattle.function_session.specs.function_lines.Conditions.{IsFunctionOver}
+use Rattle.function_session.specs.function_lines.FunctionMade.{all_entered, checked_entered, clause_line, clause_reported, draft_entered, drafts_entered, function_made, level_of, parts_reported, plan_entered, plan_over, plan_reported, reference_of, translated, values_entered, values_name, walks_reported}
 use Rattle.resolve.specs.Functions.{Function}
 use Rattle.refusal_laws.specs.Causes.{Caused, no_sort, too_high}
 use Rattle.refusal_laws.specs.Laws.{BeginsClosed, MeantIsCaused, RefusalIsCaused}

@@ -1,12 +1,12 @@
--- What the walks and trees of a part ask: it is scoped, and its clauses have one pattern for each of its columns.
+-- The conditions of the walks and trees of a part: it is scoped, and its clauses have one pattern for each of its columns.
 use Rattle.std.proofs.Common.{ℕ}
 use Rattle.core_terms.specs.Clauses.{Clauses}
 use Rattle.clause_reports.specs.Equations.{part_named}
-use Rattle.elaboration.specs.Refusals.{owner_of}
-use Rattle.elaboration.specs.Walking.{Opened}
-use Rattle.function_clauses.proofs.OwnParts.{own-part-for}
-use Rattle.function_lines.specs.Conditions.{IsFunctionOver}
-use Rattle.function_lines.specs.FunctionMade.{session_at}
+use Rattle.clause_reports.specs.elaboration.Refusals.{owner_of}
+use Rattle.clause_reports.specs.elaboration.Walking.{Opened}
+use Rattle.function_checks.proofs.function_clauses.OwnParts.{own-part-for}
+use Rattle.function_session.specs.function_lines.Conditions.{IsFunctionOver}
+use Rattle.function_session.specs.function_lines.FunctionMade.{session_at}
 use Rattle.resolve.specs.Functions.{Function}
 use Rattle.theory.specs.Signatures.{Signature}
 use Rattle.refusal_laws.specs.Parts.{IsPartOf, own, helper}

@@ -1,4 +1,4 @@
--- The position of recursion and the trees of a function: what they refuse has its cause.
+-- The decreasing argument and the trees of a function: each refusal there has its cause.
 use Rattle.std.proofs.Common.{◌≡◌, ℕ, ◌+◌, ◌&&◌, Bool, true, false, cond, Option, Result, Ok, Err, IfErr, List, [], ◌∷◌, length, refl, sym, ap, ◌∙◌, subst as transport, arith}
 use Rattle.theory.specs.Terms.{Term}
 use Rattle.theory.specs.Telescopes.{Telescope}
@@ -7,29 +7,29 @@ use Rattle.core_terms.specs.Answers.{are_low}
 use Rattle.core_terms.proofs.Answers.{Splits}
 use Rattle.core_terms.specs.Clauses.{Clauses}
 use Rattle.core_terms.specs.declared.stop.Stop.TheVariants.{Deep}
-use Rattle.structural_rec.proofs.ChosenPositions.{not-smaller}
-use Rattle.structural_rec.specs.Choices.{Choice, NotRecursive, At, NotSmaller, choose}
-use Rattle.structural_rec.specs.Laws.{IsOrder}
+use Rattle.tree_translation.proofs.structural_rec.ChosenPositions.{not-smaller}
+use Rattle.tree_translation.specs.structural_rec.Choices.{Choice, NotRecursive, At, NotSmaller, choose}
+use Rattle.tree_translation.specs.structural_rec.Laws.{IsOrder}
 use Rattle.case_trees.proofs.TreeStanding.{tree_caused, tree_stop_scoped}
 use Rattle.case_trees.specs.Laws.{IsGiven}
 use Rattle.case_trees.specs.Points.{start_at}
 use Rattle.case_trees.specs.Scoped.{AreClausesFor}
 use Rattle.case_trees.specs.Trees.{split_of}
-use Rattle.order_scopes.proofs.RecursionOrders.{recursion-ordered}
-use Rattle.order_scopes.specs.Laws.{begins_closed}
+use Rattle.entry_laws.proofs.order_scopes.RecursionOrders.{recursion-ordered}
+use Rattle.entry_laws.specs.order_scopes.Laws.{begins_closed}
 use Rattle.tree_translation.specs.Entries.{ordered_variables}
 use Rattle.tree_translation.specs.Recursion.{Recursion, order_of, ordered_telescope, ordered_term}
 use Rattle.clause_reports.proofs.Keeping.{Any}
 use Rattle.clause_reports.specs.Equations.{part_named}
-use Rattle.elaboration.specs.Functions.{helpers_finished, own_finished, own_part, plan_of, position_chosen, recursion_in}
-use Rattle.elaboration.specs.Refusals.{Halts, Refusal, answers, or_ends, or_halts, walking}
-use Rattle.elaboration.specs.Walking.{Given, Opened, Walked, walk_clauses}
-use Rattle.function_clauses.proofs.Fitting.{clauses-for}
-use Rattle.function_clauses.proofs.OwnParts.{own-columns, own-part-for, part-walked}
+use Rattle.clause_reports.specs.elaboration.Functions.{helpers_finished, own_finished, own_part, plan_of, position_chosen, recursion_in}
+use Rattle.clause_reports.specs.elaboration.Refusals.{Halts, Refusal, answers, or_ends, or_halts, walking}
+use Rattle.clause_reports.specs.elaboration.Walking.{Given, Opened, Walked, walk_clauses}
+use Rattle.function_checks.proofs.function_clauses.Fitting.{clauses-for}
+use Rattle.function_checks.proofs.function_clauses.OwnParts.{own-columns, own-part-for, part-walked}
 use Rattle.function_plans.proofs.SameChoices.{choice-same, provisional-same, recursion-same}
-use Rattle.function_lines.proofs.SamePlans.{walked_of}
-use Rattle.function_lines.specs.Conditions.{IsFunctionOver}
-use Rattle.function_lines.specs.FunctionMade.{plan_given, plan_over, session_at}
+use Rattle.function_session.proofs.function_lines.SamePlans.{walked_of}
+use Rattle.function_session.specs.function_lines.Conditions.{IsFunctionOver}
+use Rattle.function_session.specs.function_lines.FunctionMade.{plan_given, plan_over, session_at}
 use Rattle.function_plans.proofs.Orders.{found-is}
 use Rattle.function_plans.proofs.Starts.{start-clauses, start-given, starts}
 use Rattle.function_plans.specs.CodePlans.{IsOwnWalked, IsStart, are_low_uses, chosen_made, own_alone, own_finished_made, own_tree_made, own_tree_of, parts_made}
@@ -120,7 +120,7 @@ own-made S f level given position r left over same =
         own-tree S f level given position (order_of (length (own_part f level).tele) r) left over (ap (order_of (length (own_part f level).tele)) same) closed
     by false unclosed = tt
 
--- the same where it is meant
+-- a refusal of the own tree that is meant has its cause
 own-meant : (S : Signature) (f : Function) (level : ℕ) (given : Given) (position : Option ℕ) (r : Option Recursion) (left : ℕ)
     → IsFunctionOver (with_own S f) f → r ≡ recursion_in (with_own S f) (own_part f level).tele position
     → begins_closed (ordered_telescope (own_part f level).tele (order_of (length (own_part f level).tele) r)) ≡ true
@@ -134,7 +134,7 @@ own-meant S f level given position r left over same closed =
 
 -- ---- the position
 
--- what the walks of a function's clauses give
+-- the result of the walks of a function's clauses
 record IsGivenBy (S : Signature) (f : Function) (level left : ℕ) (given : Given) : Type 0 where
   helpers : GivesHelpers S f 1 (length (inner f.clauses)) given
   walked : (walk_clauses (session_at S f) 0 (own_part f level) 0 1 f.clauses left).0 ≡ Ok given

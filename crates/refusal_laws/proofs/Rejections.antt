@@ -1,4 +1,4 @@
--- An entry that is rejected is one that the checker denies.
+-- An entry that is shown as rejected is one that the checker rejects.
 use Rattle.std.proofs.Common.{◌≡◌, ℕ, zero, suc, ◌==◌, Bool, true, false, cond, Option, Some, None, Result, Ok, Err, IfErr, List, [], ◌∷◌, length, refl}
 use Rattle.theory.specs.Terms.{Term}
 use Rattle.theory.specs.Families.{Family}
@@ -69,7 +69,7 @@ axiom_k-rejects S i m true left =
     (entered-rejects S (AxiomKAt i m) (axiom_k_of S i m left).0 (λ site d is. of_axiom_k S i m left site d is refl)) (λ e rest. tt)
 axiom_k-rejects S i m false left = tt
 
--- a way to enter that only rejects what is denied
+-- a way to enter that only rejects an entry where the checker does
 abbrev Rejects : Entering → Type 0
 Rejects enter = (S : Signature) (d : Draft) (left : ℕ) → Refuses IfRejected (enter S d left)
 

@@ -1,4 +1,4 @@
--- What the report of a clause rejects is what the checker denies: as it is meant, and as it is made.
+-- An entry that the report of a clause rejects is one that the checker rejects: as it is meant, and as it is made.
 use Rattle.std.proofs.Common.{ℕ, ◌&&◌, nat_lt, Bool, true, false, cond, Option, Some, None, Result, Ok, Err, IfErr, List, [], ◌∷◌, length}
 use Rattle.theory.specs.Terms.{Term}
 use Rattle.theory.specs.Telescopes.{Telescope}
@@ -11,9 +11,9 @@ use Rattle.core_terms.specs.declared.stop.Stop.TheVariants.{Deep}
 use Rattle.family_check.specs.Entering.{Entered}
 use Rattle.kernel_reduce.specs.Comparison.{convertible_of}
 use Rattle.kernel_reduce.specs.Reduction.{nesting}
-use Rattle.pattern_vectors.specs.Matching.{matches_all}
-use Rattle.draft_checks.specs.Checks.{enterable}
-use Rattle.draft_entering.specs.Depths.{own_name}
+use Rattle.case_trees.specs.pattern_vectors.Matching.{matches_all}
+use Rattle.drafts.specs.draft_checks.Checks.{enterable}
+use Rattle.drafts.specs.draft_entering.Depths.{own_name}
 use Rattle.leaf_terms.specs.RecursionMade.{recursion_made}
 use Rattle.proof_walks.specs.Starts.{start_made, walk_made}
 use Rattle.clause_equations.specs.CodeEquations.{equation_made}

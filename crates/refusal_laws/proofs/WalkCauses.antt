@@ -17,7 +17,7 @@ use Rattle.core_terms.specs.declared.stop.Stop.{Stop}
 use Rattle.kernel_check.specs.Checking.{check_of, infer_of, infer_sort_of}
 use Rattle.kernel_reduce.specs.Comparison.{convertible_of}
 use Rattle.kernel_reduce.specs.Reduction.{nesting}
-use Rattle.structural_rec.specs.Calls.{has_constant}
+use Rattle.tree_translation.specs.structural_rec.Calls.{has_constant}
 use Rattle.tele_eq.proofs.Growing.{snoc-append}
 use Rattle.case_trees.proofs.WalkEnding.{walk_caused, walk_scoped, walk_stop_scoped}
 use Rattle.case_trees.specs.OwnWalks.{own_walk_of}
@@ -29,11 +29,11 @@ use Rattle.tree_translation.proofs.Drafting.{bounded-ok}
 use Rattle.with_abstraction.specs.Abstractions.{Abstracted, abstract_over_of}
 use Rattle.clause_reports.proofs.Keeping.{Any}
 use Rattle.clause_reports.specs.Equations.{part_named}
-use Rattle.elaboration.specs.Refusals.{Elaborating, OfDot, OfGoal, OfSide, OfWith, Owner, Refusal, SelfInType, answers, granted, halting, level_too_high, or_halts, owner_of, walking}
-use Rattle.elaboration.specs.Walking.{Given, Opened, Walked, after_dots, and_level, check_dot, greatest_level, if_forced, if_low_level, open_over, opened, walk_clause, walk_clauses, walk_right, without_self}
-use Rattle.function_clauses.proofs.Fitting.{clause-for}
-use Rattle.function_lines.specs.Conditions.{IsFunctionOver}
-use Rattle.function_lines.specs.FunctionMade.{session_at}
+use Rattle.clause_reports.specs.elaboration.Refusals.{Elaborating, OfDot, OfGoal, OfSide, OfWith, Owner, Refusal, SelfInType, answers, granted, halting, level_too_high, or_halts, owner_of, walking}
+use Rattle.clause_reports.specs.elaboration.Walking.{Given, Opened, Walked, after_dots, and_level, check_dot, greatest_level, if_forced, if_low_level, open_over, opened, walk_clause, walk_clauses, walk_right, without_self}
+use Rattle.function_checks.proofs.function_clauses.Fitting.{clause-for}
+use Rattle.function_session.specs.function_lines.Conditions.{IsFunctionOver}
+use Rattle.function_session.specs.function_lines.FunctionMade.{session_at}
 use Rattle.function_session.specs.Laws.{inner, inner_of, inner_right}
 use Rattle.resolve.specs.Functions.{Function}
 use Rattle.refusal_laws.specs.Causes.{Caused, IsPartAt, another_type, no_sort, no_type, of_walk, too_high}

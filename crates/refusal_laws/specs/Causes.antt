@@ -20,7 +20,7 @@ use Rattle.kernel_check.specs.Checking.{check_of, infer_of, infer_sort_of}
 use Rattle.kernel_reduce.specs.Comparison.{convertible_of}
 use Rattle.kernel_reduce.specs.Reduction.{nesting}
 use Rattle.tele_eq.specs.ReflexivityLaws.{EachConverts}
-use Rattle.pattern_vectors.specs.Matching.{matches_all}
+use Rattle.case_trees.specs.pattern_vectors.Matching.{matches_all}
 use Rattle.case_trees.specs.Causes.{AllApart, TreeCause, WalkCause}
 use Rattle.case_trees.specs.OwnWalks.{own_walk_of}
 use Rattle.case_trees.specs.Places.{clause_at}
@@ -28,29 +28,29 @@ use Rattle.case_trees.specs.Points.{Point, start_at}
 use Rattle.case_trees.specs.Scoped.{IsScopedStop}
 use Rattle.case_trees.specs.Standing.{IsNode}
 use Rattle.case_trees.specs.Stops.{TreeStop}
-use Rattle.structural_rec.specs.Choices.{Failing}
-use Rattle.structural_rec.specs.Laws.{AreRows}
-use Rattle.structural_rec.specs.Uses.{is_recursive}
+use Rattle.tree_translation.specs.structural_rec.Choices.{Failing}
+use Rattle.tree_translation.specs.structural_rec.Laws.{AreRows}
+use Rattle.tree_translation.specs.structural_rec.Uses.{is_recursive}
 use Rattle.clause_reports.specs.Equations.{part_named}
 use Rattle.clause_reports.specs.Stops.{Rejection, rejection}
 use Rattle.core_text.specs.ContextText.{context_text}
-use Rattle.elaboration.specs.Functions.{failing_call, own_part}
-use Rattle.elaboration.specs.Refusals as refusal
-use Rattle.elaboration.specs.Refusals.{FailingCall, Part, Refusal, ill_typed, level_too_high, of_tree, owner_of}
-use Rattle.elaboration.specs.Walking.{Given, Opened, greatest_level, walk_clauses}
-use Rattle.function_lines.specs.FunctionMade.{session_at}
+use Rattle.clause_reports.specs.elaboration.Functions.{failing_call, own_part}
+use Rattle.clause_reports.specs.elaboration.Refusals as refusal
+use Rattle.clause_reports.specs.elaboration.Refusals.{FailingCall, Part, Refusal, ill_typed, level_too_high, of_tree, owner_of}
+use Rattle.clause_reports.specs.elaboration.Walking.{Given, Opened, greatest_level, walk_clauses}
+use Rattle.function_session.specs.function_lines.FunctionMade.{session_at}
 use Rattle.resolve.specs.Functions.{Function}
 use Rattle.refusal_laws.specs.Parts.{IsPartOf, IsTreeStart}
 use Rattle.written_functions.specs.Clauses.{with_own, parts_of}
 
 -- ---- where it ends
 
--- part k of a function with its clauses, which are the k-th list of clauses in the text
+-- part k of a function with its clauses, which are the k-th list of clauses in the source file
 pub record IsPartAt (S : Signature) (f : Function) (k : ℕ) (part : Opened) (clauses : Clauses) : Type 0 where
   pub is : IsPartOf S f k part clauses
   pub listed : slice_get (parts_of f) k ≡ Some clauses
 
--- What ends the own walk of a clause of the part, or the tree of its clauses.
+-- The cause of an end of the own walk of a clause of the part, or of the tree of its clauses.
 pub data EndCause (S : Signature) (f : Function) (k : ℕ) (part : Opened) (clauses : Clauses) (e : TreeStop) : Type 0 where
   of_walk : (number binds : ℕ) (pats : Pats) (right : Right) → clause_at clauses number ≡ Some (Is pats binds right)
       → WalkCause (with_own S f) (start_at part.tele part.goal part.terms) number pats e → EndCause S f k part clauses e
@@ -74,8 +74,9 @@ abbrev pub NoneMatches : Signature → Clauses → List Term → Type 0
 NoneMatches S clause.nil terms = Unit {0}
 NoneMatches S (clause.cons (Is pats binds right) clauses) terms = (matches_all S pats terms ≡ false) × NoneMatches S clauses terms
 
--- The refusal names a part and shows a vector of its columns in a context: splits lead there from where the tree of the part starts, as far
--- as the terms were compared. All clauses of the part are apart from the vector, so that none matches it, whatever is put for its variables.
+-- The refusal names a part and shows arguments, one for each of its columns, in a context: splits lead there from where the tree of the
+-- part starts, as far as the terms were compared. All clauses of the part are apart from these arguments, so that none matches them,
+-- whatever is put for their variables.
 pub record IsUncovered (S : Signature) (f : Function) (function context vector : List ℕ) : Type 0 where
   pub k : ℕ
   pub part : Opened
@@ -136,8 +137,8 @@ pub record AreFailing (S : Signature) (f : Function) (calls : List FailingCall) 
 
 -- ---- entries
 
--- The checker denies what was to enter a signature: a definition that comes of a draft, by its numbers there, an instance of an eliminator,
--- or an instance of axiom K. The rejection shows the denial.
+-- The checker rejects an entry that was to be added to a signature: a definition that comes of a draft, by its numbers there, an instance
+-- of an eliminator, or an instance of axiom K. The rejection shows the checker's reason.
 pub data IsDenied (r : Rejection) : Type 0 where
   of_draft : (T : Signature) (d : Draft) (name : List ℕ) (type body : Term) (left : ℕ) (site : Site) (denial : Denial)
       → renumbered_entry (settled_number T d.base d.names) d.entry ≡ Definition name type body
@@ -149,7 +150,7 @@ pub data IsDenied (r : Rejection) : Type 0 where
 
 -- ---- written parts
 
--- The checker denies a part over a signature: it finds no type, no sort, or another type than the wanted one. Or the level of the part is
+-- The checker rejects a part over a signature: it finds no type, no sort, or another type than the wanted one. Or the level of the part is
 -- too high.
 pub data IsIllTyped (r : Refusal) : Type 0 where
   no_type : (T : Signature) (part : Part) (G : Context) (t : Term) (left : ℕ) (denial : Denial) → (infer_of T nesting G t left).0 ≡ Ok (No denial)
@@ -162,8 +163,8 @@ pub data IsIllTyped (r : Refusal) : Type 0 where
 
 -- ---- all of them
 
--- What is said of a refusal. Nothing is said here of units and heights that ran out, of a part that mentions the function, and of what is
--- stuck.
+-- The cause of a refusal. There is no condition here on units and heights that ran out, on a part that mentions the function, and on a
+-- unification that is stuck.
 abbrev pub Caused : Signature → Function → Refusal → Type 0
 Caused S f (refusal.IllTyped part place context reason) = IsIllTyped (refusal.IllTyped part place context reason)
 Caused S f (refusal.WrongConstructor owner context type) = IsEnd S f (refusal.WrongConstructor owner context type)

@@ -1,23 +1,23 @@
--- What holds of the refusals of functions by clauses.
+-- The laws of the refusals of functions by clauses.
 use Rattle.std.specs.Prelude.{◌≡◌, ◌⊎◌, ℕ, true, Option, Ok, Err, List, length}
 use Rattle.theory.specs.Signatures.{Signature}
 use Rattle.clause_reports.specs.Stops.{Rejection}
 use Rattle.elab_session.specs.Sessions.{IsReady}
-use Rattle.elaboration.specs.Functions.{function_of, own_part, recursion_in}
-use Rattle.elaboration.specs.Refusals as refusal
-use Rattle.elaboration.specs.Refusals.{FailingCall, Owner, Part, Refusal}
-use Rattle.function_lines.specs.Conditions.{IsFunctionOver}
-use Rattle.function_lines.specs.FunctionMade.{function_made}
+use Rattle.clause_reports.specs.elaboration.Functions.{function_of, own_part, recursion_in}
+use Rattle.clause_reports.specs.elaboration.Refusals as refusal
+use Rattle.clause_reports.specs.elaboration.Refusals.{FailingCall, Owner, Part, Refusal}
+use Rattle.function_session.specs.function_lines.Conditions.{IsFunctionOver}
+use Rattle.function_session.specs.function_lines.FunctionMade.{function_made}
 use Rattle.function_session.specs.Elaborating as session
 use Rattle.function_session.specs.Elaborating.{elaborate_of}
-use Rattle.order_scopes.specs.Laws.{begins_closed}
+use Rattle.entry_laws.specs.order_scopes.Laws.{begins_closed}
 use Rattle.resolve.specs.Functions.{Function, function, resolve_fun}
 use Rattle.surface_syntax.specs.Trees.{Decl}
 use Rattle.tree_translation.specs.Recursion.{order_of, ordered_telescope}
 use Rattle.refusal_laws.specs.Causes.{AreFailing, Caused, IsDenied, IsEnd, IsIllTyped, IsMismatch, IsUncovered}
 use Rattle.written_functions.specs.Clauses.{with_own}
 
--- what is said of each refusal of a resolved function, as the code elaborates it
+-- a property of each refusal of a resolved function, as the code elaborates it
 abbrev pub OfRefusals : (Signature → Function → Refusal → Type 0) → Type 0
 OfRefusals Holds =
     (S : Signature) (f : Function) (fuel : ℕ) (e : Refusal) → IsFunctionOver (with_own S f) f → (function_made S f fuel).0 ≡ Err e → Holds S f e
@@ -31,7 +31,7 @@ BeginsClosed S f =
     (level : ℕ) (position : Option ℕ) →
     (let tele = (own_part f level).tele in begins_closed (ordered_telescope tele (order_of (length tele) (recursion_in (with_own S f) tele position)))) ≡ true
 
--- The same of the refusals that are meant, for such a function. Without recursion each function is one.
+-- Each refusal that is meant has its cause too, for such a function. Without recursion each function is one.
 abbrev pub MeantIsCaused : Type 0
 MeantIsCaused =
     (S : Signature) (f : Function) (fuel : ℕ) (e : Refusal) → IsFunctionOver (with_own S f) f → BeginsClosed S f → (function_of S f fuel).0 ≡ Err e →
@@ -49,7 +49,7 @@ DeclarationIsCaused =
 
 -- ---- each for itself
 
--- Uncovered: the vector that is shown is apart from all clauses of the part.
+-- Uncovered: the arguments that are shown are apart from all clauses of the part.
 abbrev pub UncoveredIsApart : Type 0
 UncoveredIsApart =
     OfRefusals (λ S f e. (function context vector : List ℕ) → e ≡ refusal.Uncovered function context vector → IsUncovered S f function context vector)
@@ -65,11 +65,11 @@ MismatchIsDenied =
 abbrev pub NotSmallerFails : Type 0
 NotSmallerFails = OfRefusals (λ S f e. (calls : List FailingCall) → e ≡ refusal.NotSmaller calls → AreFailing S f calls)
 
--- Rejected: the entry that is shown is one that the checker denies.
+-- Rejected: the entry that is shown is one that the checker rejects.
 abbrev pub RejectedIsDenied : Type 0
 RejectedIsDenied = OfRefusals (λ S f e. (r : Rejection) → e ≡ refusal.Rejected r → IsDenied r)
 
--- IllTyped: the checker denies the part that is named, or its level is too high.
+-- IllTyped: the checker rejects the part that is named, or its level is too high.
 abbrev pub IllTypedIsDenied : Type 0
 IllTypedIsDenied =
     OfRefusals (λ S f e. (part : Part) (place context reason : List ℕ) → e ≡ refusal.IllTyped part place context reason → IsIllTyped e)

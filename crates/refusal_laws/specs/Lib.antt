@@ -1,3 +1,5 @@
+pub mod accepted_laws
+pub mod unit_laws
 pub mod Parts
 pub mod Causes
 pub mod Laws

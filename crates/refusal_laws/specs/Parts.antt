@@ -11,10 +11,10 @@ use Rattle.case_trees.specs.Points.{Point, start_at, under_solution}
 use Rattle.tree_translation.specs.Entries.{ordered_variables}
 use Rattle.tree_translation.specs.Recursion.{order_of, ordered_telescope, ordered_term}
 use Rattle.clause_reports.specs.Equations.{part_named}
-use Rattle.elaboration.specs.Functions.{own_part, recursion_in}
-use Rattle.elaboration.specs.Refusals.{owner_of}
-use Rattle.elaboration.specs.Walking.{Opened, Opening, open_over, opened}
-use Rattle.function_lines.specs.FunctionMade.{session_at}
+use Rattle.clause_reports.specs.elaboration.Functions.{own_part, recursion_in}
+use Rattle.clause_reports.specs.elaboration.Refusals.{owner_of}
+use Rattle.clause_reports.specs.elaboration.Walking.{Opened, Opening, open_over, opened}
+use Rattle.function_session.specs.function_lines.FunctionMade.{session_at}
 use Rattle.resolve.specs.Functions.{Function}
 use Rattle.written_functions.specs.Clauses.{with_own}
 

@@ -16,7 +16,7 @@ pub fn declaration_is_caused()
     ensures { DeclarationIsCaused }
 {}
 
-/// A vector that is shown as uncovered is apart from each clause of the part.
+/// Arguments that are shown as uncovered are apart from each clause of the part.
 pub fn uncovered_is_apart()
     ensures { UncoveredIsApart }
 {}
@@ -31,12 +31,12 @@ pub fn not_smaller_fails()
     ensures { NotSmallerFails }
 {}
 
-/// An entry that is shown as rejected is one that the checker denies.
+/// An entry that is shown as rejected is one that the checker rejects.
 pub fn rejected_is_denied()
     ensures { RejectedIsDenied }
 {}
 
-/// A part that is shown as ill typed is one that the checker denies, or its level is too high.
+/// A part that is shown as ill typed is one that the checker rejects, or its level is too high.
 pub fn ill_typed_is_denied()
     ensures { IllTypedIsDenied }
 {}

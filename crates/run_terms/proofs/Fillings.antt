@@ -7,5 +7,3 @@ use Rattle.theory.specs.Substitutions.{extend, fill}
 pub fill-both : (s : ℕ → Term) (us vs : List Term) → fill s (us ++ vs) ≡ fill (fill s us) vs
 fill-both s [] vs = ap (λ q. fill q vs) (fun_ext (λ n. refl))
 fill-both s (u ∷ us) vs = fill-both (extend s u) us vs
-
-pub ruleset fillings = (fill-both)

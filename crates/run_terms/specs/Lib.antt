@@ -1,3 +1,5 @@
+pub mod outlines
+pub mod cycle_terms
 pub mod AnsweredParts
 pub mod CodeConfusions
 pub mod CodeHidden

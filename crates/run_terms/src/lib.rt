@@ -3,6 +3,7 @@
 
 mod comparisons;
 mod confusion_terms;
+pub mod cycle_terms;
 mod hidden;
 mod injecting;
 mod injections;
@@ -13,6 +14,7 @@ mod moving;
 mod names;
 mod naming;
 mod occurrences;
+pub mod outlines;
 mod places;
 mod placing;
 mod raising;

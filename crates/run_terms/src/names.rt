@@ -3,9 +3,9 @@ ghost use Rattle.core_terms.specs.Answers.{Gives};
 ghost use Rattle.core_sig.specs.Drafts as drafts;
 ghost use Rattle.core_sig.specs.Meanings.{family_of};
 ghost use Rattle.theory.specs.PreludeFamilies.{level_text};
-ghost use Rattle.noconf_gen.specs.NoConfusionTypes as confusion;
-ghost use Rattle.acyclic_gen.specs.AcyclicEntries as acyclic;
-ghost use Rattle.acyclic_gen.specs.DirectEntries as direct;
+ghost use Rattle.generators.specs.noconf_gen.NoConfusionTypes as confusion;
+ghost use Rattle.generators.specs.acyclic_gen.AcyclicEntries as acyclic;
+ghost use Rattle.generators.specs.acyclic_gen.DirectEntries as direct;
 ghost use Rattle.tree_translation.specs.Naming as spec;
 
 use core_sig::{Constructor, Family};

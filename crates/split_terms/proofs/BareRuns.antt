@@ -222,7 +222,7 @@ branch-ended-bare S L node m x number c steps names nodes =
     ap (λ ended. and_then ended (λ r. Ok (r.0, nodes ++ node_of r.1 ∷ []))) (ended-bare S L steps s names)
     ∙ sym (then-then (run_ended S L steps s names) (λ r. Ok (r.0, bare r.1)) (λ r. Ok (r.0, nodes ++ node_of r.1 ∷ []))))
 
--- what is made of the end of a run, where it is the same of a bare end
+-- a function that has the same value at the end of a run and at the bare end has it from a bare start too
 pub end-bare : {B : Type 0} (S : Signature) (node : Node) (m : Member) (x number : ℕ) (c : Constructor) (steps : List Step) (f : Standing → Result B Stop)
     → ((s : Standing) → f (bare s) ≡ f s)
     → and_then (bare_standing node m x number c) (λ s. and_then (after_run S steps s) f)

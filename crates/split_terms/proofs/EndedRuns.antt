@@ -1,4 +1,4 @@
--- What the names of runs are with the nodes after them: the names alone, and the node after the run of each constructor.
+-- The names of runs with the nodes after them: the names alone, and the node after the run of each constructor.
 use Rattle.std.proofs.Common.{◌≡◌, ℕ, ◌+◌, Option, Some, None, Result, Ok, Err, List, [], ◌∷◌, ◌++◌, refl, sym, ap, ◌∙◌}
 use Rattle.theory.specs.Families.{Constructor}
 use Rattle.theory.specs.Signatures.{Signature}
@@ -74,7 +74,7 @@ split-alone S L node x type runs names =
     ∙ same-answers (member_made S type) (λ m. alone (member_ended S L node x runs names m)) (member_names_made S L node x runs names)
     (member-alone S L node x runs names)
 
--- what follows of the names and the nodes of a split for its names
+-- the answer for the names of a split, by that for its names with its nodes
 pub names-deep : (S : Signature) (L : ℕ) (node : Node) (x : ℕ) (type : Term) (runs : List (List Step)) (names : List (List ℕ)) (e : Stop)
     → ◌≡◌ {A = Result (List (List ℕ) × List Node) Stop} (Err e) (split_ended S L node x type runs names)
     → ◌≡◌ {A = Result (List (List ℕ)) Stop} (Err e) (split_names_made S L node x type runs names)

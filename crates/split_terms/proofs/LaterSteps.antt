@@ -1,4 +1,4 @@
--- What is made of a step around the later ones, which are made apart.
+-- The term of a step around those of the later ones, which are made apart.
 use Rattle.std.proofs.Common.{◌≡◌, ℕ, zero, suc, ◌+◌, ◌-◌, ◌&&◌, nat_lt, Bool, true, false, cond, Option, Some, None, Result, Ok, Err, List, [], ◌∷◌, ◌++◌, length, map, drop, get_or, refl, sym, ap, ◌∙◌}
 use Rattle.theory.specs.Terms.{Term, Var, Sort, Lam, App, Const, Elim, AxiomK}
 use Rattle.theory.specs.Signatures.{Signature, equality, equation}
@@ -20,7 +20,7 @@ use Rattle.tree_translation.specs.Replays.{kept, level_of_first, solved_standing
 use Rattle.tree_translation.specs.SolutionTerms.{delete_term, remaining_goal, solution_motive, solution_term}
 use Rattle.tree_translation.specs.Splits.{is_absurd, is_last}
 use Rattle.tree_translation.specs.Standings.{Standing, first_equations, further_equations, here, inside, placed_telescope, state_term}
-use Rattle.outlines.specs.Later.{at_head, in_body, is_variable, with_later}
+use Rattle.run_terms.specs.outlines.Later.{at_head, in_body, is_variable, with_later}
 use Rattle.run_terms.specs.CodeConfusions.{before_group, compared_made, confused_with, inject_made, inject_with, injection_motive}
 use Rattle.run_terms.specs.CodeRuns.{after_step}
 use Rattle.split_terms.specs.CodeRunTerms.{on_comparison_made, refutation_made, rule_made, run_made, sides_made, step_made}

@@ -13,7 +13,7 @@ use Rattle.tree_translation.specs.Naming.{Naming}
 use Rattle.tree_translation.specs.RunTerms.{no_term}
 use Rattle.tree_translation.specs.Splits.{Node, first_of, is_absurd, is_last, scrutinee}
 use Rattle.tree_translation.specs.Standings.{Standing}
-use Rattle.outlines.specs.Later.{at_head, in_body, with_later}
+use Rattle.run_terms.specs.outlines.Later.{at_head, in_body, with_later}
 use Rattle.run_terms.specs.Made.{reflexivities_made}
 use Rattle.split_terms.specs.CodeRunTerms.{run_made, step_made}
 use Rattle.split_terms.specs.CodeSplits.{method_made, method_with, split_end, standing_made}
@@ -31,10 +31,6 @@ module _ (S : Signature) (number : Naming) (L : ℕ) (s : Standing) (step : Step
       → ◌≡◌ {A = Result Term Stop} (Ok (cond (is_last step.rule) t (with_later t N))) (step_made S number L s step next N)
   step-made t h =
       ap (λ r. and_then r (λ t. Ok (cond (is_last step.rule) t (with_later t N)))) h ∙ sym (step-around S number L s step next N)
-
-  pub step-whole : (t : Term) → ◌≡◌ {A = Result Term Stop} (Ok t) (step_made S number L s step next (Sort 0)) → is_last step.rule ≡ true
-      → ◌≡◌ {A = Result Term Stop} (Ok t) (step_made S number L s step next N)
-  step-whole t h last = sym (ap (λ b. Ok (cond b t (with_later t N))) last) ∙ step-made t h
 
   pub step-later : (t : Term) → ◌≡◌ {A = Result Term Stop} (Ok t) (step_made S number L s step next (Sort 0)) → is_last step.rule ≡ false
       → ◌≡◌ {A = Result Term Stop} (Ok (with_later t N)) (step_made S number L s step next N)
@@ -79,10 +75,6 @@ end-around m x N =
     (λ t. at_head t N)
     (λ refls.
     sym (at-arguments (applied (Sort 0) (scrutinee m x)) refls N ∙ ap (λ h. applied h refls) (at-arguments (Sort 0) (scrutinee m x) N)))
-
-pub end-deep : (m : Member) (x : ℕ) (N : Term) (e : Stop) → ◌≡◌ {A = Result Term Stop} (Err e) (split_end m x (Sort 0))
-    → ◌≡◌ {A = Result Term Stop} (Err e) (split_end m x N)
-end-deep m x N e h = ap (λ r. and_then r (λ t. Ok (at_head t N))) h ∙ sym (end-around m x N)
 
 pub end-next : (m : Member) (x : ℕ) (N t : Term) → ◌≡◌ {A = Result Term Stop} (Ok t) (split_end m x (Sort 0))
     → ◌≡◌ {A = Result Term Stop} (Ok (at_head t N)) (split_end m x N)

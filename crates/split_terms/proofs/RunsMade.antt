@@ -1,4 +1,4 @@
--- What is made of a run is what is meant.
+-- The term and the names that the code makes of a run are those that are meant.
 use Rattle.std.proofs.Common.{◌≡◌, ℕ, ◌-◌, ◌&&◌, Bool, true, false, cond, Option, Some, None, List, [], ◌∷◌, ◌++◌, Result, Ok, Err, sym, ap, ap₂, ◌∙◌, append_assoc}
 use Rattle.theory.specs.Terms.{Term}
 use Rattle.theory.specs.Signatures.{Signature}

@@ -1,4 +1,4 @@
--- What is made of a split node is what is meant.
+-- The term and the names that the code makes of a split node are those that are meant.
 use Rattle.std.proofs.Common.{◌≡◌, ℕ, ◌+◌, cond, Option, Some, None, List, [], ◌∷◌, ◌++◌, length, Result, Ok, sym, ap, ◌∙◌, append_assoc}
 use Rattle.theory.specs.Terms.{Term, App, Const}
 use Rattle.theory.specs.Telescopes.{applied, variables}

@@ -20,7 +20,7 @@ use Rattle.tree_translation.specs.Standings.{Standing, here, state_term}
 use Rattle.run_terms.specs.CodeConfusions.{conflict_made, inject_made}
 use Rattle.run_terms.specs.CodeRuns.{after_step}
 
--- what is made from the sides of a step, or Deep where one of them is too high
+-- an answer that is made from the sides of a step, or Deep where one of them is too high
 abbrev pub if_low_sides : {A : Type 0} → Step → Result A Stop → Result A Stop
 if_low_sides step made = cond (is_low step.left && is_low step.right) made (Err Deep)
 
@@ -54,7 +54,7 @@ rule_made S number L s step (SolveLeft x) N = Ok (solve_left_term number L s x s
 rule_made S number L s step Delete N = Ok (delete_term L s step.ty step.left N)
 rule_made S number L s step rule N = if_low_sides step (sides_made S number L s step rule N)
 
--- the term of a step of a run, from what the term is after the equations of the next standing
+-- the term of a step of a run, from the term after the equations of the next standing
 abbrev pub step_made : Signature → Naming → (L : ℕ) → Standing → Step → (next : Standing) (inner : Term) → Result Term Stop
 step_made S number L s step next inner =
     rule_made S number L s (step_in s step) (step_in s step).rule (state_term next inner)
@@ -81,7 +81,7 @@ run_names_made S L [] s names = Ok names
 run_names_made S L (step ∷ steps) s names =
     and_then (step_names_made S L s step names) (λ all. and_then (after_step S s step) (λ next. run_names_made S L steps next all))
 
--- the same names, and the standing after the run
+-- the names of a run after the given ones, and the standing after the run
 abbrev pub run_ended : Signature → (L : ℕ) → List Step → Standing → (names : List (List ℕ)) → Result (List (List ℕ) × Standing) Stop
 run_ended S L [] s names = Ok (names, s)
 run_ended S L (step ∷ steps) s names =

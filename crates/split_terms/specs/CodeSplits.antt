@@ -1,5 +1,5 @@
--- Split nodes as the code makes their terms: Deep where the type that is split is too high, where something in the equations of the
--- motive or of a constructor is, in what proves those of the motive, or in a run.
+-- Split nodes as the code makes their terms: Deep where the type that is split is too high, or a term in the equations of the motive or of
+-- a constructor, or in the proofs of those of the motive, and where a run is Deep.
 use Rattle.std.specs.Prelude.{ℕ, ◌+◌, cond, Option, Some, None, List, [], ◌∷◌, ◌++◌, length, Result, Ok, Err}
 use Rattle.theory.specs.Terms.{Term, App, Const, lift}
 use Rattle.theory.specs.Telescopes.{Telescope, products, functions, applied, variables}
@@ -124,7 +124,7 @@ abbrev pub split_names_made : Signature → (L : ℕ) → Node → (x : ℕ) (ty
     → Result (List (List ℕ)) Stop
 split_names_made S L node x type runs names = and_then (member_made S type) (member_names_made S L node x runs names)
 
--- ---- the same names, and the nodes after the runs, after those that are there
+-- ---- those names, and the nodes after the runs, after those that are there
 
 abbrev pub branch_ended : Signature → (L : ℕ) → Node → Member → (x number : ℕ) → Constructor → List Step → (names : List (List ℕ)) (nodes : List Node)
     → Result (List (List ℕ) × List Node) Stop

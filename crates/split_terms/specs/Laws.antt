@@ -1,4 +1,4 @@
--- What is answered as the term or the names of a run is what is meant, where each next standing is the one that is meant.
+-- The term and the names that the code makes of a run are those of the definitions, where each next standing is the one that is meant.
 use Rattle.std.specs.Prelude.{◌≡◌, ℕ, List, ◌++◌, Ok}
 use Rattle.theory.specs.Terms.{Term}
 use Rattle.theory.specs.Signatures.{Signature}

@@ -1,4 +1,4 @@
--- What nodes of the code stand for, alone and beside names, and what is known of the family of a variable that is split.
+-- The meanings of nodes of the code, alone and beside names, and the conditions on the family of a variable that is split.
 use Rattle.std.specs.Prelude.{◌≡◌, ℕ, List, [], ◌∷◌, length, map}
 use Rattle.theory.specs.Terms as tree
 use Rattle.core_terms.specs.Meanings.{tree_of, tele_of}

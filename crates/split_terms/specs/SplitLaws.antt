@@ -1,5 +1,5 @@
--- What is answered as a standing of a split, as its term or as its names is what is meant, where each next standing of a run is the one
--- that is meant.
+-- The standings, the term and the names that the code makes of a split are those of the definitions, where each next standing of a run is
+-- the one that is meant.
 use Rattle.std.specs.Prelude.{◌≡◌, ℕ, List, ◌++◌, Ok}
 use Rattle.theory.specs.Terms.{Term}
 use Rattle.theory.specs.Families.{Constructor}

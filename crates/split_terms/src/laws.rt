@@ -1,12 +1,12 @@
-//! What is answered as a term, or as names, is what is meant.
+//! The terms and the names of runs that the code makes are those of the definitions.
 ghost use Rattle.split_terms.specs.Laws.{NamesAreThese, RunIsTerm};
 
-/// What is answered as the term of a run is that term.
+/// The term that the code makes of a run is the run's term.
 pub fn run_is_term()
     ensures { RunIsTerm }
 {}
 
-/// What is answered as the names of a run is those names, after the given ones.
+/// The names that the code finds in a run are the run's names, after the given ones.
 pub fn run_names_are_these()
     ensures { NamesAreThese }
 {}

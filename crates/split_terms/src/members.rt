@@ -16,7 +16,7 @@ use kernel_reduce::family;
 use std::alloc::Global;
 use tele_eq::Item;
 
-/// The same member with the record of its family in the signature, whose arguments have the kinds of their types.
+/// The member with the record of its family in the signature, whose arguments have the kinds of their types.
 fn with_record<'a>(sig: &'a Signature, m: Member<'a>) -> Option<Member<'a>>
     requires there { family_at sig.now m.number ≡ Some (family_of m.family.now) }
     requires parameters { length m.params ≡ length m.family.now.params }

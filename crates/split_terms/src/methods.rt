@@ -9,7 +9,7 @@ ghost use Rattle.unification.specs.Records as records;
 ghost use Rattle.tree_translation.specs.RunTerms.{no_term};
 ghost use Rattle.tree_translation.specs.Splits as splits;
 ghost use Rattle.clause_walks.specs.LookMeanings.{member_meant};
-ghost use Rattle.outlines.specs.OutlineMeanings.{outline_of, outlines_of};
+ghost use Rattle.run_terms.specs.outlines.OutlineMeanings.{outline_of, outlines_of};
 ghost use Rattle.run_terms.specs.CodeNaming.{naming_of};
 ghost use Rattle.run_terms.specs.StandingMeanings.{standing_of};
 ghost use Rattle.split_terms.specs.Bare.{bare_standing};
@@ -24,7 +24,7 @@ use crate::runs::run_term;
 use clause_walks::Member;
 use core_sig::{Constructor, Signature};
 use core_terms::{Items, Rule, Step, Stop, Tele, Term, functions, next, number_of, products, sum};
-use outlines::{Outline, Outlines, in_body};
+use run_terms::outlines::{Outline, Outlines, in_body};
 use run_terms::{
     Naming, Standing, all_raised, argument_items, equations_made, family_items, raised, state_term,
 };

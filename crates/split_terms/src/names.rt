@@ -18,7 +18,7 @@ ghost use Rattle.split_terms.specs.NodeMeanings.{named_standing_of};
 use crate::steps::next_standing;
 use core_sig::Signature;
 use core_terms::{Items, MAX_HEIGHT, Name, Rule, Step, Stop, copy_name};
-use cycle_terms::cycle_names;
+use run_terms::cycle_terms::cycle_names;
 use run_terms::{Comparison, Standing, compared, first_level, left_name, noconf_name, step_in};
 use std::alloc::Global;
 
@@ -54,7 +54,7 @@ fn with_noconf(
     Ok(names)
 }
 
-/// The same, where a step compares two constructors.
+/// Names, followed by that of no confusion where a step compares two constructors.
 #[tactic(auto, using(tele_eq::proofs::Growing::listing))]
 fn with_compared(
     alloc: Global,
@@ -126,7 +126,7 @@ fn with_sides(
     }
 }
 
-/// The same, or Deep where a side is too high.
+/// Names, followed by those of a step whose rule reads its sides as constructors, or Deep where a side is too high.
 fn with_high_sides(
     alloc: Global,
     sig: &Signature,

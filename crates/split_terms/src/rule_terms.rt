@@ -11,7 +11,7 @@ ghost use Rattle.split_terms.specs.CodeRunTerms as spec;
 
 use core_sig::Signature;
 use core_terms::{MAX_HEIGHT, Rule, Step, Stop, Term};
-use cycle_terms::cycle_of_sides;
+use run_terms::cycle_terms::cycle_of_sides;
 use run_terms::{
     Naming, Standing, compared, conflict_term, delete_term, inject_term, solve_left_term,
     solve_right_term, state_term, step_in,
@@ -81,7 +81,7 @@ fn sides_term(
     }
 }
 
-/// The same, or Deep where a side is too high.
+/// The term of a step whose rule reads its sides as constructors, or Deep where a side is too high.
 fn high_sides_term(
     alloc: Global,
     sig: &Signature,
@@ -127,7 +127,7 @@ fn rule_term(
     }
 }
 
-/// The term of a step of a run, from what the term is after the equations of the next standing.
+/// The term of a step of a run, from the term after the equations of the next standing.
 pub fn step_term(
     alloc: Global,
     sig: &Signature,

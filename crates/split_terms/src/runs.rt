@@ -1,7 +1,7 @@
 ghost use Rattle.std.specs.Prelude.{◌≡◌, Ok};
 ghost use Rattle.core_terms.specs.Answers.{Gives};
 ghost use Rattle.core_terms.specs.TreeMeanings.{step_of, steps_of};
-ghost use Rattle.outlines.specs.OutlineMeanings.{outline_of};
+ghost use Rattle.run_terms.specs.outlines.OutlineMeanings.{outline_of};
 ghost use Rattle.tree_translation.specs.Standings.{here};
 ghost use Rattle.run_terms.specs.CodeNaming.{naming_of};
 ghost use Rattle.run_terms.specs.CodeRuns as runs;
@@ -12,7 +12,7 @@ use crate::methods::is_last;
 use crate::rule_terms::step_term;
 use core_sig::Signature;
 use core_terms::{Items, Step, Stop, Term};
-use outlines::{Outline, with_later};
+use run_terms::outlines::{Outline, with_later};
 use run_terms::{Naming, Standing, after_step, inside, with_all};
 use std::alloc::Global;
 

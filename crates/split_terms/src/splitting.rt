@@ -7,7 +7,7 @@ ghost use Rattle.theory.specs.Terms as tree;
 ghost use Rattle.unification.specs.Records as records;
 ghost use Rattle.tree_translation.specs.Naming as names;
 ghost use Rattle.clause_walks.specs.LookMeanings.{member_meant};
-ghost use Rattle.outlines.specs.OutlineMeanings.{outline_of, outlines_of};
+ghost use Rattle.run_terms.specs.outlines.OutlineMeanings.{outline_of, outlines_of};
 ghost use Rattle.run_terms.specs.CodeNaming.{naming_of};
 ghost use Rattle.run_terms.specs.Made as made;
 ghost use Rattle.split_terms.specs.CodeSplits as spec;
@@ -20,7 +20,7 @@ use crate::split_naming::split_names;
 use clause_walks::Member;
 use core_sig::Signature;
 use core_terms::{Items, Name, Step, Stop, Tele, Term, applied, checked, copy_tele};
-use outlines::{Outline, Outlines, at_head, first_whole, whole};
+use run_terms::outlines::{Outline, Outlines, at_head, first_whole, whole};
 use run_terms::{Naming, case_name, constant, family_items, reflexivities_made, with_names};
 use std::alloc::Global;
 
@@ -66,7 +66,8 @@ fn applied_to_scrutinee(alloc: Global, m: &Member, x: u32, head: Term) -> Result
     applied(alloc, head, refls.into_vec())
 }
 
-/// The same for a head in outline.
+/// A head in outline applied to the indices, the variable and their reflexivities, or Deep where something in these is
+/// too high.
 fn split_end(alloc: Global, m: &Member, x: u32, head: Outline) -> Result<Outline, Stop>
     ensures { Gives outline_of result (spec.split_end (member_meant m.now) x (outline_of head)) }
 {
@@ -138,8 +139,8 @@ pub fn split_node(
     whole(alloc, outline)
 }
 
-/// The same where these are the names of generated entries, which have the numbers after those of the signature, or Deep where the term is
-/// too high.
+/// The term of a split node where these are the names of generated entries, which have the numbers after those of the
+/// signature, or Deep where the term is too high.
 fn split_named(
     alloc: Global,
     sig: &Signature,

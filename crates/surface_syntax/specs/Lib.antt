@@ -1,3 +1,4 @@
+pub mod word_laws
 pub mod Endings
 pub mod Grammar
 pub mod Laws

@@ -22,6 +22,7 @@ mod stop;
 mod terms;
 mod token;
 mod tree;
+pub mod word_laws;
 
 pub use laws::{
     finds_nothing_else, finds_the_longest, goes_too_deep_with_the_grammar,

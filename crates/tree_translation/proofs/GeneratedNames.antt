@@ -16,8 +16,8 @@ use Rattle.unification.specs.States.{State}
 use Rattle.unification.specs.Built.{Built, built_of}
 use Rattle.unification.proofs.Constructors.{built-is}
 use Rattle.case_trees.specs.Problems.{Member, member_with, member_at, member_of}
-use Rattle.acyclic_gen.specs.AcyclicEntries.{acyclic_name}
-use Rattle.acyclic_gen.specs.DirectEntries.{direct_name}
+use Rattle.generators.specs.acyclic_gen.AcyclicEntries.{acyclic_name}
+use Rattle.generators.specs.acyclic_gen.DirectEntries.{direct_name}
 use Rattle.tree_translation.specs.Naming.{left_name, case_name}
 use Rattle.tree_translation.specs.Standings.{Standing}
 use Rattle.tree_translation.specs.Comparisons.{Comparison, compared, compared_in, compared_by}

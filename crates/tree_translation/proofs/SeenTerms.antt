@@ -1,5 +1,5 @@
 -- Terms that are seen without the hidden variables, read over the whole context: they are instantiated.
-use Rattle.std.proofs.Common.{◌≡◌, ℕ, zero, suc, ◌+◌, ◌-◌, ◌<◌, ◌≤◌, inl, inr, List, [], ◌∷◌, ◌++◌, length, map, get_or, refl, sym, ap, ap₂, ◌∙◌, arith}
+use Rattle.std.proofs.Common.{◌≡◌, ℕ, zero, suc, ◌+◌, ◌-◌, ◌<◌, ◌≤◌, inl, inr, List, [], ◌∷◌, ◌++◌, length, get_or, refl, sym, ap, ap₂, ◌∙◌, arith}
 use Rattle.std.proofs.lemmas.List.{length-append}
 use Rattle.theory.specs.Terms.{Term, Var}
 use Rattle.theory.specs.Substitutions.{inst}
@@ -45,10 +45,6 @@ widening n hidden = stands (at_levels (visible n hidden)) (length (visible n hid
 pub widened-is : (n : ℕ) (hidden : List ℕ) (t : Term) → widened n hidden t ≡ inst (widening n hidden) t
 widened-is n hidden t =
     put-is_inst (at_levels (visible n hidden)) (length (visible n hidden)) n (levels-lift (visible n hidden) n (visible-are n hidden)) t
-
-pub all-widened : (n : ℕ) (hidden : List ℕ) (ts : List Term) → map (widened n hidden) ts ≡ map (inst (widening n hidden)) ts
-all-widened n hidden [] = refl
-all-widened n hidden (t ∷ ts) = ap₂ ◌∷◌ (widened-is n hidden t) (all-widened n hidden ts)
 
 pub get-first : (xs ys : List ℕ) (j : ℕ) → j < length xs → get_or (xs ++ ys) j 0 ≡ get_or xs j 0
 get-first [] ys j lt = absurd (omega arith)

@@ -17,8 +17,8 @@ use Rattle.core_terms.specs.Patterns.{Pats}
 use Rattle.tele_eq.specs.Items.{term_at}
 use Rattle.unification.specs.ScopedStates.{IsReady}
 use Rattle.unification.specs.Outcomes.{Outcome, Solved, Absurd}
-use Rattle.structural_rec.specs.Uses.{Use}
-use Rattle.structural_rec.specs.Choices.{Choice, NotRecursive, At, choose}
+use Rattle.tree_translation.specs.structural_rec.Uses.{Use}
+use Rattle.tree_translation.specs.structural_rec.Choices.{Choice, NotRecursive, At, choose}
 use Rattle.case_trees.specs.Points.{under_solution}
 use Rattle.case_trees.specs.OwnWalks.{own_walk_of}
 use Rattle.case_trees.specs.Trees.{split_of}

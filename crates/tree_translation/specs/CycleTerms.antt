@@ -14,11 +14,11 @@ use Rattle.case_below_gen.specs.declared.sides.Side.{Side}
 use Rattle.case_below_gen.specs.declared.sides.Side.TheVariants.{First, Second}
 use Rattle.case_below_gen.specs.PartTests.{constructor_of, in_constructor, if_recursive}
 use Rattle.case_below_gen.specs.Paths.{with_arguments}
-use Rattle.acyclic_gen.specs.Statements.{carrier_at, at_level, equal, no_part, directs}
-use Rattle.acyclic_gen.specs.Pairings.{Within, projection, component}
-use Rattle.acyclic_gen.specs.DirectEntries.{carrier_of, direct_name}
-use Rattle.acyclic_gen.specs.AcyclicEntries.{acyclic_name}
-use Rattle.acyclic_gen.specs.declared.carrier.Carrier.{Carrier}
+use Rattle.generators.specs.acyclic_gen.Statements.{carrier_at, at_level, equal, no_part, directs}
+use Rattle.generators.specs.acyclic_gen.Pairings.{Within, projection, component}
+use Rattle.generators.specs.acyclic_gen.DirectEntries.{carrier_of, direct_name}
+use Rattle.generators.specs.acyclic_gen.AcyclicEntries.{acyclic_name}
+use Rattle.generators.specs.declared.acyclic_gen.carrier.Carrier.{Carrier}
 use Rattle.unification.specs.Rules.{level_of}
 use Rattle.unification.specs.Built.{Built}
 use Rattle.unification.specs.Solutions.{variable_in}

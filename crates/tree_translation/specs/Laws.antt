@@ -12,8 +12,8 @@ use Rattle.core_terms.specs.declared.stop.Stop.TheVariants.{Deep}
 use Rattle.core_sig.specs.Drafts.{Draft}
 use Rattle.core_sig.specs.DraftScopes.{IsDraftTerm}
 use Rattle.core_sig.specs.ScopedDrafts.{IsScopedDraft}
-use Rattle.acyclic_gen.specs.AcyclicEntries.{acyclic_name}
-use Rattle.acyclic_gen.specs.DirectEntries.{direct_name}
+use Rattle.generators.specs.acyclic_gen.AcyclicEntries.{acyclic_name}
+use Rattle.generators.specs.acyclic_gen.DirectEntries.{direct_name}
 use Rattle.core_sig.specs.Names.{find}
 use Rattle.unification.specs.States.{State, Equation, Problem}
 use Rattle.unification.specs.Outcomes.{Solved}

@@ -1,3 +1,4 @@
+pub mod structural_rec
 pub mod Comparisons
 pub mod Conditions
 pub mod ConfusionTerms

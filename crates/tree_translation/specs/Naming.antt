@@ -9,7 +9,7 @@ use Rattle.core_terms.specs.declared.stop.Stop.{Stop}
 use Rattle.core_sig.specs.Settling.{renumbered}
 use Rattle.core_sig.specs.Drafts.{Draft, drafted, generated_name}
 use Rattle.tele_eq.specs.Levels.{is_among, place_in}
-use Rattle.noconf_gen.specs.NoConfusionTypes.{constructor_mark, constructor_name}
+use Rattle.generators.specs.noconf_gen.NoConfusionTypes.{constructor_mark, constructor_name}
 
 -- a number for each name
 abbrev pub Naming : Type 0

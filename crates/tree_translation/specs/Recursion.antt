@@ -11,8 +11,8 @@ use Rattle.kernel_reduce.specs.Entries.{family_at}
 use Rattle.tele_eq.specs.Items.{term_at}
 use Rattle.tele_eq.specs.Environments.{put}
 use Rattle.unification.specs.Solving.{reordered, new_context}
-use Rattle.structural_rec.specs.Positions.{Admission, admission}
-use Rattle.structural_rec.specs.Orders.{recursive_positions, recursion_order}
+use Rattle.tree_translation.specs.structural_rec.Positions.{Admission, admission}
+use Rattle.tree_translation.specs.structural_rec.Orders.{recursive_positions, recursion_order}
 use Rattle.tree_translation.specs.Naming.{Naming, below_name, motive_name}
 use Rattle.tree_translation.specs.Plans.{Plan, own_part}
 use Rattle.tree_translation.specs.Standings.{levels_from}

@@ -6,8 +6,8 @@ use Rattle.core_terms.specs.CaseTrees.{Step}
 use Rattle.core_terms.specs.declared.case_tree.Rule.{Rule}
 use Rattle.core_terms.specs.declared.case_tree.Rule.TheVariants.{SolveRight, SolveLeft, Inject, Conflict, Cycle, Delete}
 use Rattle.unification.specs.Built.{Built, built_of}
-use Rattle.acyclic_gen.specs.DirectEntries.{direct_name}
-use Rattle.acyclic_gen.specs.AcyclicEntries.{acyclic_name}
+use Rattle.generators.specs.acyclic_gen.DirectEntries.{direct_name}
+use Rattle.generators.specs.acyclic_gen.AcyclicEntries.{acyclic_name}
 use Rattle.tree_translation.specs.Naming.{Naming, noconf_name, left_name}
 use Rattle.tree_translation.specs.Standings.{Standing, inside, placed, state_term}
 use Rattle.tree_translation.specs.Comparisons.{Comparison, compared}

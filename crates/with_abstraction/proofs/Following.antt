@@ -20,7 +20,7 @@ abbrev pub EachFollows : (n : ℕ) (types : List Term) (done rest : List ℕ) �
 EachFollows n types done [] = Unit {0}
 EachFollows n types done (j ∷ rest) = IsWithin n done (term_at types j) × EachFollows n types (done ++ j ∷ []) rest
 
--- what is known of the types of the context, and of that of the new variable
+-- the dependencies of the types of the context, and of that of the new variable
 pub record IsOpened (n : ℕ) (types : List Term) (s : Term) : Type 0 where
   pub count : length types ≡ n
   pub before : (j l : ℕ) → j < n → l < n + 1 → has_variable (n + 1 - (l + 1)) (term_at types j) ≡ true → (l < j) ⊎ (l ≡ n)

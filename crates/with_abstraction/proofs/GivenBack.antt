@@ -114,7 +114,7 @@ types-by_level n t type old types goal c e =
     ∙ sym (test-other l n type (lift (term_at old l) (n - l) 0) (λ same. omega arith)))
     (test-same n n type (lift (term_at old n) (n - n) 0) refl) (front-below n types) (back-below n types e)
 
--- ---- what stands for the variables
+-- ---- terms for the variables
 
 get-place : (f : ℕ → Term) (done rest : List ℕ) (l : ℕ) (d : Term) → is_among l done ≡ true → get_or (map f done) (place_in (done ++ rest) l) d ≡ f l
 get-place f [] rest l d h = absurd (cc)

@@ -1,4 +1,4 @@
--- No occurrence of the scrutinee is left: what stands for it in the new goal, or in a type that is not needed, is the new variable.
+-- No occurrence of the scrutinee is left: it is the new variable in the new goal, and in each type that is not needed.
 use Rattle.std.proofs.Common.{◌≡◌, ℕ, suc, ◌+◌, ◌-◌, ◌≤◌, ◌<◌, ◌==◌, nat_lt, Bool, true, false, ◌||◌, cond, List, [], ◌∷◌, ◌++◌, length, map, take, drop, refl, sym, ap, ap₂, ◌∙◌, subst as transport, eq-eqb, add-one, arith}
 use native.Mathlib.Decide.{ℕ_discrete}
 use Rattle.std.proofs.lemmas.Bool.Decides.{nat_tests, Decides-eqb}
@@ -88,7 +88,7 @@ lifted-variable_is (Con i c) under k e = absurd (cc)
 lifted-variable_is (Elim i m) under k e = absurd (cc)
 lifted-variable_is (AxiomK i m) under k e = absurd (cc)
 
--- ---- what occurs as the scrutinee is the new variable
+-- ---- a term that occurs as the scrutinee is the new variable
 
 -- the new variable is among the values, and u is that variable
 abbrev pub IsNew : (values : List Term) (order : List ℕ) (n : ℕ) (u : Term) → Type 0
@@ -125,7 +125,7 @@ root values order n t u g under free stands at occ =
           ∙ ap Var (let e : length values + under - (place_in order n + 1) - under ≡ length values - (place_in order n + 1) = omega arith in e),
     )
 
--- what occurs in a variable is the variable
+-- a term that occurs in a variable is the variable
 leaf-root : (u x : Term) (under k : ℕ) → x ≡ Var k → occurs u under x ≡ true → is_occurrence u under x ≡ true
 leaf-root u x under k e h =
     transport (λ y. occurs u under y ≡ true → is_occurrence u under y ≡ true) (sym e) (λ there. there) h
@@ -165,7 +165,7 @@ node values order n t u g x under is free stands at inner occ = by (is_occurrenc
         (transport (λ w. EachStands values order n t under w) same stands)
         (transport (λ w. occurs u under (placed values order n under w) ≡ true) same occ)
 
--- what occurs in a term without t, and is t at the values, is the new variable
+-- a term that occurs in a term without t, and is t at the values, is the new variable
 pub none-left : (values : List Term) (order : List ℕ) (n : ℕ) (t u : Term) (g : Term) (under : ℕ) → free_of (without_under t under g) ≤ n + 1 + under
     → EachStands values order n t under (without_under t under g) → at_terms values u ≡ t
     → occurs u under (placed values order n under (without_under t under g)) ≡ true → IsNew values order n u

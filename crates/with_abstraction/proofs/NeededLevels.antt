@@ -9,7 +9,7 @@ use Rattle.unification.proofs.Cases.{here-or_below}
 use Rattle.unification.proofs.Levels.{among-cases, among-own, among-later}
 use Rattle.with_abstraction.specs.Needed.{is_mentioned, needed_below}
 
--- what is found is kept, with a level before it or without
+-- a level that is found is kept, with a level before it or without
 found-more : (b : Bool) (i p : ℕ) (found : List ℕ) → is_among i found ≡ true → is_among i (cond b (p ∷ found) found) ≡ true
 found-more true i p found h = among-later i p found h
 found-more false i p found h = h

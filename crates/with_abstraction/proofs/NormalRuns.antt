@@ -62,7 +62,7 @@ all-normal S types ty a others left more rest le is h k =
 
 -- ---- goal, types and scrutinee
 
--- what follows the goal, and what follows the types
+-- the normal forms that are made after the types, and those after the goal
 abbrev behind_types : Signature → (G t : Term) → List Term → ℕ → Spent NormalForms
 behind_types S G t types more =
     and_next (plain_normal_of S t more) (λ u end. answered (Ok (record { goal = G; types = types; scrutinee = u })) end)
@@ -132,7 +132,7 @@ abstraction-is S context goal t type m left rest le h =
     continued (normal_forms_of S context goal t left) (from_forms type) m rest (answered (Ok (abstracted m type)) rest) h
     (ap (λ b. if_low b (answered (Ok (abstracted m type))) rest) (sym (low-yes type le)))
 
--- what is made of normal forms is the answer of the call
+-- the abstraction of the normal forms is the answer of the call
 pub abstraction-runs : (result : Result code_abstracted.Abstracted Stop) (S : Signature) (context : List Term) (goal t type : Term) (m : NormalForms) (left rest : ℕ)
     → height type ≤ 2000 → Gives abstracted_of result (Ok (abstracted m type)) → answered (Ok m) rest ≡ normal_forms_of S context goal t left
     → Runs abstracted_of result rest (abstract_over_of S context goal t type left)

@@ -133,7 +133,7 @@ needed-front n t S types e l h = elim (either (is_among l (behind n (opened_type
               needed-closed n wide S before n [] k i (omega arith) lower own (raised-level n i (term_at wide k) lower there)
         ]
 
--- what holds of the types of the context and of the new variable
+-- the types of the context and of the new variable have these dependencies
 pub is-opened : (n : ℕ) (t S : Term) (types : List Term) → length types ≡ n → IsOpened n (opened_types n t S (widened n 0 types)) (lift S 1 0)
 is-opened n t S types e = record { count = opened-count n t S types e; before = before; own = own }
   where

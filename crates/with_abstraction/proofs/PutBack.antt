@@ -89,7 +89,7 @@ without-back t (AxiomK i m) under = node-back t (AxiomK i m) (AxiomK i m) under 
 
 -- ---- the variables in their new order
 
--- what stands for the variable with a level, where the new one has level n
+-- the term for the variable with a level, where the new one has level n
 abbrev pub value_of : (n : ℕ) (t : Term) (level : ℕ) → Term
 value_of n t level = cond (level == n) t (Var (n - (level + 1)))
 
@@ -129,7 +129,7 @@ under-higher s under v le = second-of_two v under (Var v) (lift (s (v - under)) 
 lifted-variable : (m under : ℕ) → lift (Var m) under 0 ≡ Var (m + under)
 lifted-variable m under = ap Var (let e : lift_var m under 0 ≡ m + under = grind (arith, nat_tests) in e)
 
--- the variable with a level is what stands for it
+-- the variable with a level becomes the term for it
 level-back : (values : List Term) (order : List ℕ) (n : ℕ) (t : Term) (under l : ℕ) → l < n + 1 → Stands values order n t l
     → instance_of values under (reordered order (length values + under) l) ≡ subst_under (Var (n + 1 + under - (l + 1))) under t under
 level-back values order n t under l lt h =

@@ -93,7 +93,7 @@ needed_type : abstract_over_of (sample false) (Fin zero_term ∷ Fin zero_term �
 unfolding native.Mathlib.Decide.ℕ_discrete sample
 needed_type = refl
 
--- The same where the type has z, whose type has y: both are needed.
+-- The type has z, whose type has y: both are needed.
 needed_twice : abstract_over_of (sample false)
     (Fin zero_term ∷ Has zero_term (Var 0) ∷ Fin zero_term ∷ [])
     (Has zero_term (Var 2))

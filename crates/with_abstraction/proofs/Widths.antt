@@ -135,11 +135,7 @@ pub length-opened : (t : Term) (kept : List ℕ) (j : ℕ) (types : List Term) �
 length-opened t kept j [] = refl
 length-opened t kept j (a ∷ types) = ap suc (length-opened t kept (j + 1) types)
 
-pub low-append : (xs ys : List Term) → AreLow xs → AreLow ys → AreLow (xs ++ ys)
-low-append [] ys h k = k
-low-append (x ∷ xs) ys h k = (h.0, low-append xs ys h.1 k)
-
--- what holds of the types of a context, widened
+-- the types of a context, widened, are low and over few enough variables
 pub record IsWide (types terms : List Term) : Type 0 where
   pub over : AreOver 2147483648 terms
   pub low : AreLow terms
@@ -160,7 +156,7 @@ is-wide_made n types made e h le none =
     transport (λ (front : List code.Term). IsWide (tele_of types) (tele_of front ++ widened n 0 (tele_of types))) (sym none)
     (is-wide n (tele_of types) (let k : length (tele_of types) ≡ length types = length-map types tree_of in omega arith) h le)
 
--- what holds of them where they are opened
+-- the opened types are as many
 pub opened-count : (t : Term) (kept : List ℕ) (made types : List code.Term) (n : ℕ) → made ≡ [] → length types ≡ n
     → length (tele_of made ++ opened t kept 0 (tele_of types)) ≡ n
 opened-count t kept made types n none e =
@@ -175,7 +171,7 @@ opened-low_made t kept made types none h =
 pub ok-inner : {A : Type 0} (x y : A) → ◌≡◌ {A = Result A Stop} (Ok x) (Ok y) → x ≡ y
 ok-inner x y e = transport (λ r. IfOk r (λ z. x ≡ z)) e refl
 
--- what is at the end of low terms
+-- low terms with a low one at the end are low
 pub low-end : (terms : List code.Term) (t : code.Term) (u : Term) → ◌≡◌ {A = Result Term Stop} (Ok (tree_of t)) (Ok (lift u 1 0)) → height u ≤ 2000
     → AreLow (tele_of terms) → AreLow (tele_of (terms ++ t ∷ []))
 low-end [] t u e le h =

@@ -1,4 +1,4 @@
--- What the code is asked about: terms over variables that are few enough for numbers of 32 bits, and no term higher than 2,000.
+-- The conditions of the code: terms are over variables that are few enough for numbers of 32 bits, and no term is higher than 2,000.
 use Rattle.std.specs.Prelude.{◌≡◌, ◌≤◌, ℕ, ◌+◌, List, [], ◌∷◌, length}
 use Rattle.theory.specs.Terms.{Term, height, free_of}
 use Rattle.core_terms.specs.Bounds.{most_height}

@@ -1,4 +1,4 @@
--- What is to be proved of the abstraction of a scrutinee: nothing is lost, what is made is scoped, and no occurrence is left.
+-- The laws of the abstraction of a scrutinee: nothing is lost, the result is scoped, and no occurrence is left.
 use Rattle.std.specs.Prelude.{◌≡◌, ℕ, ◌+◌, ◌-◌, ◌<◌, ◌≤◌, true, false, IfOk, List, [], ◌∷◌, ◌++◌, length, map, take, drop}
 use Rattle.theory.specs.Terms.{Term, Var, lift}
 use Rattle.theory.specs.Substitutions.{inst, fill}
@@ -45,7 +45,7 @@ abbrev pub argument_types : (types : Telescope) (type : Term) → Abstracted →
 argument_types types type a =
     map (type_of_variable types) (take a.place a.order) ++ type ∷ map (type_of_variable types) (drop a.place a.order)
 
--- At these arguments the new goal is the old one, and each type of the telescope is that of its argument, letter for letter.
+-- At these arguments the new goal is syntactically equal to the old one, and each type of the telescope to that of its argument.
 pub record GivesBack (m : NormalForms) (type : Term) (a : Abstracted) : Type 0 where
   pub goal : at_terms (arguments m.scrutinee a) a.goal ≡ m.goal
   pub types : types_at_terms [] (arguments m.scrutinee a) a.telescope ≡ argument_types m.types type a
@@ -55,7 +55,7 @@ AbstractionGivesBack =
     (S : Signature) (context : Telescope) (goal t type : Term) (left : ℕ) → AreWellScoped S context (goal ∷ t ∷ type ∷ []) →
     IfOk (normal_forms_of S context goal t left).0 (λ m. GivesBack m type (abstracted m type))
 
--- ---- what is made is scoped
+-- ---- the result is scoped
 
 -- an abstraction in a context of n variables: each type is over those before it, and each variable of the context occurs once
 pub record IsScopedAbstraction (S : Signature) (n : ℕ) (a : Abstracted) : Type 0 where

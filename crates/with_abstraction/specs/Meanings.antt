@@ -1,4 +1,4 @@
--- What normal forms and abstractions of the code stand for.
+-- The normal forms and abstractions that those of the code represent.
 use Rattle.core_terms.specs.Meanings.{tree_of, tele_of}
 use Rattle.with_abstraction.specs.Abstractions as pure
 use Rattle.with_abstraction.specs.NormalForms as forms

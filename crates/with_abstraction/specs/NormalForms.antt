@@ -1,5 +1,5 @@
--- What an abstraction begins from, in plain normal form: constants stay as they are. Units are counted in the order in which the
--- terms are here: the goal, the types of the context from the outermost on, the scrutinee.
+-- The goal, the types of the context and the scrutinee of an abstraction, in plain normal form: constants stay as they are. Units are
+-- counted in the order in which the terms are here: the goal, the types of the context from the outermost on, the scrutinee.
 use Rattle.std.specs.Prelude.{ℕ, false, [], ◌∷◌, Ok}
 use Rattle.theory.specs.Terms.{Term}
 use Rattle.theory.specs.Telescopes.{Telescope}
@@ -11,7 +11,7 @@ use Rattle.kernel_reduce.specs.Reduction.{answered, nesting, normal_of}
 abbrev pub plain_normal_of : Signature → Term → ℕ → Spent Term
 plain_normal_of S t left = normal_of S false nesting t left
 
--- the same of each type, one after the other
+-- the plain normal forms of types, one after the other
 abbrev pub plain_normals_of : Signature → Telescope → ℕ → Spent Telescope
 plain_normals_of S [] left = answered (Ok []) left
 plain_normals_of S (a ∷ types) left =

@@ -1,4 +1,4 @@
--- Where a term occurs in another one, letter for letter, and what is left of that one where a variable stands for each occurrence.
+-- The occurrences of a term in another one, up to syntactic equality, and that other term with a variable for each occurrence.
 -- `under` is the number of binders of the other term around the place that is looked at.
 use Rattle.std.specs.Prelude.{ℕ, ◌+◌, Bool, ◌||◌, cond}
 use Rattle.theory.specs.Terms.{Term, Var, Sort, Pi, Lam, App, Let, Const, Fam, Con, Elim, AxiomK, lift, lift_var}

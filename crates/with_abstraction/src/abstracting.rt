@@ -99,9 +99,9 @@ fn abstracted(alloc: Global, forms: &NormalForms, ty: &Term) -> Result<Abstracte
 
 /// Abstracts a goal and the types of its context over a scrutinee of type `ty`.
 ///
-/// Goal, types and scrutinee are brought into plain normal form. A new variable stands for each subterm that is letter for letter the
-/// scrutinee, but not in the types of the variables that `ty` needs. Those whose types changed, and those that depend on them, are
-/// after the new variable, all others before it.
+/// Goal, types and scrutinee are brought into plain normal form. A new variable stands for each subterm that is
+/// syntactically equal to the scrutinee, but not in the types of the variables that `ty` needs. Those whose types
+/// changed, and those that depend on them, are after the new variable, all others before it.
 ///
 /// Each head step costs a unit: first those of the goal, then those of the types from the outermost on, then those of the scrutinee.
 /// Fuel and Deep come as in `normal`, and Deep also where `ty` is too high, once all these units are spent.

@@ -1,4 +1,4 @@
-//! What an abstraction is: nothing is lost, what is made is scoped, and no occurrence of the scrutinee is left.
+//! The laws of an abstraction: nothing is lost, the result is scoped, and no occurrence of the scrutinee is left.
 ghost use Rattle.with_abstraction.specs.Laws.{AbstractionGivesBack, AbstractionLeavesNone, AbstractionScoped, AbstractionSpends};
 
 /// An abstraction gives no units back.

@@ -41,7 +41,7 @@ fn widened(alloc: Global, n: u32, j: u32, types: &[Term], mut made: Tele) -> Res
     }
 }
 
-/// The same of a whole context.
+/// The types of a whole context, each as a term over all its variables.
 fn all_widened(alloc: Global, types: &[Term]) -> Result<Tele, Stop>
     requires types { AreTypesOver 0 (tele_of types.now) }
     requires few { length types.now ≤ 2147483647 }

@@ -34,11 +34,11 @@ use Rattle.tree_translation.specs.RightSides.{is_helper}
 use Rattle.clause_reports.specs.Equations.{Equation, all_shown, equation_of, in_signature, last_argument, left_side, number_of, own_number, part_at, part_named, pats_of, right_side, side_of, walk_site}
 use Rattle.clause_reports.specs.Reports.{some_absurd}
 use Rattle.clause_reports.specs.Showing.{AllShow}
-use Rattle.elaboration.specs.Walking.{Opened, Opening, Walked, helper_arguments, opened}
-use Rattle.equation_laws.proofs.LeftShowing.{IsAt, equation-is, families-stay}
-use Rattle.equation_laws.proofs.OwnMatches.{IsMatched, walk-matched}
-use Rattle.equation_laws.proofs.ShownTerms.{FamiliesStay, all-show}
-use Rattle.function_clauses.proofs.Fitting.{clause-for}
+use Rattle.clause_reports.specs.elaboration.Walking.{Opened, Opening, Walked, helper_arguments, opened}
+use Rattle.written_functions.proofs.equation_laws.LeftShowing.{IsAt, equation-is, families-stay}
+use Rattle.written_functions.proofs.equation_laws.OwnMatches.{IsMatched, walk-matched}
+use Rattle.written_functions.proofs.equation_laws.ShownTerms.{FamiliesStay, all-show}
+use Rattle.function_checks.proofs.function_clauses.Fitting.{clause-for}
 use Rattle.resolve.specs.Functions.{Function}
 use Rattle.resolve.specs.Scoping.{IsClause}
 use Rattle.with_abstraction.specs.Laws.{IsScopedAbstraction}
@@ -68,7 +68,7 @@ head-under : (n : ℕ) (t : Term) → AreUnder n t → AreUnder n (head_of t)
 head-under n (App f a) h = head-under n f h.0
 head-under n _ h = h
 
--- what is no constant from the number after the base on is no helper
+-- a term without constants from the number after the base on is no helper
 no-helper : (base : ℕ) (t : Term) → AreUnder (base + 1) t → is_helper base t ≡ false
 no-helper base (Const c) h = let low : c < base + 1 = h in grind (arith, nat_tests)
 no-helper base (Var v) h = refl

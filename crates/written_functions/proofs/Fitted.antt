@@ -9,15 +9,15 @@ use Rattle.core_terms.specs.Patterns.{Pat, Pats}
 use Rattle.kernel_reduce.proofs.LookUps.{family-found}
 use Rattle.unification.specs.Built.{Built, built_of}
 use Rattle.unification.proofs.Constructors.{built-is, found}
-use Rattle.pattern_vectors.specs.Matching.{is_constructor, matches, matches_all, matches_built}
-use Rattle.pattern_vectors.proofs.Opens.{numbers-same}
-use Rattle.pattern_vectors.proofs.Separate.{and-both}
+use Rattle.case_trees.specs.pattern_vectors.Matching.{is_constructor, matches, matches_all, matches_built}
+use Rattle.case_trees.proofs.pattern_vectors.Opens.{numbers-same}
+use Rattle.case_trees.proofs.pattern_vectors.Separate.{and-both}
 use Rattle.case_trees.specs.OwnWalks.{or_none}
 use Rattle.case_trees.specs.Pairs.{all_unbound}
 use Rattle.case_trees.specs.Places.{all_variable_places, in_arguments, variable_places}
 use Rattle.clause_reports.specs.Showing as show
 use Rattle.clause_reports.specs.Showing.{AllShow, Shows}
-use Rattle.equation_laws.proofs.ShownTerms.{FamiliesStay}
+use Rattle.written_functions.proofs.equation_laws.ShownTerms.{FamiliesStay}
 use Rattle.written_functions.specs.Fitting as fit
 use Rattle.written_functions.specs.Fitting.{AllFit, AnyDot, Fits}
 

@@ -19,14 +19,14 @@ use Rattle.tree_translation.specs.Plans.{Plan}
 use Rattle.clause_reports.specs.Equations.{part_named}
 use Rattle.theory.proofs.Lists.{slice_get-last}
 use Rattle.clause_reports.proofs.Keeping.{Grows, grows_on, weaker, weaker-of-two}
-use Rattle.elaboration.specs.Functions.{Lines, enter_plan, function_level, function_of, plan_of, report_parts}
-use Rattle.elaboration.specs.Refusals.{Elaborating, OfType, answers, granted}
+use Rattle.clause_reports.specs.elaboration.Functions.{Lines, enter_plan, function_level, function_of, plan_of, report_parts}
+use Rattle.clause_reports.specs.elaboration.Refusals.{Elaborating, OfType, answers, granted}
 use Rattle.family_check.specs.Scopes.{HasPrelude}
-use Rattle.equation_laws.proofs.LeftShowing.{ok-is}
-use Rattle.function_lines.proofs.FunctionAnswers.{function-answers}
-use Rattle.function_lines.proofs.Provisional.{provisional-over}
-use Rattle.function_lines.specs.Conditions.{IsFunctionOver}
-use Rattle.function_lines.specs.FunctionMade.{function_made, level_of}
+use Rattle.written_functions.proofs.equation_laws.LeftShowing.{ok-is}
+use Rattle.function_session.proofs.function_lines.FunctionAnswers.{function-answers}
+use Rattle.function_session.proofs.function_lines.Provisional.{provisional-over}
+use Rattle.function_session.specs.function_lines.Conditions.{IsFunctionOver}
+use Rattle.function_session.specs.function_lines.FunctionMade.{function_made, level_of}
 use Rattle.function_session.proofs.OwnEntry.{HasOwn, own-typed, plan-enters}
 use Rattle.function_session.proofs.Written.{elaborates-written, function-new, function-scoped}
 use Rattle.function_session.specs.Elaborating.{Elaborated, elaborate_function, enter_function, on_function, on_lines, with_lines}
@@ -46,7 +46,7 @@ use Rattle.written_functions.proofs.Tellings.{IsBase, Tells, parts-tell}
 
 -- ---- the function
 
--- what is said of the lines of a function
+-- the facts of the lines of a function
 record IsTold (S : Signature) (f : Function) (l : Lines) : Type 0 where
   with_plan : Signature
   own : HasOwn S f.name f.type with_plan
@@ -60,7 +60,7 @@ named : (S : Signature) (f : Function) (plan : Plan) (T : Signature) → IsPlanG
 named S f plan T is h =
     transport (λ name. HasOwn S name f.type T) is.name (transport (λ type. HasOwn S plan.name type T) is.type h)
 
--- what grows is longer
+-- a signature that grows is longer
 pub pushed-longer : (S B T : Signature) (name : List ℕ) (type body : Term) → Grows S B → Grows (pushed B (Definition name type body)) T
     → length S.entries + 1 ≤ length T.entries
 pushed-longer S B T name type body g h =
@@ -140,7 +140,7 @@ made-has P S x fuel f h = by (function_made S f fuel) refl
         transport (λ (m : Elaborating Lines). IfOk m.0 Q) (function-answers S f fuel l left is) (h l (ap (λ (m : Elaborating Lines). m.0) is))
     by (Err e, left) is = tt
 
--- what the lines say, with the function that was resolved
+-- the facts of the lines, with the function that was resolved
 record IsLined (S : Signature) (x : Word) (ty : surf.Surf) (clauses : surf.Clauses) (a : Elaborated) : Type 0 where
   given : Function
   resolved : function S x ty clauses ≡ Ok given

@@ -14,7 +14,7 @@ use Rattle.theory.proofs.Instances.{inst-inst, inst-var}
 use Rattle.theory.proofs.Instantiation.{inst-scoped}
 use Rattle.tele_eq.specs.Levels.{place_in}
 use Rattle.case_trees.specs.Points.{under_solution}
-use Rattle.elaboration.specs.Walking.{helper_arguments, helper_terms, variable_in}
+use Rattle.clause_reports.specs.elaboration.Walking.{helper_arguments, helper_terms, variable_in}
 use Rattle.unification.proofs.Levels.{place-there}
 use Rattle.unification.proofs.UnderInstances.{fill-variables}
 use Rattle.with_abstraction.specs.Abstractions.{Abstracted}
@@ -85,7 +85,7 @@ arguments-long a t n long low =
     let dropped : length (drop a.place a.order) ≡ length a.order - a.place = length-drop a.place a.order in
     omega (arith, both, first, rest, taken, dropped, long, low)
 
--- the argument at a place, counted from the first on, is what stands for the variable there
+-- the argument at a place, counted from the first on, is the term for the variable there
 at-place : (us : List Term) (n q : ℕ) → length us ≡ n + 1 → q < n + 1 → fill no_variable us (n - q) ≡ get_or us q (Sort 0)
 at-place us n q long less =
     ap (fill no_variable us) (let e : n - q ≡ length us - (q + 1) = omega (arith, long) in e) ∙ fill-place no_variable us q (omega (arith, long, less))

@@ -20,7 +20,7 @@ use Rattle.tele_eq.specs.Items.{each_position, term_at}
 use Rattle.tele_eq.specs.Levels.{place_in}
 use Rattle.tele_eq.specs.ReflexivityLaws.{EachConverts}
 use Rattle.unification.proofs.UnderInstances.{each-same}
-use Rattle.pattern_vectors.specs.Matching.{matches_all}
+use Rattle.case_trees.specs.pattern_vectors.Matching.{matches_all}
 use Rattle.case_trees.proofs.KeptConversion.{all-convert}
 use Rattle.case_trees.proofs.SolvedOrders.{not-equal}
 use Rattle.case_trees.proofs.TreeMatching.{leaves_lead, leaves_match}
@@ -39,10 +39,10 @@ use Rattle.tree_translation.proofs.LevelLists.{length-levels}
 use Rattle.clause_reports.specs.Equations.{Equation, Site, all_shown, in_signature, last_argument, leaf_site, left_side, number_of, part_at, part_named, pats_of, right_side, side_of}
 use Rattle.clause_reports.specs.Reports.{order_in, shown_leaf}
 use Rattle.clause_reports.specs.Shadows.{TreeLeaf, equation_at_leaf, leaves_below, leaves_in_branch, leaves_of}
-use Rattle.elaboration.specs.Walking.{Walked, helper_arguments}
-use Rattle.equation_laws.proofs.LeftShowing.{IsAt, equation-is}
-use Rattle.equation_laws.proofs.ShownTerms.{all-show}
-use Rattle.function_clauses.proofs.Fitting.{clauses-for}
+use Rattle.clause_reports.specs.elaboration.Walking.{Walked, helper_arguments}
+use Rattle.written_functions.proofs.equation_laws.LeftShowing.{IsAt, equation-is}
+use Rattle.written_functions.proofs.equation_laws.ShownTerms.{all-show}
+use Rattle.function_checks.proofs.function_clauses.Fitting.{clauses-for}
 use Rattle.resolve.specs.Functions.{Function}
 use Rattle.resolve.specs.Scoping.{IsClause}
 use Rattle.written_functions.specs.Clauses.{ConvertsAt, IsLeft, IsRight, Placed, written_in}
@@ -182,7 +182,7 @@ module _ (S : Signature) (f : Function) (plan : Plan) (h : IsPlanGiven S f plan)
   -- ---- sides at a leaf
 
   module _ (U : Signature) (prefix : IsPrefix S U) where
-    -- what is called at a leaf
+    -- the right side of a clause at a leaf, with the arguments of the helper that it calls
     record HasRight (right : Right) (binds : List Term) (v : Term) : Type 0 where
       called : List Term
       is : IsRight U (placed_at S f plan) right binds called v

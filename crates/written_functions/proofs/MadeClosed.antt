@@ -6,17 +6,17 @@ use Rattle.theory.specs.WellFormed.{provisional}
 use Rattle.core_terms.specs.Answers.{SpentOr, and_next, are_low, on_answer}
 use Rattle.core_terms.specs.declared.stop.Stop.{Stop}
 use Rattle.core_terms.specs.declared.stop.Stop.TheVariants.{Deep}
-use Rattle.order_scopes.specs.Laws.{begins_closed}
-use Rattle.structural_rec.specs.Choices.{choose}
+use Rattle.entry_laws.specs.order_scopes.Laws.{begins_closed}
+use Rattle.tree_translation.specs.structural_rec.Choices.{choose}
 use Rattle.tree_translation.specs.Plans.{Part, Plan}
 use Rattle.tree_translation.specs.Recursion.{Recursion, order_of, ordered_telescope, recursion_at}
-use Rattle.equation_laws.proofs.LeftShowing.{ok-is}
-use Rattle.elaboration.specs.Functions.{Lines, own_part, position_chosen, recursion_in}
-use Rattle.elaboration.specs.Refusals.{Elaborating, Halts, Refusal, answers, or_halts}
-use Rattle.elaboration.specs.Walking.{Given, Walked, walk_clauses}
+use Rattle.written_functions.proofs.equation_laws.LeftShowing.{ok-is}
+use Rattle.clause_reports.specs.elaboration.Functions.{Lines, own_part, position_chosen, recursion_in}
+use Rattle.clause_reports.specs.elaboration.Refusals.{Elaborating, Halts, Refusal, answers, or_halts}
+use Rattle.clause_reports.specs.elaboration.Walking.{Given, Walked, walk_clauses}
 use Rattle.function_plans.proofs.SameChoices.{choice-same, provisional-same, recursion-same}
-use Rattle.function_lines.proofs.SamePlans.{walked_of}
-use Rattle.function_lines.specs.FunctionMade.{function_made, level_of, plan_over, session_at}
+use Rattle.function_session.proofs.function_lines.SamePlans.{walked_of}
+use Rattle.function_session.specs.function_lines.FunctionMade.{function_made, level_of, plan_over, session_at}
 use Rattle.function_plans.proofs.Orders.{found-is}
 use Rattle.function_plans.specs.CodePlans.{are_low_uses, chosen_made, own_alone, own_finished_made, own_tree_made, own_tree_of, parts_made}
 use Rattle.leaf_terms.specs.RecursionMade.{made_at}
@@ -24,7 +24,7 @@ use Rattle.resolve.specs.Functions.{Function}
 
 -- ---- answers
 
--- what was answered before
+-- the answer of the first call, with which the second one goes on
 record GoesOn {A B E : Type 0} (first : SpentOr E A) (go : A → ℕ → SpentOr E B) (b : B) : Type 0 where
   answer : A
   is : first.0 ≡ Ok answer
@@ -37,7 +37,7 @@ goes-on {A} {B} {E} first go b e = by first.0 refl e
     by (Ok a) is goes = record { answer = a; is = is; goes = goes }
     by (Err x) is goes = absurd (cc)
 
--- what follows an answer, with the units that are left after it
+-- a call after an answer, with the units that are left after it
 pub next-tied : {A B E : Type 0} (Q : B → Type 0) (first : SpentOr E A) (go : A → ℕ → SpentOr E B)
     → ((a : A) → first.0 ≡ Ok a → IfOk (go a first.1).0 Q) → IfOk (and_next first go).0 Q
 next-tied {A} {B} {E} Q first go h = by first.0 h

@@ -23,9 +23,9 @@ use Rattle.clause_reports.proofs.Keeping.{Any, any, Grows, GrowsTo, entering-gro
 use Rattle.clause_reports.specs.DraftEntering.{enter_all, enter_draft_of, enter_entry, enter_needed, mentioned}
 use Rattle.clause_reports.specs.Equations.{number_of, part_named}
 use Rattle.clause_reports.proofs.ProvedTypes.{enter_entry-there}
-use Rattle.elaboration.specs.Functions.{enter_drafts, enter_plan, enter_values, first_domains, recursion_in}
-use Rattle.elaboration.specs.Refusals.{owner_of, reporting}
-use Rattle.elaboration.proofs.Keeping.{no_report-has, enter_values-grows}
+use Rattle.clause_reports.specs.elaboration.Functions.{enter_drafts, enter_plan, enter_values, first_domains, recursion_in}
+use Rattle.clause_reports.specs.elaboration.Refusals.{owner_of, reporting}
+use Rattle.clause_reports.proofs.elaboration.Keeping.{no_report-has, enter_values-grows}
 use Rattle.function_session.proofs.OwnEntry.{halts-is}
 use Rattle.written_functions.specs.Clauses.{FunctionAt, HasPart}
 use Rattle.written_functions.proofs.Proofs.{IsThere}

@@ -1,4 +1,4 @@
--- What the walks and trees of a part ask: it is scoped, and its clauses have one pattern for each of its columns.
+-- The conditions of the walks and trees of a part: it is scoped, and its clauses have one pattern for each of its columns.
 use Rattle.std.proofs.Common.{◌≡◌, ℕ, zero, suc, ◌+◌, cond, Bool, true, false, Some, Result, Ok, Err, IfOk, [], length, reverse, refl, sym, ap, ◌∙◌, subst as transport, arith}
 use Rattle.std.proofs.lemmas.List.{length-reverse}
 use Rattle.std.specs.List.{All}
@@ -25,18 +25,18 @@ use Rattle.case_trees.specs.Points.{under_solution}
 use Rattle.case_trees.specs.Scoped.{IsScopedWalk}
 use Rattle.case_trees.specs.Stops.{TreeStop, answers as walked_with}
 use Rattle.clause_reports.proofs.Keeping.{Any, any}
-use Rattle.elaboration.specs.Refusals.{OfGoal, OfWith, Owner, Part, Refusal, SelfInType, answers, granted, halting, or_halts}
-use Rattle.elaboration.specs.Walking.{Opened, Opening, Session, and_level, helper_terms, if_low_level, open_over, opened, without_self}
-use Rattle.function_clauses.proofs.Fitting.{clause-for}
-use Rattle.function_clauses.proofs.HelperParts.{helper-columns, terms-scoped}
-use Rattle.function_clauses.proofs.WalkColumns.{walk-columns}
+use Rattle.clause_reports.specs.elaboration.Refusals.{OfGoal, OfWith, Owner, Part, Refusal, SelfInType, answers, granted, halting, or_halts}
+use Rattle.clause_reports.specs.elaboration.Walking.{Opened, Opening, Session, and_level, helper_terms, if_low_level, open_over, opened, without_self}
+use Rattle.function_checks.proofs.function_clauses.Fitting.{clause-for}
+use Rattle.function_checks.proofs.function_clauses.HelperParts.{helper-columns, terms-scoped}
+use Rattle.function_checks.proofs.function_clauses.WalkColumns.{walk-columns}
 use Rattle.kernel_check.proofs.Contexts.{context-reverse}
 use Rattle.kernel_check.proofs.Scoped.{infer-scoped}
 use Rattle.kernel_check.specs.Checking.{infer_of, infer_sort_of}
 use Rattle.kernel_check.specs.Laws.{IfYes, IsScopedVerdict}
 use Rattle.kernel_reduce.specs.Reduction.{answered, if_low, nesting}
 use Rattle.resolve.specs.Scoping.{AreClauses, IsClause}
-use Rattle.structural_rec.specs.Calls.{has_constant}
+use Rattle.tree_translation.specs.structural_rec.Calls.{has_constant}
 use Rattle.theory.specs.Telescopes.{products}
 use Rattle.unification.proofs.ScopedRecords.{variables-scoped}
 use Rattle.unification.specs.ScopedStates.{IsReady}
@@ -98,7 +98,7 @@ found-fits S part types t left ready h k =
     (infer-scoped S nesting (reverse types) t left ready.scoped (context-fits S types h)
     (transport (λ n. IsScoped S n t) (sym (length-reverse types)) k)))
 
--- what opens a helper over a walk is scoped
+-- the opening of a helper over a walk is scoped
 pub opening-fits : (s : Session) (owner : Owner) (w : Walk) (t : Term) (left : ℕ) → IsReady s.signature → IsScopedWalk s.signature w
     → IsScoped s.signature (length w.ctx) t
     → Answers (λ (o : Opening). IsScopedAbstraction s.signature (length w.ctx) o.abstraction) (open_over s owner w t left)
@@ -136,7 +136,7 @@ helper-given S w o ready scoped h =
 
 -- ---- parts
 
--- what walks and trees ask of a part
+-- the conditions of walks and trees on a part
 pub record IsWalkable (S : Signature) (part : Opened) (clauses : Clauses) : Type 0 where
   pub given : IsGiven S part.tele part.goal part.terms
   pub fitting : AreClauses S (length part.terms) clauses

@@ -16,8 +16,8 @@ use Rattle.case_trees.specs.Places.{clause_at}
 use Rattle.tree_translation.specs.Conditions.{patterns_of}
 use Rattle.tree_translation.specs.Plans.{Part, Plan}
 use Rattle.clause_reports.specs.Equations.{part_at, pats_of, side_of}
-use Rattle.elaboration.specs.Functions.{patterns_in}
-use Rattle.elaboration.specs.Walking.{Walked}
+use Rattle.clause_reports.specs.elaboration.Functions.{patterns_in}
+use Rattle.clause_reports.specs.elaboration.Walking.{Walked}
 use Rattle.resolve.specs.Functions.{Function}
 use Rattle.written_functions.specs.Clauses.{Placed, clause_in, parts_of, placed_in}
 use Rattle.written_functions.proofs.PlanGiven.{AreFinished, IsPlanGiven, clauses-listed, part-made}

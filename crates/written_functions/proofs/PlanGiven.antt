@@ -9,28 +9,28 @@ use Rattle.theory.specs.SignatureScopes.{IsScopedTelescope}
 use Rattle.theory.specs.WellFormed.{provisional}
 use Rattle.core_terms.proofs.Answers.{Answers, and_next-has}
 use Rattle.core_terms.specs.CaseTrees.{Tree}
-use Rattle.structural_rec.specs.Choices.{choose}
+use Rattle.tree_translation.specs.structural_rec.Choices.{choose}
 use Rattle.case_trees.specs.Trees.{split_of}
 use Rattle.tree_translation.specs.Entries.{ordered_variables}
 use Rattle.tree_translation.specs.Plans as plans
 use Rattle.tree_translation.specs.Plans.{Part, Plan, no_part}
 use Rattle.tree_translation.specs.Recursion.{Recursion, order_of, ordered_telescope, ordered_term}
 use Rattle.clause_reports.specs.Equations.{part_at, part_named}
-use Rattle.elaboration.specs.Functions.{finished, helpers_finished, own_finished, own_part, plan_of, position_chosen, recursion_in}
-use Rattle.elaboration.specs.Refusals.{walking}
-use Rattle.elaboration.specs.Walking.{Opened, Walked, walk_clauses}
-use Rattle.function_clauses.proofs.OwnParts.{own-columns, own-part-for, part-walked}
+use Rattle.clause_reports.specs.elaboration.Functions.{finished, helpers_finished, own_finished, own_part, plan_of, position_chosen, recursion_in}
+use Rattle.clause_reports.specs.elaboration.Refusals.{walking}
+use Rattle.clause_reports.specs.elaboration.Walking.{Opened, Walked, walk_clauses}
+use Rattle.function_checks.proofs.function_clauses.OwnParts.{own-columns, own-part-for, part-walked}
 use Rattle.function_plans.proofs.SameChoices.{provisional-same, recursion-same}
 use Rattle.function_plans.proofs.Starts.{start-clauses, start-given, starts}
 use Rattle.function_plans.specs.CodePlans.{IsOwnWalked}
-use Rattle.order_scopes.proofs.RecursionOrders.{recursion-ordered}
-use Rattle.structural_rec.specs.Laws.{IsOrder}
+use Rattle.entry_laws.proofs.order_scopes.RecursionOrders.{recursion-ordered}
+use Rattle.tree_translation.specs.structural_rec.Laws.{IsOrder}
 use Rattle.case_trees.specs.Laws.{IsGiven}
 use Rattle.case_trees.specs.Scoped.{AreClausesFor}
 use Rattle.written_functions.proofs.MadeClosed.{ClosedAt, in-is}
-use Rattle.function_lines.proofs.SamePlans.{walked_of}
-use Rattle.function_lines.specs.Conditions.{IsFunctionOver}
-use Rattle.function_lines.specs.FunctionMade.{session_at}
+use Rattle.function_session.proofs.function_lines.SamePlans.{walked_of}
+use Rattle.function_session.specs.function_lines.Conditions.{IsFunctionOver}
+use Rattle.function_session.specs.function_lines.FunctionMade.{session_at}
 use Rattle.resolve.specs.Functions.{Function}
 use Rattle.written_functions.specs.Clauses.{parts_of}
 use Rattle.written_functions.proofs.Walked.{AreAt, Gives, IsPartGiven, clauses-gives, clauses_of, ends-ok, is-ok}

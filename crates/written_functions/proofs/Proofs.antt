@@ -11,7 +11,7 @@ use Rattle.core_terms.specs.declared.stop.Stop.{Stop}
 use Rattle.family_check.specs.Entering.{Entered}
 use Rattle.kernel_reduce.specs.Comparison.{convertible_of}
 use Rattle.kernel_reduce.specs.Reduction.{nesting}
-use Rattle.pattern_vectors.specs.Matching.{matches_all}
+use Rattle.case_trees.specs.pattern_vectors.Matching.{matches_all}
 use Rattle.unification.proofs.Cases.{first-of_two}
 use Rattle.tree_translation.proofs.Drafting.{IsInOrder, in_order-is, places_of}
 use Rattle.tree_translation.specs.Naming.{Naming, number_among, number_in, with_names}
@@ -98,7 +98,7 @@ candidate-there S plan c e is under proof d h T left =
 
 -- ---- the report
 
--- what the line says of an entry
+-- where the line names an entry, the entry proves the equation
 abbrev pub SaysProved : Signature → Plan → Reference → Reported → Type 0
 SaysProved S plan c r = (n : ℕ) → r.line ≡ Proved n → IsProvedBy S plan c r.signature n
 

@@ -23,10 +23,10 @@ use Rattle.tree_translation.specs.RightSides.{is_helper}
 use Rattle.clause_reports.specs.Equations.{Equation, Site, all_shown, equation_of, in_signature, last_argument, left_side, number_of, own_number, part_at, part_name, pats_of, right_side, shown, shown_built, side_of, values_of_recursion, walk_site, closed_type}
 use Rattle.clause_reports.specs.Generated.{all_name}
 use Rattle.clause_reports.specs.Reports.{Reference}
-use Rattle.equation_laws.proofs.LeftShowing.{IsAt, equation-is}
+use Rattle.written_functions.proofs.equation_laws.LeftShowing.{IsAt, equation-is}
 use Rattle.written_functions.proofs.Numbers.{AreUnder, applied-under, inst-under, number-under, products-under, renumbered-under, spine-under}
 
--- ---- what patterns show
+-- ---- the terms that patterns show
 
 built-under : (S : Signature) (n : ℕ) (show : List Term → List Term) (u : Term) (o : Option Built) → built_of S u ≡ o → AreUnder n u
     → ((us : List Term) → All (AreUnder n) us → All (AreUnder n) (show us)) → AreUnder n (shown_built show u o)

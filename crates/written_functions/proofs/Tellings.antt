@@ -1,4 +1,4 @@
--- What the lines of a plan's clauses say of the clauses as they are written.
+-- The lines of a plan's clauses are true of the clauses as they are written.
 use Rattle.std.proofs.Common.{◌≡◌, ℕ, ◌+◌, ◌<◌, ◌≤◌, Bool, true, false, Some, List, [], ◌∷◌, ◌++◌, length, length-append, map, codes, Result, Ok, Err, IfOk, refl, sym, ap, ap₂, ◌∙◌, subst as transport, arith}
 use Rattle.std.specs.List.{All}
 use Rattle.theory.specs.Signatures.{Definition, IsEntryAt, IsPrefix, Signature}
@@ -9,7 +9,7 @@ use Rattle.core_terms.proofs.Answers.{Answers, and_next-has}
 use Rattle.core_terms.specs.CaseTrees.{Walk}
 use Rattle.core_terms.specs.Clauses.{Clauses, Is}
 use Rattle.case_trees.specs.Scoped.{IsScopedWalk}
-use Rattle.pattern_vectors.specs.Matching.{matches_all}
+use Rattle.case_trees.specs.pattern_vectors.Matching.{matches_all}
 use Rattle.std.specs.Prelude.{decimal}
 use Rattle.tree_translation.specs.Plans as plans
 use Rattle.tree_translation.specs.Plans.{Part, Plan}
@@ -23,9 +23,9 @@ use Rattle.clause_reports.specs.Reports.{Absurd, Definitional, Line, Proved, Ref
 use Rattle.clause_reports.specs.Shadows.{leaves_of}
 use Rattle.clause_reports.specs.Stops.{ReportStop}
 use Rattle.clause_reports.proofs.LineLaws.{absurd-line}
-use Rattle.elaboration.specs.Functions.{ClauseLine, Following, Lines, report_parts, report_walks, with_line}
-use Rattle.elaboration.specs.Refusals.{Owner, or_no_report, owner_of, reporting}
-use Rattle.equation_laws.proofs.ShownTerms.{FamiliesStay}
+use Rattle.clause_reports.specs.elaboration.Functions.{ClauseLine, Following, Lines, report_parts, report_walks, with_line}
+use Rattle.clause_reports.specs.elaboration.Refusals.{Owner, or_no_report, owner_of, reporting}
+use Rattle.written_functions.proofs.equation_laws.ShownTerms.{FamiliesStay}
 use Rattle.family_check.specs.Scopes.{HasPrelude}
 use Rattle.resolve.specs.Functions.{Function}
 use Rattle.written_functions.specs.Clauses as written
@@ -66,7 +66,7 @@ base-grows S Own f plan U V g b = record {
 
 -- ---- one clause
 
--- what is known of a clause's report
+-- the facts of a clause's report
 record IsTold (U : Signature) (plan : Plan) (c : Reference) (r : Reported) : Type 0 where
   grows : Grows U r.signature
   proved : SaysProved U plan c r

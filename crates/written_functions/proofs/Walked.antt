@@ -18,9 +18,9 @@ use Rattle.case_trees.specs.Points.{under_solution}
 use Rattle.case_trees.specs.Stops.{TreeStop}
 use Rattle.clause_reports.specs.Equations.{part_named}
 use Rattle.clause_reports.proofs.Keeping.{any}
-use Rattle.elaboration.specs.Refusals.{OfSide, Owner, answers, granted, or_ends, or_halts, owner_of, walking}
-use Rattle.elaboration.specs.Walking.{Given, Opened, Opening, Walked, after_dots, helper_arguments, joined, open_over, opened, walk_clause, walk_clauses, walk_right}
-use Rattle.function_lines.specs.FunctionMade.{session_at}
+use Rattle.clause_reports.specs.elaboration.Refusals.{OfSide, Owner, answers, granted, or_ends, or_halts, owner_of, walking}
+use Rattle.clause_reports.specs.elaboration.Walking.{Given, Opened, Opening, Walked, after_dots, helper_arguments, joined, open_over, opened, walk_clause, walk_clauses, walk_right}
+use Rattle.function_session.specs.function_lines.FunctionMade.{session_at}
 use Rattle.function_session.specs.Laws.{inner, inner_of, inner_right}
 use Rattle.function_session.proofs.OwnEntry.{halts-is}
 use Rattle.function_session.proofs.Planned.{after_dots-has}

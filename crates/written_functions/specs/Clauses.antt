@@ -1,4 +1,4 @@
--- What is said of the clauses of a function, in words of the function as it is written and of the theory.
+-- The meaning of the lines of a function's clauses, in words of the function as it is written and of the theory.
 use Rattle.std.specs.Prelude.{◌≡◌, ◌<◌, ◌-◌, ℕ, zero, suc, ◌+◌, nat_lt, cond, true, Option, Some, option_and_then, List, [], ◌∷◌, ◌++◌, All, codes, decimal, length, map, slice_get, Ok}
 use Rattle.theory.specs.Terms.{Term, Sort, Const}
 use Rattle.theory.specs.Telescopes.{Telescope, applied, variables}
@@ -17,7 +17,7 @@ use Rattle.case_trees.specs.Points.{under_solution}
 use Rattle.clause_reports.specs.Equations.{Equation, number_of, part_named, closed_type}
 use Rattle.clause_reports.specs.Reports.{Line, Definitional, Proved, Shadowed, Absurd, shown_leaf, some_absurd}
 use Rattle.clause_reports.specs.Shadows.{leaves_of}
-use Rattle.elaboration.specs.Functions.{ClauseLine, after_domains, first_domains}
+use Rattle.clause_reports.specs.elaboration.Functions.{ClauseLine, after_domains, first_domains}
 use Rattle.function_session.specs.Laws.{inner}
 use Rattle.resolve.specs.Functions.{Function}
 use Rattle.written_functions.specs.Fitting.{AllFit, AnyDot, IsTaken}
@@ -28,7 +28,7 @@ with_own S f = provisional S f.name f.type
 
 -- ---- the clauses
 
--- the clauses of each part: those of the function, and then those inside each `with`, in the order of the text
+-- the clauses of each part: those of the function, and then those inside each `with`, in the order of the source file
 abbrev pub parts_of : Function → List Clauses
 parts_of f = f.clauses ∷ inner f.clauses
 
@@ -159,7 +159,7 @@ pub record IsDefinitional (S : Signature) (f : FunctionAt) (c : Placed) : Type 0
   pub of : HasEquation S f c equation
   pub converts : Converts S equation.left equation.right
 
--- proved: entry n of T is a definition with the name of the clause's proof. Its type is the equation, letter for letter, and by the
+-- proved: entry n of T is a definition with the name of the clause's proof. Its type is syntactically equal to the equation, and by the
 -- typing rules its body has this type.
 pub record IsProved (S : Signature) (f : FunctionAt) (c : Placed) (T : Signature) (n : ℕ) : Type 0 where
   pub equation : Equation
@@ -181,8 +181,8 @@ pub record ConvertsAt (S : Signature) (f : FunctionAt) (c : Placed) (leaf : Tele
   pub is : IsEquation S f c leaf.1 found terms called equation
   pub converts : Converts S equation.left equation.right
 
--- Shadowed: an earlier clause of the part takes a vector that this clause takes too. The leaves are all those that the tree of the part has
--- for this clause, and at each of them the sides of the clause's equation convert.
+-- Shadowed: an earlier clause of the part takes arguments that this clause takes too. The leaves are all those that the tree of the part
+-- has for this clause, and at each of them the sides of the clause's equation convert.
 pub record IsShadowed (S : Signature) (f : FunctionAt) (c : Placed) (earlier : ℕ) (vector : List Term) (leaves : List (Telescope × List Term)) : Type 0 where
   pub before : earlier < c.number
   pub pats : Pats
@@ -194,7 +194,7 @@ pub record IsShadowed (S : Signature) (f : FunctionAt) (c : Placed) (earlier : �
   pub all : leaves ≡ map shown_leaf (leaves_of c.number (f.trees c.part))
   pub converts : All (ConvertsAt S f c) leaves
 
--- What a line says of a clause, over the signature S before it and T at the end.
+-- The meaning of a line for a clause, over the signature S before it and T at the end.
 abbrev pub Says : Signature → FunctionAt → Placed → (T : Signature) → Line → Type 0
 Says S f c T Definitional = IsDefinitional S f c
 Says S f c T (Proved n) = IsProved S f c T n

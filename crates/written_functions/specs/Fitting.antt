@@ -7,7 +7,7 @@ use Rattle.theory.specs.Signatures.{Signature, FamilyOf, IsEntryAt}
 use Rattle.core_terms.specs.Patterns as pattern
 use Rattle.core_terms.specs.Patterns.{Pat, Pats}
 
--- `Fits S Dot pat t terms`: t fits the pattern, whose variables have these terms, in the order of the text. A variable
+-- `Fits S Dot pat t terms`: t fits the pattern, whose variables have these terms, in the order of the source file. A variable
 -- has the term itself, and any term fits `_`. A term fits a dot where `Dot` holds of the dot's written term and it. What fits a
 -- constructor pattern is the constructor at as many terms as its family has parameters, and then at terms that fit its patterns.
 -- Nothing fits `( )`.
@@ -28,6 +28,6 @@ mutual
 abbrev pub AnyDot : (written t : Term) → Type 0
 AnyDot written t = Unit {0}
 
--- a vector of terms fits patterns
+-- a list of terms fits patterns
 abbrev pub IsTaken : Signature → Pats → (vector : List Term) → Type 0
 IsTaken S pats vector = (terms : List Term) × AllFit S AnyDot pats vector terms

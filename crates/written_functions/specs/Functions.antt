@@ -1,4 +1,4 @@
--- What an accepted function by clauses is, without how it is made.
+-- The definition of an accepted function by clauses, without how it is made.
 use Rattle.std.specs.Prelude.{◌≡◌, ℕ, Ok, List, []}
 use Rattle.theory.specs.Terms.{Term}
 use Rattle.theory.specs.Signatures.{Definition, Signature, IsPrefix}
@@ -7,12 +7,12 @@ use Rattle.theory.specs.WellFormed.{IsDefinition, pushed}
 use Rattle.core_terms.specs.CaseTrees.{Tree}
 use Rattle.surface_syntax.specs.Trees as surf
 use Rattle.surface_syntax.specs.declared.tree.Word.{Word}
-use Rattle.elaboration.specs.Functions.{ClauseLine}
+use Rattle.clause_reports.specs.elaboration.Functions.{ClauseLine}
 use Rattle.resolve.specs.Functions.{Function, function}
 use Rattle.resolve.specs.Resolving.{resolve_term}
 use Rattle.written_functions.specs.Clauses.{AreLinesOf, Start, parts_of, placed_from}
 
--- T has a function that is written by clauses, after the entries of S. Its type is the core term that the written one stands for, and by
+-- T has a function that is written by clauses, after the entries of S. Its type is the core term of the written one, and by
 -- the typing rules over the entries of S has a sort. One of the entries is the function, a definition with the declared name and exactly
 -- this type, by the rules over the entries before it. Each clause has one line, in the order of the clauses, and what the line says holds
 -- of the clause.

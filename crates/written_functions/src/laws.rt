@@ -1,7 +1,7 @@
 //! The law of functions by clauses.
 ghost use Rattle.written_functions.specs.Laws.{FunctionsAreByClauses};
 
-/// An accepted function by clauses is the one that is written: what each of its lines says holds for the clause in the text.
+/// An accepted function by clauses is the one that is written: each of its lines is true of its written clause.
 pub fn functions_are_by_clauses()
     ensures { FunctionsAreByClauses }
 {}

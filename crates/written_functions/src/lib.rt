@@ -1,4 +1,5 @@
-//! What an accepted function by clauses is, without how it is made.
+//! The definition of an accepted function by clauses, without how it is made.
 #![tactic(auto)]
 
+pub mod equation_laws;
 pub mod laws;

@@ -11,11 +11,11 @@ use Rattle.elab_session.proofs.Resolved.{prelude-stays}
 use Rattle.elab_session.specs.Declaring.{accepted_as}
 use Rattle.tree_translation.specs.Plans.{Plan}
 use Rattle.clause_reports.proofs.Keeping.{Any, any, Grows, grows_on, weaker}
-use Rattle.elaboration.specs.Functions.{Lines, enter_plan, function_level, function_of, plan_of, report_parts}
-use Rattle.elaboration.specs.Refusals.{OfType, granted}
+use Rattle.clause_reports.specs.elaboration.Functions.{Lines, enter_plan, function_level, function_of, plan_of, report_parts}
+use Rattle.clause_reports.specs.elaboration.Refusals.{OfType, granted}
 use Rattle.family_check.specs.Scopes.{HasPrelude}
-use Rattle.function_lines.proofs.Provisional.{provisional-over}
-use Rattle.function_lines.specs.Conditions.{IsFunctionOver}
+use Rattle.function_session.proofs.function_lines.Provisional.{provisional-over}
+use Rattle.function_session.specs.function_lines.Conditions.{IsFunctionOver}
 use Rattle.function_session.proofs.Keeping.{function-has}
 use Rattle.function_session.proofs.OwnEntry.{HasOwn, plan-enters}
 use Rattle.function_session.proofs.Written.{function-scoped, itself}

@@ -20,9 +20,9 @@ use Rattle.clause_reports.specs.Equations.{part_at, part_named, pats_of}
 use Rattle.clause_reports.specs.Reports.{Absurd, Line, Reference, Reported, report_of, reported, some_absurd}
 use Rattle.clause_reports.specs.Stops.{ReportStop}
 use Rattle.clause_reports.proofs.LineLaws.{absurd-line}
-use Rattle.elaboration.specs.Functions.{ClauseLine, Following, Lines, report_parts, report_walks, with_line}
-use Rattle.elaboration.specs.Refusals.{owner_of, reporting}
-use Rattle.elaboration.proofs.Keeping.{no_report-has}
+use Rattle.clause_reports.specs.elaboration.Functions.{ClauseLine, Following, Lines, report_parts, report_walks, with_line}
+use Rattle.clause_reports.specs.elaboration.Refusals.{owner_of, reporting}
+use Rattle.clause_reports.proofs.elaboration.Keeping.{no_report-has}
 use Rattle.family_check.specs.Scopes.{HasPrelude}
 use Rattle.function_session.specs.Evidence.{references, references_from}
 use Rattle.resolve.specs.Functions.{Function}
@@ -51,7 +51,7 @@ base-grows plan U V g b = record {
 
 -- ---- one clause
 
--- what is known of a clause's report
+-- the facts of a clause's report
 record IsTold (U : Signature) (plan : Plan) (c : Reference) (left : ℕ) (r : Reported) : Type 0 where
   is : (report_of U plan c left).0 ≡ Ok r
   grows : Grows U r.signature

@@ -6,19 +6,19 @@ use Rattle.core_terms.proofs.Answers.{Answers, and_next-has, split-parts}
 use Rattle.core_terms.specs.Clauses as clause
 use Rattle.core_terms.specs.Clauses.{Clauses}
 use Rattle.core_terms.specs.Patterns as pattern
-use Rattle.structural_rec.specs.Choices.{choose}
+use Rattle.tree_translation.specs.structural_rec.Choices.{choose}
 use Rattle.case_trees.specs.Trees.{split_of}
 use Rattle.tree_translation.specs.Entries.{ordered_variables}
 use Rattle.tree_translation.specs.Plans.{Part, Plan, no_part}
 use Rattle.tree_translation.specs.Recursion.{Recursion, order_of, ordered_telescope, ordered_term}
 use Rattle.clause_reports.proofs.Keeping.{Any, any, weaker}
 use Rattle.clause_reports.specs.Equations.{part_named}
-use Rattle.elaboration.specs.Functions.{helpers_finished, own_finished, own_part, patterns_in, plan_of, position_chosen, recursion_in}
-use Rattle.elaboration.specs.Refusals.{walking}
-use Rattle.elaboration.specs.Walking.{Session, Walked, walk_clauses}
-use Rattle.function_lines.proofs.SamePlans.{walked_of}
-use Rattle.function_lines.specs.Conditions.{IsFunctionOver}
-use Rattle.function_lines.specs.FunctionMade.{session_at}
+use Rattle.clause_reports.specs.elaboration.Functions.{helpers_finished, own_finished, own_part, patterns_in, plan_of, position_chosen, recursion_in}
+use Rattle.clause_reports.specs.elaboration.Refusals.{walking}
+use Rattle.clause_reports.specs.elaboration.Walking.{Session, Walked, walk_clauses}
+use Rattle.function_session.proofs.function_lines.SamePlans.{walked_of}
+use Rattle.function_session.specs.function_lines.Conditions.{IsFunctionOver}
+use Rattle.function_session.specs.function_lines.FunctionMade.{session_at}
 use Rattle.function_session.specs.Laws.{inner}
 use Rattle.resolve.specs.Functions.{Function}
 use Rattle.refusal_laws.specs.Causes.{Caused}

@@ -1,4 +1,4 @@
--- What a text is read as has its reason in the grammar.
+-- The declarations or the refusal that are read from a source file have their reason in the grammar.
 use Rattle.std.proofs.Common.{◌≡◌, ℕ, List, refl}
 use Rattle.surface_syntax.specs.Grammar as grammar
 use Rattle.surface_syntax.specs.Lexemes.{lexemes_of}
@@ -15,7 +15,7 @@ use Rattle.elim_program.proofs.Reading.{is-read}
 use Rattle.headline.specs.program_laws.Answers.{SaysOf}
 use Rattle.headline.specs.program_laws.Laws.{ReadsByTheGrammar, GivesByTheGrammar}
 
--- what the machine answers
+-- the machine's answer has its reason in the grammar
 by-run : (bytes : List ℕ) (found : List Token) (a : parsing.Answer) → run grammar.limit Start (lexemes_of bytes found) ≡ a → SaysOf bytes found (by_offset (offset_of bytes found) a)
 by-run bytes found (Read decls) e = run_file grammar.limit (lexemes_of bytes found) decls e
 by-run bytes found (Wrong n) e = record {

@@ -150,7 +150,7 @@ module _ (back : EntriesAreReadBack) (follow : EntriesThatFollow) (passed : Note
     longer-size : (S T : Signature) → IsPrefix S T → length S.entries ≤ length T.entries
     longer-size S T p = omega (arith, ap length p.entries, length-append S.entries p.more)
 
-    -- what is shown of a signature before W
+    -- lines that show a signature before W print its entries
     from-shows : (P S : Signature) (lines : List (List ℕ)) → length P.entries ≡ start → Shows P S lines → IsPrefix S W
         → Prints W start lines (length S.entries) × (start ≤ length S.entries)
     unfolding start
@@ -160,7 +160,7 @@ module _ (back : EntriesAreReadBack) (follow : EntriesThatFollow) (passed : Note
         let far = longer-size R S grown in
         (join earlier.0 (chunk S longer (length S.entries - length R.entries) (length R.entries) earlier.1 (omega arith)), omega (arith, earlier.1, far))
 
-    -- the same with the lines that begin with `#`
+    -- a core line may be put before lines that have those with `#` too
     peel : (n m : ℕ) (line : List ℕ) (ls lines : List (List ℕ)) → Prints W n (line ∷ ls) m → is_core line ≡ true → ((k : ℕ) → Prints W k ls m → Prints W k lines m)
         → Prints W n (line ∷ lines) m
     peel _ _ _ _ lines (other n m line ls begins in_line p) core rest = absurd (true≢false (sym core ∙ begins))

@@ -38,7 +38,7 @@ last-of [] line = refl
 last-of (x ∷ []) line = refl
 last-of (x ∷ y ∷ front) line = last-of (y ∷ front) line
 
--- what a last line says of a refusal
+-- whether a last line is that of a refusal
 abbrev Tells : Bool → List ℕ → Type 0
 Tells true line = begins (codes "# refused ") line ≡ true
 Tells false line = (begins (codes "# refused ") line ≡ false) × (begins (codes "# usage ") line ≡ false)

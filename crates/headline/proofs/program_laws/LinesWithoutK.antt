@@ -39,7 +39,7 @@ shown-other (more S T lines shown longer) h =
     All-append IsOtherLine lines (lines_after S T) (shown-other shown (no-k-before S T longer h))
     (entries-other T h (length S.entries) (length T.entries - length S.entries))
 
--- what is shown has K where the signature before it has it
+-- a signature that is shown has K where the signature before it has it
 pub shown-k : {P S : Signature} {lines : List (List ℕ)} → Shows P S lines → S.has_k ≡ P.has_k
 shown-k none = refl
 shown-k (more S T lines shown longer) = longer.has_k ∙ shown-k shown

@@ -9,9 +9,9 @@ use Rattle.elab_session.specs.Declaring.{Declared, declare_of}
 use Rattle.elab_session.specs.Refusals.{stopped, unresolved}
 use Rattle.elab_session.specs.declared.refusal.Refusal.{Refusal}
 use Rattle.elab_session.specs.declared.refusal.Refusal.TheVariants as refusal
-use Rattle.elaboration.specs.Functions.{Lines}
-use Rattle.elaboration.specs.Refusals as function
-use Rattle.function_lines.specs.FunctionMade.{function_made}
+use Rattle.clause_reports.specs.elaboration.Functions.{Lines}
+use Rattle.clause_reports.specs.elaboration.Refusals as function
+use Rattle.function_session.specs.function_lines.FunctionMade.{function_made}
 use Rattle.function_session.specs.Elaborating.{elaborate_of, enter_function, on_function, on_lines, refused_function, without_lines}
 use Rattle.elim_program.specs.Refusals.{refusal_text}
 use Rattle.headline.specs.program_laws.Laws.{HasReason, ReasonsAreGiven}

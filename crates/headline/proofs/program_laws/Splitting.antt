@@ -1,4 +1,4 @@
--- A text splits into tokens, or there is a first place at which no token begins.
+-- A source file splits into tokens, or there is a first place at which no token begins.
 use Rattle.std.proofs.Common.{◌≡◌, ◌≢◌, ℕ, zero, suc, ◌+◌, ◌<◌, ◌≤◌, Bool, ◌⊎◌, inl, inr, List, [], ◌∷◌, length, take, drop, refl, ap, subst, arith, length-append, length-drop}
 use Rattle.std.specs.Str.{IsUtf8, chars}
 use Rattle.std.proofs.lemmas.List.Sums.{sum_by-take-drop}

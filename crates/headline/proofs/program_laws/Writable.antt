@@ -83,7 +83,7 @@ constructors_in : Entry → List Constructor
 constructors_in (FamilyOf f) = f.constructors
 constructors_in _ = []
 
--- the same where the signature ends with a family that has no constructors yet
+-- the symbols of a term are there, where the signature ends with a family that has no constructors yet
 own-reach : (T : Signature) → IsWellFormed T → (f : Family) → (t a : Term) → TypeOf (pushed T (FamilyOf (without_constructors f))) t a → HasSymbols T true t
 unfolding constructors_in
 own-reach T formed f _ _ (constant n {name} {type} {body} at) = by (entry_of-pushed T (FamilyOf (without_constructors f)) n (Definition name type body) at)

@@ -1,4 +1,4 @@
--- What is accepted whole is written as a core file, which is verified.
+-- A source file of which each declaration is accepted is written as a core file, which is verified.
 use Rattle.std.proofs.Common.{◌≡◌, ℕ, ◌≤◌, Bool, true, false, List, [], ◌∷◌, ◌++◌, length, map, Some, Result, Ok, Err, IfOk, IfSome, refl, sym, ap, ◌∙◌, subst as transport, append_assoc, append-nil}
 use Rattle.std.specs.Prelude.{if◌then◌else◌}
 use Rattle.std.proofs.lemmas.Bool.{true≢false}
@@ -17,7 +17,7 @@ use Rattle.elab_session.proofs.PreludeReady.{prelude-ready}
 use Rattle.function_session.specs.Elaborating.{Elaborated, Refused, elaborate_of}
 use Rattle.function_session.specs.Laws.{KeepsReady}
 use Rattle.function_session.proofs.Keeping.{elaborate-ready}
-use Rattle.accepted_laws.specs.Checked.{Checked, unchanged, one_more}
+use Rattle.refusal_laws.specs.accepted_laws.Checked.{Checked, unchanged, one_more}
 use Rattle.elim_program.specs.Acceptance.{Accepts, end, next, own_lines}
 use Rattle.elim_program.specs.ClauseTexts.{clause_lines}
 use Rattle.elim_program.specs.DefinedOutputs.{IsOutput, compiles, refused_words, verifies, works}
@@ -41,7 +41,7 @@ use Rattle.headline.proofs.verified_laws.CoreFiles.{each-named, output-verifies}
 use Rattle.headline.proofs.verified_laws.LetIn.{same-k}
 use Rattle.headline.proofs.verified_laws.Texts.{text-checked}
 
--- ---- what is written shows the signature
+-- ---- the output shows the signature
 
 longer : {fuel : ℕ} {S T : Signature} → Checked fuel S T → IsPrefix S T
 longer {fuel} {S} unchanged = prefix_reflexive S
@@ -97,7 +97,7 @@ text-writable bytes fuel k ds gives accepted =
 
 -- ---- outputs with status `Done`
 
--- the output for a text whose declarations are accepted
+-- the output for a source file whose declarations are accepted
 record IsAcceptedWhole (bytes : List ℕ) (command : Flags) (out : Output) : Type 0 where
   decls : List Decl
   gives : Gives bytes (Ok decls)

@@ -17,8 +17,8 @@ use Rattle.core_text.specs.declared.stop.CoreTextStop.TheVariants.{NotCoreText}
 use Rattle.family_check.specs.Entering.{declare_of, entered, entered_at}
 use Rattle.elab_session.specs.Adding.{Adds, family, eliminator, axiom_k, definition}
 use Rattle.elab_session.specs.Entering.{answered, enter_of, refused}
-use Rattle.accepted_laws.specs.Checked.{LetsIn, Checked}
-use Rattle.accepted_laws.proofs.Families.{family-is}
+use Rattle.refusal_laws.specs.accepted_laws.Checked.{LetsIn, Checked}
+use Rattle.refusal_laws.proofs.accepted_laws.Families.{family-is}
 use Rattle.elim_program.specs.DefinedOutputs.{IsOutput, verifies}
 use Rattle.elim_program.specs.Outputs.{Block, block, compiled, followed}
 use Rattle.elim_program.specs.Verifies.{after_entry, after_head, file_block, entries, entry_block, next_block, read_name, verified_line}
@@ -66,7 +66,7 @@ head-within k text = go (has_head false text) refl (has_head true text) refl
 -- ---- one entry
 
 module _ (fuel : ℕ) (W : Signature) (checked : Checked fuel (prelude W.has_k) W) where
-  -- what is added is accepted
+  -- an entry that is added is accepted
   let-in : (S : Signature) (e : Entry) → IsPrefix (pushed S e) W → length (prelude W.has_k).entries ≤ length S.entries → LetsIn S fuel e
   let-in S e longer le =
       transport (λ T. LetsIn T fuel e) (cut_to_prefix S W (prefix_transitive S (pushed S e) W (push_is_longer S e) longer))
@@ -157,7 +157,7 @@ module _ (fuel : ℕ) (W : Signature) (checked : Checked fuel (prelude W.has_k) 
 
 -- ---- names
 
--- what is added has the name that is read
+-- an entry that is added has the name that is read
 record IsAdded (S T : Signature) (raw : RawEntry) : Type 0 where
   e : Entry
   is : T ≡ pushed S e

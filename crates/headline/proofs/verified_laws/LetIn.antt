@@ -5,7 +5,7 @@ use Rattle.std.proofs.lemmas.Option.{slice_get_within}
 use Rattle.theory.specs.Signatures.{Signature, Entry, IsEntryAt}
 use Rattle.theory.specs.WellFormed.{pushed, first_entries}
 use Rattle.theory.proofs.Pushing.{entry_of-pushed}
-use Rattle.accepted_laws.specs.Checked.{LetsIn, Checked, unchanged, one_more}
+use Rattle.refusal_laws.specs.accepted_laws.Checked.{LetsIn, Checked, unchanged, one_more}
 
 abbrev with_entries : Signature → List Entry → Signature
 with_entries S es = record { entries = es; has_k = S.has_k }

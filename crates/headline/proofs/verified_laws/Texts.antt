@@ -1,11 +1,11 @@
--- Where no declaration of a text is refused, each entry is accepted by itself.
+-- Where no declaration of a source file is refused, each entry is accepted by itself.
 use Rattle.std.proofs.Common.{◌≡◌, true, false, [], ◌∷◌, Result, Ok, Err, IfOk}
 use Rattle.std.proofs.lemmas.Bool.{true≢false}
 use Rattle.theory.specs.Signatures.{Signature}
 use Rattle.function_session.specs.Elaborating.{Elaborated, Refused, elaborate_of}
-use Rattle.accepted_laws.specs.Checked.{Checked, unchanged}
-use Rattle.accepted_laws.proofs.Declarations.{elaborate-checked}
-use Rattle.accepted_laws.proofs.Steps.{checked-on}
+use Rattle.refusal_laws.specs.accepted_laws.Checked.{Checked, unchanged}
+use Rattle.refusal_laws.proofs.accepted_laws.Declarations.{elaborate-checked}
+use Rattle.refusal_laws.proofs.accepted_laws.Steps.{checked-on}
 use Rattle.elim_program.specs.Outputs.{after, declarations, declared_block, followed}
 use Rattle.headline.specs.verified_laws.Laws.{TextIsChecked, signature_after}
 

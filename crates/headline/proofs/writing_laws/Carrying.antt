@@ -1,4 +1,4 @@
--- What definitions and instances keep that enter a signature is kept by a draft that enters, with all that it needs.
+-- A property that new definitions and instances keep is kept when a draft enters with all that it needs.
 use Rattle.std.proofs.Common.{◌≡◌, ℕ, zero, suc, Bool, true, false, cond, List, [], ◌∷◌, length, Option, Some, None, Result, Ok, Err, IfOk, refl, sym, ap, subst, ◌∙◌}
 use Rattle.theory.specs.Terms.{Term}
 use Rattle.theory.specs.Families.{Family}
@@ -19,10 +19,10 @@ use Rattle.clause_reports.specs.DraftEntering.{Mention, Eliminates, AssumesK, Na
 use Rattle.clause_reports.specs.Equations.{part_named}
 use Rattle.clause_reports.specs.Generated.{Generated, name_of, generated_by, generated_draft}
 use Rattle.clause_reports.specs.Stops.{Halts, Reporting, answers, or_halts, or_rejected, entering}
-use Rattle.draft_entering.specs.Depths.{entry_own_name}
-use Rattle.draft_entering.specs.Tables.{IsListed, names_by, IsMadeOf}
-use Rattle.draft_entering.proofs.TableLookups.{found-listed, generated-made}
-use Rattle.proof_terms.specs.CodeProofs.{name_made}
+use Rattle.drafts.specs.draft_entering.Depths.{entry_own_name}
+use Rattle.drafts.specs.draft_entering.Tables.{IsListed, names_by, IsMadeOf}
+use Rattle.drafts.proofs.draft_entering.TableLookups.{found-listed, generated-made}
+use Rattle.proof_walks.specs.proof_terms.CodeProofs.{name_made}
 
 -- ---- answers
 
@@ -45,7 +45,7 @@ pub halts-has : {A : Type 0} (P : A → Type 0) (r : Result A Stop) → IfOk r P
 halts-has P (Ok a) h = h
 halts-has P (Err e) h = tt
 
--- ---- what is kept
+-- ---- properties that are kept
 
 -- the name of a definition
 abbrev pub EntryIs : (List ℕ → Type 0) → Entry → Type 0

@@ -1,4 +1,4 @@
--- What definitions and instances keep is kept by a function by clauses that is accepted.
+-- A property that definitions and instances keep is kept by a function by clauses that is accepted.
 use Rattle.std.proofs.Common.{◌≡◌, ℕ, ◌+◌, ◌<◌, Bool, true, false, cond, List, [], ◌∷◌, ◌++◌, length, take, drop, Option, Some, None, Result, Ok, Err, IfOk, refl, subst, arith}
 use Rattle.theory.specs.Terms.{Term, Sort}
 use Rattle.theory.specs.Telescopes.{products, functions}
@@ -10,7 +10,7 @@ use Rattle.core_terms.specs.declared.stop.Stop.TheVariants.{Deep}
 use Rattle.core_terms.proofs.Answers.{Answers, and_next-has, and_then-has}
 use Rattle.core_sig.specs.Drafts.{Draft}
 use Rattle.resolve.specs.Functions.{Function}
-use Rattle.structural_rec.specs.Uses.{Use}
+use Rattle.tree_translation.specs.structural_rec.Uses.{Use}
 use Rattle.tree_translation.specs.Entries.{entries_with, helpers_before, and_more, motive_entry, step_entry, helper_entry, function_entry, side_names, part_term, step_telescope, step_goal, step_node, helper_node, function_by_recursion}
 use Rattle.tree_translation.specs.Naming.{motive_name, step_name, helper_name, rec_name}
 use Rattle.tree_translation.specs.Plans.{Plan, Part, own_part as plan_part}
@@ -18,17 +18,17 @@ use Rattle.tree_translation.specs.Recursion.{Recursion, recursion_of, order_of, 
 use Rattle.tree_translation.specs.Splits.{Node}
 use Rattle.tree_translation.specs.TreeTerms.{tree_names}
 use Rattle.function_entries.specs.CodeEntries.{translate_made}
-use Rattle.translation_laws.proofs.MadeEntries.{translate_made-is_entries}
+use Rattle.exact_laws.proofs.translation_laws.MadeEntries.{translate_made-is_entries}
 use Rattle.clause_reports.specs.DraftEntering.{enter_draft_of, enter_needed, enter_mention, Names}
 use Rattle.clause_reports.specs.Equations.{part_named}
 use Rattle.clause_reports.specs.Stops.{ReportStop}
-use Rattle.draft_checks.specs.Checks.{enterable, unmarked}
+use Rattle.drafts.specs.draft_checks.Checks.{enterable, unmarked}
 use Rattle.clause_lines.specs.CodeReports.{report_made}
-use Rattle.elaboration.specs.Functions.{ClauseLine, Lines, own_part}
-use Rattle.elaboration.specs.Refusals.{Owner, Halts, answers, or_halts, owner_of, or_no_report, reporting}
-use Rattle.elaboration.specs.Walking.{Session, Walked, walk_clauses}
+use Rattle.clause_reports.specs.elaboration.Functions.{ClauseLine, Lines, own_part}
+use Rattle.clause_reports.specs.elaboration.Refusals.{Owner, Halts, answers, or_halts, owner_of, or_no_report, reporting}
+use Rattle.clause_reports.specs.elaboration.Walking.{Session, Walked, walk_clauses}
 use Rattle.function_plans.specs.CodePlans.{chosen_made, parts_made, plan_made}
-use Rattle.function_lines.specs.FunctionMade.{level_of, session_at, plan_over, checked_entered, draft_entered, drafts_entered, values_name, values_entered, translated, plan_entered, clause_line, reference_of, clause_reported, walks_reported, parts_reported, function_made}
+use Rattle.function_session.specs.function_lines.FunctionMade.{level_of, session_at, plan_over, checked_entered, draft_entered, drafts_entered, values_name, values_entered, translated, plan_entered, clause_line, reference_of, clause_reported, walks_reported, parts_reported, function_made}
 use Rattle.headline.proofs.writing_laws.Carrying.{skip, DraftIs, After, Keeps, enter_draft-is, enter_needed-is, enter_mention-is}
 use Rattle.headline.proofs.writing_laws.Reporting.{Told, ordered-made, report-is}
 

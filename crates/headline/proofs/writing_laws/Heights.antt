@@ -1,4 +1,4 @@
--- What enters a signature shows no term that is too high to be read.
+-- The new entries of a signature show no term that is too high to be read.
 use Rattle.std.proofs.Common.{◌≡◌, ◌⊎◌, inl, inr, ℕ, zero, suc, ◌+◌, ◌≤◌, ◌<◌, ◌^◌, Bool, true, false, List, [], ◌∷◌, length, zip, All, Option, Some, None, Result, Ok, Err, IfOk, refl, sym, ap, ap₂, ◌∙◌, subst}
 use Rattle.std.specs.Prelude.{nat_lt, ◌&&◌, position}
 use Rattle.std.proofs.lemmas.List.Elements.{All-nil, All-cons}

@@ -46,7 +46,7 @@ unmarked-join xs ys e f = list_any-append (λ b. b == 33) xs ys ∙ ap₂ (λ a 
 inner-mark : (xs rest : List ℕ) → holds_mark (xs ++ 33 ∷ rest) ≡ true
 inner-mark xs rest = list_any-append (λ b. b == 33) xs (33 ∷ rest) ∙ or-right (holds_mark xs) (holds_mark (33 ∷ rest)) refl
 
--- what follows the last mark is determined
+-- the part after the last mark is determined
 last-mark : (xs ys rest last : List ℕ) → xs ++ 33 ∷ rest ≡ ys ++ 33 ∷ last → holds_mark rest ≡ false → holds_mark last ≡ false → rest ≡ last
 last-mark [] [] rest last e f g = ap (λ l. drop 1 l) e
 last-mark [] (y ∷ ys) rest last e f g = absurd (false≢true (sym f ∙ (ap (λ l. holds_mark (drop 1 l)) e ∙ inner-mark ys last)))
@@ -91,14 +91,14 @@ spelled-unmarked arrow = refl
 
 -- ---- names of families and functions
 
--- A plain or dotted name of the surface text: it holds no mark, and with one after it it is still the first token.
+-- A plain or dotted name of a source file: it holds no mark, and with one after it it is still the first token.
 pub record IsStem (name : List ℕ) : Type 0 where
   pub all_chars : are_name_chars name ≡ true
   pub of : TokenKind
   pub kind : (of ≡ Plain) ⊎ (of ≡ Dotted)
   pub spelled : Spells of (chars name) true
 
--- what may follow the last mark
+-- a segment that may follow the last mark
 pub record IsSegment (seg : List ℕ) : Type 0 where
   pub unmarked : holds_mark seg ≡ false
   pub no_elim : (first seg == 101) ≡ false

@@ -1,4 +1,4 @@
--- What enters a signature has names that a core file may declare.
+-- The new entries of a signature have names that a core file may declare.
 use Rattle.std.proofs.Common.{◌≡◌, ◌⊎◌, inl, inr, ℕ, zero, suc, ◌+◌, ◌*◌, ◌/◌, ◌%◌, ◌<◌, ◌≤◌, Bool, true, false, cond, nat_lt, List, [], ◌∷◌, ◌++◌, length, map, All, Option, Some, None, refl, sym, ap, ◌∙◌, subst, append_assoc, arith}
 use Rattle.std.specs.Prelude.{◌==◌, ◌||◌, ◌&&◌, if◌then◌else◌, get_or, position, codes, decimal}
 use Rattle.std.specs.Fmt.{digits, digits_onto, digit_glyph}
@@ -26,14 +26,14 @@ use Rattle.family_check.specs.Asking.{sort_in, type_in}
 use Rattle.family_check.specs.Entering.{are_new, check_definition, enter_instance, unless_there, instance_of, axiom_k_of, define_of}
 use Rattle.family_check.specs.Entering as entering
 use Rattle.family_check.specs.Outcomes.{OfType, OfBody}
-use Rattle.noconf_gen.specs.NoConfusionTypes.{constructor_mark, constructor_name}
+use Rattle.generators.specs.noconf_gen.NoConfusionTypes.{constructor_mark, constructor_name}
 use Rattle.tree_translation.specs.Naming as naming
 use Rattle.tree_translation.specs.Naming.{motive_name, step_name, helper_name}
 use Rattle.clause_reports.specs.Equations.{part_named}
 use Rattle.clause_reports.specs.Generated as gen
 use Rattle.clause_reports.specs.Generated.{Generated, name_of}
-use Rattle.draft_entering.specs.Tables.{IsListed}
-use Rattle.proof_terms.specs.CodeProofs.{name_made}
+use Rattle.drafts.specs.draft_entering.Tables.{IsListed}
+use Rattle.proof_walks.specs.proof_terms.CodeProofs.{name_made}
 use Rattle.headline.proofs.writing_laws.Carrying.{skip, After}
 use Rattle.headline.proofs.writing_laws.Marks.{holds_mark, unmarked-join, decimal-unmarked, IsStem, declarable}
 use Rattle.headline.proofs.writing_laws.Stems.{equality-stem, case-chars, below-chars, aux-chars, rec-chars, all-chars, nct-chars, noconf-chars, point-chars, direct-chars, acyclic-chars, left-chars, motive-chars, step-chars, helper-chars, proof-chars, mark-chars, one-mark, level-mark}

@@ -1,12 +1,12 @@
--- Each declaration of a text is ordinary: its names are spelled, and its parts are no more than the bytes.
+-- Each declaration of a source file is ordinary: its names are spelled, and its parts are no more than the bytes.
 use Rattle.std.proofs.Common.{ℕ, ◌≤◌, List, [], ◌∷◌, length, arith}
 use Rattle.theory.specs.Signatures.{Signature}
 use Rattle.surface_syntax.specs.Grammar.{limit}
 use Rattle.surface_syntax.specs.Trees as surf
 use Rattle.elim_program.proofs.Reading.{is-read}
-use Rattle.word_laws.specs.Numbers.{HasFew}
-use Rattle.word_laws.specs.Words.{Each, HasWords, IsTyped}
-use Rattle.word_laws.proofs.Spelled.{words-spelled, parts-few}
+use Rattle.surface_syntax.specs.word_laws.Numbers.{HasFew}
+use Rattle.surface_syntax.specs.word_laws.Words.{Each, HasWords, IsTyped}
+use Rattle.surface_syntax.proofs.word_laws.Spelled.{words-spelled, parts-few}
 use Rattle.headline.specs.writing_laws.Writing.{IsOrdinary, IsSurfaceName, TextIsOrdinary}
 use Rattle.headline.proofs.writing_laws.Parts.{few-parts}
 

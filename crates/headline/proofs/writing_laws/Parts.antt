@@ -22,13 +22,13 @@ use Rattle.case_trees.specs.Trees.{split_of}
 use Rattle.clause_reports.specs.Equations.{part_named}
 use Rattle.tree_translation.specs.Plans.{Part}
 use Rattle.tree_translation.specs.Recursion.{Recursion}
-use Rattle.elaboration.specs.Functions.{helpers_finished, own_part}
-use Rattle.elaboration.specs.Refusals.{Elaborating, OfSide, Owner, answers, granted, or_halts, owner_of, walking}
-use Rattle.elaboration.specs.Walking.{Given, Opened, Session, Walked, after_dots, check_dot, open_over, opened, walk_clause, walk_clauses, walk_right}
+use Rattle.clause_reports.specs.elaboration.Functions.{helpers_finished, own_part}
+use Rattle.clause_reports.specs.elaboration.Refusals.{Elaborating, OfSide, Owner, answers, granted, or_halts, owner_of, walking}
+use Rattle.clause_reports.specs.elaboration.Walking.{Given, Opened, Session, Walked, after_dots, check_dot, open_over, opened, walk_clause, walk_clauses, walk_right}
 use Rattle.leaf_terms.specs.RecursionMade.{made_at}
 use Rattle.function_plans.specs.CodePlans.{chosen_made, own_alone, own_finished_made, parts_made}
-use Rattle.function_lines.specs.FunctionMade.{plan_over, session_at}
-use Rattle.word_laws.specs.Numbers.{withs_right as written_right, withs_clause as written_clause, withs as written}
+use Rattle.function_session.specs.function_lines.FunctionMade.{plan_over, session_at}
+use Rattle.surface_syntax.specs.word_laws.Numbers.{withs_right as written_right, withs_clause as written_clause, withs as written}
 use Rattle.headline.specs.writing_laws.Writing.{HasFewParts}
 use Rattle.headline.proofs.writing_laws.Carrying.{any, Any, if-ok, skip}
 

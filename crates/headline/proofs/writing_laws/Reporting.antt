@@ -1,4 +1,4 @@
--- What the entering of a draft keeps is kept by the report of a clause.
+-- A property that the entering of a draft keeps is kept by the report of a clause.
 use Rattle.std.proofs.Common.{ℕ, Bool, true, false, cond, List, [], ◌∷◌, ◌++◌, length, map, get_or, Result, Ok, Err, IfOk}
 use Rattle.theory.specs.Terms.{Term}
 use Rattle.theory.specs.Telescopes.{Telescope}
@@ -21,9 +21,9 @@ use Rattle.clause_reports.specs.Reports as reports
 use Rattle.clause_reports.specs.Shadows.{TreeLeaf, vector_of, leaves_of}
 use Rattle.clause_reports.specs.Stops.{Halts, ReportStop, answers, or_halts, halting}
 use Rattle.clause_equations.specs.CodeEquations.{equation_made}
-use Rattle.draft_checks.specs.Checks.{enterable}
-use Rattle.draft_entering.specs.Depths.{own_name}
-use Rattle.proof_terms.specs.CodeProofs.{body_made, name_made, table_made}
+use Rattle.drafts.specs.draft_checks.Checks.{enterable}
+use Rattle.drafts.specs.draft_entering.Depths.{own_name}
+use Rattle.proof_walks.specs.proof_terms.CodeProofs.{body_made, name_made, table_made}
 use Rattle.proof_walks.specs.Starts.{walk_made}
 use Rattle.clause_lines.specs.CodeReports.{PlannedClause, Judgement, Known, Candidate, in_plan, equation_converts, converts_at_leaves, if_shadowed, both_match, at_matched, at_vector_made, at_place, is_earlier, shadowed_among, shadowed_made, denies, on_entered, entering_made, candidate_of, proof_judged, unless_converts, equation_judged, judged, on_judged, report_made}
 use Rattle.headline.proofs.writing_laws.Carrying.{Any, any, skip, halts-has, DraftIs, After, Keeps, enter_draft-is}

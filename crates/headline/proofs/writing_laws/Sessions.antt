@@ -1,4 +1,4 @@
--- What definitions, families and instances keep is kept by a declaration that is accepted.
+-- A property that definitions, families and instances keep is kept by a declaration that is accepted.
 use Rattle.std.proofs.Common.{◌≡◌, ℕ, suc, ◌<◌, Bool, true, false, List, [], ◌∷◌, ◌++◌, length, Result, Ok, Err, IfOk, refl, sym, ap, subst}
 use Rattle.std.specs.Prelude.{◌||◌, if◌then◌else◌, is_some, bytes_eq}
 use Rattle.std.specs.List.{list_any}
@@ -19,16 +19,16 @@ use Rattle.resolve.specs.Resolving.{resolve, resolve_term}
 use Rattle.resolve.specs.declared.stop.ResolveStop.{ResolveStop}
 use Rattle.resolve.specs.declared.stop.ResolveStop.TheVariants as unresolved
 use Rattle.family_check.specs.Entering as entering
-use Rattle.elaboration.specs.Functions.{Lines}
-use Rattle.elaboration.specs.Refusals as refusal
-use Rattle.function_lines.specs.FunctionMade.{function_made}
+use Rattle.clause_reports.specs.elaboration.Functions.{Lines}
+use Rattle.clause_reports.specs.elaboration.Refusals as refusal
+use Rattle.function_session.specs.function_lines.FunctionMade.{function_made}
 use Rattle.elab_session.specs.Declaring as session
 use Rattle.elab_session.specs.Declaring.{Declared}
 use Rattle.elab_session.specs.Entering.{checked}
 use Rattle.elab_session.proofs.Resolved.{declare-has, or_unresolved-has}
 use Rattle.elab_session.specs.declared.refusal.Refusal.{Refusal}
 use Rattle.function_session.specs.Elaborating.{without_lines, on_lines, on_function, enter_function, elaborate_of}
-use Rattle.word_laws.specs.Words.{Each}
+use Rattle.surface_syntax.specs.word_laws.Words.{Each}
 use Rattle.headline.proofs.writing_laws.Carrying.{Any, any, After, Keeps}
 use Rattle.headline.proofs.writing_laws.Functions.{FunctionFew, function-keeps}
 
@@ -49,7 +49,7 @@ pub record KeepsAll (D W : List ℕ → Type 0) (Few : ℕ → Type 0) (most : �
   pub keeps : Keeps D W Few P
   pub declare : (S : Signature) (raw : RawFamily) (left : ℕ) → P S → RawIs W most raw → Answers (After P) (entering.declare_of S raw left)
 
--- ---- what is resolved
+-- ---- resolved names
 
 declared-is : (W : List ℕ → Type 0) (S : Signature) (before : List (List ℕ)) (x : Word) → W x.text → IfOk (declared S before x) W
 declared-is W S before x h = by (is_some (find S x.text) || list_any (bytes_eq x.text) before)
@@ -110,7 +110,7 @@ function-is W S x ty cs h =
     let list = function.clauses S (with_name own (Const (length S.entries)) (known_in S)) own (function.allowed_by type (function.arity_of type cs)) cs in
     and_then-has Any (λ f. W f.name) list _ (any list) (λ found v. n)))
 
--- ---- what is entered
+-- ---- new entries
 
 module _ (D W : List ℕ → Type 0) (Few : ℕ → Type 0) (most : ℕ) (P : Signature → Type 0) (all : KeepsAll D W Few most P) where
   entry-is : (S : Signature) → P S → (fuel : ℕ) (raw : RawEntry) → EntryIs W most raw → Answers (λ e. P e.signature) (checked S raw fuel)

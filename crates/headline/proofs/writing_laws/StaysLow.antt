@@ -7,10 +7,10 @@ use Rattle.surface_syntax.specs.Trees as surf
 use Rattle.resolve.specs.Functions.{Function, function}
 use Rattle.resolve.specs.declared.stop.ResolveStop.{ResolveStop}
 use Rattle.tree_translation.specs.Plans.{Plan}
-use Rattle.elaboration.specs.Refusals.{Refusal}
-use Rattle.function_lines.specs.FunctionMade.{plan_over}
+use Rattle.clause_reports.specs.elaboration.Refusals.{Refusal}
+use Rattle.function_session.specs.function_lines.FunctionMade.{plan_over}
 use Rattle.function_session.specs.Elaborating.{Elaborated, Refused}
-use Rattle.word_laws.specs.Words.{Each}
+use Rattle.surface_syntax.specs.word_laws.Words.{Each}
 use Rattle.headline.specs.writing_laws.Writing.{AreLow, HasFewParameters, EntriesStayLow}
 use Rattle.headline.proofs.writing_laws.Carrying.{Any, Keeps}
 use Rattle.headline.proofs.writing_laws.Functions.{PartsAre, FunctionFew}

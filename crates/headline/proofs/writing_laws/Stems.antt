@@ -18,7 +18,7 @@ use Rattle.headline.proofs.writing_laws.Marks.{holds_mark, unmarked-join, IsStem
 
 -- ---- levels
 
--- what is known of a level in decimal
+-- the digits of a level: at most two characters of names, without a mark
 pub record IsLevelText (text : List ℕ) : Type 0 where
   pub all_chars : are_name_chars text ≡ true
   pub read : chars text ≡ text

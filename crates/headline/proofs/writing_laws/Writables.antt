@@ -1,4 +1,4 @@
--- What the declarations of a text give can be written in a core file.
+-- The entries of a source file's declarations can be written in a core file.
 use Rattle.std.proofs.Common.{◌≡◌, inl, ℕ, zero, suc, ◌+◌, ◌<◌, ◌≤◌, ◌^◌, Bool, true, false, List, [], ◌∷◌, ◌++◌, map, drop, All, Some, Result, Ok, IfOk, refl, sym, ap, ◌∙◌, subst, arith}
 use Rattle.std.specs.Prelude.{get_or, slice_get, codes}
 use Rattle.std.specs.List.{range_with_len}
@@ -23,7 +23,7 @@ use Rattle.family_check.specs.Laws.{EntersAsDeclared}
 use Rattle.family_check.proofs.AsDeclared.{declare-gives}
 use Rattle.function_session.specs.Elaborating.{Elaborated, Refused, elaborate_of}
 use Rattle.elim_program.specs.Acceptance.{Accepts, end, next}
-use Rattle.word_laws.specs.Words.{Each}
+use Rattle.surface_syntax.specs.word_laws.Words.{Each}
 use Rattle.headline.specs.writing_laws.Writing.{AreLow, HasFewParameters, IsSurfaceName, IsOrdinary, AcceptedIsWritable}
 use Rattle.headline.proofs.writing_laws.Carrying.{After, if-ok}
 use Rattle.headline.proofs.writing_laws.Marks.{holds_mark, unmarked-join, IsStem}

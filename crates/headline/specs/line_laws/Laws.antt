@@ -1,4 +1,4 @@
--- What holds of the lines of a function's clauses.
+-- The laws of the lines of a function's clauses.
 use Rattle.std.specs.Prelude.{◌≡◌, ℕ, Some, Ok, IfOk, slice_get}
 use Rattle.theory.specs.Signatures.{Signature}
 use Rattle.theory.specs.SignatureScopes.{HasEntries}
@@ -8,9 +8,9 @@ use Rattle.core_terms.specs.Patterns.{Pats}
 use Rattle.case_trees.specs.Places.{clause_at}
 use Rattle.clause_reports.specs.Equations.{part_at, pats_of}
 use Rattle.elab_session.specs.Sessions.{IsReady}
-use Rattle.elaboration.specs.Functions.{Lines, function_of, plan_of}
+use Rattle.clause_reports.specs.elaboration.Functions.{Lines, function_of, plan_of}
 use Rattle.family_check.specs.Scopes.{HasPrelude}
-use Rattle.function_lines.specs.Conditions.{IsFunctionOver}
+use Rattle.function_session.specs.function_lines.Conditions.{IsFunctionOver}
 use Rattle.function_session.specs.Elaborating.{Elaborated, elaborate_of}
 use Rattle.function_session.specs.Evidence.{references_from}
 use Rattle.resolve.specs.Functions.{Function, function}
@@ -34,7 +34,7 @@ FunctionReports =
     IsFunctionOver (with_own S f) f →
     IfOk (function_of S f fuel).0 (HasReports S f)
 
--- what was added for a function that is written by clauses
+-- the lines that were added for a function that is written by clauses
 pub record HasReportedLines (S : Signature) (x : Word) (ty : surf.Surf) (clauses : surf.Clauses) (a : Elaborated) : Type 0 where
   pub given : Function
   pub resolved : function S x ty clauses ≡ Ok given
@@ -52,7 +52,7 @@ DeclarationReports =
 -- ---- the plan
 
 -- The patterns of clause `number` of part k are those that are written: part 0 has the clauses of the function, and the others those inside
--- each `with`, in the order of the text.
+-- each `with`, in the order of the source file.
 abbrev pub HasWrittenPatterns : Function → Plan → Type 0
 HasWrittenPatterns f plan =
     (k number : ℕ) (clauses : Clauses) (pats : Pats) (binds : ℕ) (right : Right) → slice_get (parts_of f) k ≡ Some clauses →

@@ -1,4 +1,4 @@
--- What the lines of clauses say, with nothing left to be asked.
+-- The meaning of the lines of clauses, without a condition.
 use Rattle.std.specs.Prelude.{◌≡◌, ◌↔◌, ℕ, true, Ok, List, [], ◌∷◌}
 use Rattle.theory.specs.Terms.{Term}
 use Rattle.theory.specs.Signatures.{Definition, IsEntryAt, IsPrefix, Signature, equation}
@@ -7,12 +7,12 @@ use Rattle.tree_translation.specs.Plans.{Plan}
 use Rattle.clause_reports.specs.Equations.{Equation, equation_of, part_at, part_named, pats_of, closed_type}
 use Rattle.clause_reports.specs.ProofTerms.{proof_name}
 use Rattle.clause_reports.specs.Reports.{Absurd, Proved, Reference, report_of, reported, some_absurd}
-use Rattle.elaboration.specs.Functions.{ClauseLine}
-use Rattle.elaboration.specs.Refusals.{owner_of}
+use Rattle.clause_reports.specs.elaboration.Functions.{ClauseLine}
+use Rattle.clause_reports.specs.elaboration.Refusals.{owner_of}
 use Rattle.function_session.specs.Evidence.{line_owner}
 
--- Entry n of T is a definition, under the clause's name, of the closed type of the clause's equation over S, letter for letter. By the
--- typing rules over the entries before it the type has a sort, and the term of the definition has the type.
+-- Entry n of T is a definition, under the clause's name, whose type is syntactically equal to the closed type of the clause's equation
+-- over S. By the typing rules over the entries before it the type has a sort, and the term of the definition has the type.
 pub record IsProof (S : Signature) (plan : Plan) (c : Reference) (T : Signature) (n : ℕ) : Type 0 where
   pub given : Equation
   pub is : equation_of S plan c.part c.clause c.walk ≡ Ok given

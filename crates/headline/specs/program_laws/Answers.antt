@@ -1,4 +1,4 @@
--- What the grammar has for the tokens of a text.
+-- The reason in the grammar for each answer of the parser.
 use Rattle.std.specs.Prelude.{◌≡◌, ℕ, List, Result, Ok, Err}
 use Rattle.surface_syntax.specs.Grammar as grammar
 use Rattle.surface_syntax.specs.Lexemes.{lexemes_of}
@@ -10,7 +10,7 @@ use Rattle.surface_syntax.specs.declared.stop.SyntaxStop.{SyntaxStop}
 use Rattle.surface_syntax.specs.declared.stop.SyntaxStop.TheVariants.{Nested, Syntax}
 use Rattle.surface_syntax.specs.declared.token.Token.{Token}
 
--- the tokens before the offset begin a text of the language, and none goes on with the next one; nothing is inside 2,000 others
+-- the tokens before the offset begin a file of the language, and none goes on with the next one; nothing is inside 2,000 others
 pub record IsWrongAt (bytes : List ℕ) (tokens : List Token) (offset : ℕ) : Type 0 where
   pub left : ℕ
   pub wrong : GoesWrong (lexemes_of bytes tokens) left

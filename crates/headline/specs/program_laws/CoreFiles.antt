@@ -1,4 +1,4 @@
--- When a text is a core file, and what a core file asks of the entries of a signature.
+-- The definition of a core file, and its conditions on the entries of a signature.
 use Rattle.std.specs.Prelude.{◌≡◌, ◌<◌, ◌≤◌, ◌^◌, ℕ, Bool, List, length, None, Ok, All}
 use Rattle.theory.specs.Prelude.{prelude}
 use Rattle.theory.specs.Signatures.{Entry, FamilyOf, EliminatorAt, AxiomKAt, Definition, Signature, IsEntryAt, names_of}

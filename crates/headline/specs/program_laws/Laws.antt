@@ -25,11 +25,11 @@ use Rattle.headline.specs.program_laws.WithoutK.{HasNoK, AreWithoutK}
 abbrev pub HasOutput : Type 0
 HasOutput = (words : List (List ℕ)) (bytes : List ℕ) → (out : Output) × IsOutput words bytes out
 
--- what the tokens of a text are read as has its reason in the grammar
+-- the parser's answer for the tokens of a source file has its reason in the grammar
 abbrev pub ReadsByTheGrammar : Type 0
 ReadsByTheGrammar = (bytes : List ℕ) (tokens : List Token) → SaysOf bytes tokens (parsed bytes tokens)
 
--- The declarations that a text gives are those that the grammar has for its tokens, and all of them are built.
+-- The declarations that are read from a source file are those that the grammar has for its tokens, and all of them are implemented.
 abbrev pub GivesByTheGrammar : Type 0
 GivesByTheGrammar = (bytes : List ℕ) (decls : List Decl) → Gives bytes (Ok decls) → (is : IsRead bytes decls) × (unbuilt bytes is.tokens ≡ None)
 
@@ -38,7 +38,7 @@ GivesByTheGrammar = (bytes : List ℕ) (decls : List Decl) → Gives bytes (Ok d
 abbrev pub StatusFollows : Type 0
 StatusFollows = (words : List (List ℕ)) (bytes : List ℕ) (out : Output) → IsOutput words bytes out → out.status ≡ status_by (last_line out.lines)
 
--- the refusal of a declaration has a text
+-- the reason that is printed for a declaration's refusal is not empty
 abbrev pub HasReason : Refused → Type 0
 HasReason (Declaration e) = 0 < length (refusals.refusal_text e)
 HasReason (Function e) = 0 < length (functions.refusal_text e)
@@ -56,7 +56,7 @@ WithoutK =
     (words : List (List ℕ)) (bytes : List ℕ) (above : List (List ℕ)) (name : List ℕ) (shown : IsShown words bytes above name)
     → shown.k ≡ false → AreWithoutK above shown.after
 
--- the same of the entries of a core file that are verified
+-- Where the words do not ask for K, no entry of a core file that is verified holds it.
 abbrev pub VerifiedWithoutK : Type 0
 VerifiedWithoutK =
     (text : List ℕ) (above : List (List ℕ)) (name : List ℕ) (verified : IsVerified false text above name) → HasNoK verified.signature

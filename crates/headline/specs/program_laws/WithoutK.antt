@@ -1,4 +1,4 @@
--- What it means to be without axiom K: for an entry as its line shows it, for a signature, and for lines of core text.
+-- Without axiom K: an entry as its line shows it, a signature, and lines of core text.
 use Rattle.std.specs.Prelude.{◌≡◌, ℕ, false, List, codes, All}
 use Rattle.theory.specs.AxiomKLaws.{LacksAxiomK}
 use Rattle.theory.specs.Signatures.{Entry, FamilyOf, EliminatorAt, AxiomKAt, Definition, Signature, IsEntryAt}

@@ -9,7 +9,7 @@ use Rattle.core_text.specs.Heads.{head_of}
 use Rattle.core_text.specs.TermText.{term_text}
 use Rattle.surface_syntax.specs.Trees.{Decl}
 use Rattle.function_session.specs.Elaborating.{elaborate_of}
-use Rattle.accepted_laws.specs.Checked.{Checked}
+use Rattle.refusal_laws.specs.accepted_laws.Checked.{Checked}
 use Rattle.elim_program.specs.DefinedOutputs.{IsOutput}
 use Rattle.elim_program.specs.Lines.{text_of}
 use Rattle.elim_program.specs.Outputs.{Output, after, block, compiled, declarations}
@@ -63,7 +63,7 @@ CoreFileIsVerified =
     (fuel : ℕ) (k : Bool) (text : List ℕ) (W : Signature) (names : List (List ℕ)) → IsFileOf k text W names → Checked fuel (prelude W.has_k) W
     → after_head fuel text (head_of k text) ≡ block (map verified_line names) false
 
--- A text is accepted whole. Each entry of a core file of the signature that it gives is verified with the same fuel.
+-- A source file is accepted whole. Each entry of a core file of the signature that it gives is verified with the same fuel.
 abbrev pub AcceptedIsVerified : Type 0
 AcceptedIsVerified =
     (fuel : ℕ) (k verify_k : Bool) (ds : List Decl) (text : List ℕ) (names : List (List ℕ)) → (declarations fuel (prelude k) ds).refused ≡ false
@@ -82,11 +82,11 @@ OutputVerifies =
 abbrev pub type_of : {A : Type 0} → A → Type 0
 type_of {A} a = A
 
--- what words ask for: axiom K or not, and the units of a declaration
+-- the flags of the words: axiom K or not, and the units of a declaration
 abbrev pub Flags : Type 0
 Flags = type_of (command false default_fuel)
 
--- The output that is defined for the words on a text: status `Done`, the head lines, and one line for each entry that the declarations of
+-- The output that is defined for the words on a core file: status `Done`, the head lines, and one line for each entry that the declarations
 -- `bytes` gave, in order.
 pub record IsVerifiedWhole (words : List (List ℕ)) (text : List ℕ) (command : Flags) (bytes : List ℕ) : Type 0 where
   pub decls : List Decl
@@ -95,7 +95,7 @@ pub record IsVerifiedWhole (words : List (List ℕ)) (text : List ℕ) (command 
   pub are : AreNames (signature_after command.fuel (prelude command.k) decls) names
   pub output : IsOutput words text (compiled command.k (block (map verified_line names) false))
 
--- The output that is defined for `compile` has status `Done`, and is no longer than a text may be. Then `verify` on it, with the
+-- The output that is defined for `compile` has status `Done`, and is no longer than a source file may be. Then `verify` on it, with the
 -- same fuel and the same choice of K, verifies each entry.
 abbrev pub CompiledIsVerified : Type 0
 CompiledIsVerified =

@@ -1,4 +1,4 @@
--- What a core file asks of the entries after the prelude, and that the declarations of a text meet it.
+-- The conditions of a core file on the entries after the prelude, and that the declarations of a source file meet them.
 use Rattle.std.specs.Prelude.{◌≡◌, ◌<◌, ◌≤◌, ◌^◌, ℕ, Bool, true, List, ◌++◌, length, Ok, IfOk}
 use Rattle.std.specs.Str.{is_utf8, chars}
 use Rattle.theory.specs.Prelude.{prelude}
@@ -7,18 +7,18 @@ use Rattle.surface_syntax.specs.Tokens.{Spells}
 use Rattle.surface_syntax.specs.Trees as surf
 use Rattle.surface_syntax.specs.declared.token.TokenKind.TheVariants.{Plain}
 use Rattle.resolve.specs.Functions.{Function, function}
-use Rattle.function_lines.specs.FunctionMade.{plan_over}
+use Rattle.function_session.specs.function_lines.FunctionMade.{plan_over}
 use Rattle.function_session.specs.Elaborating.{Elaborated, elaborate_of}
 use Rattle.elim_program.specs.Acceptance.{Accepts}
 use Rattle.elim_program.specs.Texts.{Gives}
 use Rattle.headline.specs.program_laws.CoreFiles.{IsLowEntry, IsWritable}
-use Rattle.word_laws.specs.Words.{Each}
+use Rattle.surface_syntax.specs.word_laws.Words.{Each}
 
 -- no entry after the prelude shows a term that is higher than 2,000
 abbrev pub AreLow : Signature → Type 0
 AreLow S = (n : ℕ) (e : Entry) → length (prelude S.has_k).entries ≤ n → IsEntryAt S n e → IsLowEntry n e
 
--- a family has fewer than 2^32 parameters, as each of a text has
+-- a family has fewer than 2^32 parameters, as each of a source file has
 abbrev pub HasFewParameters : surf.Decl → Type 0
 HasFewParameters (surf.Data x params ty cons) = length params < 2 ^ 32
 HasFewParameters _ = Unit {0}
@@ -30,9 +30,9 @@ EntriesStayLow =
     ((k : Bool) → AreLow (prelude k))
     × ((S : Signature) (fuel : ℕ) (d : surf.Decl) (a : Elaborated) → AreLow S → HasFewParameters d → elaborate_of S fuel d ≡ Ok a → AreLow a.signature)
 
--- ---- declarations of a text
+-- ---- declarations of a source file
 
--- a plain name of the surface text
+-- a plain name of a source file
 abbrev pub IsSurfaceName : List ℕ → Type 0
 IsSurfaceName name = (is_utf8 name ≡ true) × Spells Plain (chars name) true
 
@@ -40,19 +40,19 @@ IsSurfaceName name = (is_utf8 name ≡ true) × Spells Plain (chars name) true
 abbrev pub HasFewParts : Signature → Function → Type 0
 HasFewParts S f = (level left : ℕ) → IfOk (plan_over S f level left).0 (λ plan. (k : ℕ) → k < length plan.parts → k < 10000000000)
 
--- Each name that is declared is a plain one of the surface text, and there are few parameters and parts.
+-- Each name that is declared is a plain one of a source file, and there are few parameters and parts.
 abbrev pub IsOrdinary : Signature → surf.Decl → Type 0
 IsOrdinary S (surf.Def x ty body) = IsSurfaceName x.text
 IsOrdinary S (surf.Data x params ty cons) = IsSurfaceName x.text × (length params < 2 ^ 32) × Each (λ c. IsSurfaceName c.name.text) cons
 IsOrdinary S (surf.Fun x ty clauses) = IsSurfaceName x.text × IfOk (function S x ty clauses) (HasFewParts S)
 IsOrdinary S _ = Unit {0}
 
--- Each declaration of a text is ordinary, over whatever signature it comes.
+-- Each declaration of a source file is ordinary, over whatever signature it comes.
 abbrev pub TextIsOrdinary : Type 0
 TextIsOrdinary = (bytes : List ℕ) (ds : List surf.Decl) → Gives bytes (Ok ds) → Each (λ d. (S : Signature) → IsOrdinary S d) ds
 
--- What the declarations at the front of a text give, accepted one by one from the prelude on, can be written in a core file: names are
--- plain and may be declared, and no shown term is too high.
+-- The signature after the declarations at the front of a source file, accepted one by one from the prelude on, can be written in a core
+-- file: names are plain and may be declared, and no shown term is too high.
 abbrev pub AcceptedIsWritable : Type 0
 AcceptedIsWritable =
     (bytes : List ℕ) (decls front back : List surf.Decl) (k : Bool) (fuel : ℕ) (T : Signature) → Gives bytes (Ok decls) → decls ≡ front ++ back

@@ -6,7 +6,7 @@ pub fn lines_are_reports()
     ensures { LinesAreReports }
 {}
 
-/// What a line accepts can be written in a core file.
+/// The signature after a declaration that a line accepts can be written in a core file.
 pub fn lines_are_writable()
     ensures { LinesAreWritable }
 {}

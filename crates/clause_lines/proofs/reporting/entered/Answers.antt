@@ -1,5 +1,5 @@
 use Rattle.core_sig.specs.Drafts.{draft_of}
-use Rattle.proof_terms.specs.ProofMeanings.{proof_of}
+use Rattle.proof_walks.specs.proof_terms.ProofMeanings.{proof_of}
 use Rattle.clause_lines.specs.LineMeanings.{clause_of}
 use Rattle.clause_lines.proofs.EnteredLines.{denied-answers, entered-proved}
 use Rattle.clause_lines.proofs.reporting.entered.Goals as goal

@@ -1,4 +1,4 @@
-use Rattle.proof_terms.specs.ProofMeanings.{place_of}
+use Rattle.proof_walks.specs.proof_terms.ProofMeanings.{place_of}
 use Rattle.clause_lines.proofs.ReducedPlaces.{sides-reduce}
 use Rattle.clause_lines.proofs.shadowing.leaf_converts.Goals as goal
 

@@ -1,7 +1,7 @@
 use Rattle.std.proofs.Common.{sym, subst as transport}
 use Rattle.core_terms.specs.Meanings.{tele_of}
 use Rattle.kernel_reduce.specs.WellScoped.{CanReduce}
-use Rattle.proof_terms.specs.ProofMeanings.{place_of}
+use Rattle.proof_walks.specs.proof_terms.ProofMeanings.{place_of}
 use Rattle.proof_walks.proofs.KeptPlaces.{kept-reduces}
 use Rattle.clause_lines.proofs.shadowing.vector_at.Goals as goal
 

@@ -3,7 +3,7 @@ use Rattle.std.proofs.lemmas.Result.{err_from_is_err_and}
 use Rattle.core_terms.specs.Meanings.{tree_of}
 use Rattle.kernel_reduce.specs.WellScoped.{CanReduce}
 use Rattle.clause_reports.specs.Stops.{halting}
-use Rattle.draft_entering.specs.declared.stop.ReportStop.TheVariants.{Stop}
+use Rattle.drafts.specs.declared.draft_entering.stop.ReportStop.TheVariants.{Stop}
 use Rattle.clause_lines.proofs.ReducedPlaces.{compared-is, compared-reduce}
 use Rattle.clause_lines.proofs.sides.sides_compared.Goals as goal
 

@@ -1,7 +1,7 @@
 use Rattle.std.proofs.Common.{rules, refl}
 use Rattle.std.proofs.lemmas.Result.{err_from_is_err_and}
 use Rattle.core_terms.specs.Meanings.{tele_of}
-use Rattle.pattern_vectors.proofs.CommonColumns.{rest-of}
+use Rattle.case_trees.proofs.pattern_vectors.CommonColumns.{rest-of}
 use Rattle.clause_splitting.proofs.NodeCodes.{moved-more, moved-refused}
 use Rattle.clause_splitting.proofs.nodes.+moved_live.Goals as goal
 

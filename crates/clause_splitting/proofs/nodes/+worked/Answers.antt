@@ -1,6 +1,6 @@
 use Rattle.std.proofs.Common.{◌-◌, length, drop, sym, ap, ◌∙◌, subst, arith}
 use Rattle.std.proofs.lemmas.List.{length-take, length-drop}
-use Rattle.pattern_vectors.proofs.CommonColumns.{rest-of}
+use Rattle.case_trees.proofs.pattern_vectors.CommonColumns.{rest-of}
 use Rattle.clause_walks.specs.PointMeanings.{point_of}
 use Rattle.clause_walks.specs.Stops.{Yields}
 use Rattle.clause_splitting.specs.Growing.{node_at, worked_behind}

@@ -3,7 +3,7 @@ use Rattle.std.proofs.lemmas.List.{length-map}
 use Rattle.std.proofs.lemmas.Result.{err_from_is_err_and}
 use Rattle.core_terms.specs.Meanings.{tree_of, tele_of}
 use Rattle.core_terms.specs.TreeMeanings.{branch_of, branches_of, case_tree_of, steps_of}
-use Rattle.pattern_vectors.proofs.CommonColumns.{rest-of}
+use Rattle.case_trees.proofs.pattern_vectors.CommonColumns.{rest-of}
 use Rattle.unifier.specs.Meanings.{outcome_of}
 use Rattle.clause_walks.specs.Forgetting.{forgetting_live, grows_on}
 use Rattle.clause_walks.specs.LookMeanings.{ends_of, ran_of, reached_of}

@@ -1,6 +1,6 @@
 use Rattle.std.proofs.Common.{rules}
 use Rattle.core_terms.specs.Meanings.{tele_of}
-use Rattle.pattern_vectors.proofs.CommonColumns.{rest-of}
+use Rattle.case_trees.proofs.pattern_vectors.CommonColumns.{rest-of}
 use Rattle.clause_walks.proofs.MovedPairs.{moved-none, moved-more}
 use Rattle.clause_walks.proofs.moving.+moving.Goals as goal
 

@@ -1,5 +1,5 @@
 use Rattle.std.proofs.Common.{rules, Ok, ap}
-use Rattle.pattern_vectors.proofs.CommonColumns.{rest-of}
+use Rattle.case_trees.proofs.pattern_vectors.CommonColumns.{rest-of}
 use Rattle.clause_walks.proofs.Behind.{copied-none, copied-more}
 use Rattle.clause_walks.proofs.pairs.+copying.Goals as goal
 

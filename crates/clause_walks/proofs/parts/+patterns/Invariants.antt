@@ -1,5 +1,5 @@
 use Rattle.core_terms.specs.PatternMeanings.{pat_of, pats_of}
-use Rattle.pattern_vectors.specs.Meeting.{size_of, size_of_all}
+use Rattle.case_trees.specs.pattern_vectors.Meeting.{size_of, size_of_all}
 use Rattle.clause_walks.proofs.parts.+patterns.Given as goal
 
 abbrev pub decreases-patterns_in : goal.decreases-patterns_in

@@ -1,6 +1,6 @@
 use Rattle.std.proofs.Common.{◌+◌, ◌*◌}
 use Rattle.core_terms.specs.PatternMeanings.{pat_of, pats_of}
-use Rattle.pattern_vectors.specs.Meeting.{size_of, size_of_all}
+use Rattle.case_trees.specs.pattern_vectors.Meeting.{size_of, size_of_all}
 use Rattle.clause_walks.proofs.working.+working.Given as goal
 
 abbrev pub decreases-work_pattern : goal.decreases-work_pattern

@@ -1,7 +1,7 @@
 use Rattle.std.proofs.Common.{◌++◌, codes}
 use Rattle.elim_program.specs.ClauseTexts as spec
 use Rattle.elim_program.specs.Lines.{text_of}
-use Rattle.function_lines.specs.LineMeanings.{clause_line_of}
+use Rattle.function_session.specs.function_lines.LineMeanings.{clause_line_of}
 use Rattle.elim_program.proofs.TextLines.{on_both, leaves_text}
 use Rattle.elim_program.proofs.clause_texts.write_with_leaves.Goals as goal
 

@@ -1,6 +1,6 @@
 use Rattle.std.proofs.Common.{◌++◌, codes, sym, append_assoc}
 use Rattle.elim_program.specs.FunctionRefusals as spec
-use Rattle.function_refusals.specs.RefusalMeanings.{owner_meant}
+use Rattle.function_checks.specs.function_refusals.RefusalMeanings.{owner_meant}
 use Rattle.elim_program.proofs.TextLines.{on_both}
 use Rattle.elim_program.proofs.refused_functions.write_mismatch.Goals as goal
 

@@ -4,7 +4,7 @@ use Rattle.core_terms.specs.CaseTrees as pure
 use Rattle.core_terms.specs.Meanings.{tree_of, tele_of}
 use Rattle.core_terms.specs.TreeMeanings.{case_tree_of}
 use Rattle.core_terms.specs.declared.case_tree.Branch.TheFolds.{the_lemmas}
-use Rattle.outlines.specs.OutlineMeanings.{outline_of}
+use Rattle.run_terms.specs.outlines.OutlineMeanings.{outline_of}
 use Rattle.split_terms.specs.NodeMeanings.{node_of}
 use Rattle.leaf_terms.specs.PlaceMeanings.{translation_of}
 use Rattle.function_entries.specs.CodeTrees.{tree_made}

@@ -4,8 +4,8 @@ use Rattle.core_terms.specs.TreeMeanings.{case_tree_of}
 use Rattle.core_terms.proofs.Builders.{ok_is}
 use Rattle.function_plans.proofs.HelperChains.{helpers-step}
 use Rattle.function_plans.proofs.Removed.{first-removed, map-last}
-use Rattle.function_refusals.specs.RefusalMeanings.{Elaborates}
-use Rattle.function_walks.specs.WalkingMeanings.{session_of, walked_of}
+use Rattle.function_checks.specs.function_refusals.RefusalMeanings.{Elaborates}
+use Rattle.function_checks.specs.function_walks.WalkingMeanings.{session_of, walked_of}
 use Rattle.leaf_terms.specs.PlanMeanings.{part_of, parts_of}
 use Rattle.leaf_terms.specs.RecursionMeanings.{recursion_of}
 use Rattle.function_plans.proofs.helpers.+helpers_finished.Goals as goal

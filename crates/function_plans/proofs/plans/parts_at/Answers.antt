@@ -4,7 +4,7 @@ use Rattle.std.specs.Option.{option_copied}
 use Rattle.core_terms.specs.Meanings.{tele_of, tree_of}
 use Rattle.function_plans.proofs.Orders.{found-ordered}
 use Rattle.leaf_terms.specs.RecursionMeanings.{recursion_of}
-use Rattle.structural_rec.specs.Laws.{IsOrder}
+use Rattle.tree_translation.specs.structural_rec.Laws.{IsOrder}
 use Rattle.tree_translation.specs.Recursion as recursion
 use Rattle.function_plans.proofs.plans.parts_at.Goals as goal
 

@@ -1,7 +1,7 @@
 use Rattle.core_terms.specs.Meanings.{tree_of, tele_of}
 use Rattle.core_terms.specs.PatternMeanings.{clauses_of}
 use Rattle.case_trees.specs.Trees.{split_of}
-use Rattle.function_refusals.proofs.EndedTrees.{ended-elaborates}
+use Rattle.function_checks.proofs.function_refusals.EndedTrees.{ended-elaborates}
 use Rattle.function_plans.proofs.trees.tree_of_clauses.Goals as goal
 
 pub returns-in-Err-clause-answer : goal.returns-in-Err-clause-answer

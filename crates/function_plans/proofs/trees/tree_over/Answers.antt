@@ -3,7 +3,7 @@ use Rattle.std.proofs.lemmas.List.{length-map}
 use Rattle.core_terms.specs.Meanings.{tele_of, tree_of}
 use Rattle.core_terms.proofs.Builders.{ok_is}
 use Rattle.function_plans.proofs.Starts.{start-clauses, start-few, start-given}
-use Rattle.function_walks.specs.WalkingMeanings.{walked_of}
+use Rattle.function_checks.specs.function_walks.WalkingMeanings.{walked_of}
 use Rattle.unifier.specs.Conditions.{most_levels}
 use Rattle.function_plans.proofs.trees.tree_over.Goals as goal
 

@@ -1,5 +1,5 @@
-use Rattle.proof_terms.specs.ProofMeanings.{proof_of, proofs_of}
-use Rattle.proof_terms.specs.Sizes.{size_of, size_of_all}
+use Rattle.proof_walks.specs.proof_terms.ProofMeanings.{proof_of, proofs_of}
+use Rattle.proof_walks.specs.proof_terms.Sizes.{size_of, size_of_all}
 use Rattle.proof_walks.proofs.leaves.+leaves.Given as goal
 
 abbrev pub decreases-add_leaves : goal.decreases-add_leaves

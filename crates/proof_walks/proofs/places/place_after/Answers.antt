@@ -2,7 +2,7 @@ use Rattle.std.proofs.Common.{ap, ◌∙◌}
 use Rattle.core_terms.specs.Meanings.{tele_of}
 use Rattle.core_terms.proofs.Builders.{ok_is}
 use Rattle.clause_reports.specs.ProofWalks.{bounded_place, moved_place}
-use Rattle.proof_terms.specs.ProofMeanings.{place_of}
+use Rattle.proof_walks.specs.proof_terms.ProofMeanings.{place_of}
 use Rattle.proof_walks.proofs.KeptPlaces.{after-kept}
 use Rattle.proof_walks.proofs.places.place_after.Goals as goal
 

@@ -1,4 +1,4 @@
-use Rattle.proof_terms.specs.ProofMeanings.{proof_of}
+use Rattle.proof_walks.specs.proof_terms.ProofMeanings.{proof_of}
 use Rattle.proof_walks.proofs.KeptPlaces.{answer-leaves}
 use Rattle.proof_walks.proofs.starts.equation_proof_with.Goals as goal
 

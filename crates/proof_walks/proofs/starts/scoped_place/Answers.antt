@@ -1,7 +1,7 @@
 use Rattle.std.proofs.Common.{sym, ◌∙◌, arith}
 use Rattle.std.proofs.lemmas.List.{length-map}
 use Rattle.core_terms.specs.Meanings.{tree_of}
-use Rattle.proof_terms.specs.ProofMeanings.{place_of}
+use Rattle.proof_walks.specs.proof_terms.ProofMeanings.{place_of}
 use Rattle.proof_walks.proofs.ScopeTests.{place-tells}
 use Rattle.proof_walks.proofs.starts.scoped_place.Goals as goal
 

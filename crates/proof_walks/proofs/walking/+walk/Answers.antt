@@ -9,8 +9,8 @@ use Rattle.clause_reports.specs.ProofWalks.{Proofs, at_origin}
 use Rattle.clause_reports.specs.Stops.{Reporting}
 use Rattle.clause_walks.specs.LookMeanings.{ends_of, member_meant, runs_of}
 use Rattle.clause_walks.proofs.RunCodes.{first-item}
-use Rattle.draft_entering.specs.Stops.{Reports, stop_of}
-use Rattle.proof_terms.specs.ProofMeanings.{place_of, proof_of, proofs_of}
+use Rattle.drafts.specs.draft_entering.Stops.{Reports, stop_of}
+use Rattle.proof_walks.specs.proof_terms.ProofMeanings.{place_of, proof_of, proofs_of}
 use Rattle.proof_walks.specs.NodeWalks.{again, walk_node}
 use Rattle.proof_walks.specs.SolvedRuns.{onto, outcomes_in, solved_outcomes}
 use Rattle.proof_walks.specs.Sizes.{size_of, size_of_branch}

@@ -6,7 +6,7 @@ use Rattle.core_terms.proofs.Builders.{ok_is}
 use Rattle.core_sig.specs.Meanings.{constructor_of}
 use Rattle.clause_walks.specs.LookMeanings.{member_meant}
 use Rattle.clause_walks.proofs.RunCodes.{first-item}
-use Rattle.outlines.specs.OutlineMeanings.{outline_of, outlines_of}
+use Rattle.run_terms.specs.outlines.OutlineMeanings.{outline_of, outlines_of}
 use Rattle.run_terms.specs.CodeNaming.{naming_of}
 use Rattle.split_terms.specs.NodeMeanings.{node_of}
 use Rattle.split_terms.proofs.MethodSteps.{methods-deep, methods-next}

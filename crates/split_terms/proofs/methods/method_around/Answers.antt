@@ -8,8 +8,8 @@ use Rattle.unification.specs.Records.{argument_items}
 use Rattle.unification.specs.States.{types_as_they_stand}
 use Rattle.tree_translation.specs.Splits.{member_types}
 use Rattle.tree_translation.specs.Standings.{placed_telescope}
-use Rattle.outlines.specs.Later.{in_body}
-use Rattle.outlines.specs.OutlineMeanings.{outline_of}
+use Rattle.run_terms.specs.outlines.Later.{in_body}
+use Rattle.run_terms.specs.outlines.OutlineMeanings.{outline_of}
 use Rattle.run_terms.specs.StandingMeanings.{standing_of}
 use Rattle.split_terms.proofs.OutlinedParts.{method-body}
 use Rattle.split_terms.proofs.methods.method_around.Goals as goal

@@ -3,7 +3,7 @@ use Rattle.core_terms.specs.Answers.{Gives}
 use Rattle.core_terms.specs.TreeMeanings.{steps_of}
 use Rattle.core_sig.specs.Meanings.{constructor_of}
 use Rattle.clause_walks.specs.LookMeanings.{member_meant}
-use Rattle.outlines.specs.OutlineMeanings.{outline_of}
+use Rattle.run_terms.specs.outlines.OutlineMeanings.{outline_of}
 use Rattle.run_terms.specs.CodeNaming.{naming_of}
 use Rattle.split_terms.specs.NodeMeanings.{node_of}
 use Rattle.split_terms.proofs.BareRuns.{method-bare}

@@ -3,7 +3,7 @@ use Rattle.std.proofs.lemmas.Result.{err_from_is_err_and}
 use Rattle.core_terms.specs.Answers.{Gives}
 use Rattle.core_terms.specs.Meanings.{tree_of}
 use Rattle.core_terms.specs.TreeMeanings.{step_of}
-use Rattle.outlines.specs.OutlineMeanings.{outline_of}
+use Rattle.run_terms.specs.outlines.OutlineMeanings.{outline_of}
 use Rattle.run_terms.specs.CodeNaming.{naming_of}
 use Rattle.run_terms.specs.StandingMeanings.{standing_of}
 use Rattle.split_terms.proofs.OutlinedParts.{step-deep, step-later}

@@ -1,5 +1,0 @@
-use Rattle.std.proofs.Common.{length}
-use Rattle.acyclic_gen.proofs.direct_arguments.+has_direct.Given as goal
-
-abbrev pub decreases-has_direct : goal.decreases-has_direct
-decreases-has_direct l = length l.args.now

@@ -1,5 +1,0 @@
-use Rattle.std.proofs.Common.{length}
-use Rattle.acyclic_gen.proofs.methods.+hypotheses_over.Given as goal
-
-abbrev pub decreases-hypotheses_over : goal.decreases-hypotheses_over
-decreases-hypotheses_over l = length l.args.now

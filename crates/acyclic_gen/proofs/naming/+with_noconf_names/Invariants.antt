@@ -1,5 +1,0 @@
-use Rattle.std.proofs.Common.{length}
-use Rattle.acyclic_gen.proofs.naming.+with_noconf_names.Given as goal
-
-abbrev pub decreases-with_noconf_names : goal.decreases-with_noconf_names
-decreases-with_noconf_names l = length l.cons.now

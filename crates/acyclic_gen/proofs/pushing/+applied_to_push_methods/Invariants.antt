@@ -1,5 +1,0 @@
-use Rattle.std.proofs.Common.{length}
-use Rattle.acyclic_gen.proofs.pushing.+applied_to_push_methods.Given as goal
-
-abbrev pub decreases-applied_to_push_methods : goal.decreases-applied_to_push_methods
-decreases-applied_to_push_methods l = length l.cons.now

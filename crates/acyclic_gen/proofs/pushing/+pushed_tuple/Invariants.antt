@@ -1,5 +1,0 @@
-use Rattle.std.proofs.Common.{length}
-use Rattle.acyclic_gen.proofs.pushing.+pushed_tuple.Given as goal
-
-abbrev pub decreases-pushed_tuple : goal.decreases-pushed_tuple
-decreases-pushed_tuple l = length l.directs.now

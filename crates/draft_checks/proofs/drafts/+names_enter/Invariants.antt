@@ -1,5 +1,0 @@
-use Rattle.std.proofs.Common.{length}
-use Rattle.draft_checks.proofs.drafts.+names_enter.Given as goal
-
-abbrev pub decreases-names_enter : goal.decreases-names_enter
-decreases-names_enter l = length l.names.now

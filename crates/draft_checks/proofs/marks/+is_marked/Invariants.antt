@@ -1,5 +1,0 @@
-use Rattle.std.proofs.Common.{length}
-use Rattle.draft_checks.proofs.marks.+is_marked.Given as goal
-
-abbrev pub decreases-is_marked : goal.decreases-is_marked
-decreases-is_marked l = length l.name.now

@@ -1,9 +1,0 @@
-use Rattle.std.proofs.Common.{◌≡◌, ◌-◌, drop, length}
-use Rattle.draft_checks.specs.Checks.{all_unmarked, unmarked}
-use Rattle.draft_checks.proofs.marks.is_unmarked.Given as goal
-
-abbrev pub invariant-loop-at : goal.invariant-loop-at
-invariant-loop-at l = all_unmarked (drop l.at l.sig.entries) ≡ unmarked l.sig
-
-abbrev pub decreases-loop-at : goal.decreases-loop-at
-decreases-loop-at l = length l.sig.entries - l.at

@@ -1,4 +1,0 @@
-use Rattle.draft_entering.proofs.finding.+confusion_from.Given as goal
-
-abbrev pub decreases-confusion_from : goal.decreases-confusion_from
-decreases-confusion_from l = l.count

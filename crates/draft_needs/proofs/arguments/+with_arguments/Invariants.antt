@@ -1,5 +1,0 @@
-use Rattle.std.proofs.Common.{length}
-use Rattle.draft_needs.proofs.arguments.+with_arguments.Given as goal
-
-abbrev pub decreases-with_arguments : goal.decreases-with_arguments
-decreases-with_arguments l = length l.args.now

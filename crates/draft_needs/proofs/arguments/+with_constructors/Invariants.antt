@@ -1,5 +1,0 @@
-use Rattle.std.proofs.Common.{length}
-use Rattle.draft_needs.proofs.arguments.+with_constructors.Given as goal
-
-abbrev pub decreases-with_constructors : goal.decreases-with_constructors
-decreases-with_constructors l = length l.cons.now

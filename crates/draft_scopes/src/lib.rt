@@ -1,4 +1,0 @@
-//! Scopes of the drafts of a function.
-#![tactic(auto)]
-
-pub mod laws;

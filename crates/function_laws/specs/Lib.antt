@@ -1,0 +1,3 @@
+pub mod plan_laws
+pub mod report_laws
+pub mod declaration_laws

@@ -1,0 +1,52 @@
+-- The names of the drafts of a function enter in turn.
+use Rattle.std.specs.Prelude.{◌≡◌, ℕ, true, Ok, IfOk, []}
+use Rattle.theory.specs.Terms.{Term}
+use Rattle.theory.specs.Signatures.{Signature}
+use Rattle.theory.specs.WellFormed.{IsWellFormed}
+use Rattle.drafts.specs.draft_checks.Checks.{unmarked}
+use Rattle.clause_reports.specs.elaboration.Functions.{enter_plan, function_level, function_of, plan_of, report_parts}
+use Rattle.clause_reports.specs.elaboration.Refusals.{OfType, granted}
+use Rattle.family_check.specs.Scopes.{HasPrelude}
+use Rattle.function_session.specs.function_lines.FunctionMade.{function_made, parts_reported, plan_entered}
+use Rattle.kernel_check.specs.Checking.{infer_sort_of}
+use Rattle.kernel_reduce.specs.Reduction.{nesting}
+use Rattle.function_laws.specs.report_laws.made_functions.Entering.{NamesInTurn}
+use Rattle.function_laws.specs.report_laws.plan_drafts.Laws.{IsPlanFor}
+use Rattle.function_laws.specs.plan_laws.Conditions.{IsFunctionFor}
+use Rattle.function_laws.specs.plan_laws.MadePlans.{BeginsAlwaysClosed}
+use Rattle.resolve.specs.Functions.{Function}
+use Rattle.tree_translation.specs.Entries.{translate}
+use Rattle.tree_translation.specs.Plans.{Plan}
+
+-- The checker gives the function's type a sort, with some units, and it has this level, which is not too high.
+pub record HasLevel (S : Signature) (f : Function) (level : ℕ) : Type 0 where
+  pub fuel : ℕ
+  pub sort : Term
+  pub granted_sort : (granted S OfType (infer_sort_of S nesting [] f.type fuel)).0 ≡ Ok sort
+  pub is_level : function_level S sort ≡ Ok level
+
+-- Where the plan of a function has the level of its type, each name of a draft is that of a definition, or of something that can be
+-- generated, in the signature that has the drafts before it.
+abbrev pub FunctionNamesEnter : Type 0
+FunctionNamesEnter =
+    (S : Signature) (f : Function) (plan : Plan) (h : IsPlanFor S f plan) → HasLevel S f h.level → IfOk (translate S plan) (NamesInTurn S)
+
+-- So the drafts of such a function are entered as is meant, where the signature is well formed, begins with the prelude and has no mark in
+-- a family's or constructor's name.
+abbrev pub FunctionEntersInTurn : Type 0
+FunctionEntersInTurn =
+    (S : Signature) (f : Function) (plan : Plan) (left : ℕ) (h : IsPlanFor S f plan) → HasLevel S f h.level → IsWellFormed S → HasPrelude S →
+    unmarked S ≡ true → plan_entered S plan left ≡ enter_plan S plan left
+
+-- A further condition on the plan of a function: its clauses are reported as is meant.
+pub record IsReportedPlan (S : Signature) (plan : Plan) : Type 0 where
+  pub reports : (left : ℕ)
+      → IfOk (enter_plan S plan left).0 (λ T. (rest : ℕ) → parts_reported plan 0 plan.parts [] T rest ≡ report_parts plan 0 plan.parts T rest)
+
+-- So the function that the code makes is the one that is meant, with each refusal and the same units, over such a signature, where the
+-- order of recursion begins with a type over no variables at whatever position.
+abbrev pub FunctionIsMadeInTurn : Type 0
+FunctionIsMadeInTurn =
+    (S : Signature) (f : Function) (fuel : ℕ) → IsFunctionFor S f → IsWellFormed S → HasPrelude S → unmarked S ≡ true →
+    ((level : ℕ) → BeginsAlwaysClosed S f level) → ((level left : ℕ) → IfOk (plan_of S f level left).0 (IsReportedPlan S)) →
+    function_made S f fuel ≡ function_of S f fuel

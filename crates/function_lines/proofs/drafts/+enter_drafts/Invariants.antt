@@ -1,5 +1,0 @@
-use Rattle.std.proofs.Common.{length}
-use Rattle.function_lines.proofs.drafts.+enter_drafts.Given as goal
-
-abbrev pub decreases-enter_drafts : goal.decreases-enter_drafts
-decreases-enter_drafts l = length l.drafts.now

@@ -1,6 +1,0 @@
-use Rattle.draft_entering.proofs.Longer.{extends-on}
-use Rattle.function_lines.proofs.functions.report_plan.Goals as goal
-
-pub returns-clause-longer : goal.returns-clause-longer
-returns-clause-longer c =
-    extends-on c.args.sig.now c.enter_plan.new.sig c.report_parts.new.sig c.in_ok-enter_plan.ensures.longer c.report_parts.ensures.longer

@@ -1,5 +1,0 @@
-use Rattle.function_clauses.proofs.OwnParts.{part-walked}
-use Rattle.function_lines.proofs.planning.plan_from.Goals as goal
-
-pub plan-requires-clause-own : goal.plan-requires-clause-own
-plan-requires-clause-own c = record { walked = part-walked c.args.s.sig.now _ c.requires.part; columns = c.requires.columns }

@@ -1,5 +1,0 @@
-use Rattle.std.proofs.Common.{length}
-use Rattle.function_lines.proofs.reporting.+report_walks.Given as goal
-
-abbrev pub decreases-report_walks : goal.decreases-report_walks
-decreases-report_walks l = length l.walks.now

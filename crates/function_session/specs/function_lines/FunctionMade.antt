@@ -1,0 +1,141 @@
+-- A function by clauses as the code elaborates it: the answer is Deep also where a family's or constructor's name holds a `!`, where a
+-- draft may not enter the signature, and where a term on the way is too high.
+use Rattle.std.specs.Prelude.{ℕ, ◌+◌, cond, Option, Some, None, List, [], ◌∷◌, ◌++◌, length, Result, Ok, Err}
+use Rattle.theory.specs.Terms.{Term}
+use Rattle.theory.specs.Signatures.{Signature}
+use Rattle.theory.specs.WellFormed.{provisional}
+use Rattle.core_terms.specs.Answers.{and_next, and_then}
+use Rattle.core_terms.specs.CaseTrees.{Walk}
+use Rattle.core_terms.specs.declared.stop.Stop.{Stop}
+use Rattle.core_terms.specs.declared.stop.Stop.TheVariants.{Deep}
+use Rattle.core_sig.specs.Drafts.{Draft}
+use Rattle.kernel_check.specs.Checking.{infer_sort_of}
+use Rattle.kernel_reduce.specs.Reduction.{nesting}
+use Rattle.resolve.specs.Functions.{Function}
+use Rattle.tree_translation.specs.Plans.{Plan, Part}
+use Rattle.tree_translation.specs.Recursion.{Recursion}
+use Rattle.leaf_terms.specs.RecursionMade.{made_at}
+use Rattle.function_entries.specs.CodeEntries.{translate_made}
+use Rattle.clause_reports.specs.DraftEntering.{Names, enter_draft_of, enter_mention, enter_needed}
+use Rattle.clause_reports.specs.Equations.{part_named}
+use Rattle.clause_reports.specs.Generated.{all_name}
+use Rattle.clause_reports.specs.Reports.{Line, Reference, Reported}
+use Rattle.clause_lines.specs.CodeReports.{report_made}
+use Rattle.drafts.specs.draft_checks.Checks.{enterable, unmarked}
+use Rattle.clause_reports.specs.elaboration.Functions.{ClauseLine, Lines, first_domains, function_level, own_part}
+use Rattle.clause_reports.specs.elaboration.Refusals.{Elaborating, Halts, OfType, answers, granted, or_halts, owner_of, reporting}
+use Rattle.clause_reports.specs.elaboration.Walking.{Given, Opened, Session, walk_clauses}
+use Rattle.function_plans.specs.CodePlans.{plan_made}
+
+-- ---- the type
+
+-- the level of a function with this type
+abbrev pub level_of : Signature → (type : Term) → ℕ → Elaborating ℕ
+level_of S type left =
+    and_next (granted S OfType (infer_sort_of S nesting [] type left)) (λ sort rest. answers (function_level S sort) rest)
+
+-- ---- the plan
+
+-- the function as a provisional constant after the entries of S
+abbrev pub session_at : Signature → Function → Session
+session_at S f = record { signature = provisional S f.name f.type; name = f.name; own = length S.entries }
+
+-- once the clauses are walked
+abbrev pub plan_given : Session → Function → Opened → Given → ℕ → Elaborating Plan
+plan_given s f part given left =
+    plan_made s f.type f.arity part.level (record { part = part; clauses = f.clauses; walks = given.walks; sides = given.sides }) given.helpers
+    given.uses left
+
+abbrev pub plan_from : Session → Function → Opened → ℕ → Elaborating Plan
+plan_from s f part left = and_next (walk_clauses s 0 part 0 1 f.clauses left) (λ given rest. plan_given s f part given rest)
+
+abbrev pub plan_over : Signature → Function → (level : ℕ) → ℕ → Elaborating Plan
+plan_over S f level left = plan_from (session_at S f) f (own_part f level) left
+
+-- ---- entries
+
+abbrev pub deep : {A : Type 0} → ℕ → Elaborating A
+deep left = answers (Err (Halts Deep)) left
+
+-- a draft of the function with this name
+abbrev pub checked_entered : Signature → (name : List ℕ) → Draft → ℕ → Elaborating Signature
+checked_entered S name d left = and_next (reporting S (owner_of name 0) (enter_draft_of S d left)) (λ e rest. answers (Ok e.signature) rest)
+
+-- a draft of the function with this name, or Deep where it may not enter
+abbrev pub draft_entered : Signature → (name : List ℕ) → Draft → ℕ → Elaborating Signature
+draft_entered S name d left = cond (enterable S d) (checked_entered S name d left) (deep left)
+
+abbrev pub drafts_entered : Signature → (name : List ℕ) → List Draft → ℕ → Elaborating Signature
+drafts_entered S name [] left = answers (Ok S) left
+drafts_entered S name (d ∷ drafts) left = and_next (draft_entered S name d left) (λ T rest. drafts_entered T name drafts rest)
+
+-- `D!all.L`, where there is recursion, and a helper beside the function itself
+abbrev pub values_in : (level : ℕ) → List Part → Option Recursion → Option (List ℕ)
+values_in level (own ∷ helper ∷ helpers) (Some r) = Some (all_name r.family level)
+values_in level parts r = None
+
+-- recursion at the plan's position in its written type
+abbrev pub recursion_by_type : Signature → Plan → Result (Option Recursion) Stop
+recursion_by_type S plan = made_at S (first_domains plan.arity plan.type) plan.position
+
+abbrev pub values_name : Signature → Plan → Result (Option (List ℕ)) Stop
+values_name S plan = and_then (recursion_by_type S plan) (λ r. Ok (values_in plan.level plan.parts r))
+
+abbrev pub values_entered : Signature → (name : List ℕ) → (values : Option (List ℕ)) → ℕ → Elaborating Signature
+values_entered S name None left = answers (Ok S) left
+values_entered S name (Some values) left = reporting S (owner_of name 0) (enter_mention enter_needed S (Names values) left)
+
+-- the drafts of a plan, and then the values that its equations name
+abbrev pub all_entered : Signature → (name : List ℕ) → List Draft → (values : Option (List ℕ)) → ℕ → Elaborating Signature
+all_entered S name drafts values left = and_next (drafts_entered S name drafts left) (λ T rest. values_entered T name values rest)
+
+abbrev pub translated : Signature → Plan → ℕ → Elaborating Signature
+translated S plan left =
+    and_next (answers (or_halts (translate_made S plan)) left) (λ drafts rest.
+    and_next (answers (or_halts (values_name S plan)) rest) (λ values more. all_entered S plan.name drafts values more))
+
+abbrev pub plan_entered : Signature → Plan → ℕ → Elaborating Signature
+plan_entered S plan left = cond (unmarked S) (translated S plan left) (deep left)
+
+-- ---- lines
+
+-- clause `number` of part k
+abbrev pub clause_line : Plan → (k number : ℕ) → Line → ClauseLine
+clause_line plan k number line =
+    let owner = owner_of (part_named plan.name k) number in
+    record { function = owner.function; clause = owner.clause; line = line }
+
+abbrev pub reference_of : (k number : ℕ) → Walk → Reference
+reference_of k number w = record { part = k; clause = number; walk = w }
+
+unfoldable pub clause_reported : Plan → (k number : ℕ) → Walk → Signature → ℕ → Elaborating Reported
+clause_reported plan k number w S left =
+    reporting S (owner_of (part_named plan.name k) number) (report_made S plan (reference_of k number w) left)
+
+abbrev pub lines_with : Signature → List ClauseLine → Lines
+lines_with S lines = record { lines = lines; signature = S }
+
+-- lines, followed by those of the clauses of part k from clause `number` on
+abbrev pub walks_reported : Plan → (k number : ℕ) → List Walk → (made : List ClauseLine) → Signature → ℕ → Elaborating Lines
+walks_reported plan k number [] made S left = answers (Ok (lines_with S made)) left
+walks_reported plan k number (w ∷ walks) made S left =
+    and_next (clause_reported plan k number w S left) (λ r rest.
+    walks_reported plan k (number + 1) walks (made ++ clause_line plan k number r.line ∷ []) r.signature rest)
+
+-- lines, followed by those of the parts from part k on
+abbrev pub parts_reported : Plan → (k : ℕ) → List Part → (made : List ClauseLine) → Signature → ℕ → Elaborating Lines
+parts_reported plan k [] made S left = answers (Ok (lines_with S made)) left
+parts_reported plan k (part ∷ parts) made S left =
+    and_next (walks_reported plan k 0 part.walks made S left) (λ lines rest.
+    parts_reported plan (k + 1) parts lines.lines lines.signature rest)
+
+-- ---- all of it
+
+abbrev pub plan_reported : Plan → Signature → ℕ → Elaborating Lines
+plan_reported plan S left = and_next (plan_entered S plan left) (λ T rest. parts_reported plan 0 plan.parts [] T rest)
+
+-- the lines of a function that is accepted, with the signature that has its entries
+abbrev pub function_made : Signature → Function → (fuel : ℕ) → Elaborating Lines
+function_made S f fuel =
+    and_next (level_of S f.type fuel) (λ level rest.
+    and_next (plan_over S f level rest) (λ plan more. plan_reported plan S more))

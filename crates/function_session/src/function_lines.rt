@@ -1,0 +1,13 @@
+//! A function by clauses, from its resolved form to the lines of its clauses.
+mod entering;
+mod functions;
+pub mod laws;
+mod levels;
+mod lines;
+mod planning;
+mod refusing;
+mod reporting;
+mod values;
+
+pub use functions::function;
+pub use lines::ClauseLine;

@@ -1,0 +1,201 @@
+ghost use Rattle.std.specs.Prelude.{◌≡◌, ◌≤◌, ◌+◌, IfOk, IsTrue, Some, map};
+ghost use Rattle.core_sig.specs.Drafts.{draft_of};
+ghost use Rattle.drafts.specs.draft_checks.Checks.{unmarked};
+ghost use Rattle.drafts.specs.draft_entering.Conditions.{Extends, IsEnterableDraft, IsOpen};
+ghost use Rattle.elab_session.specs.Sessions.{IsReady};
+ghost use Rattle.function_session.specs.function_lines.FunctionMade as spec;
+ghost use Rattle.function_checks.specs.function_refusals.RefusalMeanings.{Elaborates};
+ghost use Rattle.leaf_terms.specs.PlanMeanings.{plan_of};
+
+use crate::function_lines::refusing::refused;
+use crate::function_lines::values::values_name;
+use core_sig::{Draft, Signature};
+use core_terms::{Name, Stop, Units};
+use drafts::draft_checks::{is_enterable, is_unmarked};
+use drafts::draft_entering::{enter_draft, enter_named};
+use function_checks::function_refusals::Refusal;
+use function_entries::translate;
+use leaf_terms::Plan;
+use std::alloc::Global;
+
+/// Adds a draft of a function that may enter. The refusal is shown over the signature before it.
+fn enter_checked(
+    alloc: Global,
+    sig: &mut Signature,
+    function: &[u8],
+    draft: &Draft,
+    units: &mut Units,
+) -> Result<(), Refusal>
+    requires signature { IsOpen sig.old }
+    requires draft { IsEnterableDraft sig.old (draft_of draft.now) }
+    ensures answer { Elaborates (λ _. sig.new) result units.new.left (spec.checked_entered sig.old function.now (draft_of draft.now) units.old.left) }
+    ensures sum { units.new.left + units.new.spent ≡ units.old.left + units.old.spent }
+    ensures spends { units.new.left ≤ units.old.left }
+    ensures longer { Extends sig.old sig.new }
+    ensures ready { IsOpen sig.new }
+{
+    match enter_draft(alloc, sig, draft, units) {
+        Ok(_) => Ok(()),
+        Err(stop) => Err(refused(alloc, sig, function, 0, stop)),
+    }
+}
+
+/// Adds a draft of a function, or Deep where it may not enter.
+fn enter(
+    alloc: Global,
+    sig: &mut Signature,
+    function: &[u8],
+    draft: &Draft,
+    units: &mut Units,
+) -> Result<(), Refusal>
+    requires { IsOpen sig.old }
+    ensures answer { Elaborates (λ _. sig.new) result units.new.left (spec.draft_entered sig.old function.now (draft_of draft.now) units.old.left) }
+    ensures sum { units.new.left + units.new.spent ≡ units.old.left + units.old.spent }
+    ensures spends { units.new.left ≤ units.old.left }
+    ensures longer { Extends sig.old sig.new }
+    ensures ready { IsOpen sig.new }
+{
+    if !is_enterable(sig, draft)? {
+        return Err(Refusal::Stop(Stop::Deep));
+    }
+    enter_checked(alloc, sig, function, draft, units)
+}
+
+/// Adds drafts of a function, one after the other.
+fn enter_drafts(
+    alloc: Global,
+    sig: &mut Signature,
+    function: &[u8],
+    drafts: &[Draft],
+    units: &mut Units,
+) -> Result<(), Refusal>
+    requires { IsOpen sig.old }
+    ensures answer { Elaborates (λ _. sig.new) result units.new.left (spec.drafts_entered sig.old function.now (map draft_of drafts.now) units.old.left) }
+    ensures sum { units.new.left + units.new.spent ≡ units.old.left + units.old.spent }
+    ensures spends { units.new.left ≤ units.old.left }
+    ensures longer { Extends sig.old sig.new }
+    ensures ready { IsOpen sig.new }
+{
+    match drafts {
+        [] => Ok(()),
+        [draft, rest @ ..] => {
+            enter(alloc, sig, function, draft, units)?;
+            enter_drafts(alloc, sig, function, rest, units)
+        }
+    }
+}
+
+/// Adds the values that a function's equations name.
+fn enter_name(
+    alloc: Global,
+    sig: &mut Signature,
+    function: &[u8],
+    values: &Name,
+    units: &mut Units,
+) -> Result<(), Refusal>
+    requires { IsOpen sig.old }
+    ensures answer { Elaborates (λ _. sig.new) result units.new.left (spec.values_entered sig.old function.now (Some values.now) units.old.left) }
+    ensures sum { units.new.left + units.new.spent ≡ units.old.left + units.old.spent }
+    ensures spends { units.new.left ≤ units.old.left }
+    ensures longer { Extends sig.old sig.new }
+    ensures ready { IsOpen sig.new }
+{
+    let before = sig.len();
+    match enter_named(alloc, sig, values, units) {
+        Ok(()) => Ok(()),
+        Err(stop) => {
+            sig.truncate(before);
+            Err(refused(alloc, sig, function, 0, stop))
+        }
+    }
+}
+
+/// Adds the values that a function's equations name, where they name any.
+fn enter_values(
+    alloc: Global,
+    sig: &mut Signature,
+    function: &[u8],
+    values: &Option<Name>,
+    units: &mut Units,
+) -> Result<(), Refusal>
+    requires { IsOpen sig.old }
+    ensures answer { Elaborates (λ _. sig.new) result units.new.left (spec.values_entered sig.old function.now values.now units.old.left) }
+    ensures sum { units.new.left + units.new.spent ≡ units.old.left + units.old.spent }
+    ensures spends { units.new.left ≤ units.old.left }
+    ensures longer { Extends sig.old sig.new }
+    ensures ready { IsOpen sig.new }
+{
+    match values {
+        None => Ok(()),
+        Some(values) => enter_name(alloc, sig, function, values, units),
+    }
+}
+
+/// Adds the drafts of a function, and then the values that its equations name.
+fn enter_all(
+    alloc: Global,
+    sig: &mut Signature,
+    function: &[u8],
+    drafts: &[Draft],
+    values: &Option<Name>,
+    units: &mut Units,
+) -> Result<(), Refusal>
+    requires { IsOpen sig.old }
+    ensures answer { Elaborates (λ _. sig.new) result units.new.left (spec.all_entered sig.old function.now (map draft_of drafts.now) values.now units.old.left) }
+    ensures sum { units.new.left + units.new.spent ≡ units.old.left + units.old.spent }
+    ensures spends { units.new.left ≤ units.old.left }
+    ensures longer { Extends sig.old sig.new }
+    ensures ready { IsOpen sig.new }
+{
+    enter_drafts(alloc, sig, function, drafts, units)?;
+    enter_values(alloc, sig, function, values, units)
+}
+
+/// Adds the entries of a plan to an open signature.
+fn enter_translated(
+    alloc: Global,
+    sig: &mut Signature,
+    plan: &Plan,
+    units: &mut Units,
+) -> Result<(), Refusal>
+    requires { IsOpen sig.old }
+    ensures answer { Elaborates (λ _. sig.new) result units.new.left (spec.translated sig.old (plan_of plan.now) units.old.left) }
+    ensures sum { units.new.left + units.new.spent ≡ units.old.left + units.old.spent }
+    ensures spends { units.new.left ≤ units.old.left }
+    ensures longer { Extends sig.old sig.new }
+    ensures ready { IsOpen sig.new }
+{
+    let drafts = translate(alloc, sig, plan)?;
+    let values = values_name(alloc, sig, plan)?;
+    let function = plan.name.as_slice();
+    enter_all(alloc, sig, function, drafts.as_slice(), &values, units)
+}
+
+/// Whether drafts may enter a well-formed signature.
+fn is_open(sig: &Signature) -> bool
+    requires { IsReady sig.now }
+    ensures is { result ≡ unmarked sig.now }
+    ensures ready { IsTrue result → IsOpen sig.now }
+{
+    is_unmarked(sig)
+}
+
+/// Adds the entries of a plan to a well-formed signature, or Deep where a name of a family or of a constructor holds a `!`.
+pub(crate) fn enter_plan(
+    alloc: Global,
+    sig: &mut Signature,
+    plan: &Plan,
+    units: &mut Units,
+) -> Result<(), Refusal>
+    requires { IsReady sig.old }
+    ensures answer { Elaborates (λ _. sig.new) result units.new.left (spec.plan_entered sig.old (plan_of plan.now) units.old.left) }
+    ensures sum { units.new.left + units.new.spent ≡ units.old.left + units.old.spent }
+    ensures spends { units.new.left ≤ units.old.left }
+    ensures longer { Extends sig.old sig.new }
+    ensures ready { IfOk result (λ _. IsOpen sig.new) }
+{
+    if !is_open(sig) {
+        return Err(Refusal::Stop(Stop::Deep));
+    }
+    enter_translated(alloc, sig, plan, units)
+}

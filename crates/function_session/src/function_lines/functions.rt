@@ -1,0 +1,94 @@
+ghost use Rattle.std.specs.Prelude.{◌≡◌, ◌≤◌, ◌+◌, OnErr};
+ghost use Rattle.drafts.specs.draft_entering.Conditions.{Extends};
+ghost use Rattle.elab_session.specs.Sessions.{IsReady};
+ghost use Rattle.function_session.specs.function_lines.Conditions.{IsWorkingOn};
+ghost use Rattle.function_session.specs.function_lines.FunctionMade as spec;
+ghost use Rattle.function_session.specs.function_lines.LineMeanings.{lines_of};
+ghost use Rattle.function_checks.specs.function_refusals.RefusalMeanings.{Elaborates};
+ghost use Rattle.leaf_terms.specs.PlanMeanings.{plan_of};
+ghost use Rattle.resolve.specs.PatternMeanings.{fun_of};
+ghost use Rattle.theory.specs.Signatures.{IsPrefix};
+
+use crate::function_lines::ClauseLine;
+use crate::function_lines::entering::enter_plan;
+use crate::function_lines::levels::level_of;
+use crate::function_lines::planning::plan_over;
+use crate::function_lines::reporting::report_parts;
+use core_sig::Signature;
+use core_terms::{Items, Units};
+use function_checks::function_refusals::Refusal;
+use leaf_terms::Plan;
+use resolve::FunCore;
+use std::alloc::Global;
+
+/// Adds the entries of a plan, and answers the lines of its clauses. After an error some entries are there.
+fn report_plan(
+    alloc: Global,
+    sig: &mut Signature,
+    plan: &Plan,
+    units: &mut Units,
+) -> Result<Items<ClauseLine>, Refusal>
+    requires { IsReady sig.old }
+    ensures answer { Elaborates (lines_of sig.new) result units.new.left (spec.plan_reported (plan_of plan.now) sig.old units.old.left) }
+    ensures sum { units.new.left + units.new.spent ≡ units.old.left + units.old.spent }
+    ensures spends { units.new.left ≤ units.old.left }
+    ensures longer { Extends sig.old sig.new }
+{
+    enter_plan(alloc, sig, plan, units)?;
+    report_parts(
+        alloc,
+        sig,
+        plan,
+        0,
+        plan.parts.as_slice(),
+        Items::new(alloc),
+        units,
+    )
+}
+
+/// Adds the entries of a function, and answers the lines of its clauses. After an error some entries are there.
+fn elaborate(
+    alloc: Global,
+    sig: &mut Signature,
+    f: &FunCore,
+    units: &mut Units,
+) -> Result<Items<ClauseLine>, Refusal>
+    requires { IsWorkingOn sig.old (fun_of f.now) }
+    ensures answer { Elaborates (lines_of sig.new) result units.new.left (spec.function_made sig.old (fun_of f.now) units.old.left) }
+    ensures sum { units.new.left + units.new.spent ≡ units.old.left + units.old.spent }
+    ensures spends { units.new.left ≤ units.old.left }
+    ensures longer { Extends sig.old sig.new }
+{
+    let level = level_of(alloc, sig, &f.ty, units)?;
+    let plan = plan_over(alloc, sig, f, level, units)?;
+    report_plan(alloc, sig, &plan, units)
+}
+
+/// Adds the entries of a function by clauses: those to which its case trees are translated, and for each clause those
+/// that its equation needs. The answer is the lines of the clauses, those of the function before those of its helpers.
+///
+/// The units are one count for all of it. After a refusal the signature is as it was, and the units that were spent stay spent.
+/// Deep is also answered where the name of a family or of a constructor holds a `!`.
+pub fn function(
+    alloc: Global,
+    sig: &mut Signature,
+    f: &FunCore,
+    units: &mut Units,
+) -> Result<Items<ClauseLine>, Refusal>
+    requires { IsWorkingOn sig.old (fun_of f.now) }
+    ensures answer { Elaborates (lines_of sig.new) result units.new.left (spec.function_made sig.old (fun_of f.now) units.old.left) }
+    ensures err { OnErr result (sig.new ≡ sig.old) }
+    ensures sum { units.new.left + units.new.spent ≡ units.old.left + units.old.spent }
+    ensures spends { units.new.left ≤ units.old.left }
+    ensures longer { IsPrefix sig.old sig.new }
+    ensures ready { IsReady sig.new }
+{
+    let before = sig.len();
+    match elaborate(alloc, sig, f, units) {
+        Ok(lines) => Ok(lines),
+        Err(refusal) => {
+            sig.truncate(before);
+            Err(refusal)
+        }
+    }
+}

@@ -1,4 +1,0 @@
-use Rattle.function_walks.proofs.types.+after_domains.Given as goal
-
-abbrev pub decreases-after_domains : goal.decreases-after_domains
-decreases-after_domains l = l.count

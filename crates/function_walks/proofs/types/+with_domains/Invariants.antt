@@ -1,4 +1,0 @@
-use Rattle.function_walks.proofs.types.+with_domains.Given as goal
-
-abbrev pub decreases-with_domains : goal.decreases-with_domains
-decreases-with_domains l = l.count

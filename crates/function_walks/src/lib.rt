@@ -1,8 +1,0 @@
-//! What is walked of a function by clauses: its own part and its helpers, with the telescopes that they start from.
-#![tactic(auto)]
-
-mod parts;
-mod types;
-
-pub use parts::{Given, Opened, Session, Walked};
-pub use types::{GREATEST_LEVEL, after_domains, first_domains, function_level};

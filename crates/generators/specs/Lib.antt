@@ -1,0 +1,2 @@
+pub mod noconf_gen
+pub mod acyclic_gen

@@ -1,4 +1,0 @@
-//! Scopes of the drafts of helpers.
-#![tactic(auto)]
-
-pub mod laws;

@@ -1,5 +1,0 @@
-use Rattle.std.proofs.Common.{length}
-use Rattle.noconf_gen.proofs.compared.+placed_items.Given as goal
-
-abbrev pub decreases-placed_items : goal.decreases-placed_items
-decreases-placed_items l = length l.args.now

@@ -1,5 +1,0 @@
-use Rattle.std.proofs.Common.{length}
-use Rattle.noconf_gen.proofs.fitting.+have_low_types.Given as goal
-
-abbrev pub decreases-have_low_types : goal.decreases-have_low_types
-decreases-have_low_types l = length l.args.now

@@ -1,5 +1,0 @@
-use Rattle.std.proofs.Common.{length}
-use Rattle.outlines.proofs.composing.+composed.Given as goal
-
-abbrev pub decreases-composed : goal.decreases-composed
-decreases-composed l = length l.own.now

@@ -1,9 +1,0 @@
-use Rattle.std.proofs.Common.{◌≡◌, ◌++◌, length, map}
-use Rattle.outlines.specs.OutlineMeanings.{outline_of, outlines_of}
-use Rattle.outlines.proofs.outline.listed.Given as goal
-
-abbrev pub invariant-loop-last : goal.invariant-loop-last
-invariant-loop-last l = map outline_of l.outlines.items ++ outlines_of l.made ≡ map outline_of l.fn.outlines.items
-
-abbrev pub decreases-loop-last : goal.decreases-loop-last
-decreases-loop-last l = length l.outlines.items

@@ -1,4 +1,0 @@
-//! Scopes of a function's own draft.
-#![tactic(auto)]
-
-pub mod laws;

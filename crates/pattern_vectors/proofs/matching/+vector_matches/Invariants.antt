@@ -1,5 +1,0 @@
-use Rattle.std.proofs.Common.{length}
-use Rattle.pattern_vectors.proofs.matching.+vector_matches.Given as goal
-
-abbrev pub decreases-vector_matches : goal.decreases-vector_matches
-decreases-vector_matches l = length l.pats.now

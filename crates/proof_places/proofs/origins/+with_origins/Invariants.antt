@@ -1,5 +1,0 @@
-use Rattle.std.proofs.Common.{length}
-use Rattle.proof_places.proofs.origins.+with_origins.Given as goal
-
-abbrev pub decreases-with_origins : goal.decreases-with_origins
-decreases-with_origins l = length l.origins.now

@@ -1,5 +1,0 @@
-use Rattle.std.proofs.Common.{length}
-use Rattle.shadow_vectors.proofs.vectors.+copied_onto.Given as goal
-
-abbrev pub decreases-copied_onto : goal.decreases-copied_onto
-decreases-copied_onto l = length l.terms.now

@@ -1,5 +1,0 @@
-use Rattle.std.proofs.Common.{length}
-use Rattle.structural_rec.proofs.occurrence.+calls_itself.Given as goal
-
-abbrev pub decreases-calls_itself : goal.decreases-calls_itself
-decreases-calls_itself l = length l.uses.now

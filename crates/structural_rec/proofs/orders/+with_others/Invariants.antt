@@ -1,4 +1,0 @@
-use Rattle.structural_rec.proofs.orders.+with_others.Given as goal
-
-abbrev pub decreases-with_others : goal.decreases-with_others
-decreases-with_others l = l.count

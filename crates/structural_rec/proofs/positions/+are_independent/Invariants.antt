@@ -1,5 +1,0 @@
-use Rattle.std.proofs.Common.{length}
-use Rattle.structural_rec.proofs.positions.+are_independent.Given as goal
-
-abbrev pub decreases-are_independent : goal.decreases-are_independent
-decreases-are_independent l = length l.last.now

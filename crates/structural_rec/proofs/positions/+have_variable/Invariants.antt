@@ -1,5 +1,0 @@
-use Rattle.std.proofs.Common.{length}
-use Rattle.structural_rec.proofs.positions.+have_variable.Given as goal
-
-abbrev pub decreases-have_variable : goal.decreases-have_variable
-decreases-have_variable l = length l.terms.now

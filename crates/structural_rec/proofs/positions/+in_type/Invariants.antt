@@ -1,5 +1,0 @@
-use Rattle.std.proofs.Common.{length}
-use Rattle.structural_rec.proofs.positions.+in_type.Given as goal
-
-abbrev pub decreases-in_type : goal.decreases-in_type
-decreases-in_type l = length l.tele.now

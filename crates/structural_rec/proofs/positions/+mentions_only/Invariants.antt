@@ -1,4 +1,0 @@
-use Rattle.structural_rec.proofs.positions.+mentions_only.Given as goal
-
-abbrev pub decreases-mentions_only : goal.decreases-mentions_only
-decreases-mentions_only l = l.k

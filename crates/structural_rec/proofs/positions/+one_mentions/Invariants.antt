@@ -1,5 +1,0 @@
-use Rattle.std.proofs.Common.{length}
-use Rattle.structural_rec.proofs.positions.+one_mentions.Given as goal
-
-abbrev pub decreases-one_mentions : goal.decreases-one_mentions
-decreases-one_mentions l = length l.positions.now

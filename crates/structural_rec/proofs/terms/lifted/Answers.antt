@@ -1,8 +1,0 @@
-use Rattle.std.proofs.Common.{subst}
-use Rattle.core_terms.specs.Answers.{Gives}
-use Rattle.core_terms.specs.Meanings.{tree_of}
-use Rattle.structural_rec.proofs.Parts.{lifted-low}
-use Rattle.structural_rec.proofs.terms.lifted.Goals as goal
-
-pub returns : goal.returns
-returns c = subst (Gives tree_of c.lift.result) (lifted-low (tree_of c.args.t.now) c.args.under c.requires.small.0) c.lift.ensures

@@ -1,0 +1,18 @@
+//! The equations of clauses show the patterns, and are over the entries.
+ghost use Rattle.clause_reports.specs.Laws.{LeftShows};
+ghost use Rattle.written_functions.specs.equation_laws.Laws.{EquationIsOver, ProvedIsTyped};
+
+/// The left side of a function's clause shows its patterns.
+pub fn left_shows()
+    ensures { LeftShows }
+{}
+
+/// The equation of a clause is over the entries, where the clause's own walk is over those before the plan.
+pub fn equation_is_over()
+    ensures { EquationIsOver }
+{}
+
+/// The entry that proves an equation is a definition of the closed equation type.
+pub fn proved_is_typed()
+    ensures { ProvedIsTyped }
+{}
