@@ -1,5 +1,4 @@
-//! What the worked cases don't reach of the crates below functions by clauses: limits, devices that fail, and a session after each
-//! kind of refusal.
+//! Limits that no case reaches: terms of the greatest height, and calls of reduction that are open at once.
 #![tactic(auto)]
 
 #[cfg(test)]

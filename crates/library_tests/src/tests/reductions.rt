@@ -1,4 +1,4 @@
-// Calls of reduction that no typed term reaches, and their limits, with the units that were counted by hand.
+// Limits of calls of reduction that no typed term reaches, with the units that were counted by hand.
 ghost use Rattle.std.specs.Prelude.{◌≡◌, IfOk, IsTrue};
 ghost use Rattle.core_terms.specs.Meanings.{tree_of};
 ghost use Rattle.theory.specs.SignatureScopes.{IsScoped, IsScopedSignature};
@@ -6,7 +6,7 @@ ghost use Rattle.kernel_reduce.specs.Reduction.{most_variables};
 
 use core_sig::{Signature, is_scoped};
 use core_terms::{MAX_HEIGHT, Stop, Term, Units, copy};
-use kernel_reduce::{convertible, head_step, normal, subtype_within, whnf};
+use kernel_reduce::{convertible, head_step, whnf};
 use std::alloc::Global;
 use std::process::Abort;
 use std::test::Fail;
@@ -28,55 +28,6 @@ fn units(left: u64) -> Units
     ensures { result.left ≡ left }
 {
     Units { left, spent: 0 }
-}
-
-/// `(\(x : Type 1). x) Type 0`
-fn redex(alloc: Global) -> Result<Term, Stop> {
-    let function = Term::new_lam(alloc, Term::Sort(1), Term::Var(0))?;
-    Term::new_app(alloc, function, Term::Sort(0))
-}
-
-/// Whether the redex steps to its argument.
-fn steps_to_its_argument(
-    rt: &impl Abort,
-    alloc: Global,
-    sig: &Signature,
-    left: &mut Units,
-) -> Result<bool, Stop>
-    requires { IsScopedSignature sig.now }
-{
-    let t = redex(alloc)?;
-    assert!(rt; can_reduce(sig, &t));
-    let step = head_step(alloc, sig, &t, true, left)?;
-    Ok(matches!(step, Some(Term::Sort(0))))
-}
-
-/// Whether the argument is the normal form of the redex.
-fn has_its_argument_as_form(
-    rt: &impl Abort,
-    alloc: Global,
-    sig: &Signature,
-    left: &mut Units,
-) -> Result<bool, Stop>
-    requires { IsScopedSignature sig.now }
-{
-    let t = redex(alloc)?;
-    assert!(rt; can_reduce(sig, &t));
-    let form = normal(alloc, sig, &t, true, left)?;
-    Ok(form.same(&Term::Sort(0)))
-}
-
-#[test]
-fn steps_and_forms(rt: HostRuntime) -> Result<(), Fail> {
-    let alloc = rt.alloc();
-    let sig = scoped_prelude(alloc)?;
-    let mut left = units(2);
-    assert!(rt; steps_to_its_argument(&rt, alloc, &sig, &mut left)?);
-    assert!(rt; has_its_argument_as_form(&rt, alloc, &sig, &mut left)?);
-    assert_eq!(rt; left.left, 0);
-    let none = has_its_argument_as_form(&rt, alloc, &sig, &mut left);
-    assert!(rt; matches!(none, Err(Stop::Fuel)));
-    Ok(())
 }
 
 /// A product whose codomain steps to the same product again, and so on: `(\(x : Type i). Type 0 -> x x)` applied to itself.
@@ -110,17 +61,6 @@ fn two_thousand_open_calls(rt: HostRuntime) -> Result<(), Fail> {
     let sig = scoped_prelude(alloc)?;
     assert!(rt; matches!(compare_endless(&rt, alloc, &sig, 7999), Err(Stop::Deep)));
     assert!(rt; matches!(compare_endless(&rt, alloc, &sig, 7998), Err(Stop::Fuel)));
-    Ok(())
-}
-
-#[test]
-fn one_open_call(rt: HostRuntime) -> Result<(), Fail> {
-    let alloc = rt.alloc();
-    let sig = scoped_prelude(alloc)?;
-    let t = Term::new_pi(alloc, Term::Sort(0), Term::Sort(0))?;
-    assert!(rt; can_reduce(&sig, &t));
-    let within = subtype_within(alloc, &sig, &t, &t, 1, &mut units(1));
-    assert!(rt; matches!(within, Err(Stop::Deep)));
     Ok(())
 }
 

@@ -1,9 +1,9 @@
-// Terms at the limit of height, patterns, and the texts of errors.
+// Terms at the limit of height, and the texts of errors.
 ghost use Rattle.std.specs.Prelude.{◌≡◌, ◌+◌, ◌-◌, max};
 ghost use Rattle.core_terms.specs.Meanings.{tree_of};
 ghost use Rattle.theory.specs.Terms as tree;
 
-use core_terms::{Items, MAX_HEIGHT, Pat, Stop, Term, copy, copy_pat, lift, subst};
+use core_terms::{MAX_HEIGHT, Stop, Term, copy, lift, subst};
 use std::alloc::Global;
 use std::process::Abort;
 use std::test::Fail;
@@ -57,18 +57,6 @@ fn greatest_height(rt: HostRuntime) -> Result<(), Fail> {
     let alloc = rt.alloc();
     assert_works(&rt, alloc, &tower(alloc, MAX_HEIGHT, 1999)?)?;
     assert_stops(&rt, alloc, &tower(alloc, MAX_HEIGHT + 1, 2000)?)?;
-    Ok(())
-}
-
-#[test]
-fn copied_pattern(rt: HostRuntime) -> Result<(), Fail> {
-    let alloc = rt.alloc();
-    let args = Items::from_vec(vec![in alloc; Pat::Wild, Pat::Bind]?);
-    let copied = copy_pat(alloc, &Pat::Con(5, 1, args))?;
-    let Pat::Con(5, 1, copied_args) = &copied else {
-        return Err(Fail::new("another pattern"));
-    };
-    assert!(rt; matches!(copied_args.as_slice(), [Pat::Wild, Pat::Bind]));
     Ok(())
 }
 

@@ -1,0 +1,9 @@
+use Rattle.std.proofs.Common.{length}
+use Rattle.core_sig.specs.Meanings.{entry_of}
+use Rattle.core_text.specs.RawEntries.{entry_shown}
+use Rattle.tree_cases.proofs.Entering.{can-enter}
+use Rattle.tree_cases.proofs.comparing.is_entered.Goals as goal
+
+pub enter-requires-clause-entry : goal.enter-requires-clause-entry
+enter-requires-clause-entry c =
+    can-enter c.args.session.now.signature (entry_shown (length c.args.session.now.signature.entries) (entry_of c.args.entry)) c.requires.scoped
