@@ -1,0 +1,18 @@
+//! Terms in a store, where an id stands for a tree: nodes and rows, stores that share equal terms and stores that don't, and the
+//! calls on terms over any store.
+#![tactic(auto)]
+
+mod lifting;
+mod node;
+mod row;
+mod shifts;
+mod store;
+mod substitution;
+mod terms;
+
+pub use lifting::lift_in;
+pub use node::Node;
+pub use row::{Answer, Key, Row};
+pub use store::TermStore;
+pub use substitution::subst_in;
+pub use terms::{export_in, import_in};
