@@ -1,6 +1,9 @@
 pub mod Held
 pub mod Lifting
+pub mod NodeFacts
 pub mod Nodes
 pub mod Parts
+pub mod Shelves
 pub mod Shifts
 pub mod Substitution
+pub mod Trees

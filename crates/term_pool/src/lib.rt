@@ -2,6 +2,8 @@
 //! calls on terms over any store.
 #![tactic(auto)]
 
+mod facts;
+mod ids;
 mod lifting;
 mod node;
 mod row;
@@ -9,10 +11,13 @@ mod shifts;
 mod store;
 mod substitution;
 mod terms;
+mod trees;
 
+pub use ids::TreeId;
 pub use lifting::lift_in;
 pub use node::Node;
 pub use row::{Answer, Key, Row};
 pub use store::TermStore;
 pub use substitution::subst_in;
 pub use terms::{export_in, import_in};
+pub use trees::Trees;
