@@ -1,3 +1,5 @@
+pub mod Memos
 pub mod Putting
+pub mod Sharing
 pub mod Shelving
 pub mod Tables

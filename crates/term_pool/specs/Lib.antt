@@ -1,8 +1,10 @@
 pub mod Held
 pub mod Lifting
+pub mod Memo
 pub mod NodeFacts
 pub mod Nodes
 pub mod Parts
+pub mod Pools
 pub mod Shelves
 pub mod Shifts
 pub mod Substitution

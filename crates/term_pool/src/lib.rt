@@ -5,7 +5,9 @@
 mod facts;
 mod ids;
 mod lifting;
+mod memo;
 mod node;
+mod pool;
 mod row;
 mod shifts;
 mod store;
@@ -13,9 +15,10 @@ mod substitution;
 mod terms;
 mod trees;
 
-pub use ids::TreeId;
+pub use ids::{Id, Mark, TreeId};
 pub use lifting::lift_in;
 pub use node::Node;
+pub use pool::Pool;
 pub use row::{Answer, Key, Row};
 pub use store::TermStore;
 pub use substitution::subst_in;

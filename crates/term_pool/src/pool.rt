@@ -1,0 +1,253 @@
+ghost use Rattle.std.specs.Prelude.{◌≡◌, ◌≢◌, ◌≤◌, ◌<◌, ◌↔◌, ℕ, [], ◌∷◌, ◌++◌, length, take, filter, None, Some, IsTrue, IfErr, IfOk, IfSome, IfNone, OnErr, OnOk, Err};
+ghost use Rattle.core_terms.specs.Answers.{Gives};
+ghost use Rattle.core_terms.specs.Meanings.{tree_of};
+ghost use Rattle.core_terms.specs.declared.stop.Stop.TheVariants.{Memory};
+ghost use Rattle.theory.specs.Terms as tree;
+ghost use Rattle.term_pool.specs.Held.{Extends, AddsParts, Makes, IsFullFor, Keeps, Notes};
+ghost use Rattle.term_pool.specs.Memo.{is_row_below};
+ghost use Rattle.term_pool.specs.Nodes.{says, AllParts, AllPass};
+ghost use Rattle.term_pool.specs.Pools.{pool_held};
+ghost use Rattle.term_pool.specs.Shelves.{facts_of, node_at};
+
+use crate::facts::{Facts, Placed, facts_at, facts_of_node, shelved_node};
+use crate::ids::{Id, Mark};
+use crate::memo::Memo;
+use crate::{Key, Node, Row, TermStore, export_in, import_in};
+use core_terms::{MAX_HEIGHT, Stop, Term};
+use indexmap::IndexSet;
+use std::alloc::Global;
+use std::marker::Model;
+
+/// A store that keeps each term once: equal terms have equal ids. It has room for a number of nodes, and keeps rows.
+#[derive(Drop)]
+pub struct Pool {
+    nodes: IndexSet<Node<Id>>,
+    facts: Vec<Facts>,
+    cap: u32,
+    told: u32,
+    memo: Memo,
+    missed: u64,
+    alloc: Global,
+}
+
+impl Model for Pool {
+    ghost use Rattle.term_pool.specs.Pools.{Pooled};
+
+    ghost Value = { Pooled };
+
+    ghost use Rattle.term_pool.specs.Pools.{IsPool};
+
+    ghost view = { λ p. record { nodes = p.nodes.keys; cap = p.cap; told = p.told; rows = p.memo; missed = p.missed } };
+
+    ghost invariant = { λ p. IsPool p.nodes.keys p.facts.items p.cap };
+}
+
+impl Pool {
+    /// No nodes and no rows, and room for so many nodes.
+    pub fn new(alloc: Global, cap: u32) -> Result<Pool, Stop>
+        requires { cap ≤ 50000000 }
+        ensures ok { IfOk result (λ p. p ≡ record { nodes = []; cap = cap; told = 0; rows = []; missed = 0 }) }
+        ensures memory { OnErr result (result ≡ Err Memory) }
+    {
+        let nodes = IndexSet::with_capacity(alloc, 16)?;
+        Ok(Pool {
+            nodes,
+            facts: Vec::new(alloc),
+            cap,
+            told: 0,
+            memo: Memo::new(alloc),
+            missed: 0,
+            alloc,
+        })
+    }
+
+    /// The id of the node, which is added where it is new.
+    pub fn intern(&mut self, node: Node<Id>) -> Result<Id, Stop>
+        requires { AllPass (pool_held self.old).live node }
+        ensures makes { Makes (pool_held self.new) result (says (pool_held self.old).tree node) }
+        ensures full { IsFullFor (pool_held self.new) result (says (pool_held self.old).tree node) }
+        ensures extends { Extends (pool_held self.old) (pool_held self.new) }
+        ensures adds { AddsParts (pool_held self.old) (pool_held self.new) (says (pool_held self.old).tree node) }
+        ensures refused { OnErr result (self.new ≡ self.old) }
+    {
+        match self.find(&node) {
+            Some(id) => Ok(id),
+            None => self.add(node),
+        }
+    }
+
+    /// The id of the node, where it is there.
+    fn find(&self, node: &Node<Id>) -> Option<Id>
+        ensures found { IfSome result (λ id. (id.at < length self.now.nodes) × (node_at self.now.nodes id.at ≡ node.now)) }
+        ensures absent { IfNone result ((i : ℕ) → i < length self.now.nodes → node_at self.now.nodes i ≢ node.now) }
+    {
+        let _small = self.cap;
+        let at = self.nodes.get_index_of(node)?;
+        Some(Id { at: at as u32 })
+    }
+
+    /// Adds a node that is new.
+    fn add(&mut self, node: Node<Id>) -> Result<Id, Stop>
+        requires live { AllPass (pool_held self.old).live node }
+        requires absent { (i : ℕ) → i < length self.old.nodes → node_at self.old.nodes i ≢ node }
+        ensures makes { Makes (pool_held self.new) result (says (pool_held self.old).tree node) }
+        ensures full { IsFullFor (pool_held self.new) result (says (pool_held self.old).tree node) }
+        ensures extends { Extends (pool_held self.old) (pool_held self.new) }
+        ensures adds { AddsParts (pool_held self.old) (pool_held self.new) (says (pool_held self.old).tree node) }
+        ensures refused { OnErr result (self.new ≡ self.old) }
+    {
+        let facts = self.facts_of(&node);
+        if facts.height > MAX_HEIGHT {
+            return Err(Stop::Deep);
+        }
+        if self.is_full() {
+            return Err(Stop::PoolFull);
+        }
+        self.facts.reserve(1)?;
+        let at = self.nodes.len() as u32;
+        self.nodes.insert(node)?;
+        self.facts.push(facts).unwrap();
+        Ok(Id { at })
+    }
+
+    /// What is to be kept of a node.
+    #[tactic(auto, using(crate::proofs::Shelving::fact_laws))]
+    fn facts_of(&self, node: &Node<Id>) -> Facts
+        ensures { result ≡ facts_of (says (pool_held self.now).tree node.now) }
+    {
+        facts_of_node(self.facts.as_slice(), node)
+    }
+
+    /// Whether there is room for no node more.
+    fn is_full(&self) -> bool
+        ensures { result ≡ (pool_held self.now).full }
+    {
+        self.cap as usize <= self.nodes.len()
+    }
+}
+
+impl Pool {
+    /// An id for the tree of a term.
+    pub fn import(&mut self, t: &Term) -> Result<Id, Stop>
+        ensures makes { Makes (pool_held self.new) result (tree_of t.now) }
+        ensures full { IsFullFor (pool_held self.new) result (tree_of t.now) }
+        ensures extends { Extends (pool_held self.old) (pool_held self.new) }
+        ensures adds { AddsParts (pool_held self.old) (pool_held self.new) (tree_of t.now) }
+    {
+        import_in(self, t)
+    }
+
+    /// The term of an id.
+    pub fn export(&self, id: Id) -> Result<Term, Stop>
+        requires { IsTrue ((pool_held self.now).live id) }
+        ensures { Gives tree_of result (Ok ((pool_held self.now).tree id)) }
+    {
+        export_in(self.alloc, self, id)
+    }
+
+    /// The node of an id. Takes no memory.
+    pub fn node(&self, id: Id) -> Node<Id>
+        requires { IsTrue ((pool_held self.now).live id) }
+        ensures says { (pool_held self.now).tree id ≡ says (pool_held self.now).tree result }
+        ensures live { AllPass (pool_held self.now).live result }
+    {
+        self.look(&id)
+    }
+
+    /// The height of the tree of an id. Takes no memory.
+    pub fn height(&self, id: Id) -> u32
+        requires { IsTrue ((pool_held self.now).live id) }
+        ensures { result ≡ tree.height ((pool_held self.now).tree id) }
+    {
+        TermStore::height(self, &id)
+    }
+
+    /// The number of nodes. Takes no memory.
+    pub fn len(&self) -> u32
+        ensures { result ≡ length self.now.nodes }
+    {
+        let _small = self.cap;
+        self.nodes.len() as u32
+    }
+
+    /// Where the pool stands, to go back there. Takes no memory.
+    pub fn mark(&self) -> Mark
+        ensures { result.len ≡ length self.now.nodes }
+    {
+        Mark { len: self.len() }
+    }
+
+    /// Gives up the ids that were made since the mark. Takes no memory.
+    pub fn release(&mut self, mark: Mark)
+        requires { mark.len ≤ length self.old.nodes }
+        ensures { self.new ≡ record self.old { nodes = take mark.len self.old.nodes } }
+    {
+        self.nodes.truncate(mark.len as usize);
+        self.facts.truncate(mark.len as usize);
+    }
+
+    /// Drops the rows that name an id that is not live. Takes no memory.
+    pub fn truncate_memo(&mut self)
+        ensures { self.new ≡ record self.old { rows = filter (is_row_below (length self.old.nodes)) self.old.rows } }
+    {
+        let count = self.len();
+        self.memo.keep_below(count);
+    }
+}
+
+impl TermStore for Pool {
+    type Id = Id;
+
+    ghost held = { pool_held };
+
+    fn look(&self, id: &Id) -> Node<Id> {
+        shelved_node(self.nodes.as_slice(), self.facts.as_slice(), id.at)
+    }
+
+    fn same(&self, a: &Id, b: &Id) -> bool {
+        let _each_once = self.cap;
+        a.at == b.at
+    }
+
+    fn height(&self, id: &Id) -> u32 {
+        facts_at(self.facts.as_slice(), id.at).height
+    }
+
+    fn bound(&self, id: &Id) -> u64 {
+        facts_at(self.facts.as_slice(), id.at).bound
+    }
+
+    fn place(&self, id: &Id) -> u32 {
+        id.at
+    }
+
+    fn make(&mut self, node: Node<Id>) -> Result<Id, Stop>
+        requires { AllPass (pool_held self.old).live node }
+        ensures makes { Makes (pool_held self.new) result (says (pool_held self.old).tree node) }
+        ensures full { IsFullFor (pool_held self.new) result (says (pool_held self.old).tree node) }
+        ensures extends { Extends (pool_held self.old) (pool_held self.new) }
+        ensures adds { AddsParts (pool_held self.old) (pool_held self.new) (says (pool_held self.old).tree node) }
+        ensures refused { OnErr result (pool_held self.new ≡ pool_held self.old) }
+    {
+        self.intern(node)
+    }
+
+    fn recall(&self, key: &Key<Id>) -> Option<Row<Id>> {
+        self.memo.get(self.told, key)
+    }
+
+    fn note(&mut self, key: Key<Id>, row: Row<Id>)
+        ensures notes { Notes (pool_held self.old) (pool_held self.new) key row }
+        ensures keeps { Keeps (pool_held self.old) (pool_held self.new) }
+    {
+        let kept = self.memo.put(self.told, key, row);
+        if !kept {
+            self.missed = self.missed.saturating_add(1);
+        }
+    }
+
+    fn at_length(&mut self, len: u32) {
+        self.memo.cut(len);
+        self.told = len;
+    }
+}
