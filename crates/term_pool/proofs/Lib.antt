@@ -1,4 +1,5 @@
 pub mod Memos
+pub mod Pooling
 pub mod Putting
 pub mod Sharing
 pub mod Shelving

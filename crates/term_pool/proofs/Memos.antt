@@ -1,5 +1,5 @@
 -- Rows by their keys.
-use Rattle.std.proofs.Common.{◌≡◌, ℕ, List, [], ◌∷◌, Bool, true, false, cond, not, nat_eq, ◌==◌, ◌&&◌, Result, Ok, Err, OnOk, OnErr, Some, refl, sym, ap, subst, ◌∙◌, arith}
+use Rattle.std.proofs.Common.{◌≡◌, ℕ, List, [], ◌∷◌, Bool, true, false, cond, not, nat_le, if◌then◌else◌, ◌==◌, ◌&&◌, filter, Option, None, Result, Ok, Err, OnOk, OnErr, Some, refl, sym, ap, subst, ◌∙◌, true≢false, arith}
 use Rattle.std.proofs.lemmas.Bool.Decides.{nat_tests}
 use Rattle.term_pool.specs.declared.ids.Id.{Id}
 use Rattle.term_pool.specs.declared.row.Key.{Key}
@@ -7,7 +7,7 @@ use Rattle.term_pool.specs.declared.row.Key.TheVariants.{Whnf, Convertible, Subt
 use Rattle.indexmap.specs.IndexMap.{IndexMap, Updates}
 use Rattle.std.specs.Map.{lookup}
 use Rattle.term_pool.specs.declared.row.Row.{Row}
-use Rattle.term_pool.specs.Memo.{is_key, row_at}
+use Rattle.term_pool.specs.Memo.{Rows, is_key, row_at}
 
 pub either : {A E : Type 0} (r : Result A E) (P Q R : Type 0) → OnOk r P → OnErr r Q → (P → R) → (Q → R) → R
 either (Ok a) P Q R p q f g = f p
@@ -22,8 +22,11 @@ both : (a b : Bool) → (a && b) ≡ true → (a ≡ true) × (b ≡ true)
 both true b h = (refl, h)
 both false b h = absurd cc
 
-same_number : (m n : ℕ) → (m == n) ≡ true → m ≡ n
+pub same_number : (m n : ℕ) → (m == n) ≡ true → m ≡ n
 same_number m n h = grind (arith, nat_tests)
+
+pub is_same_number : (m n : ℕ) → m ≡ n → (m == n) ≡ true
+is_same_number m n h = grind (arith, nat_tests)
 
 same_id : (a b : Id) → (a.at == b.at) ≡ true → a ≡ b
 same_id a b h = let e = same_number a.at b.at h in (λ i. record { at = e i })
@@ -64,3 +67,41 @@ others-stay eq m new len key row same u n k other =
     sym (lookup-ext (eq (n, k)) (λ q. (n == q.0) && is_key k q.1) new.entries (same (n, k)))
     ∙ (u.2 (n, k) (same (len, key) (n, k) ∙ apart len n key k other)
     ∙ lookup-ext (eq (n, k)) (λ q. (n == q.0) && is_key k q.1) m.entries (same (n, k)))
+
+-- a look-up among the rows of lengths up to `len`
+cut_kept : (b c : Bool) (x y z : Option (Row Id)) → (b ≡ true → c ≡ true) → y ≡ (if c then z else None)
+    → cond b x y ≡ (if c then cond b x z else None)
+cut_kept true true x y z h e = refl
+cut_kept true false x y z h e = absurd (true≢false (sym (h refl)))
+cut_kept false c x y z h e = e
+
+cut_dropped : (b c : Bool) (x y z : Option (Row Id)) → (b ≡ true → c ≡ false) → y ≡ (if c then z else None)
+    → y ≡ (if c then cond b x z else None)
+cut_dropped true true x y z h e = absurd (true≢false (h refl))
+cut_dropped true false x y z h e = e
+cut_dropped false c x y z h e = e
+
+abbrev no_row : Option (Row Id)
+no_row = None
+
+nothing : (b : Bool) → no_row ≡ (if b then no_row else no_row)
+nothing true = refl
+nothing false = refl
+
+pub rows-cut : (len : ℕ) (rows : Rows) (n : ℕ) (k : Key Id) → row_at (filter (λ e. nat_le e.0.0 len) rows) n k ≡ (if nat_le n len then row_at rows n k else None)
+rows-cut len [] n k = nothing (nat_le n len)
+rows-cut len (e ∷ rows) n k = go (nat_le e.0.0 len) refl (rows-cut len rows n k)
+  where
+    length_is : (a : Bool) → nat_le e.0.0 len ≡ a → ((n == e.0.0) && is_key k e.0.1) ≡ true → nat_le n len ≡ a
+    length_is a h t = subst (λ m. nat_le m len ≡ a) (sym (same_number n e.0.0 (both (n == e.0.0) (is_key k e.0.1) t).0)) h
+
+    go : (a : Bool) → nat_le e.0.0 len ≡ a
+        → row_at (filter (λ f. nat_le f.0.0 len) rows) n k ≡ (if nat_le n len then row_at rows n k else None)
+        → row_at (if a then e ∷ filter (λ f. nat_le f.0.0 len) rows else filter (λ f. nat_le f.0.0 len) rows) n k
+          ≡ (if nat_le n len then row_at (e ∷ rows) n k else None)
+    go true h rest =
+        cut_kept ((n == e.0.0) && is_key k e.0.1) (nat_le n len) (Some e.1) (row_at (filter (λ f. nat_le f.0.0 len) rows) n k) (row_at rows n k)
+        (length_is true h) rest
+    go false h rest =
+        cut_dropped ((n == e.0.0) && is_key k e.0.1) (nat_le n len) (Some e.1) (row_at (filter (λ f. nat_le f.0.0 len) rows) n k) (row_at rows n k)
+        (length_is false h) rest

@@ -1,8 +1,8 @@
 -- Trees of nodes in a list: they are what the nodes say, and adding nodes at the end or cutting them off changes no other tree.
-use Rattle.std.proofs.Common.{◌≡◌, ℕ, zero, suc, Bool, nat_lt, IsTrue, ◌+◌, ◌<◌, ◌≤◌, ◌⊎◌, inl, inr, List, [], ◌∷◌, ◌++◌, length, take, slice_get, Option, Some, None, refl, sym, ◌∙◌, ap, ap₂, subst, arith, add-one}
+use Rattle.std.proofs.Common.{◌≡◌, ℕ, zero, suc, Bool, nat_lt, IsTrue, ◌+◌, ◌<◌, ◌≤◌, min, ◌⊎◌, inl, inr, List, [], ◌∷◌, ◌++◌, length, take, slice_get, Option, Some, None, refl, sym, ◌∙◌, ap, ap₂, subst, arith, add-one}
 use Rattle.std.specs.Option.{unwrap_or}
 use Rattle.std.proofs.lemmas.Option.{slice_get_past}
-use Rattle.std.proofs.lemmas.List.{length_push}
+use Rattle.std.proofs.lemmas.List.{length_push, length-take}
 use Rattle.theory.proofs.Lists.{slice_get-append, slice_get-last}
 use Rattle.theory.specs.Terms as tree
 use Rattle.term_pool.specs.declared.node.Node.{Node}
@@ -26,6 +26,10 @@ tri (suc i) (suc n) =
       inl l ↦ inl (omega (arith, l)) |
       inr r ↦ elim r [ inl e ↦ inr (inl (ap suc e)) | inr g ↦ inr (inr (omega (arith, g))) ]
     ]
+
+from_there : (i n : ℕ) → (i ≡ n) ⊎ (n < i) → n ≤ i
+from_there i n (inl e) = omega (arith, e)
+from_there i n (inr l) = omega (arith, l)
 
 pub below : (a b : ℕ) → IsTrue (nat_lt a b) → a < b
 below a b h = grind (arith, nat_tests)
@@ -78,7 +82,7 @@ module _ {I : Type 0} where
   says-ext f g (Let a t b) h = (λ i. tree.Let (h.0 i) (h.1 i) (h.2 i))
   says-ext f g _ h = refl
 
-  parts-map : (P Q : I → Type 0) (n : Node I) → ((p : I) → P p → Q p) → AllParts P n → AllParts Q n
+  pub parts-map : (P Q : I → Type 0) (n : Node I) → ((p : I) → P p → Q p) → AllParts P n → AllParts Q n
   parts-map P Q (Pi a b) k h = (k a h.0, k b h.1)
   parts-map P Q (Lam a b) k h = (k a h.0, k b h.1)
   parts-map P Q (App a b) k h = (k a h.0, k b h.1)
@@ -135,8 +139,11 @@ module _ {I : Type 0} where
     unfolding tree_at
     tree_at-agree nodes nodes' m o same i less = within-agree nodes nodes' m o same (suc i) i less
 
+    tree_at-cut : (nodes : List (Node I)) → AreInOrder place nodes → (i : ℕ) → node_at nodes i ≡ Sort 0 → tree_at place nodes i ≡ tree.Sort 0
+    tree_at-cut nodes o i h = tree_at-says nodes o i ∙ ap (says (λ p. tree_at place nodes (place p))) h
+
     tree_at-past : (nodes : List (Node I)) → AreInOrder place nodes → (i : ℕ) → length nodes ≤ i → tree_at place nodes i ≡ tree.Sort 0
-    tree_at-past nodes o i h = tree_at-says nodes o i ∙ ap (says (λ p. tree_at place nodes (place p))) (at-past (Sort 0) nodes i h)
+    tree_at-past nodes o i h = tree_at-cut nodes o i (at-past (Sort 0) nodes i h)
 
     -- a node whose parts are in the list goes at the end
     pub order-push : (nodes : List (Node I)) (n : Node I) → AreInOrder place nodes → AllParts (λ p. place p < length nodes) n
@@ -201,6 +208,42 @@ module _ {I : Type 0} where
           low = λ i. (each i).0;
           kept = λ i. (each i).1;
           lengths = omega (arith, length_push nodes n, length_push facts f, s.lengths);
+        }
+
+    order-take : (nodes : List (Node I)) (m : ℕ) → AreInOrder place nodes → AreInOrder place (take m nodes)
+    order-take nodes m o =
+        record {
+          each = λ i. elim (tri i m) [
+            inl l ↦ subst (AllParts (λ p. place p < i)) (sym (at-take (Sort 0) m nodes i l)) (o.each i) |
+            inr r ↦ subst (AllParts (λ p. place p < i)) (sym (at-cut (Sort 0) m nodes i (from_there i m r))) tt
+          ]
+        }
+
+    pub tree_at-take : (nodes : List (Node I)) (m : ℕ) → AreInOrder place nodes → (i : ℕ) → i < m → tree_at place (take m nodes) i ≡ tree_at place nodes i
+    tree_at-take nodes m o i less = tree_at-agree nodes (take m nodes) m o (λ j l. at-take (Sort 0) m nodes j l) i less
+
+    -- the nodes that are left after others were cut off stay as they are
+    pub shelved-take : (nodes : List (Node I)) (facts : List Facts) (m : ℕ) → AreShelved place nodes facts
+        → AreShelved place (take m nodes) (take m facts)
+    shelved-take nodes facts m s =
+        let o = order-take nodes m s.order in
+        let each : (i : ℕ) → (tree.height (tree_at place (take m nodes) i) ≤ 2000) × (fact_at (take m facts) i ≡ facts_of (tree_at place (take m nodes) i))
+            = λ i. elim (tri i m) [
+              inl l ↦
+                (let same = tree_at-take nodes m s.order i l in
+                (subst (λ t. tree.height t ≤ 2000) (sym same) (s.low i),
+                at-take (record { height = 1; bound = 0 }) m facts i l ∙ (s.kept i ∙ ap facts_of (sym same)))) |
+              inr r ↦
+                (let behind = from_there i m r in
+                let same = tree_at-cut (take m nodes) o i (at-cut (Sort 0) m nodes i behind) in
+                (subst (λ t. tree.height t ≤ 2000) (sym same) (omega arith),
+                at-cut (record { height = 1; bound = 0 }) m facts i behind ∙ ap facts_of (sym same)))
+            ] in
+        record {
+          order = o;
+          low = λ i. (each i).0;
+          kept = λ i. (each i).1;
+          lengths = length-take m facts ∙ (ap (min m) s.lengths ∙ sym (length-take m nodes));
         }
 
     -- what is worked out for a node is what is kept of its tree

@@ -1,9 +1,9 @@
-ghost use Rattle.std.specs.Prelude.{◌≡◌, ◌≢◌, ◌≤◌, ◌<◌, ◌↔◌, ℕ, [], ◌∷◌, ◌++◌, length, take, filter, None, Some, IsTrue, IfErr, IfOk, IfSome, IfNone, OnErr, OnOk, Err};
+ghost use Rattle.std.specs.Prelude.{◌≡◌, ◌≢◌, ◌≤◌, ◌<◌, ◌↔◌, ℕ, [], ◌∷◌, ◌++◌, length, take, filter, None, Some, IsTrue, IfErr, IfOk, IfSome, IfNone, OnErr, OnOk, Ok, Err};
 ghost use Rattle.core_terms.specs.Answers.{Gives};
 ghost use Rattle.core_terms.specs.Meanings.{tree_of};
 ghost use Rattle.core_terms.specs.declared.stop.Stop.TheVariants.{Memory};
 ghost use Rattle.theory.specs.Terms as tree;
-ghost use Rattle.term_pool.specs.Held.{Extends, AddsParts, Makes, IsFullFor, Keeps, Notes};
+ghost use Rattle.term_pool.specs.Held.{Extends, AddsParts, Makes, IsFullFor, IsNew, Keeps, Notes};
 ghost use Rattle.term_pool.specs.Memo.{is_row_below};
 ghost use Rattle.term_pool.specs.Nodes.{says, AllParts, AllPass};
 ghost use Rattle.term_pool.specs.Pools.{pool_held};
@@ -78,18 +78,19 @@ impl Pool {
 
     /// The id of the node, where it is there.
     fn find(&self, node: &Node<Id>) -> Option<Id>
-        ensures found { IfSome result (λ id. (id.at < length self.now.nodes) × (node_at self.now.nodes id.at ≡ node.now)) }
-        ensures absent { IfNone result ((i : ℕ) → i < length self.now.nodes → node_at self.now.nodes i ≢ node.now) }
+        requires { AllPass (pool_held self.now).live node.now }
+        ensures found { IfSome result (λ id. Makes (pool_held self.now) (Ok id) (says (pool_held self.now).tree node.now)) }
+        ensures absent { IfNone result (IsNew (pool_held self.now) (says (pool_held self.now).tree node.now)) }
     {
         let _small = self.cap;
-        let at = self.nodes.get_index_of(node)?;
+        let at = place_of(&self.nodes, node)?;
         Some(Id { at: at as u32 })
     }
 
     /// Adds a node that is new.
     fn add(&mut self, node: Node<Id>) -> Result<Id, Stop>
         requires live { AllPass (pool_held self.old).live node }
-        requires absent { (i : ℕ) → i < length self.old.nodes → node_at self.old.nodes i ≢ node }
+        requires absent { IsNew (pool_held self.old) (says (pool_held self.old).tree node) }
         ensures makes { Makes (pool_held self.new) result (says (pool_held self.old).tree node) }
         ensures full { IsFullFor (pool_held self.new) result (says (pool_held self.old).tree node) }
         ensures extends { Extends (pool_held self.old) (pool_held self.new) }
@@ -250,4 +251,12 @@ impl TermStore for Pool {
         self.memo.cut(len);
         self.told = len;
     }
+}
+
+/// The place of the node, where it is there.
+fn place_of(nodes: &IndexSet<Node<Id>>, node: &Node<Id>) -> Option<usize>
+    ensures found { IfSome result (λ i. (i < length nodes.now.keys) × (node_at nodes.now.keys i ≡ node.now)) }
+    ensures absent { IfNone result ((i : ℕ) → i < length nodes.now.keys → node_at nodes.now.keys i ≢ node.now) }
+{
+    nodes.get_index_of(node)
 }
