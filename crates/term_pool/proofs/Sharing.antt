@@ -10,7 +10,7 @@ use Rattle.term_pool.proofs.Shelving.{parts-map, tree_at-says}
 
 module _ {I : Type 0} where
   -- nodes that say the same are the same, if their parts are where they stand for the same
-  same-says : (f : I → tree.Term) (P : I → Type 0) (n m : Node I) → AllParts (λ p. (q : I) → P q → f p ≡ f q → p ≡ q) n → AllParts P m
+  pub same-says : (f : I → tree.Term) (P : I → Type 0) (n m : Node I) → AllParts (λ p. (q : I) → P q → f p ≡ f q → p ≡ q) n → AllParts P m
       → says f n ≡ says f m → n ≡ m
   same-says f P (Var i) (Var j) h g e = cc
   same-says f P (Var i) _ h g e = absurd cc

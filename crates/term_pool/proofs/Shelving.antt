@@ -75,7 +75,7 @@ module _ {X : Type 0} where
   at-cut d n xs i h = ap (λ o. unwrap_or o d) (slice_get-take_behind n xs i h)
 
 module _ {I : Type 0} where
-  says-ext : (f g : I → tree.Term) (n : Node I) → AllParts (λ p. f p ≡ g p) n → says f n ≡ says g n
+  pub says-ext : (f g : I → tree.Term) (n : Node I) → AllParts (λ p. f p ≡ g p) n → says f n ≡ says g n
   says-ext f g (Pi a b) h = ap₂ tree.Pi h.0 h.1
   says-ext f g (Lam a b) h = ap₂ tree.Lam h.0 h.1
   says-ext f g (App a b) h = ap₂ tree.App h.0 h.1

@@ -2,7 +2,7 @@
 use Rattle.std.specs.Prelude.{◌≡◌, ℕ, ◌<◌, ◌≤◌, Bool, true, nat_le, List, length}
 use Rattle.term_pool.specs.Held.{Held}
 use Rattle.term_pool.specs.Memo.{Rows, row_at}
-use Rattle.term_pool.specs.Shelves.{node_at, shelf_held, AreShelved}
+use Rattle.term_pool.specs.Shelves.{node_at, shelf_held, AreInOrder, AreShelved}
 use Rattle.term_pool.specs.declared.facts.Facts.{Facts}
 use Rattle.term_pool.specs.declared.ids.Id.{Id}
 use Rattle.term_pool.specs.declared.node.Node.{Node}
@@ -26,6 +26,11 @@ pool_held p = shelf_held id_place p.nodes (nat_le p.cap (length p.nodes)) p.told
 -- no node is there twice
 pub record AreDistinct {I : Type 0} (nodes : List (Node I)) : Type 0 where
   pub each : (i j : ℕ) → i < length nodes → j < length nodes → node_at nodes i ≡ node_at nodes j → i ≡ j
+
+-- parts come before the whole, and no node is there twice
+pub record IsWhole (nodes : List (Node Id)) : Type 0 where
+  pub order : AreInOrder id_place nodes
+  pub distinct : AreDistinct nodes
 
 -- what holds of every pool
 pub record IsPool (nodes : List (Node Id)) (facts : List Facts) (cap : ℕ) : Type 0 where

@@ -6,7 +6,7 @@ ghost use Rattle.theory.specs.Terms as tree;
 ghost use Rattle.term_pool.specs.Held.{Extends, AddsParts, Makes, IsFullFor, IsNew, Keeps, Notes};
 ghost use Rattle.term_pool.specs.Memo.{is_row_below};
 ghost use Rattle.term_pool.specs.Nodes.{says, AllParts, AllPass};
-ghost use Rattle.term_pool.specs.Pools.{pool_held};
+ghost use Rattle.term_pool.specs.Pools.{Pooled, IsWhole, pool_held};
 ghost use Rattle.term_pool.specs.Shelves.{facts_of, node_at};
 
 use crate::facts::{Facts, Placed, facts_at, facts_of_node, shelved_node};
@@ -173,15 +173,18 @@ impl Pool {
 
     /// Where the pool stands, to go back there. Takes no memory.
     pub fn mark(&self) -> Mark
-        ensures { result.len ≡ length self.now.nodes }
+        ensures len { result.len ≡ length self.now.nodes }
+        ensures whole { IsWhole self.now.nodes }
     {
+        let _whole = self.cap;
         Mark { len: self.len() }
     }
 
-    /// Gives up the ids that were made since the mark. Takes no memory.
+    /// Gives up the ids that were made since the mark: the nodes are those that the pool had then, whatever was done between.
+    /// Takes no memory.
     pub fn release(&mut self, mark: Mark)
-        requires { mark.len ≤ length self.old.nodes }
-        ensures { self.new ≡ record self.old { nodes = take mark.len self.old.nodes } }
+        ensures cut { self.new ≡ record self.old { nodes = take mark.len self.old.nodes } }
+        ensures back { (then : Pooled) → mark.len ≡ length then.nodes → IsWhole then.nodes → Keeps (pool_held then) (pool_held self.old) → self.new.nodes ≡ then.nodes }
     {
         self.nodes.truncate(mark.len as usize);
         self.facts.truncate(mark.len as usize);
@@ -205,7 +208,12 @@ impl TermStore for Pool {
         shelved_node(self.nodes.as_slice(), self.facts.as_slice(), id.at)
     }
 
-    fn same(&self, a: &Id, b: &Id) -> bool {
+    fn same(&self, a: &Id, b: &Id) -> bool
+        requires a { IsTrue ((pool_held self.now).live a.now) }
+        requires b { IsTrue ((pool_held self.now).live b.now) }
+        ensures trees { IsTrue result ↔ ((pool_held self.now).tree a.now ≡ (pool_held self.now).tree b.now) }
+        ensures ids { IsTrue result ↔ (a.now ≡ b.now) }
+    {
         let _each_once = self.cap;
         a.at == b.at
     }
