@@ -1,5 +1,5 @@
 -- Rows by their keys.
-use Rattle.std.proofs.Common.{◌≡◌, ℕ, List, [], ◌∷◌, Bool, true, false, cond, not, nat_le, if◌then◌else◌, ◌==◌, ◌&&◌, filter, Option, None, Result, Ok, Err, OnOk, OnErr, Some, refl, sym, ap, subst, ◌∙◌, true≢false, arith}
+use Rattle.std.proofs.Common.{◌≡◌, ℕ, List, [], ◌∷◌, Bool, true, false, cond, not, nat_le, if◌then◌else◌, ◌==◌, ◌&&◌, filter, Option, None, Result, Ok, Err, OnOk, OnErr, Some, refl, sym, subst, ◌∙◌, true≢false, arith}
 use Rattle.std.proofs.lemmas.Bool.Decides.{nat_tests}
 use Rattle.term_pool.specs.declared.ids.Id.{Id}
 use Rattle.term_pool.specs.declared.row.Key.{Key}
@@ -98,7 +98,7 @@ rows-cut len (e ∷ rows) n k = go (nat_le e.0.0 len) refl (rows-cut len rows n 
     go : (a : Bool) → nat_le e.0.0 len ≡ a
         → row_at (filter (λ f. nat_le f.0.0 len) rows) n k ≡ (if nat_le n len then row_at rows n k else None)
         → row_at (if a then e ∷ filter (λ f. nat_le f.0.0 len) rows else filter (λ f. nat_le f.0.0 len) rows) n k
-          ≡ (if nat_le n len then row_at (e ∷ rows) n k else None)
+        ≡ (if nat_le n len then row_at (e ∷ rows) n k else None)
     go true h rest =
         cut_kept ((n == e.0.0) && is_key k e.0.1) (nat_le n len) (Some e.1) (row_at (filter (λ f. nat_le f.0.0 len) rows) n k) (row_at rows n k)
         (length_is true h) rest

@@ -1,5 +1,5 @@
 -- The nodes of a pool: each is there once, also after one is added or some are cut off.
-use Rattle.std.proofs.Common.{◌≡◌, ◌≢◌, ℕ, zero, suc, ◌<◌, ◌≤◌, ◌⊎◌, inl, inr, Bool, true, false, IsTrue, nat_lt, nat_le, if◌then◌else◌, List, [], ◌∷◌, ◌++◌, length, take, slice_get, slice_index_or, position, Option, Some, None, IfSome, IfNone, is_some, All, refl, sym, ◌∙◌, ap, subst, true≢false, arith}
+use Rattle.std.proofs.Common.{◌≡◌, ◌≢◌, ℕ, ◌<◌, ◌≤◌, ◌⊎◌, inl, inr, Bool, true, false, IsTrue, nat_lt, nat_le, if◌then◌else◌, List, [], ◌∷◌, ◌++◌, length, take, slice_get, slice_index_or, position, Option, Some, None, IfSome, IfNone, is_some, All, refl, sym, ◌∙◌, ap, subst, true≢false, arith}
 use Rattle.std.specs.Option.{unwrap_or}
 use Rattle.std.specs.List.{list_any}
 use Rattle.std.proofs.lemmas.Option.{unwrap_or-slice_get, slice_get-get_or}
@@ -14,7 +14,7 @@ use Rattle.term_pool.specs.declared.node.Node.{Node}
 use Rattle.term_pool.specs.declared.node.Node.TheVariants.{Sort}
 use Rattle.term_pool.specs.Nodes.{says, AllPass}
 use Rattle.term_pool.specs.Pools.{AreDistinct, IsPool, id_place}
-use Rattle.term_pool.specs.Shelves.{facts_of, node_at, tree_at, AreShelved}
+use Rattle.term_pool.specs.Shelves.{facts_of, node_at, tree_at}
 use Rattle.term_pool.proofs.Shelving.{tri, at-append, at-last, at-take, tree_at-says, below, is_below, parts-below, shelved-push, shelved-take, shelved-none}
 use Rattle.term_pool.proofs.Sharing.{same-node}
 
@@ -117,7 +117,7 @@ module _ (nodes : List (Node Id)) (facts : List Facts) (cap : ℕ) (p : IsPool n
   new-tree new id live e =
       let less = below id.at (length nodes) live in
       new id.at less (
-        same-node id_place only nodes p.shelved.order p.distinct n id.at (parts-below id_place nodes n p.shelved.order parts) less e
+      same-node id_place only nodes p.shelved.order p.distinct n id.at (parts-below id_place nodes n p.shelved.order parts) less e
       )
 
   -- and the other way round

@@ -1,7 +1,7 @@
 -- Substitution at a depth, joined to `subst`.
-use Rattle.std.proofs.Common.{◌≡◌, ℕ, ◌+◌, ◌≤◌, refl, ap, ap₂, ◌∙◌, sym, add_assoc, arith}
-use Rattle.theory.specs.Terms.{Term, lift, subst, height}
-use Rattle.theory.specs.Terms.Term.{Var, Pi, Lam, App, Let}
+use Rattle.std.proofs.Common.{◌≡◌, ℕ, ◌+◌, ◌≤◌, refl, ap₂, ◌∙◌, sym, arith}
+use Rattle.theory.specs.Terms.{Term, lift, subst}
+use Rattle.theory.specs.Terms.Term.{Pi, Lam, App, Let}
 use Rattle.theory.proofs.Commuting.{lift_by_none, lift_merge}
 use Rattle.theory.proofs.FreeVariables.{subst_of_scoped}
 use Rattle.theory.proofs.Heights.{height-lift}

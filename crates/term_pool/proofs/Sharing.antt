@@ -1,5 +1,5 @@
 -- Where no node is there twice, equal trees have equal places.
-use Rattle.std.proofs.Common.{◌≡◌, ℕ, zero, suc, ◌<◌, ◌≤◌, List, length, refl, sym, ◌∙◌, ap, ap₂, arith}
+use Rattle.std.proofs.Common.{◌≡◌, ℕ, zero, suc, ◌<◌, List, length, sym, ◌∙◌, ap₂, arith}
 use Rattle.theory.specs.Terms as tree
 use Rattle.term_pool.specs.declared.node.Node.{Node}
 use Rattle.term_pool.specs.declared.node.Node.TheVariants.{Var, Sort, Pi, Lam, App, Let, Const, Fam, Con, Elim, AxiomK}
@@ -45,11 +45,11 @@ module _ {I : Type 0} where
     unique (suc k) i j less il jl e =
         let f : I → tree.Term = λ p. tree_at place nodes (place p) in
         let known = parts-map (λ p. place p < i) (λ p. (q : I) → place q < length nodes → f p ≡ f q → p ≡ q) (node_at nodes i)
-            (λ p before q ql t. only p q (unique k (place p) (place q) (omega arith) (omega arith) ql t)) (o.each i) in
+        (λ p before q ql t. only p q (unique k (place p) (place q) (omega arith) (omega arith) ql t)) (o.each i) in
         let there = parts-map (λ p. place p < j) (λ p. place p < length nodes) (node_at nodes j) (λ p before. omega arith) (o.each j) in
         d.each i j il jl (
-          same-says f (λ p. place p < length nodes) (node_at nodes i) (node_at nodes j) known there
-          (sym (tree_at-says place nodes o i) ∙ (e ∙ tree_at-says place nodes o j))
+        same-says f (λ p. place p < length nodes) (node_at nodes i) (node_at nodes j) known there
+        (sym (tree_at-says place nodes o i) ∙ (e ∙ tree_at-says place nodes o j))
         )
 
     -- equal trees have equal places
@@ -62,5 +62,5 @@ module _ {I : Type 0} where
     same-node n i h il e =
         let f : I → tree.Term = λ p. tree_at place nodes (place p) in
         let known = parts-map (λ p. place p < i) (λ p. (q : I) → place q < length nodes → f p ≡ f q → p ≡ q) (node_at nodes i)
-            (λ p before q ql t. only p q (same-tree (place p) (place q) (omega arith) ql t)) (o.each i) in
+        (λ p before q ql t. only p q (same-tree (place p) (place q) (omega arith) ql t)) (o.each i) in
         same-says f (λ p. place p < length nodes) (node_at nodes i) n known h (sym (tree_at-says place nodes o i) ∙ e)

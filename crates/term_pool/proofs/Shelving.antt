@@ -1,17 +1,17 @@
 -- Trees of nodes in a list: they are what the nodes say, and adding nodes at the end or cutting them off changes no other tree.
-use Rattle.std.proofs.Common.{◌≡◌, ℕ, zero, suc, Bool, nat_lt, IsTrue, ◌+◌, ◌<◌, ◌≤◌, min, ◌⊎◌, inl, inr, List, [], ◌∷◌, ◌++◌, length, take, slice_get, Option, Some, None, refl, sym, ◌∙◌, ap, ap₂, subst, arith, add-one}
+use Rattle.std.proofs.Common.{◌≡◌, ℕ, zero, suc, Bool, nat_lt, IsTrue, ◌<◌, ◌≤◌, min, ◌⊎◌, inl, inr, List, [], ◌∷◌, ◌++◌, length, take, slice_get, Option, None, refl, sym, ◌∙◌, ap, ap₂, subst, arith}
 use Rattle.std.specs.Option.{unwrap_or}
 use Rattle.std.proofs.lemmas.Option.{slice_get_past}
 use Rattle.std.proofs.lemmas.List.{length_push, length-take}
 use Rattle.theory.proofs.Lists.{slice_get-append, slice_get-last}
 use Rattle.theory.specs.Terms as tree
 use Rattle.term_pool.specs.declared.node.Node.{Node}
-use Rattle.term_pool.specs.declared.node.Node.TheVariants.{Var, Sort, Pi, Lam, App, Let, Const, Fam, Con, Elim, AxiomK}
+use Rattle.term_pool.specs.declared.node.Node.TheVariants.{Var, Sort, Pi, Lam, App, Let}
 use Rattle.term_pool.specs.declared.facts.Facts.{Facts}
 use Rattle.std.proofs.lemmas.Bool.Decides.{nat_tests}
 use Rattle.term_pool.specs.declared.row.Key.{Key}
 use Rattle.term_pool.specs.declared.row.Row.{Row}
-use Rattle.term_pool.specs.Held.{Held, Extends, AddsParts}
+use Rattle.term_pool.specs.Held.{Extends, AddsParts}
 use Rattle.term_pool.specs.Nodes.{says, AllParts, AllPass}
 use Rattle.term_pool.specs.Parts.{IsPart}
 use Rattle.term_pool.specs.NodeFacts.{node_facts, AreLow}
@@ -23,8 +23,8 @@ tri zero (suc n) = inl (omega arith)
 tri (suc i) zero = inr (inr (omega arith))
 tri (suc i) (suc n) =
     elim (tri i n) [
-      inl l ↦ inl (omega (arith, l)) |
-      inr r ↦ elim r [ inl e ↦ inr (inl (ap suc e)) | inr g ↦ inr (inr (omega (arith, g))) ]
+      | inl l ↦ inl (omega (arith, l))
+      | inr r ↦ elim r [ inl e ↦ inr (inl (ap suc e)) | inr g ↦ inr (inr (omega (arith, g))) ]
     ]
 
 from_there : (i n : ℕ) → (i ≡ n) ⊎ (n < i) → n ≤ i
@@ -151,16 +151,16 @@ module _ {I : Type 0} where
     order-push nodes n o h =
         record {
           each = λ i. elim (tri i (length nodes)) [
-            inl l ↦ subst (AllParts (λ p. place p < i)) (sym (at-append (Sort 0) nodes (n ∷ []) i l)) (o.each i) |
-            inr r ↦ elim r [
-              inl e ↦
-                subst (AllParts (λ p. place p < i)) (sym (at-last (Sort 0) nodes n i e))
-                (subst (λ j. AllParts (λ p. place p < j) n) (sym e) h) |
-              inr g ↦
-                subst (AllParts (λ p. place p < i))
-                (sym (at-past (Sort 0) (nodes ++ n ∷ []) i (omega (arith, length_push nodes n)))) tt
+            | inl l ↦ subst (AllParts (λ p. place p < i)) (sym (at-append (Sort 0) nodes (n ∷ []) i l)) (o.each i)
+            | inr r ↦ elim r [
+              | inl e ↦
+                  subst (AllParts (λ p. place p < i)) (sym (at-last (Sort 0) nodes n i e))
+                  (subst (λ j. AllParts (λ p. place p < j) n) (sym e) h)
+              | inr g ↦
+                  subst (AllParts (λ p. place p < i))
+                  (sym (at-past (Sort 0) (nodes ++ n ∷ []) i (omega (arith, length_push nodes n)))) tt
             ]
-          ]
+          ];
         }
 
     pub tree_at-push : (nodes : List (Node I)) (n : Node I) → AreInOrder place nodes → (i : ℕ) → i < length nodes
@@ -187,22 +187,25 @@ module _ {I : Type 0} where
         let o = order-push nodes n s.order h in
         let none : facts_of (tree.Sort 0) ≡ record { height = 1; bound = 0 } = refl in
         let each : (i : ℕ) → (tree.height (tree_at place nodes' i) ≤ 2000) × (fact_at facts' i ≡ facts_of (tree_at place nodes' i))
-            = λ i. elim (tri i (length nodes)) [
-              inl l ↦
-                (let same = tree_at-push nodes n s.order i l in
-                (subst (λ t. tree.height t ≤ 2000) (sym same) (s.low i),
-                at-append (record { height = 1; bound = 0 }) facts (f ∷ []) i (omega (arith, s.lengths)) ∙ (s.kept i ∙ ap facts_of (sym same)))) |
-              inr r ↦ elim r [
-                inl e ↦
-                  (let same = tree_at-pushed nodes n s.order h i e in
-                  (subst (λ t. tree.height t ≤ 2000) (sym same) (subst (λ (g : Facts). g.height ≤ 2000) is low),
-                  at-last (record { height = 1; bound = 0 }) facts f i (e ∙ sym s.lengths) ∙ (is ∙ ap facts_of (sym same)))) |
-                inr g ↦
-                  (let same = tree_at-past nodes' o i (omega (arith, length_push nodes n)) in
-                  (subst (λ t. tree.height t ≤ 2000) (sym same) (omega arith),
-                  at-past (record { height = 1; bound = 0 }) facts' i (omega (arith, length_push facts f, s.lengths)) ∙ ap facts_of (sym same)))
-              ]
-            ] in
+        = λ i. elim (tri i (length nodes)) [
+          | inl l ↦
+              (let same = tree_at-push nodes n s.order i l in (
+                subst (λ t. tree.height t ≤ 2000) (sym same) (s.low i),
+                at-append (record { height = 1; bound = 0 }) facts (f ∷ []) i (omega (arith, s.lengths)) ∙ (s.kept i ∙ ap facts_of (sym same)),
+              ))
+          | inr r ↦ elim r [
+            | inl e ↦
+                (let same = tree_at-pushed nodes n s.order h i e in (
+                  subst (λ t. tree.height t ≤ 2000) (sym same) (subst (λ (g : Facts). g.height ≤ 2000) is low),
+                  at-last (record { height = 1; bound = 0 }) facts f i (e ∙ sym s.lengths) ∙ (is ∙ ap facts_of (sym same)),
+                ))
+            | inr g ↦
+                (let same = tree_at-past nodes' o i (omega (arith, length_push nodes n)) in (
+                  subst (λ t. tree.height t ≤ 2000) (sym same) (omega arith),
+                  at-past (record { height = 1; bound = 0 }) facts' i (omega (arith, length_push facts f, s.lengths)) ∙ ap facts_of (sym same),
+                ))
+          ]
+        ] in
         record {
           order = o;
           low = λ i. (each i).0;
@@ -214,9 +217,9 @@ module _ {I : Type 0} where
     order-take nodes m o =
         record {
           each = λ i. elim (tri i m) [
-            inl l ↦ subst (AllParts (λ p. place p < i)) (sym (at-take (Sort 0) m nodes i l)) (o.each i) |
-            inr r ↦ subst (AllParts (λ p. place p < i)) (sym (at-cut (Sort 0) m nodes i (from_there i m r))) tt
-          ]
+            | inl l ↦ subst (AllParts (λ p. place p < i)) (sym (at-take (Sort 0) m nodes i l)) (o.each i)
+            | inr r ↦ subst (AllParts (λ p. place p < i)) (sym (at-cut (Sort 0) m nodes i (from_there i m r))) tt
+          ];
         }
 
     pub tree_at-take : (nodes : List (Node I)) (m : ℕ) → AreInOrder place nodes → (i : ℕ) → i < m → tree_at place (take m nodes) i ≡ tree_at place nodes i
@@ -228,17 +231,19 @@ module _ {I : Type 0} where
     shelved-take nodes facts m s =
         let o = order-take nodes m s.order in
         let each : (i : ℕ) → (tree.height (tree_at place (take m nodes) i) ≤ 2000) × (fact_at (take m facts) i ≡ facts_of (tree_at place (take m nodes) i))
-            = λ i. elim (tri i m) [
-              inl l ↦
-                (let same = tree_at-take nodes m s.order i l in
-                (subst (λ t. tree.height t ≤ 2000) (sym same) (s.low i),
-                at-take (record { height = 1; bound = 0 }) m facts i l ∙ (s.kept i ∙ ap facts_of (sym same)))) |
-              inr r ↦
-                (let behind = from_there i m r in
-                let same = tree_at-cut (take m nodes) o i (at-cut (Sort 0) m nodes i behind) in
-                (subst (λ t. tree.height t ≤ 2000) (sym same) (omega arith),
-                at-cut (record { height = 1; bound = 0 }) m facts i behind ∙ ap facts_of (sym same)))
-            ] in
+        = λ i. elim (tri i m) [
+          | inl l ↦
+              (let same = tree_at-take nodes m s.order i l in (
+                subst (λ t. tree.height t ≤ 2000) (sym same) (s.low i),
+                at-take (record { height = 1; bound = 0 }) m facts i l ∙ (s.kept i ∙ ap facts_of (sym same)),
+              ))
+          | inr r ↦
+              (let behind = from_there i m r in
+              let same = tree_at-cut (take m nodes) o i (at-cut (Sort 0) m nodes i behind) in (
+                subst (λ t. tree.height t ≤ 2000) (sym same) (omega arith),
+                at-cut (record { height = 1; bound = 0 }) m facts i behind ∙ ap facts_of (sym same),
+              ))
+        ] in
         record {
           order = o;
           low = λ i. (each i).0;
@@ -269,10 +274,11 @@ module _ {I : Type 0} where
           → IsTrue (nat_lt (place id) (length (nodes ++ n ∷ [])))
           × (tree_at place (nodes ++ n ∷ []) (place id) ≡ says (λ p. tree_at place nodes (place p)) n)
           × (tree.height (says (λ p. tree_at place nodes (place p)) n) ≤ 2000)
-      makes-push id e low =
-          (is_below (place id) (length (nodes ++ n ∷ [])) (omega (arith, e, length_push nodes n)),
-          tree_at-pushed nodes n o parts-below (place id) e,
-          low)
+      makes-push id e low = (
+        is_below (place id) (length (nodes ++ n ∷ [])) (omega (arith, e, length_push nodes n)),
+        tree_at-pushed nodes n o parts-below (place id) e,
+        low,
+      )
 
       module _ (full full' keeps : Bool) (told missed : ℕ) (rows : ℕ → Key I → Option (Row I)) where
         -- a node that is added leaves the others as they are
@@ -292,10 +298,10 @@ module _ {I : Type 0} where
         adds-push =
             record {
               each = λ id l. elim (tri (place id) (length nodes)) [
-                inl less ↦ inl (is_below (place id) (length nodes) less) |
-                inr r ↦ elim r [
-                  inl e ↦ inr (subst (λ t. IsPart t (says (λ p. tree_at place nodes (place p)) n)) (sym (tree_at-pushed nodes n o parts-below (place id) e)) (part-self _)) |
-                  inr g ↦ (let less = below (place id) (length (nodes ++ n ∷ [])) l in absurd (omega (arith, less, g, length_push nodes n)))
+                | inl less ↦ inl (is_below (place id) (length nodes) less)
+                | inr r ↦ elim r [
+                  | inl e ↦ inr (subst (λ t. IsPart t (says (λ p. tree_at place nodes (place p)) n)) (sym (tree_at-pushed nodes n o parts-below (place id) e)) (part-self _))
+                  | inr g ↦ (let less = below (place id) (length (nodes ++ n ∷ [])) l in absurd (omega (arith, less, g, length_push nodes n)))
                 ]
               ];
             }

@@ -1,5 +1,5 @@
 -- Tables of answers: a row that is added, and rows that go on to serve.
-use Rattle.std.proofs.Common.{◌≡◌, ℕ, zero, suc, ◌<◌, ◌≤◌, Bool, true, false, if◌then◌else◌, List, [], ◌∷◌, length, slice_index_or, IsTrue, ◌⊎◌, inl, inr, Ok, refl, sym, ◌∙◌, ap, subst, arith}
+use Rattle.std.proofs.Common.{◌≡◌, ℕ, zero, suc, ◌<◌, ◌≤◌, Bool, true, false, if◌then◌else◌, List, [], ◌∷◌, length, slice_index_or, IsTrue, ◌⊎◌, inl, inr, Ok, sym, ◌∙◌, ap, subst, arith}
 use Rattle.std.specs.List.{IsAmong}
 use Rattle.std.specs.Map.{values_of}
 use Rattle.theory.specs.Terms.{Term, height}
@@ -29,8 +29,8 @@ module _ {X : Type 0} where
       go true rest h = elim (first_or_later (values_of es) x v h) [ inl is ↦ inl is | inr r ↦ inr (later (values_of es) e.1 v r) ]
       go false rest h =
           elim (first_or_later (values_of (insert_entry eq es k x)) e.1 v h) [
-            inl is ↦ inr (0, (omega arith, is)) |
-            inr r ↦ elim (rest r) [ inl is ↦ inl is | inr r ↦ inr (later (values_of es) e.1 v r) ]
+            | inl is ↦ inr (0, (omega arith, is))
+            | inr r ↦ elim (rest r) [ inl is ↦ inl is | inr r ↦ inr (later (values_of es) e.1 v r) ]
           ]
 
 module _ {I : Type 0} where
@@ -50,10 +50,11 @@ module _ {I : Type 0} where
   serves-answer meant held rows t answer depth s a =
       let at = s.each a.row a.among in
       let from : meant (held.tree a.row.from) a.row.depth ≡ meant (held.tree t) depth
-          = (λ i. meant (a.from i) (a.depth_is i)) in
-      (subst (λ id. IsTrue (held.live id)) a.answer_is at.answers,
-       sym (ap held.tree a.answer_is) ∙ at.tree ∙ from,
-       subst (λ m. height m ≤ 2000) from at.low)
+      = (λ i. meant (a.from i) (a.depth_is i)) in (
+        subst (λ id. IsTrue (held.live id)) a.answer_is at.answers,
+        sym (ap held.tree a.answer_is) ∙ at.tree ∙ from,
+        subst (λ m. height m ≤ 2000) from at.low,
+      )
 
   -- the table serves with the answer that was made for a tree
   pub serves-noted : (meant : Term → ℕ → Term) (old new : Held I) (rows rows' : List (Shift I)) (t answer : I) (depth : ℕ)
@@ -62,17 +63,17 @@ module _ {I : Type 0} where
   serves-noted meant old new rows rows' t answer depth s e live made w =
       let kept = e.trees t live in
       let here : ServesAt meant new (record { from = t; depth = depth; answer = answer })
-          = record {
-            live = e.lives t live;
-            answers = made.0;
-            tree = made.1 ∙ sym (ap (λ u. meant u depth) kept);
-            low = subst (λ u. height (meant u depth) ≤ 2000) (sym kept) made.2;
-          } in
+      = record {
+        live = e.lives t live;
+        answers = made.0;
+        tree = made.1 ∙ sym (ap (λ u. meant u depth) kept);
+        low = subst (λ u. height (meant u depth) ≤ 2000) (sym kept) made.2;
+      } in
       record {
         each = λ row h. elim (w.each row h) [
-          inl is ↦ subst (ServesAt meant new) (sym is) here |
-          inr old ↦ s.each row old
-        ]
+          | inl is ↦ subst (ServesAt meant new) (sym is) here
+          | inr old ↦ s.each row old
+        ];
       }
 
 pub ruleset table_laws = (with-insert)

@@ -1,5 +1,5 @@
 -- What a store holds, and how a call changes it.
-use Rattle.std.specs.Prelude.{◌≡◌, ◌≢◌, ℕ, ◌<◌, ◌≤◌, ◌+◌, Bool, true, false, nat_le, if◌then◌else◌, IsTrue, ◌⊎◌, Option, None, Some, Result, Ok, Err, IfErr}
+use Rattle.std.specs.Prelude.{◌≡◌, ◌≢◌, ℕ, ◌<◌, ◌≤◌, ◌+◌, Bool, false, nat_le, if◌then◌else◌, IsTrue, ◌⊎◌, Option, None, Some, Result, Ok, Err, IfErr}
 use Rattle.theory.specs.Terms.{Term, height}
 use Rattle.core_terms.specs.Answers.{Unless}
 use Rattle.core_terms.specs.Count.{Rose}

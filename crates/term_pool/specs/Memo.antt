@@ -1,5 +1,5 @@
 -- Rows that are kept, each for a length of the signature and a key.
-use Rattle.std.specs.Prelude.{ℕ, Bool, true, false, not, ◌==◌, ◌&&◌, cond, nat_lt, nat_le, List, Option}
+use Rattle.std.specs.Prelude.{ℕ, Bool, true, false, not, ◌==◌, ◌&&◌, cond, nat_lt, List, Option}
 use Rattle.std.specs.Map.{lookup}
 use Rattle.term_pool.specs.declared.ids.Id.{Id}
 use Rattle.term_pool.specs.declared.row.Key.{Key}

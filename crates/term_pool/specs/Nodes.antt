@@ -1,5 +1,5 @@
 -- What a node says: its tree, where its parts are ids that stand for trees.
-use Rattle.std.specs.Prelude.{ℕ, Bool, IsTrue}
+use Rattle.std.specs.Prelude.{Bool, IsTrue}
 use Rattle.theory.specs.Terms as tree
 use Rattle.term_pool.specs.declared.node.Node.{Node}
 use Rattle.term_pool.specs.declared.node.Node.TheVariants.{Var, Sort, Pi, Lam, App, Let, Const, Fam, Con, Elim, AxiomK}

@@ -1,6 +1,6 @@
 -- The parts of a tree.
 use Rattle.std.specs.Prelude.{◌≡◌, ◌⊎◌}
-use Rattle.theory.specs.Terms.{Term, Var, Sort, Pi, Lam, App, Let, Const, Fam, Con, Elim, AxiomK}
+use Rattle.theory.specs.Terms.{Term, Pi, Lam, App, Let}
 
 -- `s` is the tree itself, or a part of one of its parts
 abbrev pub IsPart : Term → Term → Type 0

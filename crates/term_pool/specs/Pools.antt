@@ -1,5 +1,5 @@
 -- What a pool holds.
-use Rattle.std.specs.Prelude.{◌≡◌, ℕ, ◌<◌, ◌≤◌, Bool, true, nat_le, List, length}
+use Rattle.std.specs.Prelude.{◌≡◌, ℕ, ◌<◌, ◌≤◌, true, nat_le, List, length}
 use Rattle.term_pool.specs.Held.{Held}
 use Rattle.term_pool.specs.Memo.{Rows, row_at}
 use Rattle.term_pool.specs.Shelves.{node_at, shelf_held, AreInOrder, AreShelved}

@@ -24,6 +24,3 @@ pub use store::TermStore;
 pub use substitution::subst_in;
 pub use terms::{export_in, import_in};
 pub use trees::Trees;
-
-#[cfg(test)]
-mod tests;

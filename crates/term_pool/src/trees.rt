@@ -106,8 +106,7 @@ impl TermStore for Trees {
     fn note(&mut self, key: Key<TreeId>, row: Row<TreeId>)
         ensures notes { Notes (trees_held self.old) (trees_held self.new) key row }
         ensures keeps { Keeps (trees_held self.old) (trees_held self.new) }
-    {
-    }
+    {}
 
     fn at_length(&mut self, len: u32) {
         self.told = len;
@@ -122,7 +121,10 @@ fn same_trees(nodes: &[Node<TreeId>], facts: &[Facts], a: TreeId, b: TreeId) -> 
     if a.at == b.at {
         return true;
     }
-    match (shelved_node(nodes, facts, a.at), shelved_node(nodes, facts, b.at)) {
+    match (
+        shelved_node(nodes, facts, a.at),
+        shelved_node(nodes, facts, b.at),
+    ) {
         (Node::Var(n), Node::Var(m)) => n == m,
         (Node::Sort(i), Node::Sort(j)) => i == j,
         (Node::Pi(a, b), Node::Pi(c, d)) => {

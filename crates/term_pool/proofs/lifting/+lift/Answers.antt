@@ -1,5 +1,5 @@
 use Rattle.std.proofs.Common.{◌≤◌, subst, sym}
-use Rattle.theory.specs.Terms.{Term, height}
+use Rattle.theory.specs.Terms.{height}
 use Rattle.theory.proofs.FreeVariables.{lift_of_scoped}
 use Rattle.term_pool.specs.Lifting.{Lifts}
 use Rattle.term_pool.proofs.Tables.{serves-noted}

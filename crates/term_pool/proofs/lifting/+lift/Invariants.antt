@@ -1,4 +1,4 @@
-use Rattle.std.proofs.Common.{ℕ, ◌+◌, ◌*◌}
+use Rattle.std.proofs.Common.{◌+◌, ◌*◌}
 use Rattle.theory.specs.Terms.{height}
 use Rattle.term_pool.proofs.lifting.+lift.Given as goal
 

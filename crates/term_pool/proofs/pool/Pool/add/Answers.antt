@@ -1,5 +1,4 @@
-use Rattle.std.proofs.Common.{rules, ◌≡◌, ◌≤◌, ◌<◌, [], ◌∷◌, ◌++◌, length, nat_le, false, subst, sym, ap, ◌∙◌, arith}
-use Rattle.std.proofs.lemmas.Bool.Decides.{nat_tests}
+use Rattle.std.proofs.Common.{rules, ◌≡◌, ◌≤◌, [], ◌∷◌, ◌++◌, length, nat_le, false, subst, sym, ◌∙◌}
 use Rattle.term_pool.specs.Held.{IsNew}
 use Rattle.term_pool.specs.Nodes.{AllPass, says}
 use Rattle.term_pool.specs.Pools.{pool_held, id_place}
@@ -28,11 +27,11 @@ invariant_of-self-2 c =
     let nodes = new-key _ (Sort 0) p.nodes.keys c.args.node c.insert.new.self.keys c.in_ok-insert.ensures.keys nowhere (λ y e. search rules) in
     let facts : c.push.new.self.items ≡ p.facts.items ++ c.facts_of-facts.result ∷ [] = search rules in
     let full : nat_le p.cap (length p.nodes.keys) ≡ false
-        = subst (λ s. (pool_held s).full ≡ false) (sym c.self.view_is) (sym c.is_full.ensures ∙ c.if-is_full.false) in
+    = subst (λ s. (pool_held s).full ≡ false) (sym c.self.view_is) (sym c.is_full.ensures ∙ c.if-is_full.false) in
     let made = subst (λ s. c.facts_of-facts.result ≡ facts_of (says (pool_held s).tree c.args.node)) (sym c.self.view_is) c.facts_of-facts.ensures in
     rw (nodes, facts) (
-      pool-push p.nodes.keys p.facts.items p.cap c.self.invariant c.args.node parts c.facts_of-facts.result nowhere
-      (has_room p.cap (length p.nodes.keys) full) made c.if-facts-gt-MAX_HEIGHT.false
+    pool-push p.nodes.keys p.facts.items p.cap c.self.invariant c.args.node parts c.facts_of-facts.result nowhere
+    (has_room p.cap (length p.nodes.keys) full) made c.if-facts-gt-MAX_HEIGHT.false
     )
 
 pub returns-clause-makes : goal.returns-clause-makes
@@ -46,7 +45,7 @@ returns-clause-makes c =
     let made = subst (λ s. c.facts_of-facts.result ≡ facts_of (says (pool_held s).tree c.args.node)) (sym c.self.view_is) c.facts_of-facts.ensures in
     let low = subst (λ (f : Facts). f.height ≤ 2000) made c.if-facts-gt-MAX_HEIGHT.false in
     rw (nodes, ← c.self.view_is) (
-      makes-push id_place p.nodes.keys c.args.node c.self.invariant.shelved.order parts (record { at = c.len-at.result }) at low
+    makes-push id_place p.nodes.keys c.args.node c.self.invariant.shelved.order parts (record { at = c.len-at.result }) at low
     )
 
 pub returns-clause-extends : goal.returns-clause-extends
@@ -57,7 +56,7 @@ returns-clause-extends c =
     let nowhere = new-node p.nodes.keys p.facts.items p.cap c.self.invariant c.args.node parts new in
     let nodes = new-key _ (Sort 0) p.nodes.keys c.args.node c.insert.new.self.keys c.in_ok-insert.ensures.keys nowhere (λ y e. search rules) in
     rw (nodes, ← c.self.view_is) (
-      extends-push id_place p.nodes.keys c.args.node c.self.invariant.shelved.order parts _ _ _ _ _ _
+    extends-push id_place p.nodes.keys c.args.node c.self.invariant.shelved.order parts _ _ _ _ _ _
     )
 
 pub returns-clause-adds : goal.returns-clause-adds
@@ -68,5 +67,5 @@ returns-clause-adds c =
     let nowhere = new-node p.nodes.keys p.facts.items p.cap c.self.invariant c.args.node parts new in
     let nodes = new-key _ (Sort 0) p.nodes.keys c.args.node c.insert.new.self.keys c.in_ok-insert.ensures.keys nowhere (λ y e. search rules) in
     rw (nodes, ← c.self.view_is) (
-      adds-push id_place p.nodes.keys c.args.node c.self.invariant.shelved.order parts _ _ _ _ _ _
+    adds-push id_place p.nodes.keys c.args.node c.self.invariant.shelved.order parts _ _ _ _ _ _
     )

@@ -1,4 +1,4 @@
-use Rattle.std.proofs.Common.{◌≡◌, Ok, subst, sym}
+use Rattle.std.proofs.Common.{Ok, subst, sym}
 use Rattle.term_pool.specs.Held.{Makes, IsNew}
 use Rattle.term_pool.specs.Nodes.{AllPass, says}
 use Rattle.term_pool.specs.Pools.{pool_held}
@@ -11,7 +11,7 @@ returns-in_err-at-clause-absent c =
     let parts = subst (λ s. AllPass (pool_held s).live c.args.node.now) (sym c.self.view_is) c.requires in
     let new = new-tree p.nodes.keys p.facts.items p.cap c.self.invariant c.args.node.now parts c.in_err-at.ensures.absent in
     rw c.from_residual.ensures (
-      subst (λ s. IsNew (pool_held s) (says (pool_held s).tree c.args.node.now)) c.self.view_is new
+    subst (λ s. IsNew (pool_held s) (says (pool_held s).tree c.args.node.now)) c.self.view_is new
     )
 
 pub returns-clause-found : goal.returns-clause-found

@@ -1,4 +1,4 @@
-use Rattle.std.proofs.Common.{◌≡◌, take, ap, sym, subst, ◌∙◌}
+use Rattle.std.proofs.Common.{take, ap, subst, ◌∙◌}
 use Rattle.term_pool.specs.Pools.{IsWhole}
 use Rattle.term_pool.proofs.Pooling.{pool-take}
 use Rattle.term_pool.proofs.Regions.{nodes-stay}
@@ -7,7 +7,7 @@ use Rattle.term_pool.proofs.pool.Pool.release.Goals as goal
 pub invariant_of-self : goal.invariant_of-self
 invariant_of-self c =
     rw (c.truncate.ensures.keys, c.truncate-2.ensures.items) (
-      pool-take c.self.inside.nodes.keys c.self.inside.facts.items c.self.inside.cap c.args.mark.len c.self.invariant
+    pool-take c.self.inside.nodes.keys c.self.inside.facts.items c.self.inside.cap c.args.mark.len c.self.invariant
     )
 
 pub returns-clause-back : goal.returns-clause-back

@@ -1,4 +1,4 @@
-use Rattle.std.proofs.Common.{◌≡◌, None, nat_le, if◌then◌else◌, refl, ap, sym, ◌∙◌}
+use Rattle.std.proofs.Common.{None, nat_le, if◌then◌else◌, refl, ap, ◌∙◌}
 use Rattle.term_pool.specs.Memo.{row_at}
 use Rattle.term_pool.proofs.Memos.{rows-cut}
 use Rattle.term_pool.proofs.pool.PoolTermStore.at_length.Goals as goal

@@ -12,14 +12,16 @@ pub returns-clause-trees : goal.returns-clause-trees
 returns-clause-trees c =
     let nodes = c.args.self.now.nodes in
     let order = subst (λ p. AreInOrder id_place p.nodes) c.self.view_is c.self.invariant.shelved.order in
-    let distinct = subst (λ p. AreDistinct p.nodes) c.self.view_is c.self.invariant.distinct in
-    (λ is. ap (tree_at id_place nodes) (same_number c.args.a.now.at c.args.b.now.at is),
-    λ e. is_same_number c.args.a.now.at c.args.b.now.at (
-      same-tree id_place only nodes order distinct c.args.a.now.at c.args.b.now.at
-      (below c.args.a.now.at (length nodes) c.requires.a) (below c.args.b.now.at (length nodes) c.requires.b) e
-    ))
+    let distinct = subst (λ p. AreDistinct p.nodes) c.self.view_is c.self.invariant.distinct in (
+      λ is. ap (tree_at id_place nodes) (same_number c.args.a.now.at c.args.b.now.at is),
+      λ e. is_same_number c.args.a.now.at c.args.b.now.at (
+          same-tree id_place only nodes order distinct c.args.a.now.at c.args.b.now.at
+          (below c.args.a.now.at (length nodes) c.requires.a) (below c.args.b.now.at (length nodes) c.requires.b) e
+          ),
+    )
 
 pub returns-clause-ids : goal.returns-clause-ids
-returns-clause-ids c =
-    (λ is. only c.args.a.now c.args.b.now (same_number c.args.a.now.at c.args.b.now.at is),
-    λ e. is_same_number c.args.a.now.at c.args.b.now.at (ap (λ (p : Id). p.at) e))
+returns-clause-ids c = (
+  λ is. only c.args.a.now c.args.b.now (same_number c.args.a.now.at c.args.b.now.at is),
+  λ e. is_same_number c.args.a.now.at c.args.b.now.at (ap (λ (p : Id). p.at) e),
+)

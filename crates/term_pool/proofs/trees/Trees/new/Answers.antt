@@ -1,6 +1,4 @@
-use Rattle.std.proofs.Common.{◌≡◌, [], refl, sym, subst}
 use Rattle.term_pool.proofs.Shelving.{shelved-none}
-use Rattle.term_pool.specs.Shelves.{AreShelved}
 use Rattle.term_pool.specs.Trees.{tree_place}
 use Rattle.term_pool.proofs.trees.Trees.new.Goals as goal
 

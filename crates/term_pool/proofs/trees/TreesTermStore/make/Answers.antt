@@ -1,7 +1,6 @@
-use Rattle.std.proofs.Common.{rules, ◌≡◌, ◌≤◌, [], ◌∷◌, ◌++◌, length, subst, sym, ap, ◌∙◌}
-use Rattle.theory.specs.Terms.{height}
+use Rattle.std.proofs.Common.{rules, ◌≡◌, ◌≤◌, [], ◌∷◌, ◌++◌, length, subst, sym}
 use Rattle.term_pool.specs.Nodes.{AllPass, says}
-use Rattle.term_pool.specs.Shelves.{AreInOrder, AreShelved, facts_of, tree_at}
+use Rattle.term_pool.specs.Shelves.{facts_of}
 use Rattle.term_pool.specs.Trees.{tree_place, trees_held}
 use Rattle.term_pool.specs.declared.facts.Facts.{Facts}
 use Rattle.term_pool.proofs.Shelving.{shelved-push, parts-below, makes-push, extends-push, adds-push}
@@ -14,8 +13,8 @@ invariant_of-self-2 c =
     let parts = subst (λ s. AllPass (trees_held s).live c.args.node) (sym c.self.view_is) c.requires in
     let made = subst (λ s. c.facts_of-facts.result ≡ facts_of (says (trees_held s).tree c.args.node)) (sym c.self.view_is) c.facts_of-facts.ensures in
     rw (nodes, facts) (
-      shelved-push tree_place c.self.inside.nodes.items c.self.inside.facts.items c.args.node c.facts_of-facts.result c.self.invariant
-      (parts-below tree_place c.self.inside.nodes.items c.args.node c.self.invariant.order parts) made c.if-facts-gt-MAX_HEIGHT.false
+    shelved-push tree_place c.self.inside.nodes.items c.self.inside.facts.items c.args.node c.facts_of-facts.result c.self.invariant
+    (parts-below tree_place c.self.inside.nodes.items c.args.node c.self.invariant.order parts) made c.if-facts-gt-MAX_HEIGHT.false
     )
 
 pub returns-clause-makes : goal.returns-clause-makes
@@ -26,7 +25,7 @@ returns-clause-makes c =
     let made = subst (λ s. c.facts_of-facts.result ≡ facts_of (says (trees_held s).tree c.args.node)) (sym c.self.view_is) c.facts_of-facts.ensures in
     let low = subst (λ (f : Facts). f.height ≤ 2000) made c.if-facts-gt-MAX_HEIGHT.false in
     rw (nodes, ← c.self.view_is) (
-      makes-push tree_place c.self.inside.nodes.items c.args.node c.self.invariant.order parts (record { at = c.in_ok-at.at }) at low
+    makes-push tree_place c.self.inside.nodes.items c.args.node c.self.invariant.order parts (record { at = c.in_ok-at.at }) at low
     )
 
 pub returns-clause-extends : goal.returns-clause-extends
@@ -34,7 +33,7 @@ returns-clause-extends c =
     let nodes : c.push.new.self.items ≡ c.self.inside.nodes.items ++ c.args.node ∷ [] = search rules in
     let parts = subst (λ s. AllPass (trees_held s).live c.args.node) (sym c.self.view_is) c.requires in
     rw (nodes, ← c.self.view_is) (
-      extends-push tree_place c.self.inside.nodes.items c.args.node c.self.invariant.order parts _ _ _ _ _ _
+    extends-push tree_place c.self.inside.nodes.items c.args.node c.self.invariant.order parts _ _ _ _ _ _
     )
 
 pub returns-clause-adds : goal.returns-clause-adds
@@ -42,5 +41,5 @@ returns-clause-adds c =
     let nodes : c.push.new.self.items ≡ c.self.inside.nodes.items ++ c.args.node ∷ [] = search rules in
     let parts = subst (λ s. AllPass (trees_held s).live c.args.node) (sym c.self.view_is) c.requires in
     rw (nodes, ← c.self.view_is) (
-      adds-push tree_place c.self.inside.nodes.items c.args.node c.self.invariant.order parts _ _ _ _ _ _
+    adds-push tree_place c.self.inside.nodes.items c.args.node c.self.invariant.order parts _ _ _ _ _ _
     )

@@ -1,7 +1,0 @@
-use Rattle.std.proofs.Common.{IsTrue}
-use Rattle.term_pool.specs.Held.{Extends}
-use Rattle.term_pool.specs.Pools.{pool_held}
-use Rattle.term_pool.proofs.tests.tower.Given as goal
-
-abbrev pub invariant-loop : goal.invariant-loop
-invariant-loop l = IsTrue ((pool_held l.pool).live l.top)
