@@ -1,13 +1,14 @@
 -- Rows by their keys.
-use Rattle.std.proofs.Common.{◌≡◌, ℕ, List, [], ◌∷◌, Bool, true, false, cond, not, nat_le, if◌then◌else◌, ◌==◌, ◌&&◌, filter, Option, None, Result, Ok, Err, OnOk, OnErr, Some, refl, sym, subst, ◌∙◌, true≢false, arith}
+use Rattle.std.proofs.Common.{◌≡◌, ℕ, List, [], ◌∷◌, Bool, true, false, cond, not, nat_le, if◌then◌else◌, ◌==◌, ◌&&◌, filter, Option, None, Result, Ok, Err, OnOk, OnErr, Some, refl, ap, sym, subst, ◌∙◌, true≢false, arith}
 use Rattle.std.proofs.lemmas.Bool.Decides.{nat_tests}
 use Rattle.term_pool.specs.declared.ids.Id.{Id}
 use Rattle.term_pool.specs.declared.row.Key.{Key}
 use Rattle.term_pool.specs.declared.row.Key.TheVariants.{Whnf, Convertible, Subtype}
 use Rattle.indexmap.specs.IndexMap.{IndexMap, Updates}
-use Rattle.std.specs.Map.{lookup}
+use Rattle.std.specs.Map.{lookup, keys_of}
+use Rattle.std.specs.List.{AllByRecursion, IsDistinct}
 use Rattle.term_pool.specs.declared.row.Row.{Row}
-use Rattle.term_pool.specs.Memo.{Rows, is_key, row_at}
+use Rattle.term_pool.specs.Memo.{Rows, is_key, row_at, is_row_below, if_below}
 
 pub either : {A E : Type 0} (r : Result A E) (P Q R : Type 0) → OnOk r P → OnErr r Q → (P → R) → (Q → R) → R
 either (Ok a) P Q R p q f g = f p
@@ -105,3 +106,50 @@ rows-cut len (e ∷ rows) n k = go (nat_le e.0.0 len) refl (rows-cut len rows n 
     go false h rest =
         cut_dropped ((n == e.0.0) && is_key k e.0.1) (nat_le n len) (Some e.1) (row_at (filter (λ f. nat_le f.0.0 len) rows) n k) (row_at rows n k)
         (length_is false h) rest
+
+-- no row is found where no key passes, whatever rows are left out
+absent : {K X : Type 0} (test : K → Bool) (keep : K × X → Bool) (es : List (K × X)) → AllByRecursion (λ q. test q ≡ false) (keys_of es)
+    → lookup test (filter keep es) ≡ None
+absent test keep [] h = refl
+absent {K} {X} test keep (e ∷ es) h = go (keep e) (absent test keep es h.1)
+  where
+    go : (a : Bool) → lookup test (filter keep es) ≡ None → lookup test (if a then e ∷ filter keep es else filter keep es) ≡ None
+    go true rest = ap (λ b. cond b (Some e.1) (lookup test (filter keep es))) h.0 ∙ rest
+    go false rest = rest
+
+apart_from : (eq : ℕ × Key Id → ℕ × Key Id → Bool) → ((x y : ℕ × Key Id) → eq x y ≡ ((x.0 == y.0) && is_key x.1 y.1))
+    → (x : ℕ × Key Id) (ys : List (ℕ × Key Id)) → AllByRecursion (λ y. eq x y ≡ false) ys
+    → AllByRecursion (λ y. ((x.0 == y.0) && is_key x.1 y.1) ≡ false) ys
+apart_from eq same x [] h = tt
+apart_from eq same x (y ∷ ys) h = (sym (same x y) ∙ h.0, apart_from eq same x ys h.1)
+
+-- where no two keys are equal, the rows that are left are found as before
+pub rows-below : (eq : ℕ × Key Id → ℕ × Key Id → Bool) (count : ℕ) (rows : Rows) → ((x y : ℕ × Key Id) → eq x y ≡ ((x.0 == y.0) && is_key x.1 y.1))
+    → IsDistinct eq (keys_of rows) → (n : ℕ) (k : Key Id)
+    → row_at (filter (is_row_below count) rows) n k ≡ if_below count n k (row_at rows n k)
+unfolding IsDistinct
+rows-below eq count [] same d n k = refl
+rows-below eq count (e ∷ rows) same d n k =
+    go ((n == e.0.0) && is_key k e.0.1) refl (is_row_below count e) refl (rows-below eq count rows same d.1 n k)
+  where
+    key_is : ((n == e.0.0) && is_key k e.0.1) ≡ true → e.0 ≡ (n, k)
+    key_is t =
+        let parts = both (n == e.0.0) (is_key k e.0.1) t in
+        (λ i. (sym (same_number n e.0.0 parts.0) i, sym (same-key k e.0.1 parts.1) i))
+
+    none_left : e.0 ≡ (n, k) → row_at (filter (is_row_below count) rows) n k ≡ None
+    none_left is =
+        absent (λ q. (n == q.0) && is_key k q.1) (is_row_below count) rows
+        (subst (λ x. AllByRecursion (λ q. ((x.0 == q.0) && is_key x.1 q.1) ≡ false) (keys_of rows)) is (apart_from eq same e.0 (keys_of rows) d.0))
+
+    here : (a : Bool) → is_row_below count e ≡ a → e.0 ≡ (n, k) → (if a then Some e.1 else None) ≡ if_below count n k (Some e.1)
+    here a h is = ap (λ b. if b then Some e.1 else None) (sym h ∙ ap (λ x. is_row_below count (x, e.1)) is)
+
+    go : (b : Bool) → ((n == e.0.0) && is_key k e.0.1) ≡ b → (a : Bool) → is_row_below count e ≡ a
+        → row_at (filter (is_row_below count) rows) n k ≡ if_below count n k (row_at rows n k)
+        → row_at (if a then e ∷ filter (is_row_below count) rows else filter (is_row_below count) rows) n k
+        ≡ if_below count n k (cond b (Some e.1) (row_at rows n k))
+    go true t true h rest = ap (λ b. cond b (Some e.1) (row_at (filter (is_row_below count) rows) n k)) t ∙ here true h (key_is t)
+    go true t false h rest = none_left (key_is t) ∙ here false h (key_is t)
+    go false t true h rest = ap (λ b. cond b (Some e.1) (row_at (filter (is_row_below count) rows) n k)) t ∙ rest
+    go false t false h rest = rest

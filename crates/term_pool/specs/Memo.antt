@@ -1,5 +1,5 @@
 -- Rows that are kept, each for a length of the signature and a key.
-use Rattle.std.specs.Prelude.{ℕ, Bool, true, false, not, ◌==◌, ◌&&◌, cond, nat_lt, List, Option}
+use Rattle.std.specs.Prelude.{ℕ, Bool, true, false, not, ◌==◌, ◌&&◌, cond, nat_lt, List, Option, if◌then◌else◌, Some, None}
 use Rattle.std.specs.Map.{lookup}
 use Rattle.term_pool.specs.declared.ids.Id.{Id}
 use Rattle.term_pool.specs.declared.row.Key.{Key}
@@ -35,3 +35,8 @@ is_answer_below count (Truth b) = true
 -- all ids in the row and its key have places below the count
 abbrev pub is_row_below : ℕ → (ℕ × Key Id) × Row Id → Bool
 is_row_below count row = is_key_below count row.0.1 && is_answer_below count row.1.answer
+
+-- what is left of the row for a length and a key, if rows stay whose ids have places below the count
+abbrev pub if_below : ℕ → ℕ → Key Id → Option (Row Id) → Option (Row Id)
+if_below count n key None = None
+if_below count n key (Some row) = if is_row_below count ((n, key), row) then Some row else None

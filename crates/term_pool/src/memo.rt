@@ -1,5 +1,5 @@
 ghost use Rattle.std.specs.Prelude.{◌≡◌, ◌≤◌, [], ◌∷◌, ◌++◌, ℕ, Some, None, IsTrue, IsFalse, filter, nat_le, if◌then◌else◌};
-ghost use Rattle.term_pool.specs.Memo.{row_at, is_key_below, is_answer_below, is_row_below};
+ghost use Rattle.term_pool.specs.Memo.{row_at, is_key_below, is_answer_below, is_row_below, if_below};
 
 use crate::ids::Id;
 use crate::{Answer, Key, Row};
@@ -61,8 +61,10 @@ impl Memo {
 
     /// Drops the rows that name an id whose place is not below the count.
     pub(crate) fn keep_below(&mut self, count: u32)
-        ensures { self.new ≡ filter (is_row_below count) self.old }
+        ensures rows { self.new ≡ filter (is_row_below count) self.old }
+        ensures at { (n : ℕ) (key : _) → row_at self.new n key ≡ if_below count n key (row_at self.old n key) }
     {
+        let _unique = self.rows.len();
         self.rows.retain(
             |at: &(u32, Key<Id>), row: &mut Row<Id>| -> bool
                 ensures { (result ≡ is_row_below count (at.now, row.old)) × (row.new ≡ row.old) }

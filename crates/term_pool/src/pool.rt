@@ -4,7 +4,7 @@ ghost use Rattle.core_terms.specs.Meanings.{tree_of};
 ghost use Rattle.core_terms.specs.declared.stop.Stop.TheVariants.{Memory};
 ghost use Rattle.theory.specs.Terms as tree;
 ghost use Rattle.term_pool.specs.Held.{Extends, AddsParts, Makes, IsFullFor, IsNew, Keeps, Notes};
-ghost use Rattle.term_pool.specs.Memo.{is_row_below};
+ghost use Rattle.term_pool.specs.Memo.{is_row_below, if_below};
 ghost use Rattle.term_pool.specs.Nodes.{says, AllParts, AllPass};
 ghost use Rattle.term_pool.specs.Pools.{Pooled, IsWhole, pool_held};
 ghost use Rattle.term_pool.specs.Shelves.{facts_of, node_at};
@@ -192,7 +192,8 @@ impl Pool {
 
     /// Drops the rows that name an id that is not live. Takes no memory.
     pub fn truncate_memo(&mut self)
-        ensures { self.new ≡ record self.old { rows = filter (is_row_below (length self.old.nodes)) self.old.rows } }
+        ensures rows { self.new ≡ record self.old { rows = filter (is_row_below (length self.old.nodes)) self.old.rows } }
+        ensures at { (n : ℕ) (key : _) → (pool_held self.new).rows n key ≡ if_below (length self.old.nodes) n key ((pool_held self.old).rows n key) }
     {
         let count = self.len();
         self.memo.keep_below(count);
