@@ -64,6 +64,10 @@ module _ {I : Type 0} where
   abbrev pub IsFullFor : {A : Type 0} → Held I → Result A Stop → Term → Type 0
   IsFullFor held result meant = IfErr result (λ e. e ≡ PoolFull → Lacks held meant)
 
+  -- PoolFull is answered only where no live id stands for `meant` itself
+  abbrev pub IsRefusedNew : {A : Type 0} → Held I → Result A Stop → Term → Type 0
+  IsRefusedNew held result meant = IfErr result (λ e. e ≡ PoolFull → IsNew held meant)
+
   -- the row is kept for the key at the told length; or there was no memory for it, and the rows stay
   abbrev pub Takes : Held I → Held I → Key I → Row I → Type 0
   Takes old new key row =

@@ -3,7 +3,7 @@ ghost use Rattle.core_terms.specs.Answers.{Gives};
 ghost use Rattle.core_terms.specs.Meanings.{tree_of};
 ghost use Rattle.core_terms.specs.declared.stop.Stop.TheVariants.{Memory};
 ghost use Rattle.theory.specs.Terms as tree;
-ghost use Rattle.term_pool.specs.Held.{Extends, AddsParts, Makes, IsFullFor, IsNew, Keeps, Notes};
+ghost use Rattle.term_pool.specs.Held.{Extends, AddsParts, Makes, IsFullFor, IsRefusedNew, IsNew, Keeps, Notes};
 ghost use Rattle.term_pool.specs.Memo.{is_row_below, if_below};
 ghost use Rattle.term_pool.specs.Nodes.{says, AllParts, AllPass};
 ghost use Rattle.term_pool.specs.Pools.{Pooled, IsWhole, pool_held};
@@ -66,6 +66,7 @@ impl Pool {
         requires { AllPass (pool_held self.old).live node }
         ensures makes { Makes (pool_held self.new) result (says (pool_held self.old).tree node) }
         ensures full { IsFullFor (pool_held self.new) result (says (pool_held self.old).tree node) }
+        ensures lacking { IsRefusedNew (pool_held self.new) result (says (pool_held self.old).tree node) }
         ensures extends { Extends (pool_held self.old) (pool_held self.new) }
         ensures adds { AddsParts (pool_held self.old) (pool_held self.new) (says (pool_held self.old).tree node) }
         ensures refused { OnErr result (self.new ≡ self.old) }
@@ -93,6 +94,7 @@ impl Pool {
         requires absent { IsNew (pool_held self.old) (says (pool_held self.old).tree node) }
         ensures makes { Makes (pool_held self.new) result (says (pool_held self.old).tree node) }
         ensures full { IsFullFor (pool_held self.new) result (says (pool_held self.old).tree node) }
+        ensures lacking { IsRefusedNew (pool_held self.new) result (says (pool_held self.old).tree node) }
         ensures extends { Extends (pool_held self.old) (pool_held self.new) }
         ensures adds { AddsParts (pool_held self.old) (pool_held self.new) (says (pool_held self.old).tree node) }
         ensures refused { OnErr result (self.new ≡ self.old) }
@@ -165,7 +167,8 @@ impl Pool {
 
     /// The number of nodes. Takes no memory.
     pub fn len(&self) -> u32
-        ensures { result ≡ length self.now.nodes }
+        ensures len { result ≡ length self.now.nodes }
+        ensures room { length self.now.nodes ≤ self.now.cap }
     {
         let _small = self.cap;
         self.nodes.len() as u32
@@ -235,6 +238,7 @@ impl TermStore for Pool {
         requires { AllPass (pool_held self.old).live node }
         ensures makes { Makes (pool_held self.new) result (says (pool_held self.old).tree node) }
         ensures full { IsFullFor (pool_held self.new) result (says (pool_held self.old).tree node) }
+        ensures lacking { IsRefusedNew (pool_held self.new) result (says (pool_held self.old).tree node) }
         ensures extends { Extends (pool_held self.old) (pool_held self.new) }
         ensures adds { AddsParts (pool_held self.old) (pool_held self.new) (says (pool_held self.old).tree node) }
         ensures refused { OnErr result (pool_held self.new ≡ pool_held self.old) }

@@ -1,6 +1,6 @@
 ghost use Rattle.std.specs.Prelude.{◌≡◌, ◌≤◌, ◌↔◌, ℕ, IsTrue, IfErr, OnErr};
 ghost use Rattle.theory.specs.Terms as tree;
-ghost use Rattle.term_pool.specs.Held.{Held, Keeps, Extends, AddsParts, Makes, IsFullFor, Notes, Tells};
+ghost use Rattle.term_pool.specs.Held.{Held, Keeps, Extends, AddsParts, Makes, IsFullFor, IsRefusedNew, Notes, Tells};
 ghost use Rattle.term_pool.specs.Nodes.{says, AllPass};
 
 use crate::{Key, Node, Row};
@@ -45,6 +45,7 @@ pub trait TermStore {
         requires { AllPass (held self.old).live node }
         ensures makes { Makes (held self.new) result (says (held self.old).tree node) }
         ensures full { IsFullFor (held self.new) result (says (held self.old).tree node) }
+        ensures lacking { IsRefusedNew (held self.new) result (says (held self.old).tree node) }
         ensures extends { Extends (held self.old) (held self.new) }
         ensures adds { AddsParts (held self.old) (held self.new) (says (held self.old).tree node) }
         ensures refused { OnErr result (held self.new ≡ held self.old) };

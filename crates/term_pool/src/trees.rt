@@ -1,6 +1,6 @@
 ghost use Rattle.std.specs.Prelude.{◌≡◌, ◌≤◌, ◌<◌, ◌↔◌, [], ◌∷◌, ◌++◌, length, IsTrue, IfErr, IfOk, OnErr, OnOk, Err};
 ghost use Rattle.core_terms.specs.declared.stop.Stop.TheVariants.{Memory};
-ghost use Rattle.term_pool.specs.Held.{Extends, AddsParts, Makes, IsFullFor, Keeps, Notes};
+ghost use Rattle.term_pool.specs.Held.{Extends, AddsParts, Makes, IsFullFor, IsRefusedNew, Keeps, Notes};
 ghost use Rattle.term_pool.specs.Nodes.{says, AllParts, AllPass};
 ghost use Rattle.term_pool.specs.Shelves.{AreShelved, facts_of, tree_at};
 ghost use Rattle.term_pool.specs.Trees.{tree_place, trees_held};
@@ -83,6 +83,7 @@ impl TermStore for Trees {
         requires { AllPass (trees_held self.old).live node }
         ensures makes { Makes (trees_held self.new) result (says (trees_held self.old).tree node) }
         ensures full { IsFullFor (trees_held self.new) result (says (trees_held self.old).tree node) }
+        ensures lacking { IsRefusedNew (trees_held self.new) result (says (trees_held self.old).tree node) }
         ensures extends { Extends (trees_held self.old) (trees_held self.new) }
         ensures adds { AddsParts (trees_held self.old) (trees_held self.new) (says (trees_held self.old).tree node) }
         ensures refused { OnErr result (trees_held self.new ≡ trees_held self.old) }
