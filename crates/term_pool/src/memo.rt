@@ -1,4 +1,4 @@
-ghost use Rattle.std.specs.Prelude.{◌≡◌, ◌≤◌, [], ◌∷◌, ◌++◌, ℕ, Some, None, IsTrue, IsFalse, filter, nat_le, if◌then◌else◌};
+ghost use Rattle.std.specs.Prelude.{◌≡◌, [], ℕ, Some, IsTrue, IsFalse, filter, nat_le};
 ghost use Rattle.term_pool.specs.Memo.{row_at, is_key_below, is_answer_below, is_row_below, if_below};
 
 use crate::ids::Id;

@@ -1,15 +1,15 @@
-ghost use Rattle.std.specs.Prelude.{◌≡◌, ◌≢◌, ◌≤◌, ◌<◌, ◌↔◌, ℕ, [], ◌∷◌, ◌++◌, length, take, filter, None, Some, IsTrue, IfErr, IfOk, IfSome, IfNone, OnErr, OnOk, Ok, Err};
+ghost use Rattle.std.specs.Prelude.{◌≡◌, ◌≢◌, ◌≤◌, ◌<◌, ◌↔◌, ℕ, [], length, take, filter, None, Some, IsTrue, IfOk, IfSome, IfNone, OnErr, Ok, Err};
 ghost use Rattle.core_terms.specs.Answers.{Gives};
 ghost use Rattle.core_terms.specs.Meanings.{tree_of};
 ghost use Rattle.core_terms.specs.declared.stop.Stop.TheVariants.{Memory};
 ghost use Rattle.theory.specs.Terms as tree;
 ghost use Rattle.term_pool.specs.Held.{Extends, AddsParts, Makes, IsFullFor, IsRefusedNew, IsNew, Keeps, Notes};
 ghost use Rattle.term_pool.specs.Memo.{is_row_below, if_below};
-ghost use Rattle.term_pool.specs.Nodes.{says, AllParts, AllPass};
+ghost use Rattle.term_pool.specs.Nodes.{says, AllPass};
 ghost use Rattle.term_pool.specs.Pools.{Pooled, IsWhole, pool_held};
 ghost use Rattle.term_pool.specs.Shelves.{facts_of, node_at};
 
-use crate::facts::{Facts, Placed, facts_at, facts_of_node, shelved_node};
+use crate::facts::{Facts, facts_at, facts_of_node, shelved_node};
 use crate::ids::{Id, Mark};
 use crate::memo::Memo;
 use crate::{Key, Node, Row, TermStore, export_in, import_in};

@@ -1,5 +1,5 @@
 //! What one call has answered: for an id and a depth, the id of what stands for it there. So a part that is shared is answered once.
-ghost use Rattle.std.specs.Prelude.{◌≡◌, ◌≤◌, IsTrue, IfSome, OnOk, OnErr, Err};
+ghost use Rattle.std.specs.Prelude.{◌≡◌, IsTrue, IfSome, OnOk, OnErr, Err};
 ghost use Rattle.core_terms.specs.declared.stop.Stop.TheVariants.{Memory};
 ghost use Rattle.indexmap.specs.IndexMap.{values};
 ghost use Rattle.term_pool.specs.Shifts.{AllLive, IsAnswered, IsWith};

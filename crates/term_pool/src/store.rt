@@ -1,4 +1,4 @@
-ghost use Rattle.std.specs.Prelude.{◌≡◌, ◌≤◌, ◌↔◌, ℕ, IsTrue, IfErr, OnErr};
+ghost use Rattle.std.specs.Prelude.{◌≡◌, ◌≤◌, ◌↔◌, IsTrue, OnErr};
 ghost use Rattle.theory.specs.Terms as tree;
 ghost use Rattle.term_pool.specs.Held.{Held, Keeps, Extends, AddsParts, Makes, IsFullFor, IsRefusedNew, Notes, Tells};
 ghost use Rattle.term_pool.specs.Nodes.{says, AllPass};

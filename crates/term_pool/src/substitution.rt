@@ -1,4 +1,4 @@
-ghost use Rattle.std.specs.Prelude.{◌≡◌, ◌≤◌, ◌<◌, ◌+◌, ◌^◌, IsTrue};
+ghost use Rattle.std.specs.Prelude.{◌≤◌, ◌<◌, ◌+◌, IsTrue};
 ghost use Rattle.core_terms.specs.Bounds.{most_free};
 ghost use Rattle.theory.specs.Terms as tree;
 ghost use Rattle.indexmap.specs.IndexMap.{values};

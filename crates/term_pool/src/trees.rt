@@ -1,11 +1,10 @@
-ghost use Rattle.std.specs.Prelude.{◌≡◌, ◌≤◌, ◌<◌, ◌↔◌, [], ◌∷◌, ◌++◌, length, IsTrue, IfErr, IfOk, OnErr, OnOk, Err};
-ghost use Rattle.core_terms.specs.declared.stop.Stop.TheVariants.{Memory};
+ghost use Rattle.std.specs.Prelude.{◌≡◌, ◌<◌, ◌↔◌, [], IsTrue, OnErr, Err};
 ghost use Rattle.term_pool.specs.Held.{Extends, AddsParts, Makes, IsFullFor, IsRefusedNew, Keeps, Notes};
-ghost use Rattle.term_pool.specs.Nodes.{says, AllParts, AllPass};
+ghost use Rattle.term_pool.specs.Nodes.{says, AllPass};
 ghost use Rattle.term_pool.specs.Shelves.{AreShelved, facts_of, tree_at};
 ghost use Rattle.term_pool.specs.Trees.{tree_place, trees_held};
 
-use crate::facts::{Facts, Placed, facts_at, facts_of_node, shelved_node};
+use crate::facts::{Facts, facts_at, facts_of_node, shelved_node};
 use crate::ids::TreeId;
 use crate::{Key, Node, Row, TermStore};
 use core_terms::{MAX_HEIGHT, Stop, number_of};
