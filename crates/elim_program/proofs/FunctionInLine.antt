@@ -4,7 +4,7 @@ use Rattle.theory.specs.Terms.{Term, Var, Sort, Pi, Lam, App, Let, Const, Fam, C
 use Rattle.theory.specs.Telescopes.{Telescope, products, functions}
 use Rattle.theory.specs.Signatures.{Signature, Definition}
 use Rattle.core_terms.specs.Answers.{and_next, bounded, are_low}
-use Rattle.core_terms.specs.CaseTrees.{Tree, Walk}
+use Rattle.core_terms.specs.CaseTrees.{Walk}
 use Rattle.core_terms.specs.Clauses as clause
 use Rattle.core_terms.specs.Clauses.{Clause, Clauses, Right, Is}
 use Rattle.core_terms.specs.declared.stop.Stop.{Stop}
@@ -21,7 +21,6 @@ use Rattle.tree_translation.specs.structural_rec.Choices.{Choice, Failing, NotRe
 use Rattle.tree_translation.specs.structural_rec.Uses.{Use}
 use Rattle.case_trees.specs.OwnWalks.{own_walk_of}
 use Rattle.case_trees.specs.Points.{under_solution}
-use Rattle.case_trees.specs.Stops.{Stopping}
 use Rattle.case_trees.specs.Trees.{split_of}
 use Rattle.tree_translation.specs.Entries.{ordered_variables, entries_with, helpers_before, and_more, motive_entry, step_entry, helper_entry, function_entry, side_names, part_term, step_telescope, step_goal, step_node, helper_node, function_by_recursion}
 use Rattle.tree_translation.specs.Naming.{motive_name, step_name, helper_name, rec_name}
@@ -33,15 +32,14 @@ use Rattle.with_abstraction.specs.Abstractions.{Abstracted, abstract_over_of}
 use Rattle.leaf_terms.specs.RecursionMade.{made_at}
 use Rattle.function_entries.specs.CodeEntries.{translate_made}
 use Rattle.exact_laws.proofs.translation_laws.MadeEntries.{translate_made-is_entries}
-use Rattle.entry_laws.specs.order_scopes.Laws.{begins_closed}
 use Rattle.clause_reports.specs.DraftEntering.{enter_draft_of, enter_needed, enter_mention, Names}
 use Rattle.clause_reports.specs.Equations.{part_named}
 use Rattle.drafts.specs.draft_checks.Checks.{enterable, unmarked}
 use Rattle.clause_lines.specs.CodeReports.{report_made}
-use Rattle.clause_reports.specs.elaboration.Functions.{ClauseLine, Lines, function_level, failing_call, position_chosen, own_part, helpers_finished}
+use Rattle.clause_reports.specs.elaboration.Functions.{ClauseLine, Lines, function_level, failing_call, position_chosen, own_part, helpers_finished, own_finished}
 use Rattle.clause_reports.specs.elaboration.Refusals.{Owner, OfType, OfDot, OfSide, OfWith, OfGoal, Halts, SelfInType, Elaborating, answers, or_halts, halting, granted, level_too_high, owner_of, reporting, walking}
 use Rattle.clause_reports.specs.elaboration.Walking.{Session, Opened, Walked, greatest_level, if_forced, check_dot, after_dots, without_self, if_low_level, and_level, open_over, opened, walk_clause, walk_right, walk_clauses}
-use Rattle.function_plans.specs.CodePlans.{own_tree_of, own_tree_made, own_finished_made, are_low_uses, chosen_made, own_alone, parts_made, plan_made}
+use Rattle.function_plans.specs.CodePlans.{own_tree_of, are_low_uses, chosen_made, own_alone, parts_made, plan_made}
 use Rattle.function_session.specs.function_lines.FunctionMade.{level_of, session_at, plan_over, checked_entered, draft_entered, drafts_entered, values_name, values_entered, translated, plan_entered, clause_line, reference_of, clause_reported, walks_reported, parts_reported, function_made}
 use Rattle.elim_program.proofs.EnteredNames.{IsIn, EntryIn, NamesAfter, DraftIn, enter_draft-in, enter_needed-in, enter_mention-in}
 use Rattle.elim_program.proofs.FunctionTexts.{RefusalIn, ClauseIn, CallIn, at-owner, halts-in, granted-in, level-too-high-in, mismatch-in, walking-in, reporting-in, or-halts-in, self-in, not-smaller-in}
@@ -164,20 +162,15 @@ position-in s is NotRecursive = tt
 position-in s is (At j) = tt
 position-in s is (NotSmaller rows) = not-smaller-in (map (failing_call s) rows) (calls-in s is rows)
 
-own_tree-in : (s : Session) → SessionIn s → (w : Walked) (count : ℕ) (order : List ℕ) (left : ℕ) → WritesIn Any (own_tree_made s w count order left)
-own_tree-in s is w count order left = by (begins_closed (ordered_telescope w.part.tele order))
-  where
-    made : Stopping Tree
-    made = split_of s.signature (ordered_telescope w.part.tele order) (ordered_term count order w.part.goal) (ordered_variables order count) w.clauses left
+own_tree-in : (s : Session) → SessionIn s → (w : Walked) (count : ℕ) (order : List ℕ) (left : ℕ) → WritesIn Any (own_tree_of s w count order left)
+own_tree-in s is w count order left =
+    walking-in s.signature is.names s.name is.name
+    (split_of s.signature (ordered_telescope w.part.tele order) (ordered_term count order w.part.goal) (ordered_variables order count) w.clauses left).0
 
-    by : (closed : Bool) → WritesIn Any (cond closed (own_tree_of s w count order left) (answers (Err (Halts Deep)) left))
-    by true = walking-in s.signature is.names s.name is.name made.0
-    by false = halts-in Deep
-
-own_finished-in : (s : Session) → SessionIn s → (r : Option Recursion) (w : Walked) (left : ℕ) → WritesIn Any (own_finished_made s r w left)
+own_finished-in : (s : Session) → SessionIn s → (r : Option Recursion) (w : Walked) (left : ℕ) → WritesIn Any (own_finished s r w left)
 own_finished-in s is r w left =
     let count = length w.part.tele in
-    written_next Any (own_tree_made s w count (order_of count r) left) _ (own_tree-in s is w count (order_of count r) left) (λ t rest. tt)
+    written_next Any (own_tree_of s w count (order_of count r) left) _ (own_tree-in s is w count (order_of count r) left) (λ t rest. tt)
 
 helpers_finished-in : (s : Session) → SessionIn s → (r : Option Recursion) (level number : ℕ) (helpers : List Walked) (left : ℕ) → WritesIn Any (helpers_finished s r level number helpers left)
 helpers_finished-in s is r level number [] left = tt
@@ -197,7 +190,7 @@ chosen-in s is tele uses = by (are_low tele && are_low_uses uses)
 parts-in : (s : Session) → SessionIn s → (position : Option ℕ) (level : ℕ) (w : Walked) (helpers : List Walked) (left : ℕ) → WritesIn Any (parts_made s position level w helpers left)
 parts-in s is position level w helpers left =
     written_next Any (or_halts (made_at s.signature w.part.tele position), left) _ (or-halts-in (made_at s.signature w.part.tele position)) (λ r more.
-    written_next Any (own_alone s r w more) _ (written_next Any (own_finished_made s r w more) _ (own_finished-in s is r w more) (λ own end. tt)) (λ made end.
+    written_next Any (own_alone s r w more) _ (written_next Any (own_finished s r w more) _ (own_finished-in s is r w more) (λ own end. tt)) (λ made end.
     written_next Any (helpers_finished s r level 1 helpers end) _ (helpers_finished-in s is r level 1 helpers end) (λ parts last. tt)))
 
 abbrev PlanIn : Plan → Type 0

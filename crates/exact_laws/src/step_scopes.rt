@@ -1,7 +1,7 @@
 //! The entries of a function are scoped drafts: its step and its helpers, and so all of them.
 ghost use Rattle.exact_laws.specs.step_scopes.Laws.{DraftsScopedAfterPrelude, HelperScoped, PlanOrdered, StepScoped};
 
-/// A plan whose order of recursion begins with a type over no variables has a context in that order.
+/// A plan has a context in its order of recursion.
 pub fn plan_ordered()
     ensures { PlanOrdered }
 {}

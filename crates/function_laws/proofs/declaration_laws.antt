@@ -5,4 +5,3 @@ pub mod UnmarkedEntries
 pub mod UnmarkedFamilies
 pub mod UnmarkedDeclarations
 pub mod Texts
-pub mod FirstTypes

@@ -1,6 +1,4 @@
 //! Each declaration of a session is made as is meant.
-pub mod orders;
-
 ghost use Rattle.function_laws.specs.declaration_laws.Laws.{DeclarationIsMeant, DeclarationStaysUnmarked, DeclaredFunctionIsMeant, TextIsMeant, WordsAreUnmarked};
 
 use crate::report_laws::function_is_meant;

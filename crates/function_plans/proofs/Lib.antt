@@ -1,4 +1,3 @@
-pub mod ClosedPlans
 pub mod Columns
 pub mod HelperChains
 pub mod Orders

@@ -1,23 +1,21 @@
 -- A plan that is made is the one that is meant.
-use Rattle.std.proofs.Common.{◌≡◌, ℕ, ◌&&◌, Bool, true, false, cond, Option, Some, None, List, [], ◌∷◌, ◌++◌, length, Result, Ok, Err, refl, sym, ap, ◌∙◌}
+use Rattle.std.proofs.Common.{◌≡◌, ℕ, ◌&&◌, Bool, true, false, cond, Option, Some, None, List, [], ◌∷◌, ◌++◌, Result, Ok, Err, refl, sym, ap, ◌∙◌}
 use Rattle.theory.specs.Signatures.{Signature}
 use Rattle.theory.specs.Telescopes.{Telescope}
 use Rattle.core_terms.specs.Answers.{and_next, are_low, on_answer}
 use Rattle.core_terms.specs.declared.stop.Stop.{Stop}
 use Rattle.core_terms.specs.declared.stop.Stop.TheVariants.{Deep}
-use Rattle.clause_reports.specs.elaboration.Functions.{finished, helpers_finished, own_finished, position_chosen, recursion_in}
+use Rattle.clause_reports.specs.elaboration.Functions.{helpers_finished, own_finished, position_chosen, recursion_in}
 use Rattle.clause_reports.specs.elaboration.Refusals.{Elaborating, Refusal, answers, or_halts}
 use Rattle.clause_reports.specs.elaboration.Walking.{Session, Walked}
 use Rattle.leaf_terms.specs.RecursionMade.{made_at}
-use Rattle.entry_laws.specs.order_scopes.Laws.{begins_closed}
 use Rattle.tree_translation.specs.structural_rec.Choices.{choose}
 use Rattle.tree_translation.specs.structural_rec.Uses.{Use}
 use Rattle.tree_translation.specs.Plans.{Part, Plan}
-use Rattle.tree_translation.specs.Recursion.{Recursion, order_of, ordered_telescope, recursion_at}
-use Rattle.function_plans.specs.CodePlans.{are_low_uses, chosen_made, own_finished_made, own_tree_made, own_tree_of, parts_made, parts_with, planned}
+use Rattle.tree_translation.specs.Recursion.{Recursion, recursion_at}
+use Rattle.function_plans.specs.CodePlans.{are_low_uses, chosen_made, parts_made, parts_with, planned}
 use Rattle.function_plans.specs.Laws.{PlanAnswers, PlanIsThis}
-use Rattle.function_plans.proofs.Refining.{Refines, cond-answer, cond-refines, refines-itself, refines-next}
-use Rattle.function_plans.proofs.Starts.{made-closed}
+use Rattle.function_plans.proofs.Refining.{Refines, cond-answer, refines-next}
 
 pub both-left : (a b : Bool) → (a && b) ≡ true → a ≡ true
 both-left true b h = refl
@@ -53,26 +51,16 @@ joined-parts (Ok own) n helpers P = by (helpers n).0 (helpers n).1
 
 with-joined : (s : Session) (r : Option Recursion) (level : ℕ) (w : Walked) (helpers : List Walked) (P : List Part → Plan) (more : ℕ)
     → and_next (parts_with s r level w helpers more) (λ parts end. answers (Ok (P parts)) end)
-    ≡ and_next (own_finished_made s r w more) (after_own s r level helpers P)
-with-joined s r level w helpers P more = joined-parts (own_finished_made s r w more).0 (own_finished_made s r w more).1 (helpers_finished s r level 1 helpers) P
+    ≡ and_next (own_finished s r w more) (after_own s r level helpers P)
+with-joined s r level w helpers P more = joined-parts (own_finished s r w more).0 (own_finished s r w more).1 (helpers_finished s r level 1 helpers) P
 
 -- ---- the code answers what is meant
-
-own-refines : (s : Session) (r : Option Recursion) (w : Walked) (left : ℕ) → Refines (own_finished_made s r w left) (own_finished s r w left)
-own-refines s r w left =
-    let count = length w.part.tele in
-    let order = order_of count r in
-    refines-next (own_tree_made s w count order left) (own_tree_of s w count order left) (λ t rest. answers (Ok (finished w.part.level w t)) rest)
-    (λ t rest. answers (Ok (finished w.part.level w t)) rest)
-    (cond-refines (begins_closed (ordered_telescope w.part.tele order)) (own_tree_of s w count order left) _ left)
-    (λ t rest. refines-itself (answers (Ok (finished w.part.level w t)) rest))
 
 with-refines : (s : Session) (r : Option Recursion) (level : ℕ) (w : Walked) (helpers : List Walked) (P : List Part → Plan) (more : ℕ)
     → Refines (and_next (parts_with s r level w helpers more) (λ parts end. answers (Ok (P parts)) end))
     (and_next (own_finished s r w more) (after_own s r level helpers P))
 with-refines s r level w helpers P more plan n e =
-    refines-next (own_finished_made s r w more) (own_finished s r w more) (after_own s r level helpers P) (after_own s r level helpers P)
-    (own-refines s r w more) (λ own end. refines-itself (after_own s r level helpers P own end)) plan n (sym (with-joined s r level w helpers P more) ∙ e)
+    sym (with-joined s r level w helpers P more) ∙ e
 
 -- the plan by the recursion that is found, or Deep
 abbrev by_found : Session → (level : ℕ) → Walked → (helpers : List Walked) → (List Part → Plan) → (more : ℕ) → Result (Option Recursion) Stop → Elaborating Plan
@@ -101,25 +89,18 @@ plan-answers s type arity level w helpers uses left rest plan e =
     (cond-answer (are_low w.part.tele && are_low_uses uses) chosen _ left)
     (λ position more. position-refines s level w helpers (planned s type arity level position) position more) plan rest e
 
--- ---- and refusals too, in a telescope that is low and begins with a type over no variables
-
-own-closed : (s : Session) (r : Option Recursion) (w : Walked) (left : ℕ) → begins_closed (ordered_telescope w.part.tele (order_of (length w.part.tele) r)) ≡ true
-    → own_finished_made s r w left ≡ own_finished s r w left
-own-closed s r w left h =
-    ap (λ walk. and_next walk (λ t rest. answers (Ok (finished w.part.level w t)) rest)) (made-closed s w (length w.part.tele) (order_of (length w.part.tele) r) left h)
+-- ---- and refusals too, in a telescope that is low
 
 parts-low : (s : Session) (P : List Part → Plan) (level : ℕ) (position : Option ℕ) (w : Walked) (helpers : List Walked) (more : ℕ)
     → are_low w.part.tele ≡ true
-    → begins_closed (ordered_telescope w.part.tele (order_of (length w.part.tele) (recursion_in s.signature w.part.tele position))) ≡ true
     → and_next (parts_made s position level w helpers more) (λ parts end. answers (Ok (P parts)) end)
     ≡ and_next (own_finished s (recursion_in s.signature w.part.tele position) w more) (after_own s (recursion_in s.signature w.part.tele position) level helpers P)
-parts-low s P level position w helpers more low closed =
-    let r = recursion_in s.signature w.part.tele position in
+parts-low s P level position w helpers more low =
     ap (by_found s level w helpers P more) (made-low s.signature w.part.tele position low)
-    ∙ (with-joined s r level w helpers P more ∙ ap (λ own. and_next own (after_own s r level helpers P)) (own-closed s r w more closed))
+    ∙ with-joined s (recursion_in s.signature w.part.tele position) level w helpers P more
 
 pub plan-is : PlanIsThis
-plan-is s type arity level w helpers uses left h closed =
+plan-is s type arity level w helpers uses left h =
     rw (chosen-low s w.part.tele uses h) (by (position_chosen s (choose s.signature w.part.tele s.own uses)))
   where
     by : (position : Result (Option ℕ) Refusal)
@@ -129,5 +110,5 @@ plan-is s type arity level w helpers uses left h closed =
         and_next (own_finished s (recursion_in s.signature w.part.tele position) w more)
         (after_own s (recursion_in s.signature w.part.tele position) level helpers (planned s type arity level position)))
     by (Ok position) =
-        parts-low s (planned s type arity level position) level position w helpers left (both-left (are_low w.part.tele) (are_low_uses uses) h) (closed position)
+        parts-low s (planned s type arity level position) level position w helpers left (both-left (are_low w.part.tele) (are_low_uses uses) h)
     by (Err e) = refl

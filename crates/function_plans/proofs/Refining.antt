@@ -10,13 +10,6 @@ Refines {A} made meant = (a : A) (n : ℕ) → made ≡ answers (Ok a) n → mea
 pub refused-answers : {A : Type 0} (e : Refusal) (left : ℕ) (a : A) (n : ℕ) → ◌≡◌ {A = Elaborating A} (answers (Err e) left) (answers (Ok a) n) → ⊥
 refused-answers e left a n same = let first = ap (λ p. p.0) same in cc
 
-pub refines-itself : {A : Type 0} (p : Elaborating A) → Refines p p
-refines-itself p = λ a n e. e
-
-pub cond-refines : {A : Type 0} (test : Bool) (p : Elaborating A) (e : Refusal) (left : ℕ) → Refines (cond test p (answers (Err e) left)) p
-cond-refines true p e left = λ a n same. same
-cond-refines false p e left = λ a n same. absurd (refused-answers e left a n same)
-
 pub cond-answer : {A : Type 0} (test : Bool) (r : Result A Refusal) (e : Refusal) (left : ℕ) → Refines (answers (cond test r (Err e)) left) (answers r left)
 cond-answer true r e left = λ a n same. same
 cond-answer false r e left = λ a n same. absurd (refused-answers e left a n same)

@@ -1,5 +1,5 @@
 -- Where trees begin.
-use Rattle.std.proofs.Common.{◌≡◌, ℕ, ◌≤◌, true, subst, List, length, All, refl, sym, ◌∙◌, arith}
+use Rattle.std.proofs.Common.{◌≡◌, ℕ, ◌≤◌, subst, List, length, All, refl, sym, ◌∙◌, arith}
 use Rattle.theory.specs.Terms.{Term}
 use Rattle.theory.specs.Telescopes.{Telescope}
 use Rattle.theory.specs.Signatures.{Signature}
@@ -8,15 +8,14 @@ use Rattle.unification.specs.ScopedStates.{IsReady}
 use Rattle.unification.proofs.ScopedRecords.{variables-scoped}
 use Rattle.case_trees.specs.Laws.{IsGiven}
 use Rattle.case_trees.specs.Scoped.{AreClausesFor}
-use Rattle.clause_reports.specs.elaboration.Walking.{Session, Walked}
-use Rattle.entry_laws.specs.order_scopes.Laws.{begins_closed}
+use Rattle.clause_reports.specs.elaboration.Walking.{Walked}
 use Rattle.entry_laws.proofs.order_scopes.OrderedScopes as orders
 use Rattle.entry_laws.proofs.order_scopes.OrderLengths.{order-counted}
-use Rattle.tree_translation.specs.structural_rec.Laws.{IsOrder}
+use Rattle.tree_translation.specs.structural_rec.Laws.{IsTelescopeOrder}
 use Rattle.tree_translation.specs.Entries.{ordered_variables}
 use Rattle.tree_translation.specs.Recursion.{ordered_telescope, ordered_term}
 use Rattle.unifier.specs.Conditions.{most_levels}
-use Rattle.function_plans.specs.CodePlans.{IsOwnWalked, IsStart, own_tree_made, own_tree_of}
+use Rattle.function_plans.specs.CodePlans.{IsOwnWalked}
 use Rattle.function_plans.proofs.Columns.{clauses-for}
 
 -- a context of n types whose variables stand for themselves
@@ -34,26 +33,28 @@ given S context goal terms n same isReady types there columns = record {
 
 -- ---- the order of recursion
 
-pub starts : (S : Signature) (w : Walked) (context : Telescope) (count : ℕ) (order : List ℕ) → IsOwnWalked S w → count ≡ length w.part.tele → IsOrder count order
-    → context ≡ ordered_telescope w.part.tele order → begins_closed context ≡ true → IsStart S w context count order
-starts S w context count order own counted whole same closed =
-    record { own = own; count_is = counted; order_is = whole; context_is = same; closed = closed }
+-- a context that the types of its telescope make in an order of so many positions
+pub record IsStart (S : Signature) (w : Walked) (context : Telescope) (count : ℕ) (order : List ℕ) : Type 0 where
+  pub own : IsOwnWalked S w
+  pub count_is : count ≡ length w.part.tele
+  pub order_is : IsTelescopeOrder w.part.tele order
+  pub context_is : context ≡ ordered_telescope w.part.tele order
+
+pub starts : (S : Signature) (w : Walked) (context : Telescope) (count : ℕ) (order : List ℕ) → IsOwnWalked S w → count ≡ length w.part.tele
+    → IsTelescopeOrder w.part.tele order → context ≡ ordered_telescope w.part.tele order → IsStart S w context count order
+starts S w context count order own counted whole same = record { own = own; count_is = counted; order_is = whole; context_is = same }
 
 module _ (S : Signature) (w : Walked) (context : Telescope) (count : ℕ) (order : List ℕ) (is : IsStart S w context count order) where
-  whole : IsOrder (length w.part.tele) order
-  whole = subst (λ n. IsOrder n order) is.count_is is.order_is
-
   context-long : length context ≡ length w.part.tele
-  context-long = subst (λ types. length types ≡ length w.part.tele) (sym is.context_is) (orders.length-ordered w.part.tele order whole)
+  context-long = subst (λ types. length types ≡ length w.part.tele) (sym is.context_is) (orders.length-ordered w.part.tele order is.order_is.positions)
 
   order-long : length order ≡ count
-  order-long = order-counted count order is.order_is
+  order-long = order-counted (length w.part.tele) order is.order_is.positions ∙ sym is.count_is
 
   both-scoped : IsScopedTelescope S 0 (ordered_telescope w.part.tele order)
       × IsScoped S (length (ordered_telescope w.part.tele order)) (ordered_term (length w.part.tele) order w.part.goal)
   both-scoped =
-      orders.ordered-scoped S w.part.tele w.part.goal order is.own.walked.given.scoped.context is.own.walked.given.scoped.goal whole
-      (subst (λ types. begins_closed types ≡ true) is.context_is is.closed)
+      orders.ordered-scoped S w.part.tele w.part.goal order is.own.walked.given.scoped.context is.own.walked.given.scoped.goal is.order_is
 
   pub start-given : (goal : Term) (terms : List Term) → goal ≡ ordered_term count order w.part.goal → terms ≡ ordered_variables order count
       → IsGiven S context goal terms
@@ -76,9 +77,3 @@ module _ (S : Signature) (w : Walked) (context : Telescope) (count : ℕ) (order
 
   pub start-few : length context ≤ most_levels
   start-few = subst (λ n. n ≤ most_levels) (sym context-long) is.own.walked.few
-
--- ---- the tree that is made
-
-pub made-closed : (s : Session) (w : Walked) (count : ℕ) (order : List ℕ) (left : ℕ) → begins_closed (ordered_telescope w.part.tele order) ≡ true
-    → own_tree_made s w count order left ≡ own_tree_of s w count order left
-made-closed s w count order left h = rw h refl

@@ -7,18 +7,16 @@ use Rattle.core_terms.specs.Answers.{and_next, are_low, is_low}
 use Rattle.core_terms.specs.CaseTrees.{Tree}
 use Rattle.core_terms.specs.declared.stop.Stop.TheVariants.{Deep}
 use Rattle.case_trees.specs.Trees.{split_of}
-use Rattle.clause_reports.specs.elaboration.Functions.{finished, helpers_finished, own_finished, position_chosen, recursion_in}
+use Rattle.clause_reports.specs.elaboration.Functions.{helpers_finished, own_finished, position_chosen, recursion_in}
 use Rattle.clause_reports.specs.elaboration.Refusals.{Elaborating, Halts, Refusal, answers, or_halts, walking}
 use Rattle.clause_reports.specs.elaboration.Walking.{Session, Walked}
 use Rattle.function_checks.specs.function_walks.Conditions.{IsWalked}
 use Rattle.leaf_terms.specs.RecursionMade.{made_at}
-use Rattle.entry_laws.specs.order_scopes.Laws.{begins_closed}
 use Rattle.tree_translation.specs.structural_rec.Choices.{choose}
-use Rattle.tree_translation.specs.structural_rec.Laws.{IsOrder}
 use Rattle.tree_translation.specs.structural_rec.Uses.{Use}
 use Rattle.tree_translation.specs.Entries.{ordered_variables}
 use Rattle.tree_translation.specs.Plans.{Part, Plan}
-use Rattle.tree_translation.specs.Recursion.{Recursion, order_of, ordered_telescope, ordered_term}
+use Rattle.tree_translation.specs.Recursion.{Recursion, ordered_telescope, ordered_term}
 
 -- the tree of a part's clauses from an order of so many positions
 abbrev pub own_tree_of : Session → Walked → (count : ℕ) (order : List ℕ) → ℕ → Elaborating Tree
@@ -26,18 +24,6 @@ own_tree_of s w count order left =
     walking s.signature s.name
     (split_of s.signature (ordered_telescope w.part.tele order) (ordered_term count order w.part.goal) (ordered_variables order count)
     w.clauses left)
-
--- The tree of the own part's clauses, or Deep where the types in that order begin with one over other variables, as those of no context do.
--- The type of an index that comes first in the family's order mentions a later one there.
-abbrev pub own_tree_made : Session → Walked → (count : ℕ) (order : List ℕ) → ℕ → Elaborating Tree
-own_tree_made s w count order left =
-    cond (begins_closed (ordered_telescope w.part.tele order)) (own_tree_of s w count order left) (answers (Err (Halts Deep)) left)
-
--- the function's own part with this tree
-abbrev pub own_finished_made : Session → Option Recursion → Walked → ℕ → Elaborating Part
-own_finished_made s r w left =
-    let count = length w.part.tele in
-    and_next (own_tree_made s w count (order_of count r) left) (λ t rest. answers (Ok (finished w.part.level w t)) rest)
 
 -- helpers after the parts that are made
 abbrev pub helpers_after : (made : List Part) → Session → Option Recursion → (level number : ℕ) → List Walked → ℕ → Elaborating (List Part)
@@ -48,14 +34,6 @@ helpers_after made s r level number helpers left =
 pub record IsOwnWalked (S : Signature) (w : Walked) : Type 0 where
   pub walked : IsWalked S w
   pub columns : length w.part.terms ≡ length w.part.tele
-
--- a context that the types of its telescope make in an order of so many positions, which begins with one over no variables
-pub record IsStart (S : Signature) (w : Walked) (context : Telescope) (count : ℕ) (order : List ℕ) : Type 0 where
-  pub own : IsOwnWalked S w
-  pub count_is : count ≡ length w.part.tele
-  pub order_is : IsOrder count order
-  pub context_is : context ≡ ordered_telescope w.part.tele order
-  pub closed : begins_closed context ≡ true
 
 -- ---- the position
 
@@ -71,7 +49,7 @@ chosen_made s tele uses =
 -- ---- the plan
 
 abbrev pub own_alone : Session → Option Recursion → Walked → ℕ → Elaborating (List Part)
-own_alone s r w left = and_next (own_finished_made s r w left) (λ own end. answers (Ok (own ∷ [])) end)
+own_alone s r w left = and_next (own_finished s r w left) (λ own end. answers (Ok (own ∷ [])) end)
 
 -- the function's own part and those of its helpers
 abbrev pub parts_with : Session → Option Recursion → (level : ℕ) → Walked → (helpers : List Walked) → ℕ → Elaborating (List Part)

@@ -5,12 +5,12 @@ ghost use Rattle.core_terms.specs.Meanings.{tele_of};
 ghost use Rattle.core_terms.specs.PatternMeanings.{clauses_of, pat_of, pats_of};
 ghost use Rattle.core_terms.specs.TreeMeanings.{case_tree_of};
 ghost use Rattle.clause_reports.specs.elaboration.Functions as spec;
-ghost use Rattle.function_plans.specs.CodePlans.{IsOwnWalked, own_finished_made};
+ghost use Rattle.function_plans.specs.CodePlans.{IsOwnWalked};
 ghost use Rattle.function_checks.specs.function_refusals.RefusalMeanings.{Elaborates};
 ghost use Rattle.function_checks.specs.function_walks.WalkingMeanings.{session_of, walked_of};
 ghost use Rattle.leaf_terms.specs.PlanMeanings.{part_of};
 ghost use Rattle.leaf_terms.specs.RecursionMeanings.{recursion_of};
-ghost use Rattle.tree_translation.specs.structural_rec.Laws.{IsOrder};
+ghost use Rattle.tree_translation.specs.structural_rec.Laws.{IsTelescopeOrder};
 ghost use Rattle.tree_translation.specs.Recursion as recursion;
 
 use crate::trees::own_tree;
@@ -87,8 +87,8 @@ pub fn own_finished(
 ) -> Result<Part, Refusal>
     requires kernel { kernel.old.signature ≡ s.sig.now }
     requires own { IsOwnWalked s.sig.now (walked_of w) }
-    requires order { IsOrder (length w.part.tele) (recursion.order_of (length w.part.tele) (option_map recursion_of (option_copied r))) }
-    ensures answer { Elaborates part_of result kernel.new.left (own_finished_made (session_of s.entry) (option_map recursion_of (option_copied r.entry)) (walked_of w.entry) kernel.old.left) }
+    requires order { IsTelescopeOrder (walked_of w).part.tele (recursion.order_of (length w.part.tele) (option_map recursion_of (option_copied r))) }
+    ensures answer { Elaborates part_of result kernel.new.left (spec.own_finished (session_of s.entry) (option_map recursion_of (option_copied r.entry)) (walked_of w.entry) kernel.old.left) }
     ensures sum { kernel.new.left + kernel.new.spent ≡ kernel.old.left + kernel.old.spent }
     ensures spends { kernel.new.left ≤ kernel.old.left }
     ensures kernel { kernel.new.signature ≡ s.entry.sig.now }

@@ -9,7 +9,7 @@ ghost use Rattle.function_checks.specs.function_walks.WalkingMeanings.{session_o
 ghost use Rattle.leaf_terms.specs.PlanMeanings.{parts_of, plan_of};
 ghost use Rattle.leaf_terms.specs.RecursionMade.{made_at};
 ghost use Rattle.leaf_terms.specs.RecursionMeanings.{recursion_of};
-ghost use Rattle.tree_translation.specs.structural_rec.Laws.{IsOrder};
+ghost use Rattle.tree_translation.specs.structural_rec.Laws.{IsTelescopeOrder};
 ghost use Rattle.tree_translation.specs.structural_rec.Meanings.{uses_of};
 ghost use Rattle.tree_translation.specs.Recursion as recursion;
 
@@ -50,7 +50,7 @@ fn with_own(
 ) -> Result<Items<Part>, Refusal>
     requires kernel { kernel.old.signature ≡ s.sig.now }
     requires own { IsOwnWalked s.sig.now (walked_of w) }
-    requires order { IsOrder (length w.part.tele) (recursion.order_of (length w.part.tele) (option_map recursion_of (option_copied r))) }
+    requires order { IsTelescopeOrder (walked_of w).part.tele (recursion.order_of (length w.part.tele) (option_map recursion_of (option_copied r))) }
     ensures answer { Elaborates parts_of result kernel.new.left (own_alone (session_of s.entry) (option_map recursion_of (option_copied r.entry)) (walked_of w.entry) kernel.old.left) }
     ensures sum { kernel.new.left + kernel.new.spent ≡ kernel.old.left + kernel.old.spent }
     ensures spends { kernel.new.left ≤ kernel.old.left }
@@ -73,7 +73,7 @@ fn all_parts(
 ) -> Result<Items<Part>, Refusal>
     requires kernel { kernel.old.signature ≡ s.sig.now }
     requires own { IsOwnWalked s.sig.now (walked_of w) }
-    requires order { IsOrder (length w.part.tele) (recursion.order_of (length w.part.tele) (option_map recursion_of (option_copied r))) }
+    requires order { IsTelescopeOrder (walked_of w).part.tele (recursion.order_of (length w.part.tele) (option_map recursion_of (option_copied r))) }
     requires helpers { AreWalked s.sig.now (map walked_of helpers.items) }
     ensures answer { Elaborates parts_of result kernel.new.left (parts_with (session_of s.entry) (option_map recursion_of (option_copied r.entry)) level (walked_of w.entry) (map walked_of helpers.entry.items) kernel.old.left) }
     ensures sum { kernel.new.left + kernel.new.spent ≡ kernel.old.left + kernel.old.spent }
@@ -107,7 +107,7 @@ fn parts_at(
 }
 
 /// The plan of a function whose clauses are walked, with its helpers and the uses in the walks, or Deep where a term of
-/// the uses or a type of the telescope is too high, or where the order of recursion begins with a type over others.
+/// the uses or a type of the telescope is too high.
 pub fn plan(
     alloc: Global,
     s: Session,

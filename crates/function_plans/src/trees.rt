@@ -7,25 +7,22 @@ ghost use Rattle.core_terms.specs.Meanings.{tree_of, tele_of};
 ghost use Rattle.core_terms.specs.PatternMeanings.{clauses_of};
 ghost use Rattle.core_terms.specs.TreeMeanings.{case_tree_of};
 ghost use Rattle.clause_reports.specs.elaboration.Refusals.{walking};
-ghost use Rattle.function_plans.specs.CodePlans.{IsOwnWalked, IsStart, own_tree_made};
+ghost use Rattle.function_plans.specs.CodePlans.{IsOwnWalked, own_tree_of};
 ghost use Rattle.function_checks.specs.function_refusals.RefusalMeanings.{Elaborates};
 ghost use Rattle.function_checks.specs.function_walks.WalkingMeanings.{session_of, walked_of};
 ghost use Rattle.leaf_terms.specs.RecursionMeanings.{recursion_of};
-ghost use Rattle.entry_laws.specs.order_scopes.Laws as orders;
-ghost use Rattle.tree_translation.specs.structural_rec.Laws.{IsOrder};
-ghost use Rattle.tree_translation.specs.Entries as entries;
+ghost use Rattle.tree_translation.specs.structural_rec.Laws.{IsTelescopeOrder};
 ghost use Rattle.tree_translation.specs.Recursion as recursion;
 ghost use Rattle.unifier.specs.Conditions.{most_levels};
 
 use clause_splitting::split_with;
 use core_sig::Signature;
-use core_terms::{Clause, Items, Stop, Tele, Term, Tree, number_of};
+use core_terms::{Clause, Items, Tele, Term, Tree, number_of};
 use function_checks::function_refusals::{Refusal, ended};
 use function_checks::function_walks::{Session, Walked};
 use function_entries::ordered_variables;
 use kernel_check::Kernel;
 use leaf_terms::{Recursion, order_of, ordered_telescope, ordered_term};
-use run_terms::free_of;
 use std::alloc::Global;
 
 /// The tree of clauses of a function or helper.
@@ -54,48 +51,7 @@ pub(crate) fn tree_of_clauses(
     }
 }
 
-/// Whether the first type of a telescope is over no variables.
-fn begins_closed(tele: &[Term]) -> bool
-    ensures { result ≡ orders.begins_closed (tele_of tele.now) }
-{
-    match tele {
-        [a, ..] => free_of(a) == 0,
-        [] => true,
-    }
-}
-
-/// The tree of the function's own clauses in a context whose types are in this order.
-fn tree_over(
-    alloc: Global,
-    s: Session,
-    w: &Walked,
-    ctx: &Tele,
-    count: u32,
-    order: &[u32],
-    kernel: &mut Kernel<'_>,
-) -> Result<Tree, Refusal>
-    requires kernel { kernel.old.signature ≡ s.sig.now }
-    requires start { IsStart s.sig.now (walked_of w.now) (tele_of ctx.now) count order.now }
-    ensures answer { Elaborates case_tree_of result kernel.new.left (walking s.entry.sig.now s.entry.name.now (split_of s.entry.sig.now (tele_of ctx.now) (recursion.ordered_term count order.now (tree_of w.now.part.goal)) (entries.ordered_variables order.now count) (clauses_of w.now.clauses.now) kernel.old.left)) }
-    ensures sum { kernel.new.left + kernel.new.spent ≡ kernel.old.left + kernel.old.spent }
-    ensures spends { kernel.new.left ≤ kernel.old.left }
-    ensures kernel { kernel.new.signature ≡ s.entry.sig.now }
-{
-    let goal = ordered_term(alloc, count, order, &w.part.goal)?;
-    let terms = ordered_variables(alloc, order, count)?;
-    tree_of_clauses(
-        alloc,
-        s.sig,
-        s.name.as_slice(),
-        ctx,
-        &goal,
-        &terms,
-        w.clauses,
-        kernel,
-    )
-}
-
-/// The tree of the function's own clauses in an order of its positions, or Deep where the first type in that order is over others.
+/// The tree of the function's own clauses in an order of its positions.
 fn tree_in_order(
     alloc: Global,
     s: Session,
@@ -107,17 +63,25 @@ fn tree_in_order(
     requires kernel { kernel.old.signature ≡ s.sig.now }
     requires own { IsOwnWalked s.sig.now (walked_of w.now) }
     requires count { count ≡ length w.now.part.tele }
-    requires order { IsOrder count order.now }
-    ensures answer { Elaborates case_tree_of result kernel.new.left (own_tree_made (session_of s.entry) (walked_of w.now) count order.now kernel.old.left) }
+    requires order { IsTelescopeOrder (walked_of w.now).part.tele order.now }
+    ensures answer { Elaborates case_tree_of result kernel.new.left (own_tree_of (session_of s.entry) (walked_of w.now) count order.now kernel.old.left) }
     ensures sum { kernel.new.left + kernel.new.spent ≡ kernel.old.left + kernel.old.spent }
     ensures spends { kernel.new.left ≤ kernel.old.left }
     ensures kernel { kernel.new.signature ≡ s.entry.sig.now }
 {
     let ctx = ordered_telescope(alloc, w.part.tele.as_slice(), order)?;
-    if !begins_closed(ctx.as_slice()) {
-        return Err(Refusal::Stop(Stop::Deep));
-    }
-    tree_over(alloc, s, w, &ctx, count, order, kernel)
+    let goal = ordered_term(alloc, count, order, &w.part.goal)?;
+    let terms = ordered_variables(alloc, order, count)?;
+    tree_of_clauses(
+        alloc,
+        s.sig,
+        s.name.as_slice(),
+        &ctx,
+        &goal,
+        &terms,
+        w.clauses,
+        kernel,
+    )
 }
 
 /// The tree of the function's own clauses, which starts from the order of recursion.
@@ -130,8 +94,8 @@ pub(crate) fn own_tree(
 ) -> Result<Tree, Refusal>
     requires kernel { kernel.old.signature ≡ s.sig.now }
     requires own { IsOwnWalked s.sig.now (walked_of w.now) }
-    requires order { IsOrder (length w.now.part.tele) (recursion.order_of (length w.now.part.tele) (option_map recursion_of (option_copied r))) }
-    ensures answer { Elaborates case_tree_of result kernel.new.left (own_tree_made (session_of s.entry) (walked_of w.now) (length w.now.part.tele) (recursion.order_of (length w.now.part.tele) (option_map recursion_of (option_copied r.entry))) kernel.old.left) }
+    requires order { IsTelescopeOrder (walked_of w.now).part.tele (recursion.order_of (length w.now.part.tele) (option_map recursion_of (option_copied r))) }
+    ensures answer { Elaborates case_tree_of result kernel.new.left (own_tree_of (session_of s.entry) (walked_of w.now) (length w.now.part.tele) (recursion.order_of (length w.now.part.tele) (option_map recursion_of (option_copied r.entry))) kernel.old.left) }
     ensures sum { kernel.new.left + kernel.new.spent ≡ kernel.old.left + kernel.old.spent }
     ensures spends { kernel.new.left ≤ kernel.old.left }
     ensures kernel { kernel.new.signature ≡ s.entry.sig.now }

@@ -1,7 +1,6 @@
 //! The lines that the program writes for a source file are those that are meant.
-ghost use Rattle.headline.specs.meaning_laws.Laws.{CompiledIsMeant, FewIndicesAreMeant, LinesAreMeant, RunIsMeant, WorkIsMeant};
+ghost use Rattle.headline.specs.meaning_laws.Laws.{CompiledIsMeant, LinesAreMeant, RunIsMeant, WorkIsMeant};
 
-use function_laws::declaration_laws::orders::texts_begin_closed;
 use function_laws::declaration_laws::text_is_meant;
 
 /// The lines that are defined for the declarations of a source file are those that are meant.
@@ -16,14 +15,6 @@ pub fn compiled_is_meant()
     ensures { CompiledIsMeant }
 {
     lines_are_meant();
-}
-
-/// So it is without a condition on functions, where no family has more than one index.
-pub fn few_indices_are_meant()
-    ensures { FewIndicesAreMeant }
-{
-    compiled_is_meant();
-    texts_begin_closed();
 }
 
 /// So is the output that is defined for `work`.

@@ -24,13 +24,13 @@ use Rattle.tree_translation.specs.Recursion.{Recursion, order_of, ordered_telesc
 use Rattle.clause_reports.specs.Equations.{part_named}
 use Rattle.clause_reports.specs.Stops as report
 use Rattle.clause_reports.specs.Stops.{ReportStop, Reporting}
-use Rattle.clause_reports.specs.elaboration.Functions.{helpers_finished, position_chosen}
+use Rattle.clause_reports.specs.elaboration.Functions.{helpers_finished, own_finished, position_chosen}
 use Rattle.clause_reports.specs.elaboration.Refusals as refusal
 use Rattle.clause_reports.specs.elaboration.Refusals.{Elaborating, OfDot, OfGoal, OfSide, OfWith, Owner, Refusal, granted, halting, of_report, of_tree, or_ends, or_halts, or_ill_typed, or_no_report, owner_of, reporting, walking}
 use Rattle.clause_reports.specs.elaboration.Walking.{Opened, Session, Walked, after_dots, and_level, check_dot, if_forced, if_low_level, open_over, opened, walk_clause, walk_clauses, walk_right, without_self}
-use Rattle.function_plans.specs.CodePlans.{chosen_made, own_finished_made, own_tree_made, parts_with, plan_made}
+use Rattle.function_plans.specs.CodePlans.{chosen_made, own_tree_of, parts_with, plan_made}
 use Rattle.memory_laws.specs.Foreseen.{IsForeseen, IsForeseenFunction, IsForeseenReport, IsForeseenTree}
-use Rattle.memory_laws.proofs.Runs.{Only, Ends, ok, no, now, done, next, either, either-ends, low, if-low}
+use Rattle.memory_laws.proofs.Runs.{Only, Ends, ok, no, now, done, next, either, low, if-low}
 use Rattle.memory_laws.proofs.Kernel.{check, convertible, infer, infer-sort, normal}
 use Rattle.memory_laws.proofs.Walks.{own-walk, split}
 use Rattle.memory_laws.proofs.ProofWalks.{recursion-found}
@@ -175,14 +175,12 @@ position s (NotSmaller rows) = no tt
 chosen : (s : Session) (tele : Telescope) (uses : List Use) → Only IsForeseenFunction (chosen_made s tele uses)
 chosen s tele uses = either _ (position s (choose s.signature tele s.own uses)) (no tt)
 
-own-tree : (s : Session) (w : Walked) (count : ℕ) (order : List ℕ) (left : ℕ) → Ends IsForeseenFunction (own_tree_made s w count order left)
+own-tree : (s : Session) (w : Walked) (count : ℕ) (order : List ℕ) (left : ℕ) → Ends IsForeseenFunction (own_tree_of s w count order left)
 own-tree s w count order left =
-    either-ends _
-    (walked s.signature s.name
-    (split s.signature (ordered_telescope w.part.tele order) (ordered_term count order w.part.goal) (ordered_variables order count) w.clauses left))
-    (now (no tt))
+    walked s.signature s.name
+    (split s.signature (ordered_telescope w.part.tele order) (ordered_term count order w.part.goal) (ordered_variables order count) w.clauses left)
 
-own-part : (s : Session) (r : Option Recursion) (w : Walked) (left : ℕ) → Ends IsForeseenFunction (own_finished_made s r w left)
+own-part : (s : Session) (r : Option Recursion) (w : Walked) (left : ℕ) → Ends IsForeseenFunction (own_finished s r w left)
 own-part s r w left = next (own-tree s w (length w.part.tele) (order_of (length w.part.tele) r) left) (λ t rest. done)
 
 pub helpers : (s : Session) (r : Option Recursion) (level number : ℕ) (ws : List Walked) (left : ℕ)

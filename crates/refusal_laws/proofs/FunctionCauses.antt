@@ -26,7 +26,7 @@ use Rattle.function_session.specs.function_lines.Conditions.{IsFunctionOver}
 use Rattle.function_session.specs.function_lines.FunctionMade.{all_entered, checked_entered, clause_line, clause_reported, draft_entered, drafts_entered, function_made, level_of, parts_reported, plan_entered, plan_over, plan_reported, reference_of, translated, values_entered, values_name, walks_reported}
 use Rattle.resolve.specs.Functions.{Function}
 use Rattle.refusal_laws.specs.Causes.{Caused, no_sort, too_high}
-use Rattle.refusal_laws.specs.Laws.{BeginsClosed, MeantIsCaused, RefusalIsCaused}
+use Rattle.refusal_laws.specs.Laws.{MeantIsCaused, RefusalIsCaused}
 use Rattle.refusal_laws.proofs.Chains.{Refuses, granted-caused, halts-caused, next-refuses, refused-err, report-caused}
 use Rattle.refusal_laws.proofs.PlanCauses.{plan-caused, plan-meant}
 use Rattle.refusal_laws.proofs.Rejections.{entering-rejects, mentioning-rejects}
@@ -178,17 +178,17 @@ module _ (S : Signature) (f : Function) where
   report_parts-caused plan k (part ∷ parts) T left =
       report_walks-caused plan k 0 part.walks (report_parts plan (k + 1) parts) (report_parts-caused plan (k + 1) parts) T left
 
-  meant-caused : (fuel : ℕ) → IsFunctionOver (with_own S f) f → BeginsClosed S f → Refuses (Caused S f) (function_of S f fuel)
-  meant-caused fuel over closed =
+  meant-caused : (fuel : ℕ) → IsFunctionOver (with_own S f) f → Refuses (Caused S f) (function_of S f fuel)
+  meant-caused fuel over =
       let asked = infer_sort_of S nesting [] f.type fuel in
       let found = granted S OfType asked in
       next-refuses Any (Caused S f) found _ (splits-any (Caused S f) found.0 (granted-caused S f S OfType asked.0
       (λ d is. no_sort S OfType [] f.type fuel d is refl))) (λ sort rest u.
       next-refuses Any (Caused S f) (answers (function_level S sort) rest) _ (splits-any (Caused S f) (function_level S sort) (level-caused S f S sort)) (λ level more v.
       next-refuses Any (Caused S f) (plan_of S f level more) _
-      (splits-any (Caused S f) (plan_of S f level more).0 (plan-meant S f level more over (λ position. closed level position))) (λ plan end x.
+      (splits-any (Caused S f) (plan_of S f level more).0 (plan-meant S f level more over)) (λ plan end x.
       next-refuses Any (Caused S f) (enter_plan S plan end) _ (splits-any (Caused S f) (enter_plan S plan end).0 (enter_plan-caused plan end)) (λ T last y.
       report_parts-caused plan 0 plan.parts T last))))
 
 pub meant-is_caused : MeantIsCaused
-meant-is_caused S f fuel e over closed is = refused-err (Caused S f) (function_of S f fuel).0 e is (meant-caused S f fuel over closed)
+meant-is_caused S f fuel e over is = refused-err (Caused S f) (function_of S f fuel).0 e is (meant-caused S f fuel over)

@@ -9,14 +9,13 @@ use Rattle.core_terms.specs.Clauses.{Clauses}
 use Rattle.core_terms.specs.declared.stop.Stop.TheVariants.{Deep}
 use Rattle.tree_translation.proofs.structural_rec.ChosenPositions.{not-smaller}
 use Rattle.tree_translation.specs.structural_rec.Choices.{Choice, NotRecursive, At, NotSmaller, choose}
-use Rattle.tree_translation.specs.structural_rec.Laws.{IsOrder}
+use Rattle.tree_translation.specs.structural_rec.Laws.{IsTelescopeOrder}
 use Rattle.case_trees.proofs.TreeStanding.{tree_caused, tree_stop_scoped}
 use Rattle.case_trees.specs.Laws.{IsGiven}
 use Rattle.case_trees.specs.Points.{start_at}
 use Rattle.case_trees.specs.Scoped.{AreClausesFor}
 use Rattle.case_trees.specs.Trees.{split_of}
 use Rattle.entry_laws.proofs.order_scopes.RecursionOrders.{recursion-ordered}
-use Rattle.entry_laws.specs.order_scopes.Laws.{begins_closed}
 use Rattle.tree_translation.specs.Entries.{ordered_variables}
 use Rattle.tree_translation.specs.Recursion.{Recursion, order_of, ordered_telescope, ordered_term}
 use Rattle.clause_reports.proofs.Keeping.{Any}
@@ -30,9 +29,9 @@ use Rattle.function_plans.proofs.SameChoices.{choice-same, provisional-same, rec
 use Rattle.function_session.proofs.function_lines.SamePlans.{walked_of}
 use Rattle.function_session.specs.function_lines.Conditions.{IsFunctionOver}
 use Rattle.function_session.specs.function_lines.FunctionMade.{plan_given, plan_over, session_at}
-use Rattle.function_plans.proofs.Orders.{found-is}
-use Rattle.function_plans.proofs.Starts.{start-clauses, start-given, starts}
-use Rattle.function_plans.specs.CodePlans.{IsOwnWalked, IsStart, are_low_uses, chosen_made, own_alone, own_finished_made, own_tree_made, own_tree_of, parts_made}
+use Rattle.function_plans.proofs.Orders.{found-is, in-is}
+use Rattle.function_plans.proofs.Starts.{IsStart, start-clauses, start-given, starts}
+use Rattle.function_plans.specs.CodePlans.{IsOwnWalked, are_low_uses, chosen_made, own_alone, own_tree_of, parts_made}
 use Rattle.function_session.specs.Laws.{inner}
 use Rattle.leaf_terms.specs.RecursionMade.{made_at}
 use Rattle.resolve.specs.Functions.{Function}
@@ -43,7 +42,6 @@ use Rattle.refusal_laws.proofs.Ends.{end-caused}
 use Rattle.refusal_laws.proofs.PartScopes.{part-walkable}
 use Rattle.refusal_laws.proofs.WalkCauses.{AreHelpers, GivesHelpers, all-from, all-listed, clauses-caused, halting-is, splits-any}
 use Rattle.written_functions.specs.Clauses.{with_own}
-use Rattle.written_functions.proofs.MadeClosed.{in-is}
 
 -- ---- trees
 
@@ -80,9 +78,8 @@ own-at S f level = record { is = own level; listed = refl }
 
 own-tree : (S : Signature) (f : Function) (level : ℕ) (given : Given) (position : Option ℕ) (order : List ℕ) (left : ℕ) → IsFunctionOver (with_own S f) f
     → order ≡ order_of (length (own_part f level).tele) (recursion_in (with_own S f) (own_part f level).tele position)
-    → begins_closed (ordered_telescope (own_part f level).tele order) ≡ true
     → Refuses (Caused S f) (own_tree_of (session_at S f) (walked_of f level given) (length (own_part f level).tele) order left)
-own-tree S f level given position order left over same closed =
+own-tree S f level given position order left over same =
     let T = with_own S f in
     let part = own_part f level in
     let tele = part.tele in
@@ -92,45 +89,25 @@ own-tree S f level given position order left over same closed =
       walked = part-walked T w (own-part-for over.before T f level over.prefix over.ready over.resolved);
       columns = own-columns over.before T f level over.resolved;
     } in
-    let ordered : IsOrder count order =
-    transport (IsOrder count) (ap (order_of count) (in-is T tele position) ∙ sym same) (recursion-ordered T tele position) in
+    let ordered : IsTelescopeOrder tele order =
+    transport (IsTelescopeOrder tele) (ap (order_of count) (in-is T tele position) ∙ sym same) (recursion-ordered T tele position) in
     let context = ordered_telescope tele order in
     let goal = ordered_term count order part.goal in
     let terms = ordered_variables order count in
-    let start : IsStart T w context count order = starts T w context count order own_walked refl ordered refl closed in
+    let start : IsStart T w context count order = starts T w context count order own_walked refl ordered refl in
     split-caused S f 0 part f.clauses context goal terms left (own-at S f level) (start-given T w context count order start goal terms refl refl)
     (start-clauses T w context count order start terms refl) (from_order part position order same)
 
--- the function's own part as it is made
-own-made : (S : Signature) (f : Function) (level : ℕ) (given : Given) (position : Option ℕ) (r : Option Recursion) (left : ℕ)
+-- a refusal of the own tree has its cause
+own-caused : (S : Signature) (f : Function) (level : ℕ) (given : Given) (position : Option ℕ) (r : Option Recursion) (left : ℕ)
     → IsFunctionOver (with_own S f) f → r ≡ recursion_in (with_own S f) (own_part f level).tele position
-    → Refuses (Caused S f) (own_finished_made (session_at S f) r (walked_of f level given) left)
-own-made S f level given position r left over same =
-    let N = Caused S f in
-    let tele = (own_part f level).tele in
-    let order = order_of (length tele) r in
-    let tree = own_tree_made (session_at S f) (walked_of f level given) (length tele) order left in
-    next-refuses Any N tree _ (splits-any N tree.0 (by (begins_closed (ordered_telescope tele order)) refl)) (λ t rest u. tt)
-  where
-    by : (b : Bool) → begins_closed (ordered_telescope (own_part f level).tele (order_of (length (own_part f level).tele) r)) ≡ b
-        → Refuses (Caused S f)
-        (cond b (own_tree_of (session_at S f) (walked_of f level given) (length (own_part f level).tele) (order_of (length (own_part f level).tele) r) left)
-        (answers (Err (Halts Deep)) left))
-    by true closed =
-        own-tree S f level given position (order_of (length (own_part f level).tele) r) left over (ap (order_of (length (own_part f level).tele)) same) closed
-    by false unclosed = tt
-
--- a refusal of the own tree that is meant has its cause
-own-meant : (S : Signature) (f : Function) (level : ℕ) (given : Given) (position : Option ℕ) (r : Option Recursion) (left : ℕ)
-    → IsFunctionOver (with_own S f) f → r ≡ recursion_in (with_own S f) (own_part f level).tele position
-    → begins_closed (ordered_telescope (own_part f level).tele (order_of (length (own_part f level).tele) r)) ≡ true
     → Refuses (Caused S f) (own_finished (session_at S f) r (walked_of f level given) left)
-own-meant S f level given position r left over same closed =
+own-caused S f level given position r left over same =
     let N = Caused S f in
     let tele = (own_part f level).tele in
     let tree = own_tree_of (session_at S f) (walked_of f level given) (length tele) (order_of (length tele) r) left in
     next-refuses Any N tree _
-    (splits-any N tree.0 (own-tree S f level given position (order_of (length tele) r) left over (ap (order_of (length tele)) same) closed)) (λ t rest u. tt)
+    (splits-any N tree.0 (own-tree S f level given position (order_of (length tele) r) left over (ap (order_of (length tele)) same))) (λ t rest u. tt)
 
 -- ---- the position
 
@@ -200,10 +177,10 @@ given-caused S f level left more given over by =
         next-refuses (λ r. found ≡ Ok r) N (answers (or_halts found) rest) _ (halting-is N found (halts-caused S f found)) (λ r end is.
         let first = own_alone s r w end in
         let same = found-is (with_own S f) tele position r (sym is) ∙ in-is (with_own S f) tele position in
-        let finished_part = own_finished_made s r w end in
+        let finished_part = own_finished s r w end in
         next-refuses Any N first _
         (splits-any N first.0
-        (next-refuses Any N finished_part _ (splits-any N finished_part.0 (own-made S f level given position r end over same)) (λ own last v. tt)))
+        (next-refuses Any N finished_part _ (splits-any N finished_part.0 (own-caused S f level given position r end over same)) (λ own last v. tt)))
         (λ made last u.
         let helpers = helpers_finished s r level 1 given.helpers last in
         next-refuses Any N helpers _ (splits-any N helpers.0 (helpers-caused S f r level 1 given.helpers last over by.helpers.helpers)) (λ parts final v. tt)))
@@ -215,11 +192,8 @@ plan-caused S f level left over =
 
 -- as it is meant
 pub plan-meant : (S : Signature) (f : Function) (level left : ℕ) → IsFunctionOver (with_own S f) f
-    → ((position : Option ℕ) → begins_closed
-    (ordered_telescope (own_part f level).tele
-    (order_of (length (own_part f level).tele) (recursion_in (with_own S f) (own_part f level).tele position))) ≡ true)
     → Refuses (Caused S f) (plan_of S f level left)
-plan-meant S f level left over closed =
+plan-meant S f level left over =
     let T = with_own S f in
     let s = session_at S f in
     let N = Caused S f in
@@ -236,7 +210,6 @@ plan-meant S f level left over closed =
     let first = own_finished s r w more in
     next-refuses Any N first _
     (splits-any N first.0
-    (own-meant S f level given position r more over same
-    (transport (λ x. begins_closed (ordered_telescope tele (order_of (length tele) x)) ≡ true) (sym same) (closed position)))) (λ part end v.
+    (own-caused S f level given position r more over same)) (λ part end v.
     let helpers = helpers_finished s r level 1 given.helpers end in
     next-refuses Any N helpers _ (splits-any N helpers.0 (helpers-caused S f r level 1 given.helpers end over by.helpers.helpers)) (λ parts last x. tt))))

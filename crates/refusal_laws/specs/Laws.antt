@@ -1,19 +1,17 @@
 -- The laws of the refusals of functions by clauses.
-use Rattle.std.specs.Prelude.{◌≡◌, ◌⊎◌, ℕ, true, Option, Ok, Err, List, length}
+use Rattle.std.specs.Prelude.{◌≡◌, ◌⊎◌, ℕ, Ok, Err, List}
 use Rattle.theory.specs.Signatures.{Signature}
 use Rattle.clause_reports.specs.Stops.{Rejection}
 use Rattle.elab_session.specs.Sessions.{IsReady}
-use Rattle.clause_reports.specs.elaboration.Functions.{function_of, own_part, recursion_in}
+use Rattle.clause_reports.specs.elaboration.Functions.{function_of}
 use Rattle.clause_reports.specs.elaboration.Refusals as refusal
 use Rattle.clause_reports.specs.elaboration.Refusals.{FailingCall, Owner, Part, Refusal}
 use Rattle.function_session.specs.function_lines.Conditions.{IsFunctionOver}
 use Rattle.function_session.specs.function_lines.FunctionMade.{function_made}
 use Rattle.function_session.specs.Elaborating as session
 use Rattle.function_session.specs.Elaborating.{elaborate_of}
-use Rattle.entry_laws.specs.order_scopes.Laws.{begins_closed}
 use Rattle.resolve.specs.Functions.{Function, function, resolve_fun}
 use Rattle.surface_syntax.specs.Trees.{Decl}
-use Rattle.tree_translation.specs.Recursion.{order_of, ordered_telescope}
 use Rattle.refusal_laws.specs.Causes.{AreFailing, Caused, IsDenied, IsEnd, IsIllTyped, IsMismatch, IsUncovered}
 use Rattle.written_functions.specs.Clauses.{with_own}
 
@@ -25,16 +23,10 @@ OfRefusals Holds =
 abbrev pub RefusalIsCaused : Type 0
 RefusalIsCaused = OfRefusals Caused
 
--- the telescope of the function begins with a type over no variables in whatever order of recursion
-abbrev pub BeginsClosed : Signature → Function → Type 0
-BeginsClosed S f =
-    (level : ℕ) (position : Option ℕ) →
-    (let tele = (own_part f level).tele in begins_closed (ordered_telescope tele (order_of (length tele) (recursion_in (with_own S f) tele position)))) ≡ true
-
--- Each refusal that is meant has its cause too, for such a function. Without recursion each function is one.
+-- Each refusal that is meant has its cause too.
 abbrev pub MeantIsCaused : Type 0
 MeantIsCaused =
-    (S : Signature) (f : Function) (fuel : ℕ) (e : Refusal) → IsFunctionOver (with_own S f) f → BeginsClosed S f → (function_of S f fuel).0 ≡ Err e →
+    (S : Signature) (f : Function) (fuel : ℕ) (e : Refusal) → IsFunctionOver (with_own S f) f → (function_of S f fuel).0 ≡ Err e →
     Caused S f e
 
 -- Where a declaration is refused for a reason of functions by clauses, the refusal has its cause at the function that is written.

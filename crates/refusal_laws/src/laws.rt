@@ -6,7 +6,7 @@ pub fn refusal_is_caused()
     ensures { RefusalIsCaused }
 {}
 
-/// So has a refusal that is meant, where the function begins with a closed type in each order of recursion.
+/// So has a refusal that is meant.
 pub fn meant_is_caused()
     ensures { MeantIsCaused }
 {}

@@ -1,4 +1,4 @@
--- What the code makes after an injectivity.
+-- The proofs and equations that the code makes after an injectivity.
 use Rattle.std.proofs.Common.{◌≡◌, ℕ, List, Result, Ok, ap, ap₂, ◌∙◌}
 use Rattle.theory.specs.Terms.{Term}
 use Rattle.theory.specs.Telescopes.{variables}

@@ -1,4 +1,4 @@
--- Equations after an injectivity, and what a constructor's record brings there.
+-- Equations after an injectivity, and the parts of a constructor's record there.
 use Rattle.std.proofs.Common.{◌≡◌, ℕ, ◌+◌, List, [], ◌∷◌, ◌++◌, length, map, ap, sym, ◌∙◌}
 use Rattle.std.proofs.lemmas.List.{length-map}
 use Rattle.theory.specs.Terms.{Term, Con}

@@ -1,4 +1,4 @@
--- What is made is what is meant.
+-- Lists that are made with a bound are the lists themselves.
 use Rattle.std.proofs.Common.{◌≡◌, ℕ, zero, suc, ◌+◌, nat_le, ◌&&◌, Bool, true, false, cond, List, ◌∷◌, ◌++◌, length, take, Result, Ok, Err, refl, sym, ap, ap₂, ◌∙◌}
 use Rattle.theory.specs.Terms.{Term, App, Const}
 use Rattle.theory.specs.Telescopes.{applied}

@@ -1,4 +1,4 @@
--- What the code makes after a solution and after a deletion.
+-- The standings that the code makes after a solution and after a deletion.
 use Rattle.std.proofs.Common.{◌≡◌, ℕ, List, ◌++◌, length, None}
 use Rattle.theory.specs.Terms.{Term}
 use Rattle.theory.specs.Signatures.{reflexivity}

@@ -20,7 +20,7 @@ compared_made s c = and_then (member_equations c) (λ types. Ok (placed_telescop
 abbrev pub index_reflexivities : Comparison → Result (List Term) Stop
 index_reflexivities c = reflexivities_made (take (length c.family.indices) (family_items c.n c.family c.parameters)) c.indices
 
--- what the equations of a group have before them
+-- the terms before the equations of a group
 abbrev pub before_group : Comparison → (k : ℕ) → Result (List Term) Stop
 before_group c zero = index_reflexivities c
 before_group c (suc k) = Ok []

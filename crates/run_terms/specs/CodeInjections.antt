@@ -31,7 +31,7 @@ arguments_of c = argument_items c.n c.parameters c.left.constructor
 abbrev pub terms_at : Comparison → (ps : List Term) → List Term
 terms_at c ps = constructor_terms c.n c.left.number ps c.left.constructor
 
--- what proves the equations of the group, at parameters after `count` equations
+-- the proofs of the equations of the group, at parameters after `count` equations
 abbrev pub proofs_after : Comparison → (count : ℕ) (ps : List Term) → Result (List Term) Stop
 proofs_after c count ps =
     congruences_made (argument_items c.n ps c.left.constructor) (family_items c.n c.family ps)

@@ -1,4 +1,4 @@
--- What the places of the code stand for.
+-- The meanings of the code's places.
 use Rattle.std.specs.Prelude.{Option, Some, None}
 use Rattle.core_terms.specs.Levels.{variable}
 use Rattle.core_terms.specs.Meanings.{tele_of}

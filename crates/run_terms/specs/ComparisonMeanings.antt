@@ -1,4 +1,4 @@
--- What members and comparisons of the code stand for.
+-- The meanings of the code's members and comparisons.
 use Rattle.std.specs.Prelude.{length}
 use Rattle.core_terms.specs.Meanings.{tele_of}
 use Rattle.core_sig.specs.Kinds.{HaveKinds}

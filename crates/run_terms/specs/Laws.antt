@@ -1,4 +1,4 @@
--- What is answered as the term of an injectivity or of a conflict is that term.
+-- The term that is answered for an injectivity or a conflict is that of the definition.
 use Rattle.std.specs.Prelude.{◌≡◌, ℕ, Ok}
 use Rattle.theory.specs.Terms.{Term}
 use Rattle.tree_translation.specs.Comparisons.{Comparison}

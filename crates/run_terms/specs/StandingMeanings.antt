@@ -1,4 +1,4 @@
--- What states and standings of the code stand for.
+-- The meanings of the code's states and standings.
 use Rattle.std.specs.Prelude.{List, [], map}
 use Rattle.core_terms.specs.Meanings.{tree_of, tele_of}
 use Rattle.tele_eq.specs.Items.{item_of}

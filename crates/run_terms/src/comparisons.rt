@@ -295,7 +295,7 @@ fn compared_by<'a>(
     }
 }
 
-/// What a step by injectivity or conflict compares.
+/// The comparison of a step by injectivity or conflict.
 pub fn compared<'a>(
     alloc: Global,
     sig: &'a Signature,

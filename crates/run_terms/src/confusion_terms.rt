@@ -36,7 +36,7 @@ fn member_equations(alloc: Global, c: &Comparison) -> Result<Tele, Stop>
     equations_made(alloc, &items, &left, &right)
 }
 
-/// The same, after the equations of a standing.
+/// These equations after the equations of a standing.
 fn compared_equations(alloc: Global, s: &Standing, c: &Comparison) -> Result<Tele, Stop>
     ensures { Gives tele_of result (spec.compared_made (standing_of s.now) (comparison_of c.now)) }
 {
@@ -60,7 +60,7 @@ fn index_reflexivities(alloc: Global, c: &Comparison) -> Result<Tele, Stop>
     reflexivities_made(alloc, &items, &c.indices)
 }
 
-/// What the equations of a group of `k + 1` have before them: reflexivities where there is one alone, and else nothing.
+/// The terms before the equations of a group of `k + 1`: reflexivities if there is one equation alone, and else nothing.
 fn before_group(alloc: Global, c: &Comparison, k: u32) -> Result<Tele, Stop>
     ensures { Gives tele_of result (spec.before_group (comparison_of c.now) k) }
 {
@@ -103,7 +103,7 @@ fn applied_to_right(alloc: Global, head: Term, s: &Standing, c: &Comparison) -> 
     applied_here(alloc, head, s, right.as_slice())
 }
 
-/// `D!noconf.c.L ps as vs (c' ps bs) E`, where what comes before the equations of the group is given.
+/// `D!noconf.c.L ps as vs (c' ps bs) E`, where the terms before the equations of the group are given.
 #[tactic(auto, using(crate::proofs::Spines::spines))]
 fn confused(
     alloc: Global,

@@ -43,7 +43,7 @@ fn placed_after(
     placed(alloc, levels.as_slice(), sum(n, count)?, t)
 }
 
-/// The same of a term after `count` places.
+/// A term after `count` places and over the variables that are not hidden, as one over all `n` variables and the places.
 pub fn widened_after(
     alloc: Global,
     n: u32,

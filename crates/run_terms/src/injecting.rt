@@ -104,7 +104,7 @@ fn equation_at(alloc: Global, x: &Item, ty: &Term, u: &Term, v: &Term) -> Result
     equation_between(place, ty, left, right)
 }
 
-/// What stands for the first `count` places after a context: terms over the variables up to a depth.
+/// The places where terms, over the variables up to a depth, replace the first `count` places after a context.
 fn after_places(size: u32, count: u32, depth: u32, terms: &[Term]) -> Places
     ensures { environment_of result ≡ behind size count depth variable (over_first depth (tele_of terms.now)) }
 {

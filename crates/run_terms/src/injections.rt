@@ -38,7 +38,7 @@ fn terms_at(alloc: Global, c: &Comparison, ps: &[Term]) -> Result<Tele, Stop>
     constructor_terms(alloc, built.family, built.number, ps, built.con)
 }
 
-/// What proves the equations between terms over two telescopes, after the equations of the arguments, or Deep.
+/// The proofs of the equations between terms over two telescopes, after the equations of the arguments, or Deep.
 fn proofs_between(
     alloc: Global,
     c: &Comparison,
@@ -55,7 +55,8 @@ fn proofs_between(
     congruences_made(alloc, from, to, terms, &left, &right, &eqs)
 }
 
-/// What proves each equation of a group, after the equations of the arguments, at the parameters that the equations have, or Deep.
+/// The proof of each equation of a group, after the equations of the arguments, at the parameters that the equations have, or
+/// Deep.
 fn proofs_after(alloc: Global, c: &Comparison, count: u32, ps: &[Term]) -> Result<Tele, Stop>
     requires kinds { HaveKinds c.now.left.built.family (family_of c.now.left.built.record.now) 0 c.now.left.built.con.now.args }
     requires parameters { length ps.now ≡ length c.now.left.built.record.now.params }
@@ -68,7 +69,7 @@ fn proofs_after(alloc: Global, c: &Comparison, count: u32, ps: &[Term]) -> Resul
     proofs_between(alloc, c, count, &from, &to, &terms)
 }
 
-/// What proves each equation of a group, after the equations of the arguments, or Deep.
+/// The proof of each equation of a group, after the equations of the arguments, or Deep.
 fn group_proofs(alloc: Global, c: &Comparison) -> Result<Tele, Stop>
     requires kinds { HaveKinds c.now.left.built.family (family_of c.now.left.built.record.now) 0 c.now.left.built.con.now.args }
     requires parameters { length c.now.parameters ≡ length c.now.left.built.record.now.params }

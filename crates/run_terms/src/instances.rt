@@ -19,7 +19,7 @@ use core_terms::{
 use std::alloc::Global;
 use tele_eq::Item;
 
-/// What stands for a variable under so many binders: a value, the last one for the nearest variable, or Type 0.
+/// The term for a variable under so many binders: a value, the last one for the nearest variable, or Type 0.
 fn value(alloc: Global, values: &[Term], n: u32, under: u32) -> Result<Term, Stop>
     ensures { Gives tree_of result (Ok (under_binders under (fill no_variable (tele_of values.now)) n)) }
 {

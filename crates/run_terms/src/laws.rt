@@ -1,12 +1,12 @@
-//! What is answered as a term is the term that is meant.
+//! The terms that are answered are those of the definitions.
 ghost use Rattle.run_terms.specs.Laws.{ConflictIsTerm, InjectIsTerm};
 
-/// What is answered as the term of an injectivity is that term.
+/// The term that is answered for an injectivity is that of the definition.
 pub fn inject_is_term()
     ensures { InjectIsTerm }
 {}
 
-/// What is answered as the term of a conflict is that term.
+/// The term that is answered for a conflict is that of the definition.
 pub fn conflict_is_term()
     ensures { ConflictIsTerm }
 {}

@@ -12,7 +12,7 @@ use core_sig::{Constructor, Family};
 use core_terms::{Name, Stop};
 use std::alloc::Global;
 
-/// A text with a level after it, in decimal.
+/// `text` with a level after it, in decimal.
 fn with_level(mut text: Vec<u8>, m: u8) -> Result<Vec<u8>, Stop>
     ensures { Gives (λ v. v.items) result (Ok (text.items ++ level_text m)) }
 {
@@ -23,7 +23,7 @@ fn with_level(mut text: Vec<u8>, m: u8) -> Result<Vec<u8>, Stop>
     Ok(text)
 }
 
-/// The name of what is generated for a family at a level: the family's name, a mark and the level.
+/// The name of an entry that is generated for a family at a level: the family's name, a mark and the level.
 pub fn generated_name(alloc: Global, family: &[u8], mark: &[u8], m: u8) -> Result<Name, Stop>
     ensures { Gives (λ name. name) result (Ok (drafts.generated_name family.now mark.now m)) }
 {

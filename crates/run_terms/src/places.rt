@@ -23,8 +23,8 @@ pub struct After<'a> {
     pub terms: &'a [Term],
 }
 
-/// What stands for the variables of a context: variables with other levels, or with their places in a new order; the same with one
-/// of them solved; or the same with terms for places after the context.
+/// Terms for the variables of a context: variables with other levels, or with their places in a new order; those with one of them
+/// solved; or those with terms for places after the context.
 #[derive(Clone, Copy)]
 pub enum Places<'a> {
     Levels(&'a [u32]),
@@ -80,7 +80,7 @@ fn solved_at(alloc: Global, solution: Option<Solution>, depth: u32, j: u32) -> R
     }
 }
 
-/// What comes after the variables of a context.
+/// The term for a variable that comes after those of a context, at a depth.
 #[cycle(put)]
 fn after_at(alloc: Global, after: After, depth: u32, j: u32) -> Result<Term, Stop>
     ensures { Gives tree_of result (Ok (after_environment after.entry depth j)) }
@@ -96,7 +96,7 @@ fn after_at(alloc: Global, after: After, depth: u32, j: u32) -> Result<Term, Sto
     Ok(variable_at(depth, after.new as u64 + (place - after.count) as u64))
 }
 
-/// What stands for a variable, at a depth.
+/// The term for a variable, at a depth.
 #[cycle(put)]
 fn at(alloc: Global, places: Places, depth: u32, j: u32) -> Result<Term, Stop>
     ensures { Gives tree_of result (Ok (environment_of places.entry depth j)) }
@@ -131,7 +131,7 @@ fn put_variable(
     at(alloc, places, sum(depth, under)?, position as u32)
 }
 
-/// The same, under so many binders of the term's own.
+/// `put` under so many binders of the term's own.
 #[cycle(put)]
 pub fn put_under(
     alloc: Global,
@@ -184,7 +184,7 @@ pub fn put_under(
     }
 }
 
-/// A term over the first `size` variables with what stands for them, at a depth. Nothing tests its height.
+/// A term over the first `size` variables with their terms put in, at a depth. Nothing tests its height.
 pub fn put(alloc: Global, places: Places, size: u32, depth: u32, t: &Term) -> Result<Term, Stop>
     ensures { Gives tree_of result (Ok (environments.put (environment_of places.entry) size depth (tree_of t.now))) }
 {

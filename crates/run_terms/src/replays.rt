@@ -42,7 +42,7 @@ fn copied_reflexivity(alloc: Global, level: u8, ty: &Term, a: &Term) -> Result<T
     Term::application_of(alloc, head, copy_whole(alloc, a))
 }
 
-/// `refl.i A u` of what is solved, over the variables in their new order.
+/// `refl.i A u` of the solved variable, over the variables in their new order.
 fn solved_reflexivity(
     alloc: Global,
     level: u8,
@@ -59,7 +59,7 @@ fn solved_reflexivity(
     Term::application_of(alloc, head, put(alloc, reordered, size, depth, solution.by))
 }
 
-/// What stands for the first place after a context of `size` variables, of which `depth` are left: the term.
+/// The places where `terms` replace the first place after a context of `size` variables, of which `depth` are left.
 fn after_one<'a>(
     solution: Option<Solution<'a>>,
     size: u32,
@@ -260,7 +260,7 @@ pub fn solved_standing(
     solved_by(alloc, s, x, ty, by, kept.as_slice(), moved.as_slice())
 }
 
-/// The same standing with other equations, which are bound after its own.
+/// The standing with other equations, which are bound after its own.
 pub fn with_equations(
     alloc: Global,
     s: &Standing,

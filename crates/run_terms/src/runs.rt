@@ -60,7 +60,7 @@ fn copy_state(alloc: Global, s: &State) -> Result<State, Stop>
     })
 }
 
-/// The same standing in memory of its own.
+/// A copy of a standing.
 pub fn copy_standing(alloc: Global, s: &Standing) -> Result<Standing, Stop>
     ensures { Gives standing_of result (Ok (standing_of s.now)) }
 {
@@ -104,7 +104,7 @@ fn after_injection(
     }
 }
 
-/// The same, where the sides of the step may be too high.
+/// The standing after a step by injectivity whose sides may be too high, or Deep.
 fn after_high_injection(
     alloc: Global,
     sig: &Signature,

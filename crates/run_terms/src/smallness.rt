@@ -47,7 +47,7 @@ pub fn small_term(t: &Term) -> Result<(), Stop>
     Ok(())
 }
 
-/// The same of a list of terms.
+/// Deep if a term of the list is too high, and Memory if its variables have too great numbers.
 pub fn small_terms(terms: &[Term]) -> Result<(), Stop>
     ensures small { OnOk result (AreSmallTerms (tele_of terms.now)) }
     ensures low { OnOk result (are_low (tele_of terms.now) ≡ true) }
@@ -62,7 +62,7 @@ pub fn small_terms(terms: &[Term]) -> Result<(), Stop>
     }
 }
 
-/// The same of the types of a telescope.
+/// Deep if a type of the telescope is too high, and Memory if its variables have too great numbers.
 fn small_items(tele: &[Item]) -> Result<(), Stop>
     ensures small { OnOk result (AreSmall (items_of tele.now)) }
     ensures low { OnOk result (are_low_items (items_of tele.now) ≡ true) }

@@ -148,7 +148,7 @@ fn equation_with(
     }
 }
 
-/// `(dependants as they stand) -> (E2 as they stand) -> G`, after the binders of the variable, at this depth, and of its equation.
+/// `(dependants as they are) -> (E2 as they are) -> G`, after the binders of the variable, at this depth, and of its equation.
 fn motive_body(
     alloc: Global,
     s: &Standing,
@@ -184,7 +184,7 @@ fn motive_equation(
     equation_with(alloc, on_right, level, ty, by, Term::Var(0))
 }
 
-/// The same with the levels that the variables have after these binders.
+/// This body with the levels that the variables have after these binders.
 fn motive_after(
     alloc: Global,
     s: &Standing,
@@ -198,7 +198,7 @@ fn motive_after(
     motive_body(alloc, s, levels.as_slice(), moved, depth)
 }
 
-/// `\(e : its equation with u). (dependants as they stand) -> (E2 as they stand) -> G`, one binder further in.
+/// `\(e : its equation with u). (dependants as they are) -> (E2 as they are) -> G`, one binder further in.
 fn motive_inside(
     alloc: Global,
     s: &Standing,
@@ -215,7 +215,7 @@ fn motive_inside(
     Term::function_of(alloc, domain, motive_after(alloc, s, x, moved, depth))
 }
 
-/// `\(x : A) (e : its equation with u). (dependants as they stand) -> (E2 as they stand) -> G`, where the dependants are given.
+/// `\(x : A) (e : its equation with u). (dependants as they are) -> (E2 as they are) -> G`, where the dependants are given.
 fn solution_motive(
     alloc: Global,
     s: &Standing,

@@ -1,4 +1,4 @@
--- What a step by injectivity or conflict compares is what the rule speaks of.
+-- The comparison of a step by injectivity or conflict is between the members that the rule speaks of.
 use Rattle.std.proofs.Common.{◌≡◌, ◌≢◌, ℕ, zero, suc, ◌+◌, ◌-◌, ◌==◌, true, cond, Some, None, option_and_then, List, [], ◌∷◌, ◌++◌, length, map, take, drop, slice_get, refl, sym, ap, ap₂, ◌∙◌, arith}
 use Rattle.std.proofs.lemmas.Bool.Decides.{nat_tests}
 use Rattle.std.proofs.lemmas.List.{length-append}
@@ -82,7 +82,7 @@ pub compared-built : (S : Signature) (s : State) (step : Step) (b d : Built) →
 compared-built S s step b d left right e f =
     ap₂ (compared_in s step) (ap (built_of S) e ∙ built-again S b left) (ap (built_of S) f ∙ built-again S d right)
 
--- what a group compares
+-- the comparison of a group
 pub compared-group : (S : Signature) (s : State) (k : ℕ) (f : Family) (ps : List Term) (type : Term) (b d : Built) → k ≢ 0
     → IsEntryAt S b.n (FamilyOf f) → IsBuilt S b → type ≡ applied (Fam b.n) (lifted k ps ++ variables k)
     → (let c : Comparison = record { n = b.n; family = f; parameters = ps; left = b; right = d; indices = take k (right_sides s.equations) } in

@@ -13,7 +13,7 @@ use Rattle.tree_translation.proofs.ContextInstances.{Agrees, AgreesFrom, AreMove
 use Rattle.tree_translation.proofs.TelescopeInstances.{IsInstance, moved-reflexive, greatest-same}
 use Rattle.tree_translation.proofs.EquationInstances.{IsGoalMoved, IsSetting, moved-equation, moved-left, moved-telescopic_j}
 
--- two telescopes and terms over the first one, with what they become
+-- two telescopes and terms over the first one, with their instances
 pub record AreInstances (s : ℕ → Term) (X X' Y Y' : List Item) (f f' : List Term) : Type 0 where
   pub first : IsInstance s X X'
   pub second : IsInstance s Y Y'

@@ -62,7 +62,7 @@ moved-outside s ts k p = moved-lift s k (term_at ts p) ∙ ap (λ t. lift t k 0)
 
 -- ---- terms over a telescope
 
--- what is further out than a telescope
+-- variables under the binders are the same, and those beyond a telescope are moved
 record IsFar (size depth under : ℕ) (r r' : ℕ → ℕ) : Type 0 where
   each : (v : ℕ) → ((r v < under) × (r' v ≡ r v)) ⊎ ((size + under ≤ r v) × (r' v ≡ r v - size + depth))
 

@@ -33,7 +33,7 @@ each-helper P S plan r k [] (d ∷ others) holds are = elim are [ ]
 each-helper P S plan r k (part ∷ parts) all holds (AreHelpers.more {helpers = helpers} {d = d} is are) =
     All-append P helpers (d ∷ []) (each-helper P S plan r (k + 1) parts helpers holds are) (only P d (holds k part d is))
 
--- what holds of the four kinds of entries holds of all
+-- a property of the four kinds of entries is one of all entries
 pub each-entry : (P : Draft → Type 0) (S : Signature) (plan : Plan) (r : Option Recursion) (all : List Draft)
     → ((r : Recursion) (d : Draft) → motive_entry plan r ≡ Ok d → P d)
     → ((k : ℕ) (part : Part) (d : Draft) → helper_entry S plan r k part ≡ Ok d → P d)

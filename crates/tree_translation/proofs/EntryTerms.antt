@@ -1,4 +1,4 @@
--- What holds of each term of an entry holds of the list of its terms.
+-- A property of each term of an entry is one of the list of its terms.
 use Rattle.std.proofs.Common.{ℕ, ◌+◌, List, [], ◌∷◌, ◌++◌, length, flat_map, All}
 use Rattle.std.proofs.lemmas.List.Elements.{All-nil, All-cons, All-head, All-append}
 use Rattle.theory.specs.Terms.{Term}

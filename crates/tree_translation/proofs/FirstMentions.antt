@@ -27,7 +27,7 @@ mention-number base places c = elim (below-or_from c base) [
       ∙ ap (map (place_in places)) (sym (second-of_two c base [] ((c - base) ∷ []) le))))
 ]
 
--- a term that is numbered by places mentions the places of what it mentioned
+-- a term that is numbered by places mentions the places of the variables that it mentioned
 pub mentions-numbered : (base : ℕ) (places : List ℕ) (t : Term) → mentions base (renumbered (number_among base places) t) ≡ map (place_in places) (mentions base t)
 mentions-numbered base places (Pi a b) =
     ap₂ ◌++◌ (mentions-numbered base places a) (mentions-numbered base places b) ∙ sym (map-append (place_in places) (mentions base a) (mentions base b))
@@ -92,7 +92,7 @@ seen-more done seen numbers i s = record {
     last : (n j m : ℕ) → m ≡ n + 1 → ((n == j) || nat_lt j n) ≡ nat_lt j m
     last n j m e = grind (arith, nat_tests)
 
--- Read by their places among what is found, the places are found again, in order.
+-- Read by their places among those found, the places are found again, in order.
 pub once-places : (done seen numbers places : List ℕ) → AreSeen done seen numbers
     → once numbers (map (place_in (done ++ once seen places)) places) ≡ levels_from (length done) (length (once seen places))
 once-places done seen numbers [] s = refl
@@ -123,6 +123,6 @@ once-places done seen numbers (i ∷ places) s =
         (ap (λ xs. once (length done ∷ numbers) (map (place_in xs) places)) (sym (append_assoc done (i ∷ []) rest))
         ∙ (new ∙ ap (λ n. levels_from n (length rest)) (length-append done (i ∷ [])))))
 
--- the same from the beginning
+-- the first mentions in a list, from its beginning, are numbered in order
 pub once-in_order : (places : List ℕ) → once [] (map (place_in (once [] places)) places) ≡ levels_from 0 (length (once [] places))
 once-in_order places = once-places [] [] [] places (record { found = λ j. refl; numbered = λ j. grind (arith, nat_tests) })

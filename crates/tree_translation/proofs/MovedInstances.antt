@@ -36,7 +36,7 @@ drop-under s k (suc g) (e ∷ es) =
 
 -- ---- instances of both
 
--- The same in other contexts: s is put for the variables before, and s' for those after.
+-- The place in other contexts: s is put for the variables before, and s' for those after.
 pub record IsPlaceOf (s s' : ℕ → Term) (p q : Place) : Type 0 where
   pub lifts : Lifts p.variables p.m p.n
   pub lifts' : Lifts q.variables q.m q.n
@@ -108,7 +108,7 @@ term-moves s s' p q is i t =
     ∙ (sym (inst-inst (ups_by (p.h + i) s') (stands (environment p) (p.m + p.g + i) (p.n + p.h + i)) t)
     ∙ ap (inst (ups_by (p.h + i) s')) (sym (put-is_inst (environment p) (p.m + p.g + i) (p.n + p.h + i) (lifts-at p i is.lifts) t)))))
 
--- the same with other terms
+-- the place with other terms
 abbrev pub with_terms : Place → List Term → Place
 with_terms p ts = record p { terms = ts }
 
@@ -170,7 +170,7 @@ all-move s s' p q ts ts' is e side side' sides es =
     ∙ (equations-move s s' p q ts ts' is e side side' sides 0 es
     ∙ ap₃' (λ k l j. equations_under s' j (moved (environment p) (environment (with_terms p ts)) side k l es)) a' b' c')
 
--- what a solution or a deletion leaves: the first equation goes out, and u and r stand for its place and for it
+-- the equations after a solution or a deletion: the first equation goes out, with the term u for its place and r for itself
 abbrev pub left_behind : (m n : ℕ) (variables : Environment) (u r : Term) (side : Term → Term) → List Equation → List Equation
 left_behind m n variables u r side es =
     moved (behind m 1 n variables (over_first n (u ∷ []))) (behind m 1 n variables (over_first n (r ∷ []))) side (m + 1) n (drop 1 es)

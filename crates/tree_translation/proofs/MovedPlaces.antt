@@ -1,4 +1,4 @@
--- What is put for the variables of a context and for the equations that follow it, where further equations move.
+-- The terms that are put for the variables of a context and for the equations that follow it, where further equations move.
 use Rattle.std.proofs.Common.{◌≡◌, ℕ, ◌+◌, ◌-◌, ◌<◌, ◌≤◌, inl, inr, List, sym, ap, ap₂, ◌∙◌, arith}
 use Rattle.theory.specs.Terms.{Term, Var, lift}
 use Rattle.theory.specs.Telescopes.{weaken_by}
@@ -54,7 +54,7 @@ lifts-at p i lifts by j lt = elim (below-or_from j p.m) [
   ]
 ]
 
--- what is put for a variable of the context, after i equations more
+-- the term for a variable of the context, after i equations more
 pub context-at : (p : Place) (i x : ℕ) → Lifts p.variables p.m p.n
     → stands (environment p) (p.m + p.g + i) (p.n + p.h + i) (x + (p.g + i)) ≡ weaken_by (p.h + i) (context_map p x)
 context-at p i x lifts = elim (below-or_from x p.m) [

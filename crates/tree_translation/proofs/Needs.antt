@@ -1,4 +1,4 @@
--- What a draft needs is what its terms mention and the signature lacks, each name once.
+-- A draft needs exactly the names that its terms mention and the signature lacks, each once.
 use Rattle.std.proofs.Common.{◌≡◌, ◌≢◌, inl, inr, ℕ, zero, suc, ◌+◌, ◌-◌, ◌<◌, ◌≤◌, ◌||◌, ◌&&◌, ◌==◌, Bool, true, false, Option, Some, None, List, [], ◌∷◌, ◌++◌, length, get_or, slice_get, flat_map, All, Any, AllPairs, Contains, refl, sym, ap, ap₂, ◌∙◌, subst, arith}
 use Rattle.std.specs.List.{list_any}
 use Rattle.std.proofs.lemmas.Bool.{true≢false, eqb-true, eq-eqb}
@@ -55,7 +55,7 @@ axiom_k-is i m (Definition name type body) h = absurd (true≢false (sym h))
 itself : (n m : ℕ) → ((n == n) && (m == m)) ≡ true
 itself n m = ap₂ ◌&&◌ (eq-eqb n n refl) (eq-eqb m m refl)
 
--- what is not there
+-- names that are not there yet
 unless-false : (b : Bool) (own name : List ℕ) → IsAmong name (unless_there b own) → (b ≡ false) × (own ≡ name)
 unless-false true own name (k, x, within, at, e) = absurd (omega arith)
 unless-false false own name h = (refl, only-any (λ other. other ≡ name) own h)

@@ -13,7 +13,7 @@ pub or-true : (a b : Bool) → b ≡ true → (a || b) ≡ true
 or-true true b h = refl
 or-true false b h = h
 
--- ---- what is named
+-- ---- named entries
 
 pub named-own : (name : List ℕ) (names : List (List ℕ)) → is_named (name ∷ names) name ≡ true
 named-own name names = ap (λ b. b || is_named names name) ((bytes_eq-Decides name name).1 refl)
@@ -33,7 +33,7 @@ named-left xs ys name h = named-append xs ys name ∙ ap (λ b. b || is_named ys
 pub named-last : (xs : List (List ℕ)) (name : List ℕ) → is_named (xs ++ name ∷ []) name ≡ true
 named-last xs name = named-append xs (name ∷ []) name ∙ or-true (is_named xs name) _ (named-own name [])
 
--- what the test means
+-- the test finds only names of the list
 pub named-among : (names : List (List ℕ)) (name : List ℕ) → is_named names name ≡ true → IsAmong name names
 named-among [] name h = absurd (true≢false (sym h))
 named-among (x ∷ names) name h = by (bytes_eq name x) refl (λ k. named-among names name k) h
@@ -79,7 +79,7 @@ longer P names (name ∷ others) h = by (is_named names name) refl (λ some. lon
           each = All-cons P name r.new (h 0 name (omega arith)) r.each;
         }
 
--- what is among the names is none of the new ones
+-- a name of the list is none of the new ones
 pub new-others : (names new : List (List ℕ)) (name : List ℕ) → IsNew names new → is_named names name ≡ true → All (λ other. name ≢ other) new
 new-others names [] name IsNew.none h = All-nil (λ other. name ≢ other)
 new-others names (first ∷ new) name (IsNew.more e rest) h =
@@ -109,7 +109,7 @@ new-fresh names (name ∷ new) (IsNew.more e rest) =
     subst (λ other. get_or new k d ≢ other) (get_or_append_left names (name ∷ []) d' i inside)
     (new-fresh (names ++ name ∷ []) new rest k d within i d' (omega (arith, length-append names (name ∷ [])))))
 
--- ---- what is among them
+-- ---- names with new ones
 
 pub with-named : (names others : List (List ℕ)) (name : List ℕ) → is_named (with_names names others) name ≡ (is_named names name || is_named others name)
 with-named names [] name = by (is_named names name)

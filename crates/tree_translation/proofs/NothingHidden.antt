@@ -1,4 +1,4 @@
--- Where no variable is hidden, what is read over the whole context is what is written.
+-- Where no variable is hidden, a term that is read over the whole context is the written one.
 use Rattle.std.proofs.Common.{◌≡◌, ℕ, ◌+◌, ◌-◌, ◌<◌, inl, inr, List, [], ◌∷◌, ◌++◌, length, get_or, refl, ap, ap₂, ◌∙◌, arith}
 use Rattle.theory.specs.Terms.{Term, Var, Sort, Pi, Lam, App, Let, Const, Fam, Con, Elim, AxiomK}
 use Rattle.core_terms.specs.CaseTrees.{Step}

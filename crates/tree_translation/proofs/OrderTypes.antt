@@ -1,4 +1,4 @@
--- In the order after a solution each type mentions what comes before it, or the variable that is solved.
+-- In the order after a solution each type mentions variables before it, or the variable that is solved.
 use Rattle.std.proofs.Common.{◌≡◌, ℕ, zero, suc, ◌+◌, ◌-◌, ◌<◌, true, Some, List, [], ◌∷◌, ◌++◌, length, take, slice_get, sym, subst, append_assoc, arith}
 use Rattle.std.proofs.lemmas.List.{append-nil}
 use Rattle.theory.specs.Terms.{Term}

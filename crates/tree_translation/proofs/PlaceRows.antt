@@ -1,4 +1,4 @@
--- What stands for the variables of a walk at a leaf, for a call whose argument is no strict part, and names of helpers.
+-- Terms for the variables of a walk at a leaf, for a call whose argument is no strict part, and names of helpers.
 use native.Mathlib.Decide.{ℕ_discrete}
 use Rattle.std.proofs.Common.{◌≡◌, false, Some, [], ◌∷◌, refl, codes}
 use Rattle.theory.specs.Terms.Term.{Var, Sort, Lam, App, Con, Fam, Const}

@@ -1,4 +1,4 @@
--- What a family's record brings at parameters, with terms put for the variables of the context.
+-- The parts of a family's record at parameters, with terms put for the variables of the context.
 use Rattle.std.proofs.Common.{◌≡◌, ℕ, zero, suc, ◌+◌, ◌-◌, ◌≤◌, inl, inr, List, [], ◌∷◌, ◌++◌, length, map, refl, sym, ap, ap₂, ◌∙◌, subst, arith}
 use mathlib.Core.Path.{fun_ext}
 use Rattle.std.proofs.lemmas.List.{map-append, length-map}

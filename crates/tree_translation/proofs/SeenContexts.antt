@@ -1,4 +1,4 @@
--- A whole context beside what is seen of it, from a variable on.
+-- A whole context beside its visible part, from a variable on.
 use Rattle.std.proofs.Common.{◌≡◌, ℕ, suc, ◌+◌, ◌-◌, ◌<◌, ◌≤◌, inl, inr, Bool, true, false, cond, Some, List, [], ◌∷◌, ◌++◌, length, take, drop, get_or, slice_get, refl, sym, ap, ap₂, ◌∙◌, subst, append_assoc, arith}
 use Rattle.std.proofs.lemmas.Bool.{true≢false}
 use Rattle.std.proofs.lemmas.List.{length-append}
@@ -15,7 +15,7 @@ use Rattle.tree_translation.specs.Hidden.{visible}
 use Rattle.tree_translation.specs.Conditions.{IsSeen}
 use Rattle.tree_translation.proofs.LevelLists.{at-among, there-get, from-each, from-without, from-apart}
 
--- The types from level `at'` on of a whole context, beside those from level `at` on of what is seen. V has the levels that are seen.
+-- The types from level `at'` on of a whole context, beside those from level `at` on of its visible part. V has the levels that are visible.
 pub data SeenFrom (V hid : List ℕ) : (at' at : ℕ) → (whole seen : Telescope) → Type 0 where
   none : {at' at : ℕ} → SeenFrom V hid at' at [] []
   unseen : {at' at : ℕ} {a' : Term} {whole seen : Telescope} → is_among at' hid ≡ true → SeenFrom V hid (at' + 1) at whole seen
@@ -74,7 +74,7 @@ seen-from V hid at' at (a' ∷ whole) seen done e d count each =
         (λ j p h. let k : at + suc j ≡ at + 1 + j = omega arith in
         shift p (further j p h) ∙ (each' (suc j) p h ∙ ap (λ i. placed (take i V) p (term_at others j)) k)))
 
--- what is seen of a context, from its beginning on
+-- the visible part of a context, from its beginning on
 pub seen-all : (context : Telescope) (hid : List ℕ) (seen : Telescope) → IsSeen context hid seen → SeenFrom (visible (length context) hid) hid 0 0 context seen
 seen-all context hid seen is =
     seen-from (visible (length context) hid) hid 0 0 context seen [] refl refl is.count

@@ -19,7 +19,7 @@ use Rattle.tree_translation.proofs.SeenTerms.{AreBelow}
 use Rattle.tree_translation.proofs.SeenOccurrences.{position-of, position-there, level-in, in-level}
 use Rattle.tree_translation.proofs.SeenContexts.{SeenFrom, seen-all, seen-behind}
 
--- what is found in the whole context, beside what is found of what is seen
+-- a search in the whole context finds the same visible variables as one in the visible part
 record Finds (V : List ℕ) (at' at : ℕ) (found' found : List ℕ) : Type 0 where
   levels : (j : ℕ) → j < at → get_or V j 0 < at'
   low' : (q : ℕ) → is_among q found' ≡ true → q < at'
@@ -103,7 +103,7 @@ same-test true false f g = sym (f refl)
 same-test false true f g = g refl
 same-test false false f g = refl
 
--- a type mentions what is found where what is seen of it does
+-- a type of the visible part mentions a found variable exactly if it does so in the whole context
 same-mentions : (V : List ℕ) (at' at : ℕ) (found' found : List ℕ) (a : Term) → at < length V → Finds V at' at found' found
     → has_level at' found' (placed (take at V) at' a) ≡ has_level at found a
 same-mentions V at' at found' found a within f =

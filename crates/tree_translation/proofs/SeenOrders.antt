@@ -22,7 +22,7 @@ same-test true false f g = sym (f refl)
 same-test false true f g = g refl
 same-test false false f g = refl
 
--- ---- what is left of lists
+-- ---- lists without some elements
 
 pub without-append : (out xs ys : List ℕ) → without out (xs ++ ys) ≡ without out xs ++ without out ys
 without-append out [] ys = refl
@@ -117,7 +117,7 @@ image-of f (i ∷ js) k h = elim (among-cases k (f i) (map f js) h) [
   | inr l ↦ let r = image-of f js k l in record { j = r.j; among = among-later r.j i js r.among; same = r.same }
 ]
 
--- the places of what is left, in a list in which each element has its own place
+-- the places of the elements that are left, in a list in which each element has its own place
 pub places-left : (xs hid : List ℕ) → ((k : ℕ) → k < length xs → place_in xs (get_or xs k 0) ≡ k)
     → map (λ k. get_or xs k 0) (without (map (place_in xs) hid) (levels_from 0 (length xs))) ≡ without hid xs
 places-left xs hid own =
@@ -136,7 +136,7 @@ places-left xs hid own =
 
 -- ---- the order after a solution
 
--- variable p of what is seen is variable p' of the whole context
+-- variable p of the visible part is variable p' of the whole context
 pub record IsSameVariable (context : Telescope) (hid : List ℕ) (others : Telescope) (p' p : ℕ) : Type 0 where
   pub is_seen : IsSeen context hid others
   pub inside : p < length others

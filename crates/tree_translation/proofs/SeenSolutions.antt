@@ -1,4 +1,4 @@
--- A solution in the whole context has, of what is seen, the solution of what is seen.
+-- The visible part of a solution in the whole context is the solution in the visible part.
 use Rattle.std.proofs.Common.{◌≡◌, ℕ, zero, suc, ◌+◌, ◌-◌, ◌<◌, ◌≤◌, ◌⊎◌, inl, inr, IsTrue, Bool, true, false, Some, List, [], ◌∷◌, ◌++◌, length, map, take, drop, get_or, slice_get, refl, sym, ap, ap₂, ◌∙◌, subst, arith}
 use Rattle.std.proofs.lemmas.Bool.{true≢false, not-true, or_parts}
 use Rattle.std.proofs.lemmas.List.{length-append, length-take-le, take-append-drop}
@@ -76,7 +76,7 @@ module _ (context : Telescope) (hid : List ℕ) (others : Telescope) (p' p : ℕ
   climbing : IsFrom 0 V'
   climbing = from-without 0 hid' (levels_from 0 (length order')) (from-each 0 (length order'))
 
-  -- the place of a variable of what is seen, and the level there
+  -- the place of a variable of the visible part, and the level there
   there : (j : ℕ) → is_among j order ≡ true → (place_in order j < length order) × (get_or V' (place_in order j) 0 ≡ place_in order' (get_or V j 0))
   there j h =
       let r = place-there order j h in
@@ -120,7 +120,7 @@ module _ (context : Telescope) (hid : List ℕ) (others : Telescope) (p' p : ℕ
           (sym (ap₂ (λ n j. has_variable (n - (j + 1)) u) (sym many) (sym own) ∙ r.occurs) ∙ lacks-it))
       by false h = refl
 
-  -- a term of the context that lacks what is solved is over all others
+  -- a term of the context that lacks the solved variable is over all others
   over-all : IsOver (length others) (take (length order) order) u
   over-all i lt occurs =
       subst (λ levels. is_among i levels ≡ true) (sym (take-all order))
@@ -243,7 +243,7 @@ module _ (context : Telescope) (hid : List ℕ) (others : Telescope) (p' p : ℕ
 
   -- ---- terms
 
-  -- terms after the solution, over the whole context and of what is seen
+  -- terms after the solution, over the whole context and over the visible part
   pub solutions-agree : (x : ℕ) → inst (stands (solved (length context) (order_without context p') p' (widened (length context) hid u)) (length context) (length (order_without context p')))
       (widening (length context) hid x)
       ≡ inst (widening (length (order_without context p')) (map (place_in (order_without context p')) hid))

@@ -1,4 +1,4 @@
--- The same steps lead through a whole context and through what is seen of it.
+-- Steps lead through a whole context as they do through its visible part.
 use Rattle.std.proofs.Common.{◌≡◌, ℕ, ◌+◌, ◌-◌, ◌<◌, IsTrue, Option, Some, List, [], ◌∷◌, ◌++◌, length, map, take, get_or, refl, sym, ap, ap₂, ◌∙◌, subst, arith}
 use Rattle.std.proofs.lemmas.List.{length-map, map-append}
 use Rattle.theory.specs.Terms.{Term, Fam}

@@ -38,7 +38,7 @@ visible-are n hidden = visible-below n hidden
 
 -- ---- widening
 
--- what is put for the variables that are seen
+-- the terms that are put for the visible variables
 abbrev pub widening : (n : ℕ) (hidden : List ℕ) → ℕ → Term
 widening n hidden = stands (at_levels (visible n hidden)) (length (visible n hidden)) n
 

@@ -1,4 +1,4 @@
--- The terms of single split nodes, and what drafts need.
+-- The terms of single split nodes, and the names that drafts need.
 use native.Mathlib.Decide.{ℕ_discrete}
 use Rattle.std.proofs.Common.{◌≡◌, ℕ, true, false, Ok, [], ◌∷◌, refl, codes}
 use Rattle.theory.specs.Terms.{Term}

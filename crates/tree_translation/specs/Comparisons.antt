@@ -1,4 +1,4 @@
--- What injectivity and conflict compare: two members of a family, which are constructors, with the equations between them.
+-- Comparisons by injectivity and conflict: of two members of a family, which are constructors, with the equations between them.
 use Rattle.std.specs.Prelude.{ℕ, zero, suc, ◌+◌, ◌-◌, Option, Some, None, List, [], ◌∷◌, ◌++◌, length, map, take}
 use Rattle.theory.specs.Terms.{Term, Con}
 use Rattle.theory.specs.Substitutions.{inst, fill}
@@ -75,7 +75,7 @@ abbrev pub compared_in : State → Step → (left right : Option Built) → Opti
 compared_in s step (Some left) (Some right) = Some (compared_by s (step.group - 1) step.ty left right)
 compared_in s step _ _ = None
 
--- what a step by injectivity or conflict compares
+-- the comparison of a step by injectivity or conflict
 abbrev pub compared : Signature → State → Step → Option Comparison
 compared S s step = compared_in s step (built_of S step.left) (built_of S step.right)
 

@@ -1,5 +1,5 @@
--- What a plan and a split node are made of, as walks, trees and runs give it: relations that hold of what case trees and unification
--- answer, so that a caller hands on what it was given.
+-- Plans and split nodes as walks, trees and runs give them: relations that the answers of case trees and unification meet, so that a
+-- caller hands on what it was given.
 use Rattle.std.specs.Prelude.{Option, ◌≡◌, ◌≢◌, ◌<◌, ℕ, ◌+◌, Some, None, Ok, List, [], ◌∷◌, length, take, slice_get, All, true, false}
 use Rattle.std.specs.List.{Any}
 use Rattle.theory.specs.Terms.{Term, Sort, Const, top}
@@ -56,8 +56,8 @@ use_of at number w t = record { function = at; clause = number; terms = w.terms;
 abbrev pub patterns_of : Clause → Pats
 patterns_of (Is pats binds right) = pats
 
--- What a clause says of the function is among the uses from which the position is chosen: its right side or scrutinee, with the terms
--- and bindings of its own walk.
+-- The right side or scrutinee of a clause, with the terms and bindings of the clause's own walk, is among the uses from which the
+-- position is chosen.
 abbrev pub IsUsed : (uses : List Use) → (at number : ℕ) → Walk → Clause → Type 0
 IsUsed uses at number w (Is pats binds (clause.Side t)) = Any (λ u. u ≡ use_of at number w t) uses
 IsUsed uses at number w (Is pats binds (clause.With t inner)) = Any (λ u. u ≡ use_of at number w t) uses
@@ -134,14 +134,14 @@ pub data IsEnd (steps : List Step) : Outcome → Type 0 where
   solved : (context : Telescope) (solution : List Term) → IsEnd steps (Solved steps context solution)
   absurd : (context : Telescope) (u v : Term) → IsEnd steps (Absurd steps context u v)
 
--- one run for each constructor from `number` on, of its problem for variable x of what is seen
+-- one run for each constructor from `number` on, of its problem for variable x of the visible part
 pub data AreRuns (S : Signature) (seen : Telescope) (x : ℕ) (m : Member) : (number : ℕ) → List Constructor → List (List Step) → Type 0 where
   none : {number : ℕ} → AreRuns S seen x m number [] []
   more : {number : ℕ} {c : Constructor} {constructors : List Constructor} {steps : List Step} {runs : List (List Step)} (outcome : Outcome)
       → Runs S (problem_of seen x m number c) outcome → IsEnd steps outcome → AreRuns S seen x m (number + 1) constructors runs
       → AreRuns S seen x m number (c ∷ constructors) (steps ∷ runs)
 
--- The runs of a split node: variable x of the whole context, with its reduced type, is variable y of what is seen.
+-- The runs of a split node: variable x of the whole context, with its reduced type, is variable y of the visible part.
 pub record IsSplit (S : Signature) (node : Node) (x : ℕ) (type : Term) (runs : List (List Step)) : Type 0 where
   pub seen : Telescope
   pub y : ℕ
@@ -168,7 +168,7 @@ pub data AreEnds (S : Signature) (base names : ℕ) (node : Node) (m : Member) (
       → AreEnds S base names node m x (number + 1) constructors runs ends
       → AreEnds S base names node m x number (c ∷ constructors) (steps ∷ runs) (end ∷ ends)
 
--- what the term of a split node asks for
+-- the conditions of the term of a split node
 pub record IsSplitGiven (S : Signature) (node : Node) (x : ℕ) (type : Term) (runs : List (List Step)) (ends : List Term) (names : ℕ) : Type 0 where
   pub ready : IsReady S
   pub split : IsSplit S node x type runs

@@ -26,7 +26,7 @@ use Rattle.unification.specs.Cycles.{is_variable}
 use Rattle.tree_translation.specs.Naming.{Naming, left_name}
 use Rattle.tree_translation.specs.Standings.{Standing, inside, all_here, here, placed}
 
--- What is looked for below constructors of family n at the parameters ps: variable x. All are at one depth.
+-- A search below constructors of family n at the parameters ps, for variable x. All are at one depth.
 pub record Search : Type 0 where
   pub family : ℕ
   pub shape : Shape

@@ -25,8 +25,8 @@ helper_count plan = length (drop 1 plan.parts)
 abbrev pub helper_names : Plan → (at : ℕ) → List (List ℕ)
 helper_names plan at = each_position (helper_name plan.name) (at + 1) (helper_count plan - at)
 
--- what right sides of part `at` may mention: the below value's type and paths in it, and helpers of greater number, whose entries come
--- earlier
+-- the names that right sides of part `at` may mention: the below value's type and paths in it, and helpers of greater number, whose
+-- entries come earlier
 abbrev pub side_names : Plan → Option Recursion → (at : ℕ) → List (List ℕ)
 side_names plan None at = helper_names plan at
 side_names plan (Some r) at = below_name r.family plan.level ∷ motive_name plan.name ∷ helper_names plan at

@@ -1,4 +1,4 @@
--- Steps are over a context without its hidden variables. What they say is read over the whole context.
+-- Steps are over a context without its hidden variables. They are read over the whole context.
 use Rattle.std.specs.Prelude.{ℕ, ◌+◌, ◌-◌, List, ◌++◌, length, get_or}
 use Rattle.theory.specs.Terms.{Term}
 use Rattle.core_terms.specs.CaseTrees.{Step}
@@ -15,7 +15,7 @@ visible n hidden = without hidden (levels_from 0 n)
 abbrev pub widened : (n : ℕ) (hidden : List ℕ) → Term → Term
 widened n hidden t = placed (visible n hidden) n t
 
--- the same of a term after k places
+-- a term over these variables and k places after them, as one over all n and the places
 abbrev pub widened_behind : (n : ℕ) (hidden : List ℕ) (k : ℕ) → Term → Term
 widened_behind n hidden k t = placed (visible n hidden ++ levels_from n k) (n + k) t
 

@@ -1,4 +1,4 @@
--- What holds of the entries of a function, however they are made.
+-- Laws of the entries of a function, however they are made.
 use Rattle.std.specs.Prelude.{◌≡◌, ◌≢◌, ◌↔◌, ◌⊎◌, ◌<◌, ℕ, zero, suc, ◌+◌, Option, Some, None, Ok, IfOk, List, [], ◌∷◌, ◌++◌, length, map, slice_get, flat_map, All, AllPairs, Contains, Err}
 use Rattle.std.specs.List.{Any}
 use Rattle.theory.specs.Terms.{Term, Pi, Lam, App, Let, Const, Elim, AxiomK}
@@ -58,7 +58,7 @@ names_in_order plan (Some r) =
 abbrev pub EntriesAreThese : Type 0
 EntriesAreThese = OfDrafts (λ S plan drafts. map name_of drafts ≡ names_in_order plan (recursion_of S plan))
 
--- The last entry is the function, and its type is the written one, letter for letter.
+-- The last entry is the function, and its type is syntactically equal to the written one.
 abbrev pub TypeIsWritten : Type 0
 TypeIsWritten =
     OfDrafts (λ S plan drafts.
@@ -146,7 +146,7 @@ pub record Widens (s : Standing) (seen : State) : Type 0 where
   pub context : IsSeen s.state.context s.hidden seen.context
   pub equations : s.state.equations ≡ widened_equations (length s.state.context) s.hidden 0 seen.equations
 
--- The same steps lead through the whole context, with its hidden variables, as through the context that is seen.
+-- Steps lead through the whole context, with its hidden variables, as they do through its visible part.
 abbrev pub ReplayIsSeen : Type 0
 ReplayIsSeen =
     (S : Signature) (s t : State) (steps : List Step) (standing : Standing) → Chain S s steps t → Widens standing s →
@@ -187,7 +187,7 @@ SplitScoped =
     IfOk (split_term S (length S.entries) L node x type runs ends names).term
     (IsDraftTerm S (length S.entries) (length (split_term S (length S.entries) L node x type runs ends names).names) (length node.context))
 
--- ---- what is needed
+-- ---- needed names
 
 abbrev pub IsAmong : List ℕ → List (List ℕ) → Type 0
 IsAmong name names = Any (λ other. other ≡ name) names
@@ -217,7 +217,7 @@ pub data IsNeeded (S : Signature) (d : Draft) (name : List ℕ) : Type 0 where
   axiom_k : (i m : ℕ) → name ≡ axiom_k_name i m → StandsInEntry (AxiomK i m) d.entry → ¬ Contains S.entries (AxiomKAt i m)
       → IsNeeded S d name
 
--- what a draft needs is what it mentions and the signature lacks,
+-- a draft needs exactly the names that it mentions and the signature lacks,
 abbrev pub NeededIsExact : Type 0
 NeededIsExact = (S : Signature) (d : Draft) (name : List ℕ) → IsScopedDraft S d → IsAmong name (needed S d) ↔ IsNeeded S d name
 

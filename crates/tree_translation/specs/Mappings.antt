@@ -17,14 +17,14 @@ abbrev pub have_one_constructor : Term → Term → Bool
 have_one_constructor w t = are_one_constructor (head_of w) (head_of t) && (length (spine_of w) == length (spine_of t))
 
 abbrev mutual
-  -- what t has at the first place at which w has variable x, looked for only under constructors that both have
+  -- the part of t at the first place where w has variable x, searched only under constructors that both have
   pub found_in : (x : ℕ) → (w t : Term) → Option Term
   found_in x (Var v) t = cond (v == x) (Some t) None
   found_in x (App g r) (App h s) =
       cond (have_one_constructor (App g r) (App h s)) (option_or (found_along x g h) (found_in x r s)) None
   found_in x _ _ = None
 
-  -- the same among the arguments of a constructor, its parameters included
+  -- that part among the arguments of a constructor, its parameters included
   pub found_along : (x : ℕ) → (w t : Term) → Option Term
   found_along x (App g r) (App h s) = option_or (found_along x g h) (found_in x r s)
   found_along x _ _ = None

@@ -1,4 +1,4 @@
--- What a draft needs before it enters: instances and generated entries that a signature lacks, by name.
+-- The names that a draft needs before it enters: of instances and generated entries that a signature lacks.
 use Rattle.std.specs.Prelude.{ℕ, ◌-◌, nat_lt, Bool, true, false, cond, Option, Some, None, List, [], ◌∷◌, ◌++◌, flat_map, get_or, codes}
 use Rattle.std.specs.List.{list_any}
 use Rattle.theory.specs.Terms.{Term, Pi, Lam, App, Let, Const, Elim, AxiomK}
@@ -35,7 +35,7 @@ is_found (Some found) = true
 abbrev pub unless_known : Signature → (name : List ℕ) → List (List ℕ)
 unless_known S name = unless_there (is_found (find S name)) name
 
--- what a term needs, from the left, for each time that it mentions it
+-- the names that a term needs, from the left, one for each mention
 abbrev pub needed_in : Signature → (base : ℕ) (names : List (List ℕ)) → Term → List (List ℕ)
 needed_in S base names (Pi a b) = needed_in S base names a ++ needed_in S base names b
 needed_in S base names (Lam a b) = needed_in S base names a ++ needed_in S base names b

@@ -1,4 +1,4 @@
--- What the entries of a function are made of.
+-- Plans: what the entries of a function are made of.
 use Rattle.std.specs.Prelude.{ℕ, Option, List, [], get_or}
 use Rattle.theory.specs.Terms.{Term, Sort}
 use Rattle.theory.specs.Telescopes.{Telescope}

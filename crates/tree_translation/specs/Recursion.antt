@@ -1,4 +1,4 @@
--- Recursion at a position: the order of the function's variables, and what the below value of a term is.
+-- Recursion at a position: the order of the function's variables, and the below value of a term.
 use Rattle.std.specs.Prelude.{ℕ, Option, Some, None, option_map, option_and_then, List, [], ◌∷◌, ◌++◌, length, map, take, drop}
 use Rattle.theory.specs.Terms.{Term, Const}
 use Rattle.theory.specs.Substitutions.{inst, fill}
@@ -17,7 +17,7 @@ use Rattle.tree_translation.specs.Naming.{Naming, below_name, motive_name}
 use Rattle.tree_translation.specs.Plans.{Plan, own_part}
 use Rattle.tree_translation.specs.Standings.{levels_from}
 
--- the position, what it rests on, and the family of its type
+-- the position, its admission, and the family of its type
 pub record Recursion : Type 0 where
   pub position : ℕ
   pub admission : Admission

@@ -15,7 +15,7 @@ use Rattle.tree_translation.specs.Plans.{Plan, Part}
 use Rattle.tree_translation.specs.Recursion.{Recursion}
 use Rattle.tree_translation.specs.RightSides.{leaf_term}
 
--- what the leaves of a tree are made of
+-- the common parts of the leaves of a tree
 pub record Translation : Type 0 where
   pub signature : Signature
   pub number : Naming

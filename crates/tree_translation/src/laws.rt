@@ -21,7 +21,7 @@ pub fn names_in_order()
     ensures { NamesInOrder }
 {}
 
-/// A draft needs what its terms mention and the signature lacks.
+/// A draft needs the names that its terms mention and the signature lacks.
 pub fn needed_is_exact()
     ensures { NeededIsExact }
 {}
@@ -46,7 +46,7 @@ pub fn replay_stands_apart()
     ensures { ReplayStandsApart }
 {}
 
-/// The same steps lead through a whole context, with its hidden variables, as through what is seen of it.
+/// Steps lead through a whole context, with its hidden variables, as they do through its visible part.
 pub fn replay_is_seen()
     ensures { ReplayIsSeen }
 {}

@@ -6,7 +6,6 @@ use Rattle.theory.specs.SignatureScopes.{HasEntries}
 use Rattle.theory.specs.Typing.{HasSort}
 use Rattle.theory.specs.WellFormed.{IsWellFormed, provisional, pushed}
 use Rattle.core_terms.proofs.Answers.{Answers, and_next-has}
-use Rattle.core_terms.specs.Answers.{on_answer}
 use Rattle.core_terms.specs.CaseTrees.{Tree}
 use Rattle.kernel_check.specs.Checking.{infer_sort_of}
 use Rattle.kernel_reduce.specs.Reduction.{nesting}
@@ -26,7 +25,7 @@ use Rattle.written_functions.proofs.equation_laws.LeftShowing.{ok-is}
 use Rattle.function_session.proofs.function_lines.FunctionAnswers.{function-answers}
 use Rattle.function_session.proofs.function_lines.Provisional.{provisional-over}
 use Rattle.function_session.specs.function_lines.Conditions.{IsFunctionOver}
-use Rattle.function_session.specs.function_lines.FunctionMade.{function_made, level_of}
+use Rattle.function_session.specs.function_lines.FunctionMade.{function_made}
 use Rattle.function_session.proofs.OwnEntry.{HasOwn, own-typed, plan-enters}
 use Rattle.function_session.proofs.Written.{elaborates-written, function-new, function-scoped}
 use Rattle.function_session.specs.Elaborating.{Elaborated, elaborate_function, enter_function, on_function, on_lines, with_lines}
@@ -38,10 +37,10 @@ use Rattle.written_functions.specs.Clauses.{AreLinesOf, Start, parts_of, placed_
 use Rattle.written_functions.specs.Functions.{IsByClauses}
 use Rattle.written_functions.specs.Laws.{FunctionsAreByClauses}
 use Rattle.written_functions.proofs.Equations.{placed_at}
-use Rattle.written_functions.proofs.MadeClosed.{ClosedAt, function-closed, next-tied}
 use Rattle.written_functions.proofs.PartEntries.{HasHelpers, HasName, helpers-enter, name-stays}
 use Rattle.written_functions.proofs.PlanClauses.{parts-placed}
 use Rattle.written_functions.proofs.PlanGiven.{IsPlanGiven, helpers-count, plan-given}
+use Rattle.written_functions.proofs.Walked.{is-ok}
 use Rattle.written_functions.proofs.Tellings.{IsBase, Tells, parts-tell}
 
 -- ---- the function
@@ -108,15 +107,13 @@ plan-told S f plan T left well first h entered helpers =
     (parts-tell S Own f plan h 0 plan.parts (parts_of f) (parts-placed S f plan h) T left base)
 
 function-told : (S : Signature) (f : Function) (fuel : ℕ) → IsWellFormed S → HasPrelude S → HasEntries S f.type → IsFunctionOver (provisional S f.name f.type) f
-    → ((level left : ℕ) → level_of S f.type fuel ≡ answers (Ok level) left → ClosedAt S f level left) → Answers (IsTold S f) (function_of S f fuel)
-function-told S f fuel well first entries over closed =
+    → Answers (IsTold S f) (function_of S f fuel)
+function-told S f fuel well first entries over =
     let P = IsTold S f in
     let found = granted S OfType (infer_sort_of S nesting [] f.type fuel) in
-    next-tied P found _ (λ sort sort_is.
-    next-tied P (answers (function_level S sort) found.1) _ (λ level level_is.
-    let same : level_of S f.type fuel ≡ answers (Ok level) found.1 =
-    ap (λ r. on_answer r found.1 (λ s rest. answers (function_level S s) rest)) sort_is ∙ ap (λ r. answers r found.1) level_is in
-    and_next-has (IsPlanGiven S f) P (plan_of S f level found.1) _ (plan-given S f level found.1 over (closed level found.1 same)) (λ plan end h.
+    and_next-has (λ sort. found.0 ≡ Ok sort) P found _ (is-ok found.0) (λ sort rest e1.
+    and_next-has (λ level. function_level S sort ≡ Ok level) P (answers (function_level S sort) rest) _ (is-ok (function_level S sort)) (λ level more e2.
+    and_next-has (IsPlanGiven S f) P (plan_of S f level more) _ (plan-given S f level more over) (λ plan end h.
     let Q : Signature → Type 0 = λ T. HasOwn S plan.name plan.type T × HasHelpers plan T in
     and_next-has Q P (enter_plan S plan end) _
     (weaker-of-two (HasOwn S plan.name plan.type) (HasHelpers plan) Q (enter_plan S plan end).0
@@ -128,7 +125,7 @@ function-told S f fuel well first entries over closed =
 
 -- the lines that are made are those that are meant, where they are made
 made-has : (P : Elaborated → Type 0) (S : Signature) (x : Word) (fuel : ℕ) (f : Function)
-    → ((l : Lines) → (function_made S f fuel).0 ≡ Ok l → IfOk (function_of S f fuel).0 (λ l. P (with_lines (accepted_as x.text l.signature) l.lines)))
+    → IfOk (function_of S f fuel).0 (λ l. P (with_lines (accepted_as x.text l.signature) l.lines))
     → IfOk (on_lines x fuel (function_made S f fuel).0) P
 made-has P S x fuel f h = by (function_made S f fuel) refl
   where
@@ -137,7 +134,7 @@ made-has P S x fuel f h = by (function_made S f fuel) refl
 
     by : (r : Elaborating Lines) → function_made S f fuel ≡ r → IfOk (on_lines x fuel r.0) P
     by (Ok l, left) is =
-        transport (λ (m : Elaborating Lines). IfOk m.0 Q) (function-answers S f fuel l left is) (h l (ap (λ (m : Elaborating Lines). m.0) is))
+        transport (λ (m : Elaborating Lines). IfOk m.0 Q) (function-answers S f fuel l left is) h
     by (Err e, left) is = tt
 
 -- the facts of the lines, with the function that was resolved
@@ -152,11 +149,10 @@ lined : (S : Signature) (fuel : ℕ) (x : Word) (ty : surf.Surf) (cs : surf.Clau
 lined S fuel x ty cs ready =
     on_function-has (IsLined S x ty cs) (function S x ty cs) (enter_function S fuel x) (λ f is.
     let scoped = function-scoped S (surf.Fun x ty cs) f is in
-    made-has (IsLined S x ty cs) S x fuel f (λ made made_is.
-    weaker (IsTold S f) (λ (l : Lines). IsLined S x ty cs (with_lines (accepted_as x.text l.signature) l.lines)) (function_of S f fuel).0
+    made-has (IsLined S x ty cs) S x fuel f
+    (weaker (IsTold S f) (λ (l : Lines). IsLined S x ty cs (with_lines (accepted_as x.text l.signature) l.lines)) (function_of S f fuel).0
     (λ l h. record { given = f; resolved = is; lines = l; is = refl; told = h })
-    (function-told S f fuel ready.well_formed ready.prelude scoped.type.scoped.entries (provisional-over S f ready scoped)
-    (λ level left e. function-closed S f fuel made level left made_is e))))
+    (function-told S f fuel ready.well_formed ready.prelude scoped.type.scoped.entries (provisional-over S f ready scoped))))
 
 written : (S : Signature) (x : Word) (ty : surf.Surf) (cs : surf.Clauses) (a : Elaborated) → IsReady S → IsWrittenFunction S x ty cs a → IsLined S x ty cs a
     → IsByClauses S x ty cs a.signature a.lines

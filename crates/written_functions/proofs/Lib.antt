@@ -3,7 +3,6 @@ pub mod Fitted
 pub mod Functions
 pub mod HelperColumns
 pub mod Leaves
-pub mod MadeClosed
 pub mod Numbers
 pub mod PartEntries
 pub mod PartScopes

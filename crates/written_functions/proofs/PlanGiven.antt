@@ -20,14 +20,14 @@ use Rattle.clause_reports.specs.elaboration.Functions.{finished, helpers_finishe
 use Rattle.clause_reports.specs.elaboration.Refusals.{walking}
 use Rattle.clause_reports.specs.elaboration.Walking.{Opened, Walked, walk_clauses}
 use Rattle.function_checks.proofs.function_clauses.OwnParts.{own-columns, own-part-for, part-walked}
+use Rattle.function_plans.proofs.Orders.{in-is}
 use Rattle.function_plans.proofs.SameChoices.{provisional-same, recursion-same}
 use Rattle.function_plans.proofs.Starts.{start-clauses, start-given, starts}
 use Rattle.function_plans.specs.CodePlans.{IsOwnWalked}
 use Rattle.entry_laws.proofs.order_scopes.RecursionOrders.{recursion-ordered}
-use Rattle.tree_translation.specs.structural_rec.Laws.{IsOrder}
+use Rattle.tree_translation.specs.structural_rec.Laws.{IsTelescopeOrder}
 use Rattle.case_trees.specs.Laws.{IsGiven}
 use Rattle.case_trees.specs.Scoped.{AreClausesFor}
-use Rattle.written_functions.proofs.MadeClosed.{ClosedAt, in-is}
 use Rattle.function_session.proofs.function_lines.SamePlans.{walked_of}
 use Rattle.function_session.specs.function_lines.Conditions.{IsFunctionOver}
 use Rattle.function_session.specs.function_lines.FunctionMade.{session_at}
@@ -131,9 +131,9 @@ with-ok : {A E : Type 0} (P : A → Type 0) (r : Result A E) → IfOk r P → If
 with-ok P (Ok a) h = (refl, h)
 with-ok P (Err e) h = tt
 
-pub plan-given : (S : Signature) (f : Function) (level left : ℕ) → IsFunctionOver (provisional S f.name f.type) f → ClosedAt S f level left
+pub plan-given : (S : Signature) (f : Function) (level left : ℕ) → IsFunctionOver (provisional S f.name f.type) f
     → Answers (IsPlanGiven S f) (plan_of S f level left)
-plan-given S f level left over closed =
+plan-given S f level left over =
     let T = provisional S f.name f.type in
     let s = session_at S f in
     let part = own_part f level in
@@ -158,8 +158,8 @@ plan-given S f level left over closed =
     (λ helpers last all_finished.
     let own_walked : IsOwnWalked T w = record { walked = part-walked T w fits; columns = own-columns over.before T f level over.resolved } in
     let same = in-is T part.tele position ∙ sym (recursion-same S T (provisional-same S f.name f.type) part.tele position) in
-    let ordered : IsOrder count order = transport (IsOrder count) (ap (order_of count) same) (recursion-ordered T part.tele position) in
-    let start = starts T w (ordered_telescope part.tele order) count order own_walked refl ordered refl (closed given position gives.0 is) in
+    let ordered : IsTelescopeOrder part.tele order = transport (IsTelescopeOrder part.tele) (ap (order_of count) same) (recursion-ordered T part.tele position) in
+    let start = starts T w (ordered_telescope part.tele order) count order own_walked refl ordered refl in
     record {
       base = refl;
       name = refl;

@@ -134,7 +134,7 @@ module _ (exact : PartIsExact) (S : Signature) (plan : Plan) (kept : IsKeptPlan 
       let whole = order-there S plan r is in
       let long : length tele ≡ count = length-ordered own.tele order whole in
       let counted : length order ≡ count = order-counted count order whole in
-      let ordered = plan-ordered S plan r kept.planned is kept.closed in
+      let ordered = plan-ordered S plan r kept.planned is in
       entry-there exact S plan kept.planned.uses 0 own (Some r) (own_order own r) tele goal terms (step_node plan r) (step_name plan.name)
       (λ number. node_type (step_node plan r number)) d kept.ready kept.planned.base
       (part-begins S plan kept.planned.uses 0 own tele goal terms (step_node plan r) kept.ready (own-ordered S plan kept.planned.uses r is kept.planned.own)

@@ -29,7 +29,6 @@ use Rattle.exact_laws.specs.step_scopes.Laws.{IsReadyFor, DraftsScopedAfterPrelu
 use Rattle.exact_laws.proofs.step_scopes.BelowTypes.{below-there, below-last, with_below-there}
 use Rattle.exact_laws.proofs.step_scopes.PartDrafts.{IsRootOf, part-draft}
 use Rattle.exact_laws.proofs.step_scopes.PlanOrders.{order-there, plan-ordered}
-use Rattle.entry_laws.specs.order_scopes.Laws.{BeginsClosed}
 
 -- ---- the step
 
@@ -161,17 +160,17 @@ module _ (S : Signature) (plan : Plan) (given : IsReadyFor S plan) where
       let one : 1 ≡ 0 + 1 = refl in
       helpers-scoped o 0 (drop 1 plan.parts) helpers is (later-parts plan.parts) are
 
-  entries-scoped : (o : Option Recursion) (all : List Draft) → recursion_of S plan ≡ o → BeginsClosed S plan → AreEntries S plan o all → Each (IsOverPlan S plan) all
-  entries-scoped None all is closed (AreEntries.alone {helpers = helpers} {f = d} are e) =
+  entries-scoped : (o : Option Recursion) (all : List Draft) → recursion_of S plan ≡ o → AreEntries S plan o all → Each (IsOverPlan S plan) all
+  entries-scoped None all is (AreEntries.alone {helpers = helpers} {f = d} are e) =
       each-append helpers (d ∷ []) (all-helpers None helpers is are)
       (Each.more (plain_function_scoped S plan d given.ready given.first given.planned is e) Each.none)
-  entries-scoped (Some r) all is closed (AreEntries.recursive {motive = motive} {step = step} {f = d} {helpers = helpers} first are second third) =
-      let ordered : IsOrdered S plan r = plan-ordered S plan r given.planned is closed in
+  entries-scoped (Some r) all is (AreEntries.recursive {motive = motive} {step = step} {f = d} {helpers = helpers} first are second third) =
+      let ordered : IsOrdered S plan r = plan-ordered S plan r given.planned is in
       Each.more (motive_scoped S plan r motive ordered first)
       (each-append helpers (step ∷ d ∷ []) (all-helpers (Some r) helpers is are)
       (Each.more (step-scoped S plan r step given is ordered second)
       (Each.more (recursive_function_scoped S plan r d given.planned third) Each.none)))
 
 pub drafts-scoped : DraftsScopedAfterPrelude
-drafts-scoped S plan drafts given closed e =
-    all-each (IsOverPlan S plan) drafts (entries-scoped S plan given (recursion_of S plan) drafts refl closed (entries-are S plan (recursion_of S plan) drafts e))
+drafts-scoped S plan drafts given e =
+    all-each (IsOverPlan S plan) drafts (entries-scoped S plan given (recursion_of S plan) drafts refl (entries-are S plan (recursion_of S plan) drafts e))

@@ -8,14 +8,11 @@ use Rattle.tree_translation.specs.Entries.{translate}
 use Rattle.tree_translation.specs.Plans.{Plan}
 use Rattle.leaf_terms.specs.CallsApart.{PlanCallsApart}
 use Rattle.function_entries.specs.CodeEntries.{translate_made}
-use Rattle.entry_laws.specs.order_scopes.Laws.{BeginsClosed}
 
--- A plan over a signature that is ready together with the function. The order of recursion begins with a type over no variables, and no
--- call is the decreasing argument of another one.
+-- A plan over a signature that is ready together with the function, where no call is the decreasing argument of another one.
 pub record IsKeptPlan (S : Signature) (plan : Plan) : Type 0 where
   pub ready : IsReady (with_function S plan)
   pub planned : IsPlanned S plan
-  pub closed : BeginsClosed S plan
   pub apart : PlanCallsApart plan
 
 -- The code makes the entries that such a plan translates to.

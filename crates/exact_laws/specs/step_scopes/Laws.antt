@@ -10,7 +10,6 @@ use Rattle.tree_translation.specs.Entries.{helper_entry, step_entry, translate}
 use Rattle.tree_translation.specs.Plans.{Plan, Part}
 use Rattle.tree_translation.specs.Recursion.{Recursion, recursion_of}
 use Rattle.entry_laws.specs.draft_scopes.Laws.{IsOrdered}
-use Rattle.entry_laws.specs.order_scopes.Laws.{BeginsClosed}
 
 -- The plan is one over the signature, which begins with the prelude and is ready together with the function.
 pub record IsReadyFor (S : Signature) (plan : Plan) : Type 0 where
@@ -18,9 +17,9 @@ pub record IsReadyFor (S : Signature) (plan : Plan) : Type 0 where
   pub first : IsPrefix (prelude S.has_k) S
   pub planned : IsPlanned S plan
 
--- Where the telescope begins with a type over no variables in the order of recursion, its types are each over those before it, and the goal is over them.
+-- In the order of recursion the types of the telescope are each over those before it, and the goal is over them.
 abbrev pub PlanOrdered : Type 0
-PlanOrdered = (S : Signature) (plan : Plan) (r : Recursion) → IsPlanned S plan → recursion_of S plan ≡ Some r → BeginsClosed S plan → IsOrdered S plan r
+PlanOrdered = (S : Signature) (plan : Plan) (r : Recursion) → IsPlanned S plan → recursion_of S plan ≡ Some r → IsOrdered S plan r
 
 -- The step of a function by recursion is a scoped draft.
 abbrev pub StepScoped : Type 0
@@ -34,8 +33,8 @@ HelperScoped =
     (S : Signature) (plan : Plan) (k : ℕ) (part : Part) (d : Draft) → IsReadyFor S plan → slice_get plan.parts (k + 1) ≡ Some part →
     helper_entry S plan (recursion_of S plan) (k + 1) part ≡ Ok d → (d.base ≡ plan.base) × IsScopedDraft S d
 
--- Each draft of a plan is scoped, where the order of recursion begins with a type over no variables.
+-- Each draft of a plan is scoped.
 abbrev pub DraftsScopedAfterPrelude : Type 0
 DraftsScopedAfterPrelude =
-    (S : Signature) (plan : Plan) (drafts : List Draft) → IsReadyFor S plan → BeginsClosed S plan → translate S plan ≡ Ok drafts →
+    (S : Signature) (plan : Plan) (drafts : List Draft) → IsReadyFor S plan → translate S plan ≡ Ok drafts →
     All (λ d. (d.base ≡ plan.base) × IsScopedDraft S d) drafts

@@ -1,5 +1,5 @@
 -- Each declaration of a session is made as is meant.
-use Rattle.std.proofs.Common.{◌≡◌, ℕ, Result, Ok, Err, IfOk, refl, ap, subst as transport}
+use Rattle.std.proofs.Common.{◌≡◌, ℕ, Result, Ok, Err, refl, ap}
 use Rattle.theory.specs.Signatures.{Signature}
 use Rattle.surface_syntax.specs.Trees as surf
 use Rattle.surface_syntax.specs.declared.tree.Word.{Word}
@@ -9,7 +9,6 @@ use Rattle.clause_reports.specs.elaboration.Functions.{Lines, function_of}
 use Rattle.clause_reports.specs.elaboration.Refusals.{Elaborating}
 use Rattle.function_session.specs.function_lines.FunctionMade.{function_made}
 use Rattle.function_session.proofs.function_lines.Provisional.{provisional-over}
-use Rattle.function_laws.specs.plan_laws.MadePlans.{BeginsAlwaysClosed}
 use Rattle.function_laws.specs.report_laws.Functions.{FunctionIsMeant}
 use Rattle.function_laws.proofs.report_laws.FunctionReports.{ready-of}
 use Rattle.function_session.specs.Elaborating.{enter_function, on_function, on_lines}
@@ -18,11 +17,11 @@ use Rattle.function_laws.specs.declaration_laws.Laws.{DeclarationIsMeant, Declar
 use Rattle.function_laws.specs.declaration_laws.Meant.{enter_meant}
 
 pub declared-function-meant : FunctionIsMeant → DeclaredFunctionIsMeant
-declared-function-meant meant S fuel x ty clauses f ready marks is closed =
+declared-function-meant meant S fuel x ty clauses f ready marks is =
     let scoped = function-scoped S (surf.Fun x ty clauses) f is in
     let over = provisional-over S f ready scoped in
     meant S f fuel (record { ready = ready-of S ready.well_formed ready.prelude; with_function = over.ready; resolved = scoped }) ready.well_formed
-    ready.prelude marks closed
+    ready.prelude marks
 
 -- a function that is resolved enters as is meant
 resolved-meant : (S : Signature) (fuel : ℕ) (x : Word) (r : Result Function ResolveStop)
@@ -32,10 +31,10 @@ resolved-meant S fuel x (Ok f) same = ap (λ (m : Elaborating Lines). on_lines x
 resolved-meant S fuel x (Err e) same = refl
 
 pub declaration-meant : DeclaredFunctionIsMeant → DeclarationIsMeant
-declaration-meant meant S fuel (surf.Def x ty body) ready marks closed = refl
-declaration-meant meant S fuel (surf.Data x params ty cons) ready marks closed = refl
-declaration-meant meant S fuel (surf.Decide x family decision) ready marks closed = refl
-declaration-meant meant S fuel (surf.Mutual params members family tag tags) ready marks closed = refl
-declaration-meant meant S fuel (surf.Fun x ty clauses) ready marks closed =
+declaration-meant meant S fuel (surf.Def x ty body) ready marks = refl
+declaration-meant meant S fuel (surf.Data x params ty cons) ready marks = refl
+declaration-meant meant S fuel (surf.Decide x family decision) ready marks = refl
+declaration-meant meant S fuel (surf.Mutual params members family tag tags) ready marks = refl
+declaration-meant meant S fuel (surf.Fun x ty clauses) ready marks =
     resolved-meant S fuel x (function S x ty clauses) (λ f is.
-    meant S fuel x ty clauses f ready marks is (transport (λ r. IfOk r (λ f. (level : ℕ) → BeginsAlwaysClosed S f level)) is closed))
+    meant S fuel x ty clauses f ready marks is)

@@ -1,5 +1,5 @@
 -- The declarations of a source file are made as is meant, one after the other.
-use Rattle.std.proofs.Common.{◌≡◌, ℕ, Bool, true, false, List, [], ◌∷◌, Result, Ok, Err, IfOk, refl, sym, subst as transport}
+use Rattle.std.proofs.Common.{◌≡◌, ℕ, Bool, true, false, List, [], ◌∷◌, Result, Ok, Err, IfOk, refl}
 use Rattle.theory.specs.Prelude.{prelude}
 use Rattle.theory.specs.Signatures.{Signature}
 use Rattle.surface_syntax.specs.Trees as surf
@@ -15,7 +15,7 @@ use Rattle.function_session.specs.Laws.{KeepsReady}
 use Rattle.function_session.proofs.Keeping.{elaborate-ready}
 use Rattle.surface_syntax.specs.word_laws.Words.{Each, HasWords, IsPlain, IsTyped}
 use Rattle.surface_syntax.proofs.word_laws.Spelled.{words-spelled}
-use Rattle.function_laws.specs.declaration_laws.Laws.{AreMeant, BeginClosed, DeclarationIsMeant, DeclaresUnmarked, TextIsMeant, WordsAreUnmarked}
+use Rattle.function_laws.specs.declaration_laws.Laws.{AreMeant, DeclarationIsMeant, DeclaresUnmarked, TextIsMeant, WordsAreUnmarked}
 use Rattle.function_laws.proofs.declaration_laws.UnmarkedDeclarations.{declaration-stays}
 
 -- ---- names
@@ -45,22 +45,21 @@ prelude-unmarked true = refl
 prelude-unmarked false = refl
 
 meant-from : DeclarationIsMeant → (fuel : ℕ) (S : Signature) (ds : List surf.Decl) → IsReady S → unmarked S ≡ true → Each DeclaresUnmarked ds
-    → BeginClosed fuel S ds → AreMeant fuel S ds
-meant-from meant fuel S [] ready plain names closed = tt
-meant-from meant fuel S (d ∷ ds) ready plain names closed =
-    let same = meant S fuel d ready plain closed.0 in (
+    → AreMeant fuel S ds
+meant-from meant fuel S [] ready plain names = tt
+meant-from meant fuel S (d ∷ ds) ready plain names =
+    let same = meant S fuel d ready plain in (
       same,
       by (elaborate_of S fuel d) (elaborate-ready S fuel d ready) (declaration-stays S fuel d names.0 plain)
-          (transport (λ r. IfOk r (λ (a : Elaborated). BeginClosed fuel a.signature ds)) (sym same) closed.1)
-          (λ T is free begins. meant-from meant fuel T ds is free names.1 begins),
+          (λ T is free. meant-from meant fuel T ds is free names.1),
     )
   where
-    by : (r : Result Elaborated Refused) → IfOk r (KeepsReady S) → IfOk r (λ a. unmarked a.signature ≡ true) → IfOk r (λ a. BeginClosed fuel a.signature ds)
-        → ((T : Signature) → IsReady T → unmarked T ≡ true → BeginClosed fuel T ds → AreMeant fuel T ds) → IfOk r (λ a. AreMeant fuel a.signature ds)
-    by (Ok a) keeps free begins rest = rest a.signature keeps.ready free begins
-    by (Err e) keeps free begins rest = tt
+    by : (r : Result Elaborated Refused) → IfOk r (KeepsReady S) → IfOk r (λ a. unmarked a.signature ≡ true)
+        → ((T : Signature) → IsReady T → unmarked T ≡ true → AreMeant fuel T ds) → IfOk r (λ a. AreMeant fuel a.signature ds)
+    by (Ok a) keeps free rest = rest a.signature keeps.ready free
+    by (Err e) keeps free rest = tt
 
 pub text-meant : DeclarationIsMeant → TextIsMeant
-text-meant meant allows bytes tokens ds k fuel are file closed =
+text-meant meant allows bytes tokens ds k fuel are file =
     meant-from meant fuel (prelude k) ds (prelude-ready (prelude k) k refl) (prelude-unmarked k)
-    (all-unmarked ds (words-spelled allows bytes tokens ds are file)) closed
+    (all-unmarked ds (words-spelled allows bytes tokens ds are file))

@@ -1,4 +1,4 @@
--- The plan that the code makes of a resolved function is its plan, where the order of recursion never begins with an open type.
+-- The plan that the code makes of a resolved function is its plan.
 use mathlib.Core.Path.{fun_ext}
 use Rattle.std.proofs.Common.{◌≡◌, ℕ, zero, suc, ◌≤◌, Bool, true, ◌&&◌, Option, ◌∷◌, length, Result, Ok, Err, refl, sym, ap₂, ◌∙◌, arith}
 use Rattle.std.proofs.lemmas.Bool.Decides.{nat_tests}
@@ -15,7 +15,7 @@ use Rattle.resolve.specs.Functions.{Function}
 use Rattle.tree_translation.specs.structural_rec.Choices.{Choice, choose}
 use Rattle.tree_translation.specs.Plans.{Plan}
 use Rattle.tree_translation.specs.Recursion.{Recursion}
-use Rattle.function_laws.specs.plan_laws.MadePlans.{BeginsAlwaysClosed, PlanIsMade, plan_by_code}
+use Rattle.function_laws.specs.plan_laws.MadePlans.{PlanIsMade, plan_by_code}
 use Rattle.function_laws.proofs.plan_laws.Answering.{if-ok}
 use Rattle.function_laws.proofs.plan_laws.LowWalks.{IsLowGiven, clauses-low}
 use Rattle.function_laws.proofs.plan_laws.OpenedScopes.{session}
@@ -38,7 +38,7 @@ domains-low (suc count) (Pi a b) h =
     ap₂ (λ (x y : Bool). x && y) first (domains-low count b (omega (arith, h)))
 domains-low (suc count) _ h = refl
 
-module _ (S : Signature) (f : Function) (level : ℕ) (low : height f.type ≤ 2000) (closed : BeginsAlwaysClosed S f level) where
+module _ (S : Signature) (f : Function) (level : ℕ) (low : height f.type ≤ 2000) where
   abbrev tele : Telescope
   tele = (own_part f level).tele
 
@@ -68,7 +68,7 @@ module _ (S : Signature) (f : Function) (level : ℕ) (low : height f.type ≤ 2
       ≡ plan_by given (recursion_in S tele) (choose S tele (length S.entries) given.uses) left
   made-is given left uses =
       plan-is (session S f.name f.type) f.type f.arity level (walked given) given.helpers given.uses left
-      (ap₂ (λ (a b : Bool). a && b) (domains-low f.arity f.type low) uses) closed
+      (ap₂ (λ (a b : Bool). a && b) (domains-low f.arity f.type low) uses)
       ∙ after-is given left
 
   plan-exact : (left : ℕ) → plan_by_code S f level left ≡ plan_of S f level left
@@ -79,4 +79,4 @@ module _ (S : Signature) (f : Function) (level : ℕ) (low : height f.type ≤ 2
       (clauses-low (session S f.name f.type) 0 (own_part f level) 0 1 f.clauses left)))
 
 pub plan-is-made : PlanIsMade
-plan-is-made S f level left low closed = plan-exact S f level low closed left
+plan-is-made S f level left low = plan-exact S f level low left

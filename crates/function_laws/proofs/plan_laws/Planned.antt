@@ -1,5 +1,5 @@
 -- The plan of a function is one.
-use Rattle.std.proofs.Common.{◌≡◌, ℕ, zero, suc, ◌+◌, ◌<◌, true, Option, Some, None, option_and_then, List, [], ◌∷◌, length, slice_get, Ok, IfOk, refl, sym, ap, ◌∙◌, subst as transport, arith}
+use Rattle.std.proofs.Common.{◌≡◌, ℕ, zero, suc, ◌+◌, ◌<◌, Option, Some, None, option_and_then, List, [], ◌∷◌, length, slice_get, Ok, IfOk, refl, sym, ap, ◌∙◌, subst as transport, arith}
 use Rattle.theory.specs.Terms.{Term, Pi, Const, top}
 use Rattle.theory.specs.Telescopes.{Telescope, products}
 use Rattle.theory.specs.Signatures.{Signature, Definition, IsPrefix}
@@ -16,10 +16,8 @@ use Rattle.clause_reports.specs.elaboration.Refusals.{answers}
 use Rattle.clause_reports.specs.elaboration.Walking.{Given, Session, Walked, walk_clauses}
 use Rattle.function_checks.proofs.function_clauses.Fitting.{clauses-for}
 use Rattle.function_checks.proofs.function_clauses.OwnParts.{own-columns, own-part-for}
-use Rattle.function_plans.specs.CodePlans.{IsStart}
-use Rattle.function_plans.proofs.Starts.{start-clauses, start-given, starts}
+use Rattle.function_plans.proofs.Starts.{IsStart, start-clauses, start-given, starts}
 use Rattle.function_checks.specs.function_walks.Conditions.{IsPart, IsPartFor}
-use Rattle.entry_laws.specs.order_scopes.Laws.{begins_closed, BeginsClosed}
 use Rattle.entry_laws.proofs.order_scopes.RecursionOrders.{recursion-ordered}
 use Rattle.resolve.specs.Functions.{Function}
 use Rattle.tree_translation.specs.structural_rec.Choices.{At, Choice, NotRecursive, NotSmaller, choose}
@@ -123,8 +121,7 @@ module _ (S : Signature) (f : Function) (is : IsFunctionFor S f) (level : ℕ) (
       (later-at (walked given) given.helpers 0 given.helpers (at-themselves given.helpers)) (used-themselves given.uses) in
       (record { part = own-is_over; clauses = own-with.clauses; given = gives.0 }, gives.1)
 
-  module _ (given : Given) (position : Option ℕ) (closed : begins_closed (ordered_telescope (own_part f level).tele
-      (order_of (length (own_part f level).tele) (option_and_then (recursion_at S (own_part f level).tele) position))) ≡ true) where
+  module _ (given : Given) (position : Option ℕ) where
     abbrev tele : Telescope
     tele = (own_part f level).tele
 
@@ -142,13 +139,13 @@ module _ (S : Signature) (f : Function) (is : IsFunctionFor S f) (level : ℕ) (
     start =
         starts S bare (ordered_telescope tele order) (length tele) order
         (record { walked = record { given = own-over.given; few = own-over.few; clauses = tt }; columns = columns })
-        refl (recursion-ordered S tele position) refl closed
+        refl (recursion-ordered S tele position) refl
 
     start-with : IsStart (provisional S f.name f.type) (walked given) (ordered_telescope tele order) (length tele) order
     start-with =
         starts (provisional S f.name f.type) (walked given) (ordered_telescope tele order) (length tele) order
         (record { walked = record { given = own-with.part.given; few = own-with.part.few; clauses = for-columns }; columns = columns })
-        refl (recursion-ordered S tele position) refl closed
+        refl (recursion-ordered S tele position) refl
 
     start-over : IsGiven S (ordered_telescope tele order) (ordered_term (length tele) order (own_part f level).goal) (ordered_variables order (length tele))
     start-over =
@@ -199,7 +196,7 @@ module _ (S : Signature) (f : Function) (is : IsFunctionFor S f) (level : ℕ) (
 
 module _ (S : Signature) (f : Function) (is : IsFunctionFor S f) (level : ℕ) (low : level < top) where
   abbrev Q : Plan → Type 0
-  Q plan = BeginsClosed S plan → IsPlanned S plan
+  Q plan = IsPlanned S plan
 
   plan-has : (left : ℕ) → IfOk (plan_of S f level left).0 Q
   plan-has left =
@@ -216,8 +213,8 @@ module _ (S : Signature) (f : Function) (is : IsFunctionFor S f) (level : ℕ) (
       let finish : AreFinished (provisional S f.name f.type) r level given.helpers helpers =
       if-ok (AreFinished (provisional S f.name f.type) r level given.helpers) (helpers_finished s r level 1 given.helpers end).0 helpers e4
       (helpers-finished s r level 1 given.helpers end) in
-      transport (λ own. Q (plan_with S f level position (own ∷ helpers))) (sym done.is) (λ closed.
-      plan-made S f is level low given position closed left done.units done.tree helpers r e1
+      transport (λ own. Q (plan_with S f level position (own ∷ helpers))) (sym done.is) (
+      plan-made S f is level low given position left done.units done.tree helpers r e1
       (chosen-is s (choose S part.tele s.own given.uses) position e2)
       (transport
       (λ o. (split_of (provisional S f.name f.type) (ordered_telescope part.tele (order_of (length part.tele) o))
@@ -240,5 +237,4 @@ plan-of_function S f level left =
     record { base = refl; name = refl; type = refl; arity = refl; level_is = refl }))))
 
 pub plan-planned : PlanIsPlanned
-plan-planned S f level left plan is low e closed =
-    if-ok (λ (plan : Plan). BeginsClosed S plan → IsPlanned S plan) (plan_of S f level left).0 plan e (plan-has S f is level low left) closed
+plan-planned S f level left plan is low e = if-ok (IsPlanned S) (plan_of S f level left).0 plan e (plan-has S f is level low left)

@@ -45,7 +45,6 @@ use Rattle.function_laws.proofs.plan_laws.Answering.{if-ok}
 use Rattle.function_laws.proofs.plan_laws.ExactPlans.{domains-low, next-same}
 use Rattle.function_laws.specs.report_laws.made_functions.Laws.{LinesAreReported, PartsInTurn, WalksInTurn}
 use Rattle.function_laws.specs.report_laws.drafts_in_turn.Laws.{FunctionEntersInTurn, HasLevel}
-use Rattle.function_laws.proofs.report_laws.drafts_in_turn.ClosedOrders.{plan-closed}
 use Rattle.function_laws.proofs.report_laws.drafts_in_turn.FamilyLevels.{family-level, level-low}
 use Rattle.function_laws.proofs.report_laws.drafts_in_turn.PartLevels.{ArePartsLow, part-low, plan-low}
 use Rattle.function_laws.specs.report_laws.Functions.{FunctionIsMeant, PlanReports}
@@ -55,7 +54,6 @@ use Rattle.function_laws.proofs.report_laws.LeafSites.{leaves-over, own-over}
 use Rattle.function_laws.proofs.report_laws.MadeReports.{report-is_made}
 use Rattle.function_laws.proofs.report_laws.NamedEntries.{defined-on}
 use Rattle.function_laws.proofs.report_laws.OwnWalks.{own-walk}
-use Rattle.entry_laws.specs.order_scopes.Laws.{BeginsClosed}
 
 pub ready-of : (S : Signature) → IsWellFormed S → HasPrelude S → IsReady S
 ready-of S formed first = record {
@@ -157,7 +155,7 @@ module _ (S T : Signature) (plan : Plan) (h : IsGoing S T plan) where
 pub plan-reports : PlanIsOfFunction → PlanIsPlanned → UnmarkedIsOpen → LinesAreReported → PlanReports
 plan-reports of plans opens lines S f plan left h level formed first marks =
     let is = if-ok (IsPlanOf S f h.level) (plan_of S f h.level h.left).0 plan h.is (of S f h.level h.left) in
-    let planned = plans S f h.level h.left plan h.function h.low h.is h.closed in
+    let planned = plans S f h.level h.left plan h.function h.low h.is in
     let top_level : h.level ≤ greatest_level = level-low S f h.level level in
     let levels : ArePartsLow plan.parts =
     if-ok (λ (plan : Plan). ArePartsLow plan.parts) (plan_of S f h.level h.left).0 plan h.is (plan-low S f h.level h.left top_level) in
@@ -189,7 +187,7 @@ plan-same S plan left reports enters =
     (enter_plan S plan left).0 T e reports rest)
 
 pub function-meant : PlanIsMade → FunctionEntersInTurn → PlanReports → FunctionIsMeant
-function-meant plans enters reports S f fuel is formed first marks closed =
+function-meant plans enters reports S f fuel is formed first marks =
     let sorted = granted S OfType (infer_sort_of S nesting [] f.type fuel) in
     next-assoc sorted (λ sort rest. answers (function_level S sort) rest) (λ level rest.
     and_next (plan_over S f level rest) (λ plan further. plan_reported plan S further))
@@ -198,8 +196,7 @@ function-meant plans enters reports S f fuel is formed first marks closed =
     let has : HasLevel S f level = record { fuel = fuel; sort = sort; granted_sort = e1; is_level = e2 } in
     let level_low = level-low S f level has in
     let low : level < top = omega (arith, level_low) in
-    ap (λ (planned : Elaborating Plan). and_next planned (λ plan end. plan_reported plan S end)) (plans S f level further is.resolved.type.low (closed level))
+    ap (λ (planned : Elaborating Plan). and_next planned (λ plan end. plan_reported plan S end)) (plans S f level further is.resolved.type.low)
     ∙ next-same (plan_of S f level further) _ _ (λ plan end e3.
-    let begins = if-ok (BeginsClosed S) (plan_of S f level further).0 plan e3 (plan-closed S f level further (closed level)) in
-    let given : IsPlanFor S f plan = record { function = is; level = level; low = low; left = further; is = e3; closed = begins } in
+    let given : IsPlanFor S f plan = record { function = is; level = level; low = low; left = further; is = e3 } in
     plan-same S plan end (reports S f plan end given has formed first marks) (enters S f plan end given has formed first marks))))

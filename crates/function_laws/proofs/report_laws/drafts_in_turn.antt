@@ -7,5 +7,4 @@ pub mod PartLevels
 pub mod FamilyLevels
 pub mod PlanNames
 pub mod FunctionNames
-pub mod ClosedOrders
 pub mod MadeInTurn

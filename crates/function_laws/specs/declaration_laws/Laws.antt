@@ -14,29 +14,22 @@ use Rattle.drafts.specs.draft_checks.Checks.{unmarked}
 use Rattle.drafts.specs.draft_entering.FreeNames.{is_marked}
 use Rattle.clause_reports.specs.elaboration.Functions.{function_of}
 use Rattle.function_session.specs.function_lines.FunctionMade.{function_made}
-use Rattle.function_laws.specs.plan_laws.MadePlans.{BeginsAlwaysClosed}
 use Rattle.elab_session.specs.Sessions.{IsReady}
 use Rattle.function_session.specs.Elaborating.{elaborate_of}
 use Rattle.surface_syntax.specs.word_laws.Words.{Each, HasWords}
 use Rattle.function_laws.specs.declaration_laws.Meant.{elaborate_meant}
 
 -- The lines and entries of a function by clauses over the signature of a session are made as is meant, with each refusal and the same
--- units, where no name of a family or constructor holds a `!` and the order of recursion begins with a type over no variables at whatever
--- position.
+-- units, where no name of a family or constructor holds a `!`.
 abbrev pub DeclaredFunctionIsMeant : Type 0
 DeclaredFunctionIsMeant =
     (S : Signature) (fuel : ℕ) (x : Word) (ty : surf.Surf) (clauses : surf.Clauses) (f : Function) → IsReady S → unmarked S ≡ true →
-    function S x ty clauses ≡ Ok f → ((level : ℕ) → BeginsAlwaysClosed S f level) → function_made S f fuel ≡ function_of S f fuel
-
--- a declaration by clauses that is resolved has such an order of recursion; of another form nothing is asked
-abbrev pub RecursionBeginsClosed : Signature → surf.Decl → Type 0
-RecursionBeginsClosed S (surf.Fun x ty clauses) = IfOk (function S x ty clauses) (λ f. (level : ℕ) → BeginsAlwaysClosed S f level)
-RecursionBeginsClosed S d = Unit {0}
+    function S x ty clauses ≡ Ok f → function_made S f fuel ≡ function_of S f fuel
 
 -- So each declaration is accepted or refused as is meant: the same name, lines and signature, or the same refusal.
 abbrev pub DeclarationIsMeant : Type 0
 DeclarationIsMeant =
-    (S : Signature) (fuel : ℕ) (d : surf.Decl) → IsReady S → unmarked S ≡ true → RecursionBeginsClosed S d →
+    (S : Signature) (fuel : ℕ) (d : surf.Decl) → IsReady S → unmarked S ≡ true →
     elaborate_of S fuel d ≡ elaborate_meant S fuel d
 
 -- ---- names
@@ -61,11 +54,6 @@ WordsAreUnmarked = (d : surf.Decl) → HasWords d → DeclaresUnmarked d
 
 -- ---- one declaration after the other
 
--- each declaration that is reached from the signature on has such an order of recursion
-abbrev pub BeginClosed : (fuel : ℕ) → Signature → List surf.Decl → Type 0
-BeginClosed fuel S [] = Unit {0}
-BeginClosed fuel S (d ∷ ds) = RecursionBeginsClosed S d × IfOk (elaborate_meant S fuel d) (λ a. BeginClosed fuel a.signature ds)
-
 -- each declaration that is reached from the signature on is made as is meant
 abbrev pub AreMeant : (fuel : ℕ) → Signature → List surf.Decl → Type 0
 AreMeant fuel S [] = Unit {0}
@@ -76,4 +64,4 @@ AreMeant fuel S (d ∷ ds) = (elaborate_of S fuel d ≡ elaborate_meant S fuel d
 abbrev pub TextIsMeant : Type 0
 TextIsMeant =
     (allows : ℕ → ℕ → Bool) (bytes : List ℕ) (tokens : List Token) (ds : List surf.Decl) (k : Bool) (fuel : ℕ) → AreTokens bytes tokens →
-    File allows (lexemes_of bytes tokens) ds → BeginClosed fuel (prelude k) ds → AreMeant fuel (prelude k) ds
+    File allows (lexemes_of bytes tokens) ds → AreMeant fuel (prelude k) ds

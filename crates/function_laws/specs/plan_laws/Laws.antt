@@ -8,7 +8,6 @@ use Rattle.case_trees.specs.OwnWalks.{own_walk_of}
 use Rattle.case_trees.specs.Trees.{split_of}
 use Rattle.with_abstraction.specs.Abstractions.{abstract_over_of}
 use Rattle.clause_reports.specs.elaboration.Functions.{plan_of}
-use Rattle.entry_laws.specs.order_scopes.Laws.{BeginsClosed}
 use Rattle.resolve.specs.Functions.{Function}
 use Rattle.tree_translation.specs.Conditions.{IsPlanned}
 use Rattle.tree_translation.specs.Plans.{Plan}
@@ -49,8 +48,7 @@ PlanIsOfFunction = (S : Signature) (f : Function) (level left : ℕ) → IfOk (p
 -- function, and neither a tree nor what a part begins with names the function.
 abbrev pub PlanIsPlanned : Type 0
 PlanIsPlanned =
-    (S : Signature) (f : Function) (level left : ℕ) (plan : Plan) → IsFunctionFor S f → level < top → (plan_of S f level left).0 ≡ Ok plan →
-    BeginsClosed S plan → IsPlanned S plan
+    (S : Signature) (f : Function) (level left : ℕ) (plan : Plan) → IsFunctionFor S f → level < top → (plan_of S f level left).0 ≡ Ok plan → IsPlanned S plan
 
 -- In the plan of a function no call is the decreasing argument of another one.
 abbrev pub PlanStandsApart : Type 0

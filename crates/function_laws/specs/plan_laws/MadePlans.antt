@@ -1,24 +1,15 @@
 -- The plan of a function as the code makes it.
-use Rattle.std.specs.Prelude.{◌≡◌, ◌≤◌, ℕ, true, Option, length}
+use Rattle.std.specs.Prelude.{◌≡◌, ◌≤◌, ℕ, length}
 use Rattle.theory.specs.Terms.{height}
 use Rattle.theory.specs.Signatures.{Signature}
 use Rattle.theory.specs.WellFormed.{provisional}
 use Rattle.core_terms.specs.Answers.{and_next}
-use Rattle.clause_reports.specs.elaboration.Functions.{own_part, plan_of, recursion_in}
+use Rattle.clause_reports.specs.elaboration.Functions.{own_part, plan_of}
 use Rattle.clause_reports.specs.elaboration.Refusals.{Elaborating}
 use Rattle.clause_reports.specs.elaboration.Walking.{Session, walk_clauses}
 use Rattle.function_plans.specs.CodePlans.{plan_made}
-use Rattle.entry_laws.specs.order_scopes.Laws.{begins_closed}
 use Rattle.resolve.specs.Functions.{Function}
 use Rattle.tree_translation.specs.Plans.{Plan}
-use Rattle.tree_translation.specs.Recursion.{order_of, ordered_telescope}
-
--- the order of recursion begins with a type over no variables, whatever the decreasing argument is
-abbrev pub BeginsAlwaysClosed : Signature → Function → (level : ℕ) → Type 0
-BeginsAlwaysClosed S f level =
-    let tele = (own_part f level).tele in
-    (position : Option ℕ) →
-    begins_closed (ordered_telescope tele (order_of (length tele) (recursion_in (provisional S f.name f.type) tele position))) ≡ true
 
 -- the plan that is made of a function once its clauses are walked
 abbrev pub plan_by_code : Signature → Function → (level left : ℕ) → Elaborating Plan
@@ -32,4 +23,4 @@ plan_by_code S f level left =
 -- It is the plan that is meant, with each refusal of it, where the type of the function is not too high.
 abbrev pub PlanIsMade : Type 0
 PlanIsMade =
-    (S : Signature) (f : Function) (level left : ℕ) → height f.type ≤ 2000 → BeginsAlwaysClosed S f level → plan_by_code S f level left ≡ plan_of S f level left
+    (S : Signature) (f : Function) (level left : ℕ) → height f.type ≤ 2000 → plan_by_code S f level left ≡ plan_of S f level left

@@ -9,7 +9,6 @@ use Rattle.family_check.specs.Scopes.{HasPrelude}
 use Rattle.function_session.specs.function_lines.FunctionMade.{function_made, parts_reported}
 use Rattle.function_laws.specs.report_laws.plan_drafts.Laws.{IsPlanFor}
 use Rattle.function_laws.specs.plan_laws.Conditions.{IsFunctionFor}
-use Rattle.function_laws.specs.plan_laws.MadePlans.{BeginsAlwaysClosed}
 use Rattle.resolve.specs.Functions.{Function}
 use Rattle.tree_translation.specs.Plans.{Plan}
 
@@ -21,9 +20,8 @@ PlanReports =
     unmarked S ≡ true →
     IfOk (enter_plan S plan left).0 (λ T. (rest : ℕ) → parts_reported plan 0 plan.parts [] T rest ≡ report_parts plan 0 plan.parts T rest)
 
--- So the function that the code makes is the one that is meant, with each refusal and the same units, where the order of recursion begins
--- with a type over no variables at whatever position. Nothing else is asked.
+-- So the function that the code makes is the one that is meant, with each refusal and the same units.
 abbrev pub FunctionIsMeant : Type 0
 FunctionIsMeant =
     (S : Signature) (f : Function) (fuel : ℕ) → IsFunctionFor S f → IsWellFormed S → HasPrelude S → unmarked S ≡ true →
-    ((level : ℕ) → BeginsAlwaysClosed S f level) → function_made S f fuel ≡ function_of S f fuel
+    function_made S f fuel ≡ function_of S f fuel

@@ -5,8 +5,7 @@ use Rattle.theory.specs.Signatures.{Signature}
 use Rattle.surface_syntax.specs.Grammar.{limit}
 use Rattle.surface_syntax.specs.Trees.{Decl}
 use Rattle.function_session.specs.Elaborating.{Elaborated, Refused, elaborate_of}
-use Rattle.function_laws.specs.declaration_laws.Laws.{AreMeant, BeginClosed, TextIsMeant}
-use Rattle.function_laws.specs.declaration_laws.Orders.{TextsBeginClosed}
+use Rattle.function_laws.specs.declaration_laws.Laws.{AreMeant, TextIsMeant}
 use Rattle.elim_program.specs.DefinedOutputs.{compiles, works}
 use Rattle.elim_program.specs.Outputs.{Output, after, compiled, declarations, declared_block, followed, text_block}
 use Rattle.elim_program.specs.Runs.{Follows, nothing, output}
@@ -15,8 +14,8 @@ use Rattle.elim_program.specs.WorkTexts.{work_text}
 use Rattle.elim_program.specs.Works.{none_counted, on_worked, with_accepted, work_output, worked, worked_block}
 use Rattle.elim_program.proofs.OneOutput.{one_output}
 use Rattle.elim_program.proofs.Reading.{is-read}
-use Rattle.headline.specs.meaning_laws.Laws.{CompiledIsMeant, FewIndicesAreMeant, LinesAreMeant, RunIsMeant, WorkIsMeant}
-use Rattle.headline.specs.meaning_laws.Meant.{Counted, Flags, TextBeginsClosed, Workload, declarations_meant, text_meant, work_meant, worked_meant}
+use Rattle.headline.specs.meaning_laws.Laws.{CompiledIsMeant, LinesAreMeant, RunIsMeant, WorkIsMeant}
+use Rattle.headline.specs.meaning_laws.Meant.{Counted, Flags, Workload, declarations_meant, text_meant, work_meant, worked_meant}
 
 -- ---- one declaration after the other
 
@@ -46,44 +45,40 @@ counts-meant-from fuel S (d ∷ ds) c are =
 
 -- ---- source files
 
-text-are : TextIsMeant → (bytes : List ℕ) (ds : List Decl) (k : Bool) (fuel : ℕ) → Gives bytes (Ok ds) → BeginClosed fuel (prelude k) ds
+text-are : TextIsMeant → (bytes : List ℕ) (ds : List Decl) (k : Bool) (fuel : ℕ) → Gives bytes (Ok ds)
     → AreMeant fuel (prelude k) ds
-text-are meant bytes ds k fuel gives closed =
-    let read = (is-read bytes ds gives).0 in meant limit bytes read.tokens ds k fuel read.split read.file closed
+text-are meant bytes ds k fuel gives =
+    let read = (is-read bytes ds gives).0 in meant limit bytes read.tokens ds k fuel read.split read.file
 
 pub lines-meant : TextIsMeant → LinesAreMeant
-lines-meant meant bytes ds k fuel gives closed = lines-meant-from fuel (prelude k) ds (text-are meant bytes ds k fuel gives closed)
+lines-meant meant bytes ds k fuel gives = lines-meant-from fuel (prelude k) ds (text-are meant bytes ds k fuel gives)
 
 -- ---- outputs
 
-block-meant : LinesAreMeant → (bytes : List ℕ) (command : Flags) (answer : Answer) → Gives bytes answer → TextBeginsClosed command.fuel command.k answer
+block-meant : LinesAreMeant → (bytes : List ℕ) (command : Flags) (answer : Answer) → Gives bytes answer
     → text_block command answer ≡ text_meant command answer
-block-meant meant bytes command (Ok ds) gives closed = meant bytes ds command.k command.fuel gives closed
-block-meant meant bytes command (Err e) gives closed = refl
+block-meant meant bytes command (Ok ds) gives = meant bytes ds command.k command.fuel gives
+block-meant meant bytes command (Err e) gives = refl
 
 pub compiled-meant : LinesAreMeant → CompiledIsMeant
-compiled-meant meant words bytes command answer out asks gives closed is =
+compiled-meant meant words bytes command answer out asks gives is =
     one_output words bytes out (compiled command.k (text_block command answer)) is (compiles command answer asks gives)
-    ∙ ap (λ b. compiled command.k b) (block-meant meant bytes command answer gives closed)
+    ∙ ap (λ b. compiled command.k b) (block-meant meant bytes command answer gives)
 
-pub few-indices-meant : CompiledIsMeant → TextsBeginClosed → FewIndicesAreMeant
-few-indices-meant meant begins words bytes command ds out asks gives few is =
-    meant words bytes command (Ok ds) out asks gives (begins command.fuel (prelude command.k) ds few) is
-
-work-output-meant : TextIsMeant → (work : Workload) (answer : Answer) → Gives (work_text work.count) answer → TextBeginsClosed work.fuel false answer
+work-output-meant : TextIsMeant → (work : Workload) (answer : Answer) → Gives (work_text work.count) answer
     → work_output work answer ≡ work_meant work answer
-work-output-meant meant work (Ok ds) gives closed =
+work-output-meant meant work (Ok ds) gives =
     ap (λ r. compiled false (worked_block work.count r))
-    (counts-meant-from work.fuel (prelude false) ds none_counted (text-are meant (work_text work.count) ds false work.fuel gives closed))
-work-output-meant meant work (Err e) gives closed = refl
+    (counts-meant-from work.fuel (prelude false) ds none_counted (text-are meant (work_text work.count) ds false work.fuel gives))
+work-output-meant meant work (Err e) gives = refl
 
 pub work-meant : TextIsMeant → WorkIsMeant
-work-meant meant words bytes work answer out asks gives closed is =
-    one_output words bytes out (work_output work answer) is (works work answer asks gives) ∙ work-output-meant meant work answer gives closed
+work-meant meant words bytes work answer out asks gives is =
+    one_output words bytes out (work_output work answer) is (works work answer asks gives) ∙ work-output-meant meant work answer gives
 
 -- ---- runs
 
 pub run-meant : CompiledIsMeant → RunIsMeant
-run-meant meant words bytes command answer before after status asks gives closed (nothing appended ended) = inr (appended, ended)
-run-meant meant words bytes command answer before after status asks gives closed (output out is follows headline verified) =
-    inl (transport (λ (o : Output). Follows o before after status) (meant words bytes command answer out asks gives closed is) follows)
+run-meant meant words bytes command answer before after status asks gives (nothing appended ended) = inr (appended, ended)
+run-meant meant words bytes command answer before after status asks gives (output out is follows headline verified) =
+    inl (transport (λ (o : Output). Follows o before after status) (meant words bytes command answer out asks gives is) follows)

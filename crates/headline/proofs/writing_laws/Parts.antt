@@ -22,11 +22,11 @@ use Rattle.case_trees.specs.Trees.{split_of}
 use Rattle.clause_reports.specs.Equations.{part_named}
 use Rattle.tree_translation.specs.Plans.{Part}
 use Rattle.tree_translation.specs.Recursion.{Recursion}
-use Rattle.clause_reports.specs.elaboration.Functions.{helpers_finished, own_part}
+use Rattle.clause_reports.specs.elaboration.Functions.{helpers_finished, own_finished, own_part}
 use Rattle.clause_reports.specs.elaboration.Refusals.{Elaborating, OfSide, Owner, answers, granted, or_halts, owner_of, walking}
 use Rattle.clause_reports.specs.elaboration.Walking.{Given, Opened, Session, Walked, after_dots, check_dot, open_over, opened, walk_clause, walk_clauses, walk_right}
 use Rattle.leaf_terms.specs.RecursionMade.{made_at}
-use Rattle.function_plans.specs.CodePlans.{chosen_made, own_alone, own_finished_made, parts_made}
+use Rattle.function_plans.specs.CodePlans.{chosen_made, own_alone, parts_made}
 use Rattle.function_session.specs.function_lines.FunctionMade.{plan_over, session_at}
 use Rattle.surface_syntax.specs.word_laws.Numbers.{withs_right as written_right, withs_clause as written_clause, withs as written}
 use Rattle.headline.specs.writing_laws.Writing.{HasFewParts}
@@ -146,7 +146,7 @@ parts-many : (s : Session) (position : Option ℕ) (level : ℕ) (w : Walked) (h
 parts-many s position level w helpers left =
     let Q : List Part → Type 0 = Many (1 + length helpers) in
     skip Q (answers (or_halts (made_at s.signature w.part.tele position)) left) _ (λ r more.
-    and_next-has (Many 1) Q (own_alone s r w more) _ (skip (Many 1) (own_finished_made s r w more) _ (λ own end. refl)) (λ made end e.
+    and_next-has (Many 1) Q (own_alone s r w more) _ (skip (Many 1) (own_finished s r w more) _ (λ own end. refl)) (λ made end e.
     and_next-has (Many (length helpers)) Q (helpers_finished s r level 1 helpers end) _ (helpers-many s r level 1 helpers end) (λ parts last f.
     length-append made parts ∙ ap₂ (λ i j. i + j) e f)))
 

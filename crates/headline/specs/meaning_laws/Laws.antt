@@ -1,10 +1,8 @@
 -- The lines that the program writes for a source file are those that are meant.
-use Rattle.std.specs.Prelude.{◌≡◌, ℕ, ◌⊎◌, Bool, false, List, [], Option, Some, Ok}
+use Rattle.std.specs.Prelude.{◌≡◌, ℕ, ◌⊎◌, Bool, List, [], Option, Some, Ok}
 use Rattle.std.specs.Io.KnownBytes.{Appends}
 use Rattle.theory.specs.Prelude.{prelude}
 use Rattle.surface_syntax.specs.Trees.{Decl}
-use Rattle.function_laws.specs.declaration_laws.Laws.{BeginClosed}
-use Rattle.function_laws.specs.declaration_laws.Orders.{HaveFewIndices}
 use Rattle.elim_program.specs.DefinedOutputs.{IsOutput}
 use Rattle.elim_program.specs.Outputs.{Output, declarations}
 use Rattle.elim_program.specs.Runs.{Follows, Wrote}
@@ -13,32 +11,26 @@ use Rattle.elim_program.specs.Words.{asked, work_asked}
 use Rattle.elim_program.specs.WorkTexts.{work_text}
 use Rattle.elim_program.specs.declared.status.Status.{Status}
 use Rattle.elim_program.specs.declared.status.Status.TheVariants.{NoMemory, ReadFault}
-use Rattle.headline.specs.meaning_laws.Meant.{Flags, TextBeginsClosed, Workload, compiled_meant, declarations_meant, work_meant}
+use Rattle.headline.specs.meaning_laws.Meant.{Flags, Workload, compiled_meant, declarations_meant, work_meant}
 
 -- For each source file that parses, the lines that are defined for its declarations one by one from the prelude on are those that are
 -- meant, as long as each declaration is accepted, and so are those of the first that is refused.
 abbrev pub LinesAreMeant : Type 0
 LinesAreMeant =
-    (bytes : List ℕ) (ds : List Decl) (k : Bool) (fuel : ℕ) → Gives bytes (Ok ds) → BeginClosed fuel (prelude k) ds
+    (bytes : List ℕ) (ds : List Decl) (k : Bool) (fuel : ℕ) → Gives bytes (Ok ds)
     → declarations fuel (prelude k) ds ≡ declarations_meant fuel (prelude k) ds
 
 -- So for all words that ask to compile and all bytes, the output that is defined has the lines and the status that are meant.
 abbrev pub CompiledIsMeant : Type 0
 CompiledIsMeant =
     (words : List (List ℕ)) (bytes : List ℕ) (command : Flags) (answer : Answer) (out : Output) → asked words ≡ Some command → Gives bytes answer
-    → TextBeginsClosed command.fuel command.k answer → IsOutput words bytes out → out ≡ compiled_meant command answer
-
--- So it is without a condition on functions, where no family that is reached has more than one index.
-abbrev pub FewIndicesAreMeant : Type 0
-FewIndicesAreMeant =
-    (words : List (List ℕ)) (bytes : List ℕ) (command : Flags) (ds : List Decl) (out : Output) → asked words ≡ Some command → Gives bytes (Ok ds)
-    → HaveFewIndices command.fuel (prelude command.k) ds → IsOutput words bytes out → out ≡ compiled_meant command (Ok ds)
+    → IsOutput words bytes out → out ≡ compiled_meant command answer
 
 -- and so it is where the words ask for `work`, which compiles a source file of its own
 abbrev pub WorkIsMeant : Type 0
 WorkIsMeant =
     (words : List (List ℕ)) (bytes : List ℕ) (work : Workload) (answer : Answer) (out : Output) → work_asked words ≡ Some work
-    → Gives (work_text work.count) answer → TextBeginsClosed work.fuel false answer → IsOutput words bytes out → out ≡ work_meant work answer
+    → Gives (work_text work.count) answer → IsOutput words bytes out → out ≡ work_meant work answer
 
 -- A run follows the output: what it wrote is a front of it, and with a status of the output it is all of it. Or it ended before it wrote
 -- anything, by a fault of the source or out of memory.
@@ -49,5 +41,5 @@ WritesFrom out before after status = Follows out before after status ⊎ (Append
 abbrev pub RunIsMeant : Type 0
 RunIsMeant =
     (words : List (List ℕ)) (bytes : List ℕ) (command : Flags) (answer : Answer) (before after : Option (List ℕ)) (status : Status)
-    → asked words ≡ Some command → Gives bytes answer → TextBeginsClosed command.fuel command.k answer → Wrote words bytes before after status
+    → asked words ≡ Some command → Gives bytes answer → Wrote words bytes before after status
     → WritesFrom (compiled_meant command answer) before after status

@@ -1,10 +1,9 @@
 -- The outputs of `compile` and `work` as they are meant: a function by clauses is worked on as `elaboration` defines it, not as the code
 -- does.
-use Rattle.std.specs.Prelude.{ℕ, Bool, true, false, List, [], ◌∷◌, Option, Result, Ok, Err}
+use Rattle.std.specs.Prelude.{ℕ, true, false, List, [], ◌∷◌, Option, Result, Ok, Err}
 use Rattle.theory.specs.Prelude.{prelude}
 use Rattle.theory.specs.Signatures.{Signature}
 use Rattle.surface_syntax.specs.Trees.{Decl}
-use Rattle.function_laws.specs.declaration_laws.Laws.{BeginClosed}
 use Rattle.function_laws.specs.declaration_laws.Meant.{elaborate_meant}
 use Rattle.elim_program.specs.Outputs.{Block, Output, after, block, compiled, declared_block, followed}
 use Rattle.elim_program.specs.Refusals.{stop_line}
@@ -47,12 +46,6 @@ text_meant command (Err e) = block (stop_line e ∷ []) true
 -- the lines that are written, and the status of the run
 abbrev pub compiled_meant : Flags → Answer → Output
 compiled_meant command answer = compiled command.k (text_meant command answer)
-
--- The order of recursion of each function that is reached begins with a type over no variables, whatever its position is. A source file
--- that is refused before its declarations are looked at has no condition.
-abbrev pub TextBeginsClosed : (fuel : ℕ) (k : Bool) → Answer → Type 0
-TextBeginsClosed fuel k (Ok ds) = BeginClosed fuel (prelude k) ds
-TextBeginsClosed fuel k (Err e) = Unit {0}
 
 -- ---- `work`
 

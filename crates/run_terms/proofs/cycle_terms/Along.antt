@@ -20,7 +20,7 @@ component-along c whole arguments (suc at) g r tuple lt =
     let before : suc at - 1 ≡ at = omega arith in
     ap (λ k. cond (is_below_along c arguments k g) (component_along c whole arguments k g tuple) (component_at c whole arguments k r tuple)) before
 
--- the same of a test that comes out true, and of one that comes out false
+-- the test along the arguments, if the earlier ones pass it or do not
 pub below-first : (c : Search) (arguments : List ArgumentShape) (at : ℕ) (g r t : Term) (b : Bool) → t ≡ App g r → 0 < at → b ≡ is_below_along c arguments (at - 1) g → b ≡ true
     → b ≡ is_below_along c arguments at t
 below-first c arguments at g r t b is lt tested holds =

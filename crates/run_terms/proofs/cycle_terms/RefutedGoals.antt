@@ -1,4 +1,4 @@
--- What acyclicity says of the variable, and the search that it is said in, from their parts.
+-- The component for the variable at its reflexivity, and the search that it is for, from their parts.
 use Rattle.std.proofs.Common.{◌≡◌, ℕ, Bool, List, Result, Ok, ap, ap₂, ◌∙◌, subst as transport}
 use Rattle.theory.specs.Terms.{Term}
 use Rattle.theory.specs.Terms.Term.{Var, App}

@@ -1,4 +1,4 @@
--- What a tuple says of an argument, from the terms for the variables and the term by levels.
+-- The part of a tuple about an argument, from the terms for the variables and the term by levels.
 use Rattle.std.proofs.Common.{◌≡◌, ℕ, List, Result, Ok, ap₂, ◌∙◌, subst as transport}
 use Rattle.theory.specs.Terms.{Term}
 use Rattle.theory.specs.Substitutions.{inst, fill}

@@ -128,7 +128,7 @@ module _ (levels : List ℕ) (depth under : ℕ) (own : List ℕ) (at : ℕ) (de
       ∙ ap (λ size. put_under (at_levels (composed levels depth own)) size (depth + under) 0 t)
       (sym (length-map own (composed_level levels depth)))
 
--- the same where the test holds
+-- a term that is placed again is placed once with the composed levels, if the test holds
 pub placed-again : (levels : List ℕ) (depth under : ℕ) (own : List ℕ) (at : ℕ) (t : Term) → composes levels under own at ≡ true
     → placed (composed levels depth own) (depth + under) t ≡ put_under (at_levels levels) (length levels) depth under (placed own at t)
 placed-again levels depth under own at t e =

@@ -30,9 +30,9 @@ use Rattle.tree_translation.specs.Standings.{Standing, all_here, here, inside, p
 abbrev pub is_below : Search → Term → Bool
 is_below c t = in_constructor (constructor_of c.family c.shape t) (λ inner. is_below_along c inner (length inner) t)
 
--- ---- what a tuple says of an argument
+-- ---- the part of a tuple about an argument
 
--- the same with the level of the argument, and the one of the tuple
+-- the part about the argument with the level `wanted`, in the tuple with the level `last`
 abbrev pub said_at : Side → Carrier → List ArgumentShape → (wanted last : ℕ) → Term
 said_at side q arguments wanted last =
     projection side q (last + 1) (Within (at_level q.params) (at_level wanted))
@@ -87,7 +87,7 @@ transported number from_left f c side e =
 abbrev pub first_equation : Standing → Term
 first_equation s = Var (inside s - (s.depth + 1))
 
--- what acyclicity says of x, applied to refl.l (D ps) x
+-- the component for x, applied to refl.l (D ps) x
 abbrev pub refuted : Naming → Standing → (from_left : Bool) → Family → (side : Term) → Search → Term
 refuted number s from_left f side c =
     App (component_for c side (transported number from_left f c side (first_equation s))) (reflexivity f.level (carrier_type c) (Var c.x))
@@ -100,7 +100,7 @@ abbrev pub by_refutation : Naming → (L : ℕ) → Standing → (from_left : Bo
 by_refutation number L s from_left f side c =
     App (App (Elim empty_type L) (goal_motive s)) (refuted number s from_left f side c)
 
--- what is looked for, in family number n with a name and a shape, at parameters after the equations
+-- the search in family number n with a name and a shape, at parameters after the equations
 abbrev pub search_in : Naming → Standing → (x n : ℕ) → (name : List ℕ) → Shape → (ps : List Term) → Search
 search_in number s x n name shape ps = record {
   family = n;
@@ -114,7 +114,7 @@ abbrev pub cycle_in : Naming → (L : ℕ) → Standing → (x : ℕ) → (from_
 cycle_in number L s x from_left n f shape ps side =
     by_refutation number L s from_left f side (search_in number s x n f.name shape ps)
 
--- the same at parameters of the context
+-- the term of a cycle at parameters of the context
 abbrev pub cycle_with : Naming → (L : ℕ) → Standing → (x : ℕ) → (from_left : Bool) → (n : ℕ) → Family → Shape → (ps : List Term) → (side : Term) → Term
 cycle_with number L s x from_left n f shape ps side =
     cycle_in number L s x from_left n f shape (all_here s ps) (here s side)

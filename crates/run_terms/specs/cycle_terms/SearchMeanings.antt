@@ -1,4 +1,4 @@
--- What a search of the code stands for.
+-- The meaning of the code's search.
 use Rattle.core_terms.specs.Meanings.{tele_of}
 use Rattle.core_sig.specs.Shapes.{shape_of}
 use Rattle.tree_translation.specs.CycleTerms as pure

@@ -5,8 +5,8 @@ abbrev pub are_below : (end : ℕ) → List ℕ → Bool
 are_below end [] = true
 are_below end (level ∷ levels) = nat_lt level end && are_below end levels
 
--- what is placed by these levels of its own, at its own depth, is over the variables that have the outer levels, and over the binders
--- that it is under
+-- a term that is placed by these levels of its own, at its own depth, is over the variables that have the outer levels, and over the
+-- binders that it is under
 abbrev pub composes : (levels : List ℕ) (under : ℕ) (own : List ℕ) (at : ℕ) → Bool
 composes levels under own at = (length levels + under == at) && are_below at own
 

@@ -26,7 +26,7 @@ pub fn component_for(alloc: Global, c: &Search, whole: &Term, tuple: Term) -> Re
     }
 }
 
-/// The same among the first `at` arguments of `whole`, the last of which are in `t`.
+/// The component from the first `at` arguments of `whole`, the last of which are in `t`.
 #[cycle(component)]
 fn component_along(
     alloc: Global,
@@ -51,7 +51,7 @@ fn component_along(
     }
 }
 
-/// The same through argument `at` of `whole`, which is `r`.
+/// The component through argument `at` of `whole`, which is `r`.
 #[cycle(component)]
 fn component_at(
     alloc: Global,

@@ -42,7 +42,7 @@ pub fn cycle_term(
     }
 }
 
-/// The same where the variable is on the right, or Type 0 where the left side is no constructor.
+/// The term of a cycle with the variable on the right, or Type 0 if the left side is no constructor.
 fn cycle_on_right(
     alloc: Global,
     sig: &Signature,

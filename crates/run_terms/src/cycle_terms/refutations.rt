@@ -44,7 +44,7 @@ fn own_reflexivity(alloc: Global, c: &Search) -> Result<Term, Stop>
     reflexivity(alloc, c.family.level, ty, Term::Var(c.x))
 }
 
-/// What acyclicity says of the variable, applied to its reflexivity.
+/// The component for the variable, applied to its reflexivity.
 fn refuted(
     alloc: Global,
     naming: Naming,
@@ -70,7 +70,7 @@ fn goal_motive(alloc: Global, s: &Standing) -> Result<Term, Stop>
     Term::new_lam(alloc, Term::Fam(EMPTY), goal)
 }
 
-/// `Empty!elim.L (\_. G)` of what acyclicity says of the variable, applied to its reflexivity.
+/// `Empty!elim.L (\_. G)` of the component for the variable, applied to its reflexivity.
 fn by_refutation(
     alloc: Global,
     naming: Naming,
@@ -126,7 +126,7 @@ fn all_here(alloc: Global, s: &Standing, terms: &[Term]) -> Result<Tele, Stop>
     all_placed(alloc, s.variables.as_slice(), inside(s)?, terms, made)
 }
 
-/// The same with the side and the parameters after the equations.
+/// The term of a cycle with the side and the parameters after the equations.
 fn cycle_in(
     alloc: Global,
     naming: Naming,

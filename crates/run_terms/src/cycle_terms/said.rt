@@ -19,7 +19,7 @@ use core_terms::{Stop, Tele, Term, copy_tele, copy_whole, into_spine, variable};
 use generators::acyclic_gen::{Carrier, Pairing, at_level, component, directs, projection};
 use std::alloc::Global;
 
-/// What a tuple for the direct arguments says of the one with the level `wanted`. The parameters have the first levels, the
+/// The part of a tuple for the direct arguments about the one with the level `wanted`. The parameters have the first levels, the
 /// variable the next one, and then come the arguments and the tuple, which has the level `last`.
 fn said_at(
     alloc: Global,
@@ -41,7 +41,7 @@ fn said_at(
     projection(alloc, side, q, last + 1, pairing, said)
 }
 
-/// What a tuple for the direct arguments says of argument `at`.
+/// The part of a tuple for the direct arguments about argument `at`.
 fn said_by_levels(
     alloc: Global,
     side: Side,
@@ -77,7 +77,7 @@ fn with_arguments_after(alloc: Global, made: Tele, count: u32, t: &Term) -> Resu
     with_terms(alloc, made, after_terms(spine.as_slice(), count))
 }
 
-/// The terms for the variables of what a tuple says.
+/// The terms for the variables of the part of a tuple.
 #[tactic(auto, using(tele_eq::proofs::Growing::growing))]
 fn said_values(alloc: Global, c: &Search, whole: &Term, tuple: Term) -> Result<Tele, Stop>
     ensures { Gives tele_of result (Ok (parts.said_values (search_of c.now) (tree_of whole.now) (tree_of tuple))) }
@@ -117,8 +117,8 @@ fn instance_taking(alloc: Global, values: Vec<Term>, t: &Term) -> Result<Term, S
     }
 }
 
-/// What a tuple of `D!direct ps (ne x)` at the constructor `whole` says of argument `at`: that the variable is not the argument, or
-/// that it is no part of it.
+/// The part of a tuple of `D!direct ps (ne x)` at the constructor `whole` about argument `at`: that the variable is not the
+/// argument, or that it is no part of it.
 pub fn said_of(
     alloc: Global,
     c: &Search,

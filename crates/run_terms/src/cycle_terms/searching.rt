@@ -12,7 +12,7 @@ use core_terms::Term;
 use generators::acyclic_gen::Carrier;
 use unifier::variable_in;
 
-/// What is looked for below constructors of a family, which has a number, at parameters: the variable `x`. All are at one depth.
+/// A search for the variable `x` below constructors of a family, which has a number, at parameters. All are at one depth.
 #[derive(Clone, Copy)]
 pub struct Search<'a> {
     pub number: u32,

@@ -47,7 +47,7 @@ fn cycle_motive(alloc: Global, q: Carrier, from_left: bool) -> Result<Term, Stop
     motive_at(alloc, q, from_left, depth)
 }
 
-/// The same at the parameters and the variable of a search.
+/// This motive at the parameters and the variable of a search.
 #[tactic(auto, using(core_terms::proofs::Instances::instance_laws, tele_eq::proofs::Growing::growing))]
 fn motive_of(alloc: Global, c: &Search, from_left: bool) -> Result<Term, Stop>
     ensures { Gives tree_of result (Ok (parts.motive_of (search_of c.now) from_left)) }

@@ -41,7 +41,7 @@ pub fn at_head(alloc: Global, t: Term, inner: Outline) -> Result<Outline, Stop>
     }
 }
 
-/// The same arguments, the last of which that is no variable has another body.
+/// Another body for the last argument that is no variable; the others stay.
 pub fn with_later(alloc: Global, t: Term, inner: Outline) -> Result<Outline, Stop>
     ensures { Gives outline_of result (Ok (spec.with_later (tree_of t) (outline_of inner))) }
 {

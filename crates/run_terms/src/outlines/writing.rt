@@ -26,7 +26,7 @@ fn placed_under(
     put_under(alloc, Places::Levels(levels), size, depth, under, t)
 }
 
-/// Whether what is placed by its own levels, at its own depth, is placed under these binders by one list of levels.
+/// Whether a term that is placed by its own levels, at its own depth, is placed under these binders by one list of levels.
 fn composes(levels: &[u32], under: u32, own: &[u32], at: u32) -> bool
     ensures { result ≡ spec.composes levels.now under own.now at }
 {

@@ -1,6 +1,7 @@
 -- A position admits recursion exactly where something is found that recursion there rests on.
 use Rattle.std.proofs.Common.{◌≡◌, ◌≢◌, ℕ, zero, suc, ◌+◌, ◌-◌, ◌<◌, Bool, true, false, ◌&&◌, ◌||◌, not, ◌==◌, nat_lt, cond, Option, Some, None, option_map, option_and_then, List, [], ◌∷◌, ◌++◌, length, map, take, drop, slice_get, inl, inr, refl, sym, ap, ap₂, ◌∙◌, subst, arith}
 use Rattle.std.specs.Prelude.{◌↔◌, All, AllPairs}
+use Rattle.std.specs.List.{list_any}
 use Rattle.std.proofs.lemmas.Bool.{false≢true, and_from, or_from, or_parts, not-true, not_from_false}
 use Rattle.std.proofs.lemmas.Bool.Decides.{Decides-eqb, Decides-ltb}
 use Rattle.std.proofs.lemmas.List.{length-append, length-map, length-drop, length-take, take-append-drop}
@@ -21,7 +22,7 @@ use Rattle.kernel_reduce.specs.Entries.{family_in, family_at}
 use Rattle.kernel_reduce.proofs.LookUps.{family-found}
 use Rattle.case_below_gen.proofs.PartTests.{and-tells, or-tells}
 use Rattle.tele_eq.specs.Levels.{is_among}
-use Rattle.tree_translation.specs.structural_rec.Positions.{Admission, Admits, admission, admission_of, admission_in, admission_with, admission_at, admission_from, are_different, are_independent, family_number, fixed_positions, mentions, mentions_only, position_of, positions_of}
+use Rattle.tree_translation.specs.structural_rec.Positions.{Admission, Admits, admission, admission_of, admission_in, admission_with, admission_at, admission_from, are_different, are_in_order, are_independent, family_number, fixed_positions, mentions, mentions_only, position_of, positions_of}
 use Rattle.tree_translation.proofs.structural_rec.Admissions.{admission-whole}
 use Rattle.tree_translation.proofs.structural_rec.FixedPositions.{mentions-before}
 use Rattle.tree_translation.proofs.structural_rec.LowerParts.{head_of-applied}
@@ -98,7 +99,34 @@ different-found (x ∷ xs) h =
     (not_from_false (is_among x xs) (among-not x xs (λ k d lt. h 0 (suc k) d (omega arith) (omega arith))))
     (different-found xs (λ i k d lt within. h (suc i) (suc k) d (omega arith) (omega arith)))
 
--- ---- what the types of the indices mention
+-- ---- the order of the indices
+
+none-tells : (p : ℕ → Bool) (xs : List ℕ) → list_any p xs ≡ false → All (λ k. p k ≡ false) xs
+none-tells p [] h = All-nil (λ k. p k ≡ false)
+none-tells p (x ∷ xs) h =
+    let parts = or_parts (p x) (list_any p xs) h in
+    All-cons (λ k. p k ≡ false) x xs parts.0 (none-tells p xs parts.1)
+
+none-found : (p : ℕ → Bool) (xs : List ℕ) → All (λ k. p k ≡ false) xs → list_any p xs ≡ false
+none-found p [] h = refl
+none-found p (x ∷ xs) h =
+    or_from (p x) (list_any p xs) (All-head (λ k. p k ≡ false) x xs h) (none-found p xs (All-tail (λ k. p k ≡ false) x xs h))
+
+in-order-tells : (tele : List Term) (xs : List ℕ) → are_in_order tele xs ≡ true → AllPairs (λ i k. mentions tele i k ≡ false) xs
+in-order-tells tele [] h = λ i k d lt within. absurd (omega arith)
+in-order-tells tele (x ∷ xs) h =
+    let parts = and-tells (not (list_any (mentions tele x) xs)) (are_in_order tele xs) h in
+    AllPairs-cons (λ i k. mentions tele i k ≡ false) x xs
+    (none-tells (mentions tele x) xs (not-true (list_any (mentions tele x) xs) parts.0)) (in-order-tells tele xs parts.1)
+
+in-order-found : (tele : List Term) (xs : List ℕ) → AllPairs (λ i k. mentions tele i k ≡ false) xs → are_in_order tele xs ≡ true
+in-order-found tele [] h = refl
+in-order-found tele (x ∷ xs) h =
+    and_from (not (list_any (mentions tele x) xs)) (are_in_order tele xs)
+    (not_from_false (list_any (mentions tele x) xs) (none-found (mentions tele x) xs (λ k d lt. h 0 (suc k) d (omega arith) (omega arith))))
+    (in-order-found tele xs (λ i k d lt within. h (suc i) (suc k) d (omega arith) (omega arith)))
+
+-- ---- mentions in the types of the indices
 
 only-tells : (tele : List Term) (fixed indices : List ℕ) (i n : ℕ) → mentions_only tele fixed indices i n ≡ true → (k : ℕ) → k < n → mentions tele i k ≡ true
     → (is_among k fixed || is_among k indices) ≡ true
@@ -153,9 +181,9 @@ independent-found tele fixed indices (x ∷ last) h =
     (and_from (not (is_among x fixed)) (mentions_only tele fixed indices x x) (not_from_false (is_among x fixed) one.0) one.1)
     (independent-found tele fixed indices last (λ i among. h i (among-later i x last among)))
 
--- ---- what is found is an admission
+-- ---- a found admission is one
 
--- what the steps of the search have told of a type
+-- the tests of the search that a type has passed
 record Told (S : Signature) (tele : List Term) (j : ℕ) (t : Term) (n : ℕ) (f : Family) (is : List ℕ) : Type 0 where
   at : slice_get tele j ≡ Some t
   head : head_of t ≡ Fam n
@@ -163,6 +191,7 @@ record Told (S : Signature) (tele : List Term) (j : ℕ) (t : Term) (n : ℕ) (f
   counted : length (spine_of t) ≡ length f.parameters + length f.indices
   positions : positions_of j (drop (length f.parameters) (spine_of t)) ≡ Some is
   different : are_different is ≡ true
+  ordered : are_in_order tele is ≡ true
   independent : are_independent tele (fixed_positions tele j (take (length f.parameters) (spine_of t))) is is ≡ true
 
 told-admits : (S : Signature) (tele : List Term) (j : ℕ) (t : Term) (n : ℕ) (f : Family) (is : List ℕ) → Told S tele j t n f is
@@ -179,6 +208,7 @@ told-admits S tele j t n f is told = record {
   fixed = refl;
   apart = λ i among. (independent-tells tele fixed is is told.independent i among).0;
   index_types = λ i k among m. only-tells tele fixed is i i (independent-tells tele fixed is is told.independent i among).1 k (mentions-before tele i k m) m;
+  index_order = in-order-tells tele is told.ordered;
 }
   where
     count : ℕ
@@ -203,17 +233,18 @@ admission-tells S tele j a h = at-type (slice_get tele j) refl h
     from : (t : Term) (n : ℕ) (f : Family) (is : List ℕ) → slice_get tele j ≡ Some t → head_of t ≡ Fam n → family_at S n ≡ Some f
         → length (spine_of t) ≡ length f.parameters + length f.indices → positions_of j (drop (length f.parameters) (spine_of t)) ≡ Some is
         → admission_from tele n (fixed_positions tele j (take (length f.parameters) (spine_of t))) is ≡ Some a → Admits S tele j a
-    from t n f is at head known counted positions h = by (are_different is && are_independent tele fixed is is) refl h
+    from t n f is at head known counted positions h = by ((are_different is && are_in_order tele is) && are_independent tele fixed is is) refl h
       where
         fixed : List ℕ
         fixed = fixed_positions tele j (take (length f.parameters) (spine_of t))
 
-        by : (b : Bool) → (are_different is && are_independent tele fixed is is) ≡ b
+        by : (b : Bool) → ((are_different is && are_in_order tele is) && are_independent tele fixed is is) ≡ b
             → cond b (Some (record { number = n; fixed = fixed; indices = is })) None ≡ Some a → Admits S tele j a
         by true e h =
-            let parts = and-tells (are_different is) (are_independent tele fixed is is) e in
+            let parts = and-tells (are_different is && are_in_order tele is) (are_independent tele fixed is is) e in
+            let alone = and-tells (are_different is) (are_in_order tele is) parts.0 in
             subst (Admits S tele j) (some_is h)
-            (told-admits S tele j t n f is (record { at = at; head = head; known = known; counted = counted; positions = positions; different = parts.0; independent = parts.1 }))
+            (told-admits S tele j t n f is (record { at = at; head = head; known = known; counted = counted; positions = positions; different = alone.0; ordered = alone.1; independent = parts.1 }))
         by false e h = absurd (none-some a h)
 
     with-family : (t : Term) (n : ℕ) (f : Family) → slice_get tele j ≡ Some t → head_of t ≡ Fam n → family_at S n ≡ Some f
@@ -276,9 +307,10 @@ admission-found S tele j a m =
     back : drop (length m.family.parameters) spine ≡ map (variable j) a.indices
     back = ap (λ k. drop k spine) (sym m.parameter_count) ∙ drop-append_seam m.parameters (map (variable j) a.indices)
 
-    tests : (are_different a.indices && are_independent tele a.fixed a.indices a.indices) ≡ true
+    tests : ((are_different a.indices && are_in_order tele a.indices) && are_independent tele a.fixed a.indices a.indices) ≡ true
     tests =
-        and_from (are_different a.indices) (are_independent tele a.fixed a.indices a.indices) (different-found a.indices m.different)
+        and_from (are_different a.indices && are_in_order tele a.indices) (are_independent tele a.fixed a.indices a.indices)
+        (and_from (are_different a.indices) (are_in_order tele a.indices) (different-found a.indices m.different) (in-order-found tele a.indices m.index_order))
         (independent-found tele a.fixed a.indices a.indices (λ i among. (m.apart i among, only-found tele a.fixed a.indices i i (λ k h. m.index_types i k among h))))
 
 pub admission-decides : (S : Signature) (tele : List Term) (j : ℕ) (a : Admission) → (admission S tele j ≡ Some a) ↔ Admits S tele j a

@@ -1,4 +1,4 @@
--- What is chosen: the least usable position, or the rows of all positions that admit recursion.
+-- The choice: the least usable position, or the rows of all positions that admit recursion.
 use Rattle.std.proofs.Common.{◌≡◌, ◌≢◌, ℕ, ◌+◌, ◌<◌, ◌≤◌, Bool, true, false, ◌==◌, cond, Option, Some, None, option_map, List, [], ◌∷◌, length, refl, sym, ap, ◌∙◌, subst, arith}
 use Rattle.std.specs.Prelude.{◌↔◌, All}
 use Rattle.std.proofs.lemmas.Bool.{false≢true, or_parts, or_from}
@@ -37,7 +37,7 @@ is_answer (NotSmaller rows) = true
 
 -- ---- one position
 
--- what is said of a position, from what recursion there rests on
+-- the first call that does not fit at a position, from its admission
 abbrev said : (S : Signature) (tele : List Term) (own : ℕ) (uses : List Use) (j : ℕ) → Option Admission → Option (Option Failing)
 said S tele own uses j o = option_map (λ a. first_failing S own (length tele) j a uses) o
 
@@ -78,7 +78,7 @@ pub record IsLeastFrom (S : Signature) (tele : List Term) (own : ℕ) (uses : Li
   pub usable : IsUsable S tele own uses i
   pub least : (k : ℕ) → j ≤ k → k < i → ¬ IsUsable S tele own uses k
 
--- the same from one position earlier, where that one is not usable
+-- the least usable position, from one position earlier that is not usable
 earlier : (S : Signature) (tele : List Term) (own : ℕ) (uses : List Use) (j i : ℕ) → ¬ IsUsable S tele own uses j → IsLeastFrom S tele own uses (j + 1) i
     → IsLeastFrom S tele own uses j i
 earlier S tele own uses j i unusable later = record { from = (let le = later.from in omega arith); usable = later.usable; least = least }

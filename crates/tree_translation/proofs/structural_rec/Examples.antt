@@ -71,7 +71,7 @@ limit : choose sample (Fam 2 ∷ Fam 2 ∷ []) 9
 unfolding native.Mathlib.Decide.ℕ_discrete
 limit = refl
 
--- the same with the arguments exchanged in the last call
+-- with the arguments exchanged in the last call
 limit_exchanged : choose sample (Fam 2 ∷ Fam 2 ∷ []) 9
     (side 0 (Var 0 ∷ Con 2 0 ∷ []) (Var 0)
     ∷ side 1 (Var 1 ∷ App (Con 2 1) (Var 0) ∷ []) (App (Con 2 1) (self (Var 1 ∷ Var 0 ∷ [])))
@@ -121,7 +121,7 @@ parameter_kept : choose sample (Sort 0 ∷ App (Fam 3) (Var 0) ∷ []) 9
 unfolding native.Mathlib.Decide.ℕ_discrete
 parameter_kept = refl
 
--- len A (cons x xs) = suc (len (id A) xs): it is another one, letter for letter
+-- len A (cons x xs) = suc (len (id A) xs): the first argument is not syntactically equal to A
 parameter_varies : choose sample (Sort 0 ∷ App (Fam 3) (Var 0) ∷ []) 9
     (side 0 (Var 0 ∷ App (Con 3 0) (Var 0) ∷ []) zero
     ∷ side 1 (Var 2 ∷ applied (Con 3 1) (Var 2 ∷ Var 1 ∷ Var 0 ∷ []) ∷ []) (suc (self (App (Const 8) (Var 2) ∷ Var 0 ∷ [])))
@@ -130,7 +130,7 @@ parameter_varies : choose sample (Sort 0 ∷ App (Fam 3) (Var 0) ∷ []) 9
 unfolding native.Mathlib.Decide.ℕ_discrete
 parameter_varies = refl
 
--- len A B (cons x xs) = suc (len A A xs): what is no parameter may vary
+-- len A B (cons x xs) = suc (len A A xs): an argument that is no parameter may vary
 other_varies : choose sample (Sort 0 ∷ Sort 0 ∷ App (Fam 3) (Var 1) ∷ []) 9
     (side 0 (Var 1 ∷ Var 0 ∷ App (Con 3 0) (Var 1) ∷ []) zero
     ∷ side 1 (Var 3 ∷ Var 2 ∷ applied (Con 3 1) (Var 3 ∷ Var 1 ∷ Var 0 ∷ []) ∷ []) (suc (self (Var 3 ∷ Var 3 ∷ Var 0 ∷ [])))
@@ -148,7 +148,7 @@ index_first : choose sample (Sort 0 ∷ Fam 0 ∷ applied (Fam 1) (Var 1 ∷ Var
 unfolding native.Mathlib.Decide.ℕ_discrete
 index_first = refl
 
--- the same with a call at the clause's own terms: both positions have a row
+-- with a call at the clause's own terms, both positions have a row
 index_kept : choose sample (Sort 0 ∷ Fam 0 ∷ applied (Fam 1) (Var 1 ∷ Var 0 ∷ []) ∷ []) 9
     (side 0 (Var 3 ∷ suc (Var 2) ∷ applied (Con 1 1) (Var 3 ∷ Var 2 ∷ Var 1 ∷ Var 0 ∷ []) ∷ [])
     (suc (self (Var 3 ∷ suc (Var 2) ∷ applied (Con 1 1) (Var 3 ∷ Var 2 ∷ Var 1 ∷ Var 0 ∷ []) ∷ [])))
@@ -235,6 +235,17 @@ index_is_fixed = refl
 index_type_mentions : admission sample (Fam 0 ∷ App (Const 8) (Var 0) ∷ Fam 0 ∷ applied (Fam 4) (Var 1 ∷ Var 0 ∷ []) ∷ []) 3 ≡ None
 unfolding native.Mathlib.Decide.ℕ_discrete
 index_type_mentions = refl
+
+-- the type of an index mentions the index before it
+index_type_before : admission sample (Fam 0 ∷ App (Const 8) (Var 0) ∷ applied (Fam 4) (Var 1 ∷ Var 0 ∷ []) ∷ []) 2
+    ≡ Some (record { number = 4; fixed = []; indices = 0 ∷ 1 ∷ [] })
+unfolding native.Mathlib.Decide.ℕ_discrete
+index_type_before = refl
+
+-- with the indices exchanged it mentions the one after it
+index_type_after : admission sample (Fam 0 ∷ App (Const 8) (Var 0) ∷ applied (Fam 4) (Var 0 ∷ Var 1 ∷ []) ∷ []) 2 ≡ None
+unfolding native.Mathlib.Decide.ℕ_discrete
+index_type_after = refl
 
 -- the indices are in the order of the family: (A : Type 0) (m n : Nat) (Two n m)
 indices_exchanged : admission sample (Sort 0 ∷ Fam 0 ∷ Fam 0 ∷ applied (Fam 4) (Var 0 ∷ Var 1 ∷ []) ∷ []) 3

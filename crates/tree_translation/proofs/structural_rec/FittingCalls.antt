@@ -21,7 +21,7 @@ use Rattle.tree_translation.proofs.structural_rec.LowerParts.{no-inner}
 use Rattle.tree_translation.proofs.structural_rec.Members.{among-first, among-later}
 use Rattle.tree_translation.specs.structural_rec.Fitting.{IsKept, Fits, part_in, is_smaller, is_same, both_pass, pass_at, fits}
 
--- ---- letter for letter
+-- ---- syntactic equality
 
 same-is : (t u : Term) → same t u ≡ true → t ≡ u
 same-is t u h = let is = applied-tells u 0 t h in is.form ∙ no-inner is.inner is.counted u
@@ -35,7 +35,7 @@ same-itself t = by (Term-discrete ℕ_discrete t t)
 
 -- ---- at one position
 
--- what passes a test at a position
+-- an argument and the clause's own term at position i pass a test
 pub record Passes (test : Term → Term → Bool) (arguments terms : List Term) (i : ℕ) : Type 0 where
   pub argument : Term
   pub own : Term

@@ -14,7 +14,7 @@ use Rattle.tree_translation.proofs.structural_rec.Members.{among-first, among-la
 lt-tells : (i j : ℕ) (b : Bool) → (nat_lt i j && b) ≡ true → i < j
 lt-tells i j b h = (Decides-ltb i j).0 (and-tells (nat_lt i j) b h).0
 
--- what is mentioned comes before
+-- mentioned positions come before
 pub have-before : (j i : ℕ) (terms : List Term) → have_position j i terms ≡ true → i < j
 have-before j i terms h = lt-tells i j _ h
 
@@ -32,7 +32,7 @@ fixed-before tele j ps (behind {k} {i} fixed h) =
 abbrev is_next : (tele : List Term) (j : ℕ) (ps : List Term) (i : ℕ) (found : List ℕ) → Bool
 is_next tele j ps i found = have_position j i ps || list_any (λ k. mentions tele k i) found
 
--- ---- what is found is fixed
+-- ---- found positions are fixed
 
 next-fixed : (tele : List Term) (j : ℕ) (ps : List Term) (i : ℕ) (found : List ℕ) → ((k : ℕ) → is_among k found ≡ true → IsFixed tele j ps k)
     → is_next tele j ps i found ≡ true → IsFixed tele j ps i
@@ -58,7 +58,7 @@ below-fixed tele j ps zero found known k h = known k h
 below-fixed tele j ps (suc at) found known k h =
     below-fixed tele j ps at (with_fixed tele j ps at found) (with-fixed tele j ps at found known) k h
 
--- ---- what is fixed is found
+-- ---- fixed positions are found
 
 with-kept : (tele : List Term) (j : ℕ) (ps : List Term) (i : ℕ) (found : List ℕ) (k : ℕ) → is_among k found ≡ true
     → is_among k (with_fixed tele j ps i found) ≡ true
@@ -72,7 +72,7 @@ with-next : (tele : List Term) (j : ℕ) (ps : List Term) (i : ℕ) (found : Lis
     → is_among i (with_fixed tele j ps i found) ≡ true
 with-next tele j ps i found h = ap (λ b. is_among i (cond b (i ∷ found) found)) h ∙ among-first i found
 
--- what is fixed at `at` is mentioned, where all fixed positions after are found
+-- a fixed position at `at` is mentioned, if all fixed positions after it are found
 fixed-next : (tele : List Term) (j : ℕ) (ps : List Term) (i : ℕ) (found : List ℕ) → ((k : ℕ) → i < k → IsFixed tele j ps k → is_among k found ≡ true)
     → IsFixed tele j ps i → is_next tele j ps i found ≡ true
 fixed-next tele j ps i found known (parameter h) = or_left (have_position j i ps) (list_any (λ k. mentions tele k i) found) h

@@ -1,21 +1,25 @@
--- The recursion order has each position once.
-use Rattle.std.proofs.Common.{◌≡◌, ◌≢◌, ◌⊎◌, inl, inr, ℕ, zero, suc, ◌+◌, ◌-◌, ◌<◌, ◌≤◌, Bool, true, false, ◌||◌, ◌==◌, cond, List, [], ◌∷◌, ◌++◌, flat_map, length, refl, sym, ap, ◌∙◌, subst, append_assoc, arith}
+-- The recursion order has each position once, and each type mentions only positions before its own there.
+use Rattle.std.proofs.Common.{◌≡◌, ◌≢◌, ◌⊎◌, inl, inr, ℕ, zero, suc, ◌+◌, ◌-◌, ◌<◌, ◌≤◌, Bool, true, false, ◌||◌, ◌==◌, nat_lt, cond, Some, List, [], ◌∷◌, ◌++◌, flat_map, length, map, slice_get, refl, sym, ap, ◌∙◌, subst, append_assoc, arith}
 use Rattle.std.specs.List.{range_with_len, list_any}
 use Rattle.std.specs.Prelude.{All, AllPairs}
-use Rattle.std.proofs.lemmas.Bool.{false≢true, or_left, or_right}
-use Rattle.std.proofs.lemmas.Bool.Decides.{Decides-eqb}
+use Rattle.std.proofs.lemmas.Bool.{false≢true, and_from, or_left, or_right}
+use Rattle.std.proofs.lemmas.Bool.Decides.{Decides-eqb, Decides-ltb}
 use Rattle.std.proofs.lemmas.List.Elements.{All-nil, All-cons, All-head, All-tail}
 use Rattle.std.proofs.lemmas.List.Kept.{AllPairs-cons}
 use Rattle.std.proofs.lemmas.Option.{slice_get_within}
-use Rattle.theory.specs.Terms.{Term}
+use Rattle.theory.specs.Terms.{Term, App, Fam}
+use Rattle.theory.specs.Telescopes.{applied}
 use Rattle.theory.specs.Signatures.{Signature}
 use Rattle.theory.proofs.Lists.{AllPairs-append}
-use Rattle.case_below_gen.proofs.PartTests.{or-tells}
+use Rattle.core_terms.specs.Levels.{variable}
+use Rattle.case_below_gen.proofs.PartTests.{and-tells, or-tells}
+use Rattle.tele_eq.specs.Dependences.{has_variable}
 use Rattle.tele_eq.specs.Levels.{is_among}
-use Rattle.tree_translation.specs.structural_rec.Positions.{Admission, Admits, have_position, mentions, with_fixed, fixed_below, fixed_positions}
+use Rattle.tree_translation.specs.structural_rec.Positions.{Admission, Admits, IsFixed, have_position, in_type, mentions, with_fixed, fixed_below, fixed_positions}
+use Rattle.tree_translation.specs.structural_rec.Positions.IsFixed.{parameter, behind}
 use Rattle.tree_translation.specs.structural_rec.Orders.{unless_among, recursive_positions, recursion_order}
-use Rattle.tree_translation.specs.structural_rec.Laws.{IsOrder}
-use Rattle.tree_translation.proofs.structural_rec.FixedPositions.{fixed-before, fixed-decides}
+use Rattle.tree_translation.specs.structural_rec.Laws.{IsOrder, IsTelescopeOrder}
+use Rattle.tree_translation.proofs.structural_rec.FixedPositions.{fixed-before, fixed-decides, mentions-before}
 use Rattle.tree_translation.proofs.structural_rec.Members.{among-first, among-later}
 
 -- one position more, and then the others
@@ -50,7 +54,7 @@ among-right : (i : ℕ) (xs ys : List ℕ) → is_among i ys ≡ true → is_amo
 among-right i [] ys h = h
 among-right i (x ∷ xs) ys h = or_right (x == i) (is_among i (xs ++ ys)) (among-right i xs ys h)
 
--- what holds of each element that is among a list
+-- a property of each element of a list, from its being among the list
 all-among : (P : ℕ → Type 0) (xs : List ℕ) → ((i : ℕ) → is_among i xs ≡ true → P i) → All P xs
 all-among P [] h = All-nil P
 all-among P (x ∷ xs) h = All-cons P x xs (h x (among-first x xs)) (all-among P xs (λ i among. h i (among-later i x xs among)))
@@ -70,9 +74,20 @@ once-append xs ys first second apart =
     (λ i k here there same. false≢true (sym there ∙ (ap (λ x. is_among x xs) (sym same) ∙ here)))
     (all-among (λ i. is_among i xs ≡ true) xs (λ i among. among)) (all-among (λ i. is_among i xs ≡ false) ys apart) first second
 
-once-first : (x : ℕ) (xs : List ℕ) → ((i : ℕ) → is_among i xs ≡ true → x < i) → AllPairs (λ i k. i ≢ k) xs → AllPairs (λ i k. i ≢ k) (x ∷ xs)
-once-first x xs above once =
-    AllPairs-cons (λ i k. i ≢ k) x xs (all-among (λ k. x ≢ k) xs (λ k among. let lt = above k among in omega arith)) once
+-- ---- rising lists
+
+-- each element is below those after it
+abbrev Rising : List ℕ → Type 0
+Rising [] = Unit {0}
+Rising (x ∷ xs) = ((i : ℕ) → is_among i xs ≡ true → x < i) × Rising xs
+
+rising-pairs : (R : ℕ → ℕ → Type 0) → ((i k : ℕ) → i < k → R i k) → (xs : List ℕ) → Rising xs → AllPairs R xs
+rising-pairs R below [] rising = λ i k d lt within. absurd (omega arith)
+rising-pairs R below (x ∷ xs) rising =
+    AllPairs-cons R x xs (all-among (R x) xs (λ k among. below x k (rising.0 k among))) (rising-pairs R below xs rising.1)
+
+rising-once : (xs : List ℕ) → Rising xs → AllPairs (λ i k. i ≢ k) xs
+rising-once = rising-pairs (λ i k. i ≢ k) (λ i k lt same. omega arith)
 
 not-true-is : (b : Bool) → (b ≡ true → ⊥) → b ≡ false
 not-true-is true h = absurd (h refl)
@@ -91,23 +106,23 @@ with-above tele j ps at found above i among = by (have_position j at ps || list_
     ]
     by false among = let lt = above i among in omega arith
 
-with-once : (tele : List Term) (j : ℕ) (ps : List Term) (at : ℕ) (found : List ℕ) → ((i : ℕ) → is_among i found ≡ true → at < i)
-    → AllPairs (λ i k. i ≢ k) found → AllPairs (λ i k. i ≢ k) (with_fixed tele j ps at found)
-with-once tele j ps at found above once = by (have_position j at ps || list_any (λ k. mentions tele k at) found)
+with-rising : (tele : List Term) (j : ℕ) (ps : List Term) (at : ℕ) (found : List ℕ) → ((i : ℕ) → is_among i found ≡ true → at < i)
+    → Rising found → Rising (with_fixed tele j ps at found)
+with-rising tele j ps at found above rising = by (have_position j at ps || list_any (λ k. mentions tele k at) found)
   where
-    by : (b : Bool) → AllPairs (λ i k. i ≢ k) (cond b (at ∷ found) found)
-    by true = once-first at found above once
-    by false = once
+    by : (b : Bool) → Rising (cond b (at ∷ found) found)
+    by true = (above, rising)
+    by false = rising
 
-below-once : (tele : List Term) (j : ℕ) (ps : List Term) (at : ℕ) (found : List ℕ) → ((i : ℕ) → is_among i found ≡ true → at ≤ i)
-    → AllPairs (λ i k. i ≢ k) found → AllPairs (λ i k. i ≢ k) (fixed_below tele j ps at found)
-below-once tele j ps zero found above once = once
-below-once tele j ps (suc at) found above once =
+below-rising : (tele : List Term) (j : ℕ) (ps : List Term) (at : ℕ) (found : List ℕ) → ((i : ℕ) → is_among i found ≡ true → at ≤ i)
+    → Rising found → Rising (fixed_below tele j ps at found)
+below-rising tele j ps zero found above rising = rising
+below-rising tele j ps (suc at) found above rising =
     let strictly : (i : ℕ) → is_among i found ≡ true → at < i = λ i among. (let le = above i among in omega arith) in
-    below-once tele j ps at (with_fixed tele j ps at found) (with-above tele j ps at found strictly) (with-once tele j ps at found strictly once)
+    below-rising tele j ps at (with_fixed tele j ps at found) (with-above tele j ps at found strictly) (with-rising tele j ps at found strictly rising)
 
-fixed-once : (tele : List Term) (j : ℕ) (ps : List Term) → AllPairs (λ i k. i ≢ k) (fixed_positions tele j ps)
-fixed-once tele j ps = below-once tele j ps j [] (λ i among. absurd (false≢true among)) (λ i k d lt within. absurd (omega arith))
+fixed-rising : (tele : List Term) (j : ℕ) (ps : List Term) → Rising (fixed_positions tele j ps)
+fixed-rising tele j ps = below-rising tele j ps j [] (λ i among. absurd (false≢true among)) tt
 
 -- ---- the others
 
@@ -142,16 +157,136 @@ others-have first from (suc count) i low high apart =
         let other : from ≢ i = (λ same. false≢true (sym e ∙ (Decides-eqb from i).1 same)) in
         among-right i (unless_among first from) (flat_map (unless_among first) (range_with_len (from + 1) count)) (more (grind arith))
 
-others-once : (first : List ℕ) (from count : ℕ) → AllPairs (λ i k. i ≢ k) (flat_map (unless_among first) (range_with_len from count))
-others-once first from zero = λ i k d lt within. absurd (omega arith)
-others-once first from (suc count) = by (is_among from first) (others-once first (from + 1) count)
+others-rising : (first : List ℕ) (from count : ℕ) → Rising (flat_map (unless_among first) (range_with_len from count))
+others-rising first from zero = tt
+others-rising first from (suc count) = by (is_among from first) (others-rising first (from + 1) count)
   where
     rest : List ℕ
     rest = flat_map (unless_among first) (range_with_len (from + 1) count)
 
-    by : (b : Bool) → AllPairs (λ i k. i ≢ k) rest → AllPairs (λ i k. i ≢ k) (cond b [] (from ∷ []) ++ rest)
-    by true once = once
-    by false once = once-first from rest (λ i among. let low = (others-tell first (from + 1) count i among).0 in omega arith) once
+    by : (b : Bool) → Rising rest → Rising (cond b [] (from ∷ []) ++ rest)
+    by true rising = rising
+    by false rising = (λ i among. let low = (others-tell first (from + 1) count i among).0 in omega arith, rising)
+
+-- ---- mentions
+
+-- each type mentions only positions that come before its own in the list, or are among the first ones
+abbrev pub Follows : (tele : List Term) (first xs : List ℕ) → Type 0
+Follows tele first [] = Unit {0}
+Follows tele first (i ∷ xs) = ((k : ℕ) → mentions tele i k ≡ true → is_among k first ≡ true) × Follows tele (i ∷ first) xs
+
+-- an element before others, of which one is looked for among two lists
+moved : (k x : ℕ) (first xs : List ℕ) → (is_among k first ≡ true) ⊎ (is_among k (x ∷ xs) ≡ true) → (is_among k (x ∷ first) ≡ true) ⊎ (is_among k xs ≡ true)
+moved k x first xs (inl among) = inl (among-later k x first among)
+moved k x first xs (inr among) = elim (or-tells (x == k) (is_among k xs) among) [
+  | inl here ↦ inl (or_left (x == k) (is_among k first) here)
+  | inr later ↦ inr later
+]
+
+moved-back : (k x : ℕ) (first xs : List ℕ) → (is_among k (x ∷ first) ≡ true) ⊎ (is_among k xs ≡ true) → (is_among k first ≡ true) ⊎ (is_among k (x ∷ xs) ≡ true)
+moved-back k x first xs (inl among) = elim (or-tells (x == k) (is_among k first) among) [
+  | inl here ↦ inr (or_left (x == k) (is_among k xs) here)
+  | inr later ↦ inl later
+]
+moved-back k x first xs (inr among) = inr (among-later k x xs among)
+
+follows-more : (tele : List Term) (first more xs : List ℕ) → ((k : ℕ) → is_among k first ≡ true → is_among k more ≡ true) → Follows tele first xs
+    → Follows tele more xs
+follows-more tele first more [] there h = tt
+follows-more tele first more (x ∷ xs) there h = (λ k m. there k (h.0 k m), follows-more tele (x ∷ first) (x ∷ more) xs still h.1)
+  where
+    still : (k : ℕ) → is_among k (x ∷ first) ≡ true → is_among k (x ∷ more) ≡ true
+    still k among = elim (or-tells (x == k) (is_among k first) among) [
+      | inl here ↦ or_left (x == k) (is_among k more) here
+      | inr later ↦ or_right (x == k) (is_among k more) (there k later)
+    ]
+
+follows-append : (tele : List Term) (first second xs ys : List ℕ)
+    → ((k : ℕ) → is_among k second ≡ true → (is_among k first ≡ true) ⊎ (is_among k xs ≡ true)) → Follows tele first xs → Follows tele second ys
+    → Follows tele first (xs ++ ys)
+follows-append tele first second [] ys there h k =
+    follows-more tele second first ys (λ i among. elim (there i among) [ inl front ↦ front | inr none ↦ absurd (false≢true none) ]) k
+follows-append tele first second (x ∷ xs) ys there h k =
+    (h.0, follows-append tele (x ∷ first) second xs ys (λ i among. moved i x first xs (there i among)) h.1 k)
+
+-- so does a list that has with each position all that its type mentions, unless it is among the first ones, if no type mentions a later one
+closed-follows : (tele : List Term) (first xs : List ℕ)
+    → ((i k : ℕ) → is_among i xs ≡ true → mentions tele i k ≡ true → (is_among k first ≡ true) ⊎ (is_among k xs ≡ true))
+    → AllPairs (λ i k. mentions tele i k ≡ false) xs → Follows tele first xs
+closed-follows tele first [] closed apart = tt
+closed-follows tele first (x ∷ xs) closed apart = (
+  λ k m. elim (moved k x first xs (closed x k (among-first x xs) m)) [
+    | inl front ↦ elim (or-tells (x == k) (is_among k first) front) [
+      | inl here ↦ (let same : x ≡ k = (Decides-eqb x k).0 here in let lt = mentions-before tele x k m in absurd (omega arith))
+      | inr there ↦ there
+    ]
+    | inr later ↦
+        absurd (false≢true (sym (among-all (λ k. mentions tele x k ≡ false) xs (λ k d lt. apart 0 (suc k) d (omega arith) (omega arith)) k later) ∙ m))
+  ],
+  closed-follows tele (x ∷ first) xs (λ i k among m. moved k x first xs (closed i k (among-later i x xs among) m))
+      (λ i k d lt within. apart (suc i) (suc k) d (omega arith) (omega arith)),
+)
+
+-- no type mentions its own position or a later one
+later-not : (tele : List Term) (i k : ℕ) → i < k → mentions tele i k ≡ false
+later-not tele i k lt = not-true-is (mentions tele i k) (λ m. let before = mentions-before tele i k m in omega arith)
+
+rising-follows : (tele : List Term) (first xs : List ℕ)
+    → ((i k : ℕ) → is_among i xs ≡ true → mentions tele i k ≡ true → (is_among k first ≡ true) ⊎ (is_among k xs ≡ true)) → Rising xs → Follows tele first xs
+rising-follows tele first xs closed rising =
+    closed-follows tele first xs closed (rising-pairs (λ i k. mentions tele i k ≡ false) (later-not tele) xs rising)
+
+-- what is mentioned at a place of such a list
+follows-tells : (tele : List Term) (first before after : List ℕ) (i k : ℕ) → Follows tele first (before ++ i ∷ after) → mentions tele i k ≡ true
+    → (is_among k first ≡ true) ⊎ (is_among k before ≡ true)
+follows-tells tele first [] after i k h m = inl (h.0 k m)
+follows-tells tele first (x ∷ before) after i k h m = moved-back k x first before (follows-tells tele (x ∷ first) before after i k h.1 m)
+
+pub follows-earlier : (tele : List Term) (order : List ℕ) → Follows tele [] order → (before after : List ℕ) (i k : ℕ) → order ≡ before ++ i ∷ after
+    → mentions tele i k ≡ true → is_among k before ≡ true
+follows-earlier tele order h before after i k is m =
+    elim (follows-tells tele [] before after i k (subst (Follows tele []) is h) m) [ inl none ↦ absurd (false≢true none) | inr there ↦ there ]
+
+-- ---- variables of a type `D ps is`
+
+has-applied : (v : ℕ) (head : Term) (args : List Term) → has_variable v (applied head args) ≡ true
+    → (has_variable v head ≡ true) ⊎ (list_any (has_variable v) args ≡ true)
+has-applied v head [] h = inl h
+has-applied v head (a ∷ args) h = elim (has-applied v (App head a) args h) [
+  | inl front ↦ elim (or-tells (has_variable v head) (has_variable v a) front) [
+    | inl there ↦ inl there
+    | inr first ↦ inr (or_left (has_variable v a) (list_any (has_variable v) args) first)
+  ]
+  | inr later ↦ inr (or_right (has_variable v a) (list_any (has_variable v) args) later)
+]
+
+any-split : (p : Term → Bool) (xs ys : List Term) → list_any p (xs ++ ys) ≡ true → (list_any p xs ≡ true) ⊎ (list_any p ys ≡ true)
+any-split p [] ys h = inr h
+any-split p (x ∷ xs) ys h = elim (or-tells (p x) (list_any p (xs ++ ys)) h) [
+  | inl here ↦ inl (or_left (p x) (list_any p xs) here)
+  | inr later ↦ elim (any-split p xs ys later) [
+    | inl front ↦ inl (or_right (p x) (list_any p xs) front)
+    | inr back ↦ inr back
+  ]
+]
+
+-- of variables of a position, one with such a number is that of one of the list
+variable-listed : (j k : ℕ) (is : List ℕ) → k < j → All (λ i. i < j) is → list_any (has_variable (j - (k + 1))) (map (variable j) is) ≡ true → is_among k is ≡ true
+variable-listed j k [] lt low h = absurd (false≢true h)
+variable-listed j k (i ∷ is) lt low h = elim (or-tells (j - (i + 1) == j - (k + 1)) (list_any (has_variable (j - (k + 1))) (map (variable j) is)) h) [
+  | inl here ↦ (
+      let same : j - (i + 1) ≡ j - (k + 1) = (Decides-eqb (j - (i + 1)) (j - (k + 1))).0 here in
+      let near : i < j = All-head (λ i. i < j) i is low in
+      or_left (i == k) (is_among k is) ((Decides-eqb i k).1 (omega arith))
+      )
+  | inr later ↦ or_right (i == k) (is_among k is) (variable-listed j k is lt (All-tail (λ i. i < j) i is low) later)
+]
+
+-- what a mention rests on
+mention-tells : (tele : List Term) (j k : ℕ) (t : Term) → slice_get tele j ≡ Some t → mentions tele j k ≡ true → (k < j) × (has_variable (j - (k + 1)) t ≡ true)
+mention-tells tele j k t at m =
+    let parts = and-tells (nat_lt k j) (in_type (j - (k + 1)) (slice_get tele j)) m in
+    ((Decides-ltb k j).0 parts.0, sym (ap (in_type (j - (k + 1))) at) ∙ parts.1)
 
 -- ---- the order
 
@@ -183,8 +318,8 @@ order-whole S tele j a m = record { whole = whole; within = within; once = once 
       | inr none ↦ absurd (false≢true none)
     ]
 
-    behind : (i : ℕ) → is_among i (a.indices ++ j ∷ []) ≡ true → (is_among i a.indices ≡ true) ⊎ (j ≡ i)
-    behind i among = elim (among-tells i a.indices (j ∷ []) among) [
+    among-last : (i : ℕ) → is_among i (a.indices ++ j ∷ []) ≡ true → (is_among i a.indices ≡ true) ⊎ (j ≡ i)
+    among-last i among = elim (among-tells i a.indices (j ∷ []) among) [
       | inl index ↦ inl index
       | inr last ↦ inr (only-itself i last)
     ]
@@ -192,7 +327,7 @@ order-whole S tele j a m = record { whole = whole; within = within; once = once 
     first-low : (i : ℕ) → is_among i first ≡ true → i ≤ j
     first-low i among = elim (among-tells i a.fixed (a.indices ++ j ∷ []) among) [
       | inl fixed ↦ let lt = fixed-low i fixed in omega arith
-      | inr later ↦ elim (behind i later) [
+      | inr later ↦ elim (among-last i later) [
         | inl index ↦ let lt = index-low i index in omega arith
         | inr last ↦ omega arith
       ]
@@ -212,7 +347,7 @@ order-whole S tele j a m = record { whole = whole; within = within; once = once 
     ]
 
     apart : (i : ℕ) → is_among i (a.indices ++ j ∷ []) ≡ true → is_among i a.fixed ≡ false
-    apart i among = elim (behind i among) [
+    apart i among = elim (among-last i among) [
       | inl index ↦ m.apart i index
       | inr last ↦ not-true-is (is_among i a.fixed) (λ fixed. let lt = fixed-low i fixed in omega arith)
     ]
@@ -225,7 +360,68 @@ order-whole S tele j a m = record { whole = whole; within = within; once = once 
     once : AllPairs (λ i k. i ≢ k) (first ++ others)
     once =
         once-append first others
-        (once-append a.fixed (a.indices ++ j ∷ []) (subst (AllPairs (λ i k. i ≢ k)) (sym m.fixed) (fixed-once tele j m.parameters))
-        (once-append a.indices (j ∷ []) m.different (once-first j [] (λ i among. absurd (false≢true among)) (λ i k d lt within. absurd (omega arith))) last-apart)
+        (once-append a.fixed (a.indices ++ j ∷ []) (subst (AllPairs (λ i k. i ≢ k)) (sym m.fixed) (rising-once (fixed_positions tele j m.parameters) (fixed-rising tele j m.parameters)))
+        (once-append a.indices (j ∷ []) m.different (rising-once (j ∷ []) (λ i among. absurd (false≢true among), tt)) last-apart)
         apart)
-        (others-once first 0 count) (λ i among. (others-tell first 0 count i among).2)
+        (rising-once others (others-rising first 0 count)) (λ i among. (others-tell first 0 count i among).2)
+
+pub order-is-telescope : (S : Signature) (tele : List Term) (j : ℕ) (a : Admission) → Admits S tele j a → IsTelescopeOrder tele (recursion_order (length tele) j a)
+order-is-telescope S tele j a m = record {
+  positions = whole;
+  earlier = follows-earlier tele (first ++ others)
+      (follows-append tele [] first first others (λ k among. inr among) first-follow (rising-follows tele first others others-closed (others-rising first 0 count)));
+}
+  where
+    count : ℕ
+    count = length tele
+
+    first : List ℕ
+    first = recursive_positions j a
+
+    others : List ℕ
+    others = flat_map (unless_among first) (range_with_len 0 count)
+
+    whole : IsOrder count (first ++ others)
+    whole = order-whole S tele j a m
+
+    is-fixed : (i : ℕ) → is_among i a.fixed ≡ true → IsFixed tele j m.parameters i
+    is-fixed i among = (fixed-decides tele j m.parameters i).0 (ap (is_among i) (sym m.fixed) ∙ among)
+
+    found-fixed : (i : ℕ) → IsFixed tele j m.parameters i → is_among i a.fixed ≡ true
+    found-fixed i fixed = ap (is_among i) m.fixed ∙ (fixed-decides tele j m.parameters i).1 fixed
+
+    fixed-follow : Follows tele [] a.fixed
+    fixed-follow =
+        rising-follows tele [] a.fixed (λ i k among mentioned. inr (found-fixed k (behind (is-fixed i among) mentioned)))
+        (subst Rising (sym m.fixed) (fixed-rising tele j m.parameters))
+
+    indices-follow : Follows tele a.fixed a.indices
+    indices-follow =
+        closed-follows tele a.fixed a.indices
+        (λ i k among mentioned. or-tells (is_among k a.fixed) (is_among k a.indices) (m.index_types i k among mentioned)) m.index_order
+
+    -- the type at j itself mentions its parameters' variables, which are fixed, and the indices
+    own : (k : ℕ) → mentions tele j k ≡ true → is_among k (a.fixed ++ a.indices) ≡ true
+    own k mentioned =
+        let parts = mention-tells tele j k _ m.type mentioned in
+        elim (has-applied (j - (k + 1)) (Fam a.number) (m.parameters ++ map (variable j) a.indices) parts.1) [
+          | inl none ↦ absurd (false≢true none)
+          | inr there ↦ elim (any-split (has_variable (j - (k + 1))) m.parameters (map (variable j) a.indices) there) [
+            | inl fixed ↦
+                among-left k a.fixed a.indices
+                (found-fixed k (parameter (and_from (nat_lt k j) (list_any (has_variable (j - (k + 1))) m.parameters) ((Decides-ltb k j).1 parts.0) fixed)))
+            | inr index ↦ among-right k a.fixed a.indices (variable-listed j k a.indices parts.0 m.before index)
+          ]
+        ]
+
+    first-follow : Follows tele [] first
+    first-follow =
+        follows-append tele [] a.fixed a.fixed (a.indices ++ j ∷ []) (λ k among. inr among) fixed-follow
+        (follows-append tele a.fixed (a.fixed ++ a.indices) a.indices (j ∷ []) (λ k among. among-tells k a.fixed a.indices among) indices-follow (own, tt))
+
+    others-closed : (i k : ℕ) → is_among i others ≡ true → mentions tele i k ≡ true → (is_among k first ≡ true) ⊎ (is_among k others ≡ true)
+    others-closed i k among mentioned =
+        let lt : k < i = mentions-before tele i k mentioned in
+        let low : i < 0 + count = (others-tell first 0 count i among).1 in
+        let near : k < count = omega arith in
+        among-tells k first others (whole.whole k near)

@@ -16,7 +16,7 @@ pub record Call : Type 0 where
   pub under : ℕ
   pub term : Term
 
--- the calls in t, of which `whole` is the application to what comes after it: a call before those in its arguments, and those
+-- the calls in t, of which `whole` is the application to the arguments after it: a call before those in its arguments, and those
 -- from the left
 abbrev pub calls_in : (own under : ℕ) (whole : Term) → Term → List Call
 calls_in own under whole (Pi a b) = calls_in own under a a ++ calls_in own (under + 1) b b

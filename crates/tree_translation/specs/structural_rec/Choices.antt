@@ -51,7 +51,7 @@ abbrev pub with_row : Failing → Choice → Choice
 with_row row (NotSmaller rows) = NotSmaller (row ∷ rows)
 with_row row other = other
 
--- position j where each call fits it, else what the later ones give, with its failing call where it admits recursion
+-- position j where each call fits it, else the choice among the later ones, with its failing call where it admits recursion
 abbrev pub or_later : (j : ℕ) → Option (Option Failing) → (later : Choice) → Choice
 or_later j None later = later
 or_later j (Some None) later = At j

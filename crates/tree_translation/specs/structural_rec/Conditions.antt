@@ -1,4 +1,4 @@
--- What the choice of a position asks of its caller: terms that are not too high, with few variables.
+-- The conditions of the choice of a position: terms that are not too high, with few variables.
 use Rattle.std.specs.Prelude.{◌≤◌, List, [], ◌∷◌, length}
 use Rattle.theory.specs.Terms.{Term}
 use Rattle.tele_eq.specs.Items.{IsSmall, AreSmallTerms}

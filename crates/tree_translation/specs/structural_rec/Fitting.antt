@@ -14,7 +14,7 @@ use Rattle.tele_eq.specs.Levels.{is_among}
 use Rattle.tree_translation.specs.structural_rec.Positions.{Admission, Admits}
 use Rattle.tree_translation.specs.structural_rec.Uses.{Use}
 
--- the argument of a call at position i is the clause's own term there, letter for letter
+-- the argument of a call at position i is syntactically equal to the clause's own term there
 pub record IsKept (terms : List Term) (c : Call) (i : ℕ) : Type 0 where
   pub own : Term
   pub there : slice_get terms i ≡ Some own

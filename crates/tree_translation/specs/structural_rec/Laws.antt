@@ -1,4 +1,4 @@
--- What the choice of a position means.
+-- Laws of the choice of a position.
 use Rattle.std.specs.Prelude.{◌≡◌, ◌≢◌, ◌⊎◌, ◌↔◌, ℕ, suc, ◌+◌, ◌<◌, ◌≤◌, true, false, Some, List, [], ◌∷◌, ◌++◌, length, slice_get, All, AllPairs}
 use Rattle.theory.specs.Terms.{Term, Con, height}
 use Rattle.theory.specs.Spines.{head_of}
@@ -8,13 +8,13 @@ use Rattle.theory.specs.Signatures.{Signature}
 use Rattle.case_below_gen.specs.StrictParts.{IsRecursiveArgument, IsStrictPart}
 use Rattle.tree_translation.specs.structural_rec.Calls.{Call, calls, has_constant}
 use Rattle.tele_eq.specs.Levels.{is_among}
-use Rattle.tree_translation.specs.structural_rec.Positions.{Admission, Admits, IsFixed, admission, fixed_positions}
+use Rattle.tree_translation.specs.structural_rec.Positions.{Admission, Admits, IsFixed, admission, fixed_positions, mentions}
 use Rattle.tree_translation.specs.structural_rec.Orders.{recursion_order}
 use Rattle.tree_translation.specs.structural_rec.Uses.{Use, is_recursive}
 use Rattle.tree_translation.specs.structural_rec.Fitting.{Fits, AllFit, IsUsable, fits}
 use Rattle.tree_translation.specs.structural_rec.Choices.{NotRecursive, At, NotSmaller, Failing, choose, failing_row}
 
--- ---- what is tested
+-- ---- tests
 
 -- the fixed positions are those that the relation says
 abbrev pub FixedAreClosed : Type 0
@@ -122,6 +122,11 @@ pub record IsOrder (count : ℕ) (order : List ℕ) : Type 0 where
   pub within : (i : ℕ) → is_among i order ≡ true → i < count
   pub once : AllPairs (λ i k. i ≢ k) order
 
-abbrev pub OrderIsWhole : Type 0
-OrderIsWhole =
-    (S : Signature) (tele : List Term) (j : ℕ) (a : Admission) → Admits S tele j a → IsOrder (length tele) (recursion_order (length tele) j a)
+-- In the order each type mentions only positions that come before its own, so the types in that order are a telescope.
+pub record IsTelescopeOrder (tele : List Term) (order : List ℕ) : Type 0 where
+  pub positions : IsOrder (length tele) order
+  pub earlier : (before behind : List ℕ) (i k : ℕ) → order ≡ before ++ i ∷ behind → mentions tele i k ≡ true → is_among k before ≡ true
+
+abbrev pub OrderIsTelescope : Type 0
+OrderIsTelescope =
+    (S : Signature) (tele : List Term) (j : ℕ) (a : Admission) → Admits S tele j a → IsTelescopeOrder tele (recursion_order (length tele) j a)

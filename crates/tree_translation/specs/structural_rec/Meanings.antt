@@ -1,4 +1,4 @@
--- What the values of the code stand for.
+-- The meanings of the code's values.
 use Rattle.std.specs.Prelude.{List, map}
 use Rattle.core_terms.specs.Meanings.{tree_of, tele_of}
 use Rattle.tree_translation.specs.structural_rec.Uses as pure

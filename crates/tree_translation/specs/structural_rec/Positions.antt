@@ -12,7 +12,7 @@ use Rattle.kernel_reduce.specs.Entries.{family_at}
 use Rattle.tele_eq.specs.Dependences.{has_variable}
 use Rattle.tele_eq.specs.Levels.{is_among}
 
--- ---- what types mention
+-- ---- mentions in types
 
 -- whether terms at position j mention the variable at i, before it
 abbrev pub have_position : (j i : ℕ) → List Term → Bool
@@ -47,15 +47,15 @@ fixed_positions tele j ps = fixed_below tele j ps j []
 
 -- ---- admitting positions
 
--- What recursion at a position rests on: the number of the family of its type, the fixed positions in the order of the telescope,
--- and the positions of the indices in the order of the family.
+-- An admission of recursion at a position: the number of the family of its type, the fixed positions in the order of the telescope, and
+-- the positions of the indices in the order of the family.
 pub record Admission : Type 0 where
   pub number : ℕ
   pub fixed : List ℕ
   pub indices : List ℕ
 
--- Position j admits recursion: its type is letter for letter `D ps is`, where the indices are different variables before j, none
--- of which is fixed, and whose types mention fixed positions and each other alone.
+-- Position j admits recursion: its type is syntactically `D ps is`, where the indices are different variables before j, none of which is
+-- fixed. The type of each mentions fixed positions and indices alone, and of the indices only those before it in `is`.
 pub record Admits (S : Signature) (tele : List Term) (j : ℕ) (a : Admission) : Type 0 where
   pub family : Family
   pub parameters : List Term
@@ -68,6 +68,7 @@ pub record Admits (S : Signature) (tele : List Term) (j : ℕ) (a : Admission) :
   pub fixed : a.fixed ≡ fixed_positions tele j parameters
   pub apart : (i : ℕ) → is_among i a.indices ≡ true → is_among i a.fixed ≡ false
   pub index_types : (i k : ℕ) → is_among i a.indices ≡ true → mentions tele i k ≡ true → (is_among k a.fixed || is_among k a.indices) ≡ true
+  pub index_order : AllPairs (λ i k. mentions tele i k ≡ false) a.indices
 
 -- ---- how they are found
 
@@ -76,7 +77,7 @@ abbrev pub position_of : (j : ℕ) → Term → Option ℕ
 position_of j (Var v) = cond (nat_lt v j) (Some (j - (v + 1))) None
 position_of j _ = None
 
--- the same of each term
+-- the positions of terms at j, if each is a variable before j
 abbrev pub positions_of : (j : ℕ) → List Term → Option (List ℕ)
 positions_of j [] = Some []
 positions_of j (t ∷ terms) =
@@ -98,9 +99,14 @@ are_independent tele fixed indices [] = true
 are_independent tele fixed indices (i ∷ others) =
     (not (is_among i fixed) && mentions_only tele fixed indices i i) && are_independent tele fixed indices others
 
+-- no type of an index mentions a later index
+abbrev pub are_in_order : (tele : List Term) → List ℕ → Bool
+are_in_order tele [] = true
+are_in_order tele (i ∷ later) = not (list_any (mentions tele i) later) && are_in_order tele later
+
 abbrev pub admission_from : (tele : List Term) (n : ℕ) (fixed indices : List ℕ) → Option Admission
 admission_from tele n fixed indices =
-    cond (are_different indices && are_independent tele fixed indices indices)
+    cond ((are_different indices && are_in_order tele indices) && are_independent tele fixed indices indices)
     (Some (record { number = n; fixed = fixed; indices = indices }))
     None
 
@@ -127,6 +133,6 @@ admission_in S tele j spine n = option_and_then (admission_with tele j n spine) 
 abbrev pub admission_of : (S : Signature) (tele : List Term) (j : ℕ) → Term → Option Admission
 admission_of S tele j t = option_and_then (admission_in S tele j (spine_of t)) (family_number (head_of t))
 
--- what recursion at position j rests on, where it admits recursion
+-- the admission at position j, if it admits recursion
 abbrev pub admission : (S : Signature) (tele : List Term) (j : ℕ) → Option Admission
 admission S tele j = option_and_then (admission_of S tele j) (slice_get tele j)

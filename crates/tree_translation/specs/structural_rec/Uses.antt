@@ -1,4 +1,4 @@
--- What a function says of itself: each right side and each scrutinee, with the clause's own terms.
+-- A function's uses of itself: each right side and each scrutinee, with the clause's own terms.
 use Rattle.std.specs.Prelude.{ℕ, Bool, List}
 use Rattle.std.specs.List.{list_any}
 use Rattle.theory.specs.Terms.{Term}

@@ -7,15 +7,17 @@ ghost use Rattle.tele_eq.specs.Items.{AreSmallTerms, IsSmall};
 ghost use Rattle.tree_translation.specs.structural_rec.Meanings.{admission_of};
 ghost use Rattle.tree_translation.specs.structural_rec.Positions as spec;
 
-use crate::structural_rec::positions::{are_different, are_independent, fixed_below, positions_of};
+use crate::structural_rec::positions::{
+    are_different, are_in_order, are_independent, fixed_below, positions_of,
+};
 use crate::structural_rec::terms::small_term_at;
 use core_sig::{Family, Signature};
 use core_terms::{Stop, Term, copy_whole, head, into_spine};
 use kernel_reduce::family;
 use std::alloc::Global;
 
-/// What recursion at a position rests on: the number of the family of its type, the fixed positions in the order of the telescope,
-/// and the positions of the indices in the order of the family.
+/// An admission of recursion at a position: the number of the family of its type, the fixed positions in the order of the
+/// telescope, and the positions of the indices in the order of the family.
 #[derive(Debug, Drop)]
 pub struct Admission {
     pub number: u32,
@@ -23,7 +25,7 @@ pub struct Admission {
     pub indices: Vec<u32>,
 }
 
-/// What recursion at position `j` rests on, where it admits recursion.
+/// The admission at position `j`, if it admits recursion.
 pub fn find_admission(
     alloc: Global,
     sig: &Signature,
@@ -39,7 +41,7 @@ pub fn find_admission(
     }
 }
 
-/// The same with the type `ty` at position `j`.
+/// The admission with the type `ty` at position `j`.
 fn admission_at_type(
     alloc: Global,
     sig: &Signature,
@@ -63,7 +65,7 @@ fn admission_at_type(
     }
 }
 
-/// The same where the type is family `n` applied to `spine`.
+/// The admission where the type is family `n` applied to `spine`.
 fn admission_with(
     alloc: Global,
     tele: &[Term],
@@ -84,7 +86,7 @@ fn admission_with(
     admission_at(alloc, tele, j, n, &spine[..count], &spine[count..])
 }
 
-/// The same where the type is family `n` at these parameters and indices.
+/// The admission where the type is family `n` at these parameters and indices.
 fn admission_at(
     alloc: Global,
     tele: &[Term],
@@ -106,12 +108,13 @@ fn admission_at(
     }
 }
 
-/// The same from the fixed positions and those of the indices.
+/// The admission from the fixed positions and those of the indices.
 fn admission_from(tele: &[Term], n: u32, fixed: Vec<u32>, indices: Vec<u32>) -> Option<Admission>
     requires { AreSmallTerms (tele_of tele.now) }
     ensures { option_map admission_of result ≡ spec.admission_from (tele_of tele.now) n fixed.items indices.items }
 {
     if are_different(indices.as_slice())
+        && are_in_order(tele, indices.as_slice())
         && are_independent(
             tele,
             fixed.as_slice(),

@@ -33,7 +33,7 @@ fn unless_fits(
     Ok(Some(copy_whole(alloc, call)?))
 }
 
-/// The first call in `t` that does not fit; `whole` is the application of `t` to what comes after it.
+/// The first call in `t` that does not fit; `whole` is the application of `t` to the arguments after it.
 #[cycle(failing_call)]
 #[tactic(auto, using(crate::proofs::structural_rec::FailingCalls::failing_append, crate::proofs::structural_rec::FailingCalls::or_assoc))]
 fn failing_call(

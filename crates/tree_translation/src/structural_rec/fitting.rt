@@ -17,7 +17,7 @@ use core_terms::{Stop, Term, copy_whole, into_spine};
 use kernel_reduce::family;
 use std::alloc::Global;
 
-/// A position of `count`, with what recursion there rests on, for the function with the constant `own`.
+/// A position of `count`, with its admission, for the function with the constant `own`.
 #[derive(Clone, Copy)]
 pub(crate) struct Place<'a> {
     pub(crate) sig: &'a Signature,

@@ -1,5 +1,5 @@
-//! What the choice of a position means.
-ghost use Rattle.tree_translation.specs.structural_rec.Laws.{AdmissionDecides, AtIsLeastUsable, ConstantIsCalled, FinitaryPartsAreLower, FitsDecides, FixedAreClosed, NotRecursiveIsExact, NotSmallerIsExact, OrderIsWhole, PartsAreLower, PartsEnd};
+//! Laws of the choice of a position.
+ghost use Rattle.tree_translation.specs.structural_rec.Laws.{AdmissionDecides, AtIsLeastUsable, ConstantIsCalled, FinitaryPartsAreLower, FitsDecides, FixedAreClosed, NotRecursiveIsExact, NotSmallerIsExact, OrderIsTelescope, PartsAreLower, PartsEnd};
 
 /// The fixed positions are the parameters' variables, closed under those that their types mention.
 pub fn fixed_are_closed()
@@ -52,7 +52,7 @@ pub fn parts_end()
     ensures { PartsEnd }
 {}
 
-/// The recursion order at a position that admits recursion has each position of the telescope once.
-pub fn order_is_whole()
-    ensures { OrderIsWhole }
+/// The recursion order at a position that admits recursion has each position of the telescope once, and the types in it are a telescope.
+pub fn order_is_telescope()
+    ensures { OrderIsTelescope }
 {}

@@ -161,6 +161,28 @@ fn mentions_only(tele: &[Term], fixed: &[u32], indices: &[u32], i: u32, k: u32) 
         && mentions_only(tele, fixed, indices, i, k)
 }
 
+/// Whether the type at `i` mentions one of the positions.
+fn mentions_one(tele: &[Term], i: u32, positions: &[u32]) -> bool
+    requires { AreSmallTerms (tele_of tele.now) }
+    ensures { result ≡ list_any (spec.mentions (tele_of tele.now) i) positions.now }
+{
+    match positions {
+        [] => false,
+        [position, rest @ ..] => mentions(tele, i, *position) || mentions_one(tele, i, rest),
+    }
+}
+
+/// Whether no type of an index mentions a later index.
+pub(crate) fn are_in_order(tele: &[Term], indices: &[u32]) -> bool
+    requires { AreSmallTerms (tele_of tele.now) }
+    ensures { result ≡ spec.are_in_order (tele_of tele.now) indices.now }
+{
+    match indices {
+        [] => true,
+        [i, later @ ..] => !mentions_one(tele, *i, later) && are_in_order(tele, later),
+    }
+}
+
 /// Whether none of the last indices is fixed, and their types mention fixed positions and indices alone.
 pub(crate) fn are_independent(tele: &[Term], fixed: &[u32], indices: &[u32], last: &[u32]) -> bool
     requires { AreSmallTerms (tele_of tele.now) }

@@ -15,9 +15,7 @@ use Rattle.function_laws.specs.plan_laws.MadePlans.{PlanIsMade}
 use Rattle.function_laws.proofs.plan_laws.Answering.{if-ok}
 use Rattle.function_laws.proofs.plan_laws.ExactPlans.{next-same}
 use Rattle.function_laws.specs.report_laws.drafts_in_turn.Laws.{FunctionEntersInTurn, FunctionIsMadeInTurn, HasLevel, IsReportedPlan}
-use Rattle.function_laws.proofs.report_laws.drafts_in_turn.ClosedOrders.{plan-closed}
 use Rattle.function_laws.proofs.report_laws.drafts_in_turn.FamilyLevels.{level-low}
-use Rattle.entry_laws.specs.order_scopes.Laws.{BeginsClosed}
 
 -- once the plan is there
 reported-is : (S : Signature) (plan : Plan) (left : ℕ) → IsReportedPlan S plan → ((left : ℕ) → plan_entered S plan left ≡ enter_plan S plan left)
@@ -29,7 +27,7 @@ reported-is S plan left h enters =
     (enter_plan S plan left).0 T e (h.reports left) rest)
 
 pub made-in_turn : PlanIsMade → FunctionEntersInTurn → FunctionIsMadeInTurn
-made-in_turn plans enters S f fuel is formed first marks closed whole =
+made-in_turn plans enters S f fuel is formed first marks whole =
     let sorted = granted S OfType (infer_sort_of S nesting [] f.type fuel) in
     next-assoc sorted (λ sort rest. answers (function_level S sort) rest) (λ level rest.
     and_next (plan_over S f level rest) (λ plan further. plan_reported plan S further))
@@ -38,9 +36,8 @@ made-in_turn plans enters S f fuel is formed first marks closed whole =
     let has : HasLevel S f level = record { fuel = fuel; sort = sort; granted_sort = e1; is_level = e2 } in
     let level_low = level-low S f level has in
     let low : level < top = omega (arith, level_low) in
-    ap (λ (planned : Elaborating Plan). and_next planned (λ plan end. plan_reported plan S end)) (plans S f level further is.resolved.type.low (closed level))
+    ap (λ (planned : Elaborating Plan). and_next planned (λ plan end. plan_reported plan S end)) (plans S f level further is.resolved.type.low)
     ∙ next-same (plan_of S f level further) _ _ (λ plan end e3.
     let kept = if-ok (IsReportedPlan S) (plan_of S f level further).0 plan e3 (whole level further) in
-    let begins = if-ok (BeginsClosed S) (plan_of S f level further).0 plan e3 (plan-closed S f level further (closed level)) in
-    let given : IsPlanFor S f plan = record { function = is; level = level; low = low; left = further; is = e3; closed = begins } in
+    let given : IsPlanFor S f plan = record { function = is; level = level; low = low; left = further; is = e3 } in
     reported-is S plan end kept (λ left. enters S f plan left given has formed first marks))))

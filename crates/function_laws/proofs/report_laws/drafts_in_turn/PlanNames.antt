@@ -45,7 +45,6 @@ use Rattle.exact_laws.proofs.step_scopes.AllDrafts.{step-own}
 use Rattle.function_laws.proofs.report_laws.drafts_in_turn.PartLevels.{ArePartsLow, part-low, plan-low}
 use Rattle.function_laws.proofs.report_laws.drafts_in_turn.RunNames.{IsFitting, can-recur}
 use Rattle.function_laws.proofs.report_laws.drafts_in_turn.TreeNames.{tree-fits}
-use Rattle.entry_laws.specs.order_scopes.Laws.{BeginsClosed}
 
 -- a name that is generated with the function is generated without it
 without-function : (S : Signature) (plan : Plan) (name : List ℕ) → IsGeneratedName (with_function S plan) name → IsGeneratedName S name
@@ -71,7 +70,7 @@ part-names S plan uses at part context goal terms node ready is hc hg ht over fi
 low-fits : (L : ℕ) → L ≤ greatest_level → IsFitting L
 low-fits L low = omega (arith, low)
 
-module _ (S : Signature) (plan : Plan) (planned : IsPlanned S plan) (ready : IsReady (with_function S plan)) (closed : BeginsClosed S plan)
+module _ (S : Signature) (plan : Plan) (planned : IsPlanned S plan) (ready : IsReady (with_function S plan))
     (own_low : (own_part plan).level ≤ greatest_level)
     (helpers_low : (k : ℕ) (part : Part) → slice_get plan.parts (k + 1) ≡ Some part → part.level ≤ greatest_level) where
   own-names : recursion_of S plan ≡ None → Each (IsGeneratedName S) (tree_names S (own_part plan).level (own_part plan).tree (own_node plan))
@@ -95,7 +94,7 @@ module _ (S : Signature) (plan : Plan) (planned : IsPlanned S plan) (ready : IsR
       let whole = order-there S plan r is in
       let long : length tele ≡ count = length-ordered part.tele order whole in
       let counted : length order ≡ count = order-counted count order whole in
-      let ordered : IsOrdered S plan r = plan-ordered S plan r planned is closed in
+      let ordered : IsOrdered S plan r = plan-ordered S plan r planned is in
       let root = step_node-over plan r (λ name. plan.base) in
       part-names S plan planned.uses 0 part tele (ordered_term count order part.goal) (ordered_variables order count) (step_node plan r (λ name. plan.base)) ready
       (step-own S plan r planned is) ordered.telescope ordered.goal
@@ -124,7 +123,7 @@ pub function-names : PlanIsOfFunction → PlanIsPlanned → (S : Signature) (f :
     → IsPlanned S plan × CanBeMade (IsGeneratedName S) S plan
 function-names of plans S f plan h level =
     let is = if-ok (IsPlanOf S f h.level) (plan_of S f h.level h.left).0 plan h.is (of S f h.level h.left) in
-    let planned = plans S f h.level h.left plan h.function h.low h.is h.closed in
+    let planned = plans S f h.level h.left plan h.function h.low h.is in
     let ready : IsReady (with_function S plan) =
     transport (λ name. IsReady (provisional S name plan.type)) (sym is.name)
     (transport (λ type. IsReady (provisional S f.name type)) (sym is.type) h.function.with_function) in
@@ -140,4 +139,4 @@ function-names of plans S f plan h level =
     let low : r.family.level ≤ h.level =
     family-level S f h.level r.position (own_part plan).tele (own_part plan).goal r.admission r.family level (sym is.type ∙ planned.type) admits known in
     can-recur S plan.level r.admission.number r.family (omega (arith, same, top_level)) (omega (arith, same, low)) known) in
-    (planned, names-made S plan planned ready h.closed own (λ k part at. part-low plan.parts (k + 1) part parts at) recursion)
+    (planned, names-made S plan planned ready own (λ k part at. part-low plan.parts (k + 1) part parts at) recursion)

@@ -24,12 +24,12 @@ reported-is S plan left h =
     (enter_plan S plan left).0 T e (h.reports left) rest)
 
 pub function-made : PlanIsMade → FunctionIsMade
-function-made plans = λ S f fuel low closed whole.
+function-made plans = λ S f fuel low whole.
     let sorted = granted S OfType (infer_sort_of S nesting [] f.type fuel) in
     next-assoc sorted (λ sort rest. answers (function_level S sort) rest) (λ level rest.
     and_next (plan_over S f level rest) (λ plan further. plan_reported plan S further))
     ∙ next-same sorted _ _ (λ sort rest e1.
     next-same (answers (function_level S sort) rest) _ _ (λ level further e2.
-    ap (λ (planned : Elaborating Plan). and_next planned (λ plan end. plan_reported plan S end)) (plans S f level further low (closed level))
+    ap (λ (planned : Elaborating Plan). and_next planned (λ plan end. plan_reported plan S end)) (plans S f level further low)
     ∙ next-same (plan_of S f level further) _ _ (λ plan end e3.
     reported-is S plan end (if-ok (IsMadeWhole S) (plan_of S f level further).0 plan e3 (whole level further)))))

@@ -20,17 +20,16 @@ plan-ready of S f plan h =
     (transport (λ type. IsReady (provisional S f.name type)) (sym is.type) h.function.with_function)
 
 plan-planned : PlanIsPlanned → (S : Signature) (f : Function) (plan : Plan) → IsPlanFor S f plan → IsPlanned S plan
-plan-planned planned S f plan h = planned S f h.level h.left plan h.function h.low h.is h.closed
+plan-planned planned S f plan h = planned S f h.level h.left plan h.function h.low h.is
 
 pub drafts-scoped : PlanIsOfFunction → PlanIsPlanned → DraftsScopedAfterPrelude → FunctionDraftsScoped
 drafts-scoped of planned scoped = λ S f plan drafts h first e.
-    scoped S plan drafts (record { ready = plan-ready of S f plan h; first = first; planned = plan-planned planned S f plan h }) h.closed e
+    scoped S plan drafts (record { ready = plan-ready of S f plan h; first = first; planned = plan-planned planned S f plan h }) e
 
 pub entries-made : PlanIsOfFunction → PlanIsPlanned → PlanStandsApart → TranslateIsExact → FunctionEntriesMade
 entries-made of planned apart exact = λ S f plan h.
     exact S plan (record {
       ready = plan-ready of S f plan h;
       planned = plan-planned planned S f plan h;
-      closed = h.closed;
       apart = apart S f h.level h.left plan h.function h.is h.low;
     })

@@ -13,7 +13,6 @@ use Rattle.kernel_reduce.specs.Reduction.{nesting}
 use Rattle.function_laws.specs.report_laws.made_functions.Entering.{NamesInTurn}
 use Rattle.function_laws.specs.report_laws.plan_drafts.Laws.{IsPlanFor}
 use Rattle.function_laws.specs.plan_laws.Conditions.{IsFunctionFor}
-use Rattle.function_laws.specs.plan_laws.MadePlans.{BeginsAlwaysClosed}
 use Rattle.resolve.specs.Functions.{Function}
 use Rattle.tree_translation.specs.Entries.{translate}
 use Rattle.tree_translation.specs.Plans.{Plan}
@@ -43,10 +42,9 @@ pub record IsReportedPlan (S : Signature) (plan : Plan) : Type 0 where
   pub reports : (left : ℕ)
       → IfOk (enter_plan S plan left).0 (λ T. (rest : ℕ) → parts_reported plan 0 plan.parts [] T rest ≡ report_parts plan 0 plan.parts T rest)
 
--- So the function that the code makes is the one that is meant, with each refusal and the same units, over such a signature, where the
--- order of recursion begins with a type over no variables at whatever position.
+-- So the function that the code makes is the one that is meant, with each refusal and the same units, over such a signature.
 abbrev pub FunctionIsMadeInTurn : Type 0
 FunctionIsMadeInTurn =
     (S : Signature) (f : Function) (fuel : ℕ) → IsFunctionFor S f → IsWellFormed S → HasPrelude S → unmarked S ≡ true →
-    ((level : ℕ) → BeginsAlwaysClosed S f level) → ((level left : ℕ) → IfOk (plan_of S f level left).0 (IsReportedPlan S)) →
+    ((level left : ℕ) → IfOk (plan_of S f level left).0 (IsReportedPlan S)) →
     function_made S f fuel ≡ function_of S f fuel

@@ -12,7 +12,6 @@ use Rattle.drafts.specs.draft_checks.Checks.{enterable, unmarked}
 use Rattle.clause_reports.specs.elaboration.Functions.{enter_plan, first_domains, function_of, plan_of, report_parts}
 use Rattle.function_entries.specs.CodeEntries.{translate_made}
 use Rattle.function_session.specs.function_lines.FunctionMade.{function_made, parts_reported, plan_entered, reference_of}
-use Rattle.function_laws.specs.plan_laws.MadePlans.{BeginsAlwaysClosed}
 use Rattle.resolve.specs.Functions.{Function}
 use Rattle.tree_translation.specs.Entries.{translate}
 use Rattle.tree_translation.specs.Plans.{Part, Plan}
@@ -23,11 +22,10 @@ pub record IsMadeWhole (S : Signature) (plan : Plan) : Type 0 where
   pub reports : (left : ℕ)
       → IfOk (enter_plan S plan left).0 (λ T. (rest : ℕ) → parts_reported plan 0 plan.parts [] T rest ≡ report_parts plan 0 plan.parts T rest)
 
--- So is the whole function then, where the order of recursion begins with a type over no variables at whatever position: the code's plan
--- is the plan that is meant.
+-- So is the whole function then: the code's plan is the plan that is meant.
 abbrev pub FunctionIsMade : Type 0
 FunctionIsMade =
-    (S : Signature) (f : Function) (fuel : ℕ) → height f.type ≤ 2000 → ((level : ℕ) → BeginsAlwaysClosed S f level) →
+    (S : Signature) (f : Function) (fuel : ℕ) → height f.type ≤ 2000 →
     ((level left : ℕ) → IfOk (plan_of S f level left).0 (IsMadeWhole S)) → function_made S f fuel ≡ function_of S f fuel
 
 -- each of the drafts may enter the signature that has those before it

@@ -12,16 +12,14 @@ use Rattle.function_laws.specs.plan_laws.Conditions.{IsFunctionFor}
 use Rattle.resolve.specs.Functions.{Function}
 use Rattle.tree_translation.specs.Entries.{translate}
 use Rattle.tree_translation.specs.Plans.{Plan}
-use Rattle.entry_laws.specs.order_scopes.Laws.{BeginsClosed}
 
--- The plan of a function over a signature. Its order of recursion begins with a type over no variables.
+-- The plan of a function over a signature.
 pub record IsPlanFor (S : Signature) (f : Function) (plan : Plan) : Type 0 where
   pub function : IsFunctionFor S f
   pub level : ℕ
   pub low : level < top
   pub left : ℕ
   pub is : (plan_of S f level left).0 ≡ Ok plan
-  pub closed : BeginsClosed S plan
 
 -- The drafts of a function are scoped: they are over the signature, and name its entries and their own names alone.
 abbrev pub FunctionDraftsScoped : Type 0

@@ -6,7 +6,7 @@ use Rattle.run_terms.specs.declared.places.Places.{Places}
 use Rattle.run_terms.specs.declared.places.Places.TheVariants as place
 use Rattle.run_terms.proofs.places.+put.Given as goal
 
--- what stands for variables may have a term put into it, where they are in their new order
+-- the term of a solution is itself put into the new order, which has a lower rank
 abbrev pub rank_of_solution : Option Solution → ℕ
 rank_of_solution None = 0
 rank_of_solution (Some s) = 3 * height (tree_of s.by.now) + 10
