@@ -49,7 +49,7 @@ module _ (S : Signature) (n x room p : ℕ) (args : List Arg) (us : List code.Te
         (ap (map (argument_of p)) (drop-at args at a few is))
         (drop-at (tele_of us) at (tree_of u) (omega (arith, length-map us tree_of)) (map-item tree_of us at u at_u))
 
-    -- what comes of the argument
+    -- the search after the argument's own
     abbrev after : Option Term → Search (List Term)
     after found = here_or (option_map (λ w. w ∷ drop (at + 1) (tele_of us)) found) (found_as (λ ws. tree_of u ∷ ws) behind)
 
@@ -79,7 +79,7 @@ module _ (S : Signature) (n x room p : ℕ) (args : List Arg) (us : List code.Te
     pub argument-without : (end : ℕ) → ◌≡◌ {A = Spent (Option Term)} (Ok None, end) (at_argument S n x room (argument_of p a) (tree_of u) left) → among_from ≡ mapped (λ ws. tree_of u ∷ ws) (behind end)
     argument-without end h = at-argument ∙ ap (λ r. and_next r (λ found end. after found end)) (sym h)
 
--- ---- what is in the list that is written
+-- ---- elements of the list that is written
 
 -- the term at the number stays where those up to it stay
 pub kept-at : (old new : List code.Term) (at : ℕ) (u : code.Term) → at < length old → u ≡ get_or old at u → take (at + 1) new ≡ take (at + 1) old → drop at (tele_of new) ≡ tree_of u ∷ drop (at + 1) (tele_of new)

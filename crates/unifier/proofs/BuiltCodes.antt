@@ -1,4 +1,4 @@
--- What the code finds of a constructor is what the definition finds.
+-- The code finds the same constructor in a term as the definition.
 use Rattle.std.proofs.Common.{◌≡◌, ◌≢◌, ℕ, ◌+◌, Option, Some, None, option_map, Result, Ok, List, length, take, drop, slice_get, refl, sym, ap, ap₂, ◌∙◌, subst, arith}
 use Rattle.std.proofs.lemmas.List.{length-map}
 use Rattle.std.proofs.lemmas.Option.{slice_get-map}
@@ -42,7 +42,7 @@ code-all S t b head family there all kinds =
     (sym (all_arguments S t b.family b.number head (family_of f) (constructor_of (length f.params) c) family (constructor-there f c b.number there) (all ∙ sym (count-all f c))))
     (record { n = refl; number = refl; family = refl; constructor = refl; kinds = kinds; there = there })
 
--- ---- from what the code has found
+-- ---- from the constructor that the code has found
 
 -- the constructor that a term is, by the numbers and the records of the code
 abbrev pub from_code : Built → Term → pure.Built
@@ -51,7 +51,7 @@ from_code b t =
     let count = length (tele_of f.params) in
     record { n = b.family; number = b.number; family = family_of f; constructor = constructor_of (length f.params) b.con.now; parameters = take count (spine_of t); arguments = drop count (spine_of t) }
 
--- the same as what was found in a term
+-- a term is the constructor that the code has found, with all its arguments
 pub record IsOf (S : Signature) (t : Term) (b : Built) : Type 0 where
   pub head : head_of t ≡ Con b.family b.number
   pub family : family_at S b.family ≡ Some (family_of b.record.now)
@@ -97,7 +97,7 @@ same-constructor b d family same there other =
 same-record : (S : Signature) (n : ℕ) (f g : theory.Family) → family_at S n ≡ Some f → family_at S n ≡ Some g → f ≡ g
 same-record S n f g e k = cc
 
--- Two terms are constructors of one family with one number: what was found in the first one is right for the second one.
+-- Two terms are constructors of one family with one number: the one found in the first is right for the second.
 pub other-of : (S : Signature) (l r : Term) (b d : Built) → IfThere (IsBuiltAs b) (built_of S l) → IfThere (IsBuiltAs d) (built_of S r) → AreOfOneFamily S l r → b.number ≡ d.number → IsOf S r b
 other-of S l r b d hl hr one same =
     let x = code-of S l b hl in
@@ -125,7 +125,7 @@ split-first lists n m t is e = ap (λ (r : List Term × List Term). r.0) (ok_is 
 pub split-rest : (lists : List code.Term × List code.Term) (n m : ℕ) (t : Term) → ◌≡◌ {A = Result (List Term × List Term) Stop} (Ok (teles_of lists)) (Ok (split_of n t)) → n ≡ m → tele_of lists.1 ≡ drop m (spine_of t)
 split-rest lists n m t is e = ap (λ (r : List Term × List Term). r.1) (ok_is is) ∙ ap (λ n. drop n (spine_of t)) e
 
--- what was found there
+-- a constructor that the code has found is found by the definition too
 pub code-there : (b : Built) (o : Option pure.Built) → IfThere (IsBuiltAs b) o → (p : pure.Built) × (o ≡ Some p) × IsBuiltAs b p
 code-there b (Some p) is = (p, refl, is)
 code-there b None is = absurd is

@@ -1,4 +1,4 @@
--- A constructor with all its arguments: what is found in a term, and what that says of the term.
+-- A constructor with all its arguments: how one is found in a term, and the consequences for the term.
 use Rattle.std.proofs.Common.{◌≡◌, ◌≢◌, ℕ, ◌+◌, Bool, true, false, cond, ◌==◌, Option, Some, None, option_and_then, List, length, take, drop, slice_get, refl, ap, ◌∙◌, subst, arith}
 use Rattle.std.proofs.lemmas.Bool.Decides.{nat_tests}
 use Rattle.theory.specs.Terms.{Term, Var, Con}
@@ -10,7 +10,7 @@ use Rattle.kernel_reduce.specs.Entries.{family_at}
 use Rattle.unification.specs.Built.{Built, built_of, with_all, with_spine}
 use Rattle.unification.specs.Solutions.{variable_in}
 
--- ---- what is found
+-- ---- constructors that are found
 
 module _ (S : Signature) (t : Term) (n number : ℕ) (head : head_of t ≡ Con n number) where
   at-head : built_of S t ≡ option_and_then (λ f. option_and_then (with_all n number f (spine_of t)) (slice_get f.constructors number)) (family_at S n)
@@ -41,7 +41,7 @@ module _ (S : Signature) (t : Term) (n number : ℕ) (head : head_of t ≡ Con n
       → built_of S t ≡ Some (record { n = n; number = number; family = f; constructor = c; parameters = take (length f.parameters) (spine_of t); arguments = drop (length f.parameters) (spine_of t) })
   all_arguments f c e there all = at-constructor f c e there ∙ if-all f c true (grind (arith, nat_tests))
 
--- ---- what that says
+-- ---- consequences
 
 -- the constructor that a term is
 pub record IsIn (S : Signature) (t : Term) (b : Built) : Type 0 where

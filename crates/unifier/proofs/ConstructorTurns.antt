@@ -1,4 +1,4 @@
--- What a trial comes to where both sides are constructors.
+-- The turn of a trial, by the constructors on both sides.
 use Rattle.std.proofs.Common.{◌≡◌, ℕ, ◌+◌, ◌≤◌, ◌==◌, Bool, true, cond, Option, Some, Result, Ok, Err, List, length, take, drop, sym, ap, ap₂, ◌∙◌, subst, arith}
 use Rattle.std.proofs.lemmas.Bool.Decides.{nat_tests}
 use Rattle.std.proofs.lemmas.List.{length-map, length-take, length-drop}
@@ -38,7 +38,7 @@ goes-refused step x made left e = ap (λ made. goes_to step made left) e
 
 -- ---- one constructor on both sides of an equation
 
--- the state after it, by what the code has found in the left side
+-- the state after it, by the constructor that the code has found in the left side
 abbrev pub made_of : State → (g k : ℕ) → Built → (ps : List Term) → (l r : Term) → Result State Stop
 made_of s g k b ps l r =
     let f = b.record.now in
@@ -48,7 +48,7 @@ on-same : (x : ℕ) (test : Bool) (same none other : Trial) (left : ℕ) → tru
 on-same x test same none other left e =
     ap (λ b. cond b (cond test same none) other left) (same-number x) ∙ ap (λ b. cond b same none left) (sym e)
 
--- the same with the numbers as the definition has them
+-- the injected state, with the numbers and lists of the definition
 made-same : (s : State) (g k : ℕ) (b : Built) (ps : List Term) (l r : Term) → k ≡ length b.record.now.params → ps ≡ take (length b.record.now.params) (spine_of l)
     → injection_made s g b.family b.number (family_of b.record.now) (from_code b l).constructor (from_code b l).parameters (from_code b l).arguments (from_code b r).arguments
     ≡ made_of s g k b ps l r
@@ -108,7 +108,7 @@ few-arguments l count args all low = let h = spine_fits l in omega arith
 pub arguments-over : (n : ℕ) (l : Term) (us : List code.Term) (count : ℕ) → IsOver n l → tele_of us ≡ drop count (spine_of l) → AreOver n (tele_of us)
 arguments-over n l us count h is = subst (AreOver n) (sym is) (drop-over n count (spine_of l) (spine-over n l h))
 
--- ---- the same of a group
+-- ---- turns of a group
 
 group-same : (s : State) (g k : ℕ) (b : Built) (m : Membership) (ps : List Term) (l r : Term) → family_of b.record.now ≡ m.family → m.parameters ≡ ps → k ≡ length b.record.now.params
     → injection_made s g b.family b.number m.family (from_code b l).constructor m.parameters (from_code b l).arguments (from_code b r).arguments ≡ made_of s g k b ps l r
@@ -121,7 +121,7 @@ group-same s g k b m ps l r family parameters count =
 same-goes : (x : ℕ) (same other : Trial) (left : ℕ) → cond (x == x) same other left ≡ same left
 same-goes x same other left = ap (λ b. cond b same other left) (same-number x)
 
--- what a group's turn is known of
+-- both sides of a group's equation are constructor b with all its arguments, and its place is in the family at ps
 pub record IsTurn (S : Signature) (l r : Term) (b : Built) (m : Membership) (k : ℕ) (ps : List Term) : Type 0 where
   pub left : IsOf S l b
   pub right : IsOf S r b

@@ -1,4 +1,4 @@
--- What a search below constructors comes to, by what it is in.
+-- The result of a search below constructors, by the form of the term.
 use Rattle.std.proofs.Common.{◌≡◌, ◌≢◌, ℕ, suc, ◌≤◌, ◌<◌, Bool, true, false, cond, ◌==◌, nat_le, Option, Some, None, option_map, Result, Ok, Err, List, [], ◌∷◌, ◌++◌, refl, sym, ap, ◌∙◌, subst, arith}
 use Rattle.std.proofs.lemmas.Bool.Decides.{nat_tests}
 use Rattle.theory.specs.Terms.{Term, Con, App, height}
@@ -76,9 +76,9 @@ search-below S x room t left p e =
     search-other S p.n x room t left (Some p) (not-some (variable_in t) x (built-no_variable S t p e)) e
     ∙ ap (λ b. bounded_by room (cond b (found_as (with_arguments p) (among_arguments S (whole S p.n x) p.constructor.arguments p.arguments)) (λ left. answered (Ok None) left) left)) (same-number p.n)
 
--- ---- what is found of what is found
+-- ---- found terms, mapped
 
--- what is made of what is found, as with `found_as`
+-- a search whose found term is mapped, as `found_as` does
 abbrev pub mapped : {A B : Type 0} → (A → B) → Spent (Option A) → Spent (Option B)
 mapped f r = and_next r (λ found rest. answered (Ok (option_map f found)) rest)
 
@@ -124,7 +124,7 @@ behind-lower f (p ∷ ps) us = behind-lower (App f p) ps us
 too-high : (room : ℕ) (v t : Term) → nat_le (height v) room ≡ false → height v < height t → within (suc room) (Some t) ≡ Err Deep
 too-high room v t e lt = ap (λ b. cond b (Ok (Some t)) (Err Deep)) (let f : nat_le (height t) (suc room) ≡ false = grind (arith, nat_tests) in f)
 
--- What is found is in a term that may be one higher than `room`. So it may itself be no higher than `room`.
+-- The bound on a search's result is one above the bound inside it, since the found term is an argument of the whole.
 module _ (S : Signature) (n x room : ℕ) where
   abbrev cut : Below
   cut before = search_within S n x room
@@ -143,7 +143,7 @@ module _ (S : Signature) (n x room : ℕ) where
       go true e = refl
       go false e = ap (λ r. answered r end) (too-high room v (wrap (v ∷ us)) e (lower v))
 
-  -- the same of an argument and those after it
+  -- two searches among arguments agree up to the bound if those among the later arguments do
   among-at : (wrap : List Term → Term) (a : Argument) (u : Term) (us : List Term) (M N : Search (List Term)) → ((v : Term) → height v < height (wrap (v ∷ us)))
       → ((left : ℕ) → bounded_by (suc room) (mapped wrap (M left)) ≡ bounded_by (suc room) (mapped wrap (N left))) → (left : ℕ) (b : Bool)
       → bounded_by (suc room) (mapped wrap (cond b (and_next (whnf_of S true left u) (λ v rest. and_next (search_in S n x v rest) (λ found end. here_or (option_map (λ w. w ∷ us) found) M end))) (M left)))

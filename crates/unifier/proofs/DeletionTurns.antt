@@ -1,4 +1,4 @@
--- What the trial of a deletion comes to.
+-- The turn of a trial of deletion.
 use Rattle.std.proofs.Common.{◌≡◌, ℕ, true, false, cond, Option, Some, None, Result, Ok, Err, sym, ap, ◌∙◌, subst as transport}
 use Rattle.theory.specs.Terms.{Term}
 use Rattle.theory.specs.Signatures.{Signature}
@@ -40,7 +40,7 @@ deletion-deletes S s e left rest k h =
     ap (λ b. cond {A = Trial} b (delete S s e) (sticks_at S NeedsK e.left e.right) rest) (sym k)
     ∙ answered-first true rest (convertible_of S nesting e.left e.right left) (λ holds rest. if_convertible S s e holds rest) h
 
--- what is done with the tidied type
+-- the trial at the tidied type
 abbrev on_type : Signature → State → Equation → Term → Trial
 on_type S s e A = on_tidied S e.left e.right (λ u v. goes_to (deletion_step A u v) (bounded_state (deleted_state s e.place.level A u)))
 

@@ -1,4 +1,4 @@
--- What is found of a group in a type that is scoped and low.
+-- A group that is found in a scoped and low type is scoped and low.
 use Rattle.std.proofs.Common.{◌≡◌, ℕ, zero, suc, ◌+◌, ◌-◌, ◌≤◌, ◌==◌, Bool, true, false, cond, Option, Some, None, option_and_then, Ok, List, [], ◌∷◌, map, length, take, drop, All, refl, sym, ap, ◌∙◌, subst, arith}
 use Rattle.std.proofs.lemmas.Bool.Decides.{nat_tests}
 use Rattle.std.proofs.lemmas.List.{length-map, length-take}

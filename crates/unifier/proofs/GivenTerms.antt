@@ -155,7 +155,7 @@ kept-equation S s k e kept there =
       right = record { scoped = scoped.right; low = low.3; few = omega (arith, kept.few) };
     }
 
--- the same of the code
+-- an equation of the code's state is scoped and low in the state's context
 pub code-equation : (S : Signature) (s : code.State) (k : ℕ) (e : CodeEquation) → IsKept S (state_of s) → slice_get (state_of s).equations k ≡ Some (equation_of e)
     → IsGivenEquation S (length s.ctx) k (equation_of e)
 code-equation S s k e kept there =

@@ -215,7 +215,7 @@ module _ (S : Signature) (s : State) (k : ℕ) (m : Membership) (ready : IsReady
       → ◌≡◌ {A = Spent Bool} (Err x, left) (are_equations_of S (membership_from m) group left)
   group-stops x left e = ap (λ made. and_next (made, left) (λ types rest. all_convertible S (types_as_they_stand group) types rest)) e
 
--- ---- the same of what the code has
+-- ---- groups of the code
 
 map-take : {A B : Type 0} (f : A → B) (k : ℕ) (xs : List A) → map f (take k xs) ≡ take k (map f xs)
 map-take f zero xs = refl

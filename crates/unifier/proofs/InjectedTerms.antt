@@ -1,4 +1,4 @@
--- What is known of constructors on both sides, which are to be injected.
+-- Constructors on both sides, which are to be injected, are of the signature, and their arguments are terms of the context.
 use Rattle.std.proofs.Common.{◌≡◌, ℕ, List, [], ◌∷◌, drop, sym, subst}
 use Rattle.theory.specs.Signatures.{Signature}
 use Rattle.theory.specs.Spines.{spine_of}

@@ -1,4 +1,4 @@
--- What stands for the places and the equations of a group has few variables.
+-- The terms for the places and the equations of a group are over few variables.
 use Rattle.std.proofs.Common.{◌≡◌, ℕ, zero, suc, ◌+◌, ◌≤◌, nat_le, Bool, true, false, cond, Some, option_map, List, [], ◌∷◌, ◌++◌, length, drop, slice_get, All, Result, Ok, Err, refl, ap, ap₂, sym, ◌∙◌, subst as transport, arith}
 use Rattle.std.proofs.lemmas.Bool.Decides.{nat_tests}
 use Rattle.std.proofs.lemmas.List.{length-map}
@@ -145,7 +145,7 @@ pub types-many : (n : ℕ) (ps us vs types : List Term) (c : Constructor) (X : L
 types-many n ps us vs types c X ex et =
     ap length et ∙ (length-each (equation_behind (length X) X us vs) 0 (length X) ∙ (ap length ex ∙ length-argument_items n ps c))
 
--- ---- what is known of an injectivity
+-- ---- properties of an injectivity
 
 pub parameters-over : (b : Built) (n m : ℕ) (ps us vs : List Term) → IsInjected b n ps us vs → n ≤ m → m ≤ most_depth → AreOver m ps
 parameters-over b n m ps us vs h le few = over-more n m ps le few (all-over h.known.S n ps h.parameters)

@@ -1,4 +1,4 @@
--- What a state that is kept comes to.
+-- The turn of a state that is kept leads to one that is kept.
 use Rattle.std.proofs.Common.{ℕ, ◌+◌, ◌≤◌, Option, Some, Result, Ok, Err, IfOk, IfSome, sym, subst, arith}
 use Rattle.theory.specs.Signatures.{Signature}
 use Rattle.theory.proofs.ScopedTerms.{scoped_over_more}

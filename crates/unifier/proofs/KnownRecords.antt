@@ -1,4 +1,4 @@
--- What is known of the record of a constructor that the code has found.
+-- The record of a constructor that the code has found is scoped and has its kinds.
 use Rattle.std.proofs.Common.{◌≡◌, ℕ, zero, suc, ◌+◌, ◌≤◌, ◌<◌, Bool, true, false, cond, option_map, List, [], ◌∷◌, ◌++◌, length, map, All, Result, Ok, Err, refl, ap, ap₂, sym, ◌∙◌, subst as transport, arith}
 use Rattle.std.proofs.lemmas.List.{length-map, length-append}
 use Rattle.std.proofs.lemmas.Option.{slice_get-map}
@@ -55,7 +55,7 @@ constructor-known b k =
 indices-known : (b : Built) → IsKnown b → IsTelescopeOver (length (tele_of b.record.now.params)) (index_types (family_of b.record.now))
 indices-known b k = scoped-over (first_entries k.S b.family) (length (tele_of b.record.now.params)) (index_types (family_of b.record.now)) (family-known b k).indices
 
--- ---- what is made of it is small
+-- ---- items and terms made of it are small
 
 pub items-made : (X Y : List Item) → Ok Y ≡ bounded_items X → (Y ≡ X) × (are_low_items X ≡ true)
 items-made X Y e = go (are_low_items X) refl e
@@ -166,7 +166,7 @@ pub variables-small : (k : ℕ) → k ≤ 1000 → AreSmallTerms (variables k)
 variables-small zero le = tt
 variables-small (suc k) le = ((omega arith, omega arith), variables-small k (omega arith))
 
--- ---- what stands for the places and the equations of a group
+-- ---- the terms for the places and the equations of a group
 
 pub group-made-is : (n number : ℕ) (f : pure.Family) (c : pure.Constructor) (ps us vs : List Term) (X Y : List Item) (Z : List Term) (count : ℕ)
     → Ok X ≡ bounded_items (argument_items n ps c) → Ok Y ≡ bounded_items (family_items n f ps) → Ok Z ≡ bounded_terms (constructor_terms n number ps c)

@@ -48,7 +48,7 @@ map-drop f zero xs = refl
 map-drop f (suc k) [] = refl
 map-drop f (suc k) (x ∷ xs) = map-drop f k xs
 
--- what is from number k on, as a slice has it
+-- the elements from the k-th on, as a slice has them
 pub slice-from : {A : Type 0} (k : ℕ) (xs : List A) → take (length xs - k) (drop k xs) ≡ drop k xs
 slice-from k xs = let e = length-drop k xs in take_all (length xs - k) (drop k xs) (omega arith)
 

@@ -149,7 +149,7 @@ free-reordered context p t lt h f = go (length (order_without context p)) refl
         let k = free-put_under (order_without context p) (length context) (length context) (suc m) 0 t (omega arith) (λ z. absurd (omega arith)) (omega arith) in
         omega arith
 
--- the same of the order that the code has
+-- a term without variable p is over the context's other variables once it is put into the order that the code has
 pub free-in_order : (context : Telescope) (p n : ℕ) (order : List ℕ) (t : Term) → order ≡ order_without context p → n ≡ length context
     → p < length context → IsTrue (lacks context p t) → free_of t ≤ n → free_of (put (reordered order) n (length order) t) ≤ length order
 free-in_order context p n order t eo en lt h f = rw (eo, en) (free-reordered context p t lt h (omega arith))

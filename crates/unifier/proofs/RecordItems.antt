@@ -146,7 +146,7 @@ fill-ren r s [] n = refl
 fill-ren r s (u ∷ us) n =
     ap (λ q. fill q (map (ren r) us) n) (fun_ext (extend-ren r s u)) ∙ fill-ren r (extend s u) us n
 
--- what stands for the variables of a constructor's targets
+-- the terms for the variables of a constructor's targets
 pub values-are : (ps : List Term) (count : ℕ)
     → fill no_variable (lifted count ps ++ variables count) ≡ fill (λ v. weaken_by count (fill no_variable ps v)) (variables count)
 values-are ps count =
@@ -197,7 +197,7 @@ pub bounded-term_more : (ts : List Term) (a : Term)
     → bounded_terms (ts ++ a ∷ []) ≡ and_then (bounded_terms ts) (λ us. and_then (bounded a) (λ t. Ok (us ++ t ∷ [])))
 bounded-term_more ts a = bounded-terms-step (are_low ts) (is_low a) ts a (are_low (ts ++ a ∷ [])) (terms-more ts a)
 
--- what is made of a family's record
+-- the items of a family's record, bounded
 pub family-items-of : (n : ℕ) (f : Family) (ps : List Term)
     → bounded_items (family_items n (family_of f) ps)
     ≡ and_then (bounded_items (items_at (inst_telescope (fill no_variable ps) (map (λ a. tree_of a.ty) f.indices)) (map (λ a. a.level) f.indices)))
@@ -216,7 +216,7 @@ family-items-of n f ps =
     (length-map f.indices (λ a. a.level) ∙ sym (length-inst s (map (λ a. tree_of a.ty) f.indices) ∙ length-map f.indices (λ a. tree_of a.ty)))))
     ∙ bounded-item_more (items_at types levels) (whole (length f.indices)) f.level
 
--- what is made of a constructor's record
+-- the terms of a constructor's record, bounded
 pub constructor-terms-of : (n number : ℕ) (ps : List Term) (p : ℕ) (con : Constructor)
     → bounded_terms (constructor_terms n number ps (constructor_of p con))
     ≡ and_then (bounded_terms (map (inst (fill no_variable (lifted (length con.args) ps ++ variables (length con.args)))) (tele_of con.targets)))
@@ -234,7 +234,7 @@ map-snoc f (y ∷ xs) x = ap (λ zs. f y ∷ zs) (map-snoc f xs x)
 
 pub ruleset record_laws = (bounded-arguments, family-items-of, constructor-terms-of, map-snoc)
 
--- what is bounded and there is the same
+-- a bounded list of terms is the list itself
 pub bounded-is : (ts us : List Term) → Ok us ≡ bounded_terms ts → us ≡ ts
 bounded-is ts us e = go (are_low ts) e
   where

@@ -1,4 +1,4 @@
--- What a family's record brings at parameters is over the variables of the parameters and, where it is a telescope, its own.
+-- The parts of a family's record, at parameters, are over the parameters' variables and, for a telescope, its own.
 use Rattle.std.proofs.Common.{◌≡◌, ℕ, suc, ◌+◌, ◌≤◌, List, [], ◌∷◌, ◌++◌, length, map, slice_get, Option, Some, None, option_and_then, All, refl, ap, arith}
 use Rattle.std.proofs.lemmas.List.{length-map}
 use Rattle.std.proofs.lemmas.List.Elements.{All-append, All-cons, All-nil, All-tail, All-head, All-weaker}

@@ -1,4 +1,4 @@
--- What a trial of a solution comes to.
+-- The turn of a trial of a solution.
 use Rattle.std.proofs.Common.{◌≡◌, ℕ, ◌+◌, ◌-◌, ◌≤◌, ◌<◌, Bool, true, false, ◌&&◌, not, cond, Option, Some, None, List, ◌∷◌, length, Result, Ok, Err, refl, sym, ap, ap₂, ◌∙◌, subst as transport, arith}
 use Rattle.std.proofs.lemmas.List.{length-map}
 use Rattle.theory.specs.Terms.{Term, Var, free_of}
@@ -34,7 +34,7 @@ pub variable-within : (t : Term) (n x : ℕ) → variable_in t ≡ Some x → fr
 variable-within (Var y) n x e h = let k : y ≡ x = cc in omega arith
 variable-within _ n x e h = absurd (cc)
 
--- what is answered after a first part
+-- the answer of a call after a first part that was accepted
 pub runs-behind : {A B X : Type 0} (f : A → B) (r : Result A Stop) (left : ℕ) (first : Spent X) (x : X) (go : X → ℕ → Spent B) (meant : Result B Stop)
     → (Ok x, left) ≡ first → go x left ≡ answered meant left → Gives f r meant → Runs f r left (and_next first go)
 runs-behind f (Ok a) left first x go meant e g h = rw (← e) (rw g (ap (λ m. (m, left)) h))
@@ -53,7 +53,7 @@ bounded-again s t e = go (are_low s.context && (are_low_equations s.equations &&
 never : {A : Type 0} (e : Stop) (a : A) → ◌≡◌ {A = Result A Stop} (Err e) (Ok a) → ⊥
 never e a k = absurd (cc)
 
--- a call that is refused for want of memory alone
+-- a call that is refused only out of memory
 pub refused-none : {A B : Type 0} (e : Stop) (a : A) (r : B) (meant : B) → Unless (IsUnforeseen e) (◌≡◌ {A = Result A Stop} (Err e) (Ok a))
     → Unless (IsUnforeseen e) (r ≡ meant)
 refused-none e a r meant h = λ other. absurd (never e a (h other))

@@ -1,4 +1,4 @@
--- A problem that is given: what it starts from, and what it comes to.
+-- A given problem: the state from which it starts, and the outcome.
 use Rattle.std.proofs.Common.{◌≡◌, ℕ, ◌+◌, ◌≤◌, ◌<◌, ◌&&◌, Bool, true, false, cond, Result, Ok, Err, IfOk, List, [], ◌∷◌, length, map, All, sym, ap, ◌∙◌, subst, arith}
 use Rattle.std.proofs.lemmas.List.{length-map}
 use Rattle.std.proofs.lemmas.List.Elements.{All-tail}

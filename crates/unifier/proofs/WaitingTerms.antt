@@ -1,4 +1,4 @@
--- Terms that wait for a search below constructors: it ends, and comes to what the search in one after the other comes to.
+-- Terms that wait for a search below constructors: it ends, with the result of the search in one after the other.
 use Rattle.std.proofs.Common.{◌≡◌, ◌≢◌, ℕ, zero, suc, ◌+◌, ◌≤◌, ◌<◌, ◌⊎◌, Bool, true, false, cond, ◌==◌, nat_le, Option, Some, None, option_map, Result, Ok, Err, List, [], ◌∷◌, ◌++◌, refl, sym, ap, ◌∙◌, subst, subst₂, append-nil, inl, inr, arith}
 use Rattle.std.proofs.lemmas.Bool.Decides.{nat_tests}
 use Rattle.theory.specs.Terms.{Term, height}
@@ -23,7 +23,7 @@ use Rattle.unifier.proofs.CycleForms.{bounded_by, whole, mapped, found-twice, fo
 
 -- ---- the search ends
 
--- the search in terms ends, with what stands for direct arguments of family n before the others
+-- the search in terms ends, with the direct arguments in family n before the others
 data Ends (S : Signature) (n : ℕ) : List Term → ℕ → Type 0 where
   none : (left : ℕ) → Ends S n [] left
   stops : (u : Term) (terms : List Term) (left rest : ℕ) (e : Stop) → whnf_of S true left u ≡ answered (Err e) rest → Ends S n (u ∷ terms) left
@@ -130,7 +130,7 @@ unfolding turns_in
 turns-fall S n u t terms left rest is =
     turns-fewer S n u t terms left rest (ends-within S n left (u ∷ terms) left (omega arith)) (ends-within S n rest (direct_arguments n (built_of S t) ++ terms) rest (omega arith)) is
 
--- ---- what it comes to
+-- ---- the result of the search
 
 within-zero : (t : Term) → within zero (Some t) ≡ Err Deep
 within-zero t = let h = positive t in ap (λ b. cond b (Ok (Some t)) (Err Deep)) (let f : nat_le (height t) zero ≡ false = grind (arith, nat_tests) in f)

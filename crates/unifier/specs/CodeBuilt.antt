@@ -1,4 +1,4 @@
--- What the code finds of a constructor with all its arguments.
+-- Constructors with all their arguments, as the code finds them.
 use Rattle.std.specs.Prelude.{◌≡◌, ◌==◌, ℕ, Bool, List, length, take, drop, slice_get, Option, Some, None}
 use Rattle.theory.specs.Terms.{Term}
 use Rattle.theory.specs.Spines.{spine_of}
@@ -37,7 +37,7 @@ pub record IsKnown (b : Built) : Type 0 where
   pub kinds : HasKinds b.family b.record.now
   pub there : slice_get b.record.now.cons b.number ≡ Some b.con.now
 
--- the same with its parameters and two lists of arguments, over n variables
+-- a known constructor with its parameters and two lists of arguments, over n variables
 pub record IsInjected (b : Built) (n : ℕ) (ps us vs : List Term) : Type 0 where
   pub known : IsKnown b
   pub parameters : AreGiven known.S n ps

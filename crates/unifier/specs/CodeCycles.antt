@@ -1,4 +1,4 @@
--- What the code finds of a variable below constructors. It goes on building what it finds only while that may still be a side.
+-- The code's search for a variable below constructors. The found term is built up only while it may still be a side.
 use Rattle.std.specs.Prelude.{ℕ, zero, ◌==◌, Bool, true, false, cond, nat_le, Option, Some, None, List, [], ◌∷◌, ◌++◌, length, drop, Result, Ok, Err}
 use Rattle.theory.specs.Terms.{Term, height}
 use Rattle.theory.specs.Spines.{spine_of}
@@ -15,7 +15,7 @@ use Rattle.unification.specs.Cycles.{Search, is_variable, not_found, here_or, se
 use Rattle.unification.specs.Solutions.{variable_in}
 use Rattle.unifier.specs.declared.built.Built.{Built}
 
--- what is found, or Deep where it is higher than `room`
+-- a found term, or Deep if it is higher than `room`
 abbrev pub within : (room : ℕ) → Option Term → Result (Option Term) Stop
 within room None = Ok None
 within room (Some t) = cond (nat_le (height t) room) (Ok (Some t)) (Err Deep)
@@ -24,12 +24,12 @@ within room (Some t) = cond (nat_le (height t) room) (Ok (Some t)) (Err Deep)
 abbrev pub search_within : Signature → (n x room : ℕ) → Term → Search Term
 search_within S n x room t left = and_next (search_in S n x t left) (λ found rest. answered (within room found) rest)
 
--- the same in an argument, where it is direct
+-- the search in an argument, if it is direct
 abbrev pub at_argument : Signature → (n x room : ℕ) → Argument → Term → Search Term
 at_argument S n x room a u left =
     cond (is_direct a) (and_next (whnf_of S true left u) (λ v rest. search_within S n x room v rest)) (not_found left)
 
--- ---- where there is no room: what is found in any term is Deep
+-- ---- where there is no room: any found term is Deep
 
 -- one term after the other is reduced and searched, until something is found
 abbrev pub search_each : Signature → (n x : ℕ) → List Term → Search Term

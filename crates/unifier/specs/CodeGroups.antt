@@ -1,4 +1,4 @@
--- What the code finds of a group.
+-- Groups of equations as the code finds them.
 use Rattle.std.specs.Prelude.{◌≡◌, ◌≤◌, ℕ, ◌+◌, ◌-◌, nat_lt, Bool, ◌==◌, ◌&&◌, cond, Some, List, length}
 use Rattle.theory.specs.Terms.{Term, Var, Pi, Lam, App, Let}
 use Rattle.theory.specs.Families.{Family}

@@ -14,7 +14,7 @@ use Rattle.unification.specs.Moving.{over_first, behind, moved}
 use Rattle.unification.specs.Records.{argument_items, family_items, constructor_terms}
 use Rattle.unification.specs.States.{Equation, State, equations_at}
 
--- what stands for the places and the equations of a group, at parameters after the equations of the arguments
+-- the terms for the places and the equations of a group, at parameters after the equations of the arguments
 abbrev pub group_made_behind : (n number : ℕ) → Family → Constructor → (ps us vs : List Term) → Result (List Term) Stop
 group_made_behind n number f c ps us vs =
     and_then (bounded_items (argument_items n ps c)) (λ arguments.

@@ -1,4 +1,4 @@
--- What the code's places stand for.
+-- The meanings of the code's places.
 use Rattle.std.specs.Prelude.{ℕ, ◌+◌, List, [], ◌∷◌, length, map, drop, Option, Some, None}
 use Rattle.theory.specs.Terms.{Term}
 use Rattle.theory.specs.Signatures.{reflexivity}

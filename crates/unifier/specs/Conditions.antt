@@ -1,5 +1,5 @@
--- What the code is asked about: terms and states that are scoped, no term higher than 2,000, and so few variables and equations
--- that their numbers fit 32 bits.
+-- The conditions of the code's calls: terms and states are scoped, no term is higher than 2,000, and there are so few variables and
+-- equations that their numbers fit 32 bits.
 use Rattle.std.specs.Prelude.{◌≡◌, ◌≤◌, ◌<◌, ℕ, ◌+◌, List, [], ◌∷◌, length, map, Option, Some, None, Ok}
 use Rattle.theory.specs.Terms.{Term, height, free_of}
 use Rattle.theory.specs.Telescopes.{Telescope}
@@ -52,7 +52,7 @@ abbrev pub HaveFewVariables : List Term → Type 0
 HaveFewVariables [] = Unit {0}
 HaveFewVariables (t ∷ terms) = (free_of t ≤ context_limit) × HaveFewVariables terms
 
--- the same of the types of a telescope
+-- the types of a telescope have few variables
 abbrev pub HasFewVariables : List Item → Type 0
 HasFewVariables X = HaveFewVariables (map (λ item. item.type) X)
 
@@ -61,7 +61,7 @@ pub record IsKept (S : Signature) (s : State) : Type 0 where
   pub low : bounded_state s ≡ Ok s
   pub few : length s.context + length s.equations ≤ most_levels
 
--- what a state that is made has by itself: its terms are low, and its variables and equations are few
+-- the bounds of a state that is made: its terms are low, and its variables and equations are few
 pub record IsRoomy (s : State) : Type 0 where
   pub low : bounded_state s ≡ Ok s
   pub few : length s.context + length s.equations ≤ most_levels
@@ -84,7 +84,7 @@ abbrev pub LeadsOnWhere : Signature → Option Turn → Type 0
 LeadsOnWhere S (Some turn) = LeadsOn S turn
 LeadsOnWhere S None = Unit {0}
 
--- ---- what stands for variables
+-- ---- terms for variables
 
 -- a term over n variables that are few
 abbrev pub IsOver : (n : ℕ) → Term → Type 0
@@ -94,12 +94,12 @@ abbrev pub AreOver : (n : ℕ) → List Term → Type 0
 AreOver n [] = Unit {0}
 AreOver n (t ∷ terms) = IsOver n t × AreOver n terms
 
--- The same of terms that are put: a reflexivity is higher by two than the terms in it.
+-- Terms that are put may be higher by two: a reflexivity is higher by two than the terms in it.
 abbrev pub ArePut : (n : ℕ) → List Term → Type 0
 ArePut n [] = Unit {0}
 ArePut n (t ∷ terms) = (height t ≤ 2002) × (free_of t ≤ n) × (n ≤ most_depth) × ArePut n terms
 
--- the same of terms that are lifted
+-- terms that may be lifted by so many variables
 abbrev pub HaveRoomFor : (by : ℕ) → List Term → Type 0
 HaveRoomFor by [] = Unit {0}
 HaveRoomFor by (t ∷ terms) = (height t ≤ 2002) × (free_of t + by ≤ 4294960000) × HaveRoomFor by terms

@@ -1,4 +1,4 @@
--- What problems and outcomes of the code stand for.
+-- The meanings of the code's problems and outcomes.
 use Rattle.std.specs.Prelude.{List, map}
 use Rattle.core_terms.specs.Meanings.{tree_of, tele_of}
 use Rattle.core_terms.specs.TreeMeanings.{step_of, steps_of}

@@ -38,7 +38,7 @@ fn is_variable(x: u32, t: &Term) -> bool
     matches!(t, Term::Var(y) if *y == x)
 }
 
-/// What is found, or Deep where it is higher than `room`.
+/// A found term, or Deep if it is higher than `room`.
 fn within(room: u32, t: Term) -> Result<Option<Term>, Stop>
     requires { room ≤ most_height }
     ensures { Gives (option_map tree_of) result (code.within room (Some (tree_of t))) }
@@ -49,7 +49,7 @@ fn within(room: u32, t: Term) -> Result<Option<Term>, Stop>
     Ok(Some(t))
 }
 
-/// The variable in a head form, at or below direct arguments of constructors of the family: what is found is the term with each
+/// The variable in a head form, at or below direct arguments of constructors of the family: the found term is the term with each
 /// argument on the way reduced, or Deep where that is higher than `room`.
 #[cycle(search)]
 fn search(
@@ -152,7 +152,7 @@ fn among(
     among(alloc, sig, n, x, room, args, us, at + 1, kernel)
 }
 
-/// What is found in one of them, where it is direct.
+/// The search in one of them, if it is direct.
 #[cycle(search)]
 fn at_argument(
     alloc: Global,
@@ -180,7 +180,7 @@ fn at_argument(
     search(alloc, sig, n, x, room, &t, kernel)
 }
 
-/// The variable below the constructor that the term is, where there is no room for what is found.
+/// The variable below the constructor that the term is, where there is no room for the found term.
 fn below_too_deep(
     alloc: Global,
     sig: &Signature,

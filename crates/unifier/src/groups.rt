@@ -151,7 +151,7 @@ fn has_places(k: u32, f: &Family, ty: &Term) -> bool
     is_fitting(f)
 }
 
-/// The same of a type that is a family at arguments.
+/// The membership that a type shows which is a family at arguments.
 fn at_places<'a>(
     alloc: Global,
     k: u32,
@@ -200,7 +200,7 @@ fn sides(alloc: Global, equations: &[Equation]) -> Result<(Tele, Tele), Stop>
     with_sides(alloc, equations, Items::new(alloc), Items::new(alloc))
 }
 
-/// The same after those that are made.
+/// The sides of equations after those that are already there.
 #[tactic(auto, using(tele_eq::proofs::Growing::growing))]
 fn with_sides(
     alloc: Global,
@@ -267,7 +267,7 @@ fn group_trial(
     last_trial(alloc, sig, s, k, e, kernel)
 }
 
-/// The same, where the last of them is known.
+/// The turn of the group whose last equation is `e`.
 fn last_trial(
     alloc: Global,
     sig: &Signature,
@@ -293,7 +293,7 @@ fn last_trial(
     }
 }
 
-/// The same, where the tidied type of its place is a family at the places before it.
+/// That turn, where the tidied type of its place is a family at the places before it.
 fn on_membership(
     alloc: Global,
     sig: &Signature,

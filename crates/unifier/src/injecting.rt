@@ -28,7 +28,7 @@ use core_terms::{Items, Stop, Tele, Term};
 use std::alloc::Global;
 use tele_eq::{Item, cong, variables};
 
-/// What proves each equation of a group, after the equations of the arguments, or Deep.
+/// The proof of each equation of a group, after the equations of the arguments, or Deep.
 fn group_proofs(
     alloc: Global,
     built: Built,
@@ -50,7 +50,7 @@ fn group_proofs(
     proofs_behind(alloc, built, ps.as_slice(), left, right)
 }
 
-/// The same at parameters that come after the equations of the arguments.
+/// These proofs at parameters that come after the equations of the arguments.
 fn proofs_behind(
     alloc: Global,
     built: Built,
@@ -150,7 +150,7 @@ fn joined(
     )
 }
 
-/// The same, where the equations of the arguments are made.
+/// The equations of the state after an injection, where those of the arguments are made.
 fn with_proofs(
     alloc: Global,
     s: &State,
@@ -228,7 +228,7 @@ pub(crate) fn inject(
     with_equations(alloc, s, equations)
 }
 
-/// What stands for the first `count` places after a context: terms after the variables up to a depth.
+/// The places where `terms`, over the variables up to a depth, replace the first `count` places after a context.
 fn behind_places(size: u32, count: u32, depth: u32, terms: &[Term]) -> Places
     requires size { size ≤ most_levels }
     requires count { count ≤ most_levels }

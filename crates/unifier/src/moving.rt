@@ -35,7 +35,7 @@ pub(crate) struct Behind<'a> {
     pub(crate) terms: &'a [Term],
 }
 
-/// What stands for variables that have levels.
+/// Terms for variables that have levels.
 #[derive(Clone, Copy)]
 pub(crate) enum Places<'a> {
     Reordered(&'a [u32]),
@@ -120,7 +120,7 @@ fn term_at(alloc: Global, terms: &[Term], position: u32, by: u32) -> Result<Term
     }
 }
 
-/// What comes after the variables of a context.
+/// The term for a variable that comes after those of a context, at a depth.
 #[cycle(put)]
 fn behind_at(alloc: Global, behind: Behind, depth: u32, j: u32) -> Result<Term, Stop>
     requires behind { IsBehind behind }
@@ -224,7 +224,7 @@ fn put_under(
     }
 }
 
-/// A term over the first `size` variables with what stands for them, at a depth. Nothing tests its height.
+/// A term over the first `size` variables with their terms put in, at a depth. Nothing tests its height.
 pub(crate) fn put(
     alloc: Global,
     places: Places,
@@ -240,7 +240,7 @@ pub(crate) fn put(
     put_under(alloc, places, size, depth, 0, t)
 }
 
-/// The same of each term of a list.
+/// `put` at each term of a list.
 pub(crate) fn put_terms(
     alloc: Global,
     places: Places,

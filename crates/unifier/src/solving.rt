@@ -185,7 +185,7 @@ fn behind_solved(
     )
 }
 
-/// What stands for the first place after a context of `size` variables, of which `depth` are left: the term.
+/// The places where `terms` replace the first place after a context of `size` variables, of which `depth` are left.
 fn behind_first<'a>(
     solution: Option<Solution<'a>>,
     size: u32,

@@ -51,7 +51,7 @@ fn first_trials(
     stuck(sig, e, kernel)
 }
 
-/// What a state comes to.
+/// The turn of a state.
 pub(crate) fn turn(
     alloc: Global,
     sig: &Signature,

@@ -1,4 +1,4 @@
-//! What the trials of rules share. A trial answers None where its rule does not apply.
+//! The shared part of the trials of rules. A trial answers None if its rule does not apply.
 ghost use Rattle.std.specs.Prelude.{◌≡◌, ◌≤◌, ◌+◌, IfOk, Ok, option_map};
 ghost use Rattle.theory.specs.Terms as tree;
 ghost use Rattle.core_terms.specs.Answers.{Gives, Runs};

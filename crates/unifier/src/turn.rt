@@ -2,8 +2,8 @@ use crate::Why;
 use crate::state::State;
 use core_terms::{Step, Term};
 
-/// What a state comes to: no equation is left, a step leads to the next state, a last step shows that there is no solution, or no
-/// rule goes on. The last two have the sides that are shown.
+/// The turn of a state: no equation is left, a step leads to the next state, a last step shows that there is no solution, or no
+/// rule applies. The last two have the sides that are shown.
 #[derive(Debug, Drop)]
 pub(crate) enum Turn {
     Done,

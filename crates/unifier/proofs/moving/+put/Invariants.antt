@@ -5,7 +5,7 @@ use Rattle.unifier.specs.declared.moving.Places.{Places}
 use Rattle.unifier.specs.declared.moving.Places.TheVariants as place
 use Rattle.unifier.proofs.moving.+put.Given as goal
 
--- what stands for variables may have terms put into it, where they are in their new order
+-- the term of a solution is itself put into the new order, which has a lower rank
 abbrev pub rank_of : Places → ℕ
 rank_of (place.Reordered order) = 0
 rank_of (place.Solved s) = 1
