@@ -99,7 +99,7 @@ injection S m l b r d f ps lb rd family number hl hr entry all =
 
 -- ---- turns
 
--- what is known of the equation in a scoped state, and of the family that the injectivity is made for
+-- the equation's sides and type are scoped, and the injectivity is made for constructor b's own family
 pub record IsInjective (S : Signature) (s : State) (k : ℕ) (e : Equation) (type : Term) (b d : Built) (f : Family) (ps : List Term) : Type 0 where
   pub sides : AreScopedSides S s e.left e.right
   pub type_scoped : IsScoped S (length s.context + k) type
@@ -108,7 +108,7 @@ pub record IsInjective (S : Signature) (s : State) (k : ℕ) (e : Equation) (typ
   pub step : Steps S s (injection_step (k + 1) type (term_of b) (term_of d) b)
       (injected_state s (k + 1) b.n b.number f b.constructor ps b.arguments d.arguments)
 
--- one constructor on both sides: what the injectivity comes to
+-- one constructor on both sides: the turn of the injectivity
 pub injects-is : (S : Signature) (s : State) (left k : ℕ) (e : Equation) (type : Term) (fits : Built → Bool) (l : Term) (b : Built) (r : Term) (d : Built)
     (f : Family) (ps : List Term) (rest : ℕ) → slice_get s.equations k ≡ Some e → rest ≤ left → AreSides S fits e.left e.right l b r d
     → Stay left e.left e.right l r rest → (b.number == d.number) ≡ true → (IsReady S → IsScopedState S s → IsInjective S s k e type b d f ps)
@@ -139,13 +139,13 @@ injects-is S s left k e type fits l b r d f ps rest at le sides stay number inje
           });
     }))
 
--- the same of a conflict
+-- the equation's sides and type are scoped, and the conflict is evidence of absurdity
 pub record IsConflicting (S : Signature) (s : State) (k : ℕ) (e : Equation) (type : Term) (b d : Built) : Type 0 where
   pub sides : AreScopedSides S s e.left e.right
   pub type_scoped : IsScoped S (length s.context + k) type
   pub evidence : IsAbsurd S s (conflict_step (k + 1) type (term_of b) (term_of d) b d)
 
--- different constructors: what the conflict comes to
+-- different constructors: the turn of the conflict
 pub conflicts-is : (S : Signature) (s : State) (left k : ℕ) (e : Equation) (type : Term) (fits : Built → Bool) (l : Term) (b : Built) (r : Term) (d : Built)
     (rest : ℕ) → AreSides S fits e.left e.right l b r d → (IsReady S → IsScopedState S s → IsConflicting S s k e type b d)
     → Comes (IsTurn S s left) (fails_at S (conflict_step (k + 1) type l r b d) e.left e.right) rest

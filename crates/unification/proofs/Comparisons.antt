@@ -1,4 +1,4 @@
--- What is made of a comparison: terms that are found convertible convert.
+-- Calls after a comparison: terms that are found convertible convert.
 use Rattle.std.proofs.Common.{ℕ, ◌≤◌, Bool, IsTrue}
 use Rattle.theory.specs.Terms.{Term}
 use Rattle.theory.specs.Signatures.{Signature}

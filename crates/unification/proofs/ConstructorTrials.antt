@@ -1,4 +1,4 @@
--- What the trial of injectivity and conflict comes to.
+-- The turns of the trial of injectivity and conflict.
 use Rattle.std.proofs.Common.{◌≡◌, ℕ, ◌+◌, ◌≤◌, ◌==◌, List, ◌∷◌, length, arith}
 use Rattle.std.proofs.lemmas.Bool.{eqb-true, eqb-false}
 use Rattle.theory.specs.Terms.{Term}

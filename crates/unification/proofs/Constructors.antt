@@ -1,4 +1,4 @@
--- Constructors with all their arguments: what is known of a term that is found to be one, and of its instances.
+-- Constructors with all their arguments: a term that is found to be one, and its instances.
 use Rattle.std.proofs.Common.{◌≡◌, ℕ, ◌+◌, ◌≤◌, ◌==◌, true, cond, Option, Some, None, IfSome, option_and_then, List, [], ◌∷◌, ◌++◌, length, map, take, drop, slice_get, refl, ap, ap₂, sym, subst, ◌∙◌, arith}
 use Rattle.std.proofs.lemmas.Bool.{eqb-true}
 use Rattle.std.proofs.lemmas.Bool.Decides.{nat_tests}
@@ -50,7 +50,7 @@ found-spine : (S : Signature) (h : Term) (us : List Term) (b : Built) → with_s
 found-spine S (Con n number) us b e = found-family S n number us b e
 found-spine S _ us b e = absurd (grind arith)
 
--- what is known of a term that is found as a constructor
+-- a term that is found as a constructor has it at its head, with all its arguments
 pub found : (S : Signature) (t : Term) (b : Built) → built_of S t ≡ Some b → IsFound S (head_of t) (spine_of t) b
 found S t b e = found-spine S (head_of t) (spine_of t) b e
 
@@ -64,7 +64,7 @@ found-constructor S t b e =
       ap length is.arguments ∙ omega (arith, shorter, is.whole),
     )
 
--- what holds of each constructor that may be found holds of the one that is
+-- a property of each constructor that may be found is one of the constructor that is found
 pub each-found : (S : Signature) (t : Term) (P : Built → Type 0) → ((b : Built) → built_of S t ≡ Some b → P b) → IfSome (built_of S t) P
 each-found S t P h = go (built_of S t) refl
   where
@@ -117,7 +117,7 @@ fitting-level f e = grind (arith, nat_tests)
 pub no-indices : (f : Family) → has_no_indices f ≡ true → f.indices ≡ []
 no-indices f e = nil_from_length f.indices (eqb-true (length f.indices) 0 e)
 
--- what is found of arguments that are so is the constructor
+-- arguments that satisfy this are found as the constructor
 found-again : (S : Signature) (h : Term) (us : List Term) (b : Built) → IsFound S h us b → with_spine S h us ≡ Some b
 unfolding made
 found-again S h us b is =

@@ -1,4 +1,4 @@
--- What the trial of a cycle comes to.
+-- The turns of the trial of a cycle.
 use Rattle.std.proofs.Common.{◌≡◌, ℕ, inl, inr, true, Option, Some, None, IfSome, Ok, IfOk, List, ◌∷◌, length, refl, ap, sym, subst as transport, ◌∙◌, arith}
 use Rattle.theory.specs.Terms.{Term}
 use Rattle.theory.specs.Terms.Term.{Var}

@@ -1,4 +1,4 @@
--- What the trial of a deletion comes to, which takes the first equation out, and the last trial, which says why no rule goes on.
+-- The turns of the trial of a deletion, which takes the first equation out, and of the last trial, which says why no rule applies.
 use Rattle.std.proofs.Common.{◌≡◌, ℕ, ◌+◌, ◌<◌, ◌≤◌, ◌⊎◌, inl, inr, Bool, true, false, IsTrue, Some, List, [], ◌∷◌, length, drop, slice_get, refl, arith}
 use Rattle.theory.specs.Terms.{Term}
 use Rattle.theory.specs.Signatures.{Signature, reflexivity}

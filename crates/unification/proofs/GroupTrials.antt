@@ -1,4 +1,4 @@
--- What the trials of groups come to: injectivity and conflict of several equations.
+-- The turns of the trials of groups: injectivity and conflict of several equations.
 use Rattle.std.proofs.Common.{◌≡◌, ◌≢◌, ℕ, zero, suc, ◌+◌, ◌≤◌, ◌==◌, Bool, true, false, IsTrue, Option, Some, None, IfSome, Ok, List, [], ◌∷◌, length, take, slice_get, refl, ap, sym, subst as transport, ◌∙◌, arith}
 use Rattle.std.proofs.lemmas.Bool.{eqb-true, eqb-false}
 use Rattle.std.proofs.lemmas.List.{length-take}

@@ -66,7 +66,7 @@ heads-within S fits u v left =
     reduced-within (Found (AreHeads S fits left u v)) S true u left _ (λ l rest le hl.
     right_head-within S fits left u v l (where_fits fits (built_of S l)) rest le hl (where_fits-has fits (built_of S l)))
 
--- what is made of the constructors on both sides
+-- trials of the constructors on both sides
 pub on_constructors-comes : (P : Turn → ℕ → Type 0) (S : Signature) (fits : Built → Bool) (u v : Term)
     (go : (l : Term) (b : Built) (r : Term) (d : Built) → Trial) (left : ℕ)
     → ((l : Term) (b : Built) (r : Term) (d : Built) (rest : ℕ) → rest ≤ left → AreSides S fits u v l b r d → Stay left u v l r rest → Comes P (go l b r d) rest)

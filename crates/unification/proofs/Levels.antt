@@ -7,7 +7,7 @@ use Rattle.tele_eq.specs.Levels.{place_in, is_among}
 use Rattle.unification.specs.Occurrences.{without}
 use Rattle.unification.proofs.Cases.{either}
 
--- ---- what is among levels
+-- ---- membership in lists of levels
 
 pub among-cases : (j i : ℕ) (levels : List ℕ) → is_among j (i ∷ levels) ≡ true → (i ≡ j) ⊎ (is_among j levels ≡ true)
 among-cases j i levels h = by (i == j) refl h

@@ -1,4 +1,4 @@
--- Equations that move after other variables are scoped there, where what stands for their variables is.
+-- Equations that move after other variables are scoped there, where the terms for their variables are.
 use Rattle.std.proofs.Common.{◌≡◌, ℕ, zero, suc, ◌+◌, ◌-◌, ◌<◌, ◌≤◌, ◌⊎◌, inl, inr, IfSome, List, [], ◌∷◌, ◌++◌, length, drop, slice_get, All, ap, sym, subst, arith}
 use Rattle.theory.specs.Terms.{Term}
 use Rattle.theory.specs.Signatures.{Signature}
@@ -33,9 +33,9 @@ equations-at S n k (suc i) (e ∷ es) h =
     subst (λ x. IfSome (slice_get es i) (IsScopedEquation S n x)) (let same : k + 1 + i ≡ k + suc i = omega arith in same)
     (equations-at S n (k + 1) i es h.1)
 
--- ---- what stands for variables and places
+-- ---- environments for variables and places
 
--- what stands for each level is scoped from a depth on, also after i equations more on both sides
+-- the environment's term for each level is scoped from a depth on, also after i equations more on both sides
 abbrev pub StandsFrom : Signature → (size depth : ℕ) → Environment → Type 0
 StandsFrom S size depth z = (i j d : ℕ) → j < size + i → depth + i ≤ d → IsScoped S d (z d j)
 

@@ -128,7 +128,7 @@ deleted_state-scoped S s i A u ready scoped low ha hu =
 
 -- ---- an injectivity
 
--- what it is made of: constructor `number` of family n, at scoped parameters and two lists of scoped arguments
+-- an injection: constructor `number` of family n, at scoped parameters and two lists of scoped arguments
 pub record IsInjection (S : Signature) (m n number : ℕ) (f : Family) (c : Constructor) (ps us vs : List Term) : Type 0 where
   pub owner : Family
   pub entry : IsEntryAt S n (FamilyOf owner)

@@ -1,4 +1,4 @@
--- Only what stands for the variables that occur in a term decides where it is scoped: renamed, and with terms put for variables.
+-- Only the terms for the variables that occur in a term decide where it is scoped: renamed, and with terms put for variables.
 use Rattle.std.proofs.Common.{◌≡◌, ℕ, zero, suc, ◌+◌, ◌-◌, ◌<◌, ◌≤◌, ◌⊎◌, inl, inr, ◌||◌, Bool, true, refl, sym, subst, arith, eq-eqb}
 use Rattle.std.proofs.lemmas.Bool.{or_left, or_right}
 use Rattle.theory.specs.Terms.{Term, free_of}
@@ -139,7 +139,7 @@ put-where S z size d t h k =
     (λ p lt o. h p lt (subst (λ x. has_variable x t ≡ true) (let e : size - (p + 1) + 0 ≡ size - (p + 1) = omega arith in e) o))
     (scoped_over_more S size (size + 0) t (omega arith) k))
 
--- the same where each level has one
+-- a term over `size` variables, where there is such a scoped term for each level
 pub put-all : (S : Signature) (z : Environment) (size d : ℕ) (t : Term) → ((p : ℕ) → p < size → (d' : ℕ) → d ≤ d' → IsScoped S d' (z d' p))
     → IsScoped S size t → IsScoped S d (put z size d t)
 put-all S z size d t h k = put-where S z size d t (λ p lt o. h p lt) k

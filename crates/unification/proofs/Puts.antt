@@ -1,5 +1,5 @@
--- What stands for the variables of a telescope is put as an instantiation puts it, where the environment only lifts its terms with
--- the depth. A variable that is not in a term counts for nothing.
+-- `put` of a telescope's terms is an instantiation, where the environment only lifts its terms with the depth. A variable that is not in
+-- a term counts for nothing.
 use Rattle.std.proofs.Common.{◌≡◌, ℕ, ◌+◌, ◌-◌, ◌<◌, ◌≤◌, ◌⊎◌, inl, inr, nat_lt, ◌||◌, false, cond, refl, ap, ap₂, sym, ◌∙◌, arith}
 use Rattle.std.proofs.lemmas.Bool.{eqb-false, or_parts}
 use Rattle.theory.specs.Terms.{Term}
@@ -16,7 +16,7 @@ use Rattle.unification.proofs.Cases.{below-or_from, first-of_two, second-of_two,
 abbrev pub Lifts : Environment → (size d : ℕ) → Type 0
 Lifts s size d = (by j : ℕ) → j < size → s (d + by) j ≡ weaken_by by (s d j)
 
--- what stands for variable n of a term over `size` variables, at a depth
+-- the term for variable n of a term over `size` variables, at a depth
 abbrev pub stands : Environment → (size d n : ℕ) → Term
 stands s size d n = cond (nat_lt n size) (s d (size - (n + 1))) (Var (n - size + d))
 
@@ -57,7 +57,7 @@ put-under_stands s size d lifts (Let a t b) under =
     (put-under_stands s size d lifts b (under + 1) ∙ sym (inst-under under (under + 1) (stands s size d) b refl))
 put-under_stands s size d lifts _ under = refl
 
--- a term with what stands for its variables is an instance of it
+-- a term with terms put for its variables is an instance of it
 pub put-is_inst : (s : Environment) (size d : ℕ) → Lifts s size d → (t : Term) → put s size d t ≡ inst (stands s size d) t
 put-is_inst s size d lifts t = put-under_stands s size d lifts t 0 ∙ inst-none (stands s size d) t
 

@@ -1,4 +1,4 @@
--- What reduction answers: a term that the given one converts to, scoped where that one is. A head form that costs no unit is the term
+-- The answers of reduction: a term that the given one converts to, scoped where that one is. A head form that costs no unit is the term
 -- itself.
 use Rattle.std.proofs.Common.{◌≡◌, ℕ, zero, suc, ◌≤◌, Bool, true, false, Option, Some, None, Result, Ok, Err, IfOk, refl, arith}
 use Rattle.theory.specs.Terms.{Term, height}
@@ -75,7 +75,7 @@ whnf-within S delta left t = record {
     by (Ok u) rest h k = record { reduct = h; stays = k }
     by (Err e) rest h k = tt
 
--- what is made of a head form
+-- calls after a reduction to a head form
 pub reduced-within : {A : Type 0} (Q : A → ℕ → Type 0) (S : Signature) (delta : Bool) (t : Term) (left : ℕ) (go : Term → ℕ → Spent A)
     → ((u : Term) (rest : ℕ) → rest ≤ left → IsHead S left t u rest → Within rest Q (go u rest)) → Within left Q (and_next (whnf_of S delta left t) go)
 reduced-within Q S delta t left go h =

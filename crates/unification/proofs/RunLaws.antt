@@ -41,7 +41,7 @@ one_turn-runs S s left go h = by_turn (turn_of S s left).0 (turn_of S s left).1 
     by_turn (Ok (Some (Sticks why u v))) rest is = ends s left rest (Sticks why u v) (Stuck [] s.context u v why) is refl
     by_turn (Ok (Some (Goes step t))) rest is = goes_on-runs S s t left rest step is (go s left t rest).0 (go s left t rest).1 (h t rest step is)
 
--- by what has become less
+-- by the measure that has become less
 measured-runs : (S : Signature) (fewer shorter smaller : Going) (s t : State) (left rest : ℕ) → Falls s left t rest
     → ((t : State) (rest : ℕ) → rest < left → IsRunOf S fewer t rest)
     → ((t : State) → length t.context < length s.context → IsRunOf S shorter t left)
@@ -92,7 +92,7 @@ runs-end S s left = by_units-runs S left s left (omega arith)
 
 -- ---- no other run
 
--- what is said of two answers to one question
+-- two answers to one question are the same
 same-answer : {A : Type 0} (r : Spent A) (a b : Result A Stop) (m n : ℕ) → r ≡ answered a m → r ≡ answered b n → (a ≡ b) × (m ≡ n)
 same-answer r a b m n e f = (ap (λ p. p.0) (sym e ∙ f), ap (λ p. p.1) (sym e ∙ f))
 

@@ -1,5 +1,5 @@
--- What holds of each run, from what holds of its turns: it gives no units back, without K it deletes nothing, and a solution has a term
--- for each variable.
+-- Properties of each run, from those of its turns: it gives no units back, without K it deletes nothing, and a solution has a term for
+-- each variable.
 use Rattle.std.proofs.Common.{◌≡◌, ◌≢◌, ℕ, ◌≤◌, false, Option, Some, IfSome, Result, Ok, Err, IfOk, [], length, All, refl, ap, subst, ◌∙◌, arith}
 use Rattle.std.proofs.lemmas.List.Elements.{All-nil, All-cons}
 use Rattle.std.proofs.lemmas.Result.{IfOk-at_ok}
@@ -25,7 +25,7 @@ use Rattle.unification.proofs.ScopedEquations.{start-is}
 
 -- ---- runs
 
--- what holds of the ends of good states, and of outcomes with one step more, holds of each outcome
+-- a property of the ends of good states that is kept with one step more is a property of each outcome
 pub run-has : (S : Signature) (Good : State → Type 0) (P : State → Outcome → Type 0)
     → ((s : State) (left rest : ℕ) (turn : Turn) → Good s → IsTurn S s left turn rest → IfSome (end_of s turn) (P s))
     → ((s t : State) (left rest : ℕ) (step : Step) → Good s → IsTurn S s left (Goes step t) rest → Good t)
@@ -44,7 +44,7 @@ run-has S Good P at_end next longer s left end result good (goes _ t _ rest _ st
     behind (Ok outcome) h = longer s t left rest step outcome good turn h
     behind (Err e) h = tt
 
--- what is shown of the run from the first state holds of the run of a problem
+-- a property of the run from the first state is one of the run of a problem
 pub unify-has : (S : Signature) (p : Problem) (left : ℕ) (P : Outcome → Type 0)
     → ((s : State) → start_made p ≡ Ok s → IfOk (run_of S s left).0 P) → IfOk (unify_of S p left).0 P
 unify-has S p left P h = by (start_made p) refl

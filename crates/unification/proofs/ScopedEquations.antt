@@ -78,7 +78,7 @@ telescope-equations S n X left right has items hl hr =
     (telescope-more S n (n + 0) (equations X left right) (omega arith) (scoped_equations S n X left right has items hl hr))
     (equations-form X left right) hl hr
 
--- ---- what is made, unless it is too high
+-- ---- results, unless they are too high
 
 cond-ok : {A : Type 0} (P : A → Type 0) (test : Bool) (a : A) → P a → IfOk {E = Stop} (cond test (Ok a) (Err Deep)) P
 cond-ok P true a h = h

@@ -63,7 +63,7 @@ BelowSpends below = (before : ℕ) (t : Term) (left : ℕ) → (below before t l
 below-spends : (S : Signature) (n x : ℕ) (below : Below) → FindsBelow S n x below → BelowSpends below
 below-spends S n x below finds before t left = (finds before t left).spends
 
--- They agree on what is found with at most so many units, if some are spent or the term is lower than so much.
+-- They agree on the found terms with at most so many units, if some are spent or the term is lower than so much.
 abbrev Agree : (most high : ℕ) → Below → Below → Type 0
 Agree most high below other =
     (before rest : ℕ) (t : Term) → before ≤ most → rest ≤ before → (rest ≡ before → height t < high) → below before t rest ≡ other before t rest
@@ -125,7 +125,7 @@ form-same S n x below other t left agree spends =
 
 -- ---- the measure is not used up
 
--- two ways agree on what is found with fewer units
+-- two ways find the same with fewer units
 abbrev AgreeBelow : (left : ℕ) → (search other : Term → Search Term) → Type 0
 AgreeBelow left search other = (t : Term) (rest : ℕ) → rest < left → search t rest ≡ other t rest
 

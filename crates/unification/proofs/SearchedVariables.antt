@@ -25,7 +25,7 @@ use Rattle.unification.proofs.Variables.{variable-is}
 use Rattle.unification.proofs.Reducts.{IsReduct, reduced-within}
 use Rattle.unification.proofs.SpentUnits.{Within, answered-within, and_next-within, cond-within, cond-within_at}
 
--- ---- what is found
+-- ---- found terms
 
 -- family n has no indices, and a level that acyclicity has
 pub record IsAcyclicFamily (S : Signature) (n : ℕ) (f : Family) : Type 0 where
@@ -38,7 +38,7 @@ pub record IsFoundTerm (S : Signature) (n x : ℕ) (t w : Term) : Type 0 where
   pub reduct : IsReduct S t w
   pub place : (f : Family) → IsAcyclicFamily S n f → ((t ≡ Var x) × (w ≡ Var x)) ⊎ HasBelow S n x w
 
--- a search gives no units back, and finds what has P
+-- a search gives no units back, and finds a term with P
 abbrev Finding : {A : Type 0} → (A → Type 0) → Search A → (left : ℕ) → Type 0
 Finding P search left = Within left (λ found rest. IfSome found P) (search left)
 
@@ -64,7 +64,7 @@ found_as-finding {A} P Q f search h left k =
 
 -- ---- arguments
 
--- the arguments us are ws, one of which, a direct one, is what is found
+-- the arguments us are ws, one of which, a direct one, is the found term
 record IsAmong (S : Signature) (n x : ℕ) (arguments : List Argument) (us ws : List Term) : Type 0 where
   pub at : ℕ
   pub argument : Argument
@@ -109,7 +109,7 @@ among-here S n x a arguments u v w us direct hv h = record {
       (All-tail (IsScoped S m) u us all);
 }
 
--- what is found among arguments
+-- a search among arguments finds the variable in one of them
 among-finding : (S : Signature) (n x : ℕ) (below : Below) → FindsBelow S n x below → (arguments : List Argument) (us : List Term) (left : ℕ)
     → Finding (IsAmong S n x arguments us) (among_arguments S below arguments us) left
 among-finding S n x below finds [] us left = none-found (IsAmong S n x [] us) left
@@ -194,7 +194,7 @@ variable-found : (x : ℕ) (o : Option ℕ) → is_variable x o ≡ true → o �
 variable-found x (Some y) e = ap Some (eqb-true y x e)
 variable-found x None e = absurd (grind arith)
 
--- what is found in a head form
+-- a search in a head form finds the variable in it
 in_form-finds : (S : Signature) (n x : ℕ) (below : Below) → FindsBelow S n x below → Finds S n x (in_form S n x below)
 in_form-finds S n x below finds t left =
     cond-within (λ found rest. IfSome found (IsFoundTerm S n x t)) (is_variable x (variable_in t)) _ _ left
@@ -230,6 +230,6 @@ pub by_units-finds : (S : Signature) (n x units : ℕ) → Finds S n x (by_units
 by_units-finds S n x zero t left = by_room-finds S n x no_argument (no_argument-finds S n x) (height t) t left
 by_units-finds S n x (suc units) t left = by_room-finds S n x (by_units S n x units) (by_units-finds S n x units) (height t) t left
 
--- what a whole search finds
+-- a whole search finds the variable in the term
 pub search-finds : (S : Signature) (n x : ℕ) → Finds S n x (search_in S n x)
 search-finds S n x t left = by_units-finds S n x left t left

@@ -1,4 +1,4 @@
--- The laws of solutions: a solved problem is unified, where its steps are coherent, and so is what a run answers as solved.
+-- The laws of solutions: a solved problem is unified, where its steps are coherent, and so is a problem that a run answers as solved.
 use Rattle.std.proofs.Common.{◌≡◌, ℕ, Ok, IfOk, List, [], ◌∷◌, ◌++◌, length, map, All, refl, ap₂, sym, subst as transport, ◌∙◌}
 use Rattle.std.proofs.lemmas.List.Elements.{All-head, All-tail}
 use Rattle.theory.specs.Eliminators.{no_variable}
@@ -86,7 +86,7 @@ reached-unifies : (S : Signature) (p : Problem) (s : State) (steps : List Step) 
 reached-unifies S p s steps context solution ready scoped start coherent (solved t steps' chain end) =
     solved-is_unified S p s t steps ready scoped start (coherent-chain S s steps coherent s t [] steps refl (none s) chain) end
 
--- what the run of a problem answers as solved is unified
+-- if the run of a problem answers that it is solved, it is unified
 pub run-unifies : RunUnifies
 run-unifies S p s left steps context solution ready scoped start is coherent =
     reached-unifies S p s steps context solution ready scoped start coherent

@@ -1,4 +1,4 @@
--- What the trial of a solution comes to. It makes the context shorter, or where there is no variable it makes the equations smaller.
+-- The turns of the trial of a solution. It makes the context shorter or, if there is no variable, the equations smaller.
 use Rattle.std.proofs.Common.{◌≡◌, ℕ, ◌+◌, ◌-◌, ◌<◌, ◌≤◌, ◌⊎◌, inl, inr, Bool, true, false, cond, Option, Some, None, IfSome, Ok, IfOk, List, [], ◌∷◌, length, drop, slice_get, refl, ap₂, sym, subst as transport, ◌∙◌, arith}
 use Rattle.std.proofs.lemmas.List.{length-map}
 use Rattle.theory.specs.Terms.{Term}
@@ -117,7 +117,7 @@ solves-within S s x A other left =
 
 -- ---- the step
 
--- what is known of a step that solves variable x of a scoped state by u
+-- a step that solves variable x of a scoped state by u
 record IsSolving (S : Signature) (s : State) (e : Equation) (x : ℕ) (A u : Term) (step : Step) : Type 0 where
   pub tried : IsTried S s e
   pub variable : x < length s.context

@@ -1,4 +1,4 @@
--- The context after a solution: the other variables occur in it once each, and each type is over what comes before it.
+-- The context after a solution: the other variables occur in it once each, and each type is over the variables before it.
 use Rattle.std.proofs.Common.{◌≡◌, ℕ, zero, suc, ◌+◌, ◌-◌, ◌<◌, ◌≤◌, ◌⊎◌, inl, inr, Bool, true, false, cond, List, [], ◌∷◌, ◌++◌, length, drop, refl, ap, sym, get_or-drop, length-drop, length-append, drop_of_length-le, subst, ◌∙◌, arith}
 use Rattle.std.proofs.lemmas.Bool.{not-true}
 use Rattle.theory.specs.Terms.{Term}
@@ -67,7 +67,7 @@ pub length-order_of_none : (context : Telescope) (p : ℕ) → length context �
 length-order_of_none [] p e = ap (λ types. length (dependants_from (p + 1) (p ∷ []) types)) (drop_of_length-le [] (omega arith))
 length-order_of_none (a ∷ context) p e = absurd (omega arith)
 
--- ---- what stands for the variables
+-- ---- terms for the variables
 
 -- each variable that occurs in a term of the context has its level among these
 abbrev pub IsOver : (n : ℕ) (levels : List ℕ) → Term → Type 0
@@ -103,7 +103,7 @@ solved-scoped S n p u order done rest i d e h (inr own) le =
 
 -- ---- the types
 
--- each type is over what comes before it
+-- each type is over the variables before it
 abbrev pub AreOver : (n p : ℕ) (u : Term) (context : Telescope) (done rest : List ℕ) → Type 0
 AreOver n p u context done [] = Unit {0}
 AreOver n p u context done (j ∷ rest) =

@@ -143,7 +143,7 @@ built-converts S q b d e number hp ha =
     (transport (Converts S (Con b.n b.number)) (ap₂ Con e number) same)
     (each-append S (map (inst q) b.parameters) (map (inst q) d.parameters) (map (inst q) b.arguments) (map (inst q) d.arguments) hp ha)))
 
--- what the equations after an injectivity say: the arguments convert, and the equations after the group hold
+-- if the equations after an injectivity hold, the arguments convert, and the equations after the group hold
 injected-sides : (S : Signature) (s : State) (q : ℕ → Term) (g : ℕ) (f : Family) (ps : List Term) (b d : Built) → IsBuilt S b → IsBuilt S d
     → b.n ≡ d.n → b.number ≡ d.number
     → SidesConvert S q (injected_state s g b.n b.number f b.constructor ps b.arguments d.arguments).equations

@@ -1,5 +1,5 @@
--- What stands for the variables after a solution: an instantiation, by which the solved variable and the term that solves it
--- become one term.
+-- The terms for the variables after a solution: an instantiation, by which the solved variable and the term that solves it become one
+-- term.
 use Rattle.std.proofs.Common.{◌≡◌, ℕ, ◌+◌, ◌-◌, ◌<◌, ◌≤◌, inl, inr, ◌==◌, false, IsTrue, cond, List, length, ap, sym, ◌∙◌, arith}
 use Rattle.std.proofs.lemmas.Bool.{not-true, or_parts}
 use Rattle.theory.specs.Terms.{Term}
@@ -96,7 +96,7 @@ solved-lifts context p u there free by j lt = elim (same-or_not j p) [
         ∙ (sym (ren-inst (λ v. v + by) (stands s (length context) m) u)
         ∙ ap (weaken_by by) (sym (moved-term context p u m there free (omega arith)))))
 
--- what stands for the variables of the context after a solution of the variable with level p
+-- the terms for the variables of the context after a solution of the variable with level p
 abbrev pub solution_at : Telescope → (p : ℕ) → Term → ℕ → Term
 solution_at context p u =
     stands (solved (length context) (order_without context p) p u) (length context) (length (order_without context p))
@@ -109,7 +109,7 @@ solved-is_inst context p u there free t =
     put-is_inst (solved (length context) (order_without context p) p u) (length context) (length (order_without context p))
     (solved-lifts context p u there (lacks-variable context p u free)) t
 
--- and so the variable becomes what the term becomes
+-- and so the variable and the term become one term
 pub solved-agrees : (context : Telescope) (p x : ℕ) (u : Term) → p < length context → x < length context → p ≡ length context - (x + 1)
     → IsTrue (lacks context p u) → inst (solution_at context p u) (Var x) ≡ inst (solution_at context p u) u
 solved-agrees context p x u there within level free =

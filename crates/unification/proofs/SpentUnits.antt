@@ -1,4 +1,4 @@
--- What holds of an answer and of the units that are left after it, where no call gives units back.
+-- Properties of an answer and of the units that are left after it, where no call gives units back.
 use Rattle.std.proofs.Common.{◌≡◌, ℕ, ◌≤◌, Bool, true, false, cond, Result, Ok, Err, IfOk, refl, arith}
 use Rattle.core_terms.specs.Answers.{Spent, and_next, on_answer}
 use Rattle.core_terms.specs.declared.stop.Stop.{Stop}
@@ -9,7 +9,7 @@ abbrev pub Leaves : {A : Type 0} → (A → ℕ → Type 0) → Result A Stop �
 Leaves P (Ok a) rest = P a rest
 Leaves P (Err e) rest = Unit {0}
 
--- the same, and no more units are left than there were
+-- the answer has P, and no more units are left than there were
 pub record Within {A : Type 0} (left : ℕ) (P : A → ℕ → Type 0) (r : Spent A) : Type 0 where
   pub spends : r.1 ≤ left
   pub leaves : Leaves P r.0 r.1
@@ -23,7 +23,7 @@ pub any-answer : {A : Type 0} (r : Result A Stop) → IfOk r (λ a. Unit {0})
 any-answer (Ok a) = tt
 any-answer (Err e) = tt
 
--- what is known of the answer alone
+-- a property of the answer alone
 pub answers-within : {A : Type 0} (left : ℕ) (P : A → Type 0) (r : Spent A) → r.1 ≤ left → IfOk r.0 P → Within left (λ a rest. P a) r
 answers-within {A = A} left P r le h = record { spends = le; leaves = by r.0 r.1 h }
   where
@@ -39,7 +39,7 @@ pub answered-within : {A : Type 0} (P : A → ℕ → Type 0) (answer : Result A
 answered-within P (Ok a) left h = record { spends = omega arith; leaves = h }
 answered-within P (Err e) left h = record { spends = omega arith; leaves = tt }
 
--- what is said holds from more units on
+-- the property also holds from more units on
 pub within-later : {A : Type 0} (P Q : A → ℕ → Type 0) (r : Spent A) (left all : ℕ) → left ≤ all
     → ((a : A) (rest : ℕ) → rest ≤ left → P a rest → Q a rest) → Within left P r → Within all Q r
 within-later {A = A} P Q r left all le k h = record { spends = let l : r.1 ≤ left = h.spends in omega arith; leaves = later r.0 r.1 h.spends h.leaves }

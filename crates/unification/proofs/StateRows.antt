@@ -57,7 +57,7 @@ started : start_made
     ≡ Ok before
 started = refl
 
--- the same after the equation of m and n
+-- the state after the equation of m and n
 abbrev between : State
 between = record {
   context = before.context;

@@ -1,5 +1,5 @@
--- What holds of each turn that a trial comes to, and of the units that are left after it, from what holds of its parts. Nothing is said
--- of refusals, and of a rule that does not apply.
+-- Properties of each turn of a trial, and of the units that are left after it, from those of its parts. Nothing is said of refusals, and
+-- of a rule that does not apply.
 use Rattle.std.proofs.Common.{◌≡◌, ℕ, ◌≤◌, Bool, true, false, cond, Option, Some, None, IfSome, Result, Ok, Err, IfOk}
 use Rattle.theory.specs.Terms.{Term}
 use Rattle.theory.specs.Signatures.{Signature}
@@ -11,7 +11,7 @@ use Rattle.unification.specs.declared.why.Why.{Why}
 use Rattle.unification.proofs.SpentUnits.{Within, answered-within, and_next-within, cond-within_at}
 use Rattle.unification.proofs.Reducts.{IsReduct, reduced-within}
 
--- what is found has P, with the units after it
+-- a found value has P, with the units after it
 abbrev pub Found : {A : Type 0} → (A → ℕ → Type 0) → Option A → ℕ → Type 0
 Found P found rest = IfSome found (λ a. P a rest)
 

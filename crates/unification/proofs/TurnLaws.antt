@@ -47,7 +47,7 @@ turn-is S s left = trials-are S s left s.equations refl
 pub turn-at : (S : Signature) (s : State) (left rest : ℕ) (turn : Turn) → turn_of S s left ≡ answered (Ok (Some turn)) rest → IsTurn S s left turn rest
 turn-at S s left rest turn e = subst (λ r. Leaves (Found (IsTurn S s left)) r.0 r.1) e (turn-is S s left).leaves
 
--- what each turn of a state is to have
+-- a property of each turn of a state is one of the state's answer
 pub turn-has : (S : Signature) (s : State) (left : ℕ) (P : Turn → Type 0) → ((turn : Turn) (rest : ℕ) → IsTurn S s left turn rest → P turn)
     → Answers (λ turn. IfSome turn P) (turn_of S s left)
 turn-has S s left P h = by (turn_of S s left).0 (turn_of S s left).1 (turn-is S s left).leaves

@@ -1,5 +1,4 @@
--- What is shown of each turn that a state comes to: it is allowed by the measure of runs, and where the state is scoped, so is the turn,
--- and it follows the rules.
+-- Each turn of a state is allowed by the measure of runs, and if the state is scoped, so is the turn, and it follows the rules.
 use Rattle.std.proofs.Common.{◌≡◌, ◌≢◌, ℕ, ◌+◌, false, Some, List, [], ◌∷◌, length, slice_get, refl, ap, sym, subst as transport, arith}
 use Rattle.theory.specs.Terms.{Term}
 use Rattle.theory.specs.Signatures.{Signature, equation}
@@ -74,7 +73,7 @@ pub record IsEnd (S : Signature) (s : State) (step : Step) (u v : Term) : Type 0
   pub left : Converts S u step.left
   pub right : Converts S v step.right
 
--- what a last step comes to
+-- the turn with a last step
 pub fails_at-is : (S : Signature) (s : State) (left : ℕ) (step : Step) (u v : Term) (rest : ℕ) → DeletesWithK S step
     → (IsReady S → IsScopedState S s → IsEnd S s step u v) → Comes (IsTurn S s left) (fails_at S step u v) rest
 fails_at-is S s left step u v rest deletes ends =

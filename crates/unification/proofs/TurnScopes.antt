@@ -1,4 +1,4 @@
--- What a scoped state comes to is scoped.
+-- Each turn of a scoped state is scoped.
 use Rattle.unification.specs.Laws.{TurnScoped}
 use Rattle.unification.specs.ScopedStates.{IsScopedTurn}
 use Rattle.unification.proofs.TurnLaws.{turn-has}

@@ -120,7 +120,7 @@ inst-agree s p (Let a t b) n agree h =
     (inst-agree (ups s) (ups p) b (n + 1) (ups-agree s p n agree) (omega arith))
 inst-agree s p _ n agree h = refl
 
--- after the values of k variables comes what was there before
+-- after the values of k variables come the values that were there before
 fill-behind : (s r : ℕ → Term) (k i : ℕ) → fill s (map (inst r) (variables k)) (k + i) ≡ s i
 fill-behind s r zero i = ap s (omega arith)
 fill-behind s r (suc k) i =

@@ -1,5 +1,5 @@
--- What types say of the constructors on both sides of an equation. No rule compares this: it holds in a problem whose sides have
--- the types of their places, since families are injective. That they are injective is not proved here.
+-- The constructors on both sides of an equation agree in their types. No rule compares this: it holds in a problem whose sides have the
+-- types of their places, since families are injective. That they are injective is not proved here.
 use Rattle.std.specs.Prelude.{◌≡◌, ℕ, ◌-◌, List, map, take}
 use Rattle.theory.specs.Terms.{Term}
 use Rattle.theory.specs.Substitutions.{inst, fill}
@@ -23,7 +23,7 @@ pub record AreMembers (S : Signature) (s : State) (g : ℕ) (b d : Built) : Type
   pub left : EachConverts S (take (g - 1) (left_sides s.equations)) (targets_of b)
   pub right : EachConverts S (take (g - 1) (right_sides s.equations)) (targets_of d)
 
--- the same of each injectivity
+-- both constructors of an injectivity are members of one family in this way
 abbrev pub IsCoherent : Signature → State → Step → Type 0
 IsCoherent S s step =
     (b d : Built) → IsBuilt S b → IsBuilt S d → step.rule ≡ Inject b.n b.number → step.left ≡ term_of b → step.right ≡ term_of d →

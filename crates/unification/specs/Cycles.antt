@@ -22,7 +22,7 @@ Search A = ℕ → Spent (Option A)
 abbrev pub not_found : {A : Type 0} → Search A
 not_found left = answered (Ok None) left
 
--- what is made of what is found
+-- a search whose found value is mapped by f
 abbrev pub found_as : {A B : Type 0} → (A → B) → Search A → Search B
 found_as f search left = and_next (search left) (λ found rest. answered (Ok (option_map f found)) rest)
 
@@ -67,7 +67,7 @@ in_form S n x below t left =
 
 -- ---- the search, worked out by a measure that falls on the way: units, and then room for the height of the term
 
--- How a search goes on in an argument, by what has become less: its reduction has spent units, or else it is as it was and is
+-- How a search goes on in an argument, by the measure that has become less: its reduction has spent units, or else it is as it was and is
 -- lower than the constructor around it.
 abbrev pub by_less : (units room : Term → Search Term) → Below
 by_less units room before t left = cond (nat_lt left before) (units t left) (room t left)
@@ -86,7 +86,7 @@ abbrev pub by_units : Signature → (n x units : ℕ) → Term → Search Term
 by_units S n x zero t = by_room S n x no_argument (height t) t
 by_units S n x (suc units) t = by_room S n x (by_units S n x units) (height t) t
 
--- The variable x at a head form, or below constructors of family n in it, however many. What is found is the term with each
+-- The variable x at a head form, or below constructors of family n in it, however many. The found term is the term with each
 -- argument on the way reduced.
 abbrev pub search_in : Signature → (n x : ℕ) → Term → Search Term
 search_in S n x t left = by_units S n x left t left

@@ -41,7 +41,7 @@ equations_made X us vs =
     (and_then (bounded_items X) (λ items. bounded_terms (equations items us vs)))
     (Err Deep)
 
--- What stands for the places and the equations of a group is made even if no equation is left in which it occurs.
+-- The terms for the places and the equations of a group are made even if no equation is left in which they occur.
 abbrev pub group_made : (n number : ℕ) → Family → Constructor → (ps us vs : List Term) → Result (List Term) Stop
 group_made n number f c ps us vs =
     let ps' = lifted (length c.arguments) ps in

@@ -15,7 +15,7 @@ use Rattle.unification.specs.Records.{argument_items, family_items, constructor_
 abbrev pub lifted : (by : ℕ) → List Term → List Term
 lifted by terms = map (λ t. lift t by 0) terms
 
--- After the equations of the arguments, what proves each equation of the group: congs(I, D ps I; us_c, c ps Ac; es).
+-- After the equations of the arguments, the proof of each equation of the group: congs(I, D ps I; us_c, c ps Ac; es).
 abbrev pub group_proofs : (n number : ℕ) → Family → Constructor → (ps us vs : List Term) → List Term
 group_proofs n number f c ps us vs =
     let count = length c.arguments in

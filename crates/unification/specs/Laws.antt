@@ -1,4 +1,4 @@
--- What is to be proved of runs: they follow the rules, they end, they unify, and their ends have evidence.
+-- Laws of runs: they follow the rules, they end, they unify, and their ends have evidence.
 use Rattle.std.specs.Prelude.{◌≡◌, ◌≢◌, ℕ, ◌+◌, ◌<◌, ◌≤◌, false, None, Some, Ok, IfOk, IfSome, IsTrue, List, [], ◌∷◌, ◌++◌, length, map, slice_get, All, Result}
 use Rattle.theory.specs.Terms.{Term}
 use Rattle.theory.specs.Substitutions.{inst, fill}
@@ -125,7 +125,7 @@ SolvedIsUnified =
     ChainWith S (λ s step. IsScopedState S s × IsCoherent S s step) s steps t → t.equations ≡ [] →
     EachConverts S (under t.solution p.left) (under t.solution p.right)
 
--- The same of the run of a problem: each of its steps is coherent in the state that the steps before it lead to.
+-- If each step of a solved run is coherent in the state that the steps before it lead to, the problem is unified.
 abbrev pub RunUnifies : Type 0
 RunUnifies =
     (S : Signature) (p : Problem) (s : State) (left : ℕ) (steps : List Step) (context : Telescope) (solution : List Term) →
@@ -140,7 +140,7 @@ SolutionIsWhole =
     (unify_of S p left).0 ≡ Ok (Solved steps context solution) → length solution ≡ length p.context
 
 -- Where variable p is solved by a term without it, the other variables occur in the new context, each of them once, in an order in
--- which each type is over what comes before it.
+-- which each type is over the variables before it.
 pub record IsSolvedContext (S : Signature) (context new : Telescope) (p : ℕ) : Type 0 where
   pub shorter : length new + 1 ≡ length context
   pub each : (j : ℕ) → j < length context → j ≢ p →

@@ -1,5 +1,5 @@
--- Equations move after other variables than before, once others are solved. What stands for the variables of a context and of
--- the places or equations after it is given by levels.
+-- Equations move after other variables than before, once others are solved. The terms for the variables of a context and for
+-- the places or equations after it are given by levels.
 use Rattle.std.specs.Prelude.{ℕ, ◌+◌, ◌-◌, nat_lt, cond, List, [], ◌∷◌}
 use Rattle.theory.specs.Terms.{Term, lift}
 use Rattle.core_terms.specs.Levels.{variable}
@@ -11,8 +11,7 @@ use Rattle.unification.specs.States.{Equation}
 abbrev pub over_first : (n : ℕ) → List Term → Environment
 over_first n terms depth position = lift (term_at terms position) (depth - n) 0
 
--- What stands for n variables, for the first `count` places after them, and for the further places, which are from level
--- `new` on.
+-- n variables, then the first `count` places after them, then the further places, which are variables from level `new` on
 abbrev pub behind : (n count new : ℕ) (variables places : Environment) → Environment
 behind n count new variables places depth j =
     cond (nat_lt j n) (variables depth j)

@@ -1,4 +1,4 @@
--- What a run comes to.
+-- The outcome of a run.
 use Rattle.std.specs.Prelude.{List, [], ◌∷◌}
 use Rattle.theory.specs.Terms.{Term}
 use Rattle.theory.specs.Telescopes.{Telescope}
@@ -24,7 +24,7 @@ before step (Solved steps context solution) = Solved (step ∷ steps) context so
 before step (Absurd steps context left right) = Absurd (step ∷ steps) context left right
 before step (Stuck steps context left right why) = Stuck (step ∷ steps) context left right why
 
--- the same with several steps more
+-- an outcome with several steps before its own
 abbrev pub behind_steps : List Step → Outcome → Outcome
 behind_steps [] outcome = outcome
 behind_steps (step ∷ steps) outcome = before step (behind_steps steps outcome)

@@ -1,4 +1,4 @@
--- What a family's record brings at given parameters ps: the telescopes of the indices and of a constructor's arguments.
+-- The parts of a family's record at parameters ps: the telescopes of the indices and of a constructor's arguments.
 use Rattle.std.specs.Prelude.{ℕ, List, [], ◌∷◌, ◌++◌, length, map}
 use Rattle.theory.specs.Terms.{Term, Fam, Con}
 use Rattle.theory.specs.Substitutions.{inst, fill}

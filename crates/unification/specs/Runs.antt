@@ -1,4 +1,4 @@
--- Runs: turns from a state on, until one that is an end. `Run` says what a run is. `run_of` works it out, by a measure that falls at
+-- Runs: turns from a state on, until one that is an end. `Run` is the relation. `run_of` works it out, by a measure that falls at
 -- each turn: a turn that goes on spends units, or else solves a variable, or else makes the equations smaller.
 use Rattle.std.specs.Prelude.{◌≡◌, ℕ, zero, suc, ◌+◌, nat_lt, cond, Option, Some, None, List, [], ◌∷◌, length, Result, Ok, Err}
 use Rattle.theory.specs.Terms.{Term, Pi, Lam, App, Let}
@@ -45,7 +45,7 @@ size_of (App f a) = 1 + (size_of f + size_of a)
 size_of (Let a t b) = 1 + (size_of a + (size_of t + size_of b))
 size_of _ = 1
 
--- the same of the sides of equations
+-- the size of the sides of equations
 abbrev pub size_of_sides : List Equation → ℕ
 size_of_sides [] = 0
 size_of_sides (e ∷ equations) = size_of e.left + size_of e.right + size_of_sides equations
@@ -60,7 +60,7 @@ Going = State → ℕ → Spent Outcome
 abbrev pub nowhere : Going
 nowhere s left = answered (Err Deep) left
 
--- how a run goes on from s with `left` units to t with `rest`, by what has become less
+-- how a run goes on from s with `left` units to t with `rest`, by the measure that has become less
 abbrev pub by_measure : (units variables size : Going) → (s : State) (left : ℕ) → Going
 by_measure units variables size s left t rest =
     cond (nat_lt rest left) (units t rest)

@@ -36,7 +36,7 @@ pub record IsScopedState (S : Signature) (s : State) : Type 0 where
   pub equations : AreScopedEquations S (length s.context) 0 s.equations
   pub solution : All (IsScoped S (length s.context)) s.solution
 
--- what is asked of a signature: it is scoped, and it has the identity families
+-- the condition on a signature: it is scoped, and it has the identity families
 pub record IsReady (S : Signature) : Type 0 where
   pub scoped : IsScopedSignature S
   pub identities : HasAllIdentities S
@@ -61,7 +61,7 @@ pub record IsScopedStep (S : Signature) (n : ℕ) (step : Step) : Type 0 where
 abbrev pub IsScopedAt : Signature → State → Step → Type 0
 IsScopedAt S s step = IsScopedState S s × IsScopedStep S (length s.context) step
 
--- what a state comes to is scoped
+-- each turn of a state is scoped
 abbrev pub IsScopedTurn : Signature → State → Turn → Type 0
 IsScopedTurn S s Done = Unit {0}
 IsScopedTurn S s (Goes step t) = IsScopedStep S (length s.context) step × IsScopedState S t

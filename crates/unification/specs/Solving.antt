@@ -15,7 +15,7 @@ use Rattle.unification.specs.Moving.{over_first, behind, moved}
 abbrev pub reordered : (order : List ℕ) → Environment
 reordered order depth j = variable depth (place_in order j)
 
--- the same where u, a term of the n variables, stands for the one with level p
+-- the variables in a new order, with u, a term over the n variables, for the one with level p
 abbrev pub solved : (n : ℕ) (order : List ℕ) (p : ℕ) (u : Term) → Environment
 solved n order p u depth j = cond (j == p) (put (reordered order) n depth u) (reordered order depth j)
 

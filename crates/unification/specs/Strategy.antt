@@ -24,6 +24,6 @@ abbrev pub trials : Signature → State → List Equation → Trial
 trials S s [] = applies Done
 trials S s (e ∷ rest) = or_else (group_trials S s (length rest)) (first_trials S s e)
 
--- what a state comes to: with no equation left it is solved
+-- the turn of a state: with no equation left it is solved
 abbrev pub turn_of : Signature → State → Trial
 turn_of S s = trials S s s.equations

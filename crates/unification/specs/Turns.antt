@@ -12,8 +12,8 @@ use Rattle.kernel_reduce.specs.Tidying.{tidy_of}
 use Rattle.unification.specs.States.{State}
 use Rattle.unification.specs.declared.why.Why.{Why}
 
--- what a state comes to: it is solved; a step leads to the next state; a last step shows that it is absurd; or no rule goes on.
--- An end that is no solution has two sides to show.
+-- The turn of a state: it is solved; a step leads to the next state; a last step shows that it is absurd; or no rule applies. An end that
+-- is no solution has two sides to show.
 pub data Turn : Type 0 where
   Done : Turn
   Goes : Step → State → Turn

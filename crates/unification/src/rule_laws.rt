@@ -1,4 +1,4 @@
-//! The laws of rules: what turns and runs come to follows them.
+//! The laws of rules: turns and runs follow them.
 ghost use Rattle.unification.specs.Laws.{RunFollows, TurnFollows};
 
 /// A turn that goes on is a step of the rules, and one that fails has the evidence of a rule.

@@ -1,4 +1,4 @@
-//! From each state there is one run, and it ends; it gives no units back. What holds of each outcome. Searches end too.
+//! From each state there is one run, and it ends; it gives no units back. Properties of each outcome. Searches end too.
 ghost use Rattle.unification.specs.Laws.{TurnSpends, TurnIsThere, TurnFalls, RunsEnd, RunIsUnique, UnifySpends, NoDeletionWithoutK, SolutionIsWhole, SearchGoesOn};
 
 /// No turn gives units back.

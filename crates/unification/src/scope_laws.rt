@@ -1,4 +1,4 @@
-//! What is scoped: the states of runs, their turns and outcomes, and the context after a solution.
+//! Scoping: the states of runs, their turns and outcomes, and the context after a solution are scoped.
 ghost use Rattle.unification.specs.Laws.{OutcomeScoped, SolvedContext, StartScoped, TurnScoped};
 
 /// The state from which a scoped problem is solved.
@@ -6,7 +6,7 @@ pub fn start_scoped()
     ensures { StartScoped }
 {}
 
-/// What a scoped state comes to.
+/// Each turn of a scoped state.
 pub fn turn_scoped()
     ensures { TurnScoped }
 {}

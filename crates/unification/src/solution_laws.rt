@@ -6,7 +6,7 @@ pub fn solved_is_unified()
     ensures { SolvedIsUnified }
 {}
 
-/// The same of what the run of a problem answers.
+/// If the run of a problem answers that it is solved, the two sides of each equation convert under its solution.
 pub fn run_unifies()
     ensures { RunUnifies }
 {}
