@@ -1,4 +1,4 @@
--- What holds of answers and refusals, and of the units after them, where calls are one after the other.
+-- Properties of answers, of refusals and of the units after them, where calls are one after the other.
 use Rattle.std.proofs.Common.{ℕ, ◌≤◌, Result, Ok, Err, IfOk, arith}
 use Rattle.core_terms.specs.Answers.{SpentOr, and_next, on_answer}
 use Rattle.case_trees.specs.Stops.{TreeStop, Stopping}
@@ -13,7 +13,7 @@ pub and_next-spends : {A B E : Type 0} (first : SpentOr E A) (left : ℕ) (go : 
     → ((a : A) (next : ℕ) → (go a next).1 ≤ next) → (and_next first go).1 ≤ left
 and_next-spends first left go le h = on_answer-spends first.0 first.1 left go le h
 
--- what holds of an answer, or of a refusal
+-- a property of answers, and one of refusals
 abbrev pub Holds : {A : Type 0} → (A → Type 0) → (TreeStop → Type 0) → Result A TreeStop → Type 0
 Holds P Q (Ok a) = P a
 Holds P Q (Err e) = Q e
@@ -27,7 +27,7 @@ pub and_next-holds : {A B : Type 0} (P : A → Type 0) (R : B → Type 0) (Q : T
     → Holds P Q first.0 → ((a : A) (rest : ℕ) → P a → Holds R Q (go a rest).0) → Holds R Q (and_next first go).0
 and_next-holds P R Q first go h k = on_answer-holds P R Q first.0 first.1 go h (λ a p. k a first.1 p)
 
--- the same of answers alone
+-- a property of answers alone
 on_answer-ok : {A B E : Type 0} (P : A → Type 0) (R : B → Type 0) (r : Result A E) (rest : ℕ) (go : A → ℕ → SpentOr E B) → IfOk r P
     → ((a : A) → P a → IfOk (go a rest).0 R) → IfOk (on_answer r rest go).0 R
 on_answer-ok P R (Ok a) rest go h k = k a h
@@ -37,7 +37,7 @@ pub and_next-ok : {A B E : Type 0} (P : A → Type 0) (R : B → Type 0) (first 
     → ((a : A) (rest : ℕ) → P a → IfOk (go a rest).0 R) → IfOk (and_next first go).0 R
 and_next-ok P R first go h k = on_answer-ok P R first.0 first.1 go h (λ a p. k a first.1 p)
 
--- what holds of answers and refusals holds of answers alone
+-- a property of answers and refusals gives one of answers alone
 pub answer-of : {A : Type 0} (P R : A → Type 0) (Q : TreeStop → Type 0) (r : Result A TreeStop) → ((a : A) → P a → R a) → Holds P Q r → IfOk r R
 answer-of P R Q (Ok a) k h = k a h
 answer-of P R Q (Err e) k h = tt

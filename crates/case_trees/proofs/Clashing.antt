@@ -1,4 +1,4 @@
--- Where a clause clashes; what a clash shows is scoped.
+-- Where a clause clashes; the terms that a clash shows are scoped.
 use Rattle.std.proofs.Common.{◌≡◌, ℕ, Option, Some, None, List, ◌∷◌, All, ap, sym, ◌∙◌, refl, subst as transport, arith}
 use Rattle.std.proofs.lemmas.List.Elements.{All-head, All-tail}
 use Rattle.theory.specs.Terms.{Term, Con}

@@ -1,4 +1,4 @@
--- What a clause is compared with comes into the shared terms, and nothing is taken back.
+-- The head forms that a clause is compared with get into the shared terms, and none is taken back.
 use Rattle.std.proofs.Common.{◌≡◌, ℕ, true, Option, Some, None, List, [], ◌∷◌, refl, sym, ap, ◌∙◌, subst as transport}
 use Rattle.std.proofs.lemmas.Bool.{false≢true}
 use Rattle.theory.specs.Terms.{Term}

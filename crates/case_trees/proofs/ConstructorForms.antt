@@ -180,7 +180,7 @@ head-rests S g c rests = by (step_of S true g) refl
         let taken : step_of S true (App g c) ≡ Some (App h c) = ap (λ outer. application_step S g c outer (step_of S true c)) e in
         absurd (grind (arith, sym taken ∙ rests))
 
--- what rests is its own head form
+-- a term that takes no step is its own head form
 rests-alike : (S : Signature) (f g : Term) → step_of S true g ≡ None → HasAlike S f g → IsAlike f g
 rests-alike S f g rests h =
     transport (IsAlike f) (one-form S g h.form g h.head (record { reaches = here g; rests = rests })) h.alike
@@ -276,7 +276,7 @@ compared-alike S (suc room) = λ a b n number left e.
         (record { form = a; head = record { reaches = here a; rests = no-step S true a n number e }; alike = record { head = refl; count = refl } })
     by go a b n number left e false other = reduced go a b n number left e
 
--- what is found convertible to a constructor with all its arguments has that constructor
+-- a term that is found convertible to a constructor with all its arguments has that constructor
 pub convertible-has : (S : Signature) (room : ℕ) (a b : Term) (c : Built) (left : ℕ) → built_of S a ≡ Some c
     → IfOk (convertible_of S room a b left).0 (λ holds. holds ≡ true → HasConstructor S c.n c.number b)
 unfolding Compared

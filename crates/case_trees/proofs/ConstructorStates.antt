@@ -120,7 +120,7 @@ same-built S t b e = (b, (e, (refl, refl)))
 
 -- ---- a solution
 
--- what becomes of the terms of the state
+-- a term of the state after the solution
 abbrev Behind : State → (p : ℕ) (u : Term) → Term → Term
 Behind s p u = put (solved (length s.context) (order_without s.context p) p u) (length s.context) (length (order_without s.context p))
 

@@ -1,4 +1,4 @@
--- What holds of each state that a solution leads to, from what holds of the term that solves.
+-- A property of each state that a solution leads to, from one of the term that solves.
 use Rattle.std.proofs.Common.{◌≡◌, ℕ, Bool, true, false, cond, Option, Some, None, IfSome, Ok, IfOk, length, refl}
 use Rattle.theory.specs.Terms.{Term}
 use Rattle.theory.specs.Signatures.{Signature}

@@ -1,4 +1,4 @@
--- What holds of each state that a trial of unification leads to, from what holds of its parts. Nothing is said of ends and refusals.
+-- A property of each state that a trial of unification leads to, from those of its parts. Nothing is said of ends and refusals.
 use Rattle.std.proofs.Common.{◌≡◌, ℕ, ◌==◌, Bool, true, false, cond, Option, Some, None, IfSome, Result, Ok, Err, IfOk, refl, sym, subst as transport, arith}
 use Rattle.std.proofs.lemmas.Bool.{eqb-true}
 use Rattle.theory.specs.Terms.{Term}
@@ -55,7 +55,7 @@ pub goes_to-goes : (P : State → Type 0) (step : Step) (made : Result State Sto
 goes_to-goes P step (Ok t) left h = h
 goes_to-goes P step (Err e) left h = tt
 
--- what is made of a tidied term
+-- trials of a tidied term
 pub tidy-goes : (P : State → Type 0) (S : Signature) (t : Term) (left : ℕ) (go : Term → Trial)
     → ((u : Term) (rest : ℕ) → Reaches S t u → GoesWith P (go u) rest)
     → GoesWith P (λ left. and_next (tidy_of S left t) (λ u rest. go u rest)) left
@@ -120,7 +120,7 @@ right_head-goes S u v l (Some b) left form h =
           record { left = form; left_built = h b refl; right = other; right_built = is; family = sym (eqb-true d.n b.n fit) },
         )
 
--- what is made of the constructors on both sides
+-- trials of the constructors on both sides
 pub on_constructors-goes : (P : State → Type 0) (S : Signature) (fits : Built → Bool) (u v : Term)
     (go : (l : Term) (b : Built) (r : Term) (d : Built) → Trial) (left : ℕ)
     → ((l : Term) (b : Built) (r : Term) (d : Built) (rest : ℕ) → AreHeads S u v l b r d → GoesWith P (go l b r d) rest)

@@ -44,7 +44,7 @@ pub if_low-ok : {A : Type 0} (P : A → Type 0) (test : Bool) (next : ℕ → Sp
 if_low-ok P true next left h = h
 if_low-ok P false next left h = tt
 
--- what takes no step is its own head form
+-- a term that takes no step is its own head form
 pub rests-itself : (S : Signature) (delta : Bool) (left : ℕ) (t : Term) → step_of S delta t ≡ None → IfOk (whnf_of S delta left t).0 (λ w. w ≡ t)
 rests-itself S delta zero t e =
     if_low-ok (λ w. w ≡ t) (is_low t) _ zero (rw e refl)

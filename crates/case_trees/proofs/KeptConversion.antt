@@ -1,4 +1,4 @@
--- What is kept of a term converts to it.
+-- A term and its kept form convert.
 use Rattle.std.proofs.Common.{◌≡◌, true, Some, IfSome, List, ◌++◌, subst as transport}
 use Rattle.theory.specs.Terms.{Term, Con}
 use Rattle.theory.specs.Signatures.{Signature}

@@ -58,7 +58,7 @@ built-view S t b u h e = by (view S t t b u h (built-form S t b e) e)
 -- ---- further comparisons
 
 mutual
-  -- what is kept of what is kept is kept
+  -- keeping is transitive
   pub kept-trans : (S : Signature) (t u v : Term) → KeptFrom S t u → KeptFrom S u v → KeptFrom S t v
   kept-trans S _ _ v (same t) k = k
   kept-trans S t _ v (head _ w b us form e all) k =
@@ -71,7 +71,7 @@ mutual
   all-trans S _ _ _ none none = none
   all-trans S _ _ _ (more t u ts us h all) (more _ v _ vs k rest) = more t v ts vs (kept-trans S t u v h k) (all-trans S ts us vs all rest)
 
--- ---- what is apart stays apart
+-- ---- being apart is stable
 
 pub either-column : (a b c d : Bool) → (a ≡ true → c ≡ true) → (b ≡ true → d ≡ true) → (a || b) ≡ true → (c || d) ≡ true
 either-column true b c d first rest is = or_left c d (first refl)

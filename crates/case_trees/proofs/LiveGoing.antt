@@ -25,7 +25,7 @@ use Rattle.case_trees.proofs.Workings.{AllBecome}
 
 -- ---- working
 
--- clauses, and what becomes of them: those that clash go out
+-- clauses after working: those that clash go out
 pub data LiveBecome (S : Signature) : List Live → List Live → Type 0 where
   none : LiveBecome S [] []
   drops : (c : Live) (live others : List Live) (new : Pairs) → AllBecome S c.pairs new → some_clashes new ≡ true → LiveBecome S live others
@@ -33,7 +33,7 @@ pub data LiveBecome (S : Signature) : List Live → List Live → Type 0 where
   keeps : (c : Live) (live others : List Live) (new : Pairs) → AllBecome S c.pairs new → some_clashes new ≡ false → LiveBecome S live others
       → LiveBecome S (c ∷ live) (record { number = c.number; pairs = new } ∷ others)
 
--- the node after working: in the same context, with what becomes of the clauses
+-- the node after working: in the same context, with the clauses after it
 pub record IsWorkedTo (S : Signature) (p : Point) (live : List Live) (node : Node) : Type 0 where
   pub context : node.point.context ≡ p.context
   pub becomes : LiveBecome S live node.live

@@ -1,4 +1,4 @@
--- What holds of the looking for an open pair, where it holds of each look.
+-- A property of the search for an open pair, from that of each look.
 use Rattle.std.proofs.Common.{◌≡◌, ℕ, Option, Some, None, IfSome, Result, Ok, Err, List, [], ◌∷◌, refl, subst, arith}
 use Rattle.theory.specs.Terms.{Term, Var}
 use Rattle.theory.specs.Telescopes.{Telescope}
@@ -28,7 +28,7 @@ pub any-pairs : (pairs : List (Pat × Term)) → AllPairs (λ pair. Unit {0}) pa
 any-pairs [] = tt
 any-pairs (pair ∷ pairs) = (tt, any-pairs pairs)
 
--- what is found has P, and a run that is stuck may be answered
+-- a look that finds has P, and a stuck run may be answered
 abbrev pub LookHas : {A : Type 0} → (A → Type 0) → (TreeStop → Type 0) → (clause : ℕ) → Look A → Type 0
 LookHas P Q clause (Found a) = P a
 LookHas P Q clause (Passed r) = Q (stuck_at clause r)

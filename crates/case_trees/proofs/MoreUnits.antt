@@ -11,8 +11,8 @@ use Rattle.kernel_reduce.specs.Reduction.{if_low, charge, without_units, with_un
 use Rattle.kernel_reduce.specs.Steps.{step_of}
 use Rattle.unification.proofs.Cases.{below-or_from}
 
--- Two calls, of which the second one has so many units more: where the first one ends for another reason than want of them, so does
--- the second, with as many more left.
+-- Two calls, of which the second one has so many units more: unless the first one runs out of units, the second one ends alike, with as
+-- many more left.
 abbrev pub Lasts : {A E : Type 0} → (fuel : E) → (more : ℕ) → (first second : SpentOr E A) → Type 0
 Lasts fuel more first second = (first.0 ≡ Err fuel → ⊥) → second ≡ (first.0, first.1 + more)
 

@@ -1,4 +1,4 @@
--- With more units working and looking come to what they came to, unless there were too few.
+-- With more units working and looking come to the same, unless there were too few.
 use Rattle.std.proofs.Common.{ℕ, ◌+◌, true, false, Option, Some, None, List, [], ◌∷◌, length, refl, ap}
 use Rattle.theory.specs.Terms.{Term}
 use Rattle.theory.specs.Telescopes.{Telescope}

@@ -1,4 +1,4 @@
--- With more units a turn of unification comes to what it came to, unless there were too few.
+-- With more units a turn of unification comes to the same, unless there were too few.
 use Rattle.std.proofs.Common.{ℕ, zero, suc, ◌+◌, ◌==◌, Bool, true, false, cond, Option, Some, None, Result, List, [], ◌∷◌, length, take, slice_get, refl}
 use Rattle.theory.specs.Terms.{Term, Var}
 use Rattle.theory.specs.Signatures.{Signature}

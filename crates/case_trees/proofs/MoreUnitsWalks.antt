@@ -1,4 +1,4 @@
--- With more units a walk and a tree come to what they came to, unless there were too few; so there is one of each.
+-- With more units a walk and a tree come to the same, unless there were too few; so there is one of each.
 use Rattle.std.proofs.Common.{ℕ, zero, suc, ◌+◌, Option, Some, None, List, [], ◌∷◌, slice_get, refl}
 use Rattle.theory.specs.Terms.{Term}
 use Rattle.theory.specs.Telescopes.{Telescope}

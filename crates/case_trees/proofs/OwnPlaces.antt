@@ -34,7 +34,7 @@ pub is-none : (S : Signature) (t : Term) → HasNone S t → built_of S t ≡ No
 is-none S t h = no-built S t h.form h.reduces h.none
 
 abbrev mutual
-  -- what is still open asks for a constructor, and the head form of its term is none
+  -- a pair that is still open asks for a constructor, and the head form of its term is none
   pub IsWorked : Signature → Pair → Type 0
   IsWorked S (Waits pat t) = IsAsking pat × HasNone S t
   IsWorked S (Builds n number ps pairs) = AreWorked S pairs
@@ -156,7 +156,7 @@ mutual
       ap (in_arguments (all_dot_places S pats) []) e ∙ (ap (all_dot_places S pats) args ∙ all-dots S pats pairs shapes worked clean)
   dots S _ _ (shape.apart pat t far) worked clean = absurd (true≢false clean)
 
-  -- what is written at the dots, and the terms there
+  -- the written terms at the dots, and the terms there
   pub all-dots : (S : Signature) (pats : Pats) (pairs : Pairs) → HaveShapes S pats pairs → AreWorked S pairs → some_clashes pairs ≡ false
       → all_dot_places S pats (terms_in pairs) ≡ all_dots pairs
   all-dots S _ _ shape.none worked clean = refl

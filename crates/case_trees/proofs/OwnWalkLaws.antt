@@ -37,7 +37,7 @@ pub record IsOwn (S : Signature) (pats : Pats) (p : Point) (pairs : Pairs) : Typ
   pub terms : p.terms ≡ terms_in pairs
   pub shapes : HaveShapes S pats pairs
 
--- the same of pairs that are worked, where none clashes
+-- pairs of a clause's own walk that are worked, where none clashes
 pub record IsOwnWorked (S : Signature) (pats : Pats) (p : Point) (pairs : Pairs) : Type 0 where
   pub own : IsOwn S pats p pairs
   pub worked : AreWorked S pairs
@@ -69,7 +69,7 @@ own-moves S pats p pairs context solution h =
       shapes = moved-shapes S (fill no_variable solution) pats pairs h.shapes;
     }
 
--- ---- what is matched has no open pair
+-- ---- matched patterns have no open pair
 
 none-append : {A : Type 0} (xs ys : List A) → xs ≡ [] → ys ≡ [] → xs ++ ys ≡ []
 none-append xs ys e k = ap₂ (λ us vs. us ++ vs) e k

@@ -1,4 +1,4 @@
--- What is kept of scoped terms is scoped, and so is a point after a solution.
+-- Kept forms of scoped terms are scoped, and so is a point after a solution.
 use Rattle.std.proofs.Common.{◌≡◌, ℕ, zero, suc, true, Some, IfSome, List, [], ◌∷◌, ◌++◌, length, map, take, subst as transport}
 use Rattle.std.proofs.lemmas.List.Elements.{All-append, All-take, All-cons, All-head, All-tail, All-map, All-weaker}
 use Rattle.std.specs.List.{All}

@@ -51,7 +51,7 @@ mutual
       mapped-append S n (bound_in pair) (all_bound pairs) (bound-scoped S n pair (All-head (IsScoped S n) (term_in pair) (terms_in pairs) h))
       (all-bound-scoped S n pairs (All-tail (IsScoped S n) (term_in pair) (terms_in pairs) h))
 
--- what is written is over so many variables, and the term over n
+-- a written term over so many variables, and the term over n
 abbrev pub IsScopedDot : Signature → (binds n : ℕ) → (Term × Term) → Type 0
 IsScopedDot S binds n d = IsScoped S binds d.0 × IsScoped S n d.1
 
@@ -74,7 +74,7 @@ mutual
       (dots-scoped S n binds pat pair one p.0 (All-head (IsScoped S n) (term_in pair) (terms_in pairs) h))
       (all-dots-scoped S n binds pats pairs others p.1 (All-tail (IsScoped S n) (term_in pair) (terms_in pairs) h))
 
--- dots with the bindings put in what is written
+-- dots with the bindings put in the written term
 pub walked-scoped : (S : Signature) (n binds : ℕ) (bound : List (Option Term)) (written : List (Term × Term)) → All (IsScoped S n) (map or_none bound)
     → All (IsScopedDot S binds n) written → All (λ d. IsScoped S n d.0 × IsScoped S n d.1) (walked_dots bound written)
 walked-scoped S n binds bound [] all h = All-nil (λ d. IsScoped S n d.0 × IsScoped S n d.1)

@@ -110,7 +110,7 @@ mutual
       more pat pats (with_terms (inst s) pair) (all_with_terms (inst s) pairs) (inst s u) (map (inst s) us) (moved-kept S s closed pat pair u h)
       (all-moved-kept S s closed pats pairs us all)
 
--- ---- what is dropped is apart, and what is done is matched
+-- ---- dropped clauses are apart, and finished ones are matched
 
 pub all-long : (S : Signature) (pats : Pats) (pairs : Pairs) (us : List Term) → HaveKept S pats pairs us → is_as_long pats us ≡ true
 all-long S _ _ _ none = refl

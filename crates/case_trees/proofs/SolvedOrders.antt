@@ -16,7 +16,7 @@ at-among [] k j e = absurd (grind arith)
 at-among (t ∷ levels) zero j e = transport (λ i. is_among i (t ∷ levels) ≡ true) (some_is e) (among-own t levels)
 at-among (t ∷ levels) (suc k) j e = among-later j t levels (at-among levels k j e)
 
--- different numbers are told apart
+-- the test of equality fails at different numbers
 pub not-equal : (a b : ℕ) → (a ≡ b → ⊥) → (a == b) ≡ false
 not-equal a b other = by (a == b) refl
   where
@@ -63,7 +63,7 @@ split-place (x ∷ xs) ys (suc k) j e = by (split-place xs ys k j e)
     by (inl h) = inl h
     by (inr (i, place, there)) = inr (i, omega arith, there)
 
--- ---- what is not left out
+-- ---- positions that are kept
 
 from-each : (at count : ℕ) → IsFrom at (each_position (λ j. j) at count)
 from-each at zero = tt

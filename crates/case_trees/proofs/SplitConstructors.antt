@@ -1,4 +1,4 @@
--- After a solved problem an open pair with its variable has the constructor, and what was scoped is scoped again.
+-- After a solved problem an open pair with its variable has the constructor, and scoped terms are scoped again.
 use Rattle.std.proofs.Common.{◌≡◌, ℕ, Some, IfOk, List, [], ◌++◌, length, take, slice_get, sym, subst as transport, arith}
 use Rattle.std.proofs.lemmas.List.Elements.{All-append, All-take, All-cons, All-nil}
 use Rattle.std.specs.List.{All}

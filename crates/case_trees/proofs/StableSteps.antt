@@ -40,7 +40,7 @@ symbol-kept s (Let a t b) is = absurd is
 symbol-kept s (Const n) is = absurd is
 symbol-kept s (Fam n) is = absurd is
 
--- ---- what awaits its scrutinee takes no step itself
+-- ---- a term that awaits its scrutinee takes no step itself
 
 -- the head takes at least so many arguments before its scrutinee
 abbrev pub Takes : Signature → Term → ℕ → Type 0
@@ -127,7 +127,7 @@ takes-rests S delta (Con n number) h = absurd h
 
 -- ---- contractions
 
--- what is found is found in the instance too
+-- a found term is found in the instance too
 abbrev pub Keeps : (ℕ → Term) → Option Term → Option Term → Type 0
 Keeps s here there = IfSome here (λ u. there ≡ Some (inst s u))
 
@@ -293,7 +293,7 @@ awaits-length S (Const n) args others e = refl
 awaits-length S (Fam n) args others e = refl
 awaits-length S (Con n number) args others e = refl
 
--- the step of what awaits its scrutinee a, which steps to `inner`
+-- the step of a term that awaits its scrutinee a, which steps to `inner`
 scrutinee-kept : (S : Signature) (delta : Bool) (s : ℕ → Term) (f a : Term) (inner : Option Term) → Keeps s inner (step_of S delta (inst s a))
     → (head_of (inst s f) ≡ head_of f) × (spine_of (inst s f) ≡ map (inst s) (spine_of f))
     → Keeps s (scrutinee_step f inner (contraction S (head_of f) (spine_of f) (head_of a) (spine_of a)))

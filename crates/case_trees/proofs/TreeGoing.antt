@@ -57,7 +57,7 @@ looks-for S clause p pairs = λ pair x left o tidy.
     by pair x found at (Found runs) has = record { pair = pair; at = at; runs = has }
     by pair x found at (Passed r) has = tt
 
--- ---- what is left in a branch
+-- ---- patterns that are left in a branch
 
 -- however the clauses are worked, at most so many patterns are left
 abbrev LeaveAtMost : Signature → List Live → ℕ → Type 0

@@ -1,4 +1,4 @@
--- Where a tree is split, and what ends it there: it is scoped, and has its cause at the clause that asks.
+-- Where a tree is split, and the end of it there, which is scoped and has its cause at the clause that asks.
 use Rattle.std.proofs.Common.{◌≡◌, ℕ, ◌+◌, option_and_then, List, length, sym, ap, ◌∙◌, subst as transport, arith}
 use Rattle.theory.specs.Terms.{Term, Var}
 use Rattle.theory.specs.Signatures.{Signature}
@@ -28,7 +28,7 @@ use Rattle.case_trees.proofs.TidiedSteps.{tidied-none}
 use Rattle.case_trees.proofs.WalkLooks.{LookedAt, type-holds}
 use Rattle.case_trees.proofs.WalkStanding.{IsAt, IsSplit, looked-split, problem-outcome, type-there, head-form-of, tidied-form, tidied-scoped, no-variable, IsOpenIn}
 
--- what ends the tree is scoped and has its cause
+-- the end of the tree is scoped and has its cause
 pub record IsTreeEnd (S : Signature) (start : Point) (clauses : Clauses) (e : TreeStop) : Type 0 where
   pub scoped : IsScopedStop S e
   pub caused : TreeCause S start clauses e

@@ -1,4 +1,4 @@
--- Leaves are matched by their clauses and apart from earlier ones; what is uncovered is apart from every clause.
+-- Leaves are matched by their clauses and apart from earlier ones; terms that are uncovered are apart from every clause.
 use Rattle.std.proofs.Common.{◌≡◌, ℕ, zero, suc, ◌+◌, ◌<◌, Bool, true, false, ◌&&◌, cond, Some, None, Result, Ok, Err, IfOk, List, [], ◌∷◌, map, refl, sym, ap, ◌∙◌, subst as transport, arith}
 use Rattle.theory.specs.Terms.{Term}
 use Rattle.theory.specs.Substitutions.{inst}
@@ -48,7 +48,7 @@ use Rattle.case_trees.proofs.Comparing.{all-compare}
 use Rattle.case_trees.proofs.LeftClauses as clauses_left
 use Rattle.case_trees.proofs.LeftClauses.{AreLeft, all-left, left-on, left-moved, none-left, first-left, same-patterns}
 
--- what is uncovered is apart from every clause
+-- terms that are uncovered are apart from every clause
 abbrev pub UncoveredApart : Signature → Clauses → TreeStop → Type 0
 UncoveredApart S clauses (stop.Uncovered context terms) = AllApart S clauses terms
 UncoveredApart S clauses _ = Unit {0}

@@ -129,10 +129,10 @@ dropped : split_of (sample false) (Fam 49 ∷ []) Nat (Var 0 ∷ []) (clauses (a
 unfolding native.Mathlib.Decide.ℕ_discrete sample
 dropped = refl
 
--- ---- what clauses were compared with stays in the terms
+-- ---- terms keep the head forms that clauses were compared with
 
--- f _ v, f zero _, f n (u zero): after u the second clause is compared with `up k`, for two units. The third one binds `up k` as
--- it is, and leaves the vector that is shown.
+-- f _ v, f zero _, f n (u zero): after u the second clause is compared with `up k`, for two units. The third one binds `up k` as it is,
+-- and leaves the argument list that is shown.
 kept : split_of (sample false) (Nat ∷ U (Var 0) ∷ []) Nat (Var 1 ∷ Var 0 ∷ [])
     (clauses
     (a_clause (Wild ∷ Con 51 1 (vector []) ∷ []) 0
@@ -143,7 +143,7 @@ kept : split_of (sample false) (Nat ∷ U (Var 0) ∷ []) Nat (Var 1 ∷ Var 0 �
 unfolding native.Mathlib.Decide.ℕ_discrete sample
 kept = refl
 
--- the same with u _ in the third clause: its leaf has the terms as they were compared, and the binding as it is
+-- with u _ in the third clause, its leaf has the terms as they were compared, and the binding as it is
 bound_as_it_stands : split_of (sample false) (Nat ∷ U (Var 0) ∷ []) Nat (Var 1 ∷ Var 0 ∷ [])
     (clauses
     (a_clause (Wild ∷ Con 51 1 (vector []) ∷ []) 0

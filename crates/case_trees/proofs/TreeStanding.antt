@@ -65,7 +65,7 @@ use Rattle.case_trees.proofs.ScopedPoints.{all-kept-scoped, moved-scoped, all-un
 use Rattle.case_trees.proofs.ScopedWalks.{all-bound-scoped}
 use Rattle.case_trees.proofs.ScopedWorking.{waiting-scoped, all-become-scoped}
 
--- what is known of a point and of the clauses that are left there
+-- a scoped point, to which the start leads, and the clauses that are left there
 record IsReadyAt (S : Signature) (start : Point) (clauses : Clauses) (p : Point) (live : List Live) : Type 0 where
   left : AreLeft S 0 clauses live p.terms
   leads : Leads S start p
@@ -179,7 +179,7 @@ solved-ready S start clauses p live x found number c steps context solution read
 
 -- ---- branches
 
--- what is over the point, whatever its terms were before they were compared
+-- the tree is over the point, whatever its terms were before they were compared
 abbrev StandsFor : Signature → (start : Point) → Clauses → Point → Tree → Type 0
 StandsFor S start clauses p t =
     ((ts : List Term) → EachConverts S ts p.terms → StandsAt S (record p { terms = ts }) t)

@@ -91,7 +91,7 @@ is-absurd pattern.Bind asks other = absurd asks
 is-absurd pattern.Wild asks other = absurd asks
 is-absurd (pattern.Dot written) asks other = absurd asks
 
--- what ends the walk is scoped and has its cause
+-- the end of the walk is scoped and has its cause
 pub record IsEndedBy (S : Signature) (start : Point) (clause : ℕ) (pats : Pats) (e : TreeStop) : Type 0 where
   pub scoped : IsScopedStop S e
   pub caused : WalkCause S start clause pats e

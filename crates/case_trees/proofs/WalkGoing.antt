@@ -70,7 +70,7 @@ record LeavesFewer (S : Signature) (n : ℕ) (pairs : Pairs) (k : ℕ) : Type 0 
   some : 1 ≤ k
   falls : (new : Pairs) → AllBecome S pairs new → some_clashes new ≡ false → suc (all_left new) ≤ k
 
--- What a walk leads to from worked pairs; nothing is said of what ends it.
+-- A walk goes on from worked pairs to fewer patterns; nothing is said of its end.
 abbrev leading : Signature → Pairs → Claims
 leading S pairs = record {
   Before = λ next moved. IsScopedTelescope S 0 next.context × LeavesFewer S (length next.context) moved (all_left pairs);

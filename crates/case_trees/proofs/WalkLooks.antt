@@ -1,4 +1,4 @@
--- What a look of a walk leads to, where it is known of each problem's outcome.
+-- A property of each look of a walk, from one of each problem's outcome.
 use Rattle.std.proofs.Common.{◌≡◌, ℕ, Bool, true, false, ◌&&◌, ◌==◌, ◌+◌, cond, Option, Some, None, option_and_then, Result, Ok, Err, List, slice_get, refl, sym, ap, ◌∙◌, subst, arith}
 use Rattle.theory.specs.Terms.{Term, Var}
 use Rattle.theory.specs.Telescopes.{Telescope}
@@ -51,7 +51,7 @@ other-tried pattern.Wild number other = tt
 other-tried (pattern.Dot written) number other = tt
 other-tried pattern.Absurd number other = tt
 
--- what is known of the type of a variable, and of each outcome
+-- properties of the type of a variable, and of each outcome
 pub record Outcomes (S : Signature) (clause : ℕ) (C : Claims) : Type 0 where
   pub halts : (e : Stop) → C.Cause (Halts e)
   pub wrong : (p : Point) (pairs : Pairs) (pair : Pat × Term) (x : ℕ) (type : Term) → C.Then p pairs → C.Open p pair → TidiesTo S pair.1 (Var x)
@@ -115,7 +115,7 @@ expected-member S pat (Some d) m e =
     same-member (pattern.Con n number pats) d m e = tested (d.n == n) d m e
     same-member pattern.Absurd d m e = some_is e
 
--- the type of an open pair's variable: what is found, or WrongConstructor
+-- the type of an open pair's variable: the found family, or WrongConstructor
 pub type-holds : (S : Signature) (clause : ℕ) (O : (Pat × Term) → Type 0) (Q : TreeStop → Type 0) (context : Telescope) (pair : Pat × Term) (x left : ℕ)
     → ((e : Stop) → Q (Halts e)) → O pair → TidiesTo S pair.1 (Var x)
     → ((type : Term) → ReducesTo S (type_of_variable context x) type → option_and_then (if_expected pair.0) (member_of S type) ≡ None

@@ -1,4 +1,4 @@
--- Own walks of clauses, as they are worked by hand. What is refused has its data, and the units are given.
+-- Own walks of clauses, as they are worked by hand. Refusals have their data, and the units are given.
 use native.Mathlib.Decide.{ℕ_discrete}
 use Rattle.std.proofs.Common.{◌≡◌, ℕ, false, true, Ok, Err, List, [], ◌∷◌, refl}
 use Rattle.theory.specs.Terms.{Term}
@@ -129,8 +129,8 @@ passed_on : walk (Nat ∷ equation 0 Nat (pred (Var 0)) zero_term ∷ []) (Var 0
 unfolding native.Mathlib.Decide.ℕ_discrete sample
 passed_on = refl
 
--- cons n x xs at a vector of length pred m is stuck, for two units, and ( ) ends the walk. So n, x and xs have no term, and the dot
--- that mentions x is not kept.
+-- cons n x xs at a Vec of length pred m is stuck, for two units, and ( ) ends the walk. So n, x and xs have no term, and the dot that
+-- mentions x is not kept.
 unbound : walk (Nat ∷ Vec Nat (pred (Var 0)) ∷ Nat ∷ Nat ∷ Fam 0 ∷ []) (Var 4 ∷ Var 3 ∷ Var 2 ∷ Var 1 ∷ Var 0 ∷ [])
     (Bind ∷ Con 47 1 (vector (Bind ∷ Bind ∷ Bind ∷ [])) ∷ Dot (Var 3) ∷ Dot (Var 1) ∷ pattern.Absurd ∷ []) 4 20
     ≡ answers

@@ -143,7 +143,7 @@ all-open-in S n pats pairs shapes worked scoped =
     (pairs-both (λ o. SomeOpenAt S pats (terms_in pairs) o.0 o.1) (λ o. IsAsking o.0 × HasNone S o.1) (all_open pairs)
     (some-open S pats pairs shapes worked) (open-asks S pairs worked)))
 
--- ---- what clashes nowhere is not apart
+-- ---- pairs without a clash are not apart
 
 asking-apart : (S : Signature) (pat : Pat) (t : Term) → IsAsking pat → built_of S t ≡ None → is_apart S pat t ≡ false
 asking-apart S (pattern.Con n number pats) t asks e = ap (is_apart_from n number pats (has_apart S pats)) e
@@ -189,7 +189,7 @@ pub record IsAt (S : Signature) (start p : Point) : Type 0 where
   pub node : IsNode S start (record p { terms = plain })
   pub converts : EachConverts S plain p.terms
 
--- what is known of a walk at a point
+-- a point of a walk is scoped, and solved problems lead to it
 pub record IsStanding (S : Signature) (start p : Point) : Type 0 where
   pub scoped : IsScopedPoint S p
   pub at : IsAt S start p

@@ -1,4 +1,4 @@
--- What holds of a walk, where it holds of each of its turns.
+-- A property of a walk, from one of each of its turns.
 use Rattle.std.proofs.Common.{◌≡◌, ℕ, zero, suc, Bool, true, false, ◌&&◌, cond, Option, Some, None, Result, Ok, Err, IfOk, List, [], ◌∷◌, map, refl, subst, arith}
 use Rattle.theory.specs.Terms.{Term}
 use Rattle.theory.specs.Signatures.{Signature}
@@ -39,7 +39,7 @@ mutual
       neither None other e = (refl, e)
       neither (Some a) other e = absurd (grind arith)
 
--- What holds before the pairs are worked, what holds then, what holds of the walk and of what ends it; and of each open pair.
+-- Properties: before the pairs are worked, when they are worked, of the walk, of its end, and of each open pair.
 pub record Claims : Type 1 where
   pub Before : Point → Pairs → Type 0
   pub Then : Point → Pairs → Type 0
@@ -47,7 +47,7 @@ pub record Claims : Type 1 where
   pub Cause : TreeStop → Type 0
   pub Open : Point → (Pat × Term) → Type 0
 
--- what a turn leads to
+-- a property of each turn
 abbrev pub TurnHas : Claims → Point → Pairs → Turn → Type 0
 TurnHas C p pairs (Goes next moved) = C.Before next moved
 TurnHas C p pairs Ends = C.Good (walk_at p pairs)

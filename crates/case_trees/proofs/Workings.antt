@@ -1,4 +1,4 @@
--- What working makes of pairs, without units.
+-- The pairs that result from working, without units.
 use Rattle.std.proofs.Common.{◌≡◌, ℕ, nat_le, Bool, true, false, cond, Option, Some, None, Result, Ok, Err, IfOk, List, [], ◌∷◌, length, refl}
 use Rattle.theory.specs.Terms.{Term, height}
 use Rattle.theory.specs.Signatures.{Signature}
@@ -44,7 +44,7 @@ mutual
         → WorkAll S (pattern.cons pat pats) (t ∷ terms) (cons pair (waiting pats terms))
 
 mutual
-  -- a pair, and what it comes to
+  -- a pair, and the pair that it becomes
   pub data Becomes (S : Signature) : Pair → Pair → Type 0 where
     worked : (pat : Pat) (t : Term) (pair : Pair) → Works S pat t pair → Becomes S (Waits pat t) pair
     inside : (n number : ℕ) (ps : List Term) (pairs new : Pairs) → AllBecome S pairs new → Becomes S (Builds n number ps pairs) (Builds n number ps new)
@@ -59,7 +59,7 @@ mutual
         → AllBecome S (cons pair pairs) (cons new others)
     ends : (pair new : Pair) (pairs : Pairs) → Becomes S pair new → clashes new ≡ true → AllBecome S (cons pair pairs) (cons new pairs)
 
--- ---- what is worked out is so
+-- ---- calls with units give these results
 
 reduces : (S : Signature) (t : Term) (left : ℕ) → IfOk (whnf_of S true left t).0 (λ w. ReducesTo S t w)
 reduces S t left = by (whnf_of S true left t).0 refl
@@ -68,7 +68,7 @@ reduces S t left = by (whnf_of S true left t).0 refl
     by (Ok w) e = record { units = left; run = e }
     by (Err e) h = tt
 
--- and so is what is compared
+-- and so are compared terms
 head-reduces : (S : Signature) (room left : ℕ) (t : Term) → IfOk (compared_head S room left t).0 (λ w. ReducesTo S t w)
 head-reduces S room left t =
     and_next-ok (ReducesTo S t) (ReducesTo S t) (whnf_of S true left t) _ (reduces S t left) (λ w rest h. by w h (built_of S w))

@@ -1,4 +1,4 @@
--- What each refusal of a walk or a tree has as its cause.
+-- The cause of each refusal of a walk or a tree.
 use Rattle.std.specs.Prelude.{◌≡◌, ◌≢◌, ℕ, true, false, None, Some, List, ◌∷◌, slice_get}
 use Rattle.theory.specs.Terms.{Term, Var, Con}
 use Rattle.theory.specs.Telescopes.{Telescope}
@@ -45,7 +45,7 @@ IsOwnNumber pat number = Unit {0}
 abbrev pub IsAnyNumber : Pat → ℕ → Type 0
 IsAnyNumber pat number = Unit {0}
 
--- What may end the tree of clauses as well as the walk of one, at a clause with this number and these patterns.
+-- The ends of the tree of clauses and of the walk of one, at a clause with this number and these patterns.
 pub data CommonCause (S : Signature) (Tried : Pat → ℕ → Type 0) (start : Point) (clause : ℕ) (pats : Pats) : TreeStop → Type 0 where
   -- units or heights ran out
   halts : (e : Stop) → CommonCause S Tried start clause pats (stop.Halts e)
@@ -78,7 +78,7 @@ mutual
     there : (pat : Pat) (pats : Pats) (t : Term) (terms : List Term) (u v : Term) → SomeClashAt S pats terms u v
         → SomeClashAt S (pattern.cons pat pats) (t ∷ terms) u v
 
--- What may end the walk of a clause with these patterns.
+-- The ends of the walk of a clause with these patterns.
 pub data WalkCause (S : Signature) (start : Point) (clause : ℕ) (pats : Pats) : TreeStop → Type 0 where
   common : (e : TreeStop) → CommonCause S IsOwnNumber start clause pats e → WalkCause S start clause pats e
   -- the constructor that the clause asks for can't be there
@@ -100,7 +100,7 @@ abbrev pub AllApart : Signature → Clauses → List Term → Type 0
 AllApart S clause.nil terms = Unit {0}
 AllApart S (clause.cons (Is pats binds right) clauses) terms = (are_apart S pats terms ≡ true) × AllApart S clauses terms
 
--- What may end the tree of clauses.
+-- The ends of the tree of clauses.
 pub data TreeCause (S : Signature) (start : Point) (clauses : Clauses) : TreeStop → Type 0 where
   -- at a clause of the list
   common : (number binds : ℕ) (pats : Pats) (right : Right) (e : TreeStop) → clause_at clauses number ≡ Some (Is pats binds right)

@@ -1,5 +1,5 @@
--- What the comparisons of clauses leave in the terms that all clauses of a list share: at each place where a clause was compared
--- with a constructor, the head form that was compared.
+-- The comparisons of clauses change the terms that all clauses of a list share: at each place where a clause was compared with a
+-- constructor they leave the head form that was compared.
 use Rattle.std.specs.Prelude.{Option, Some, None, List, ◌∷◌, ◌++◌}
 use Rattle.theory.specs.Terms.{Term, Con}
 use Rattle.theory.specs.Telescopes.{applied}

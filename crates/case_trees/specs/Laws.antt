@@ -1,4 +1,4 @@
--- What holds of walks and trees, however they are found.
+-- Laws of walks and trees, however they are found.
 use Rattle.std.specs.Prelude.{◌≡◌, ◌≢◌, ℕ, ◌+◌, ◌-◌, ◌<◌, ◌≤◌, true, false, Some, Ok, Err, IfOk, List, length, map, take, slice_get, All}
 use Rattle.theory.specs.Terms.{Term, Var}
 use Rattle.theory.specs.Substitutions.{inst}
@@ -37,21 +37,21 @@ use Rattle.case_trees.specs.Kept.{KeptAll}
 use Rattle.case_trees.specs.Asking.{SomeOpenAt}
 use Rattle.case_trees.specs.Causes.{WalkCause, TreeCause}
 
--- ---- what is asked
+-- ---- conditions
 
 -- a context, a goal and the terms of columns, over a signature
 pub record IsGiven (S : Signature) (context : Telescope) (goal : Term) (terms : List Term) : Type 0 where
   pub ready : IsReady S
   pub scoped : IsScopedPoint S (start_at context goal terms)
 
--- the walk of a clause, with a condition and what holds of it then
+-- the walk of a clause, with a condition and a property under it
 abbrev pub OfWalk : ((S : Signature) → (start : Point) → (number : ℕ) → (pats : Pats) → (w : Walk) → Type 0) → Type 0
 OfWalk Holds =
     (S : Signature) (context : Telescope) (goal : Term) (terms : List Term) (pats : Pats) (binds : ℕ) (right : Right) (number left : ℕ) →
     IsGiven S context goal terms → IsClauseFor S terms pats binds →
     IfOk (own_walk_of S context goal terms (Is pats binds right) number left).0 (Holds S (start_at context goal terms) number pats)
 
--- the same of the tree of clauses
+-- a property of the tree of clauses
 abbrev pub OfTree : ((S : Signature) → (start : Point) → (clauses : Clauses) → (t : Tree) → Type 0) → Type 0
 OfTree Holds =
     (S : Signature) (context : Telescope) (goal : Term) (terms : List Term) (clauses : Clauses) (left : ℕ) →
@@ -78,7 +78,7 @@ WalkGoesOn =
     AreScopedPairs S (length p.context) binds pairs →
     walk_from S number p pairs left ≡ walk.one_turn S number (walk_from S number) p pairs left
 
--- The same of a tree in each of its branches.
+-- A tree goes on as it began in each of its branches: its measure is never used up.
 abbrev pub TreeGoesOn : Type 0
 TreeGoesOn =
     (S : Signature) (p : Point) (live : List Live) (left : ℕ) → IsReady S → IsScopedPoint S p →
@@ -87,7 +87,7 @@ TreeGoesOn =
 
 -- ---- units
 
--- If a walk does not end for want of units, then with more units it comes to the same, and as many more are left.
+-- If a walk does not run out of units, then with more units it comes to the same, and as many more are left.
 abbrev pub WalkWithMoreUnits : Type 0
 WalkWithMoreUnits =
     (S : Signature) (context : Telescope) (goal : Term) (terms : List Term) (c : Clause) (number left more : ℕ) →
@@ -216,7 +216,7 @@ WalkEnds = OfWalk (λ S start number pats w. IsWalkEnd S pats w)
 abbrev pub WalkBinds : Type 0
 WalkBinds = OfWalk (λ S start number pats w. all_variable_places S pats w.terms ≡ w.binds)
 
--- The dots that are kept are those that the terms reach and that mention no variable without a term: what is written, with the
+-- The dots that are kept are those that the terms reach and that mention no variable without a term: the written term, with the
 -- bindings for the clause's variables, and the term there.
 abbrev pub WalkKeepsDots : Type 0
 WalkKeepsDots = OfWalk (λ S start number pats w. w.dots ≡ walked_dots (all_variables_found S pats w.terms) (all_dot_places S pats w.terms))
@@ -264,7 +264,7 @@ WalkCaused =
     (own_walk_of S context goal terms (Is pats binds right) number left).0 ≡ Err e →
     WalkCause S (start_at context goal terms) number pats e
 
--- A tree is never Impossible or NotAbsurd. What is uncovered is apart from every clause, at a point of the tree.
+-- A tree is never Impossible or NotAbsurd. Terms that are uncovered are apart from every clause, at a point of the tree.
 abbrev pub TreeCaused : Type 0
 TreeCaused =
     (S : Signature) (context : Telescope) (goal : Term) (terms : List Term) (clauses : Clauses) (left : ℕ) (e : TreeStop) →

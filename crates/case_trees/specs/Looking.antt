@@ -27,7 +27,7 @@ pub record StuckRun : Type 0 where
   pub right : Term
   pub why : Why
 
--- what an open pair with a variable comes to: the walk or the tree goes on there, or a run is stuck and the pair is passed on
+-- a look at an open pair with a variable: the walk or the tree goes on there, or a run is stuck and the pair is passed on
 pub data Look (A : Type 0) : Type 0 where
   Found : A → Look A
   Passed : StuckRun → Look A
@@ -58,7 +58,7 @@ at_open clause context look further pat u None stuck forced left =
 at_open clause context look further pat u (Some x) stuck forced left =
     and_next (look pat x left) (behind_look clause further stuck forced)
 
--- Each open pair is tidied when it is reached. `look` says what comes of one whose tidied term is a variable.
+-- Each open pair is tidied when it is reached. `look` gives the result for one whose tidied term is a variable.
 abbrev pub first_found : {A : Type 0} → Signature → (clause : ℕ) → Telescope → (look : Pat → ℕ → ℕ → Stopping (Look A)) → List (Pat × Term) → Further A
 first_found S clause context look [] stuck forced left = answers (Err (none_found stuck forced)) left
 first_found S clause context look (pair ∷ pairs) stuck forced left =

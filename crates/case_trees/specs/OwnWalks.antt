@@ -66,7 +66,7 @@ abbrev pub absurd_outcome : (clause n : ℕ) → Look (List Ran) → Result (Loo
 absurd_outcome clause n (Found runs) = no_constructor clause n (first_solved 0 runs)
 absurd_outcome clause n (Passed r) = Ok (Passed r)
 
--- what an open pair of the pattern and variable x comes to
+-- the look at an open pair of the pattern and variable x
 abbrev pub run_pattern : Signature → (clause : ℕ) → Point → Pairs → (x : ℕ) → Looked → Pat → ℕ → Stopping (Look Turn)
 run_pattern S clause p pairs x found (pattern.Con n number pats) left =
     run_own S clause p pairs x found number (slice_get found.member.family.constructors number) left
@@ -91,7 +91,7 @@ mentions_unbound [] t = false
 mentions_unbound (None ∷ bound) t = has_variable (length bound) t || mentions_unbound bound t
 mentions_unbound (Some u ∷ bound) t = mentions_unbound bound t
 
--- the dots, each with the clause's variables put in what is written; those that mention a variable without a term are not kept
+-- the dots, each with the clause's variables put in the written term; those that mention a variable without a term are not kept
 abbrev pub walked_dots : List (Option Term) → List (Term × Term) → List (Term × Term)
 walked_dots bound [] = []
 walked_dots bound (d ∷ dots) =

@@ -94,7 +94,7 @@ abbrev mutual
   all_unbound (pattern.cons pat pats) = unbound pat ++ all_unbound pats
 
 abbrev mutual
-  -- the terms of the clause's variables, in the order of the text; None where a variable has no term yet
+  -- the terms of the clause's variables, in the order in which they are written; None if a variable has no term yet
   pub bound_in : Pair → List (Option Term)
   bound_in (Waits pat t) = unbound pat
   bound_in (Binds t) = Some t ∷ []
@@ -107,7 +107,7 @@ abbrev mutual
   all_bound (cons pair pairs) = bound_in pair ++ all_bound pairs
 
 abbrev mutual
-  -- the dots that are kept, from the left: what is written, and the term that it is to be
+  -- the dots that are kept, from the left: the written term, and the term that it is to be
   pub dots_in : Pair → List (Term × Term)
   dots_in (Keeps written t) = (written, t) ∷ []
   dots_in (Builds n number ps pairs) = all_dots pairs
@@ -118,7 +118,7 @@ abbrev mutual
   all_dots (cons pair pairs) = dots_in pair ++ all_dots pairs
 
 abbrev mutual
-  -- the same pairs, with `f` of each term of the context
+  -- the pair with `f` of each term of the context
   pub with_terms : (f : Term → Term) → Pair → Pair
   with_terms f (Waits pat t) = Waits pat (f t)
   with_terms f (Binds t) = Binds (f t)

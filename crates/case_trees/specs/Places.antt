@@ -10,7 +10,7 @@ use Rattle.unification.specs.Built.{Built, built_of}
 use Rattle.case_trees.specs.Pairs.{all_unbound}
 use Rattle.case_trees.specs.OwnWalks.{or_none}
 
--- what is found in the arguments of a constructor, and what else where the term is none
+-- found values in the arguments of a constructor, and others if the term is none
 abbrev pub in_arguments : {A : Type 0} → (find : List Term → List A) → (else_found : List A) → Option Built → List A
 in_arguments find else_found None = else_found
 in_arguments find else_found (Some b) = find b.arguments
@@ -29,7 +29,7 @@ abbrev mutual
   all_variable_places S _ _ = []
 
 abbrev mutual
-  -- The same with None where there is none.
+  -- The terms of the variables, with None for a variable that has none.
   pub variables_found : Signature → Pat → Term → List (Option Term)
   variables_found S pattern.Bind t = Some t ∷ []
   variables_found S (pattern.Con n number pats) t = in_arguments (all_variables_found S pats) (all_unbound pats) (built_of S t)
@@ -40,7 +40,7 @@ abbrev mutual
   all_variables_found S _ _ = []
 
 abbrev mutual
-  -- what is written at each dot of a pattern, and the term there
+  -- the written term at each dot of a pattern, and the term there
   pub dot_places : Signature → Pat → Term → List (Term × Term)
   dot_places S (pattern.Dot written) t = (written, t) ∷ []
   dot_places S (pattern.Con n number pats) t = in_arguments (all_dot_places S pats) [] (built_of S t)

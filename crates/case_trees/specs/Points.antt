@@ -51,7 +51,7 @@ moved_pairs solution pairs = all_with_terms (under_solution solution) pairs
 abbrev pub bounded_pairs : Pairs → Result Pairs Stop
 bounded_pairs pairs = cond (are_low_pairs pairs) (Ok pairs) (Err Deep)
 
--- What an outcome solves for the variables of the point; it has terms for the arguments of a constructor after them.
+-- An outcome's solution for the variables of the point; the terms for the arguments of a constructor come after it.
 abbrev pub solution_for : Point → List Term → List Term
 solution_for p solution = take (length p.context) solution
 

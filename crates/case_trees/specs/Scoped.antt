@@ -1,4 +1,4 @@
--- What is scoped: points, patterns with their terms, walks, trees.
+-- Scoping: of points, patterns with their terms, walks and trees.
 use Rattle.std.specs.Prelude.{◌≡◌, ℕ, ◌+◌, ◌<◌, true, List, length, All}
 use Rattle.theory.specs.Terms.{Term}
 use Rattle.theory.specs.Telescopes.{Telescope}
@@ -105,7 +105,7 @@ abbrev mutual
       HasScopedSteps S n steps × IsScopedTelescope S 0 context × IsScoped S (length context) u × IsScoped S (length context) v
   IsScopedBranch S n (tree.Solved steps origins subtree) = HasScopedSteps S n steps × IsScopedTree S subtree
 
--- what ends a walk or a tree
+-- the end of a walk or a tree is scoped
 abbrev pub IsScopedStop : Signature → TreeStop → Type 0
 IsScopedStop S (stop.Stuck number context u v why) =
     IsScopedTelescope S 0 context × IsScoped S (length context) u × IsScoped S (length context) v

@@ -14,7 +14,7 @@ use Rattle.case_trees.specs.Asking.{Asks}
 use Rattle.case_trees.specs.Places.{clause_at}
 use Rattle.case_trees.specs.Points.{Point}
 
--- what may hold of a split: its context, the variable, and the number of its family
+-- a property of a split: of its context, the variable, and the number of its family
 abbrev pub SplitProperty : Type 1
 SplitProperty = (context : Telescope) → (x n : ℕ) → Type 0
 

@@ -1,5 +1,4 @@
--- What a tree is, and not how it is found: a tree of the split rule over a point. Nothing is said of clauses, of the order of trials
--- or of units.
+-- Trees of the split rule over a point, however they are found. Nothing is said of clauses, of the order of trials or of units.
 use Rattle.std.specs.Prelude.{◌≡◌, ℕ, ◌+◌, ◌<◌, true, Some, Ok, List, [], ◌∷◌, length, slice_get}
 use Rattle.theory.specs.Terms.{Term}
 use Rattle.theory.specs.Telescopes.{Telescope}

@@ -1,4 +1,4 @@
--- What ends a walk or a tree, and with what.
+-- The ends of a walk or a tree, and what they show.
 use Rattle.std.specs.Prelude.{ℕ, List, Result, Ok, Err}
 use Rattle.theory.specs.Terms.{Term}
 use Rattle.theory.specs.Telescopes.{Telescope}

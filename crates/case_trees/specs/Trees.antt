@@ -68,7 +68,7 @@ abbrev pub as_split : (x : ℕ) → Looked → Look (List Ran) → Look SplitAt
 as_split x found (Found runs) = Found (record { variable = x; looked = found; runs = runs })
 as_split x found (Passed r) = Passed r
 
--- what an open pair of the pattern and variable x comes to
+-- the look at an open pair of the pattern and variable x
 abbrev pub look : Signature → (clause : ℕ) → Telescope → Pat → (x : ℕ) → ℕ → Stopping (Look SplitAt)
 look S clause context pat x left =
     and_next (look_at_type S clause context pat x left) (λ found rest.

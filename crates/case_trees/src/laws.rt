@@ -21,12 +21,12 @@ pub fn tree_goes_on()
     ensures { TreeGoesOn }
 {}
 
-/// With more units a walk comes to the same, unless it ended for want of units.
+/// With more units a walk comes to the same, unless it ran out of units.
 pub fn walk_with_more_units()
     ensures { WalkWithMoreUnits }
 {}
 
-/// With more units a tree comes to the same, unless it ended for want of units.
+/// With more units a tree comes to the same, unless it ran out of units.
 pub fn tree_with_more_units()
     ensures { TreeWithMoreUnits }
 {}
@@ -51,7 +51,7 @@ pub fn walk_binds()
     ensures { WalkBinds }
 {}
 
-/// The dots of a walk are those of its terms that mention no variable without a term, with what is written there.
+/// The dots of a walk are those of its terms that mention no variable without a term, with the terms that are written there.
 pub fn walk_keeps_dots()
     ensures { WalkKeepsDots }
 {}
@@ -101,17 +101,17 @@ pub fn splits_asked()
     ensures { SplitsAsked }
 {}
 
-/// What a walk answers of scoped terms is scoped.
+/// The answer of a walk over scoped terms is scoped.
 pub fn walk_scoped()
     ensures { WalkScoped }
 {}
 
-/// What ends a walk of scoped terms is scoped.
+/// The end of a walk over scoped terms is scoped.
 pub fn walk_stop_scoped()
     ensures { WalkStopScoped }
 {}
 
-/// What ends a walk has its cause at the clause.
+/// The end of a walk has its cause at the clause.
 pub fn walk_caused()
     ensures { WalkCaused }
 {}
@@ -121,12 +121,12 @@ pub fn tree_scoped()
     ensures { TreeScoped }
 {}
 
-/// What ends a tree of scoped terms is scoped.
+/// The end of a tree of scoped terms is scoped.
 pub fn tree_stop_scoped()
     ensures { TreeStopScoped }
 {}
 
-/// What ends a tree has its cause at a clause of the list; what is uncovered is apart from all of them.
+/// The end of a tree has its cause at a clause of the list; terms that are uncovered are apart from all clauses.
 pub fn tree_caused()
     ensures { TreeCaused }
 {}

@@ -1,4 +1,4 @@
-//! Vectors of patterns: which terms they match, which they are apart from, and what two of them have in common.
+//! Lists of patterns: which terms they match, which they are apart from, and what two of them have in common.
 pub mod laws;
 mod matching;
 mod meeting;

@@ -119,7 +119,7 @@ not-whole-matches S n number pats (Some b) is = go (b.n == n) (b.number == numbe
     go true true true e is = absurd (true≢false is)
     go true true false e is = matches-unequal S pats b.arguments e
 
--- the same of what is apart, from the numbers that are found
+-- a constructor's pattern is apart from the numbers that are found exactly where it is apart from the term
 pub apart-found : (S : Signature) (n number : ℕ) (pats : List code.Pat) (t : Term) (m k count : ℕ)
     → Some (record { family = m; number = k; arguments = count }) ≡ option_map numbers_in (built_of S t) → m ≡ n → k ≡ number
     → is_apart S (Con n number (pats_of pats)) t

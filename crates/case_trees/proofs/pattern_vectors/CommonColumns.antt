@@ -36,7 +36,7 @@ right-ends made [] b some few = absurd (grind arith)
 right-ends made (p ∷ a) [] some few = sym (onto-none (map pat_of made))
 right-ends made (p ∷ a) (q ∷ b) some few = absurd (grind arith)
 
--- what is after the first item, as a part of the list
+-- the rest of a list after its first item, as a slice has it
 pub rest-of : {A : Type 0} (xs : List A) → take (length xs - 1) (drop 1 xs) ≡ drop 1 xs
 rest-of xs = let shorter = length-drop 1 xs in take_all (length xs - 1) (drop 1 xs) (omega (arith, shorter))
 

@@ -1,4 +1,4 @@
--- Vectors of patterns over Nat against terms, as they are worked by hand. The family has number 0; `%0` is a variable of type Nat.
+-- Lists of patterns over Nat against terms, as they are worked by hand. The family has number 0; `%0` is a variable of type Nat.
 use native.Mathlib.Decide.{ℕ_discrete}
 use Rattle.std.proofs.Common.{◌≡◌, true, false, Some, None, [], ◌∷◌, refl}
 use Rattle.theory.specs.Terms.{Term, Var, Con, App}

@@ -1,4 +1,4 @@
--- Terms match what two vectors have in common exactly where they match both.
+-- Terms match the common patterns of two lists exactly where they match both.
 use Rattle.std.proofs.Common.{◌≡◌, ℕ, Bool, true, false, ◌&&◌, ◌==◌, cond, Option, Some, None, option_map, List, [], ◌∷◌, refl, ap, ap₂, sym, ◌∙◌, arith}
 use Rattle.std.proofs.lemmas.Bool.Decides.{nat_tests}
 use Rattle.theory.specs.Terms.{Term}
@@ -35,7 +35,7 @@ same-pattern (Dot forced) m e = grind arith
 same-pattern (Con n number pats) m e = grind arith
 same-pattern Absurd m e = absurd (grind arith)
 
--- what meets with these patterns is matched by what matches both
+-- the common patterns with these patterns are matched by the terms that match both
 abbrev Meets : Signature → Pats → Type 0
 Meets S pats =
     (others columns : Pats) (terms : List Term) → meet_all pats others ≡ Some columns →

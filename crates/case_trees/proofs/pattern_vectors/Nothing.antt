@@ -1,4 +1,4 @@
--- Where two vectors have nothing in common no terms match both, and they clash.
+-- If two lists of patterns have nothing in common, no terms match both, and they clash.
 use Rattle.std.proofs.Common.{◌≡◌, ◌≢◌, ◌⊎◌, inl, inr, ℕ, Bool, true, false, ◌&&◌, ◌==◌, cond, Option, Some, None, option_map, List, [], ◌∷◌, refl, ap, ◌∙◌, subst, arith}
 use Rattle.std.proofs.lemmas.Bool.{and_right}
 use Rattle.std.proofs.lemmas.Bool.Decides.{nat_tests}

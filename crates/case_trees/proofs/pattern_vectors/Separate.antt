@@ -1,4 +1,4 @@
--- No vector is both matched and apart.
+-- No argument list is both matched and apart.
 use Rattle.std.proofs.Common.{◌≡◌, ℕ, Bool, true, false, ◌&&◌, ◌||◌, cond, Option, Some, None, List, [], ◌∷◌, refl, ap, ap₂, ◌∙◌}
 use Rattle.std.proofs.lemmas.Bool.{false≢true, and_right}
 use Rattle.theory.specs.Terms.{Term}

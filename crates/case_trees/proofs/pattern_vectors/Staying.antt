@@ -1,4 +1,4 @@
--- Whatever is put for the variables of terms, what is matched stays matched, and what is apart stays apart.
+-- Whatever is put for the variables of terms, matched terms stay matched, and terms that are apart stay apart.
 use Rattle.std.proofs.Common.{◌≡◌, ℕ, Bool, true, false, ◌&&◌, ◌||◌, cond, Option, Some, None, List, [], ◌∷◌, map, refl, ap, ◌∙◌}
 use Rattle.std.proofs.lemmas.Bool.{false≢true, and_from, or_left, or_right}
 use Rattle.theory.specs.Terms.{Term}

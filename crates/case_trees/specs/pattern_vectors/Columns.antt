@@ -1,4 +1,4 @@
--- The columns of a vector of patterns against terms, and where one of them is open: neither matched nor apart.
+-- The columns of a list of patterns against terms, and where one of them is open: neither matched nor apart.
 use Rattle.std.specs.Prelude.{◌≡◌, ℕ, IsTrue, Some, None, List, ◌∷◌}
 use Rattle.theory.specs.Terms.{Term}
 use Rattle.theory.specs.Families.{Constructor}

@@ -1,4 +1,4 @@
--- What holds of matching, and of what two vectors have in common.
+-- Laws of matching, and of the common patterns of two lists.
 use Rattle.std.specs.Prelude.{◌≡◌, ℕ, IsTrue, true, false, ◌&&◌, Some, None, List, map}
 use Rattle.theory.specs.Terms.{Term}
 use Rattle.theory.specs.Substitutions.{inst}
@@ -10,33 +10,33 @@ use Rattle.case_trees.specs.pattern_vectors.Meeting.{meet_all, SomeClash, AreCol
 
 -- ---- matched, apart, open
 
--- no vector is both matched and apart
+-- no argument list is both matched and apart
 abbrev pub MatchedIsNotApart : Type 0
 MatchedIsNotApart = (S : Signature) (pats : Pats) (terms : List Term) → matches_all S pats terms ≡ true → are_apart S pats terms ≡ false
 
--- What is neither has a column in which a pattern asks for a constructor and the term is none.
+-- An argument list that is neither has a column in which a pattern asks for a constructor and the term is none.
 abbrev pub NeitherIsOpen : Type 0
 NeitherIsOpen =
     (S : Signature) (pats : Pats) (terms : List Term) → AreWhole S pats → IsTrue (is_as_long pats terms) → matches_all S pats terms ≡ false →
     are_apart S pats terms ≡ false → SomeOpen S pats terms
 
--- what has such a column is not matched
+-- an argument list with such a column is not matched
 abbrev pub OpenIsNotMatched : Type 0
 OpenIsNotMatched = (S : Signature) (pats : Pats) (terms : List Term) → SomeOpen S pats terms → matches_all S pats terms ≡ false
 
--- whatever is put for the variables of the terms, what is matched stays matched,
+-- whatever is put for the variables of the terms, matched terms stay matched,
 abbrev pub MatchedStays : Type 0
 MatchedStays =
     (S : Signature) (s : ℕ → Term) (pats : Pats) (terms : List Term) → matches_all S pats terms ≡ true →
     matches_all S pats (map (inst s) terms) ≡ true
 
--- and what is apart stays apart
+-- and terms that are apart stay apart
 abbrev pub ApartStays : Type 0
 ApartStays =
     (S : Signature) (s : ℕ → Term) (pats : Pats) (terms : List Term) → are_apart S pats terms ≡ true →
     are_apart S pats (map (inst s) terms) ≡ true
 
--- ---- what two vectors have in common
+-- ---- the common patterns of two lists
 
 -- terms match it exactly where they match both
 abbrev pub MeetIsBoth : Type 0
@@ -50,7 +50,7 @@ NothingIsBoth =
     (S : Signature) (a b : Pats) (terms : List Term) → meet_all a b ≡ None →
     (matches_all S a terms && matches_all S b terms) ≡ false
 
--- two vectors that clash have nothing in common,
+-- two lists of patterns that clash have nothing in common,
 abbrev pub ClashIsNone : Type 0
 ClashIsNone = (a b : Pats) → SomeClash a b → meet_all a b ≡ None
 

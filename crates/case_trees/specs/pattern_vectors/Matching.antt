@@ -1,4 +1,4 @@
--- Vectors of patterns against vectors of terms: which match, and which are apart.
+-- Lists of patterns against argument lists: which match, and which are apart.
 use Rattle.std.specs.Prelude.{ℕ, Bool, true, false, ◌==◌, ◌&&◌, ◌||◌, cond, Option, Some, None, List, [], ◌∷◌}
 use Rattle.theory.specs.Terms.{Term}
 use Rattle.theory.specs.Signatures.{Signature}
@@ -35,7 +35,7 @@ abbrev mutual
   matches S (Con n number pats) t = matches_built n number (matches_all S pats) (built_of S t)
   matches S Absurd t = false
 
-  -- a vector matches as many terms, where all columns match
+  -- a list of patterns matches as many terms, if all columns match
   pub matches_all : Signature → Pats → List Term → Bool
   matches_all S nil [] = true
   matches_all S (cons pat pats) (t ∷ terms) = matches S pat t && matches_all S pats terms
@@ -64,6 +64,6 @@ abbrev mutual
   has_apart S nil terms = false
   has_apart S (cons pat pats) [] = false
 
--- a vector is apart from as many terms, where some column is
+-- a list of patterns is apart from as many terms, if some column is
 abbrev pub are_apart : Signature → Pats → List Term → Bool
 are_apart S pats terms = is_as_long pats terms && has_apart S pats terms

@@ -1,4 +1,4 @@
--- What two vectors of patterns have in common.
+-- The common patterns of two lists.
 use Rattle.std.specs.Prelude.{◌≡◌, ◌≢◌, ℕ, ◌+◌, ◌==◌, ◌&&◌, cond, Option, Some, None, option_map, List, [], ◌∷◌}
 use Rattle.core_terms.specs.Patterns.{Pat, Bind, Wild, Dot, Con, Absurd, Pats, nil, cons}
 
@@ -60,13 +60,13 @@ abbrev mutual
   AreComparable (Con n number pats) (Con m k others) = n ≡ m → number ≡ k → AreColumns pats others
   AreComparable a b = Unit {0}
 
-  -- two vectors of one length, whose columns are comparable
+  -- two lists of one length, whose columns are comparable
   pub AreColumns : Pats → Pats → Type 0
   AreColumns nil nil = Unit {0}
   AreColumns (cons a pats) (cons b others) = AreComparable a b × AreColumns pats others
   AreColumns _ _ = ⊥
 
--- patterns before a vector, where there is one
+-- patterns before a list, if there is one
 abbrev pub onto : List Pat → Option Pats → Option Pats
 onto [] vector = vector
 onto (pat ∷ made) vector = option_map (cons pat) (onto made vector)

@@ -1,4 +1,4 @@
--- What the code finds of a constructor with all its arguments: its numbers, and how many arguments it has after the parameters.
+-- Constructors with all their arguments, as the code finds them: their numbers, and how many arguments follow the parameters.
 use Rattle.std.specs.Prelude.{ℕ, ◌-◌, Bool, false, ◌==◌, ◌&&◌, Option, Some, None, List, length, drop}
 use Rattle.unification.specs.Built.{Built}
 use Rattle.case_trees.specs.declared.pattern_vectors.matching.Found as code

@@ -88,7 +88,7 @@ fn last_match(sig: &Signature, pats: &[Pat], t: &Term) -> bool
     }
 }
 
-/// Whether a vector of patterns matches a vector of terms (Goguen, McBride and McKinna, "Eliminating dependent pattern matching",
+/// Whether a list of patterns matches an argument list (Goguen, McBride and McKinna, "Eliminating dependent pattern matching",
 /// 2006). Both have one length, and each constructor in a pattern has all its arguments: nothing else matches.
 pub fn matches(sig: &Signature, pats: &Items<Pat>, terms: &Tele) -> bool
     ensures { result ≡ spec.matches_all sig.now (pats_of pats.now) (tele_of terms.now) }

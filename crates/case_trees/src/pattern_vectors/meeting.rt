@@ -51,7 +51,7 @@ fn meet_columns(
     }
 }
 
-/// The vector whose instances are those of both, which have one length; None exactly where some column clashes.
+/// The list of patterns whose instances are those of both, which have one length; None exactly where some column clashes.
 pub fn meet(alloc: Global, a: &Items<Pat>, b: &Items<Pat>) -> Result<Option<Items<Pat>>, Stop>
     ensures { Gives (option_map pats_of) result (Ok (spec.meet_all (pats_of a.now) (pats_of b.now))) }
 {

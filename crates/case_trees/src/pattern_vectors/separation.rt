@@ -42,7 +42,7 @@ fn last_apart(sig: &Signature, pats: &[Pat], t: &Term) -> bool
     }
 }
 
-/// Whether a vector of patterns is apart from a vector of terms of the same length: no instance of these is matched.
+/// Whether a list of patterns is apart from an argument list of the same length: no instance of this one is matched.
 pub fn apart(sig: &Signature, pats: &Items<Pat>, terms: &Tele) -> bool
     ensures { result ≡ spec.are_apart sig.now (pats_of pats.now) (tele_of terms.now) }
 {
