@@ -1,4 +1,4 @@
--- What is answered for the family that the code holds is the entry of the family that the signature has.
+-- The entry that is answered for the code's family is that of the signature's family.
 use Rattle.std.proofs.Common.{◌≡◌, ℕ, ◌≤◌, List, length, map, Result, Some, sym, subst}
 use Rattle.std.proofs.lemmas.List.{length-map}
 use Rattle.std.proofs.lemmas.Simd.{map-map}

@@ -30,7 +30,7 @@ no_part D x y = App (App (Const 60) (ne D x)) y
 abbrev not_within : (D x y : Term) → Term
 not_within D x y = pair_of 0 (App (ne D x) y) (no_part D x y)
 
--- the same for a family with the parameter A
+-- for a family with the parameter A
 abbrev no_part_at : (A D x y : Term) → Term
 no_part_at A D x y = App (App (App (Const 60) A) (ne D x)) y
 

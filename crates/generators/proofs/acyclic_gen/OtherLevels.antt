@@ -54,7 +54,7 @@ alike-up L depth s q lt alike l (inr (high, low)) = go (nat_lt l depth) refl
         let nearest : depth + 1 - (l + 1) ≡ 0 = grind (arith, nat_tests) in
         ap (ups s) nearest ∙ sym (ap (ups q) nearest)
 
--- the same at a depth that is written in another way
+-- the substitutions also agree at an equal depth
 alike-at : (L d e : ℕ) (s q : ℕ → Term) → d ≡ e → AlikeBut L d s q → AlikeBut L e s q
 alike-at L d e s q is alike = subst (λ k. AlikeBut L k s q) is alike
 

@@ -47,7 +47,7 @@ unless-scoped T [] (Ok d) h = h
 unless-scoped T [] (Err e) h = tt
 unless-scoped T (index ∷ indices) result h = tt
 
--- what a call answers
+-- the answer of a call is scoped if the meant one is
 pub yields-scoped : (T : Signature) (result : Result DraftOfCode AcyclicStop) (meant : Result Draft AcyclicStop) → Yields draft_of result meant → IfOk meant (IsScopedDraft T) → IfOk result (λ d. IsScopedDraft T (draft_of d))
 yields-scoped T (Ok d) meant is h = transport (λ r. IfOk r (IsScopedDraft T)) (sym is) h
 yields-scoped T (Err e) meant is h = tt

@@ -1,4 +1,4 @@
--- From a part to the whole: what is made for it is scoped.
+-- From a part to the whole: the terms that are made for it are scoped.
 use Rattle.std.proofs.Common.{◌≡◌, ℕ, zero, suc, ◌+◌, ◌<◌, ◌≤◌, ◌==◌, Bool, true, false, cond, List, [], ◌∷◌, length, map, All, Some, slice_get, refl, ap, subst as transport, arith}
 use Rattle.std.proofs.lemmas.Bool.Decides.{nat_tests}
 use Rattle.std.proofs.lemmas.List.Elements.{All-head, All-tail, All-nil, All-cons}
@@ -57,7 +57,7 @@ length-each : (f : ℕ → Term) (j count : ℕ) → length (each_position f j c
 length-each f j zero = refl
 length-each f j (suc count) = ap suc (length-each f (j + 1) count)
 
--- what a push needs: the prelude, the family, and the arguments of its constructor
+-- the conditions of a push: the prelude, the family, and the arguments of its constructor
 pub record IsPushing (S : Signature) (count : ℕ) (q : Carrier) (push : Push) (own : List ArgumentShape) : Type 0 where
   pub first : IsPrefix (prelude S.has_k) S
   pub carrier : IsCarrier S q

@@ -1,4 +1,4 @@
--- What is said of terms of a family without indices is scoped, over a signature that has the prelude and the family.
+-- Statements about terms of a family without indices are scoped, over a signature that has the prelude and the family.
 use Rattle.std.proofs.Common.{ℕ, suc, ◌+◌, ◌-◌, ◌<◌, ◌≤◌, ◌==◌, Bool, true, false, cond, nat_le, if◌then◌else◌, List, [], ◌∷◌, length, All, refl, subst as transport, arith}
 use Rattle.std.proofs.lemmas.List.Elements.{All-head, All-tail, All-nil, All-cons}
 use Rattle.theory.specs.Terms.{Term, top}

@@ -32,7 +32,7 @@ use Rattle.case_below_gen.proofs.Functions.{converts-from, Binds, beta-all, bind
 use Rattle.case_below_gen.proofs.Functions.Binds.{none, one}
 use Rattle.case_below_gen.proofs.Hypotheses.{length-hypotheses}
 
--- ---- what the entry binds
+-- ---- binders of the entry
 
 binds-branches : (n p motive number depth : ℕ) (cs : List ConstructorShape) (k : ℕ) (t b : Term) → Binds k t b → Binds (length cs + k) (branches_over Function n p motive number depth cs t) b
 binds-branches n p motive number depth [] k t b rest = subst (λ j. Binds j t b) (omega arith) rest
@@ -90,7 +90,7 @@ dropping-at s p k motive method depth (suc i) (d ∷ cs) c at =
     let here : method + 1 + i ≡ method + suc i = omega arith in
     dropping-at s p k motive (method + 1) depth i cs c at ∙ ap (λ j. Some (inst s (dropping p k motive j depth c))) here
 
--- what is at a position, with what comes before it and after it
+-- the element at a position, with those before it and after it
 pub record SplitAt {X : Type 0} (xs : List X) (i : ℕ) (x : X) : Type 0 where
   pub before : List X
   pub after : List X

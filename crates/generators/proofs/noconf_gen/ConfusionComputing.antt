@@ -34,7 +34,7 @@ use Rattle.generators.proofs.noconf_gen.CaseComputing.{IsCaseAt, case-computes, 
 use Rattle.generators.proofs.noconf_gen.SmallTerms.{length-members}
 use Rattle.generators.proofs.noconf_gen.TooHigh.{length-positions}
 
--- ---- what the entry and its methods bind
+-- ---- binders of the entry and its methods
 
 binds-equations : (n : ℕ) (f : Shape) (left right : Member) (depth : ℕ) (t : Term) → Binds (length f.indices + 1) (equations_over Function n f left right depth t) t
 binds-equations n f left right depth t =

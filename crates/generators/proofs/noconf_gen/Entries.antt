@@ -42,7 +42,7 @@ entry-is D result n f code number con kinds at same given =
     (subst (λ name. Gives draft_of result (D code.name name (shape_of code) (constructor_at (shape_of code).constructors number))) (sym (named (length code.params) code.cons number con at))
     (subst (λ d. Gives draft_of result (D code.name con.name (shape_of code) d)) (sym (there constructor_shape code.cons number con _ at)) given)))
 
--- the same of an entry that is made from the parts of what the code works with
+-- an entry that is made from the code's own parts is that of the definition
 pub confusion-entry : (E : (base : ℕ) (name : List ℕ) (n : ℕ) (f : Shape) (number : ℕ) (constructor : List ℕ) → ConstructorShape → (m : ℕ) → Result Draft Stop) (result : Result DraftOfCode Stop)
     (base' base n' n number' number m : ℕ) (f : pure.Family) (code' code : Family) (con : Constructor) → HasKinds n code → base' ≡ base → n' ≡ n → number' ≡ number → code' ≡ code
     → slice_get code.cons number ≡ Some con → Some (FamilyOf (family_of code)) ≡ Some (FamilyOf f)
@@ -75,7 +75,7 @@ next-method M r at head more method con rest cons more-is method-is given split 
     subst (λ cs. Gives tree_of r (Ok (applied_to_methods M at head (map constructor_shape cs)))) (sym split)
     (subst (λ h. Gives tree_of r (Ok (applied_to_methods M (at + 1) h (map constructor_shape rest)))) (more-is ∙ ap (App head) method-is) given)
 
--- the same draft from parts that are the same
+-- the draft from equal parts
 pub draft-same : (r : Result DraftOfCode Stop) (name' name : List ℕ) (base : ℕ) (names' names : List (List ℕ)) (type' type term' term : Term) → name' ≡ name → names' ≡ names → type' ≡ type → term' ≡ term
     → Gives draft_of r (drafted name' base names' type' term') → Gives draft_of r (drafted name base names type term)
 draft-same r name' name base names' names type' type term' term p q t u given =

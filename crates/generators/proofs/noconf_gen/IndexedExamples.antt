@@ -1,4 +1,4 @@
--- The same of Vec, and of a family with two indices, the second of which depends on the first.
+-- Types and terms of no confusion for Vec, and for a family with two indices, the second of which depends on the first.
 use Rattle.std.proofs.Common.{◌≡◌, refl}
 use Rattle.theory.specs.Terms.Term.{Var, Sort, Pi, Lam, App, Const}
 use Rattle.theory.specs.Signatures.{equation, reflexivity}

@@ -1,4 +1,4 @@
--- What is placed at a depth is small.
+-- Terms that are placed at a depth are small.
 use Rattle.std.proofs.Common.{◌≡◌, ℕ, zero, suc, ◌+◌, ◌-◌, ◌<◌, ◌≤◌, Bool, true, false, nat_le, cond, max, List, [], ◌∷◌, ◌++◌, map, length, take, Result, Ok, Err, IfOk, refl, ap₂, sym, subst, arith}
 use Rattle.std.proofs.lemmas.Bool.Decides.{nat_tests}
 use Rattle.std.proofs.lemmas.List.{length-map, length-append}
@@ -131,7 +131,7 @@ length-members n f depth =
     let items = placed_items ((0, p) ∷ (depth, k) ∷ []) p depth f.indices in
     omega (arith, length-append {A = Item}, length-items ((0, p) ∷ (depth, k) ∷ []) p depth f.indices)
 
--- ---- what is answered
+-- ---- answers
 
 pub few-answer : (result : Result (List code_item.Item) Stop) (X : List Item) → Gives items_of result (Ok X) → length X ≤ 1000 → IfOk result (λ v. length v ≤ 1000)
 few-answer (Ok v) X is few =

@@ -29,7 +29,7 @@ use Rattle.generators.specs.noconf_gen.NoConfusionTypes.{Member, variable_member
 use Rattle.generators.specs.noconf_gen.NoConfusion.{elimination_from, equal_members_over, noconf_type}
 use Rattle.generators.proofs.noconf_gen.SmallTerms.{height-place, length-members}
 
--- ---- what is bound
+-- ---- binders
 
 height-bind : (binder : Binder) (a b : Term) → height (bind binder a b) ≡ 1 + max (height a) (height b)
 height-bind Product a b = refl
@@ -272,7 +272,7 @@ confusion-fits n f number c m j analysis type term =
       members = methods.0;
     }
 
--- an entry over what does not fit is Deep
+-- an entry over parts that do not fit is Deep
 pub deep-drafted : (Fits : Type 0) (name : List ℕ) (base : ℕ) (names : List (List ℕ)) (type term : Term) → (height type ≤ 2000 → height term ≤ 2000 → Fits) → ¬ Fits → Err Deep ≡ drafted name base names type term
 deep-drafted Fits name base names type term fits none = go (is_low type) (is_low term) refl refl
   where

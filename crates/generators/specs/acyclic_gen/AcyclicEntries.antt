@@ -23,7 +23,7 @@ use Rattle.generators.specs.declared.acyclic_gen.claims.Push.{Push}
 use Rattle.generators.specs.declared.acyclic_gen.direct_arguments.Direct.{Direct}
 use Rattle.generators.specs.declared.acyclic_gen.stop.AcyclicStop.{AcyclicStop}
 
--- the same push from another direct argument
+-- the push from another direct argument
 abbrev pub with_part : Push → ℕ → Push
 with_part push argument = record push { part = argument }
 
@@ -89,7 +89,7 @@ noconf_names family (name ∷ names) (c ∷ constructors) =
     (noconf_names family names constructors)
 noconf_names family _ _ = []
 
--- what is mentioned first in the type, and what is mentioned then in the term
+-- the name that the type mentions first, and those that the term mentions then
 abbrev pub names_for : (family : List ℕ) → List (List ℕ) → List ConstructorShape → List (List ℕ)
 names_for family names constructors = direct_name family ∷ noconf_names family names constructors
 
@@ -99,7 +99,7 @@ acyclic_draft base name constructors n f =
     drafted (acyclic_name name) base (names_for name constructors f.constructors)
     (acyclic_type f (carrier_of n f base)) (acyclic_term f (carrier_of n f base) (base + 1))
 
--- the same, or Indexed where the family has indices
+-- this draft, or Indexed if the family has indices
 abbrev pub acyclic_of_shape : (base : ℕ) (name : List ℕ) (constructors : List (List ℕ)) (n : ℕ) (f : Shape) → Result Draft AcyclicStop
 acyclic_of_shape base name constructors n f = unless_indexed f.indices (acyclic_draft base name constructors n f)
 

@@ -1,4 +1,4 @@
--- What the calls answer.
+-- The answers of the calls.
 use Rattle.std.specs.Prelude.{◌≡◌, List, [], ◌∷◌, Result, Ok, Err}
 use Rattle.core_terms.specs.Answers.{GivesUnless}
 use Rattle.core_terms.specs.declared.stop.Stop.{Stop as TermStop}
@@ -6,7 +6,7 @@ use Rattle.core_terms.specs.declared.stop.Stop.TheVariants.{Memory}
 use Rattle.generators.specs.declared.acyclic_gen.stop.AcyclicStop.{AcyclicStop}
 use Rattle.generators.specs.declared.acyclic_gen.stop.AcyclicStop.TheVariants.{Stop, Indexed}
 
--- the refusals that nothing rules out: want of memory alone
+-- the refusals that nothing rules out: only out of memory
 abbrev pub IsUnforeseen : AcyclicStop → Type 0
 IsUnforeseen e = e ≡ Stop Memory
 
@@ -19,7 +19,7 @@ abbrev pub among_stops : {A : Type 0} → Result A TermStop → Result A Acyclic
 among_stops (Ok a) = Ok a
 among_stops (Err e) = Err (Stop e)
 
--- what is answered where there are no indices, and else Indexed
+-- the answer if there are no indices, and else Indexed
 abbrev pub unless_indexed : {A I : Type 0} → List I → Result A TermStop → Result A AcyclicStop
 unless_indexed [] result = among_stops result
 unless_indexed (index ∷ indices) result = Err Indexed

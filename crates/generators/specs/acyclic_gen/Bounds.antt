@@ -48,7 +48,7 @@ pub record AreSmallArguments (arguments : List ArgumentShape) : Type 0 where
   pub few : length arguments ≤ 1000
   pub low : AreLow arguments
 
--- the same of each constructor with direct arguments
+-- each constructor with direct arguments has few and low arguments
 abbrev pub HaveSmallArguments : List ConstructorShape → Type 0
 HaveSmallArguments [] = Unit {0}
 HaveSmallArguments (c ∷ constructors) =

@@ -1,4 +1,4 @@
--- What is claimed of each term of D p by an elimination, and the hypotheses that its methods have.
+-- The claims of an elimination about each term of D p, and the hypotheses that its methods have.
 use Rattle.std.specs.Prelude.{ℕ, suc, ◌+◌, ◌-◌, nat_le, if◌then◌else◌, List, [], ◌∷◌, length}
 use Rattle.theory.specs.Terms.{Term, Sort, Pi, Lam, App, Elim}
 use Rattle.theory.specs.Telescopes.{applied}
@@ -25,14 +25,14 @@ pushed_part push = at_level push.part
 abbrev pub position_of : Push → ℕ
 position_of push = push.part - push.first
 
--- what is claimed of b: that it has a type of its parts, that b is no part of itself, or that where a_i is no part of b, c p a
--- is neither b nor a part of b
+-- the claim about b: that it has a type of its parts, that b is no part of itself, or that where a_i is no part of b, c p a is neither b
+-- nor a part of b
 abbrev pub claim_at : (claim : Claim) (q : Carrier) (depth : ℕ) (b : Point) → Term
 claim_at Direct q depth b = Sort q.level
 claim_at Acyclic q depth b = no_part q depth b b
 claim_at (Pushed push) q depth b = Pi (no_part q depth (pushed_part push) b) (not_within q (depth + 1) (pushed_whole push) b)
 
--- the level of what is claimed
+-- the level of a claim
 abbrev pub claim_level : Claim → Carrier → ℕ
 claim_level Direct q = q.level + 1
 claim_level _ q = q.level

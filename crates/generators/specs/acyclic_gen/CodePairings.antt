@@ -1,4 +1,4 @@
--- What the pairings of the code stand for.
+-- The meanings of the code's pairings.
 use Rattle.generators.specs.acyclic_gen.Pairings as pure
 use Rattle.generators.specs.declared.acyclic_gen.pairings.Pairing as code
 use Rattle.generators.specs.declared.acyclic_gen.pairings.Pairing.TheVariants.{Within, Several}

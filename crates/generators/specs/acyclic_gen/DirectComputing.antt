@@ -1,4 +1,4 @@
--- What `D!direct` computes.
+-- `D!direct` computes.
 use Rattle.std.specs.Prelude.{ℕ, cond, List, [], ◌∷◌, ◌++◌}
 use Rattle.std.specs.List.{All}
 use Rattle.theory.specs.Terms.{Term, App, Const, Fam, Con}

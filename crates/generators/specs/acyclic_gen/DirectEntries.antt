@@ -65,7 +65,7 @@ abbrev pub direct_draft : (base : ℕ) (name : List ℕ) (n : ℕ) (f : Shape) �
 direct_draft base name n f =
     drafted (direct_name name) base [] (direct_type f (carrier_of n f base)) (direct_term f (carrier_of n f base))
 
--- the same, or Indexed where the family has indices
+-- the draft, or Indexed if the family has indices
 abbrev pub direct_of_shape : (base : ℕ) (name : List ℕ) (n : ℕ) (f : Shape) → Result Draft AcyclicStop
 direct_of_shape base name n f = unless_indexed f.indices (direct_draft base name n f)
 

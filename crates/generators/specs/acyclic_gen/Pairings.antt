@@ -36,7 +36,7 @@ projection side q depth pairing both =
     (Lam (side_type First q depth pairing) (Lam (side_type Second q (depth + 1) pairing) (side_variable side))))
     both
 
--- what a tuple for direct arguments says of the one with the level `wanted`
+-- the part of a tuple for direct arguments about the one with the level `wanted`
 abbrev pub component : (q : Carrier) (depth : ℕ) (x : Point) (wanted : ℕ) → List Direct → (tuple : Term) → Term
 component q depth x wanted [] tuple = tuple
 component q depth x wanted (d ∷ directs) tuple =

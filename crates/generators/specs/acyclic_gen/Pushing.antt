@@ -112,7 +112,7 @@ push_in q push own branch c =
     (Lam (no_part q branch.given (pushed_part push) (branch_point branch))
     (pushed_pair q push own branch (directs branch.start branch.hypothesis c.arguments)))
 
--- the same in the branch for constructor c'
+-- this function in the branch for constructor c'
 abbrev pub push_method : (q : Carrier) (push : Push) (own : List ArgumentShape) (depth number : ℕ) → ConstructorShape → Term
 push_method q push own depth number c = push_in q push own (branch_of depth number c) c
 

@@ -1,5 +1,5 @@
--- What is said of terms of a family D without indices, at its parameters p, which have the levels from 0 on. A part of a term
--- is one of its direct arguments, or a part of one (McBride, Goguen and McKinna, "A few constructions on constructors", 2006).
+-- Statements about terms of a family D without indices, at its parameters p, which have the levels from 0 on. A part of a term is one of
+-- its direct arguments, or a part of one (McBride, Goguen and McKinna, "A few constructions on constructors", 2006).
 use Rattle.std.specs.Prelude.{ℕ, ◌+◌, ◌==◌, Bool, false, ◌||◌, cond, List, [], ◌∷◌}
 use Rattle.theory.specs.Terms.{Term, Var, Pi, Lam, App, Const, Fam, Con}
 use Rattle.theory.specs.Telescopes.{applied}

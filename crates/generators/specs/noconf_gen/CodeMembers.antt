@@ -1,4 +1,4 @@
--- What the members of the code stand for.
+-- The meanings of the code's members.
 use Rattle.std.specs.Prelude.{ℕ, ◌≤◌, length}
 use Rattle.core_sig.specs.Shapes.{Shape, constructor_shape, shape_of}
 use Rattle.generators.specs.noconf_gen.Compared.{constructed}

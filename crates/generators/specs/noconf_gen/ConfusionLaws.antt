@@ -1,4 +1,4 @@
--- What no confusion says of two constructors: `D!nct.c.m` computes.
+-- No confusion of two constructors: `D!nct.c.m` computes.
 use Rattle.std.specs.Prelude.{◌≡◌, ◌≢◌, Some, ℕ, ◌+◌, List, ◌∷◌, ◌++◌, length, slice_get}
 use Rattle.theory.specs.Terms.{Term, Const, Con}
 use Rattle.theory.specs.Substitutions.{inst, fill}

@@ -1,4 +1,4 @@
--- What no confusion takes: terms and telescopes that telescopic equality takes. Over others the whole is too high.
+-- The conditions of no confusion: terms and telescopes that telescopic equality takes. Over others the whole is too high.
 use Rattle.std.specs.Prelude.{ℕ, ◌+◌, ◌≤◌, ◌<◌, List, [], ◌∷◌, length, take, max}
 use Rattle.theory.specs.Terms.{Term, height, top}
 use Rattle.theory.specs.Families.{Family}
@@ -45,7 +45,7 @@ pub record FitsSubject (f : Shape) (c : ConstructorShape) : Type 0 where
   pub indices : FitsIndices f
   pub arguments : FitsArguments (length f.parameters) (length f.indices) c
 
--- the same with all constructors as members
+-- the constructor c, with all constructors as members
 pub record FitsConfusion (f : Shape) (c : ConstructorShape) : Type 0 where
   pub subject : FitsSubject f c
   pub constructors : length f.constructors ≤ 2000

@@ -76,7 +76,7 @@ injection_type n f number c first second m start depth =
     Pi (motive_type n f (constructed n p k number first c) (constructed n p k number second c) m depth)
     (Pi (injective_type n f number c first second depth (depth + 1)) (concluded k depth start (depth + 2)))
 
--- what the equations of c at s and of constructor `at` at t come to
+-- the consequence of the equations of c at s and of constructor `at` at t
 abbrev pub confusion_type : (n : ℕ) (f : Shape) (number : ℕ) → ConstructorShape → (at : ℕ) → ConstructorShape → (second m start depth : ℕ) → Term
 confusion_type n f number c at d second m start depth =
     let p = length f.parameters in
@@ -84,7 +84,7 @@ confusion_type n f number c at d second m start depth =
     cond (at == number) (injection_type n f number c p second m start depth)
     (conflict_type n f (constructed n p k number p c) (constructed n p k at second d) m start depth)
 
--- \t E. what the equations E come to, for constructor `at` at t
+-- \t E. the consequence of the equations E, for constructor `at` at t
 abbrev pub confusion_method : (n : ℕ) (f : Shape) (number : ℕ) → ConstructorShape → (m depth at : ℕ) → ConstructorShape → Term
 confusion_method n f number c m depth at d =
     let p = length f.parameters in
@@ -137,7 +137,7 @@ nct_term n f number c m j analysis =
 abbrev pub constructor_at : List ConstructorShape → ℕ → ConstructorShape
 constructor_at constructors number = get_or constructors number (record { arguments = []; targets = [] })
 
--- the level of what `D!nct.c.m` says
+-- the level of the type `D!nct.c.m`
 abbrev pub confusion_level : (f : Shape) (m : ℕ) → ℕ
 confusion_level f m = max f.level (m + 1)
 

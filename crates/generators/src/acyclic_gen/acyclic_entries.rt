@@ -191,7 +191,7 @@ fn acyclic_method(
     method_over(alloc, Claim::Acyclic, q, depth, con, end)
 }
 
-/// The same push from another direct argument.
+/// The push from another direct argument.
 fn with_part(push: Push, argument: u32) -> Push
     ensures { result ≡ spec.with_part push argument }
 {

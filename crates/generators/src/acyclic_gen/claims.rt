@@ -21,8 +21,8 @@ pub struct Push {
     pub part: u32,
 }
 
-/// What an elimination claims of each term b: a type of its parts; that it is no part of itself; or that where the direct argument
-/// of c p a is no part of b, c p a is neither b nor a part of b.
+/// The claim of an elimination about each term b: a type of its parts; that it is no part of itself; or that where the direct
+/// argument of c p a is no part of b, c p a is neither b nor a part of b.
 #[derive(Clone, Copy)]
 pub enum Claim {
     Direct,
@@ -51,7 +51,7 @@ pub fn position_of(push: Push) -> u32
     push.part.saturating_sub(push.first)
 }
 
-/// What is claimed of b, at a depth.
+/// The claim about b, at a depth.
 pub fn claim_at(alloc: Global, claim: Claim, q: Carrier, depth: u32, b: Point) -> Result<Term, Stop>
     requires claim { IsNearClaim claim }
     requires b { IsNear b }
@@ -69,7 +69,7 @@ pub fn claim_at(alloc: Global, claim: Claim, q: Carrier, depth: u32, b: Point) -
     }
 }
 
-/// The level of what is claimed.
+/// The level of a claim.
 fn claim_level(claim: Claim, q: Carrier) -> u8
     requires { q.level < 100 }
     ensures { result ≡ spec.claim_level claim q }

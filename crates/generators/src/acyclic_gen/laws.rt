@@ -1,4 +1,4 @@
-//! What the generated entries are and compute, in the words of the theory.
+//! Laws of direct arguments and of `D!direct`, in the words of the theory.
 ghost use Rattle.generators.specs.acyclic_gen.DirectComputing.{DirectComputes};
 ghost use Rattle.generators.specs.acyclic_gen.DirectLaws.{DirectAtTheFamily};
 

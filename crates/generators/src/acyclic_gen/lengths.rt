@@ -21,8 +21,8 @@ fn are_small_arguments(args: &[Arg]) -> bool
     args.len() <= MAX_HEIGHT as usize / 2 && are_low(args)
 }
 
-/// Whether each constructor with direct arguments has at most 1,000 arguments, with types that are no higher than 2,000. Else
-/// what compares such a constructor with itself is too high.
+/// Whether each constructor with direct arguments has at most 1,000 arguments, with types that are no higher than 2,000. Else the
+/// comparison of such a constructor with itself is too high.
 fn have_small_arguments(cons: &[Constructor]) -> bool
     ensures { IsTrue result ↔ HaveSmallArguments (map constructor_shape cons.now) }
 {

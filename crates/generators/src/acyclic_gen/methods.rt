@@ -13,7 +13,7 @@ use core_sig::{Arg, ArgKind, Constructor, arguments_over};
 use core_terms::{Binder, MAX_HEIGHT, Run, Stop, Term, copy_whole, place};
 use std::alloc::Global;
 
-/// What is claimed of the variable with the level `argument` at all variables from the level `start` on.
+/// The claim about the variable with the level `argument` at all variables from the level `start` on.
 fn claim_inside(
     alloc: Global,
     claim: Claim,

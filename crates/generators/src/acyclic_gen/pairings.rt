@@ -123,7 +123,7 @@ pub fn projection(
     Term::application_of(alloc, head, Ok(both))
 }
 
-/// What a tuple for direct arguments says of the one with the level `wanted`, at a depth.
+/// The part of a tuple for direct arguments about the one with the level `wanted`, at a depth.
 pub fn component(
     alloc: Global,
     q: Carrier,

@@ -106,7 +106,7 @@ fn argument_equations(
     tele_equations_whole(alloc, &tele, &left, &right)
 }
 
-/// What the given tuple says of the argument at the push's position, at the equation of the two, after the equations.
+/// The part of the given tuple about the argument at the push's position, at the equation of the two, after the equations.
 fn refuted(
     alloc: Global,
     q: Carrier,

@@ -30,7 +30,7 @@ pub struct Subject<'a> {
     pub con: &'a Constructor,
 }
 
-/// Constructor `con` of a family, as what no confusion is about.
+/// Constructor `con` of a family, as the subject of no confusion.
 pub fn subject_of<'a>(fam: u32, family: &'a Family, con: u32) -> Subject<'a>
     requires { con < length family.now.cons }
     ensures fam { result.fam ≡ fam }
@@ -188,7 +188,7 @@ fn concluded(alloc: Global, indices: u32, motive: u32, start: u32, depth: u32) -
     applied_to_run(alloc, variable(depth, motive), depth, start, indices + 1)
 }
 
-/// What equations of two constructors come to, where these differ, at a depth: each motive holds.
+/// The consequence of the equations of two different constructors, at a depth: each motive holds.
 fn conflict_type(
     alloc: Global,
     fam: u32,
@@ -212,8 +212,8 @@ fn conflict_type(
     Term::product_of(alloc, motive, end)
 }
 
-/// What equations of a constructor at two lists of arguments come to, whose levels begin with `first` and `second`, at a depth:
-/// each motive holds that holds at the congruences of equal arguments.
+/// The consequence of the equations of a constructor at two lists of arguments, whose levels begin with `first` and `second`, at
+/// a depth: each motive holds that holds at the congruences of equal arguments.
 fn injection_type(
     alloc: Global,
     subject: Subject,
@@ -240,8 +240,8 @@ fn injection_type(
     Term::product_of(alloc, motive, end)
 }
 
-/// What equations of the constructor, at arguments after the parameters, and constructor `at`, at arguments whose levels begin
-/// with `second`, come to, at a depth.
+/// The consequence of the equations of the constructor, at arguments after the parameters, and of constructor `at`, at arguments
+/// whose levels begin with `second`, at a depth.
 pub fn confusion_type(
     alloc: Global,
     subject: Subject,

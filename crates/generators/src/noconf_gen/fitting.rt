@@ -75,7 +75,7 @@ pub fn fits_subject(f: &Family, con: &Constructor) -> bool
     fits_indices(f) && fits_arguments(params, indices, con)
 }
 
-/// The same with all constructors. Takes no memory.
+/// Whether it fits with all constructors as members. Takes no memory.
 pub fn fits_confusion(f: &Family, con: &Constructor) -> bool
     ensures { IsTrue result ↔ spec.FitsConfusion (shape_of f.now) (constructor_shape con.now) }
 {

@@ -1,4 +1,4 @@
-//! What the generated entries compute, in the words of the theory.
+//! The generated entries compute, in the words of the theory.
 ghost use Rattle.generators.specs.noconf_gen.ConfusionLaws.{ConflictComputes, InjectionComputes};
 
 /// `D!nct.c.m` at two applications of the constructor `c`, with any equations, converts to the type that each motive holds that

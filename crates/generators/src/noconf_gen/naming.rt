@@ -7,7 +7,8 @@ use core_sig::{Constructor, Family, generated_name};
 use core_terms::{Name, Stop};
 use std::alloc::Global;
 
-/// The name of what is generated for a constructor at a level: the family's name, a mark, the constructor's name and the level.
+/// The name of an entry that is generated for a constructor at a level: the family's name, a mark, the constructor's name and the
+/// level.
 pub fn constructor_entry_name(
     alloc: Global,
     f: &Family,
