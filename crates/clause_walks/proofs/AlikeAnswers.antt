@@ -10,7 +10,7 @@ Alike R (Ok a) (Err f) = ⊥
 Alike R (Err e) (Ok b) = ⊥
 Alike R (Err e) (Err f) = e ≡ f
 
--- the same of answers with the units that are left
+-- the answers are alike, and as many units are left
 abbrev pub RunAlike : {A B E : Type 0} → (A → B → Type 0) → SpentOr E A → SpentOr E B → Type 0
 RunAlike R one other = Alike R one.0 other.0 × (one.1 ≡ other.1)
 
@@ -32,7 +32,7 @@ equal-results (Err e) (Err f) h = ap Err h
 equal-results (Ok a) (Err f) h = absurd h
 equal-results (Err e) (Ok b) h = absurd h
 
--- the same answer, and so the same call
+-- answers with units that are alike by equality are equal
 pub run-equal : {A E : Type 0} (one other : SpentOr E A) → RunAlike (λ a b. a ≡ b) one other → one ≡ other
 run-equal one other h = ap₂ (λ r left. spent r left) (equal-results one.0 other.0 h.0) h.1
 
@@ -90,7 +90,7 @@ or_halts-alike R (Err e) (Ok b) h = absurd h
 pub halting-alike : {A B : Type 0} (R : A → B → Type 0) (one : Spent A) (other : Spent B) → RunAlike R one other → RunAlike R (halting one) (halting other)
 halting-alike R one other h = (or_halts-alike R one.0 other.0 h.0, h.1)
 
--- with what is known of the first answer
+-- with a property of the first answer
 pub with-fact : {A B E : Type 0} (R : A → B → Type 0) (P : A → Type 0) (Q : A → B → Type 0) (one : SpentOr E A) (other : SpentOr E B) → RunAlike R one other
     → IfOk one.0 P → ((a : A) (b : B) → R a b → P a → Q a b) → RunAlike Q one other
 with-fact {A = A} {B = B} {E = E} R P Q one other h has k = (by one.0 other.0 h.0 has, h.1)

@@ -49,7 +49,7 @@ pub all-same : (S : Signature) (pairs : Pairs) (us : List Term) → AreAlike S p
 all-same S nil us = none us
 all-same S (cons pair pairs) us = more pair pair pairs pairs us (same pair (first us)) (all-same S pairs (behind us))
 
--- ---- what is asked of pairs
+-- ---- questions about pairs
 
 -- a question about pairs that does not look at the terms of wildcards
 pub record IsBlind (A : Type 0) (q : Pair → A) (qs : Pairs → A) : Type 0 where
@@ -113,7 +113,7 @@ mutual
   forget-asked A q qs blind (Builds n number ps pairs) = blind.built n number ps (forget_all pairs) pairs (all-forget-asked A q qs blind pairs)
   forget-asked A q qs blind (Clashes pat t) = refl
 
-  -- what is forgotten is asked by none
+  -- no such question depends on the forgotten terms
   pub all-forget-asked : (A : Type 0) (q : Pair → A) (qs : Pairs → A) → IsBlind A q qs → (pairs : Pairs) → qs (forget_all pairs) ≡ qs pairs
   all-forget-asked A q qs blind nil = refl
   all-forget-asked A q qs blind (cons pair pairs) =
@@ -297,7 +297,7 @@ mutual
       let covered : CoverAll S pairs us = transport (CoverAll S pairs) (ap (λ d. d.arguments) found ∙ sym args) inner in
       inside n number ps pairs (forget_all others) (Some u) us (b, e, args) (all-forget-on S pairs others us all covered)
 
-  -- and what is forgotten of those that are alike
+  -- and alike pairs without their forgotten terms
   pub all-forget-on : (S : Signature) (pairs others : Pairs) (us : List Term) → AreAlike S pairs others us → CoverAll S pairs us
       → AreAlike S pairs (forget_all others) us
   all-forget-on S _ _ us (none _) h = none us

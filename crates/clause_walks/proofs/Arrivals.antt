@@ -49,7 +49,7 @@ first-arrives S own clause context pat t pairs stuck forced left = by (tidy_of S
     by (Ok u) rest =
         open-arrives S own clause context pat u (variable_in u) (first_found S clause context (reach S own clause context) pairs) stuck forced rest
 
--- ---- what the code answers at a pair
+-- ---- the code's answers at a pair
 
 module _ (S : Signature) (own : Bool) (clause : ℕ) (context : Telescope) (pair : Pat × Term) (pairs : List (Pat × Term)) (stuck forced : Option TreeStop)
     (left mid : ℕ) where

@@ -17,7 +17,7 @@ pub before_none : (made : List Pair) → put_before made nil ≡ in_order made
 before_none [] = refl
 before_none (first ∷ made) = ap (cons first) (before_none made)
 
--- ---- the same of the code
+-- ---- pairs of the code
 
 pub made-all : (made : List code.Pair) → pairs_of made ≡ behind made nil
 made-all made = sym (before_none (map pair_of made))

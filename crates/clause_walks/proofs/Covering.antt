@@ -35,7 +35,7 @@ waiting-covered S (pattern.cons pat pats) [] us whole = tt
 waiting-covered S (pattern.cons pat pats) (t ∷ ts) [] whole = tt
 waiting-covered S (pattern.cons pat pats) (t ∷ ts) (u ∷ us) whole = (whole.0, waiting-covered S pats ts us whole.1)
 
--- ---- what is kept over the shared terms
+-- ---- shared terms after later comparisons
 
 mutual
   covered-on : (S : Signature) (pair : Pair) (u : Term) (over : Pair) → Covers S pair u → Covers S pair (keep S over u)
@@ -55,7 +55,7 @@ mutual
   all-covered-on S (cons pair pairs) [] (cons over overs) h = tt
   all-covered-on S (cons pair pairs) (u ∷ us) (cons over overs) h = (covered-on S pair u over h.0, all-covered-on S pairs us overs h.1)
 
--- the same of all clauses
+-- the shared terms after later comparisons cover all clauses
 pub live-covered-on : (S : Signature) (live : List Live) (us : List Term) (overs : Pairs) → CoverLive S live us → CoverLive S live (keep_all S overs us)
 live-covered-on S [] us overs h = tt
 live-covered-on S (c ∷ live) us overs h = (all-covered-on S c.pairs us overs h.0, live-covered-on S live us overs h.1)
@@ -121,7 +121,7 @@ mutual
   become-covered S _ _ u (work.kept written t) h = tt
   become-covered S _ _ u (work.clashed pat t) h = tt
 
-  -- what covered pairs become is covered by what is kept of it
+  -- where the shared terms cover pairs, they cover the worked pairs after these are kept
   pub all-become-covered : (S : Signature) (pairs new : Pairs) (us : List Term) → AllBecome S pairs new → CoverAll S pairs us
       → CoverAll S new (keep_all S new us)
   all-become-covered S _ _ us work.none h = tt

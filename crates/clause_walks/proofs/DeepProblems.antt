@@ -1,4 +1,4 @@
--- Where what a family's record brings to the problem of a constructor is too high, its run is Deep.
+-- Where a part of the family's record in the problem of a constructor is too high, its run is Deep.
 use Rattle.std.proofs.Common.{◌≡◌, ℕ, suc, ◌<◌, nat_le, ◌&&◌, Bool, true, false, cond, Result, Ok, Err, IfOk, List, [], ◌∷◌, ◌++◌, length, map, refl, sym, ap, ◌∙◌, arith}
 use Rattle.std.proofs.lemmas.Bool.Decides.{nat_tests}
 use Rattle.std.proofs.lemmas.List.{length-map}
@@ -29,7 +29,7 @@ and-none : (b : Bool) → (b && false) ≡ false
 and-none true = refl
 and-none false = refl
 
--- ---- what is too high
+-- ---- terms that are too high
 
 is-high : (t : Term) → 2000 < height t → is_low t ≡ false
 is-high t h = grind (arith, nat_tests)
@@ -72,9 +72,9 @@ items-high n f ps h =
     high-items (inst_telescope s (index_types f)) (map (λ i. i.1) f.indices) (applied (weaken_by count (applied (Fam n) ps)) (variables count)) f.level
     (omega arith) (high-nearest (weaken_by count (applied (Fam n) ps)) count h)
 
--- ---- what the code makes
+-- ---- problems that the code makes
 
--- the chain that makes a problem, by what is low in it
+-- the chain that makes a problem, by the parts of it that are low
 abbrev made-by : {A B C D : Type 0} → (first second third : Bool) → A → B → C → D → Result D Stop
 made-by first second third a b c d =
     and_then (cond first (Ok a) (Err Deep)) (λ a. and_then (cond second (Ok b) (Err Deep)) (λ b. and_then (cond third (Ok c) (Err Deep)) (λ c. Ok d)))
@@ -132,7 +132,7 @@ module _ (context : Telescope) (x : ℕ) (m : Member) (number : ℕ) (c : Constr
       by true false third h = absurd (ok-err h)
       by false second third h = absurd (ok-err h)
 
-  -- what holds of the problem holds of the one that is made
+  -- a property of the problem is one of the problem that is made
   pub problem-has : (P : Problem → Type 0) → P whole → IfOk (problem_made context x m number c) P
   problem-has P h = by (are_low_items arguments) (are_low_items telescope) (are_low terms)
     where

@@ -49,7 +49,7 @@ bounded-forgotten solution pairs =
 abbrev both : (number : ℕ) → Result Pairs Stop → Result (List Live) Stop → Result (List Live) Stop
 both number first others = and_then first (λ pairs. and_then others (λ more. Ok (record { number = number; pairs = pairs } ∷ more)))
 
--- the same of all clauses of a tree
+-- all clauses of a tree are moved alike without the terms of wildcards
 pub live-forgotten : (solution : List Term) (live : List Live)
     → moved_live solution (forget_live live) ≡ and_then (moved_live solution live) (λ moved. Ok (forget_live moved))
 live-forgotten solution [] = refl

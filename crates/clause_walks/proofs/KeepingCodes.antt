@@ -1,4 +1,4 @@
--- What is kept of comparisons, as the code makes it.
+-- The terms that are kept of comparisons, as the code makes them.
 use Rattle.std.proofs.Common.{◌≡◌, ℕ, ◌≤◌, true, Result, Ok, List, [], ◌∷◌, ◌++◌, length, drop, refl, sym, ap, ap₂, ◌∙◌, arith}
 use Rattle.std.proofs.lemmas.List.{length-map}
 use Rattle.theory.specs.Terms.{Term, Con, height}

@@ -1,4 +1,4 @@
--- What a walk or a tree goes on with is scoped and low.
+-- A walk or a tree goes on with a state that is scoped and low.
 use Rattle.std.proofs.Common.{◌≡◌, ℕ, ◌≤◌, Bool, true, false, ◌&&◌, cond, Option, Some, None, Ok, Err, Result, List, [], ◌∷◌, ◌++◌, length, take, refl, sym, ap, subst as transport}
 use Rattle.std.proofs.lemmas.List.Elements.{All-append, All-cons, All-head, All-tail, All-take}
 use Rattle.std.specs.List.{All}
@@ -30,7 +30,7 @@ use Rattle.clause_walks.specs.Forgetting.{forget, forget_all}
 use Rattle.clause_walks.specs.PairConditions.{AreKeptPairs, IsSolvedIn}
 use Rattle.clause_walks.specs.PointConditions.{is_low_point, IsKeptPoint}
 
--- ---- what is kept of comparisons
+-- ---- terms that are kept of comparisons
 
 over-scoped : (S : Signature) (n : ℕ) (again : List Term → List Term) (new t : Term) (o : Option Built) → built_of S t ≡ o → IsScoped S n new → IsScoped S n t
     → ((us : List Term) → All (IsScoped S n) us → All (IsScoped S n) (again us)) → IsScoped S n (kept_over again new o)

@@ -1,4 +1,4 @@
--- What the code looks at, and what it reaches, is scoped.
+-- The terms that the code looks at, and those that it reaches, are scoped.
 use Rattle.std.proofs.Common.{◌≡◌, ℕ, ◌≤◌, ◌<◌, Bool, true, false, cond, Option, Some, None, IfOk, Result, Ok, Err, List, [], ◌∷◌, length, sym, ap, ◌∙◌, subst as transport, arith}
 use Rattle.std.proofs.lemmas.List.{length-map}
 use Rattle.theory.specs.Terms.{Term}
@@ -73,7 +73,7 @@ open-pairs : (S : Signature) (n : ℕ) (pairs : List (Pat × Term)) → AreScope
 open-pairs S n [] h = tt
 open-pairs S n (pair ∷ pairs) h = (h.0, open-pairs S n pairs h.1)
 
--- what the code reaches
+-- the variable that the code reaches
 pub code-reached : (S : Signature) (own : Bool) (clause : ℕ) (context : List code.Term) (pairs : List (Pat × Term)) (r : Result Reached TreeStop) (left rest : ℕ)
     → IsReady S → IsContext S (tele_of context) → AreScopedOpen S (length context) pairs
     → Yields reached_of r rest (first_found S clause (tele_of context) (reach S own clause (tele_of context)) pairs None None left)

@@ -1,4 +1,4 @@
--- What is known of the family of a variable's type, and of the problems of its constructors.
+-- Properties of the family of a variable's type, and of the problems of its constructors.
 use Rattle.std.proofs.Common.{◌≡◌, ℕ, zero, suc, ◌+◌, ◌≤◌, ◌<◌, ◌==◌, Bool, true, false, cond, Some, None, Option, IfOk, IfSome, option_map, Result, Ok, Err, List, [], ◌∷◌, length, length-drop, take, drop, slice_get, get_or, refl, sym, ap, ◌∙◌, subst as transport, arith}
 use Rattle.std.proofs.lemmas.Bool.Decides.{Decides-eqb}
 use Rattle.std.proofs.lemmas.List.{length-map}
@@ -108,7 +108,7 @@ split-member S n k f t m there kinds given h =
       index_count = indices ∙ (omega (arith, dropped, h.count) ∙ ap (λ (g : Family). length g.indices) (sym family));
     }
 
--- what holds of a family that is found
+-- a property of a found family
 pub each-found : {A E : Type 0} (P Q : A → Type 0) (r : Result (Option A) E) → ((a : A) → P a → Q a) → IfOk r (λ found. IfSome found P)
     → IfOk r (λ found. IfSome found Q)
 each-found P Q (Ok (Some a)) k h = k a h

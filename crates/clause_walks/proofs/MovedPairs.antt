@@ -51,7 +51,7 @@ behind-none solution pairs = same (pairs_made solution pairs) ∙ pairs-made sol
     same (Ok rest) = refl
     same (Err e) = refl
 
--- ---- the same of the code
+-- ---- pairs of the code
 
 pub moved-none : (solution : List Term) (made pairs : List code.Pair) → length pairs < 1 → Ok (pairs_of made) ≡ made_behind (map pair_of made) solution (pairs_of pairs)
 moved-none solution made [] few = ap Ok (made-all made)

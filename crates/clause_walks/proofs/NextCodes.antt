@@ -1,4 +1,4 @@
--- What the code answers at the parts of a turn.
+-- The code's answers at the parts of a turn.
 use Rattle.std.proofs.Common.{◌≡◌, ℕ, ◌==◌, true, false, None, Result, Ok, Err, IfOk, List, [], ◌∷◌, length, refl, sym, ap, ap₂, ◌∙◌, subst as transport}
 use Rattle.theory.specs.Terms.{Term}
 use Rattle.theory.specs.Telescopes.{Telescope}

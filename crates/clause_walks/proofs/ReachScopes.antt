@@ -1,4 +1,4 @@
--- What the looking reaches is scoped.
+-- The search reaches scoped terms.
 use Rattle.std.proofs.Common.{◌≡◌, ℕ, zero, suc, ◌+◌, Bool, Option, Some, None, IfOk, Result, Ok, Err, List, [], ◌∷◌, length, map, slice_get, refl, sym, ap, ap₂, ◌∙◌, subst as transport, arith}
 use Rattle.std.proofs.lemmas.List.{length-map, length-append}
 use Rattle.std.proofs.lemmas.List.Elements.{All-nil}
@@ -30,7 +30,7 @@ use Rattle.case_trees.proofs.WalkStanding.{IsSplit, looked-split, problem-outcom
 use Rattle.clause_walks.specs.ReachedRuns.{IsNotStuck, IsRunEnd, AreRunEnds, IsReached}
 use Rattle.clause_walks.specs.Reaching.{run_end, end_of_run, with_ends, wanted_of, run_wanted, wanted_runs, reached_by, reach_from, reach}
 
--- nothing is said of what ends the looking
+-- nothing is said of the end of the search
 abbrev Ended : TreeStop → Type 0
 Ended e = Unit {0}
 
@@ -94,7 +94,7 @@ module _ (S : Signature) (context : Telescope) (x : ℕ) (found : Looked) (ready
             transport (λ k. slice_get found.member.family.constructors k ≡ Some d) next (there (suc k) d e)) all.1,
       )
 
-  -- what is reached
+  -- the ends of the runs that are reached
   abbrev Reaches : Look (List Ran) → Type 0
   Reaches (Found runs) = AreRunEnds S (length context) (map end_of_run runs)
   Reaches (Passed s) = Unit {0}

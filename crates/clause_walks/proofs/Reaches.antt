@@ -56,7 +56,7 @@ look-in clause go further passed stuck forced (Err e) left same = refl
 look-in clause go further passed stuck forced (Ok (Found a)) left same = refl
 look-in clause go further passed stuck forced (Ok (Passed s)) left same = same s
 
--- what comes after a pair leads to the same
+-- the further search leads to the same
 abbrev Same : {A B C : Type 0} → Further A → Going A C → Further B → Going B C → Type 0
 Same further go further' go' = (stuck forced : Option TreeStop) (left : ℕ) → and_next (further stuck forced left) go ≡ and_next (further' stuck forced left) go'
 
@@ -135,7 +135,7 @@ solved-ends number [] = refl
 solved-ends number (run ∷ runs) = ap (or_first run.outcome number) (solved-ends (number + 1) runs)
 
 module _ {C : Type 0} (S : Signature) (clause : ℕ) (p : Point) (pairs : Pairs) (go : Turn → ℕ → Stopping C) where
-  -- how the walk goes on from what is reached
+  -- how the walk goes on from the reached variable
   abbrev turned : Going Reached C
   turned r rest = and_next (answers (turn_at clause p pairs r) rest) go
 

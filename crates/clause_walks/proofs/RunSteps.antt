@@ -51,7 +51,7 @@ run-step S context x m number c cs made left = by (unify_of S p left).0 (unify_o
     by (Ok (outcome.Absurd steps new u v)) rest =
         one-more made (record { constructor = c; problem = p; outcome = outcome.Absurd steps new u v }) (others rest).0 (others rest).1
 
--- ---- what the code answers at a constructor
+-- ---- the code's answers at a constructor
 
 module _ (S : Signature) (context : Telescope) (x : ℕ) (m : Member) (number : ℕ) (c : Constructor) (cs : List Constructor) (made : List RunEnd)
     (left mid : ℕ) where

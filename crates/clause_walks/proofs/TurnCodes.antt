@@ -1,4 +1,4 @@
--- A walk goes on from what a turn of the code comes to.
+-- A walk goes on from the result of a turn of the code.
 use Rattle.std.proofs.Common.{◌≡◌, ℕ, true, Option, Some, None, Result, Ok, Err, List, [], ◌∷◌, refl, sym, ◌∙◌}
 use Rattle.theory.specs.Terms.{Term}
 use Rattle.theory.specs.Signatures.{Signature}

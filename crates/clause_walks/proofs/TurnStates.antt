@@ -1,4 +1,4 @@
--- What the parts of a turn are asked about.
+-- The conditions of the parts of a turn.
 use Rattle.std.proofs.Common.{◌≡◌, ℕ, ◌≤◌, true, Option, Some, None, List, [], ◌∷◌, ap, sym, subst as transport}
 use Rattle.theory.specs.Terms.{Term, height}
 use Rattle.theory.specs.Signatures.{Signature}

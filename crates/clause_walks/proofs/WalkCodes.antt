@@ -1,4 +1,4 @@
--- A walk from a state on, by what its turns of the code come to.
+-- A walk from a state on, by the results of its turns of the code.
 use Rattle.std.proofs.Common.{◌≡◌, ℕ, zero, suc, Ok, Err, sym, ap, ◌∙◌}
 use Rattle.theory.specs.Signatures.{Signature}
 use Rattle.core_terms.specs.Answers.{and_next}

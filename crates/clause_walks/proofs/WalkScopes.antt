@@ -1,4 +1,4 @@
--- What the code answers of scoped terms is scoped.
+-- The code's answers over scoped terms are scoped.
 use Rattle.std.proofs.Common.{◌≡◌, rules, ℕ, Result, Ok, Err, IfOk, IfErr, List, sym, ap, subst as transport}
 use Rattle.theory.specs.Terms.{Term}
 use Rattle.theory.specs.Telescopes.{Telescope}

@@ -27,7 +27,7 @@ use Rattle.clause_walks.proofs.Behind.{before_more, made-all, pairs-first}
 
 -- ---- answers
 
--- what is made without units, once the units are spent
+-- a result that is made without units, once the units are spent
 pub gives-runs : {A B : Type 0} (f : A → B) (result : Result A Stop) (v : B) (left : ℕ) (meant : Spent B) → Gives f result (Ok v)
     → ◌≡◌ {A = Spent B} (Ok v, left) meant → Runs f result left meant
 gives-runs {A} {B} f (Ok a) v left meant h is = ap (λ (r : Result B Stop). (r, left)) h ∙ is
@@ -88,7 +88,7 @@ onto-none spent = by spent.0 spent.1
 pub first-made : (made : List code.Pair) (spent : Spent Pairs) → made ≡ [] → onto (map pair_of made) spent ≡ spent
 first-made made spent none = ap (λ all. onto (map pair_of all) spent) none ∙ onto-none spent
 
--- the same of terms that are a list of the code
+-- the terms are a list of the code
 module _ (S : Signature) (rooms : Rooms) (made : List code.Pair) (pats : Pats) (terms us : List term.Term) (left end : ℕ) where
   made-first : made ≡ [] → terms ≡ us → onto (map pair_of made) (work_patterns S rooms pats (tele_of terms) left) ≡ work_patterns S rooms pats (tele_of us) left
   made-first none is = first-made made (work_patterns S rooms pats (tele_of terms) left) none ∙ ap (λ us. work_patterns S rooms pats (tele_of us) left) is
@@ -156,7 +156,7 @@ module _ (S : Signature) (rooms : Rooms) (made : List code.Pair) where
       (subst (λ n. ◌≡◌ {A = Spent Pair} (Ok new, end) (work_pair S n (pair_of pair) left)) at is)
       ∙ sym (pairs-step pairs pair left some first)))
 
--- ---- what is scoped
+-- ---- scoped terms
 
 module _ (S : Signature) (n : ℕ) where
   others-scoped : (terms : List term.Term) → 1 ≤ length terms → All (IsScoped S n) (tele_of terms) → All (IsScoped S n) (tele_of (drop 1 terms))
@@ -178,7 +178,7 @@ module _ (S : Signature) (n : ℕ) where
 
 -- ---- the pairs of a constructor's arguments
 
--- ---- what calls fall by
+-- ---- the measures by which calls fall
 
 pub rest-smaller : (pairs : List code.Pair) (pair : code.Pair) → 1 ≤ length pairs → pair ≡ get_or pairs 0 pair
     → 4 * size_of_all (pairs_of (take (length pairs - 1) (drop 1 pairs))) + 1 < 4 * size_of_all (pairs_of pairs)

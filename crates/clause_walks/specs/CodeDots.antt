@@ -20,18 +20,18 @@ term_bound bound = option_map (λ t. tree_of t.now) bound
 abbrev pub bound_of : List (Option (Bor code.Term)) → List (Option Term)
 bound_of bound = map term_bound bound
 
--- a dot of the code: what is put in, and the term that is forced
+-- a dot of the code: the bindings that are put in, and the term that is forced
 abbrev pub dot_of : code.Term × code.Term → Term × Term
 dot_of d = (tree_of d.0, tree_of d.1)
 
 abbrev pub dots_of : List (code.Term × code.Term) → List (Term × Term)
 dots_of dots = map dot_of dots
 
--- a dot with the bindings in what is written, or Deep
+-- a dot with the bindings in the written term, or Deep
 abbrev pub dot_made : (binds : List Term) → (Term × Term) → Result (Term × Term) Stop
 dot_made binds d = and_then (bounded (under_solution binds d.0)) (λ put. Ok (put, d.1))
 
--- dots after those that are made, or Deep where what is put in one of them is too high
+-- dots after those that are made, or Deep where a term with bindings in one of them is too high
 abbrev pub dots_behind : List (Term × Term) → List (Term × Term) → Result (List (Term × Term)) Stop
 dots_behind made dots = cond (are_low (map (λ d. d.0) dots)) (Ok (made ++ dots)) (Err Deep)
 

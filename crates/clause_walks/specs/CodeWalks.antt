@@ -1,4 +1,4 @@
--- What a turn of a walk comes to, as the code makes it.
+-- The turns of a walk, as the code makes them.
 use Rattle.std.specs.Prelude.{ℕ, ◌+◌, true, Option, Some, None, List, [], ◌∷◌, Result, Ok, Err}
 use Rattle.theory.specs.Terms.{Term}
 use Rattle.theory.specs.Telescopes.{Telescope}
@@ -20,7 +20,7 @@ use Rattle.case_trees.specs.OwnWalks.{Turn, Goes, Ends, solved_pairs, or_first, 
 use Rattle.clause_walks.specs.Forgetting.{forget_all}
 use Rattle.clause_walks.specs.Reaching.{RunEnd, Reached, reach}
 
--- ---- what is reached
+-- ---- reached variables
 
 -- the outcome of the pattern's own constructor, which is not stuck
 abbrev pub own_turn : (clause : ℕ) → Point → Pairs → Outcome → Result Turn TreeStop
@@ -97,7 +97,7 @@ turn_of S clause p pairs left =
     and_next (halting (work_pairs S of_columns pairs left)) (λ worked rest.
     next_unless_dropped S clause p worked (first_clash worked) rest)
 
--- what comes after a turn
+-- the walk goes on after a turn, or has ended
 abbrev pub onward : Walking → Next → ℕ → Stopping Walk
 onward go (GoesOn p pairs) left = go p pairs left
 onward go (Ended w) left = answers (Ok w) left

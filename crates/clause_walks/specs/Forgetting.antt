@@ -12,7 +12,7 @@ use Rattle.case_trees.specs.Trees as tree
 use Rattle.case_trees.specs.Trees.{Live, Growing}
 
 abbrev mutual
-  -- the same pair, without the terms of wildcards
+  -- the pair, without the terms of wildcards
   pub forget : Pair → Pair
   forget (Waits pat t) = Waits pat t
   forget (Binds t) = Binds t
@@ -25,7 +25,7 @@ abbrev mutual
   forget_all nil = nil
   forget_all (cons pair pairs) = cons (forget pair) (forget_all pairs)
 
--- the same clauses
+-- the clauses, without the terms of wildcards
 abbrev pub forget_live : List Live → List Live
 forget_live [] = []
 forget_live (c ∷ live) = record { number = c.number; pairs = forget_all c.pairs } ∷ forget_live live

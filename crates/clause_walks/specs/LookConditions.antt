@@ -1,4 +1,4 @@
--- What is known of a context, and of the family of a variable's type there.
+-- Conditions on a context, and on the family of a variable's type there.
 use Rattle.std.specs.Prelude.{◌≡◌, ◌≤◌, ℕ, ◌+◌, Some, List, [], ◌∷◌, length, take, drop, slice_get}
 use Rattle.theory.specs.Terms.{Term}
 use Rattle.theory.specs.Spines.{spine_of}

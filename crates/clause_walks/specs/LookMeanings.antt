@@ -1,4 +1,4 @@
--- What the code finds of open pairs and of the runs at their variables.
+-- The meanings of the code's looks at open pairs and of the runs at their variables.
 use Rattle.std.specs.Prelude.{ℕ, List, map, Result, Ok, Err}
 use Rattle.theory.specs.Telescopes.{Telescope}
 use Rattle.core_terms.specs.Meanings.{tree_of, tele_of}
@@ -64,11 +64,11 @@ abbrev pub reach_of : Reach → looking.Look pure.Reached
 reach_of (reach.Found r) = looking.Found (reached_of r)
 reach_of (reach.Passed r) = looking.Passed (stuck_of r)
 
--- what says that a run was stuck
+-- the refusal that says that a run was stuck
 abbrev pub stuck_stop : (clause : ℕ) → StuckRun → stops.TreeStop
 stuck_stop clause r = looking.stuck_at clause (stuck_of r)
 
--- what says that a term is neither a constructor nor a variable
+-- the refusal that says that a term is neither a constructor nor a variable
 abbrev pub unmatched_stop : (clause : ℕ) → Telescope → Unmatched → stops.TreeStop
 unmatched_stop clause context u = stops.Forced clause context (pat_of u.pat.now) (tree_of u.term)
 

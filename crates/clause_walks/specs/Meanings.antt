@@ -1,4 +1,4 @@
--- What the pairs of the code stand for.
+-- The meanings of the code's pairs.
 use Rattle.std.specs.Prelude.{List, [], ◌∷◌, map}
 use Rattle.core_terms.specs.Meanings.{tree_of, tele_of}
 use Rattle.core_terms.specs.PatternMeanings.{pat_of}

@@ -23,6 +23,6 @@ abbrev mutual
   pairs_made solution (cons pair pairs) =
       and_then (pair_made solution pair) (λ first. and_then (pairs_made solution pairs) (λ rest. Ok (cons first rest)))
 
--- the same after pairs that are made
+-- these pairs after those that are already there
 abbrev pub made_behind : List Pair → (solution : List Term) → Pairs → Result Pairs Stop
 made_behind made solution pairs = and_then (pairs_made solution pairs) (λ rest. Ok (put_before made rest))

@@ -1,4 +1,4 @@
--- What open pairs of the code stand for.
+-- The meanings of the code's open pairs.
 use Rattle.std.specs.Prelude.{ℕ, List, [], ◌∷◌, map}
 use Rattle.theory.specs.Terms.{Term}
 use Rattle.theory.specs.Signatures.{Signature}

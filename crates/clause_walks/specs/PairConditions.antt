@@ -1,4 +1,4 @@
--- What the code is asked about: pairs of a clause over few variables, whose terms are scoped and no higher than 2,000.
+-- The conditions of the code's calls: pairs of a clause over few variables, whose terms are scoped and no higher than 2,000.
 use Rattle.std.specs.Prelude.{◌≡◌, ◌≤◌, ℕ, true, List, length, All}
 use Rattle.theory.specs.Terms.{Term}
 use Rattle.theory.specs.Telescopes.{Telescope}

@@ -1,4 +1,4 @@
--- What the dots of pairs stand for.
+-- The meanings of the dots of pairs.
 use Rattle.std.specs.Prelude.{List, map}
 use Rattle.theory.specs.Terms as tree
 use Rattle.core_terms.specs.Meanings.{tree_of}

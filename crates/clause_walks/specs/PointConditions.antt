@@ -1,4 +1,4 @@
--- What the code is asked about: points that are scoped, with no term higher than 2,000, in contexts of so few variables that their
+-- The conditions of the code's calls: points that are scoped, with no term higher than 2,000, in contexts of so few variables that their
 -- numbers fit 32 bits.
 use Rattle.std.specs.Prelude.{◌≡◌, ◌≤◌, ◌&&◌, Bool, ℕ, List, length, Ok, All}
 use Rattle.theory.specs.Terms.{Term, free_of}

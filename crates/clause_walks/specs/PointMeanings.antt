@@ -1,4 +1,4 @@
--- What the points of the code stand for.
+-- The meanings of the code's points.
 use Rattle.core_terms.specs.Meanings.{tree_of, tele_of}
 use Rattle.case_trees.specs.Points as pure
 use Rattle.clause_walks.specs.declared.points.Point.{Point}

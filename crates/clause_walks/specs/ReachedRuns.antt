@@ -1,4 +1,4 @@
--- What is known of a variable that the looking reaches, and of the runs there.
+-- Conditions on a variable that the search reaches, and on the runs there.
 use Rattle.std.specs.Prelude.{◌≡◌, ◌<◌, ℕ, ◌+◌, List, [], ◌∷◌, length}
 use Rattle.theory.specs.Signatures.{Signature}
 use Rattle.theory.specs.SignatureScopes.{IsScoped, IsScopedTelescope}

@@ -1,5 +1,5 @@
--- What the code looks for among open pairs: the first that has a variable at which no run is stuck, with the ends of its runs. A walk
--- wants the run of the pattern's own constructor, and a tree those of all constructors.
+-- The code's search among open pairs: for the first that has a variable at which no run is stuck, with the ends of its runs. A walk wants
+-- the run of the pattern's own constructor, and a tree those of all constructors.
 use Rattle.std.specs.Prelude.{ℕ, ◌+◌, ◌==◌, Bool, true, Option, Some, None, List, [], ◌∷◌, ◌++◌, length, map, slice_get, Result, Ok, Err}
 use Rattle.theory.specs.Terms.{Term, Var}
 use Rattle.theory.specs.Telescopes.{Telescope}
@@ -27,7 +27,7 @@ use Rattle.case_trees.specs.Looking.{Look, Found, Passed, Looked, StuckRun, Ran,
 
 -- ---- the problem of a constructor
 
--- the problem itself, or Deep where what the family's record brings to it is too high
+-- the problem itself, or Deep where a part of the family's record in it is too high
 abbrev pub problem_made : Telescope → (x : ℕ) → Member → (number : ℕ) → Constructor → Result Problem Stop
 problem_made context x m number c =
     and_then (bounded_items (argument_items m.n m.parameters c)) (λ arguments.
@@ -45,7 +45,7 @@ problem_of_parts context x count indices arguments telescope left = record {
 
 -- ---- ends of runs
 
--- What is kept of a run: how many arguments its constructor has, the context of its problem, and its outcome.
+-- The end of a run: how many arguments its constructor has, the context of its problem, and its outcome.
 pub record RunEnd : Type 0 where
   pub arguments : ℕ
   pub context : Telescope
@@ -119,12 +119,12 @@ reach_from S clause context x found wanted left =
     and_next (wanted_runs S clause context x found wanted left) (λ runs rest.
     answers (Ok (reached_by x found.type found.member.n wanted (with_ends [] runs))) rest)
 
--- what an open pair of the pattern and variable x comes to
+-- the look at an open pair of the pattern and variable x
 abbrev pub reach : Signature → (own : Bool) → (clause : ℕ) → Telescope → Pat → (x : ℕ) → ℕ → Stopping (Look Reached)
 reach S own clause context pat x left =
     and_next (look_at_type S clause context pat x left) (λ found rest. reach_from S clause context x found (wanted_of own pat) rest)
 
--- what is kept of a variable at which a tree is split
+-- the reached variable where a tree is split
 abbrev pub reached_split : SplitAt → Reached
 reached_split s = record {
   variable = s.variable;
@@ -136,7 +136,7 @@ reached_split s = record {
 
 -- ---- an open pair
 
--- what an open pair comes to: it is reached, or what says that it is not
+-- an open pair is reached, or the refusal says why it is not
 pub data Arrival : Type 0 where
   Arrives : Reached → Arrival
   IsStuck : TreeStop → Arrival

@@ -1,4 +1,4 @@
--- How large pairs are: what calls on them fall by.
+-- How large pairs are: the measure by which calls on them fall.
 use Rattle.std.specs.Prelude.{ℕ, ◌+◌}
 use Rattle.case_trees.specs.Pairs.{Pair, Pairs, Builds, nil, cons}
 

@@ -1,4 +1,4 @@
--- What refusals of the code stand for, and how the answers of calls are tied to those that are meant.
+-- The meanings of the code's refusals, and how the answers of calls are tied to those that are meant.
 use Rattle.std.specs.Prelude.{◌≡◌, ℕ, Result}
 use Rattle.core_terms.specs.Answers.{StandsFor, SpendsFor}
 use Rattle.core_terms.specs.Meanings.{tree_of, tele_of}
@@ -18,7 +18,7 @@ stop_of (Impossible clause ctx left right) = pure.Impossible clause (tele_of ctx
 stop_of (WrongConstructor clause ctx ty) = pure.WrongConstructor clause (tele_of ctx) (tree_of ty)
 stop_of (Forced clause ctx pat term) = pure.Forced clause (tele_of ctx) (pat_of pat) (tree_of term)
 
--- the refusals that nothing rules out: want of memory alone
+-- the refusals that nothing rules out: only out of memory
 abbrev pub IsUnforeseen : TreeStop → Type 0
 IsUnforeseen e = e ≡ Stop Memory
 
@@ -26,6 +26,6 @@ IsUnforeseen e = e ≡ Stop Memory
 abbrev pub Yields : {A B : Type 0} → (A → B) → Result A TreeStop → ℕ → Stopping B → Type 0
 Yields f result left meant = SpendsFor IsUnforeseen stop_of f result left meant
 
--- the same where no units are spent
+-- the answer stands for `meant` where no units are spent
 abbrev pub Tells : {A B : Type 0} → (A → B) → Result A TreeStop → Result B pure.TreeStop → Type 0
 Tells f result meant = StandsFor IsUnforeseen stop_of f result meant

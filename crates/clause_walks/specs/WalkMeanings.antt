@@ -1,4 +1,4 @@
--- What a turn of the code stands for.
+-- The meanings of the code's turns.
 use Rattle.core_terms.specs.TreeMeanings.{walk_of}
 use Rattle.clause_walks.specs.CodeWalks as pure
 use Rattle.clause_walks.specs.Meanings.{pairs_of}

@@ -34,7 +34,7 @@ fn mentions(n: u64, t: &Term) -> bool
     }
 }
 
-/// Whether one of the variables without a term is in what is written; the last of them has number 0.
+/// Whether one of the variables without a term is in the written term; the last of them has number 0.
 fn mentions_unbound(bound: &[Option<&Term>], written: &Term) -> bool
     ensures { result ≡ spec.mentions_unbound (bound_of bound.now) (tree_of written.now) }
 {
@@ -46,7 +46,7 @@ fn mentions_unbound(bound: &[Option<&Term>], written: &Term) -> bool
     }
 }
 
-/// The dot with the bindings put in what is written, or Deep.
+/// The dot with the bindings put in the written term, or Deep.
 fn walked_dot(alloc: Global, binds: &[Term], dot: Forced) -> Result<(Term, Term), Stop>
     requires binds { AreOverSo most_levels (tele_of binds.now) }
     ensures { Gives dot_of result (dot_made (tele_of binds.now) (forced_of dot.entry)) }
@@ -101,7 +101,7 @@ fn with_none(alloc: Global, bound: &[Option<&Term>], mut made: Tele) -> Result<T
     }
 }
 
-/// The terms of the clause's variables, in the order of the text, as a leaf has them.
+/// The terms of the clause's variables, in the order in which they are written, as a leaf has them.
 pub fn bound_terms(alloc: Global, pairs: &[Pair]) -> Result<Tele, Stop>
     ensures { Gives tele_of result (Ok (map spec.or_none (all_bound_of (pairs_of pairs.now)))) }
 {
@@ -118,7 +118,7 @@ fn ends(alloc: Global, pairs: &[Pair]) -> Result<(Tele, Items<(Term, Term)>), St
     ends_over(alloc, pairs, bound.as_slice())
 }
 
-/// The same where these are the terms of the clause's variables.
+/// The bindings and dots, where `bound` are the terms of the clause's variables.
 fn ends_over(
     alloc: Global,
     pairs: &[Pair],

@@ -20,7 +20,7 @@ use core_terms::{Items, Stop, Tele, Term, applied, copy_whole};
 use std::alloc::Global;
 use unifier::{Built, built_of, split_spine};
 
-/// The shared term with what a pair was compared with. Nothing tests its height.
+/// The shared term with the head form that a pair was compared with. Nothing tests its height.
 #[cycle(keeping)]
 fn keep(alloc: Global, sig: &Signature, pair: &Pair, t: &Term) -> Result<Term, Stop>
     requires low { tree.height (tree_of t.now) ≤ most_height }

@@ -32,7 +32,7 @@ pub(crate) struct Unmatched<'a> {
     pub term: Term,
 }
 
-/// What an open pair comes to: it is reached, or what says why it is not.
+/// An open pair is reached, or the value says why it is not.
 #[derive(Debug, Drop)]
 pub(crate) enum Arrival<'a> {
     Found(Reached),
@@ -58,7 +58,7 @@ fn keep_unmatched<'a>(first: &mut Option<Unmatched<'a>>, later: Unmatched<'a>)
     }
 }
 
-/// What ends the looking where no pair is reached.
+/// The refusal if no pair is reached.
 fn none_found(
     alloc: Global,
     clause: u32,
@@ -77,7 +77,7 @@ fn none_found(
     }
 }
 
-/// What says that a run was stuck.
+/// The refusal that says that a run was stuck.
 fn stuck_at(clause: u32, run: StuckRun) -> TreeStop
     ensures { stop_of result ≡ stuck_stop clause run }
 {
@@ -96,7 +96,7 @@ fn stuck_at(clause: u32, run: StuckRun) -> TreeStop
     }
 }
 
-/// What says that a term is neither a constructor nor a variable.
+/// The refusal that says that a term is neither a constructor nor a variable.
 fn forced_at(
     alloc: Global,
     clause: u32,
@@ -113,7 +113,7 @@ fn forced_at(
     })
 }
 
-/// What an open pair with this tidied term comes to.
+/// The arrival at an open pair with this tidied term.
 fn arrive_at<'a>(
     alloc: Global,
     sig: &Signature,
@@ -142,7 +142,7 @@ fn arrive_at<'a>(
     }
 }
 
-/// What an open pair comes to, which is tidied first.
+/// The arrival at an open pair, which is tidied first.
 fn arrive<'a>(
     alloc: Global,
     sig: &Signature,
@@ -165,7 +165,7 @@ fn arrive<'a>(
     arrive_at(alloc, sig, own, clause, ctx, pair.pat, term, kernel)
 }
 
-/// The looking from a pair on, with what the pairs before it left.
+/// The looking from a pair on, with the refusals that the pairs before it left.
 fn look_from<'a>(
     alloc: Global,
     sig: &Signature,

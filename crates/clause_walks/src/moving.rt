@@ -33,7 +33,7 @@ fn moved_pair<'a>(alloc: Global, solution: &[Term], pair: &Pair<'a>) -> Result<P
     }
 }
 
-/// The same of each of the pairs, after those that are made.
+/// Each of the pairs moved so, after those that are already there.
 #[cycle(moving)]
 fn moved_onto<'a>(
     alloc: Global,

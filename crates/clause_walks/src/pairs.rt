@@ -60,7 +60,7 @@ pub(crate) fn passes_with<'a>(t: Result<Term, Stop>) -> Result<Pair<'a>, Stop>
     Ok(Pair::Passes(t?))
 }
 
-/// What is written in a dot, with a term that is answered.
+/// The written term of a dot, with a term that is answered.
 pub(crate) fn keeps_with<'a>(written: &'a Term, t: Result<Term, Stop>) -> Result<Pair<'a>, Stop>
     ensures { Gives pair_of result (of_term (spec.Keeps (tree_of written.now)) (shown t)) }
 {
@@ -74,7 +74,7 @@ pub(crate) fn clashes_with<'a>(pat: &'a Pat, t: Result<Term, Stop>) -> Result<Pa
     Ok(Pair::Clashes(pat, t?))
 }
 
-/// The same after pairs that are made.
+/// Patterns that wait at their terms, after pairs that are already there.
 pub(crate) fn waiting_after<'a>(
     alloc: Global,
     pats: &'a [Pat],
@@ -117,7 +117,7 @@ pub fn some_clashes(pairs: &[Pair]) -> bool
     }
 }
 
-/// The same pair, with terms in memory of its own.
+/// A copy of a pair.
 #[cycle(copying)]
 pub(crate) fn copy_pair<'a>(alloc: Global, pair: &Pair<'a>) -> Result<Pair<'a>, Stop>
     ensures { Gives pair_of result (Ok (pair_of pair.now)) }
@@ -135,7 +135,7 @@ pub(crate) fn copy_pair<'a>(alloc: Global, pair: &Pair<'a>) -> Result<Pair<'a>, 
     }
 }
 
-/// The same pairs after pairs that are made.
+/// Copies of pairs after those that are already there.
 #[cycle(copying)]
 pub(crate) fn copy_after<'a>(
     alloc: Global,

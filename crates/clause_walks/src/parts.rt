@@ -1,4 +1,4 @@
-//! What is read of the pairs of a clause.
+//! Parts of the pairs of a clause: clashes, open pairs, dots and bindings.
 ghost use Rattle.std.specs.Prelude.{◌≡◌, ◌++◌, ◌+◌, Ok, OnOk, OnErr, Err, option_map, map};
 ghost use Rattle.core_terms.specs.Answers.{Gives};
 ghost use Rattle.core_terms.specs.Meanings.{tree_of, tele_of};
@@ -14,7 +14,7 @@ use crate::{OpenPair, Pair};
 use core_terms::{Items, Pat, Stop, Tele, Term, applied, copy_tele, copy_whole};
 use std::alloc::Global;
 
-/// What is written in a dot, with the term that it is to be.
+/// The written term of a dot, with the term that it is to be.
 #[derive(Clone, Copy)]
 pub struct Forced<'a> {
     pub written: &'a Term,
@@ -143,7 +143,7 @@ fn add_all_bound<'a>(pairs: &'a [Pair], found: &mut Vec<Option<&'a Term>>) -> Re
     }
 }
 
-/// The terms of the clause's variables, in the order of the text; None where a variable has no term yet.
+/// The terms of the clause's variables, in the order in which they are written; None if a variable has no term yet.
 pub fn all_bound<'a>(alloc: Global, pairs: &'a [Pair]) -> Result<Vec<Option<&'a Term>>, Stop>
     ensures { Gives (λ found. bound_of found.items) result (Ok (spec.all_bound (pairs_of pairs.now))) }
 {

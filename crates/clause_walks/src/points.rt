@@ -71,7 +71,7 @@ fn start(alloc: Global, context: &[Term], goal: &Term, terms: &[Term]) -> Result
     })
 }
 
-/// What an outcome solves for the variables of the point; it has terms for the arguments of a constructor after them.
+/// An outcome's solution for the variables of the point; the terms for the arguments of a constructor come after it.
 pub fn solution_for<'a>(p: &Point, solution: &'a [Term]) -> &'a [Term]
     ensures { tele_of result.now ≡ spec.solution_for (point_of p.now) (tele_of solution.now) }
 {

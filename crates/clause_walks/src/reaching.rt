@@ -38,7 +38,7 @@ pub struct Reached {
     pub runs: Items<Ran>,
 }
 
-/// What the look at a variable comes to.
+/// The result of the look at a variable.
 #[derive(Debug, Drop)]
 pub(crate) enum Reach {
     Found(Reached),
@@ -235,7 +235,7 @@ fn wanted_runs(
     }
 }
 
-/// What the runs of a variable come to.
+/// The result of the runs of a variable.
 fn with_runs(x: u32, found: Looked, wanted: Option<u32>, runs: Runs) -> Reach
     ensures { reach_of result ≡ spec.reached_by x (tree_of found.entry.ty) found.entry.member.number wanted (runs_of runs) }
 {
@@ -285,7 +285,7 @@ fn wanted_of(own: bool, pat: &Pat) -> Option<u32>
     }
 }
 
-/// What an open pair with a variable comes to.
+/// The look at an open pair with a variable.
 pub(crate) fn reach_at(
     alloc: Global,
     sig: &Signature,

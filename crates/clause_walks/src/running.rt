@@ -20,7 +20,7 @@ use std::alloc::Global;
 use unification::Why;
 use unifier::{Outcome, Problem, unify_with};
 
-/// What is kept of the run of a constructor's problem: how many arguments the constructor has, the context of the problem, and the
+/// The end of the run of a constructor's problem: how many arguments the constructor has, the context of the problem, and the
 /// outcome.
 #[derive(Debug, Drop)]
 pub struct Ran {
@@ -72,7 +72,7 @@ fn run_one(
     Ok(ended(con, problem, outcome))
 }
 
-/// What is kept of a run.
+/// The end of a run.
 fn ended(con: &Constructor, problem: Problem, outcome: Outcome) -> Ran
     requires { length con.now.args ≤ most_height }
     ensures { ran_of result ≡ spec.run_end (length con.now.args) (problem_meant problem) (outcome_of outcome) }

@@ -39,7 +39,7 @@ use kernel_check::Kernel;
 use std::alloc::Global;
 use unifier::{Outcome, built_of};
 
-/// What a turn comes to: the walk goes on in a new state, or has ended.
+/// The result of a turn: the walk goes on in a new state, or has ended.
 #[derive(Debug, Drop)]
 pub(crate) enum Next<'a> {
     GoesOn(Point, Items<Pair<'a>>),
@@ -89,7 +89,7 @@ fn solved<'a>(
     Ok(Next::GoesOn(next, moved))
 }
 
-/// What the outcome of the pattern's own constructor comes to.
+/// The turn by the outcome of the pattern's own constructor.
 fn own_turn<'a>(
     alloc: Global,
     sig: &Signature,
@@ -118,7 +118,7 @@ fn own_turn<'a>(
     }
 }
 
-/// What says that the clause's own constructor can't be there.
+/// The refusal that says that the clause's own constructor can't be there.
 fn impossible(
     alloc: Global,
     clause: u32,
@@ -185,7 +185,7 @@ fn ended_unless_solved<'a>(
     }
 }
 
-/// What the runs at a variable come to.
+/// The turn by the runs at a variable.
 fn next_reached<'a>(
     alloc: Global,
     sig: &Signature,
