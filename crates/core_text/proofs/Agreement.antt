@@ -15,7 +15,7 @@ pub data Refused {A : Type 0} (f : List ℕ → Reading A) (z : List ℕ) : Type
   by_character : ((y : List ℕ) → Same z y → f y ≡ wrong y) → Refused f z
   by_name : 0 < run_len z → ((y : List ℕ) → SameName z y → f y ≡ wrong y) → Refused f z
 
--- What is read is read again after the same bytes; where `ahead` says so, before the same character only.
+-- A reading gives the same value after the same bytes; where `ahead` says so, before the same character only.
 pub record Passed {A : Type 0} (ahead : Bool) (f : List ℕ → Reading A) (rest : List ℕ) (a : A) (r : List ℕ) : Type 0 where
   pub front : List ℕ
   pub is : rest ≡ front ++ r
@@ -66,7 +66,7 @@ pub stopped-here : {A : Type 0} (ahead : Bool) (f : List ℕ → Reading A) (res
 stopped-here ahead f rest m is refused =
     subst (Reread ahead f rest) (sym is) (record { front = []; back = rest; is = refl; size = refl; refused = refused })
 
--- ---- the same text, read by a function that answers the same
+-- ---- equal answers of two functions
 
 pub reread-same : {A : Type 0} (ahead : Bool) (f g : List ℕ → Reading A) (rest : List ℕ) (m : Reading A) → ((x : List ℕ) → f x ≡ g x) → Reread ahead f rest m → Reread ahead g rest m
 reread-same ahead f g rest (Ok p) same t = record {

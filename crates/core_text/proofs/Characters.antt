@@ -10,11 +10,11 @@ use Rattle.core_text.specs.Places.{first_character, first_name}
 use Rattle.core_text.specs.Reading.{first}
 use Rattle.core_text.proofs.RunSteps.{run_more, run_end}
 
--- the same first character, as far as it is there
+-- equal first characters, as far as they are there
 abbrev pub Same : List ℕ → List ℕ → Type 0
 Same z y = first_character z ≡ first_character y
 
--- the same name, and the same character after it
+-- equal names, and equal characters after them
 abbrev pub SameName : List ℕ → List ℕ → Type 0
 SameName z y = first_name z ≡ first_name y
 

@@ -1,4 +1,5 @@
--- What holds of what is read and, where a byte is wrong, of the bytes before it: with more after them they are a text that is meant.
+-- Properties of a value that is read and, where a byte is wrong, of the bytes before it: with more after them they are a text that is
+-- meant.
 use Rattle.std.proofs.Common.{◌≡◌, ℕ, suc, ◌+◌, ◌-◌, Bool, true, false, List, [], ◌∷◌, ◌++◌, length, drop, take, refl, sym, ap, ap₂, ◌∙◌, subst, append_assoc, append-nil, arith}
 use Rattle.std.specs.Prelude.{◌==◌, if◌then◌else◌, Ok, Err}
 use Rattle.std.proofs.lemmas.Bool.Decides.{nat_tests}
@@ -18,7 +19,7 @@ pub record Begun (P : List ℕ → Type 0) (rest : List ℕ) (left : ℕ) : Type
   pub size : length back ≡ left
   pub whole : P (front ++ more)
 
--- what holds of what is read, and of the bytes before the place where it is wrong
+-- a property of a value that is read, and one of the bytes before the place where reading is wrong
 abbrev pub Meets : {A : Type 0} → (A → List ℕ → Type 0) → (List ℕ → Type 0) → List ℕ → Reading A → Type 0
 Meets P Q rest (Ok p) = P p.0 p.1
 Meets P Q rest (Err (Wrong left)) = Begun Q rest left
@@ -95,7 +96,7 @@ begun-word V text word rest whole at f =
     (front-less V (text ++ take k word) (drop k word)
     (subst (IsFront V) (ap (λ s. text ++ s) (sym (take-append-drop k word)) ∙ sym (append_assoc text (take k word) (drop k word))) f))
 
--- ---- what is read, and then more
+-- ---- reading, and then more
 
 pub meets-wrong : {A : Type 0} (Q : A → List ℕ → Type 0) (V : List ℕ → Type 0) (text rest whole : List ℕ) → whole ≡ text ++ rest → IsFront V text → Meets Q V whole (wrong rest)
 meets-wrong Q V text rest whole at f = begun-at V text rest whole (length rest) at refl f
@@ -108,7 +109,7 @@ pub meets-if : {A : Type 0} (Q : A → List ℕ → Type 0) (V : List ℕ → Ty
 meets-if Q V whole true x y first second = first refl
 meets-if Q V whole false x y first second = second refl
 
--- what is read has another property, and the place is the same
+-- another property of the value that is read, at the same place
 pub meets-ensures : {A : Type 0} (P Q : A → List ℕ → Type 0) (V : List ℕ → Type 0) (whole : List ℕ) (m : Reading A) → Ensures Q m → Meets P V whole m → Meets Q V whole m
 meets-ensures P Q V whole (Ok p) so h = so
 meets-ensures P Q V whole (Err (Wrong left)) so h = h
@@ -123,7 +124,7 @@ meets-then P Q U V text rest whole (Err (Wrong left)) next at over h k = begun-p
 meets-then P Q U V text rest whole (Err Memory) next at over h k = tt
 meets-then P Q U V text rest whole (Err (Nested left)) next at over h k = begun-past U V text rest whole left at over h
 
--- the same where what is read first and what follows are parts of one whole
+-- a part is read first, and then more, as parts of one whole
 pub meets-on : {A B : Type 0} (P : A → List ℕ → Type 0) (Q : B → List ℕ → Type 0) (V : List ℕ → Type 0) (whole : List ℕ) (m : Reading A) (next : A → List ℕ → Reading B) → Meets P V whole m → ((a : A) (r : List ℕ) → P a r → Meets Q V whole (next a r)) → Meets Q V whole (and_then m next)
 meets-on P Q V whole (Ok p) next h k = k p.0 p.1 h
 meets-on P Q V whole (Err (Wrong left)) next h k = h

@@ -12,22 +12,22 @@ pub data OrNested (H : Type 0) {A : Type 0} (m : Reading A) (a : A) (r : List �
   is_read : m ≡ Ok (a, r) → OrNested H m a r
   is_nested : (left : ℕ) → H → m ≡ Err (Nested left) → OrNested H m a r
 
--- what is known of the term says more
+-- a property of the term that follows from another
 pub or-weaker : {H K : Type 0} {A : Type 0} {m : Reading A} {a : A} {r : List ℕ} → (H → K) → OrNested H m a r → OrNested K m a r
 or-weaker f (is_read is) = is_read is
 or-weaker f (is_nested left high is) = is_nested left (f high) is
 
--- the same reading
+-- equal readings
 pub or-same : {H : Type 0} {A : Type 0} (m k : Reading A) {a : A} {r : List ℕ} → m ≡ k → OrNested H k a r → OrNested H m a r
 or-same m k e (is_read is) = is_read (e ∙ is)
 or-same m k e (is_nested left high is) = is_nested left high (e ∙ is)
 
--- what is read, and then more
+-- reading, and then more
 pub or-then : {H : Type 0} {A B : Type 0} {m : Reading A} {a : A} {r : List ℕ} (next : A → List ℕ → Reading B) {b : B} {s : List ℕ} → OrNested H m a r → OrNested H (next a r) b s → OrNested H (and_then m next) b s
 or-then {a = a} {r = r} next (is_read is) h = or-same _ (next a r) (ap (λ k. and_then k next) is) h
 or-then next (is_nested left high is) h = is_nested left high (ap (λ k. and_then k next) is)
 
--- the same with another form of what is read
+-- another form of the value that is read
 pub or-other : {H : Type 0} {A : Type 0} (m : Reading A) {a b : A} {r : List ℕ} → a ≡ b → OrNested H m a r → OrNested H m b r
 or-other m {r = r} e (is_read is) = is_read (is ∙ ap (λ x. Ok (x, r)) e)
 or-other m e (is_nested left high is) = is_nested left high is

@@ -1,4 +1,4 @@
--- What may be in a line over a signature is spelled right there, and an entry that may follow others is read back.
+-- A term that may be in a line over a signature is spelled right there, and an entry that may follow others is read back.
 use Rattle.std.proofs.Common.{◌≡◌, ◌≢◌, inl, inr, ℕ, suc, ◌+◌, ◌<◌, ◌≤◌, ◌^◌, Bool, true, false, List, [], ◌∷◌, ◌++◌, map, length, refl, sym, ap, ◌∙◌, subst, arith}
 use Rattle.std.specs.Prelude.{◌==◌, ◌&&◌, ◌||◌, nat_lt, if◌then◌else◌, Option, Some, None, option_and_then, slice_get, All, AllPairs, bytes_eq, codes}
 use Rattle.std.specs.List.{list_any}
@@ -59,7 +59,7 @@ plain-family T has name n e = by (find T name) refl e
     by (Some (FoundEntry k)) found is = entry k (find-named T name (FoundEntry k) found) (slice_get T.entries k) refl is
     by (Some (FoundCon f c)) found is = absurd (cc)
 
--- what a name that is written as an eliminator would need
+-- a name that is written as an eliminator is an eliminator's
 elim-name : (name family : List ℕ) (p : List ℕ × ℕ) → number_at_end name ≡ Some p → before_end (codes "!elim.") p.0 ≡ Some family → list_any (λ b. b == 33) family ≡ false → is_eliminator_name name ≡ true
 elim-name name family p number word plain =
     ap (λ o. is_some (option_and_then (λ p. option_and_then (λ family. if list_any (λ b. b == 33) family then None else Some p.1) (before_end (codes "!elim.") p.0)) o)) number
@@ -110,7 +110,7 @@ own-unknown T distinct has own plain unknown =
 
 -- ---- names under the family that is being declared
 
--- what is spelled over the signature is spelled there too
+-- a term that is spelled over the signature is spelled there too
 pub still-spelled : (T : Signature) (own name : List ℕ) (t : Term) → symbol T [] own ≡ None → IsSpelled (symbol T []) name t → IsSpelled (symbol T own) name t
 still-spelled T own name t unknown is = record {
   found = by (bytes_eq name own) refl;
@@ -239,7 +239,7 @@ new-entry T n (EliminatorAt g m) fresh is = is
 new-entry T n (AxiomKAt i m) fresh is = is
 new-entry T n (Definition name type body) fresh is = (new-alone T name [] fresh is.0, is.1, is.2)
 
--- ---- what may be there is spelled right
+-- ---- terms that may be there are spelled right
 
 -- a term whose variables can be written
 abbrev pub IsShort : Term → Type 0

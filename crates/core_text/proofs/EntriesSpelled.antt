@@ -138,7 +138,7 @@ spelled-lines-are-read S raw before others distinct plain is short =
     text : List ℕ
     text = before ++ (line ++ others)
 
-    -- what is read there, with its offset
+    -- the reading there, with its offset
     outcome : Reading RawEntry → Result (Option (RawEntry × ℕ)) CoreTextStop
     outcome m = with_offset (length text) (shown_by (length S.entries) (line ++ others) m)
 

@@ -1,4 +1,4 @@
--- Reading entries, computed: what lines show, and the offsets at which others are wrong.
+-- Reading entries, computed: the entries that lines show, and the offsets at which other lines are wrong.
 use Rattle.std.proofs.Common.{◌≡◌, false, [], ◌∷◌, refl}
 use Rattle.std.specs.Prelude.{codes, Some, None, Ok, Err}
 use Rattle.std.specs.Str.{is_utf8, chars}

@@ -1,4 +1,4 @@
--- What is read as the line of a family, and the bytes before the place where such a line is wrong.
+-- Lines that are read as those of families, and the bytes before the place where such a line is wrong.
 use Rattle.std.proofs.Common.{◌≡◌, ℕ, zero, suc, ◌+◌, ◌<◌, ◌^◌, true, false, List, [], ◌∷◌, ◌++◌, length, drop, refl, sym, ap, ◌∙◌, subst, append_assoc, append-nil, arith}
 use Rattle.std.specs.Prelude.{◌==◌, Ok, Option, Some, None, codes}
 use Rattle.std.proofs.lemmas.List.{length-append}

@@ -44,7 +44,7 @@ definition-text S name type body rest = simp append_assoc
 
 -- ---- whole lines
 
--- the line of an entry is the line of what it shows
+-- the line of an entry is the line that it shows
 pub line-shown : (S : Signature) (n : ℕ) (e : Entry) → line_text S (entry_shown n e) ≡ entry_line S n e
 line-shown S n (FamilyOf f) = refl
 line-shown S n (EliminatorAt g m) = refl

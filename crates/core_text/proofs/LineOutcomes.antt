@@ -1,4 +1,4 @@
--- What holds of lines that are read.
+-- Properties of lines that are read.
 use Rattle.std.proofs.Common.{◌≡◌, ℕ, zero, suc, ◌+◌, ◌<◌, ◌≤◌, Bool, true, false, List, [], ◌∷◌, ◌++◌, map, length, drop, take, refl, sym, subst, arith}
 use Rattle.std.specs.Prelude.{◌==◌, ◌&&◌, not, Ok, Option, Some, None, codes, All}
 use Rattle.std.specs.List.{list_any}
@@ -116,7 +116,7 @@ axiom_k-fits S bound rest has le =
 
 -- ---- items that are read one after the other
 
--- what holds of the items so far, and still holds with one more, holds of all
+-- a property of the items so far that is kept with one more is a property of all
 collected-fit : {A : Type 0} (P : List A → Type 0) (bound : ℕ) (next : List A → List ℕ → Reading (Option A)) (N : List A → Option A → Type 0) → ((found : List A) (rest : List ℕ) → P found → length rest ≤ bound → Ensures (λ o r. N found o × (length r ≤ bound)) (next found rest)) → ((found : List A) (a : A) → P found → N found (Some a) → P (found ++ a ∷ [])) → (k : ℕ) (found : List A) (rest : List ℕ) → P found → length rest ≤ bound → Ensures (λ xs r. P xs × (length r ≤ bound)) (collected next k found rest)
 collected-fit {A} P bound next N step grows zero found rest so le = tt
 collected-fit {A} P bound next N step grows (suc k) found rest so le =

@@ -167,7 +167,7 @@ module _ (S : Signature) (own : List ℕ) where
     reread = λ rest. whole-reread next_of (λ found. refl) next_of-moves (λ found. alike-next-parameter (length found)) (length rest) [] rest (omega arith);
   }
 
-  -- what begins with the parameters begins with a space
+  -- a reading that begins with the parameters begins with a space
   parameters-start : {B : Type 0} (h : List Term → List ℕ → Reading B) (r : List ℕ) → StartsAt r (and_then (parameters_at S own r) h)
   parameters-start h r =
       subst (λ m. StartsAt r (and_then m h)) (all-step next_of (λ found. refl) next_of-moves [] r)
@@ -298,7 +298,7 @@ module _ (S : Signature) (own : List ℕ) where
   abbrev k_or_data : Bool → List ℕ → Reading RawEntry
   k_or_data k x = if k && (first x == 97) then k_line x else data_line x
 
-  -- what is no definition
+  -- a line that is no definition
   abbrev other_line : Bool → List ℕ → Reading RawEntry
   other_line k x = if first x == 101 then after (past (codes "elim ") x) (eliminator_at S) else k_or_data k x
 

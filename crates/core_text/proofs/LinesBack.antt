@@ -1,4 +1,4 @@
--- What is read of the parts of a line, and what comes between them.
+-- The parts of a line, and the bytes between them, are read back.
 use Rattle.std.proofs.Common.{◌≡◌, ℕ, ◌+◌, ◌-◌, ◌≤◌, Bool, true, false, List, [], ◌∷◌, ◌++◌, length, drop, take, refl, sym, ap, ap₂, ◌∙◌, subst, append_assoc, append-nil, arith}
 use Rattle.std.specs.Prelude.{◌==◌, ◌&&◌, if◌then◌else◌, Ok, Option, None, codes, decimal}
 use Rattle.std.proofs.lemmas.List.{length-append}
@@ -82,7 +82,7 @@ parameters-long S (a ∷ tele) =
 
 -- ---- constructors
 
--- what comes before a constructor after those found
+-- the bytes before a constructor after those found
 abbrev pub separator : List RawConstructor → List ℕ
 separator [] = codes " "
 separator (c ∷ found) = codes " ; "

@@ -1,4 +1,4 @@
--- What is read as a line of a definition or of an instance, and the bytes before the place where such a line is wrong.
+-- Lines that are read as those of definitions or of instances, and the bytes before the place where such a line is wrong.
 use Rattle.std.proofs.Common.{◌≡◌, ℕ, ◌<◌, ◌^◌, true, false, List, [], ◌++◌, drop, take, refl, sym, ap, ap₂, ◌∙◌, subst, append_assoc, append-nil, arith, inl, inr}
 use Rattle.std.specs.Prelude.{◌⊎◌, Ok, Option, Some, codes, decimal}
 use Rattle.std.proofs.lemmas.Bool.{false≢true}
@@ -45,7 +45,7 @@ pub data IsSpent (S : Signature) (text : List ℕ) : Type 0 where
 abbrev pub Goes : Signature → List ℕ → Type 0
 Goes S text = IsLine S text ⊎ IsSpent S text
 
--- what was read of the whole is a line over S
+-- the bytes that were read are a line over S
 abbrev pub Read : Signature → List ℕ → RawEntry → List ℕ → Type 0
 Read S whole raw r = (whole ≡ raw_line S raw ++ r) × IsEntryOver S raw
 

@@ -1,4 +1,4 @@
--- What is read as an entry is the line of the entry.
+-- The bytes that are read as an entry are the line of the entry.
 use Rattle.std.proofs.Common.{◌≡◌, ℕ, zero, suc, ◌+◌, ◌-◌, ◌<◌, ◌≤◌, ◌^◌, Bool, true, false, List, [], ◌∷◌, ◌++◌, length, drop, take, refl, sym, ap, ap₂, ◌∙◌, subst, append_assoc, append-nil, arith}
 use Rattle.std.specs.Prelude.{◌==◌, ◌&&◌, not, nat_lt, if◌then◌else◌, Result, Ok, Err, Option, Some, None, codes, decimal}
 use Rattle.std.proofs.lemmas.Bool.{false≢true, and_from}
@@ -37,9 +37,9 @@ use Rattle.core_text.proofs.SymbolsRead.{found_symbol-written, symbol-written}
 use Rattle.core_text.proofs.TermsRead.{Writes, term-writes}
 use Rattle.core_text.proofs.WordsRead.{ensures-word, first-is, level-read}
 
--- ---- what is read where something is known of T
+-- ---- properties under a condition on T
 
--- what is known is used where it is needed
+-- the condition is used where it is needed
 ensures-later : {A : Type 0} (H : Type 0) (P : A → List ℕ → Type 0) (m : Reading A) → (H → Ensures P m) → Ensures (λ a r. H → P a r) m
 ensures-later H P (Ok p) k = k
 ensures-later H P (Err e) k = tt
@@ -354,7 +354,7 @@ entry-read : (S : Signature) (e : Entry) (rest : List ℕ) → length rest < 2 ^
 entry-read S e [] short = λ is. absurd (cc)
 entry-read S e (b ∷ rest) short = shown-read S e (length S.entries) (b ∷ rest) (line_at S [] (b ∷ rest)) (line-read S e (b ∷ rest) short)
 
--- what is left of a text after all bytes before its end is that end
+-- the bytes of a text after all those before its end are that end
 drop-end : (text front r : List ℕ) → text ≡ front ++ r → drop (length text - length r) text ≡ r
 drop-end text front r is =
     let place : length text - length r ≡ length front = omega (arith, ap length is, length-append front r) in

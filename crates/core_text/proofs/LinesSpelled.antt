@@ -1,4 +1,4 @@
--- A line whose names and terms are spelled right is read as what it says, unless a term in it is too deep or too high.
+-- A line whose names and terms are spelled right is read so, unless a term in it is too deep or too high.
 use Rattle.std.proofs.Common.{◌≡◌, ℕ, zero, suc, ◌+◌, ◌<◌, ◌≤◌, Bool, true, false, List, [], ◌∷◌, ◌++◌, map, length, drop, refl, sym, ap, ◌∙◌, subst, append_assoc, append-nil, arith}
 use Rattle.std.specs.Prelude.{◌==◌, cond, if◌then◌else◌, nat_le, Ok, Err, Some, None, All, codes, decimal}
 use Rattle.std.proofs.lemmas.Bool.{false≢true}
@@ -157,7 +157,7 @@ module _ (S W : Signature) (H : Type 0) where
 
 -- ---- lines
 
--- a line that says `raw`, and what is read of it
+-- a line that says `raw`, and the reading of it
 pub record Line (S : Signature) (line : List ℕ) (raw : RawEntry) (rest : List ℕ) : Type 0 where
   pub starts : Starts (line ++ rest)
   pub reads : OrNested (HasLowTerms raw → ⊥) (line_at S [] (line ++ rest)) raw rest

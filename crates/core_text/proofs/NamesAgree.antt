@@ -31,7 +31,7 @@ reread-past f g v r (Err (Wrong left)) same starts t = record {
 reread-past f g v r (Err (Nested left)) same starts t = tt
 reread-past f g v r (Err Memory) same starts t = tt
 
--- what comes after the run at the front
+-- the bytes after the run at the front
 abbrev pub after_run : List ℕ → List ℕ
 after_run rest = drop (run_len rest) rest
 
@@ -51,7 +51,7 @@ run-is-again rest y same =
       past = ap (λ k. drop k (run rest ++ y)) size ∙ drop_at (run rest) y (run_len rest) long;
     }
 
--- what a name says by itself depends on the name, or on the first character where there is none
+-- a refusal that depends on the run alone depends on the name, or on the first character if there is none
 pub refused-named : {A : Type 0} (f : List ℕ → Reading A) (z : List ℕ) → ((y : List ℕ) → run y ≡ run z → f y ≡ wrong y) → Refused f z
 refused-named f z k = by (run_len z) refl
   where

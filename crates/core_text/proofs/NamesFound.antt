@@ -1,4 +1,4 @@
--- Where the names of a signature are all different, each is found as what it names.
+-- Where the names of a signature are all different, each is found as the entry or constructor that it names.
 use Rattle.std.proofs.Common.{◌≡◌, ◌≢◌, ℕ, zero, suc, ◌+◌, ◌<◌, false, List, [], ◌∷◌, ◌++◌, map, length, get_or, refl, sym, ap, ◌∙◌, subst, arith}
 use Rattle.std.specs.Prelude.{cond, Option, Some, slice_get, AllPairs, bytes_eq}
 use Rattle.std.specs.Map.{lookup, keys_of}

@@ -1,4 +1,4 @@
--- Where names are readable, each symbol is looked up by its name and told apart from what follows it.
+-- Where names are readable, each symbol is looked up by its name and ends before the bytes that follow.
 use Rattle.std.proofs.Common.{◌≡◌, ◌≢◌, ℕ, zero, suc, ◌<◌, ◌≤◌, Bool, true, false, cond, List, [], ◌∷◌, ◌++◌, length, refl, sym, ap, ◌∙◌, subst, append_assoc, append-nil, arith}
 use Rattle.std.specs.Prelude.{◌==◌, nat_lt, if◌then◌else◌, Option, Some, None, option_and_then, slice_get, All, AllPairs, bytes_eq, codes, decimal}
 use Rattle.std.specs.List.{list_any}
@@ -41,7 +41,7 @@ spelled-by look name t chars some no_sort no_let found = record {
   no_arrow = λ rest. no-dash name rest chars some;
 }
 
--- what is so of all keys is so of one that is found
+-- a property of all keys is one of a key that is found
 key-found : (P : List ℕ → Type 0) (name : List ℕ) (known : List (List ℕ × Found)) (found : Found) → All P (keys_of known) → lookup (bytes_eq name) known ≡ Some found → P name
 key-found P name [] found all e = absurd (cc)
 key-found P name (p ∷ known) found all e =

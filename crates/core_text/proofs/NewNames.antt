@@ -50,7 +50,7 @@ some-bytes : (name : List ℕ) → shape_of name ≡ Declarable → 0 < length n
 some-bytes [] shape = absurd (shapes-apart shape none-shape)
 some-bytes (b ∷ name) shape = omega arith
 
--- ---- what may be declared
+-- ---- names that may be declared
 
 none-is : {A : Type 0} (o : Option A) → is_some o ≡ false → o ≡ None
 none-is None e = refl

@@ -191,7 +191,7 @@ goes-same z y same = by (name_char_len z) refl
 -- ---- names that are declared
 
 module _ (S : Signature) (own : List ℕ) (found : List RawConstructor) where
-  -- by the shape, where the name and what comes after it are told apart
+  -- by the shape, with the name apart from the bytes after it
   abbrev on_shape : Shape → Bool → List ℕ → List ℕ → List ℕ → Reading (List ℕ)
   on_shape Declarable allowed name r x = if allowed then Ok (name, r) else wrong x
   on_shape Underscore allowed name r x = wrong (drop 1 x)

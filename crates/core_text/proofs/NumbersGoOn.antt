@@ -58,7 +58,7 @@ index-meets n rest some le =
 
 -- ---- levels
 
--- what is read is a level that may be there, and its text is at the front
+-- the value that is read is a level that may be there, and its text is at the front
 abbrev pub ReadsLevel : List Bool → List ℕ → ℕ → List ℕ → Type 0
 ReadsLevel levels rest v r = (rest ≡ decimal v ++ r) × (is_left levels v ≡ true)
 

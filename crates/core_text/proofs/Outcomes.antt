@@ -1,4 +1,4 @@
--- What holds of what is read, if anything is.
+-- Properties of a value that is read, if any is.
 use Rattle.std.proofs.Common.{◌≡◌, ℕ, zero, suc, ◌-◌, ◌<◌, ◌≤◌, Bool, true, false, List, [], ◌∷◌, length, drop, refl, arith}
 use Rattle.std.specs.Prelude.{◌==◌, nat_le, nat_lt, if◌then◌else◌, Ok, Err}
 use Rattle.std.proofs.lemmas.Bool.{false≢true}
@@ -27,11 +27,11 @@ ensures-past Q word rest next k = by (shared rest word == length word)
     by true = k (drop (length word) rest) (length-drop (length word) rest)
     by false = tt
 
--- the same where only the number of bytes matters
+-- `ensures-past` where only the number of bytes matters
 pub ensures-after : {B : Type 0} (Q : B → List ℕ → Type 0) (n : ℕ) (word rest : List ℕ) (next : List ℕ → Reading B) → length rest ≤ n → ((r : List ℕ) → length r ≤ n → Ensures Q (next r)) → Ensures Q (after (past word rest) next)
 ensures-after Q n word rest next short k = ensures-past Q word rest next (λ r is. k r (omega arith))
 
--- ---- what tests of numbers say
+-- ---- tests of numbers
 
 pub lt-is : (a b : ℕ) → nat_lt a b ≡ true → a < b
 lt-is a b e = grind (arith, nat_tests)

@@ -1,4 +1,4 @@
--- What may be in a line over the entries of a signature, part by part.
+-- The parts that a line over the entries of a signature may have.
 use Rattle.std.proofs.Common.{◌≡◌, ℕ, suc, ◌+◌, Bool, true, false, List, [], ◌∷◌, ◌++◌, length, sym, subst, append_assoc, append-nil, arith}
 use Rattle.theory.specs.Terms.{Term, Sort, Pi, Lam, App, Let}
 use Rattle.theory.specs.Telescopes.{Telescope}

@@ -66,7 +66,7 @@ line-meets S rest short =
 record Unfinished (rest : List ℕ) : Type 0 where
   are : AreNotes (rest ++ codes "\n")
 
--- the same after the `#` of such a line
+-- an unfinished line after its `#`
 record UnfinishedInside (rest : List ℕ) : Type 0 where
   text : List ℕ
   others : List ℕ
@@ -114,7 +114,7 @@ notes-stop true (b ∷ rest) h e = by (notes-stop false rest h) (notes-stop true
           },
         )
 
--- ---- what comes before the place
+-- ---- the bytes before the place
 
 goes-with : (S : Signature) (notes front more : List ℕ) → AreNotes notes → Goes S (front ++ more) → GoesOn S (notes ++ front) ⊎ NoneLeft S (notes ++ front)
 goes-with S notes front more are (inl line) =
@@ -144,7 +144,7 @@ not-memory : (p : ℕ) → IsRefused p (Err Exhausted) → ⊥
 not-memory p (inl e) = absurd (cc)
 not-memory p (inr e) = absurd (cc)
 
--- the offset of what was wrong
+-- the offset of a wrong byte
 wrong-place : (p q : ℕ) → IsRefused q (Err (NotCoreText p)) → p ≡ q
 wrong-place p q (inl e) = place-is e
   where
@@ -152,7 +152,7 @@ wrong-place p q (inl e) = place-is e
     place-is e = cc
 wrong-place p q (inr e) = absurd (cc)
 
--- and of what was too deep
+-- and of a term that is too deep
 deep-place : (p q : ℕ) → IsRefused q (Err (Nested p)) → p ≡ q
 deep-place p q (inl e) = absurd (cc)
 deep-place p q (inr e) = place-is e

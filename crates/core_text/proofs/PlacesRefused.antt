@@ -50,7 +50,7 @@ notes-at true (b ∷ rest) = by (notes-at (not (b == 10)) rest)
 
 -- ---- entries
 
--- what the reader says of a family that shows no record
+-- the line is that of a family that shows no record
 abbrev pub ReadsNoRecord : Signature → List ℕ → Type 0
 ReadsNoRecord S rest =
     (raw : RawFamily) × (past : List ℕ) × (line_at S [] rest ≡ Ok (RawFamilyOf raw, past)) × (shows_record (length S.entries) raw ≡ false)
@@ -69,7 +69,7 @@ entry-wrong : (S : Signature) (b : ℕ) (r x y : List ℕ) → take 1 (b ∷ r) 
 entry-wrong S b r [] y same e = absurd (cc)
 entry-wrong S b r (c ∷ x) y same e = ap (shown_by (length S.entries) (c ∷ x)) e
 
--- what shows no entry is a family
+-- a line that shows no entry is that of a family
 family-hides : (n : ℕ) (e : RawEntry) → shows_entry n e ≡ false → (raw : RawFamily) × (e ≡ RawFamilyOf raw) × (shows_record n raw ≡ false)
 family-hides n (RawFamilyOf raw) off = (raw, refl, off)
 family-hides n (RawEliminator g m) off = absurd (cc)

@@ -1,4 +1,4 @@
--- What callers know of an entry that was read.
+-- Properties of an entry that was read, as callers use them.
 use Rattle.std.proofs.Common.{◌≡◌, ◌≢◌, ℕ, zero, suc, ◌<◌, ◌≤◌, Bool, true, false, List, [], ◌∷◌, ◌++◌, map, length, get_or, refl, sym, ◌∙◌, subst, append_assoc, append-nil, arith}
 use Rattle.std.specs.Prelude.{◌||◌, Result, Ok, Err, Option, Some, None, IfOk, IfSome, bytes_eq}
 use Rattle.std.specs.List.{list_any}

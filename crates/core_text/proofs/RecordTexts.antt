@@ -197,7 +197,7 @@ levels-zero f types indices cons = record {
         All-map (λ (a : pure.Argument). level_of a ≡ 0) (argument_of (length f.params)) c.args
         (All-weaker (λ (a : Arg). a.level ≡ 0) (λ a. level_of (argument_of (length f.params) a) ≡ 0) (λ a zero. level_of-argument (length f.params) (tree_of a.ty) a.level a.kind ∙ zero) c.args levels)
 
--- ---- the same family with other constructors
+-- ---- a family with other constructors
 
 pub kinds-kept : (n : ℕ) (f g : Family) (cons : List Constructor) → g.params ≡ f.params → g.indices ≡ f.indices → All (λ c. HaveKinds n (family_of f) 0 c.args) cons → All (λ c. HaveKinds n (family_of g) 0 c.args) cons
 kinds-kept n f g cons params indices kinds =

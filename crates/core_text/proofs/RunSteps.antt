@@ -10,7 +10,7 @@ pub no_utf8 : (bytes : List ℕ) → ¬ IsUtf8 bytes → is_utf8 bytes ≡ false
 no_utf8 bytes not_so =
     elim (is_utf8 bytes) as (λ b. is_utf8 bytes ≡ b → b ≡ false) [ true ↦ λ e. absurd (not_so (IsUtf8-from_is_utf8 bytes e)) | false ↦ λ e. refl ] refl
 
--- what is passed over may be dropped
+-- bytes that are passed over may be dropped
 run_skip : (k : ℕ) (bytes : List ℕ) → run_after k bytes ≡ run_after 0 (drop k bytes)
 run_skip zero bytes = refl
 run_skip (suc k) [] = refl
@@ -31,7 +31,7 @@ pub run_end : (bytes : List ℕ) → name_char_len bytes ≡ 0 → run_len bytes
 run_end [] is = refl
 run_end (b ∷ bytes) is = rw is refl
 
--- what was taken comes before the rest
+-- the bytes that are taken come before the rest
 pub taken-front : (k : ℕ) (xs : List ℕ) → xs ≡ take k xs ++ drop (length (take k xs)) xs
 taken-front zero xs = refl
 taken-front (suc k) [] = refl

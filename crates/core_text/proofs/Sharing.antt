@@ -1,4 +1,4 @@
--- What texts share at their beginning.
+-- The bytes that texts share at their beginning.
 use Rattle.std.proofs.Common.{◌≡◌, ℕ, ◌≤◌, List, [], ◌∷◌, drop, length, refl, ap, ◌∙◌}
 use Rattle.std.proofs.lemmas.List.{drop_all}
 use Rattle.core_text.specs.Heads.{shared}

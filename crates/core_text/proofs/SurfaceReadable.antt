@@ -24,7 +24,7 @@ use Rattle.core_text.specs.SymbolLookup.{number_at_end, before_end}
 use Rattle.core_text.specs.declared.declared_names.Shape.TheVariants.{Declarable, Malformed}
 use Rattle.core_text.proofs.SymbolsRead.{same-bytes, number-read, word-read}
 
--- ---- what spells a plain name
+-- ---- texts that spell a plain name
 
 plain-view : (of : TokenKind) (text : List ℕ) (fits : Bool) → Spells of text fits → of ≡ Plain → IsName text × (is_keyword text ≡ false)
 plain-view of text fits (keyword name word) is = absurd (cc)

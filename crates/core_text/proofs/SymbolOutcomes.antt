@@ -1,4 +1,4 @@
--- What a name is found as.
+-- The entry or constructor that a name is found as is in the signature.
 use Rattle.std.proofs.Common.{◌≡◌, ℕ, suc, ◌+◌, ◌≤◌, Bool, true, false, List, [], ◌∷◌, map, length, refl, subst, arith}
 use Rattle.std.specs.Prelude.{cond, Option, Some, None, option_and_then, slice_get, All, bytes_eq}
 use Rattle.std.specs.Map.{lookup}
@@ -15,7 +15,7 @@ use Rattle.core_sig.specs.declared.entry.Found.TheVariants.{Entry as FoundEntry,
 pub some-is : {A : Type 0} {a b : A} → ◌≡◌ {A = Option A} (Some a) (Some b) → a ≡ b
 some-is e = cc
 
--- ---- what a name is found as
+-- ---- found entries and constructors
 
 abbrev IsFoundIn : Signature → Found → Type 0
 IsFoundIn S (FoundEntry n) = Unit {0}

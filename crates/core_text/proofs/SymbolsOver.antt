@@ -1,4 +1,4 @@
--- What a name stands for is a term over the signature, with levels that can be written.
+-- The symbol of a name is a term over the signature, with levels that can be written.
 use Rattle.std.proofs.Common.{◌≡◌, ℕ, Bool, true, false, List, [], length, refl, subst, inl, inr, arith}
 use Rattle.std.specs.Prelude.{◌&&◌, nat_lt, if◌then◌else◌, Option, Some, None, option_and_then, slice_get, bytes_eq, codes}
 use Rattle.std.proofs.lemmas.Bool.{and_parts}

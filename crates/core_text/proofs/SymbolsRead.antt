@@ -25,7 +25,7 @@ use Rattle.core_text.proofs.Outcomes.{le-is}
 pub same-bytes : (x y : List ℕ) → bytes_eq x y ≡ true → x ≡ y
 same-bytes x y e = (bytes_eq-Decides x y).0 e
 
--- ---- what is found has the name
+-- ---- found entries and constructors have the name
 
 abbrev pub found_name : Signature → Found → List ℕ
 found_name S (FoundEntry n) = name_at S n

@@ -71,7 +71,7 @@ module _ (T S : Signature) (own : Bool) where
       meets-then (ReadsTerm T S own n rest) Q (IsText T S own n) V text rest whole m next at
       (λ x u. subst (λ y. IsFront V (text ++ y)) (sym u.1) (over u.0 u.2)) h (λ t r so. k t r so.0 so.1)
 
-  -- The same after a word: a term is read after the word that comes after a text, and then more.
+  -- A term is read after the word that comes after a text, and then more; text, word and any such term are a front.
   pub after-term : {B : Type 0} (Q : B → List ℕ → Type 0) (V : List ℕ → Type 0) (n : ℕ) (text word rest whole : List ℕ) (inner : List ℕ → Reading Term) (next : Term → List ℕ → Reading B) → whole ≡ text ++ rest → ((t : Term) → IsTermOver S own n t → IsFront V (text ++ (word ++ term_text T t))) → ((r : List ℕ) → Meets (ReadsTerm T S own n r) (IsText T S own n) r (inner r)) → ((t : Term) (r : List ℕ) → rest ≡ word ++ (term_text T t ++ r) → IsTermOver S own n t → Meets Q V whole (next t r)) → Meets Q V whole (and_then (after (past word rest) inner) next)
   after-term Q V n text word rest whole inner next at over reads k =
       meets-after (ReadsTerm T S own n) Q (IsText T S own n) V text word rest whole inner next at

@@ -1,4 +1,4 @@
--- What holds of terms that are read: they may be there, they are low, and no byte is read twice.
+-- Properties of terms that are read: they may be there, they are low, and no byte is read twice.
 use Rattle.std.proofs.Common.{◌≡◌, ℕ, zero, suc, ◌+◌, ◌-◌, ◌<◌, ◌≤◌, Bool, true, false, List, [], ◌∷◌, length, drop, take, refl, arith}
 use Rattle.std.specs.Prelude.{◌==◌, ◌&&◌, nat_le, nat_lt, if◌then◌else◌, Ok, Err, Option, Some, None, codes, bytes_eq}
 use Rattle.std.proofs.lemmas.Bool.{false≢true}
@@ -84,7 +84,7 @@ sort-fits S own n bound rest le =
     (λ r within. as_term-fits S own n bound Sort (IsLevel sort_levels bound) (read_level sort_levels r)
     (λ v e h. let lt = left-below sort_levels v h.0 in record { over = record { symbols = omega (arith, lt); free = omega arith }; low = omega arith; within = h.1 }) (read_level-within sort_levels bound r within))
 
--- what names stand for are symbols over the signature
+-- names are looked up as symbols over the signature
 abbrev pub AreSymbols : Signature → Bool → (List ℕ → Option Term) → Type 0
 AreSymbols S own look = (name : List ℕ) (t : Term) → look name ≡ Some t → IsSymbol S own t
 

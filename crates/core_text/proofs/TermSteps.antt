@@ -47,7 +47,7 @@ pub arguments_none : (inner : ℕ → List ℕ → Reading Term) (k : ℕ) (f : 
 arguments_none inner zero f n rest none = refl
 arguments_none inner (suc k) f n rest none = absurd (omega (arith, none))
 
--- what comes after the space that follows the first term in parentheses
+-- the reading after the space that follows the first term in parentheses
 after_space : (inner : ℕ → List ℕ → Reading Term) (a : Term) (n : ℕ) (rest r : List ℕ) → Ok r ≡ past (codes " ") rest → (if first r == 45 then product_from inner a n r else spine_from inner a n r) ≡ after_first inner a n rest
 after_space inner a n rest r is =
     ap (λ m. after m (λ r. if first r == 45 then product_from inner a n r else spine_from inner a n r)) is

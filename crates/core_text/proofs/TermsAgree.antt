@@ -83,7 +83,7 @@ no-l : (y : List ℕ) → (first y == 108) ≡ false → begins (codes "let ") y
 no-l [] e = refl
 no-l (c ∷ y) e = ap (λ t. (if t then 1 + shared y (101 ∷ 116 ∷ 32 ∷ []) else 0) == 4) e
 
--- the same name with the same character after it is the same word
+-- equal names with equal characters after them begin alike with `let `
 let-same : (z y : List ℕ) → 0 < run_len z → SameName z y → begins (codes "let ") y ≡ true → begins (codes "let ") z ≡ true
 let-same z y some same e =
     let is : y ≡ codes "let " ++ drop 4 y = word-is (codes "let ") y e in
@@ -123,7 +123,7 @@ LetAt x (Err (Wrong left)) = left ≡ 4 + length x
 LetAt x (Err (Nested left)) = Unit {0}
 LetAt x (Err Memory) = Unit {0}
 
--- the same with all that goes on with the name
+-- with all that follows the name, the reading ends or is refused within x, or is refused at the first byte of the name
 abbrev LetThen : List ℕ → Reading Term → Type 0
 LetThen x (Ok p) = length p.1 ≤ length x
 LetThen x (Err (Wrong left)) = (left ≤ length x) ⊎ (left ≡ 4 + length x)
@@ -196,7 +196,7 @@ module _ (inner : ℕ → List ℕ → Reading Term) (alike : (n : ℕ) → Alik
       alike-then true (inner n) (λ a r. after_first inner a n r) (alike n) (λ a. alike-past a n)
       (λ a r. word-starts 32 [] (arrow_or_spine a n) r (omega arith)) (λ a r no. absurd (cc))
 
-  -- ---- `let ` is told apart from the names that begin so
+  -- ---- `let ` is distinguished from the names that begin so
 
   let-then : (n : ℕ) (x : List ℕ) → LetThen x (first_and_more n (108 ∷ 101 ∷ 116 ∷ 32 ∷ x))
   let-then n x = by (inner n (108 ∷ 101 ∷ 116 ∷ 32 ∷ x)) (let_in n x)

@@ -72,7 +72,7 @@ pub take-word : (word rest : List ℕ) → take (length word) (word ++ rest) ≡
 take-word [] rest = refl
 take-word (b ∷ word) rest = ap (λ r. b ∷ r) (take-word word rest)
 
--- what a term's text does not begin with
+-- a term's text begins with no `let `, no backslash and no hyphen
 pub record Begins (text : List ℕ) : Type 0 where
   pub no_let : (rest : List ℕ) → Stops rest → begins (codes "let ") (text ++ rest) ≡ false
   pub no_function : (rest : List ℕ) → (first (text ++ rest) == 92) ≡ false

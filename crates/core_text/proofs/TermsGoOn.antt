@@ -166,7 +166,7 @@ module _ (T S : Signature) (own : Bool) (bound : ℕ) (inner : ℕ → List ℕ 
       (λ a oa. front-less (IsText T S own n) (codes "(" ++ term_text T a) (codes " ") (pi-front T S own n a oa)) (inside n rest (omega arith))
       (λ a r fa oa. first-meets n a r whole le oa (at ∙ ap (λ s. codes "(" ++ s) fa))))
 
--- A term is read inside `room` others, so that at most as many binders are opened. What is read is a term that may be there
+-- A term is read inside `room` others, so that at most as many binders are opened. The term that is read may be there
 -- and its text; where a byte is wrong, the bytes before it begin such a text.
 pub term-meets : (T S : Signature) (own : Bool) (look : List ℕ → Option Term) → WritesNames T look → NamesAreOver S own look → (room n : ℕ) (rest : List ℕ) → n + room ≤ 2 ^ 64 → Meets (ReadsTerm T S own n rest) (IsText T S own n) rest (read_term look room n rest)
 term-meets T S own look names symbols zero n rest le =

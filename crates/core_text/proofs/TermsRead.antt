@@ -1,4 +1,4 @@
--- What is read as a term is the text of the term.
+-- The bytes that are read as a term are the text of the term.
 use Rattle.std.proofs.Common.{◌≡◌, ℕ, zero, suc, ◌+◌, ◌≤◌, ◌^◌, true, false, List, [], ◌∷◌, ◌++◌, length, drop, take, refl, sym, ap, ◌∙◌, append_assoc, arith}
 use Rattle.std.specs.Prelude.{◌==◌, nat_le, if◌then◌else◌, Ok, Err, Option, Some, None, codes, decimal, bytes_eq}
 use Rattle.std.proofs.lemmas.List.{take-append-drop}
@@ -18,7 +18,7 @@ use Rattle.core_text.proofs.WordsRead.{word-is, ensures-word, first-is, index-re
 abbrev pub Writes : Signature → List ℕ → Term → List ℕ → Type 0
 Writes T rest t r = rest ≡ term_text T t ++ r
 
--- what names stand for is written as the name
+-- the term of a name is written as the name
 abbrev pub WritesNames : Signature → (List ℕ → Option Term) → Type 0
 WritesNames T look = (name : List ℕ) (t : Term) → look name ≡ Some t → IsWritten T name t
 

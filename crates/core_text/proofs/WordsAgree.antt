@@ -149,7 +149,7 @@ reread-word {A = A} ahead word f rest next = by (word-at word rest)
 pub alike-word : {A : Type 0} (ahead : Bool) (word : List ℕ) (f : List ℕ → Reading A) → Alike ahead f → Alike ahead (λ rest. after (past word rest) f)
 alike-word ahead word f alike = record { reread = λ rest. reread-word ahead word f rest (λ r is. alike.reread r) }
 
--- what begins with a word begins with a character
+-- a reading that begins with a word begins with a character
 pub part-starts : {A : Type 0} (b : ℕ) (word : List ℕ) (K : Result (List ℕ) Halt → Reading A) (rest : List ℕ) → b < 128 → ((e : Halt) → K (Err e) ≡ Err e) → StartsAt rest (K (past (b ∷ word) rest))
 part-starts b word K [] low stops = inl (omega arith)
 part-starts b word K (x ∷ rest) low stops = by (x == b) refl

@@ -1,4 +1,4 @@
--- What is read as a word or a number is spelled so.
+-- The bytes that are read as a word or a number spell it.
 use Rattle.std.proofs.Common.{◌≡◌, ℕ, ◌+◌, ◌-◌, ◌/◌, ◌%◌, ◌^◌, ◌<◌, ◌≤◌, Bool, true, false, List, [], ◌∷◌, ◌++◌, length, drop, refl, sym, ap, ap₂, ◌∙◌, append_assoc, arith}
 use Rattle.std.specs.Prelude.{◌==◌, ◌&&◌, nat_le, nat_lt, if◌then◌else◌, Ok, Err, decimal}
 use Rattle.std.proofs.lemmas.Bool.{and_parts}

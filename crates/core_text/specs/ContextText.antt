@@ -14,7 +14,7 @@ types_text S before (t ∷ types) = before ++ term_text S t ++ types_text S (cod
 abbrev pub context_text : Signature → List Term → List ℕ
 context_text S types = codes "[" ++ types_text S [] types ++ codes "]"
 
--- why the checker denies a term
+-- why the checker rejects a term
 abbrev pub reason_text : Signature → Reason → List ℕ
 reason_text S (Mismatch found wanted) = codes "found " ++ term_text S found ++ codes " wanted " ++ term_text S wanted
 reason_text S (NotAProduct found) = codes "NotAProduct " ++ term_text S found

@@ -24,8 +24,8 @@ is_generated cs = (first cs == 33) && nat_lt 1 (length cs)
 abbrev pub marked : List ℕ → Shape
 marked cs = if first cs == 95 then Underscore else Malformed
 
--- By the piece of the surface text with which the characters begin: a plain name, or a plain or dotted name with `!` and
--- more after it, may be declared; a `_` that begins no name is told apart, since a name could go on after it.
+-- By the piece of the surface text with which the characters begin: a plain name, or a plain or dotted name with `!` and more after it,
+-- may be declared; a `_` that begins no name is a shape of its own, since a name could go on after it.
 abbrev pub shape_by : Piece → List ℕ → Shape
 shape_by (Found Plain n) cs = if (n == length cs) || is_generated (drop n cs) then Declarable else Malformed
 shape_by (Found Dotted n) cs = if is_generated (drop n cs) then Declarable else Malformed

@@ -1,7 +1,6 @@
--- What a line says, by what is asked of its parts. `Known own` is asked of terms: of their symbols, to which the family that
--- the line declares belongs where `own` says so. `May own found` is asked of names that are declared, where `own` is the
--- name of the family that the line declares, or nothing, and `found` has its constructors so far. `Named` is asked of the
--- number of a family that the line names.
+-- Lines by conditions on their parts. `Known own` is a condition on terms: on their symbols, to which the family that the line declares
+-- belongs where `own` says so. `May own found` is one on declared names, where `own` is the name of the family that the line declares, or
+-- nothing, and `found` has its constructors so far. `Named` is one on the number of a family that the line names.
 use Rattle.std.specs.Prelude.{◌≡◌, ℕ, ◌+◌, ◌≤◌, Bool, true, false, List, [], ◌∷◌, ◌++◌, map, length, All}
 use Rattle.theory.specs.Terms.{Term, free_of, height}
 use Rattle.theory.specs.Telescopes.{Telescope}
@@ -35,7 +34,7 @@ pub record IsFamilyWith (Known : Bool → Term → Type 0) (May : List ℕ → L
   pub type : IsTermWith (Known false) (length raw.parameters) raw.type
   pub constructors : AreConstructorsWith (Known true) (May raw.name) (length raw.parameters) [] raw.constructors
 
--- what a line says after the entries S, which has no instance that is there
+-- the condition on a line after the entries S, which has no instance that is there
 abbrev pub IsEntryWith : (Bool → Term → Type 0) → (List ℕ → List RawConstructor → List ℕ → Type 0) → (ℕ → Type 0) → Signature → RawEntry → Type 0
 IsEntryWith Known May Named S (RawFamilyOf raw) = IsFamilyWith Known May raw
 IsEntryWith Known May Named S (RawEliminator g m) = Named g × (is_left (levels_left S (Elim g)) m ≡ true)
@@ -44,7 +43,7 @@ IsEntryWith Known May Named S (RawAxiomK i m) =
 IsEntryWith Known May Named S (RawDefinition name type body) =
     May [] [] name × IsTermWith (Known false) 0 type × IsTermWith (Known false) 0 body
 
--- the same is so of each whole term of what a line says
+-- a property of each whole term of a line
 abbrev pub EachTerm : (Term → Type 0) → RawEntry → Type 0
 EachTerm P (RawFamilyOf raw) = All P raw.parameters × P raw.type × All P (map (λ c. c.type) raw.constructors)
 EachTerm P (RawEliminator g m) = Unit {0}
@@ -54,6 +53,6 @@ EachTerm P (RawDefinition name type body) = P type × P body
 abbrev pub IsLow : Term → Type 0
 IsLow t = height t ≤ most_height
 
--- no term of what a line says is higher than 2,000
+-- no term of a line is higher than 2,000
 abbrev pub HasLowTerms : RawEntry → Type 0
 HasLowTerms raw = EachTerm IsLow raw

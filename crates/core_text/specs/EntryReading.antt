@@ -12,7 +12,7 @@ use Rattle.core_text.specs.declared.halt.Halt.TheVariants.{Memory as Exhausted, 
 use Rattle.core_text.specs.declared.stop.CoreTextStop.{CoreTextStop}
 use Rattle.core_text.specs.declared.stop.CoreTextStop.TheVariants.{Memory, Nested, NotCoreText}
 
--- What comes after the lines that begin with `#`; `inside` where such a line has begun. The last one has a line feed too.
+-- The bytes after the lines that begin with `#`; `inside` where such a line has begun. The last one has a line feed too.
 abbrev pub after_notes : Bool → List ℕ → Result (List ℕ) Halt
 after_notes false [] = Ok []
 after_notes true [] = Err (Wrong 0)
@@ -37,7 +37,7 @@ entry_at S (b ∷ rest) = shown_by (length S.entries) (b ∷ rest) (line_at S []
 abbrev pub next_entry : Signature → List ℕ → Reading (Option RawEntry)
 next_entry S rest = after (after_notes false rest) (entry_at S)
 
--- the same place by its offset in a text with `size` bytes
+-- the place where reading stops by its offset in a text with `size` bytes
 abbrev pub stop_of : ℕ → Halt → CoreTextStop
 stop_of size Exhausted = Memory
 stop_of size (TooDeep left) = Nested (size - left)
@@ -57,7 +57,7 @@ entry_from S text from = with_offset (length text) (next_entry S (drop from text
 abbrev pub shown_with : ℕ → Entry × ℕ → RawEntry × ℕ
 shown_with n p = (entry_shown n (entry_of p.0), p.1)
 
--- the refusals that nothing rules out: want of memory alone
+-- the refusals that nothing rules out: only out of memory
 abbrev pub IsUnforeseen : CoreTextStop → Type 0
 IsUnforeseen e = e ≡ Memory
 

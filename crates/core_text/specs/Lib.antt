@@ -6,7 +6,7 @@ pub mod EntryParts
 pub mod SymbolNames
 pub mod ContextText
 pub mod Heads
--- What is read, and where reading stops.
+-- Reading, and the places where it stops.
 pub mod EntryReading
 pub mod LineReading
 pub mod TermReading

@@ -1,4 +1,4 @@
--- What is read is the line of its entry, after lines that begin with `#`.
+-- The bytes that are read are the line of the entry, after lines that begin with `#`.
 use Rattle.std.specs.Prelude.{◌≡◌, ◌↔◌, ℕ, ◌≤◌, ◌<◌, ◌^◌, true, List, [], ◌++◌, length, drop, codes, Some, None, Ok}
 use Rattle.theory.specs.Signatures.{Entry, Signature}
 use Rattle.theory.specs.WellFormed.{pushed}
@@ -21,7 +21,7 @@ pub record HasLine (S : Signature) (text : List ℕ) (from : ℕ) (e : Entry) (t
   pub line : drop from text ≡ notes ++ (entry_line (pushed S e) (length S.entries) e ++ others)
   pub past : drop to text ≡ others
 
--- What is read as an entry is the line of the entry.
+-- The bytes that are read as an entry are the line of the entry.
 abbrev pub LinesAreRead : Type 0
 LinesAreRead =
     (S : Signature) (text : List ℕ) (from : ℕ) (e : Entry) (to : ℕ) → length text < 2 ^ 32 → from ≤ length text →

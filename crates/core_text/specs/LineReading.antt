@@ -25,7 +25,7 @@ nested = most
 abbrev pub whole_term : Signature → List ℕ → ℕ → List ℕ → Reading Term
 whole_term S own n rest = read_term (symbol S own) nested n rest
 
--- what a line says, with the line feed that ends it
+-- an entry, with the line feed that ends its line
 abbrev pub ended : RawEntry → List ℕ → Reading RawEntry
 ended e rest = after (past (codes "\n") rest) (λ end. Ok (e, end))
 
@@ -94,11 +94,11 @@ collected next (suc k) found rest = and_then (next found rest) (after_item (coll
 abbrev pub parameter_at : Signature → List ℕ → ℕ → List ℕ → Reading (Option Term)
 parameter_at S own n rest = and_then (whole_term S own n rest) (λ a r. after (past (codes ")") r) (λ end. Ok (Some a, end)))
 
--- what comes before the type of the family
+-- the colon before the type of the family
 abbrev pub no_parameter : List ℕ → Reading (Option Term)
 no_parameter rest = after (past (codes ": ") rest) (λ end. Ok (None, end))
 
--- one parameter more, or what comes before the type of the family
+-- one parameter more, or the colon before the type of the family
 abbrev pub next_parameter : Signature → List ℕ → ℕ → List ℕ → Reading (Option Term)
 next_parameter S own n rest =
     after (past (codes " ") rest) (λ r. if first r == 40 then parameter_at S own n (drop 1 r) else no_parameter r)
@@ -114,7 +114,7 @@ constructor_at S own p found rest =
     and_then (term_after (whole_term S own) (codes " : ") p r) (λ type end.
     Ok (Some (record { name = name; type = type }), end)))
 
--- what separates a constructor from those before it
+-- the semicolon between a constructor and those before it
 abbrev pub separated : List RawConstructor → List ℕ → Result (List ℕ) Halt
 separated [] rest = Ok rest
 separated (c ∷ found) rest = past (codes "; ") rest

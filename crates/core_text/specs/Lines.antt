@@ -1,4 +1,4 @@
--- Lines among bytes: entries are told apart by the line feed that ends each of them.
+-- Lines among bytes: the line feed that ends each entry separates it from the next.
 use Rattle.std.specs.Prelude.{◌≡◌, ℕ, Bool, true, not, ◌&&◌, ◌==◌, List, [], ◌∷◌, ◌++◌}
 use Rattle.theory.specs.Signatures.{Entry, Signature, names_of}
 use Rattle.core_text.specs.EntryText.{entry_line}

@@ -56,7 +56,7 @@ IsWrongCharacter S text from p =
     (other : List ℕ) → take p other ≡ take p text → first_character (drop p other) ≡ first_character (drop p text)
     → entry_from S other from ≡ Err (NotCoreText p)
 
--- The same where a name begins there: texts that have the same bytes before p are refused there where they have the same name there.
+-- Where a name begins there: texts that have the same bytes before p are refused there where they have the same name there.
 abbrev pub IsWrongName : Signature → List ℕ → ℕ → ℕ → Type 0
 IsWrongName S text from p =
     (0 < run_len (drop p text))

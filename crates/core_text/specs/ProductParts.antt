@@ -1,4 +1,4 @@
--- The text of (tele) -> end in three parts: what comes before the end, the end, and the parentheses after it.
+-- The text of (tele) -> end in three parts: the part before the end, the end, and the parentheses after it.
 use Rattle.std.specs.Prelude.{ℕ, zero, suc, List, [], ◌∷◌, ◌++◌, codes}
 use Rattle.theory.specs.Telescopes.{Telescope}
 use Rattle.theory.specs.Signatures.{Signature}

@@ -1,4 +1,4 @@
--- What a line says, before a record is made of a family: its type and those of its constructors as they are written.
+-- Entries as their lines have them, before a record is made of a family: its type and those of its constructors as they are written.
 use Rattle.std.specs.Prelude.{ℕ, ◌+◌, nat_lt, zero, suc, Bool, false, ◌&&◌, if◌then◌else◌, List, map, length, Option, Some, None}
 use Rattle.std.specs.List.{list_all}
 use Rattle.std.specs.Option.{is_some}

@@ -1,4 +1,4 @@
--- What is printed is read back: the conditions under which names are told apart from what follows them, and the laws.
+-- Terms and entries that are printed are read back: the conditions under which names end before the bytes that follow, and the laws.
 use Rattle.std.specs.Prelude.{◌≡◌, ℕ, ◌+◌, ◌<◌, ◌≤◌, ◌^◌, ◌==◌, true, false, cond, List, [], ◌++◌, length, codes, bytes_eq, Option, Some, Ok}
 use Rattle.theory.specs.Terms.{Term, Var, Sort, Pi, Lam, App, Let, Const, Fam, Con, Elim, AxiomK, free_of, height, top}
 use Rattle.theory.specs.Signatures.{Signature, Entry}
@@ -77,7 +77,7 @@ abbrev pub IsSpelledEntry : Signature → Signature → RawEntry → Type 0
 IsSpelledEntry T S raw =
     IsEntryWith (λ own. AreSpelled S (symbol T (cond own (declared_family raw) []))) (MayDeclare T) (λ g. IsFoundFamily T (name_at S g) g) T raw
 
--- what an entry needs to be read over the entries T before it, where its line is written over S
+-- the conditions for an entry to be read over the entries T before it, where its line is written over S
 pub record EntryReadsBack (T S : Signature) (e : Entry) : Type 0 where
   pub spelled : IsSpelledEntry T S (entry_shown (length T.entries) e)
   pub low : HasLowTerms (entry_shown (length T.entries) e)

@@ -1,4 +1,4 @@
--- What holds of each entry that is read: it may be there, its terms are low, and reading goes forward.
+-- Properties of each entry that is read: it may be there, its terms are low, and reading goes forward.
 use Rattle.std.specs.Prelude.{◌≡◌, ◌≢◌, ℕ, ◌<◌, ◌≤◌, List, length, None, Some, Ok, All, AllPairs}
 use Rattle.theory.specs.Signatures.{Signature}
 use Rattle.core_sig.specs.Names.{find}

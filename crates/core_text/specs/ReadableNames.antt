@@ -1,4 +1,4 @@
--- The names of a signature that tell its symbols apart in core text.
+-- Names of a signature by which its symbols are distinguished in core text.
 use Rattle.std.specs.Prelude.{◌≡◌, ◌≢◌, ℕ, ◌<◌, ◌==◌, Bool, true, false, List, [], length, codes, bytes_eq, All, AllPairs}
 use Rattle.std.specs.List.{list_any}
 use Rattle.theory.specs.Terms.{Term, Const, Fam, Con, Elim, AxiomK, top}
@@ -33,7 +33,7 @@ pub record HasReadableNames (S : Signature) : Type 0 where
   pub readable : All IsReadableName (names S)
   pub families : All HasReadableFamily S.entries
 
--- Each symbol of the signature is looked up by its name, which is told apart from what follows it.
+-- Each symbol of the signature is looked up by its name, which ends before the bytes that follow.
 pub record HasSpelledNames (S : Signature) : Type 0 where
   pub constants : (n : ℕ) (name : List ℕ) (type body : Term) → IsEntryAt S n (Definition name type body) → IsSpelled (symbol S []) (name_at S n) (Const n)
   pub families : (n : ℕ) (f : Family) → IsEntryAt S n (FamilyOf f) → IsSpelled (symbol S []) (name_at S n) (Fam n)

@@ -7,7 +7,7 @@ use Rattle.core_text.specs.Heads.{shared}
 use Rattle.core_text.specs.declared.halt.Halt.{Halt}
 use Rattle.core_text.specs.declared.halt.Halt.TheVariants.{Memory, Wrong}
 
--- what is read and the bytes after it, or where reading stops
+-- a value that is read and the bytes after it, or where reading stops
 abbrev pub Reading : Type 0 → Type 0
 Reading A = Result (A × List ℕ) Halt
 
@@ -83,7 +83,7 @@ read_level levels [] = wrong []
 read_level levels (b ∷ rest) =
     if is_digit b && begins_level levels (b - 48) then level_from levels (b - 48) rest else wrong (b ∷ rest)
 
--- the places at which nothing rules out that reading stops: want of memory alone
+-- the places at which nothing rules out that reading stops: only out of memory
 abbrev pub IsUnforeseen : Halt → Type 0
 IsUnforeseen e = e ≡ Memory
 
@@ -91,7 +91,7 @@ IsUnforeseen e = e ≡ Memory
 abbrev pub Reads : {A B : Type 0} → (A → B) → Result (A × Bor (List ℕ)) Halt → Reading B → Type 0
 Reads f result meant = GivesUnless IsUnforeseen (λ p. (f p.0, p.1.now)) result meant
 
--- the same of what comes after a word
+-- the code's answer after a word is the meant one
 abbrev pub Past : Result (Bor (List ℕ)) Halt → Result (List ℕ) Halt → Type 0
 Past (Ok rest) meant = Ok rest.now ≡ meant
 Past (Err e) meant = Err e ≡ meant

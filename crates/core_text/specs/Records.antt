@@ -34,7 +34,7 @@ pub record HasLevelsZero (f : pure.Family) : Type 0 where
   pub indices : All (λ i. i.1 ≡ 0) f.indices
   pub arguments : All (λ c. All (λ a. level_of a ≡ 0) c.arguments) f.constructors
 
--- the same of a family among entries
+-- a family among entries has these levels 0
 abbrev pub HasEntryLevelsZero : Entry → Type 0
 HasEntryLevelsZero (FamilyOf f) = HasLevelsZero f
 HasEntryLevelsZero _ = Unit {0}

@@ -1,4 +1,4 @@
--- What the code of the reader stands for.
+-- The meanings of the reader's values.
 use Rattle.std.specs.Prelude.{ℕ, List, Option}
 use Rattle.theory.specs.Terms as tree
 use Rattle.core_terms.specs.Meanings.{tree_of}
@@ -9,7 +9,7 @@ use Rattle.core_text.specs.declared.line.Line.TheVariants.{Family, Elim, AxiomK,
 use Rattle.core_text.specs.SymbolLookup.{symbol}
 use Rattle.core_text.specs.declared.scope.Scope.{Scope}
 
--- what names stand for where the reader is
+-- the terms of names where the reader is
 abbrev pub look_of : Scope → List ℕ → Option tree.Term
 look_of scope name = symbol scope.sig.now scope.own.now name
 

@@ -14,7 +14,7 @@ use Rattle.core_text.specs.declared.stop.CoreTextStop.TheVariants.{Nested, NotCo
 abbrev pub IsTooDeepOrHigh : RawEntry → Result (Option (RawEntry × ℕ)) CoreTextStop → Type 0
 IsTooDeepOrHigh raw r = (HasLowTerms raw → ⊥) × (at : ℕ) × (r ≡ Err (Nested at))
 
--- what comes of reading the line between the two offsets, which says `raw` after the entries S
+-- the outcome of reading the line of `raw`, between the two offsets, after the entries S
 abbrev pub IsSpelledOutcome : Signature → RawEntry → ℕ → ℕ → Result (Option (RawEntry × ℕ)) CoreTextStop → Type 0
 IsSpelledOutcome S raw from to r =
     (r ≡ Ok (Some (raw, to))) ⊎ IsTooDeepOrHigh raw r

@@ -1,5 +1,5 @@
--- What a line says by its spelling: its names and numbers may be there. Neither the height of its terms nor the question
--- whether a family shows a record belongs to the spelling.
+-- Lines by their spelling: their names and numbers may be there. Neither the height of a line's terms nor the question whether a family
+-- shows a record belongs to the spelling.
 use Rattle.std.specs.Prelude.{◌≡◌, ◌⊎◌, ℕ, ◌<◌, ◌≤◌, Bool, true, List, length}
 use Rattle.theory.specs.Terms.{Term, Var, Sort, Pi, Lam, App, Let, Const, Fam, Con, Elim, AxiomK, top}
 use Rattle.theory.specs.Signatures.{Signature}
@@ -20,7 +20,7 @@ abbrev pub raw_line : Signature → RawEntry → List ℕ
 raw_line S (RawFamilyOf raw) = line_text (with_name S raw.name) (RawFamilyOf raw)
 raw_line S raw = line_text S raw
 
--- ---- what may be in it
+-- ---- names and numbers that may be in it
 
 -- Each symbol of the term is one of the signature, or where `own` says so the family after its entries, and levels are
 -- those that can be written.
@@ -44,6 +44,6 @@ pub record IsNewName (S : Signature) (own : List ℕ) (found : List RawConstruct
   pub shape : shape_of name ≡ Declarable
   pub may : may_declare S own found name ≡ true
 
--- what a line may say after the entries S
+-- a line that may follow the entries S
 abbrev pub IsEntryOver : Signature → RawEntry → Type 0
 IsEntryOver S raw = IsEntryWith (HasSymbols S) (IsNewName S) (IsFamilyNumber S) S raw

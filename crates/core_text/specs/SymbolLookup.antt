@@ -1,4 +1,4 @@
--- What a name in a term stands for: an entry or a constructor, else an eliminator or axiom K by its spelling.
+-- The symbol of a name in a term: an entry or a constructor, else an eliminator or axiom K by its spelling.
 use Rattle.std.specs.Prelude.{ℕ, ◌-◌, ◌==◌, nat_le, nat_lt, not, ◌&&◌, if◌then◌else◌, List, take, drop, length, codes, bytes_eq, slice_index, slice_get, Option, Some, None, option_and_then}
 use Rattle.theory.specs.Terms.{Term, Const, Fam, Con, Elim, AxiomK, top}
 use Rattle.theory.specs.Signatures.{Entry, FamilyOf, Definition, Signature}
@@ -7,7 +7,7 @@ use Rattle.core_sig.specs.declared.entry.Found.{Found}
 use Rattle.core_sig.specs.declared.entry.Found.TheVariants.{Entry as FoundEntry, Con as FoundCon}
 use Rattle.core_text.specs.Reading.{is_digit, with_digit}
 
--- a number of at most two digits, without a leading zero, at the end of the bytes, and what comes before it
+-- a number of at most two digits, without a leading zero, at the end of the bytes, and the bytes before it
 abbrev pub number_at_end : List ℕ → Option (List ℕ × ℕ)
 number_at_end bytes =
     let n = length bytes in
@@ -17,7 +17,7 @@ number_at_end bytes =
     else (if nat_le 2 n && (is_digit other && not (other == 48)) then Some (take (n - 2) bytes, with_digit (other - 48) last)
     else Some (take (n - 1) bytes, last - 48))
 
--- what comes before the word at the end of the bytes
+-- the bytes before the word at the end
 abbrev pub before_end : List ℕ → List ℕ → Option (List ℕ)
 before_end word bytes =
     let n = length bytes - length word in if bytes_eq (drop n bytes) word then Some (take n bytes) else None

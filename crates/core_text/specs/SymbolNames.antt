@@ -5,11 +5,11 @@ use Rattle.theory.specs.Families.{Constructor}
 use Rattle.theory.specs.Signatures.{Entry, FamilyOf, Definition, Signature}
 use Rattle.theory.specs.WellFormed.{pushed}
 
--- The entries, with one more after them that has the name and no constructors: what is being declared.
+-- The entries, with one more after them that has the name and no constructors: the one that is being declared.
 abbrev pub with_name : Signature → List ℕ → Signature
 with_name S name = pushed S (Definition name (Sort 0) (Sort 0))
 
--- the same where something with a name is being declared
+-- the entries where something with a name is being declared
 abbrev pub with_own : Signature → Option (List ℕ) → Signature
 with_own S (Some name) = with_name S name
 with_own S None = S

@@ -32,7 +32,7 @@ fn no_parameter(rest: &[u8]) -> Result<(Option<Term>, &[u8]), Halt>
     Ok((None, past(b": ", rest)?))
 }
 
-/// One parameter more, or what comes before the type of the family.
+/// One parameter more, or the colon before the type of the family.
 fn next_parameter<'t>(
     scope: &Scope,
     count: usize,
@@ -80,7 +80,7 @@ fn read_constructor<'t>(
     Ok((Some(RawCon { name, ty }), rest))
 }
 
-/// What separates a constructor from those before it.
+/// Past the semicolon between a constructor and those before it.
 fn separated<'t>(found: &[RawCon], rest: &'t [u8]) -> Result<&'t [u8], Halt>
     ensures { Past result (spec.separated (map raw_constructor_of found.now) rest.now) }
 {

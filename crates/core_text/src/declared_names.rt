@@ -19,7 +19,7 @@ use core_terms::Name;
 use std::alloc::Global;
 use surface_syntax::{Piece, TokenKind, piece};
 
-/// What a run of characters is where a name is to be declared.
+/// The shape of a run of characters where a name is to be declared.
 #[derive(Clone, Copy, Debug, PartialEq, Eq)]
 pub(crate) enum Shape {
     Declarable,
@@ -38,7 +38,7 @@ fn is_generated(text: &[char]) -> bool
     }
 }
 
-/// The name itself, or what is generated from it.
+/// The name itself, or one that is generated from it.
 fn plain_shape(len: usize, text: &[char]) -> Shape
     requires { len ≤ length text.now }
     ensures { result ≡ spec.shape_by (Found Plain len) text.now }

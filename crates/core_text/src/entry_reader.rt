@@ -81,7 +81,7 @@ fn offset(size: u32, left: usize) -> u32
     (size as usize).saturating_sub(left) as u32
 }
 
-/// The same place by its offset.
+/// The place where reading stops by its offset.
 fn stop_at(size: u32, halt: Halt) -> CoreTextStop
     ensures { result ≡ spec.stop_of size halt }
 {
@@ -92,7 +92,7 @@ fn stop_at(size: u32, halt: Halt) -> CoreTextStop
     }
 }
 
-/// What comes after the lines that begin with `#`.
+/// The bytes after the lines that begin with `#`.
 fn after_notes(from: &[u8]) -> Result<&[u8], Halt>
     ensures { Past result (spec.after_notes false from.now) }
 {

@@ -13,7 +13,7 @@ pub fn lines_are_apart()
     ensures { LinesAreApart }
 {}
 
-/// What is read has new names, and its terms are scoped and not too high.
+/// An entry that is read has new names, and its terms are scoped and not too high.
 pub fn what_is_read()
     ensures { WhatIsRead }
 {}
@@ -28,12 +28,12 @@ pub fn entries_are_read_back()
     ensures { EntriesAreReadBack }
 {}
 
-/// What is read as an entry is the line of the entry, after lines that begin with `#`.
+/// The bytes that are read as an entry are the line of the entry, after lines that begin with `#`.
 pub fn lines_are_read()
     ensures { LinesAreRead }
 {}
 
-/// Where names are readable, each symbol is looked up by its name, which is told apart from what follows it.
+/// Where names are readable, each symbol is looked up by its name, which ends before the bytes that follow.
 pub fn names_are_spelled()
     ensures { NamesAreSpelled }
 {}

@@ -1,7 +1,7 @@
 use core_sig::RawFamily;
 use core_terms::{Name, Term};
 
-/// What a line says, before a record is made of a family.
+/// An entry as its line has it, before a record is made of a family.
 #[derive(Drop)]
 pub(crate) enum Line {
     Family(RawFamily),

@@ -10,7 +10,7 @@ use crate::scope::Scope;
 use core_sig::{Entry, Found, Signature};
 use core_terms::{TOP, Term};
 
-/// A number of at most two digits at the end, without a leading zero, and what comes before it.
+/// A number of at most two digits at the end, without a leading zero, and the bytes before it.
 pub(crate) fn number_at_end(bytes: &[u8]) -> Option<(&[u8], u8)>
     ensures { option_map (λ p. (p.0.now, p.1)) result ≡ spec.number_at_end bytes.now }
 {
@@ -26,7 +26,7 @@ pub(crate) fn number_at_end(bytes: &[u8]) -> Option<(&[u8], u8)>
     }
 }
 
-/// What comes before the word at the end.
+/// The bytes before the word at the end.
 pub(crate) fn before_end<'t>(word: &[u8], bytes: &'t [u8]) -> Option<&'t [u8]>
     ensures { option_map (λ b. b.now) result ≡ spec.before_end word.now bytes.now }
 {

@@ -15,7 +15,8 @@ pub(crate) fn name_at(sig: &Signature, at: u32) -> &[u8]
     }
 }
 
-/// The same where something with the name `own` is being declared, which has the next number.
+/// The name of the definition or family with the number, where `own` is the name of the entry with the next number, which is
+/// being declared.
 pub(crate) fn name_with<'a>(sig: &'a Signature, own: Option<&'a [u8]>, at: u32) -> &'a [u8]
     ensures { result.now ≡ name_at (with_own sig.now (option_copied own.entry)) at }
 {
@@ -25,7 +26,7 @@ pub(crate) fn name_with<'a>(sig: &'a Signature, own: Option<&'a [u8]>, at: u32) 
     }
 }
 
-/// The name of a constructor of the family with the number. What is being declared has none.
+/// The name of a constructor of the family with the number. An entry that is being declared has none.
 pub(crate) fn constructor_name_at(sig: &Signature, family: u32, con: u32) -> &[u8]
     ensures { (own : Option (List ℕ)) → result.now ≡ constructor_name_at (with_own sig.now own) family con }
 {

@@ -138,7 +138,7 @@ fn kind(family: u32, f: &Family, at: usize, ty: &Term) -> Result<ArgKind, Halt>
     Ok(kind_of(family, f, at as u32, ty))
 }
 
-/// Adds the domains of the leading products of the term as arguments, with levels 0, and answers what comes after them.
+/// Adds the domains of the leading products of the term as arguments, with levels 0, and answers the term after them.
 fn arguments(family: u32, f: &Family, args: &mut Items<Arg>, t: Term) -> Result<Term, Halt>
     ensures types { OnOk result (map typed args.new ≡ map typed args.old ++ map with_level_zero (domains_of (tree_of t))) }
     ensures kinds { OnOk result (HaveKinds family (family_of f.now) 0 args.old → HaveKinds family (family_of f.now) 0 args.new) }
@@ -156,7 +156,7 @@ fn arguments(family: u32, f: &Family, args: &mut Items<Arg>, t: Term) -> Result<
     }
 }
 
-/// The last `count` arguments, and what they are applied to.
+/// The last `count` arguments, and the term that is applied to them.
 fn split_targets(alloc: Global, t: Term, count: usize) -> Result<(Term, Vec<Term>), Halt>
     ensures whole { IfOk result (λ p. applied (tree_of p.0) (tele_of p.1.items) ≡ tree_of t) }
     ensures head { IfOk result (λ p. (n k at : ℕ) → spec.is_at_targets n k count at (tree_of t) ≡ true → is_at_parameters n k at (tree_of p.0) ≡ true) }

@@ -15,7 +15,7 @@ pub(crate) fn first(rest: &[u8]) -> u8
     }
 }
 
-/// What comes after the first bytes.
+/// The bytes after the first `len`.
 pub(crate) fn skip(rest: &[u8], len: usize) -> &[u8]
     ensures { result.now ≡ drop len rest.now }
 {

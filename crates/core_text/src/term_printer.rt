@@ -22,7 +22,7 @@ pub fn print_term(alloc: Global, sig: &Signature, t: &Term) -> Result<Items<u8>,
     Ok(Items::from_vec(out))
 }
 
-/// Writes the text of a term. `own` is the name of what is being declared, if anything is; `is_function` where the term is
+/// Writes the text of a term. `own` is the name that is being declared, if any is; `is_function` where the term is
 /// the function of an application.
 pub(crate) fn write_term(
     out: &mut Vec<u8>,

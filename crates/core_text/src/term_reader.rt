@@ -116,7 +116,7 @@ pub(crate) fn read_after<'t>(
     read_term(scope, under, room, past(word, rest)?)
 }
 
-/// What comes after a parenthesis.
+/// A term after its parenthesis.
 #[cycle(read_term)]
 fn read_enclosed<'t>(
     scope: &Scope,
@@ -170,7 +170,7 @@ fn read_let<'t>(
     close(term, height, rest)
 }
 
-/// What comes after the first term in parentheses.
+/// A term after the first term in its parentheses.
 #[cycle(read_term)]
 fn read_after_first<'t>(
     scope: &Scope,
