@@ -1,4 +1,4 @@
--- What the parser answers, by the laws of its machine.
+-- The answers of the parser, by the laws of its machine.
 use Rattle.std.proofs.Common.{◌≡◌, ℕ, zero, suc, ◌<◌, ◌≤◌, List, [], ◌∷◌, length, map, get_or, Result, Ok, Err, refl, subst, arith}
 use Rattle.surface_syntax.specs.Trees as tree
 use Rattle.surface_syntax.specs.Grammar.{limit}

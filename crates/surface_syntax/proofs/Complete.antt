@@ -147,7 +147,7 @@ module _ (allows : ℕ → ℕ → Bool) where
   term_end_led (r.side more) = clause_led more
   term_end_led (r.scrutinee more) = r.goes (r.in_clause (r.first more))
 
-  -- what may follow a term goes on with no application
+  -- a lexeme that may follow a term continues no application
   abbrev IsGoing : Lexeme → Type 0
   IsGoing (x.Plain v) = Unit {0}
   IsGoing (x.Dotted v) = Unit {0}

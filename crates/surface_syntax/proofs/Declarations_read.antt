@@ -1,4 +1,4 @@
--- What is left to read in a declaration, as whole declarations.
+-- The lexemes that are left to read in a declaration, as whole declarations.
 use Rattle.std.proofs.Common.{◌≡◌, ℕ, Bool, List, [], ◌∷◌, ◌++◌, refl, sym, ap, subst, ◌∙◌, append_assoc}
 use Rattle.std.proofs.lemmas.List.{append-nil}
 use Rattle.surface_syntax.specs.Trees as tree

@@ -1,4 +1,4 @@
--- What the machine does with a lexeme that is none of those which it looks for.
+-- The machine's step with a lexeme that is none of those which it looks for.
 use Rattle.std.proofs.Common.{◌≡◌, ℕ, ◌+◌, Result, refl, subst}
 use Rattle.std.specs.Result.{result_and}
 use Rattle.std.specs.Prelude.{None}

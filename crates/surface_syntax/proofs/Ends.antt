@@ -1,4 +1,4 @@
--- What is read at the end of the text.
+-- Reading at the end of the file.
 use Rattle.std.proofs.Common.{◌≡◌, ℕ, ◌+◌, Bool, true, false, cond, List, [], ◌∷◌, refl, subst}
 use Rattle.std.specs.Prelude.{Option}
 use Rattle.surface_syntax.specs.Trees as tree

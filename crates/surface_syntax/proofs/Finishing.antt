@@ -1,4 +1,4 @@
--- From every state some lexemes finish the text.
+-- From every state some lexemes finish the file.
 use Rattle.std.proofs.Common.{ℕ, ◌+◌, Bool, true, false, List, [], ◌∷◌, ◌++◌, refl}
 use Rattle.std.specs.Prelude.{Option, None}
 use Rattle.surface_syntax.specs.Trees as tree

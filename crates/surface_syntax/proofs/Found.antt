@@ -1,4 +1,4 @@
--- What begins inside 2,000 others is found by a run, and the conditions of the three answers exclude each other.
+-- A production that begins inside 2,000 others is found by a run, and the conditions of the three answers exclude each other.
 use Rattle.std.proofs.Common.{◌≡◌, ℕ, ◌+◌, ◌<◌, ◌≤◌, suc, Bool, true, false, ◌||◌, ◌⊎◌, inl, inr, List, [], ◌∷◌, ◌++◌, length, nat_le, nat_lt, refl, sym, ap, subst, subst₂, ◌∙◌, arith, append_assoc, length-append}
 use Rattle.std.proofs.lemmas.List.{append-nil}
 use Rattle.std.proofs.lemmas.Bool.{leb-true, cases_eq}
@@ -18,7 +18,7 @@ use Rattle.surface_syntax.proofs.Ways.{Covers, every_covers, limit_covers, Text,
 use Rattle.surface_syntax.proofs.Places.{next_same, viable_by, viable_within, deep_shape, run_wrong, one_wrong}
 use Rattle.surface_syntax.proofs.Nested.{View, term, opened, names, pats, first_clause, clause_name, view, extra, begun_extra, too_deep, down_covers, past_covers, past_at, run_deep}
 
--- in one text one place is the first that is too deep
+-- in one file one place is the first that is too deep
 less_at : (i j d p : ℕ) → i < j → (b : Bool) → limit d p ≡ b → (b || nat_le p i) ≡ true → past j d p ≡ true
 less_at i j d p h true e q = ap (λ (c : Bool). c || nat_lt p j) e
 less_at i j d p h false e q = let l = leb-true p i q in past_at j d p (omega arith)
@@ -35,7 +35,7 @@ equal_by i j a b = grind arith
 one_deep : {ts : List Lexeme} {i j : ℕ} → IsTooDeepAt ts i → IsTooDeepAt ts j → i ≡ j
 one_deep {ts} {i} {j} a b = equal_by i j (λ h. not_before a b h) (λ h. not_before b a h)
 
--- what a lexeme leads to where a production is awaited: it begins, or something else goes on, or nothing is due
+-- with a lexeme where a production is awaited, it begins, or something else goes on, or nothing is due
 data Pending (s : m.State) (y : Lexeme) (d : ℕ) : Type 0 where
   begins : (out : m.Outcome) → IsStill out → Tested s y d out → Pending s y d
   elsewhere : (y ≡ x.End → ⊥) → (mid : List Lexeme) (s' : m.State) → IsSteady s' →
@@ -110,14 +110,14 @@ past_next s (y ∷ back) zs out still e (first {more = ts}) =
     found_step every (placed (suc (length ts)) s) y ts (e every (suc (length ts))) ∙ past_found out ts j still (omega arith) ∙
     sym (found_step (past j) (placed (suc (length ts)) s) y ts (e (past j) (suc (length ts))))
 
--- a text that has something too deep at a place isn't read where what begins after that alone is allowed
+-- a file that has something too deep at a place isn't read if only productions that begin after that are allowed
 not_past : {front : List Lexeme} {s : m.State} (zs : List Lexeme) (j : ℕ) → Passes m.Start front s → IsTooDeepAt (front ++ zs) j → result (past j) (placed (length zs) s) zs ≡ Read [] → ⊥
 not_past {front} zs j passes at q = read (result_file (past j) (front ++ zs) (way_text (past j) (past_covers j) zs passes ∙ q))
   where
     read : Text (past j) (front ++ zs) → ⊥
     read (text ds file) = at.begins ds file
 
--- from the place of a run in a text that has something too deep at a place: that is awaited
+-- from the place of a run in a file that has something too deep at a place: that is awaited
 data Mark (s : m.State) (zs : List Lexeme) (i : ℕ) : Type 0 where
   mark : (d : ℕ) → ahead s ≡ Some d → limit d 0 ≡ false → begun (length zs) s ≡ i → Mark s zs i
 
@@ -217,7 +217,7 @@ module _ (ts : List Lexeme) (n : ℕ) (w : IsNested ts n) where
         ap (λ (l : List Lexeme). result limit m.Start l) whole_parts ∙ way_text limit limit_covers w.back passes ∙ deep_next s w.back d out t limit w.back (next_same w.back) h ∙
         ap Deep (measure w.back ∙ w.left)
 
-    -- no text goes on otherwise
+    -- no file goes on otherwise
     no_other : (zs : List Lexeme) → Next w.back zs → result every (placed (length zs) s) zs ≡ Read [] → result every (placed (length zs) s) zs ≡ result (past (begun (length zs) s)) (placed (length zs) s) zs → ⊥
     no_other zs next q e =
         let at = always_deep zs next (result_file every (whole ++ zs) (way_text every every_covers zs passes ∙ q)) in
@@ -296,11 +296,11 @@ module _ (ts : List Lexeme) (n : ℕ) (w : IsNested ts n) where
   found_by : Way m.Start whole → result limit m.Start ts ≡ Deep n
   found_by (way {s' = s} front back e passes halt) = by_way front back s e passes halt
 
--- what begins inside 2,000 others is found
+-- a production that begins inside 2,000 others is found
 pub nested_run : (ts : List Lexeme) (n : ℕ) → IsNested ts n → run limit m.Start ts ≡ Deep n
 nested_run ts n w = deep_shape (run limit m.Start ts) (found_by ts n w (ways (w.front ++ w.seen) m.Start))
 
--- what goes wrong, and has nothing too deep, is found to be wrong
+-- lexemes that go wrong, and have nothing too deep, are found to be wrong
 pub wrong_run : (ts : List Lexeme) (n : ℕ) → GoesWrong ts n → ((k : ℕ) → IsNested ts k → ⊥) → run limit m.Start ts ≡ Wrong n
 wrong_run ts n w free = by_answer (run limit m.Start ts) refl
   where
@@ -317,14 +317,14 @@ wrong_run ts n w free = by_answer (run limit m.Start ts) refl
 pub wrong_not_nested : (ts : List Lexeme) (n k : ℕ) → run limit m.Start ts ≡ Wrong n → IsNested ts k → ⊥
 wrong_not_nested ts n k q w = let e = nested_run ts k w in cc
 
--- what is too deep begins before lexemes go wrong, or where they do
+-- a production that is too deep begins before lexemes go wrong, or where they do
 pub nested_first : (ts : List Lexeme) (n k : ℕ) → GoesWrong ts n → IsNested ts k → n ≤ k
 nested_first ts n k v w =
     let i = length (w.seen ++ w.more) in
     let read = more_result (down_to i) every (λ d p h. refl) (w.front ++ (w.seen ++ w.more)) m.Start (file_result w.deep.file) in
     subst (λ (j : ℕ). n ≤ j) w.left (viable_within w.front (w.seen ++ w.back) v w.parts (viable_by w.front (w.seen ++ w.more) (result_file every (w.front ++ (w.seen ++ w.more)) read)))
 
--- in a text of the language
+-- in a source file
 pub text_nested : (ts : List Lexeme) (ds : List tree.Decl) (n : ℕ) → File every ts ds → IsNested ts n → IsTooDeepAt ts n
 text_nested ts ds n file w =
     subst₂ (λ (us : List Lexeme) (i : ℕ). IsTooDeepAt us i) (sym w.parts) w.left (w.always w.back (next_same w.back) ds (subst (λ (us : List Lexeme). File every us ds) w.parts file))

@@ -1,4 +1,4 @@
--- What a lexeme leads to in a state: always the same, or a name more, or a production that begins and may be too deep.
+-- The outcome of a lexeme in a state: always the same, or a name more, or a production that begins and may be too deep.
 use Rattle.std.proofs.Common.{◌≡◌, ℕ, ◌+◌, suc, Bool, true, false, cond, List, [], ◌∷◌, ◌++◌, refl}
 use Rattle.std.specs.Prelude.{Option, Some, None}
 use Rattle.surface_syntax.specs.Trees as tree

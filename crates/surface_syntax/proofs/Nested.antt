@@ -141,7 +141,7 @@ term_viable d k passes = slash_finish {s' = lambda d k} passes (λ i. refl) tt (
 opened_viable : {front : List Lexeme} (d : ℕ) (k : m.Term_in) → Passes m.Start front (m.In_term (m.Opened d k)) → IsViable (front ++ x.Backslash ∷ [])
 opened_viable d k passes = slash_finish {s' = lambda (d + 1) (m.Parens d None k)} passes (λ i. refl) tt (finishes (lambda (d + 1) (m.Parens d None k)))
 
--- with some lexeme what is awaited begins, and the text goes on
+-- with some lexeme what is awaited begins, and the file goes on
 data Probe (s : m.State) (d : ℕ) : Type 0 where
   probe : (y : Lexeme) (o : Option tree.Decl) (s' : m.State) → IsSteady s' → Tested s y d (m.Goes o s') → Probe s d
 
@@ -230,7 +230,7 @@ next_finish {front} {s} {s'} y back passes e steady (finish more q) =
 next_goes : {front : List Lexeme} {s : m.State} (y : Lexeme) (back : List Lexeme) → Passes m.Start front s → Goes_every s y → GoesOn front (y ∷ back)
 next_goes y back passes (goes_every o s' steady e) = next_finish y back passes e steady (finishes s')
 
--- at the end of the text no pattern and no clause begins
+-- at the end of the file no pattern and no clause begins
 pats_no_end : (d : ℕ) (v : Bool) (k : m.Pats_in) (out : m.Outcome) → Tested (m.In_clause (m.Pats d v k)) x.End d out → ⊥
 pats_no_end d v k out e = not_over (pats_end_still d v k x.End) (e nowhere 0)
 
@@ -252,7 +252,7 @@ goes_first : {front : List Lexeme} (d : ℕ) (k : m.Clauses_in) (back : List Lex
 goes_first d k [] out passes e = absurd (first_no_end d k out e)
 goes_first d k (y ∷ back) out passes e = next_goes y back passes (first_begins d k y out e)
 
--- a text that goes on so is too deep there
+-- a file that goes on so is too deep there
 always_deep : {front : List Lexeme} {s : m.State} (d : ℕ) (out : m.Outcome) (back zs : List Lexeme) {ds : List tree.Decl} → Passes m.Start front s → limit d 0 ≡ false → Tested s (front_of back) d out →
     Next back zs → File every (front ++ zs) ds → IsTooDeepAt (front ++ zs) (begun (length zs) s)
 always_deep {front} {s} d out back zs passes h e next file =

@@ -1,4 +1,4 @@
--- What is left to read in a state, as whole productions of the grammar and what comes after them.
+-- The lexemes that are left to read in a state, as whole productions of the grammar and those after them.
 use Rattle.std.proofs.Common.{◌≡◌, ℕ, ◌+◌, Bool, true, false, List, [], ◌∷◌, ◌++◌, length, refl, sym, subst, ◌∙◌, append_assoc, arith}
 use Rattle.std.proofs.lemmas.List.{append-nil}
 use Rattle.std.specs.Prelude.{Option, Some, None}

@@ -1,4 +1,4 @@
--- Where a run goes wrong, no text of the language goes on, and before it one does.
+-- Where a run goes wrong, no source file goes on, and before it one does.
 use Rattle.std.proofs.Common.{◌≡◌, ℕ, ◌≤◌, List, [], ◌∷◌, ◌++◌, length, refl, sym, ap, subst, ◌∙◌, arith, append_assoc, length-append}
 use Rattle.surface_syntax.specs.Grammar.{File, limit}
 use Rattle.surface_syntax.specs.Machine as m

@@ -34,7 +34,7 @@ after_whole ds None a = refl
 after_whole ds (Some d) a = after_one ds d a
 
 module _ (allows : ℕ → ℕ → Bool) where
-  -- what is left of the text, for a reading
+  -- the rest of the file, for a reading
   abbrev pub ahead : So_far → List Lexeme → Answer
   ahead r ts = after r.decls (run allows r.state ts)
 
@@ -99,7 +99,7 @@ module _ (allows : ℕ → ℕ → Bool) where
   over ds i m.Stuck q = cc
   over ds i (m.Over j) q = let e : j ≡ i = cc in after_deep ds j ∙ ap Deep e
 
-  -- the end of the text
+  -- the end of the file
   pub end_answer : (at : ℕ → ℕ) (r : So_far) (ds : List tree.Decl) → Ok ds ≡ finished r.decls (m.step allows 0 r.state End) → Ok ds ≡ by_offset at (ahead r [])
   end_answer at r ds q = sym (ap (by_offset at) (done r.decls ds (m.step allows 0 r.state End) (sym q)))
 

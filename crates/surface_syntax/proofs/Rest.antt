@@ -1,5 +1,5 @@
--- What is left to read in a state of the parser, by the grammar: the lexemes that finish the text from there, and the
--- declarations from the one that is read on.
+-- The lexemes that are left to read in a state of the parser, by the grammar: those that finish the file from there, and the declarations
+-- from the one that is read on.
 use Rattle.std.proofs.Common.{◌≡◌, ℕ, ◌+◌, Bool, true, false, List, [], ◌∷◌, ◌++◌}
 use Rattle.std.specs.Prelude.{Option, Some, None}
 use Rattle.surface_syntax.specs.Trees as tree

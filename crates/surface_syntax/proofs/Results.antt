@@ -1,4 +1,4 @@
--- What a run comes to, without the declarations, and which permissions it depends on.
+-- The answer of a run, without the declarations, and the permissions that it depends on.
 use Rattle.std.proofs.Common.{◌≡◌, ℕ, ◌<◌, suc, Bool, true, false, cond, List, [], ◌∷◌, ◌++◌, length, refl, sym, ap, subst, ◌∙◌, arith}
 use Rattle.std.specs.Prelude.{Some, None}
 use Rattle.surface_syntax.specs.Trees as tree
@@ -21,7 +21,7 @@ shape (Deep n) = Deep n
 abbrev pub result : Allows → m.State → List Lexeme → Answer
 result allows s ts = shape (run allows s ts)
 
--- what follows an outcome, before the lexemes and at the end
+-- the answer after an outcome, before the lexemes and at the end
 abbrev pub found : Allows → List Lexeme → m.Outcome → Answer
 found allows ts (m.Goes o s) = result allows s ts
 found allows ts (m.Ends o) = Wrong (suc (length ts))
@@ -163,7 +163,7 @@ module _ (a b : Allows) where
   agree [] s same = agree_end s (look s x.End) same
   agree (y ∷ ts) s same = agree_look s y ts (look s y) (agree ts) same
 
--- what is read with less permission is read with more
+-- lexemes that are read with less permission are read with more
 module _ (a b : Allows) (more : (d p : ℕ) → a d p ≡ true → b d p ≡ true) where
   more_out : (ts : List Lexeme) (out : m.Outcome) → IsStill out → ((s : m.State) → result a (placed (length ts) s) ts ≡ Read [] → result b (placed (length ts) s) ts ≡ Read []) →
       found a ts out ≡ Read [] → found b ts out ≡ Read []

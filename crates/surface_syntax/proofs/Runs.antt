@@ -17,7 +17,7 @@ module _ (allows : ℕ → ℕ → Bool) where
   led_onward n ts out ds ih (r.goes rest) = ih _ _ rest
   led_onward n ts out ds ih (r.gives {d = d} rest) = ap (behind (Some d)) (ih _ _ rest)
 
-  -- what the grammar reads, the machine reads
+  -- the machine reads every reading of the grammar
   pub complete : (ts : List Lexeme) (st : m.State) (ds : List tree.Decl) → r.Rest allows st ts ds → run allows st ts ≡ Read ds
   complete [] st ds rest = e.end_led allows st rest
   complete (y ∷ ts) st ds rest = led_onward (length (y ∷ ts)) ts (m.step allows (length (y ∷ ts)) st y) ds (complete ts) (c.led allows rest)
@@ -42,7 +42,7 @@ module _ (allows : ℕ → ℕ → Bool) where
   onward_led n ts m.Stuck ds ih q = cc
   onward_led n ts (m.Over i) ds ih q = cc
 
-  -- what the machine reads, the grammar reads
+  -- each reading of the machine is one of the grammar
   pub sound : (ts : List Lexeme) (st : m.State) (ds : List tree.Decl) → run allows st ts ≡ Read ds → r.Rest allows st ts ds
   sound [] st ds q = e.end_sound allows st q
   sound (y ∷ ts) st ds q =

@@ -14,7 +14,7 @@ use Rattle.surface_syntax.proofs.Declarations_read as d
 use Rattle.surface_syntax.proofs.Complete as c
 
 module _ (allows : ℕ → ℕ → Bool) where
-  -- what a production that may begin goes on with
+  -- a production that may begin, and the lexemes that it goes on with
   data Allowed (n left : ℕ) (out : m.Outcome) (ts : List Lexeme) (ds : List tree.Decl) : Type 0 where
     allowed : allows n left ≡ true → r.Led allows out ts ds → Allowed n left out ts ds
 

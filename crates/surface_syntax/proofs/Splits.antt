@@ -10,7 +10,7 @@ use Rattle.surface_syntax.specs.declared.token.Piece.TheVariants.{Gap, Found, Ba
 use Rattle.surface_syntax.specs.Spelling.{piece, byte_len}
 use Rattle.surface_syntax.specs.Splitting.{Reads, stop, gap, token, Splits, StopsAt, AreInOrder}
 
--- what was read so far: whatever the rest reads as, the whole reads as these tokens and then those
+-- the front that was read: if the rest splits into some tokens, the whole splits into these tokens and then those
 pub record Goes (cs : List ℕ) (tokens : List Token) (at : ℕ) (rest : List ℕ) : Type 0 where
   pub onward : (more : List Token) (end : ℕ) (final : List ℕ) → Reads at rest more end final → Reads 0 cs (tokens ++ more) end final
 
@@ -33,7 +33,7 @@ byte_len_parts cs n = sum_by-take-drop len_utf8 cs n
 pub goes-end : {cs rest : List ℕ} {tokens : List Token} {at : ℕ} → Goes cs tokens at rest → Reads 0 cs tokens at rest
 goes-end {cs} {rest} {tokens} {at} g = subst (λ (ts : List Token). Reads 0 cs ts at rest) (append-nil tokens) (g.onward [] at rest stop)
 
--- the same where the rest is what is at a place of the text
+-- the rest is the text from a place on
 module _ (cs rest : List ℕ) (tokens : List Token) (at from : ℕ) (e : rest ≡ drop from cs) (g : Goes cs tokens at (drop from cs)) where
   goes_rest : Goes cs tokens at rest
   goes_rest = subst (λ (r : List ℕ). Goes cs tokens at r) (sym e) g

@@ -1,4 +1,4 @@
--- Proofs of the laws on what a text begins with, and on how it splits.
+-- Proofs of the laws on the front of a text, and on how it splits.
 use Rattle.std.proofs.Common.{◌≡◌, ℕ, ◌+◌, ◌<◌, ◌≤◌, ◌==◌, suc, Bool, true, false, not, ◌&&◌, ◌||◌, if◌then◌else◌, List, [], ◌∷◌, ◌++◌, length, take, drop, nat_lt, nat_le, refl, sym, ap, ap₂, subst, subst₂, ◌∙◌, arith, append_assoc, length-append, All}
 use Rattle.std.specs.List.{list_all, prefix_len}
 use Rattle.std.proofs.lemmas.List.{append-nil, take-append-drop, length-take-le}

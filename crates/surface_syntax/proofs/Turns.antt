@@ -41,7 +41,7 @@ halts bytes tokens i left d y r e h len q k before other =
 none_left : (bytes : List ℕ) (tokens : List Token) (i : ℕ) → length tokens ≤ i → lexemes_of bytes (drop i tokens) ≡ []
 none_left bytes tokens i h = ap (lexemes_of bytes) (drop_all i tokens h)
 
--- the end of the text
+-- the end of the file
 pub ends : (bytes : List ℕ) (tokens : List Token) (i : ℕ) (r : So_far) (ds : List tree.Decl) → length tokens ≤ i → ahead limit r (lexemes_of bytes (drop i tokens)) ≡ run limit Start (lexemes_of bytes tokens) →
     Ok ds ≡ finished r.decls (step limit 0 r.state End) → Ok ds ≡ parsed bytes tokens
 ends bytes tokens i r ds h before q =

@@ -72,7 +72,7 @@ front_of (y ∷ ts) = y
 abbrev pub Tested : m.State → Lexeme → ℕ → m.Outcome → Type 0
 Tested s y d out = (allows : Allows) (i : ℕ) → m.step allows i (placed i s) y ≡ cond (allows d (begun i s)) out (m.Over (begun i s))
 
--- where the way ends: at the end of a text, at what fits nowhere, or at what is too deep
+-- where the way ends: at the end of a file, at what fits nowhere, or at what is too deep
 pub data Halt : m.State → List Lexeme → Type 0 where
   over : {s : m.State} → ((allows : Allows) → Covers allows → result allows (placed 0 s) [] ≡ Read []) → Halt s []
   wrong : {s : m.State} {back : List Lexeme} → ((allows : Allows) → Covers allows → (more : List Lexeme) → Next back more → result allows (placed (length more) s) more ≡ Wrong (length more)) → Halt s back
@@ -94,7 +94,7 @@ end_fixed s m.Stuck still e = wrong (λ allows h more next. at_end allows h more
     at_end allows h more nothing = ended_step allows (placed 0 s) (e allows h 0)
 end_fixed s (m.Over i) still e = absurd still
 
--- what is tested leads to the same where it is allowed, and is too deep where it isn't
+-- a tested step is the same where it is allowed, and is too deep where it isn't
 module _ (s : m.State) (y : Lexeme) (d : ℕ) (out : m.Outcome) (e : Tested s y d out) where
   tested_fixed : limit d 0 ≡ true → (allows : Allows) → Covers allows → (i : ℕ) → m.step allows i (placed i s) y ≡ out
   tested_fixed h allows covers i = e allows i ∙ ap (λ (b : Bool). cond b out (m.Over (begun i s))) (covers d (begun i s) h)
@@ -145,7 +145,7 @@ pub ways : (ts : List Lexeme) (s : m.State) → Way s ts
 ways [] s = way [] [] refl stop (end_look s (look s x.End))
 ways (y ∷ ts) s = next_look s y ts (look s y) (ways ts)
 
--- what finishes a state
+-- lexemes that finish a state
 pub data Finish (s : m.State) : Type 0 where
   finish : (more : List Lexeme) → result every (placed (length more) s) more ≡ Read [] → Finish s
 
@@ -174,6 +174,6 @@ left_finish {s} (f.finished ts ds rest) = finish ts (ap shape (complete every ts
 pub finishes : (s : m.State) → Finish s
 finishes s = left_finish (f.left_in s)
 
--- the whole run of a text that goes some way
+-- the whole run of a file that goes some way
 pub way_text : {s : m.State} {front : List Lexeme} (allows : Allows) → Covers allows → (more : List Lexeme) → Passes m.Start front s → result allows m.Start (front ++ more) ≡ result allows (placed (length more) s) more
 way_text allows h more passes = passes_result allows h more passes

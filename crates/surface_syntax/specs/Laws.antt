@@ -17,7 +17,7 @@ ReadsTheGrammar = (ts : List Lexeme) (ds : List tree.Decl) → (run limit Start 
 abbrev pub HasOneReading : Type 0
 HasOneReading = (allows : ℕ → ℕ → Bool) (ts : List Lexeme) (ds es : List tree.Decl) → File allows ts ds → File allows ts es → ds ≡ es
 
--- the machine goes wrong exactly where the lexemes before begin a text of the language, no text goes on with the next
+-- the machine goes wrong exactly where the lexemes before begin a source file, no file goes on with the next
 -- one, and nothing begins inside 2,000 others
 abbrev pub GoesWrongWithTheGrammar : Type 0
 GoesWrongWithTheGrammar = (ts : List Lexeme) (n : ℕ) → (run limit Start ts ≡ Wrong n) ↔ (GoesWrong ts n × ((m : ℕ) → IsNested ts m → ⊥))
@@ -30,6 +30,6 @@ GoesTooDeepWithTheGrammar = (ts : List Lexeme) (n : ℕ) → (run limit Start ts
 abbrev pub NestedComesFirst : Type 0
 NestedComesFirst = (ts : List Lexeme) (n m : ℕ) → GoesWrong ts n → IsNested ts m → n ≤ m
 
--- in a text of the language, the place of a refusal for depth is where the first production that is inside 2,000 others begins
+-- in a source file, the place of a refusal for depth is where the first production that is inside 2,000 others begins
 abbrev pub NestedInAText : Type 0
 NestedInAText = (ts : List Lexeme) (ds : List tree.Decl) (n : ℕ) → File every ts ds → IsNested ts n ↔ IsTooDeepAt ts n

@@ -101,7 +101,7 @@ pub data Term_in : Type 0 where
   Side : Headed → Clauses_in → Term_in
   Scrutinee : Headed → Clauses_in → Term_in
 
--- What is awaited, in parts by what it is in. A Bool says whether `( )` was in the patterns of the clause.
+-- The states: what is awaited, by the construct that it is in. A Bool says whether `( )` was in the patterns of the clause.
 pub data Def_state : Type 0 where
   DefName : Def_state
   DefNext : Word → Def_state
@@ -160,9 +160,8 @@ pub data State : Type 0 where
   In_term : Term_state → State
   In_clause : Clause_state → State
 
--- What a lexeme leads to: perhaps a whole declaration, and what is awaited then, or the end of the text; or it fits
--- nowhere; or a term, pattern
--- or clause that begins where so many lexemes are left is inside too many others.
+-- The outcome of a lexeme: perhaps a whole declaration, and the state then, or the end of the file; or it fits nowhere; or a term,
+-- pattern or clause that begins where so many lexemes are left is inside too many others.
 pub data Outcome : Type 0 where
   Goes : Option tree.Decl → State → Outcome
   Ends : Option tree.Decl → Outcome
@@ -188,7 +187,7 @@ some_names (w ∷ ws) = Some w ∷ some_names ws
 abbrev pub named : Word → List Word → Spine
 named w ws = record { head = tree.Named w; args = map tree.Named ws }
 
--- Where a declaration may begin, or the text may end.
+-- Where a declaration may begin, or the file may end.
 abbrev pub start : Option tree.Decl → Lexeme → Outcome
 start whole x.Def = Goes whole (In_def DefName)
 start whole x.Data = Goes whole (In_data DataName)
@@ -408,7 +407,7 @@ module _ (allows : ℕ → ℕ → Bool) where
   opened d i k x.Underscore = to (In_term (BinderNames (product d) (None ∷ []) k))
   opened d i k x = may (d + 1) i (term_start (d + 1) (Parens d None k) x)
 
-  -- the same after plain names, the first of which was where `at` lexemes were left
+  -- after plain names, the first of which was where `at` lexemes were left
   abbrev pub names : ℕ → ℕ → Word → List Word → Term_in → Lexeme → Outcome
   names d at w ws k (x.Plain v) = to (In_term (Names d at w (ws ++ v ∷ []) k))
   names d at w ws k x.Underscore = to (In_term (BinderNames (product d) (some_names (w ∷ ws) ++ None ∷ []) k))
@@ -442,7 +441,7 @@ module _ (allows : ℕ → ℕ → Bool) where
   clause_step i (ClauseName d k) x = clause_name d i k x
   clause_step i (ClauseEnd d c k) x = clause_end d c k x
 
-  -- what a lexeme leads to; `i` lexemes are left, that one among them
+  -- the outcome of a lexeme; `i` lexemes are left, that one among them
   abbrev pub step : ℕ → State → Lexeme → Outcome
   step i Start x = start None x
   step i (In_def s) x = def_step s x

@@ -14,7 +14,7 @@ down_to i d j = limit d j || nat_le j i
 abbrev pub past : ℕ → ℕ → ℕ → Bool
 past i d j = limit d j || nat_lt j i
 
--- a text of the language; of all that is inside 2,000 others in it, the first begins where `i` lexemes are left
+-- a source file; of all that is inside 2,000 others in it, the first begins where `i` lexemes are left
 pub record IsTooDeepAt (text : List Lexeme) (i : ℕ) : Type 0 where
   pub decls : List tree.Decl
   pub file : File (down_to i) text decls
@@ -24,7 +24,7 @@ pub record IsTooDeepAt (text : List Lexeme) (i : ℕ) : Type 0 where
 --
 -- It begins after `front`. After `(` names may begin a term or a binder, so it can take some lexemes until that is sure:
 -- these are `seen`. Some text that begins with `front` and `seen` has it there (`deep`), and so does every text that goes
--- on as `back` does (`always`). Either such a text exists, or a term is due at that place whatever is there (`due`): `\`
+-- on as `back` does (`always`). Either such a file exists, or a term is due at that place whatever is there (`due`): `\`
 -- could be there, with which nothing but a term begins. A pattern, or a clause after `{`, counts only where the
 -- lexemes begin one.
 pub record IsNested (ts : List Lexeme) (n : ℕ) : Type 0 where

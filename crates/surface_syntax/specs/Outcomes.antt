@@ -1,4 +1,4 @@
--- What each answer of a call says.
+-- The meaning of each answer of a call.
 use Rattle.std.specs.Prelude.{◌≡◌, ℕ, List, Result, Ok, Err}
 use Rattle.std.specs.Str.{IsValidUpTo}
 use Rattle.surface_syntax.specs.declared.token.Token.{Token}
@@ -21,11 +21,11 @@ TokensSay bytes (Err (NotUtf8 offset)) = IsValidUpTo bytes offset
 TokensSay bytes (Err (BadToken offset)) = IsBadToken bytes offset
 TokensSay bytes (Err _) = ⊥
 
--- the refusals that nothing rules out: want of memory alone
+-- the refusals that nothing rules out: only out of memory
 abbrev pub IsUnforeseen : SyntaxStop → Type 0
 IsUnforeseen e = e ≡ Memory
 
--- nothing but this value or want of memory is answered
+-- the answer is this value or out of memory
 abbrev pub GivesOnly : {A : Type 0} → Result A SyntaxStop → A → Type 0
 GivesOnly (Ok a) b = a ≡ b
 GivesOnly (Err e) b = IsUnforeseen e

@@ -1,4 +1,4 @@
--- What the parser answers for the tokens of a text.
+-- The answers of the parser for the tokens of a source file.
 use Rattle.std.specs.Prelude.{◌≡◌, ℕ, ◌-◌, List, [], ◌∷◌, map, length, drop, Result, Ok, Err}
 use Rattle.core_terms.specs.Answers.{GivesUnless}
 use Rattle.surface_syntax.specs.Trees as tree
@@ -16,12 +16,12 @@ use Rattle.surface_syntax.specs.declared.lexeme.Lexeme.{Lexeme}
 use Rattle.surface_syntax.specs.declared.stop.SyntaxStop.{SyntaxStop}
 use Rattle.surface_syntax.specs.declared.stop.SyntaxStop.TheVariants.{Memory, Nested, Syntax}
 
--- where the first token begins, or the text ends
+-- where the first token begins, or the file ends
 abbrev pub begins_at : ℕ → List Token → ℕ
 begins_at end [] = end
 begins_at end (t ∷ ts) = t.start
 
--- the offset of the token with which so many tokens are left, or the length of the text
+-- the offset of the token with which so many tokens are left, or the length of the file
 abbrev pub offset_of : List ℕ → List Token → ℕ → ℕ
 offset_of bytes tokens n = begins_at (length bytes) (drop (length tokens - n) tokens)
 
@@ -31,7 +31,7 @@ by_offset at (Read ds) = Ok ds
 by_offset at (Wrong n) = Err (Syntax (at n))
 by_offset at (Deep n) = Err (Nested (at n))
 
--- what the parser's machine answers for the tokens of the text
+-- the answer of the parser's machine for the tokens of the file
 abbrev pub parsed : List ℕ → List Token → Result (List tree.Decl) SyntaxStop
 parsed bytes tokens = by_offset (offset_of bytes tokens) (run limit Start (lexemes_of bytes tokens))
 
@@ -44,7 +44,7 @@ abbrev pub NotNested : List Lexeme → Type 0
 NotNested ts = (n : ℕ) → IsNested ts n → ⊥
 
 -- `Ok` has declarations that the grammar has for the tokens, with no term, pattern or clause inside 2,000 others;
--- `Syntax` has the offset at which the text goes wrong, and `Nested` the one at which something is too deep
+-- `Syntax` has the offset at which the file goes wrong, and `Nested` the one at which something is too deep
 abbrev pub ParseSays : List ℕ → List Token → Result (List Decl) SyntaxStop → Type 0
 ParseSays bytes tokens (Ok ds) = File limit (lexemes_of bytes tokens) (map decl_of ds)
 ParseSays bytes tokens (Err Memory) = Unit {0}

@@ -6,7 +6,7 @@ use Rattle.surface_syntax.specs.declared.lexeme.Lexeme.{Lexeme}
 use Rattle.surface_syntax.specs.declared.lexeme.Lexeme.TheVariants as x
 use Rattle.std.specs.Prelude.{Bool}
 
--- The declarations; or how many lexemes are left where no text of the language goes on, or where a term, pattern or
+-- The declarations; or how many lexemes are left where no source file goes on, or where a term, pattern or
 -- clause begins inside too many others.
 pub data Answer : Type 0 where
   Read : List tree.Decl → Answer
@@ -20,14 +20,14 @@ behind (Some d) (Read ds) = Read (d ∷ ds)
 behind (Some d) (Wrong n) = Wrong n
 behind (Some d) (Deep n) = Deep n
 
--- the answer at the end of the text
+-- the answer at the end of the file
 abbrev pub finish : Outcome → Answer
 finish (Goes o s) = Wrong 0
 finish (Ends o) = behind o (Read [])
 finish Stuck = Wrong 0
 finish (Over n) = Deep n
 
--- what a lexeme leads to, where `n` lexemes are left before it is read
+-- the answer after the outcome of a lexeme, where `n` lexemes are left before it is read
 abbrev pub onward : ℕ → (State → Answer) → Outcome → Answer
 onward n rest (Goes o s) = behind o (rest s)
 onward n rest (Ends o) = Wrong n

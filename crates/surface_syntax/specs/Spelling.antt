@@ -75,21 +75,21 @@ name_piece n cs =
     else (if tail_len (drop n cs) == 0 then found_within (nat_le (byte_len (take n cs)) 255) Plain n
     else found_within (nat_le (byte_len (take n cs)) 255 && nat_le (tail_len (drop n cs)) 3) Dotted (n + tail_len (drop n cs)))
 
--- what is at the front where no name is
+-- the piece at the front where no name is
 abbrev pub other_piece : List ℕ → Piece
 other_piece cs =
     if nat_lt 0 (number_len cs) then found_within (nat_le (number_len cs) 3) Number (number_len cs)
     else (if nat_lt 0 (comment_len cs) then Gap (comment_len cs)
     else (if nat_lt 0 (mark_len cs) then Found Mark (mark_len cs) else Bad))
 
--- what the text begins with
+-- the piece with which the text begins
 abbrev pub piece : List ℕ → Piece
 piece [] = Bad
 piece (c ∷ cs) =
     if is_blank c then Gap 1
     else (if nat_lt 0 (name_len (c ∷ cs)) then name_piece (name_len (c ∷ cs)) (c ∷ cs) else other_piece (c ∷ cs))
 
--- what a text begins with has a character at least, and is no longer than the text
+-- the piece at the front of a text has a character at least, and is no longer than the text
 abbrev pub IsFront : List ℕ → Piece → Type 0
 IsFront cs (Gap n) = (0 < n) × (n ≤ length cs)
 IsFront cs (Found kind n) = (0 < n) × (n ≤ length cs)

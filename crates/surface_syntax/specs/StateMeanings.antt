@@ -1,4 +1,4 @@
--- What the contexts and states of the parser's code stand for in its machine.
+-- The meanings of the contexts and states of the parser's code in its machine.
 use Rattle.std.specs.Prelude.{map, option_map}
 use Rattle.surface_syntax.specs.Machine as machine
 use Rattle.surface_syntax.specs.TreeMeanings.{surf_of, binder_of, pat_of, clause_of, param_of, member_of}

@@ -1,4 +1,4 @@
--- What the answers of the parser's parts say.
+-- The meanings of the answers of the parser's parts.
 use Rattle.std.specs.Prelude.{◌≡◌, Result, Ok, Err, option_map}
 use Rattle.surface_syntax.specs.Machine as machine
 use Rattle.surface_syntax.specs.TreeMeanings.{decl_of}
@@ -11,7 +11,7 @@ use Rattle.surface_syntax.specs.declared.state.Step.TheVariants.{Goes, Ends}
 use Rattle.surface_syntax.specs.declared.halt.Halt.{Halt}
 use Rattle.surface_syntax.specs.declared.halt.Halt.TheVariants.{Stuck, Over, Memory}
 
--- what a step stands for
+-- the meaning of a step
 abbrev pub outcome_of : Step → machine.Outcome
 outcome_of (Goes o s) = machine.Goes (option_map decl_of o) (state_of s)
 outcome_of (Ends o) = machine.Ends (option_map decl_of o)

@@ -1,4 +1,4 @@
--- What the parser does with one token, and at the end of the text.
+-- The parser's steps: one token, and the end of the file.
 use Rattle.std.specs.Prelude.{◌≡◌, ℕ, List, [], ◌∷◌, ◌++◌, map, Option, Some, None, Result, Ok, Err}
 use Rattle.core_terms.specs.Answers.{GivesUnless}
 use Rattle.surface_syntax.specs.Trees as tree
@@ -11,7 +11,7 @@ use Rattle.surface_syntax.specs.declared.parser.Reading.{Reading}
 use Rattle.surface_syntax.specs.declared.stop.SyntaxStop.{SyntaxStop}
 use Rattle.surface_syntax.specs.declared.stop.SyntaxStop.TheVariants.{Memory, Nested, Syntax}
 
--- the refusals that nothing rules out: want of memory alone
+-- the refusals that nothing rules out: only out of memory
 abbrev pub IsUnforeseen : Halt → Type 0
 IsUnforeseen e = e ≡ halt.Memory
 
@@ -38,14 +38,14 @@ abbrev pub with_whole : List tree.Decl → Option tree.Decl → List tree.Decl
 with_whole ds None = ds
 with_whole ds (Some d) = ds ++ d ∷ []
 
--- what a token leads to
+-- the reading after the outcome of a token
 abbrev pub taken : List tree.Decl → machine.Outcome → Result So_far Halt
 taken ds (machine.Goes o s) = Ok (record { decls = with_whole ds o; state = s })
 taken ds (machine.Ends o) = Err halt.Stuck
 taken ds machine.Stuck = Err halt.Stuck
 taken ds (machine.Over n) = Err (halt.Over n)
 
--- what the end of the text leads to
+-- the declarations after the outcome of the end of the file
 abbrev pub finished : List tree.Decl → machine.Outcome → Result (List tree.Decl) Halt
 finished ds (machine.Goes o s) = Err halt.Stuck
 finished ds (machine.Ends o) = Ok (with_whole ds o)

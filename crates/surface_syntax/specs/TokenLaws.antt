@@ -1,4 +1,4 @@
--- The laws on what a text begins with, and on how it splits.
+-- The laws on the front of a text, and on how it splits.
 use Rattle.std.specs.Prelude.{◌≡◌, ◌↔◌, ℕ, ◌+◌, List, [], ◌∷◌, ◌++◌, length, All}
 use Rattle.surface_syntax.specs.Spelling.{piece, byte_len}
 use Rattle.surface_syntax.specs.Splitting.{Splits}
@@ -11,7 +11,7 @@ use Rattle.surface_syntax.specs.declared.token.TokenKind.{TokenKind}
 abbrev pub FindsTheLongest : Type 0
 FindsTheLongest = (cs : List ℕ) (of : TokenKind) (n : ℕ) → (piece cs ≡ Found of n) ↔ IsFirstToken cs of n
 
--- what is passed over is a blank or a whole comment
+-- a gap, which is passed over, is a blank or a whole comment
 abbrev pub PassesOverGaps : Type 0
 PassesOverGaps = (cs : List ℕ) (n : ℕ) → (piece cs ≡ Gap n) ↔ IsGap cs n
 

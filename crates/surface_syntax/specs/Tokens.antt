@@ -1,4 +1,4 @@
--- What tokens are: their spellings, of which a text begins with the longest, and their limits.
+-- Tokens: their spellings, of which a text begins with the longest, and their limits.
 use Rattle.std.specs.Prelude.{◌≡◌, ℕ, ◌+◌, ◌==◌, Bool, true, false, not, ◌&&◌, List, [], ◌∷◌, ◌++◌, nat_le, length}
 use Rattle.std.specs.List.{list_all}
 use Rattle.unicode_ident.specs.Ident.{is_xid_start}
@@ -35,7 +35,7 @@ pub record IsFirstToken (cs : List ℕ) (of : TokenKind) (n : ℕ) : Type 0 wher
   pub spelled : Spells of text true
   pub longest : (more last : List ℕ) (other : TokenKind) (fits : Bool) → rest ≡ more ++ last → Spells other (text ++ more) fits → more ≡ []
 
--- a line ends at a line feed, or at the end of the text
+-- a line ends at a line feed, or at the end of the file
 pub data EndsLine : List ℕ → Type 0 where
   end : EndsLine []
   feed : {cs : List ℕ} → EndsLine (10 ∷ cs)

@@ -1,4 +1,4 @@
--- What the trees of the code stand for.
+-- The meanings of the code's trees.
 use Rattle.std.specs.Prelude.{map}
 use Rattle.surface_syntax.specs.Trees as pure
 use Rattle.surface_syntax.specs.declared.tree.Binder.{Binder}
@@ -49,13 +49,13 @@ pat_step (open_pat.Con c ps) = pure.Con c (pure.pats ps)
 abbrev pub pat_of : SurfPat → pure.Pat
 pat_of = fold-SurfPat pure.Pat pat_step
 
--- what comes after the patterns, once the clauses of a `with` are given
+-- the right side after the patterns, once the clauses of a `with` are given
 abbrev pub right_step : open_clause.SurfRight-F pure.Right pure.Clause → pure.Right
 right_step (open_clause.Side t) = pure.Side (surf_of t)
 right_step (open_clause.With t cs) = pure.With (surf_of t) (pure.clauses cs)
 right_step open_clause.Absurd = pure.Absurd
 
--- a clause, once what comes after its patterns is given
+-- a clause, once its right side is given
 abbrev pub clause_step : open_clause.SurfClause-F pure.Right pure.Clause → pure.Clause
 clause_step c = pure.Is c.head (map pat_of c.pats) c.right
 

@@ -38,7 +38,7 @@ mutual
     no_pat : Pats
     arg : Pat → Pats → Pats
 
--- A clause: its head, its patterns, and what comes after them.
+-- A clause: its head, its patterns, and its right side.
 mutual
   pub data Right : Type 0 where
     Side : Surf → Right

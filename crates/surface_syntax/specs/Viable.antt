@@ -1,4 +1,4 @@
--- Which lexemes begin a text of the language, and where lexemes go wrong.
+-- Which lexemes begin a source file, and where lexemes go wrong.
 use Rattle.std.specs.Prelude.{◌≡◌, ℕ, Bool, true, List, [], ◌∷◌, ◌++◌, length}
 use Rattle.surface_syntax.specs.Trees as tree
 use Rattle.surface_syntax.specs.Grammar.{File}
@@ -8,25 +8,25 @@ use Rattle.surface_syntax.specs.declared.lexeme.Lexeme.{Lexeme}
 abbrev pub every : ℕ → ℕ → Bool
 every d i = true
 
--- some lexemes after these make a text of the language
+-- some lexemes after these make a source file
 pub record IsViable (front : List Lexeme) : Type 0 where
   pub more : List Lexeme
   pub decls : List tree.Decl
   pub file : File every (front ++ more) decls
 
--- `Next back more`: `more` begins with the lexeme with which `back` begins, or both are at the end of the text
+-- `Next back more`: `more` begins with the lexeme with which `back` begins, or both are at the end of the file
 pub data Next : List Lexeme → List Lexeme → Type 0 where
   nothing : Next [] []
   first : {y : Lexeme} {back more : List Lexeme} → Next (y ∷ back) (y ∷ more)
 
--- a text of the language goes on after the front with the first of these lexemes, or ends there where these are none
+-- a source file goes on after the front with the first of these lexemes, or ends there where these are none
 pub record GoesOn (front back : List Lexeme) : Type 0 where
   pub more : List Lexeme
   pub next : Next back more
   pub decls : List tree.Decl
   pub file : File every (front ++ more) decls
 
--- no text of the language does
+-- no source file does
 abbrev pub GoesNoFurther : List Lexeme → List Lexeme → Type 0
 GoesNoFurther front back = (more : List Lexeme) → Next back more → (ds : List tree.Decl) → File every (front ++ more) ds → ⊥
 

@@ -38,7 +38,7 @@ fn part(part: Part) -> Result<Step, Halt>
     Ok(Step::to(State::part(part)))
 }
 
-/// Where a declaration may begin, or the text may end.
+/// Where a declaration may begin, or the file may end.
 pub(crate) fn start(whole: Option<Decl>, lexeme: Lexeme) -> Result<Step, Halt>
     ensures { Follows result (machine.start (option_map decl_of whole) lexeme) }
 {

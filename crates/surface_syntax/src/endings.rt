@@ -28,7 +28,7 @@ pub(crate) enum Ending {
     Scrutinee(Headed, Box<ClausesIn>),
 }
 
-/// What ends where a term ends: the term around it, or that term itself if it is no last part.
+/// The end of a term: it is the last part of the term around it, or has an ending of its own.
 #[derive(Drop)]
 pub(crate) enum Outward {
     Further(Surf, TermIn),

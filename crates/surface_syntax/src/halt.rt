@@ -3,8 +3,8 @@ ghost use Rattle.surface_syntax.specs.declared.halt.Halt.TheVariants.{Memory};
 use core_terms::Stop;
 use std::alloc::{AllocError, AllocFailed};
 
-/// Why the parser goes no further: the lexeme fits nowhere, or a term, pattern or clause that begins where so many
-/// lexemes are left is inside too many others, or want of memory.
+/// Why the parser goes no further: the lexeme fits nowhere, or a term, pattern or clause that begins where so many lexemes are
+/// left is inside too many others, or out of memory.
 #[derive(Clone, Copy)]
 pub(crate) enum Halt {
     Stuck,

@@ -1,12 +1,12 @@
 ghost use Rattle.surface_syntax.specs.Laws.{ReadsTheGrammar, GoesTooDeepWithTheGrammar, GoesWrongWithTheGrammar, HasOneReading, NestedComesFirst, NestedInAText};
 ghost use Rattle.surface_syntax.specs.TokenLaws.{FindsTheLongest, PassesOverGaps, FindsNothingElse, SplitsBySpellings, SplitsInOneWay, TokensAreSlices};
 
-/// The machine of the parser reads exactly what the grammar has.
+/// The machine of the parser reads exactly the files of the grammar.
 pub fn reads_the_grammar()
     ensures { ReadsTheGrammar }
 {}
 
-/// The grammar has one reading of a text at most.
+/// The grammar has one reading of a source file at most.
 pub fn has_one_reading()
     ensures { HasOneReading }
 {}
@@ -21,12 +21,12 @@ pub fn goes_too_deep_with_the_grammar()
     ensures { GoesTooDeepWithTheGrammar }
 {}
 
-/// What is too deep begins at the place where the lexemes go wrong, or before it.
+/// A production that is too deep begins at the place where the lexemes go wrong, or before it.
 pub fn nested_comes_first()
     ensures { NestedComesFirst }
 {}
 
-/// In a text of the language, the place of a refusal for depth is where the first production that is inside 2,000 others begins.
+/// In a source file, the place of a refusal for depth is where the first production that is inside 2,000 others begins.
 pub fn nested_in_a_text()
     ensures { NestedInAText }
 {}
@@ -36,7 +36,7 @@ pub fn finds_the_longest()
     ensures { FindsTheLongest }
 {}
 
-/// What is passed over is a blank or a whole comment.
+/// A gap, which is passed over, is a blank or a whole comment.
 pub fn passes_over_gaps()
     ensures { PassesOverGaps }
 {}

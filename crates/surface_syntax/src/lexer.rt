@@ -186,7 +186,7 @@ fn other_piece(text: &[char]) -> Piece
     }
 }
 
-/// What the text begins with.
+/// The piece with which the text begins.
 pub fn piece(text: &[char]) -> Piece
     requires { length text.now < 2 ^ 32 }
     ensures value { result ≡ spec.piece text.now }

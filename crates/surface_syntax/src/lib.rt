@@ -1,4 +1,4 @@
-//! The surface language: the tokens of a text, and the declarations that they spell.
+//! The surface language: the tokens of a source file, and the declarations that they spell.
 #![tactic(auto)]
 
 mod awaiting;

@@ -24,7 +24,7 @@ pub(crate) struct Reading {
     pub state: Box<State>,
 }
 
-/// What a lexeme leads to, where `left` lexemes are left, that one among them.
+/// The step of a lexeme, where `left` lexemes are left, that one among them.
 fn step(alloc: Global, left: u32, state: State, lexeme: Lexeme) -> Result<Step, Halt>
     ensures { Follows result (machine.step machine.limit left (state_of state) lexeme) }
 {
@@ -69,7 +69,7 @@ fn gone_on(
     })
 }
 
-/// What is read after a step that does not end the text.
+/// The reading after a step that does not end the file.
 fn taken(alloc: Global, decls: Items<Decl>, step: Step) -> Result<Reading, Halt>
     ensures { taking.Halts taking.reading_of result (taking.taken (map decl_of decls) (outcome_of step)) }
 {
@@ -90,7 +90,7 @@ fn take(alloc: Global, left: u32, reading: Reading, lexeme: Lexeme) -> Result<Re
     taken(alloc, decls, next)
 }
 
-/// The declarations of the text, after the step that ends it.
+/// The declarations of the file, after the step that ends it.
 fn finished(decls: Items<Decl>, step: Step) -> Result<Items<Decl>, Halt>
     ensures { taking.Halts (map decl_of) result (taking.finished (map decl_of decls) (outcome_of step)) }
 {
@@ -112,7 +112,7 @@ fn finish(alloc: Global, reading: Reading) -> Result<Items<Decl>, Halt>
     finished(decls, last)
 }
 
-/// The offset of the token with which `left` tokens are left, or the length of the text.
+/// The offset of the token with which `left` tokens are left, or the length of the file.
 fn offset_of(bytes: &[u8], tokens: &[Token], left: u32) -> u32
     requires { length bytes.now < 2 ^ 32 }
     ensures { result ≡ spec.offset_of bytes.now tokens.now left }
@@ -160,7 +160,8 @@ fn read(alloc: Global, bytes: &[u8], tokens: &[Token]) -> Result<Items<Decl>, Sy
     }
 }
 
-/// The declarations of a text. The length of the text and the number of its tokens are below 2^32, or memory is wanting.
+/// The declarations of a source file. The length of the file and the number of its tokens are below 2^32, or the answer is
+/// Memory.
 pub fn parse(alloc: Global, bytes: &[u8], tokens: &Items<Token>) -> Result<Items<Decl>, SyntaxStop>
     requires { AreTokens bytes.now tokens.now }
     ensures runs { spec.GivesAnswer (map decl_of) result (spec.parsed bytes.now tokens.now) }

@@ -57,13 +57,13 @@ fn characters(alloc: Global, text: &str) -> Result<Vec<char>, SyntaxStop>
     Ok(text.chars().collect(alloc)?)
 }
 
-/// The tokens of a text, in order, and the offsets between which each is. Space, tab, carriage return and line feed
+/// The tokens of a source file, in order, and the offsets between which each is. Space, tab, carriage return and line feed
 /// separate tokens, and `--` begins a comment that goes on to the next line feed.
 pub fn tokens(alloc: Global, bytes: &[u8]) -> Result<Items<Token>, SyntaxStop>
     ensures says { TokensSay bytes.now result }
     ensures ordered { IfOk result (λ found. AreInOrder 0 found (length bytes.now)) }
 
-    // What splits into tokens is answered, unless memory runs out.
+    // The tokens are answered if there are any, unless memory runs out.
     ensures only { (expected : List Token) → AreTokens bytes.now expected → GivesOnly result expected }
 {
     if bytes.len() > u32::MAX as usize {

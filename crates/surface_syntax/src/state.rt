@@ -4,7 +4,7 @@ use crate::context::{ClausesIn, Families, Part, PatsIn, Spine, Telescope, TermIn
 use crate::{Decl, SurfClause, SurfMember, SurfParam, Word};
 use core_terms::Items;
 
-/// What is awaited in a definition, or in the head of a function.
+/// The states in a definition, or in the head of a function.
 #[derive(Drop)]
 pub(crate) enum DefState {
     DefName,
@@ -16,7 +16,7 @@ pub(crate) enum DefState {
     FunColon(Word),
 }
 
-/// What is awaited in a family.
+/// The states in a family.
 #[derive(Drop)]
 pub(crate) enum DataState {
     DataName,
@@ -29,7 +29,7 @@ pub(crate) enum DataState {
     FamilyEnd(Items<SurfParam>, SurfMember),
 }
 
-/// What is awaited in families that refer to each other, after the first.
+/// The states in families that refer to each other, after the first.
 #[derive(Drop)]
 pub(crate) enum MutualState {
     MembersEnd(Families),
@@ -42,7 +42,7 @@ pub(crate) enum MutualState {
     TagNext(Families, Word, Word, Items<Word>),
 }
 
-/// What is awaited in a term.
+/// The states in a term.
 #[derive(Drop)]
 pub(crate) enum TermState {
     Term(u32, TermIn),
@@ -58,7 +58,7 @@ pub(crate) enum TermState {
     Atoms(u32, Spine, Box<TermIn>),
 }
 
-/// What is awaited among clauses. A `bool` says whether `( )` was in the patterns of the clause.
+/// The states among clauses. A `bool` says whether `( )` was in the patterns of the clause.
 #[derive(Drop)]
 pub(crate) enum ClauseState {
     Pats(u32, bool, Box<PatsIn>),
@@ -70,7 +70,7 @@ pub(crate) enum ClauseState {
     ClauseEnd(u32, SurfClause, Box<ClausesIn>),
 }
 
-/// What is awaited.
+/// The states of the parser, by the construct that they are in.
 #[derive(Drop)]
 pub(crate) enum State {
     Start,
@@ -81,7 +81,7 @@ pub(crate) enum State {
     InClause(ClauseState),
 }
 
-/// What a lexeme leads to: perhaps a whole declaration, and what is awaited then or the end of the text.
+/// The step of a lexeme: perhaps a whole declaration, and the state then, or the end of the file.
 #[derive(Drop)]
 pub(crate) enum Step {
     Goes(Option<Decl>, State),

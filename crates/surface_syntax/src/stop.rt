@@ -3,11 +3,11 @@ ghost use Rattle.surface_syntax.specs.declared.stop.SyntaxStop.TheVariants.{Memo
 use std::alloc::{AllocError, AllocFailed};
 use thiserror::Error;
 
-/// Why a text has no tokens or no declarations; each offset is one in bytes.
+/// Why a source file has no tokens or no declarations; each offset is one in bytes.
 ///
-/// `Memory` is want of memory. `NotUtf8` has the first byte that begins no character, `BadToken` the first byte of what
-/// is no token, `Syntax` the first token with which no text of the language continues, or the length of the text, and
-/// `Nested` the first token of a term, pattern or clause that is inside 2,000 others.
+/// `Memory` is out of memory. `NotUtf8` has the first byte that begins no character, `BadToken` the first byte that begins no
+/// token, `Syntax` the first token with which no source file continues, or the length of the file, and `Nested` the first token
+/// of a term, pattern or clause that is inside 2,000 others.
 #[derive(Clone, Copy, Debug, PartialEq, Eq, Error)]
 pub enum SyntaxStop {
     #[error("Memory")]

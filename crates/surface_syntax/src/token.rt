@@ -1,4 +1,4 @@
-/// What a token is: a plain name, a dotted name, a number, a keyword or a mark.
+/// The kinds of tokens: plain names, dotted names, numbers, keywords and marks.
 #[derive(Clone, Copy, Debug, PartialEq, Eq)]
 pub enum TokenKind {
     Plain,
@@ -8,7 +8,7 @@ pub enum TokenKind {
     Mark,
 }
 
-/// A token of a text, by the offsets in bytes at which it begins and after which it ends.
+/// A token of a source file, by the offsets in bytes at which it begins and after which it ends.
 #[derive(Clone, Copy, Debug, PartialEq, Eq)]
 pub struct Token {
     pub kind: TokenKind,
@@ -16,8 +16,8 @@ pub struct Token {
     pub end: u32,
 }
 
-/// What a text begins with, by its number of characters: a blank or a comment, or a token. `Bad` is none of them, or a
-/// token over its limit.
+/// The front of a text, by its number of characters: a blank or a comment, or a token. `Bad` is none of them, or a token over its
+/// limit.
 #[derive(Clone, Copy, Debug, PartialEq, Eq)]
 pub enum Piece {
     Gap(usize),

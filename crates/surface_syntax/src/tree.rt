@@ -1,6 +1,6 @@
 use core_terms::{Items, Name};
 
-/// A name of the text, by its bytes and the offset at which it is.
+/// A name of a source file, by its bytes and the offset at which it is.
 #[derive(Debug, Drop)]
 pub struct Word {
     pub text: Name,
@@ -40,7 +40,7 @@ pub enum SurfPat {
     Con(Word, Items<SurfPat>),
 }
 
-/// What comes after the patterns of a clause: a term, a `with`, or nothing.
+/// The right side of a clause, after its patterns: a term, a `with`, or nothing.
 #[cycle(clause)]
 #[derive(Debug, Drop)]
 pub enum SurfRight {

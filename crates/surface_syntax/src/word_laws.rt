@@ -1,4 +1,4 @@
-//! The words of a parsed text, and how many parts its declarations have.
+//! The words of a parsed source file, and how many parts its declarations have.
 ghost use Rattle.surface_syntax.specs.word_laws.Laws.{PartsAreFew, PlainNamesAreShort, WordsAreSpelled};
 
 /// Each word of a parsed declaration is the spelling of a name.
@@ -11,7 +11,7 @@ pub fn plain_names_are_short()
     ensures { PlainNamesAreShort }
 {}
 
-/// A declaration has no more parts than the text has bytes.
+/// A declaration has no more parts than the file has bytes.
 pub fn parts_are_few()
     ensures { PartsAreFew }
 {}

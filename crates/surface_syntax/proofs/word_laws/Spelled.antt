@@ -1,4 +1,4 @@
--- Each token of a text is spelled by its bytes, and there are no more tokens than bytes.
+-- Each token of a source file is spelled by its bytes, and there are no more tokens than bytes.
 use Rattle.std.proofs.Common.{◌≡◌, ℕ, suc, ◌+◌, ◌-◌, ◌<◌, ◌≤◌, Bool, true, false, List, [], ◌∷◌, ◌++◌, length, map, take, drop, All, refl, sym, ap, ap₂, subst, ◌∙◌, length-append, arith}
 use Rattle.std.specs.Prelude.{◌&&◌, nat_le, slice_range}
 use Rattle.std.specs.Char.{len_utf8}

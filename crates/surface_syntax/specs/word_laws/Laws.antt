@@ -1,4 +1,4 @@
--- The laws on the words and the numbers of a parsed text.
+-- The laws on the words and the numbers of a parsed source file.
 use Rattle.std.specs.Prelude.{◌≡◌, ◌<◌, ◌≤◌, ℕ, Bool, false, List, length}
 use Rattle.std.specs.Str.{chars}
 use Rattle.surface_syntax.specs.Grammar.{File}
@@ -21,7 +21,7 @@ WordsAreSpelled =
 abbrev pub PlainNamesAreShort : Type 0
 PlainNamesAreShort = (w : Word) → IsPlain w → IsName (chars w.text) × (is_keyword (chars w.text) ≡ false) × (0 < length w.text) × (length w.text ≤ 255)
 
--- no declaration has more parts of one kind than the text has bytes
+-- no declaration has more parts of one kind than the file has bytes
 abbrev pub PartsAreFew : Type 0
 PartsAreFew =
     (allows : ℕ → ℕ → Bool) (bytes : List ℕ) (tokens : List Token) (ds : List Decl) → AreTokens bytes tokens → File allows (lexemes_of bytes tokens) ds

@@ -1,4 +1,4 @@
--- What the words of declarations spell: plain names where a name is declared or bound, and plain or dotted names where one is used.
+-- The spellings of words in declarations: plain names where a name is declared or bound, and plain or dotted names where one is used.
 use Rattle.std.specs.Prelude.{◌≡◌, ◌⊎◌, true, List, [], ◌∷◌, Option, Some, None}
 use Rattle.std.specs.Str.{is_utf8, chars}
 use Rattle.surface_syntax.specs.Tokens.{Spells}
