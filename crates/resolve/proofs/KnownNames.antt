@@ -1,4 +1,4 @@
--- What names of a signature stand for has its entry.
+-- The term of a name in a signature has its entry.
 use Rattle.std.proofs.Common.{◌≡◌, ℕ, ◌+◌, ◌<◌, ◌≤◌, Bool, true, false, cond, List, [], ◌∷◌, ◌++◌, map, length, Option, Some, None, option_map, IfSome, bytes_eq, slice_get, ap, sym, ◌∙◌, subst, subst₂, arith, append_assoc}
 use Rattle.std.proofs.lemmas.List.{length-append, length-map}
 use Rattle.std.specs.Map.{lookup}
@@ -18,7 +18,7 @@ HasName (EliminatorAt n m) = ⊥
 HasName (AxiomKAt i m) = ⊥
 HasName (Definition name type body) = Unit {0}
 
--- the entries have what is found
+-- the entries have the entry or constructor that is found
 abbrev pub IsFound : List Entry → Found → Type 0
 IsFound es (FoundEntry n) = (e : Entry) × (slice_get es n ≡ Some e) × HasName e
 IsFound es (Con n c) = (f : Family) × (slice_get es n ≡ Some (FamilyOf f)) × (c < length f.constructors)
@@ -63,7 +63,7 @@ in_entries test xs (e ∷ ys) =
 pub is_found : (S : Signature) (name : List ℕ) → IfSome (find S name) (IsFound S.entries)
 is_found S name = in_entries (bytes_eq name) [] S.entries
 
--- what is found in the first entries of a signature
+-- a name that is found in the first entries of a signature is resolved over the signature
 pub found_resolved : (S T : Signature) → IsPrefix S T → (found : Found) → IsFound S.entries found → IsResolved T 0 (symbol S found)
 found_resolved S T p (Con n c) (f, at, few) = record {
   scoped = record { variables = omega arith; entries = (f, longer, few) };
@@ -83,7 +83,7 @@ found_resolved S T p (FoundEntry n) (e, at, has) = subst (λ o. IsResolved T 0 (
     by_entry (AxiomKAt i m) at has = absurd has
     by_entry (Definition name type body) at has = record { scoped = record { variables = omega arith; entries = (name, type, body, at) }; low = omega arith }
 
--- what names stand for is scoped and low
+-- terms of names are scoped and low
 abbrev pub IsKnown : Signature → Known → Type 0
 IsKnown T known = (name : List ℕ) → IfSome (known name) (IsResolved T 0)
 

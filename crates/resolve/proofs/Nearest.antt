@@ -66,7 +66,7 @@ nearest-found name names at is = go (variable_of name (reverse names)) refl ∙ 
     go (Some n) e = let h = variable-within name (reverse names) n e in let l = length-reverse names in ap Some (omega arith)
     go None e = refl
 
--- the same with the test in the other order
+-- the last place of a name after an insertion, with the test in the other order
 pub last-insert-swap : (name : List ℕ) (places : Places) (key : Vec ℕ Global) (at : ℕ) (text : List ℕ) → key.items ≡ text
     → last_of name (insert_entry (λ p q. bytes_eq p.items q.items) places key at) ≡ cond (bytes_eq text name) (Some at) (last_of name places)
 last-insert-swap name places key at text is =
@@ -114,7 +114,7 @@ variable-far name (x ∷ near) far is = go (has_name name x) (variable_of name n
     go false (Some k) inside e = absurd (none-some (k + 1) (sym e))
     go false None inside e = ap (option_map (λ k. k + 1)) (inside refl) ∙ more (variable_of name far)
 
--- what is found after them, counted from the nearest
+-- a name that is found after them, counted from the nearest
 pub far_found : (name : List ℕ) (near far : Scope) (found : Option ℕ) (n : ℕ) → variable_of name near ≡ None → ◌≡◌ {A = Result (Option ℕ) ResolveStop} (Ok found) (Ok (variable_of name far)) → n ≡ length near
     → option_map (λ k. k + n) found ≡ variable_of name (near ++ far)
 far_found name near far found n none is count =

@@ -1,4 +1,4 @@
--- What is resolved has the name that is written, and the name is new.
+-- A resolved declaration has the name that is written, and the name is new.
 use Rattle.std.proofs.Common.{◌≡◌, ℕ, false, ◌||◌, if◌then◌else◌, Option, Some, None, List, [], ◌∷◌, length, Result, Ok, Err, IfOk, refl, ap, ◌∙◌, subst as transport, arith}
 use Rattle.std.specs.Option.{is_some}
 use Rattle.theory.specs.Terms.Term.{Const, Fam}
@@ -52,7 +52,7 @@ function-new S x ty cs =
     and_then-is P (clauses S (with_name own (Const (length S.entries)) (known_in S)) own (allowed_by type (arity_of type cs)) cs) _ (λ list made.
     declared-new S x own named)))
 
--- the same of what the calls answer
+-- answers of the calls
 
 pub family_named : (S : Signature) (x : Word) (params : List surf.Typed) (ty : surf.Surf) (cons : List surf.Typed) (result : Result code.RawFamily ResolveStop)
     → Gives raw_of result (family S x params ty cons) → IfOk result (λ raw. IsNewName S x raw.name)

@@ -42,7 +42,7 @@ constructor_known S T p name = go (find S name) (is_found S name)
       sym (ap (spec.arguments_in number) at ∙ ap (λ o. option_map_or (λ (k : theory.Constructor). length k.arguments) o 0) (slice_get-get_or f.constructors number no_constructor few)),
     )
 
--- what a head with n arguments is: a constructor with all of them, or a variable without any
+-- a head with n arguments is a constructor with all of them, or a variable without any
 abbrev HasHead : Signature → ℕ → Option spec.Constructor → Type 0
 HasHead T n (Some c) = HasArguments T c.family c.number n
 HasHead T n None = n ≡ 0

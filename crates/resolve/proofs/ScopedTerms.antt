@@ -22,7 +22,7 @@ low_resolved T n t scoped = go (nat_le (tree.height t) 2000) (λ e. grind (arith
     go true h = record { scoped = scoped; low = h refl }
     go false h = tt
 
--- what makes a term of two parts, the second under a binder, keeps it scoped
+-- a former of two parts, the second under a binder, keeps terms scoped
 abbrev Binds : Signature → (Term → Term → Term) → Type 0
 Binds T make = (n : ℕ) (a b : Term) → IsScoped T n a → IsScoped T (suc n) b → IsScoped T n (make a b)
 
@@ -38,7 +38,7 @@ binding_resolved T make binds n first second p q =
     and_then-has (IsResolved T n) (IsResolved T n) first _ p (λ a x.
     and_then-has (IsResolved T (suc n)) (IsResolved T n) second _ q (λ b y. low_resolved T n (make a b) (binds n a b x.scoped y.scoped)))
 
--- what an answer under the names of any scope owes
+-- an answer under the names of any scope is scoped and low there
 abbrev Owes : Signature → (Scope → Answer) → Type 0
 Owes T answer = (scope : Scope) → IfOk (answer scope) (IsResolved T (length scope))
 

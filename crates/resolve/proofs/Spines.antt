@@ -13,7 +13,7 @@ use Rattle.resolve.specs.Resolving.{Answer, resolve, telescope, group}
 pub binder_parts : (b : Binder) → binder_of b ≡ surf.Group b.names (surf_of b.ty)
 binder_parts b = search (rules, the_lemmas)
 
--- what is after place k begins with the group that is there
+-- the telescope from place k on begins with the group that is there
 pub telescope_behind : (known : Known) (make : Term → Term → Term) (bs : List Binder) (k : ℕ) (b : Binder) (inner : Scope → Answer) (scope : Scope) → k < length bs → b ≡ get_or bs k b
     → telescope known make (surf.binders (map binder_of (drop k bs))) inner scope
     ≡ group make b.names (resolve known (surf_of b.ty)) (telescope known make (surf.binders (map binder_of (drop (k + 1) bs))) inner) scope

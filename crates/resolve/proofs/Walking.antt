@@ -64,7 +64,7 @@ clauses_done S known own allowed list i cs end =
 clause_parts : (g : SurfClause) → written.clause_of g ≡ surf.Is g.head (map written.pat_of g.pats) (written.right_of g.right)
 clause_parts g = search (rules, the_lemmas)
 
--- a clause from what its patterns and its right side give over its variables
+-- a clause from its patterns and its right side over its variables
 pub clause_gives : (S : Signature) (known : Known) (own : List ℕ) (allowed : Option ℕ) (g : SurfClause) (count : ℕ) (view : List SurfPat) (names : List (List ℕ)) (r : Result Clause ResolveStop)
     → view ≡ g.pats → Ok count ≡ function.clause_head own allowed (length view) g.head → names ≡ spec.bound_all S (surf.pats (map written.pat_of view))
     → Gives clause_of r (and_then (spec.patterns S known (scope_of names) [] (surf.pats (map written.pat_of view))) (λ qs. and_then (function.right_side S known own (scope_of names) count (written.right_of g.right)) (λ r. Ok (core.Is qs (length names) r))))

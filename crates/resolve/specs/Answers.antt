@@ -6,7 +6,7 @@ use Rattle.core_terms.specs.declared.stop.Stop.TheVariants as stop
 use Rattle.resolve.specs.declared.stop.ResolveStop.{ResolveStop}
 use Rattle.resolve.specs.declared.stop.ResolveStop.TheVariants.{Memory, Deep}
 
--- the refusals that nothing rules out: want of memory alone
+-- the refusals that nothing rules out: only out of memory
 abbrev pub IsUnforeseen : ResolveStop → Type 0
 IsUnforeseen e = e ≡ Memory
 

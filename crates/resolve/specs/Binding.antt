@@ -1,4 +1,4 @@
--- What binds a list of types, and how a part of a telescope goes on it.
+-- A list of types bound around a term, and parts of a telescope that extend such a list.
 use Rattle.std.specs.Prelude.{◌≡◌, List, [], ◌∷◌, ◌++◌, Result, Ok, Err}
 use Rattle.theory.specs.Terms as tree
 use Rattle.resolve.specs.declared.stop.ResolveStop.{ResolveStop}

@@ -18,7 +18,7 @@ declared_word (surf.Data x params ty cons) = x
 declared_word (surf.Mutual params members family tag tags) = first_name members family
 declared_word (surf.Fun x ty clauses) = x
 
--- what is declared has the name that is written, and the signature knows no such name
+-- the declared name is the one that is written, and the signature has no such name
 pub record IsNewName (S : Signature) (x : Word) (name : List ℕ) : Type 0 where
   pub is : name ≡ x.text
   pub new : find S name ≡ None

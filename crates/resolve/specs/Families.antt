@@ -1,4 +1,4 @@
--- The raw families that written families stand for, or the first refusal in the order of the text.
+-- The raw families that written families stand for, or the first refusal in source order.
 use Rattle.std.specs.Prelude.{ℕ, ◌||◌, if◌then◌else◌, is_some, List, [], ◌∷◌, ◌++◌, map, length, Result, Ok, Err, bytes_eq}
 use Rattle.std.specs.List.{list_any}
 use Rattle.theory.specs.Terms as tree

@@ -1,4 +1,4 @@
--- The functions by clauses that written functions stand for, or the first refusal in the order of the text.
+-- The functions by clauses that written functions stand for, or the first refusal in source order.
 use Rattle.std.specs.Prelude.{ℕ, ◌+◌, ◌==◌, nat_le, Bool, false, if◌then◌else◌, List, [], length, Option, Some, None, Result, Ok, Err, bytes_eq}
 use Rattle.theory.specs.Terms as tree
 use Rattle.theory.specs.Signatures.{Signature}
@@ -33,7 +33,7 @@ abbrev mutual
       and_then (patterns S known (scope_of variables) [] (surf.pats pats)) (λ qs.
       and_then (right_side S known own (scope_of variables) n right) (λ r. Ok (core.Is qs (length variables) r))))
 
-  -- What comes after n patterns. The clauses of a `with` have one pattern more, and variables of their own.
+  -- The right side after n patterns. The clauses of a `with` have one pattern more, and variables of their own.
   pub right_side : Signature → Known → List ℕ → Scope → ℕ → surf.Right → Result core.Right ResolveStop
   right_side S known own scope n (surf.Side t) = and_then (resolve known t scope) (λ t. Ok (core.Side t))
   right_side S known own scope n (surf.With t cs) =

@@ -1,4 +1,4 @@
--- What resolution answers, as the calls above ask for it.
+-- Laws of resolution, in the form that callers need.
 use Rattle.std.specs.Prelude.{ℕ, List, length, IfOk}
 use Rattle.theory.specs.Signatures.{Signature, IsPrefix}
 use Rattle.theory.specs.SignatureScopes.{IsFamilyNumber, IsConstantNumber}

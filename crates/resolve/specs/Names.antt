@@ -1,4 +1,4 @@
--- What names stand for: a variable where a binder around them has the name, else an entry or a constructor.
+-- The terms of names: a variable where a binder around them has the name, else an entry or a constructor.
 use Rattle.std.specs.Prelude.{ℕ, ◌+◌, Bool, false, if◌then◌else◌, List, [], ◌∷◌, map, reverse, Option, Some, None, option_map, Result, Ok, Err, slice_get, bytes_eq}
 use Rattle.theory.specs.Terms as tree
 use Rattle.theory.specs.Signatures as signature
@@ -30,7 +30,7 @@ abbrev pub variable_of : List ℕ → Scope → Option ℕ
 variable_of name [] = None
 variable_of name (x ∷ scope) = if has_name name x then Some 0 else option_map (λ n. n + 1) (variable_of name scope)
 
--- what a name stands for that no binder has
+-- the term of a name that no binder has
 abbrev pub Known : Type 0
 Known = List ℕ → Option tree.Term
 

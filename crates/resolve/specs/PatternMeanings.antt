@@ -1,4 +1,4 @@
--- What constructors and functions of the code stand for.
+-- The meanings of the code's constructors and functions.
 use Rattle.core_terms.specs.Meanings.{tree_of}
 use Rattle.core_terms.specs.PatternMeanings.{clauses_of}
 use Rattle.resolve.specs.declared.constructors.Constructor.{Constructor}

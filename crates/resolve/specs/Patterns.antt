@@ -1,4 +1,4 @@
--- The patterns that written patterns stand for, or the first refusal in the order of the text.
+-- The patterns that written patterns stand for, or the first refusal in source order.
 use Rattle.std.specs.Prelude.{ℕ, ◌+◌, ◌==◌, if◌then◌else◌, List, [], ◌∷◌, ◌++◌, length, Option, Some, None, option_and_then, Result, Ok, Err, slice_get, bytes_eq}
 use Rattle.std.specs.List.{list_any}
 use Rattle.std.specs.Option.{option_map_or}
@@ -45,7 +45,7 @@ count surf.no_pat = 0
 count (surf.arg p ps) = 1 + count ps
 
 abbrev mutual
-  -- the variables that a pattern binds, in the order of the text
+  -- the variables that a pattern binds, in source order
   pub bound : Signature → surf.Pat → List (List ℕ)
   bound S (surf.Name x) = variable 0 x (constructor S x.text)
   bound S surf.Wild = []
@@ -64,7 +64,7 @@ head n before x None =
     if n == 0 then (if list_any (bytes_eq x.text) before then Err (NotLinear x.start x.text) else Ok None)
     else Err (UnknownName x.start x.text)
 
--- what a head with its arguments is
+-- the pattern of a head with its arguments
 abbrev pub headed : Option Constructor → core.Pats → core.Pat
 headed (Some c) args = core.Con c.family c.number args
 headed None args = core.Bind

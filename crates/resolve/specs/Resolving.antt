@@ -1,4 +1,4 @@
--- The core terms that written terms stand for, or the first refusal in the order of the text.
+-- The core terms that written terms stand for, or the first refusal in source order.
 use Rattle.std.specs.Prelude.{ℕ, if◌then◌else◌, List, [], ◌∷◌, Option, Some, None, Result, Ok, Err}
 use Rattle.theory.specs.Terms as tree
 use Rattle.theory.specs.Signatures.{Signature}
@@ -20,8 +20,7 @@ low t = if is_low t then Ok t else Err Deep
 abbrev pub binding : (tree.Term → tree.Term → tree.Term) → Answer → Answer → Answer
 binding make first second = and_then first (λ a. and_then second (λ b. low (make a b)))
 
--- What binds the names, all of the same type, around `inner`. The type is resolved anew for each name, under the names
--- before it.
+-- Binders with the names, all of the same type, around `inner`. The type is resolved anew for each name, under the names before it.
 abbrev pub group : (tree.Term → tree.Term → tree.Term) → List (Option Word) → (Scope → Answer) → (Scope → Answer) → Scope → Answer
 group make [] type inner scope = inner scope
 group make (x ∷ names) type inner scope = binding make (type scope) (group make names type inner (name_of x ∷ scope))
@@ -39,7 +38,7 @@ abbrev mutual
   resolve known (surf.Sort i) scope = Ok (tree.Sort i)
   resolve known (surf.Named x) scope = named known scope x
 
-  -- what binds all the names of the binders around `inner`
+  -- all the names of the binders, bound around `inner`
   pub telescope : Known → (tree.Term → tree.Term → tree.Term) → surf.Binders → (Scope → Answer) → Scope → Answer
   telescope known make surf.no_binder inner scope = inner scope
   telescope known make (surf.bind (surf.Group names type) binders) inner scope =

@@ -1,4 +1,4 @@
--- What scopes and known names of the code stand for.
+-- The meanings of the code's scopes and known names.
 use Rattle.std.specs.Prelude.{ℕ, ◌∷◌, ◌++◌, length}
 use Rattle.std.specs.Option.{option_copied}
 use Rattle.theory.specs.Terms as tree

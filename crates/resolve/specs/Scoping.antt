@@ -1,4 +1,4 @@
--- What is said of resolved terms, families and clauses, as calls on them ask for it.
+-- Resolved terms, families and clauses are scoped, as calls on them require.
 use Rattle.std.specs.Prelude.{◌≡◌, ℕ, ◌+◌, ◌≤◌, length, Some, slice_get}
 use Rattle.std.specs.List.{All}
 use Rattle.theory.specs.Terms.{Term, height}

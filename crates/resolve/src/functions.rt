@@ -167,7 +167,7 @@ fn clause_over(
     Ok(Clause { pats, binds, right })
 }
 
-/// What comes after so many patterns.
+/// The right side after so many patterns.
 #[cycle(clause)]
 fn right_side(
     alloc: Global,

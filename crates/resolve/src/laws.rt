@@ -1,4 +1,4 @@
-//! What resolution answers.
+//! Laws of resolution.
 ghost use Rattle.resolve.specs.Laws.{TermsResolve, FamiliesResolve, FunctionsResolve};
 
 /// A resolved term is scoped and low.

@@ -43,7 +43,7 @@ fn add_variable(
     Ok(())
 }
 
-/// Adds the variables that the pattern binds, in the order of the text.
+/// Adds the variables that the pattern binds, in source order.
 #[cycle(variables)]
 fn add_variables_of(
     sig: &Signature,
@@ -65,7 +65,7 @@ fn add_variables_of(
     }
 }
 
-/// Adds the variables that the patterns bind, in the order of the text.
+/// Adds the variables that the patterns bind, in source order.
 #[cycle(variables)]
 pub(crate) fn add_variables(
     sig: &Signature,

@@ -5,11 +5,11 @@ use core_terms::{Name, Stop};
 use std::alloc::{AllocError, AllocFailed};
 use thiserror::Error;
 
-/// Why what is written stands for nothing, with the offset and the text of the name at which that shows.
+/// Why a written name or clause can't be resolved, with the offset and the text of the name at which that shows.
 ///
-/// `Memory` is want of memory, and `Deep` a term that is higher than 2,000. `UnknownName` is a name that nothing has,
-/// `Duplicate` a declared name that is taken, `WrongArity` a clause or a constructor with too many or too few patterns,
-/// and `NotLinear` a variable that occurs a second time among the patterns of a clause.
+/// `Memory` is out of memory, and `Deep` a term that is higher than 2,000. `UnknownName` is a name that nothing has, `Duplicate`
+/// a declared name that is taken, `WrongArity` a clause or a constructor with too many or too few patterns, and `NotLinear` a
+/// variable that occurs a second time among the patterns of a clause.
 #[derive(Debug, Drop, Error)]
 pub enum ResolveStop {
     #[error("Memory")]

@@ -14,7 +14,7 @@ pub(crate) enum Own<'a> {
     Function(&'a Name),
 }
 
-/// What names stand for that no binder has.
+/// The terms of names that no binder has.
 #[derive(Drop)]
 pub(crate) struct Symbols<'a> {
     pub(crate) sig: &'a Signature,

@@ -93,7 +93,7 @@ fn applied(
     Ok(made)
 }
 
-/// What binds the names of the binders around the body.
+/// The body under the binders of a telescope.
 #[cycle(resolve)]
 fn telescope(
     alloc: Global,

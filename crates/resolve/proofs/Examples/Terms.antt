@@ -39,7 +39,7 @@ let_in_value : resolve_term sample [] (Let (word (codes "x") 4) (Sort 1) (named 
 unfolding named word sample numbers native.Mathlib.Decide.ℕ_discrete
 let_in_value = refl
 
--- the same under another x, which the value names
+-- a `let` under another x, which the value names
 let_under : resolve_term sample (codes "x" ∷ []) (Let (word (codes "x") 4) (Sort 1) (named (codes "x") 17) (named (codes "x") 22))
     ≡ Ok (tree.Let (tree.Sort 1) (tree.Var 0) (tree.Var 0))
 unfolding named word native.Mathlib.Decide.ℕ_discrete
