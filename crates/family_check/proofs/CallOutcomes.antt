@@ -1,4 +1,4 @@
--- What the answer of a call says, from what holds of its outcome.
+-- The answer of a call, from its outcome.
 use Rattle.std.proofs.Common.{◌≡◌, ◌≢◌, ℕ, List, Result, Ok, Err, IfOk, IfErr, IsErrAnd, OnErr, sym, ap, ◌∙◌, subst as transport, arith}
 use Rattle.core_terms.specs.declared.stop.Stop as stop
 use Rattle.core_terms.specs.declared.stop.Stop.TheVariants.{Memory}
@@ -18,7 +18,7 @@ pub signature_left-has : (P : Signature → Type 0) (r : Result ℕ FamilyStop) 
 signature_left-has P (Ok n) before after left meant e same h p = transport (λ x. IfOk x.0 (λ y. P y.signature)) (sym e) h
 signature_left-has P (Err s) before after left meant e same h p = transport P (sym same) p
 
--- what it denies
+-- its refusals are scoped if those of the outcome are
 pub refusal-scoped : {A B : Type 0} (f : A → B) (over : pure.Site → Signature) (r : Result A FamilyStop) (left : ℕ) (meant : Outcome B)
     → Yields f r left meant → IfErr meant.0 (IsScopedStop over) → IfErr r (λ e. IsScopedStop over (stop_of e))
 refusal-scoped f over (Ok a) left meant e h = tt

@@ -1,4 +1,4 @@
--- What declaring a family needs of its parts.
+-- The conditions of declaring a family on its parts.
 use Rattle.std.proofs.Common.{◌≡◌, ◌≢◌, ℕ, ◌<◌, true, false, Option, Some, None, Result, Ok, Err, IfOk, List, [], ◌∷◌, length, map, All, AllPairs, sym, ap, ◌∙◌, subst as transport, arith}
 use Rattle.std.specs.Option.{is_some}
 use Rattle.std.proofs.lemmas.List.Elements.{All-nil, All-head, All-tail, All-weaker}

@@ -29,7 +29,7 @@ NoClaim denial = Unit {0}
 abbrev Says : Term → Spent Verdict → Type 0
 Says t r = Answers (Splits (EndsBelow t) NoClaim) r
 
--- what holds of every type
+-- a property of every type
 every : (P : Term → Type 0) → ((type : Term) → P type) → (r : Result Verdict Stop) → IfOk r (Splits P NoClaim)
 unfolding NoClaim
 every P h (Ok (Yes type)) = h type

@@ -1,4 +1,4 @@
--- Small cases of entering, by computation: what enters with the units that are left, and what is refused.
+-- Small cases of entering, by computation: entries that enter, with the units that are left, and refusals.
 use native.Mathlib.Decide.{ℕ_discrete}
 use Rattle.std.proofs.Common.{◌≡◌, ℕ, true, Ok, Err, None, Some, List, [], ◌∷◌, codes, refl}
 use Rattle.theory.specs.Terms.{Term, Var, Sort, Pi, Lam, App, Fam, Con, top}
@@ -193,7 +193,7 @@ eliminator_there : instance_of (pushed start (EliminatorAt 0 0)) 0 empty_family 
 unfolding sort_in type_in native.Mathlib.Decide.ℕ_discrete start
 eliminator_there = refl
 
--- and is denied into a sort that has no type
+-- and is rejected into a sort that has no type
 eliminator_too_high : instance_of start 0 empty_family top 9 ≡ denied OfType [] [] LevelTooHigh 9
 unfolding sort_in type_in denied refused native.Mathlib.Decide.ℕ_discrete start
 eliminator_too_high = refl

@@ -58,7 +58,7 @@ spine-drops n f k targets =
     ∙ (ap (λ p. drop p (spine_of (weaken_by k (family_head n f)) ++ targets)) (sym (length-spine_of-head n f k))
     ∙ drop-append_seam (spine_of (weaken_by k (family_head n f))) targets)
 
--- what the test of an end finds
+-- the targets that the test of an end finds
 found : ℕ → Family → ℕ → Term → List Term → Option (List Term)
 found n f k t ts = cond (same t (applied (weaken_by k (family_head n f)) ts) && (length ts == length f.indices && all_lack n ts)) (Some ts) None
 

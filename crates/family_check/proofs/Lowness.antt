@@ -18,7 +18,7 @@ use Rattle.family_check.specs.Asking.{sort_in}
 use Rattle.family_check.specs.Outcomes.{Site, Stopped, ended, granted}
 use Rattle.family_check.proofs.Outcomes.{granted-has}
 
--- what holds anyway
+-- a property that holds in any case
 anyway : {A : Type 0} (P : Type 0) (r : Result A Stop) → P → IfOk r (λ a. P)
 anyway P (Ok a) p = p
 anyway P (Err e) p = tt

@@ -1,4 +1,4 @@
--- What is scoped over one signature is scoped over another that has the numbers of the first one.
+-- Denials and terms that are scoped over one signature are scoped over another that has the numbers of the first one.
 use Rattle.std.proofs.Common.{◌≡◌, ℕ, ◌+◌, List, [], ◌∷◌, length, sym, ap, ◌∙◌, subst as transport, inl, inr, arith}
 use Rattle.theory.specs.Families.{Argument, Family}
 use Rattle.theory.specs.Families.Argument.{Plain, Recursive}

@@ -1,4 +1,4 @@
--- What holds of an outcome and of the units that it leaves, from what holds of its parts.
+-- Properties of an outcome and of the units that it leaves, from those of its parts.
 use Rattle.std.proofs.Common.{◌≡◌, ℕ, ◌≤◌, Bool, true, false, Result, Ok, Err, IfOk, refl, arith}
 use Rattle.theory.specs.Terms.{Term}
 use Rattle.core_terms.specs.Answers.{Spent}

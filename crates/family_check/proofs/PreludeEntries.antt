@@ -1,4 +1,4 @@
--- The prelude as what a call needs: it is settled, and a signature that begins with it has the identity families.
+-- The prelude meets the conditions of calls: it is settled, and a signature that begins with it has the identity families.
 use Rattle.std.proofs.Common.{◌≡◌, ℕ, zero, suc, ◌<◌, Bool, Some, List, [], ◌∷◌, ◌++◌, slice_get, All, refl, sym, ap, ◌∙◌, append-nil, subst as transport, arith}
 use Rattle.std.specs.List.{range_with_len}
 use Rattle.std.proofs.lemmas.List.Elements.{All-append, All-cons, All-head, All-map, All-tail}

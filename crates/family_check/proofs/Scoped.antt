@@ -1,4 +1,4 @@
--- What enters a settled signature is scoped, and so is what is denied.
+-- Entries that enter a settled signature are scoped, and so are denials.
 use Rattle.std.proofs.Common.{◌≡◌, ℕ, suc, ◌+◌, ◌<◌, ◌≤◌, Bool, true, false, cond, nat_le, Some, None, Result, Ok, Err, IfOk, List, [], ◌∷◌, length, zip, All, refl, sym, ap, subst as transport, arith}
 use Rattle.std.proofs.lemmas.Bool.Decides.{nat_tests}
 use Rattle.std.proofs.lemmas.List.Elements.{All-nil, All-cons, All-head, All-tail}
@@ -31,7 +31,7 @@ use Rattle.family_check.proofs.ScopedShapes.{domains-scoped}
 use Rattle.family_check.proofs.Settling.{first-all}
 use Rattle.family_check.proofs.Zips.{zip-firsts}
 
--- A granted part has P, and what is denied is scoped: over T, and also over the signature U that the refusal is read over.
+-- A granted part has P, and the denial is scoped: over T, and also over the signature U that the refusal is read over.
 pub granted-splits : (P : Term → Type 0) (over : Site → Signature) (T : Signature) (site : Site) (n : ℕ) (asked : Spent Verdict)
     → ((denial : Denial) → IsScopedDenial T denial → IsScopedDenial (over site) denial) → IfOk asked.0 (IsScopedVerdict T n)
     → IfOk asked.0 (λ verdict. IfYes verdict P) → Splits P (IsScopedStop over) (granted site asked).0

@@ -117,7 +117,7 @@ bare-settled : (S : Signature) (raw : RawFamily) (f : Family) → IsSettled S �
 bare-settled S raw f settled b =
     push-settled S (FamilyOf f) settled b.scoped (λ name type. no-definition f name type (Const (length S.entries)))
 
--- what holds over a signature that has a family without constructors at its end, of its parameters and its constructors' types
+-- the parameters and the constructors' types are scoped over a signature that has the family without constructors at its end
 pub record OverBare (S : Signature) (raw : RawFamily) (f : Family) : Type 0 where
   pub settled : IsSettled (pushed S (FamilyOf f))
   pub parameters : IsScopedTelescope (pushed S (FamilyOf f)) 0 f.parameters
@@ -153,7 +153,7 @@ whole-scoped S raw f cs b all =
     g : Family
     g = with_constructors f cs
 
--- what is declared goes to the end
+-- the declared family goes to the end
 abbrev Settles : Signature → Family → Type 0
 Settles S f = IsSettled (pushed S (FamilyOf f))
 

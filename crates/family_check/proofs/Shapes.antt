@@ -85,7 +85,7 @@ recursive-found n f k t =
       target_count = end.count;
     }))
 
--- what holds of an argument that is taken from a type
+-- a property of an argument that is taken from a type
 pub argument-by : (P : Argument → Type 0) (n : ℕ) (f : Family) (k : ℕ) (t : Term) (level : ℕ) → (recursive_parts n f k t ≡ None → P (Plain t level))
     → ((inner : Telescope) (targets : List Term) → IsRecursiveType n f k inner targets t → P (Recursive inner targets level))
     → P (argument_of t level (recursive_parts n f k t))
@@ -163,7 +163,7 @@ arguments-positive n f k (t ∷ types) (level ∷ levels) h = by_case (is_positi
         (argument-positive n f k t level e) (rest none)
     by_case false e none rest = absurd (grind arith)
 
--- what the targets of a constructor with the type t come with
+-- the targets of a constructor with the type t, and the shape of its arguments
 pub record IsShaped (n : ℕ) (f : Family) (t : Term) (targets : List Term) : Type 0 where
   pub positive : (levels : List ℕ) → All (IsPositiveArgument n) (arguments n f 0 (domains_of t) levels)
   pub end : IsEnd n f (length (domains_of t)) (end_of t) targets

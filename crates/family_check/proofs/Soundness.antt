@@ -110,7 +110,7 @@ family-ends (Sort level) = refl
 family-ends (Var n) = tt
 family-ends _ = tt
 
--- a family without constructors, from what is declared
+-- a family without constructors, from its declaration
 record IsBare (S : Signature) (raw : RawFamily) (f : Family) : Type 0 where
   pub bare : f.constructors ≡ []
   pub name : f.name ≡ raw.name
@@ -167,7 +167,7 @@ type-sound S typed raw left =
     (levels-sound S typed (Index level) 0 G (domains_of raw.type) left3 context) (λ levels end indices.
     bare-family S typed raw parameter_levels levels level params u ends indices))))
 
--- a constructor of a family that is there, from what is declared
+-- a constructor of a family that is there, from its declaration
 record IsFormed (T : Signature) (n : ℕ) (f : Family) (given : List ℕ) (c : Constructor) : Type 0 where
   pub name : c.name ≡ given
   pub formed : IsConstructor T n f c

@@ -1,4 +1,4 @@
--- What the checker says of a written part.
+-- The checker's answer on a written part.
 use Rattle.std.specs.Prelude.{ℕ}
 use Rattle.theory.specs.Terms.{Term}
 use Rattle.theory.specs.Telescopes.{Context}

@@ -1,4 +1,4 @@
--- A family as declared is checked part by part, in the order of the text: the parameters from the left, the type, the
+-- A family as declared is checked part by part, in source order: the parameters from the left, the type, the
 -- levels of the index types, and for each constructor its type, positivity and the levels of its argument types. Levels
 -- come from calls of their own, and each is compared with the family's at once.
 use Rattle.std.specs.Prelude.{ℕ, ◌+◌, cond, nat_le, Some, None, Result, Ok, Err, List, [], ◌∷◌, length, zip}
@@ -15,7 +15,7 @@ use Rattle.family_check.specs.Asking.{sort_in}
 use Rattle.core_terms.specs.Telescopes.{domains_of, end_of}
 use Rattle.family_check.specs.Shapes.{arguments, constructor_targets}
 
--- what the types of a telescope are: parameters, or indices or arguments of constructor `number`, whose levels have a limit
+-- the role of the types of a telescope: parameters, or indices or arguments of constructor `number`, whose levels have a limit
 pub data Role : Type 0 where
   Parameter : Role
   Index : (limit : ℕ) → Role
@@ -73,7 +73,7 @@ declare_type S raw left =
     and_next (levels_of S Parameter 0 [] raw.parameters left) (λ parameter_levels rest.
     and_next (sort_in S OfType (context_behind [] raw.parameters) raw.type rest) (λ sort end. bare_family S raw end))
 
--- the targets of constructor `number`, or what offends
+-- the targets of constructor `number`, or the number of the offender
 abbrev pub on_targets : ℕ → Result (List Term) ℕ → Result (List Term) FamilyStop
 on_targets number (Ok targets) = Ok targets
 on_targets number (Err k) = Err (NotPositive number k)

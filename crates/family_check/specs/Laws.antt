@@ -1,4 +1,4 @@
--- What entering keeps and costs.
+-- Laws of entering: the signature stays well formed, and units are spent.
 use Rattle.std.specs.Prelude.{◌≡◌, ℕ, Bool, ◌≤◌, ◌<◌, IsTrue, IfOk, IfErr, Some, List, length, map}
 use Rattle.theory.specs.Terms.{Term, top}
 use Rattle.theory.specs.Telescopes.{products, applied, weaken_by}
@@ -40,7 +40,7 @@ DefineKeepsWellFormed =
 abbrev pub PreludeIsSettled : Type 0
 PreludeIsSettled = (k : Bool) → IsSettled (prelude k) × HasPrelude (prelude k)
 
--- what is left after a call is at most what was left before it
+-- no call leaves more units than it had
 
 abbrev pub DeclareSpends : Type 0
 DeclareSpends = (S : Signature) (raw : RawFamily) (left : ℕ) → (declare_of S raw left).1 ≤ left
@@ -54,7 +54,7 @@ AxiomKSpends = (S : Signature) (i m left : ℕ) → (axiom_k_of S i m left).1 �
 abbrev pub DefineSpends : Type 0
 DefineSpends = (S : Signature) (name : List ℕ) (type body : Term) (left : ℕ) → (define_of S name type body left).1 ≤ left
 
--- A settled signature stays settled where what is given is scoped, and what is denied is scoped.
+-- A settled signature stays settled if the given parts are scoped, and denials are scoped.
 
 abbrev pub DeclareKeepsSettled : Type 0
 DeclareKeepsSettled =

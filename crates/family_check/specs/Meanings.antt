@@ -1,4 +1,4 @@
--- What refusals of the code stand for, and how the answers of calls are tied to outcomes.
+-- The meanings of the code's refusals, and how the answers of calls are tied to outcomes.
 use Rattle.std.specs.Prelude.{◌≡◌, ℕ, Result, Ok, Err}
 use Rattle.core_terms.specs.Answers.{StandsFor, SpendsFor}
 use Rattle.core_terms.specs.Meanings.{denial_of}
@@ -29,7 +29,7 @@ abbrev pub answer_of : {A B : Type 0} (f : A → B) → Result A FamilyStop → 
 answer_of f (Ok a) = Ok (f a)
 answer_of f (Err e) = Err (stop_of e)
 
--- the refusals that nothing rules out: want of memory alone
+-- the refusals that nothing rules out: only out of memory
 abbrev pub IsUnforeseen : FamilyStop → Type 0
 IsUnforeseen e = e ≡ Stop Memory
 
@@ -37,6 +37,6 @@ IsUnforeseen e = e ≡ Stop Memory
 abbrev pub Yields : {A B : Type 0} → (A → B) → Result A FamilyStop → ℕ → Outcome B → Type 0
 Yields f result left meant = SpendsFor IsUnforeseen stop_of f result left meant
 
--- the same where no units are spent
+-- the answer stands for `meant` where no units are spent
 abbrev pub Tells : {A B : Type 0} → (A → B) → Result A FamilyStop → Result B pure.FamilyStop → Type 0
 Tells f result meant = StandsFor IsUnforeseen stop_of f result meant

@@ -5,7 +5,7 @@ use Rattle.core_terms.specs.Answers.{Spent, SpentOr}
 use Rattle.core_terms.specs.Verdicts.{Denial, Verdict, Yes, No}
 use Rattle.core_terms.specs.declared.stop.Stop.{Stop}
 
--- the written part that a denial is about: parameters are counted from 1, constructors have their numbers
+-- the written part of a denial: parameters are counted from 1, constructors have their numbers
 pub data Site : Type 0 where
   OfType : Site
   OfBody : Site

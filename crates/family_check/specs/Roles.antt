@@ -1,4 +1,4 @@
--- What the types of a telescope are, in the code.
+-- The meanings of the code's roles.
 use Rattle.family_check.specs.Families as families
 use Rattle.family_check.specs.declared.levels.Role.{Role}
 use Rattle.family_check.specs.declared.levels.Role.TheVariants.{Parameter, Index, Argument}

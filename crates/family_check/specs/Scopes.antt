@@ -1,4 +1,4 @@
--- What entering asks of numbers: each stands for something, and no entry is provisional.
+-- The conditions of entering on numbers: each stands for something, and no entry is provisional.
 use Rattle.std.specs.Prelude.{ℕ, List, [], length, All}
 use Rattle.theory.specs.Terms.{Term, Const}
 use Rattle.theory.specs.Prelude.{prelude}
@@ -38,7 +38,7 @@ abbrev pub site_signature : Signature → RawFamily → Site → Signature
 site_signature S raw (OfConstructor number) = with_raw S raw
 site_signature S raw _ = S
 
--- what is denied is scoped over the signature of its part
+-- denials are scoped over the signature of their part
 abbrev pub IsScopedStop : (Site → Signature) → FamilyStop → Type 0
 IsScopedStop over (Denied site denial) = IsScopedDenial (over site) denial
 IsScopedStop over _ = Unit {0}

@@ -55,7 +55,7 @@ unless_offender (Some k) targets = Err k
 unless_offender None (Some targets) = Ok targets
 unless_offender None None = Err 0
 
--- the targets of a constructor of family n with the type t, or what offends against positivity first
+-- the targets of a constructor of family n with the type t, or the number of the first offender against positivity
 abbrev pub constructor_targets : ℕ → Family → Term → Result (List Term) ℕ
 constructor_targets n f t =
     let types = domains_of t in

@@ -16,9 +16,9 @@ use std::alloc::Global;
 
 /// Adds the axiom K of `Eq.i` into `Type m`, unless it is there, and answers its number.
 ///
-/// An instance that is there costs no unit, and else its type those of one call of `infer_sort`. A level of `TOP` or more,
-/// `i` or `m`, is Denied with the part `Ty` and LevelTooHigh; then comes what the checker says of the type: Denied with `Ty`,
-/// Fuel or Deep. After an error the signature is as it was, and the units that were spent stay spent.
+/// An instance that is there costs no unit, and else its type those of one call of `infer_sort`. A level of `TOP` or more, `i` or
+/// `m`, is Denied with the part `Ty` and LevelTooHigh; then comes the checker's refusal of the type: Denied with `Ty`, Fuel or
+/// Deep. After an error the signature is as it was, and the units that were spent stay spent.
 pub fn axiom_k(
     alloc: Global,
     sig: &mut Signature,

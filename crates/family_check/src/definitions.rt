@@ -16,10 +16,10 @@ use std::alloc::Global;
 
 /// Adds a definition and answers its number.
 ///
-/// Its type costs the units of one call of `infer_sort`, and its body those of one call of `check` against the type.
-/// Duplicate for a name that is known costs none and comes first; then comes what denies the type, Denied with the part `Ty`,
-/// and what denies the body, Denied with `Body`. Fuel and Deep are those of the two calls. After an error the signature
-/// is as it was, and the units that were spent stay spent.
+/// Its type costs the units of one call of `infer_sort`, and its body those of one call of `check` against the type. Duplicate
+/// for a name that is known costs none and comes first; then comes a denial of the type, Denied with the part `Ty`, and a denial
+/// of the body, Denied with `Body`. Fuel and Deep are those of the two calls. After an error the signature is as it was, and the
+/// units that were spent stay spent.
 pub fn define(
     alloc: Global,
     sig: &mut Signature,

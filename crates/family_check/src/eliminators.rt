@@ -19,10 +19,10 @@ use std::alloc::Global;
 
 /// Adds the eliminator of the family with number `fam` into `Type m`, unless it is there, and answers its number.
 ///
-/// An eliminator that is there costs no unit, and else its type those of one call of `infer_sort`. A level of `TOP` or more
-/// is Denied with the part `Ty` and LevelTooHigh. A type that is too high is Deep before a unit is spent; then comes what the
-/// checker says of it: Denied with `Ty`, Fuel or Deep. After an error the signature is as it was, and the units that were
-/// spent stay spent.
+/// An eliminator that is there costs no unit, and else its type those of one call of `infer_sort`. A level of `TOP` or more is
+/// Denied with the part `Ty` and LevelTooHigh. A type that is too high is Deep before a unit is spent; then comes the checker's
+/// refusal of it: Denied with `Ty`, Fuel or Deep. After an error the signature is as it was, and the units that were spent stay
+/// spent.
 pub fn instance(
     alloc: Global,
     sig: &mut Signature,

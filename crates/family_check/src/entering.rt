@@ -36,7 +36,7 @@ pub(crate) fn enter(
     Ok(sig.push(entry)?)
 }
 
-/// What denies an instance whose level is too high.
+/// The denial of an instance whose level is too high.
 pub(crate) fn too_high(alloc: Global) -> FamilyStop
     ensures { stop_of result ≡ outcomes.Denied outcomes.OfType (record { place = []; ctx = []; reason = verdicts.LevelTooHigh }) }
 {

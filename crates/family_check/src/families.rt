@@ -38,7 +38,7 @@ const MOST_CONSTRUCTORS: usize = 4294967295;
 ///
 /// Each written type, of a parameter, of the family and of a constructor, costs the units of one call of `infer_sort`, and
 /// each type of an index or an argument those of one more, for its level. Duplicate costs none and comes first. All other
-/// errors come in the order of the text: Denied, Fuel or Deep for a type, BadFamily and TooLarge after the type of the
+/// errors come in source order: Denied, Fuel or Deep for a type, BadFamily and TooLarge after the type of the
 /// family, NotPositive and then TooLarge after the type of a constructor. After an error the signature is as it was, and
 /// the units that were spent stay spent. Memory is also answered where the parameters or the constructors are too many to be
 /// counted, 2^31 - 2000 and 2^32.
@@ -157,7 +157,7 @@ fn over_bare(
     made
 }
 
-/// The same family in memory of its own, where it has no constructors.
+/// A copy of a family that has no constructors.
 fn copy_bare(alloc: Global, f: &Family) -> Result<Family, Stop>
     requires { IsBare f.now }
     ensures meant { Gives family_of result (Ok (family_of f.now)) }

@@ -1,4 +1,4 @@
-//! What entering keeps and costs.
+//! Laws of entering: the signature stays well formed, and units are spent.
 ghost use Rattle.family_check.specs.Laws.{DeclareKeepsWellFormed, InstanceKeepsWellFormed, AxiomKKeepsWellFormed, DefineKeepsWellFormed, DeclareSpends, InstanceSpends, AxiomKSpends, DefineSpends, DeclareKeepsSettled, InstanceKeepsSettled, AxiomKKeepsSettled, DefineKeepsSettled, DeclareEntersGiven, PreludeIsSettled, SameOffender};
 
 /// A signature stays well formed where a family enters.
@@ -41,22 +41,22 @@ pub fn define_spends()
     ensures { DefineSpends }
 {}
 
-/// What a declaration keeps and denies is scoped.
+/// A declaration keeps a settled signature settled, and its denials are scoped.
 pub fn declare_keeps_settled()
     ensures { DeclareKeepsSettled }
 {}
 
-/// What an instance keeps and denies is scoped.
+/// An instance keeps a settled signature settled, and its denials are scoped.
 pub fn instance_keeps_settled()
     ensures { InstanceKeepsSettled }
 {}
 
-/// What axiom K keeps and denies is scoped.
+/// Axiom K keeps a settled signature settled, and its denials are scoped.
 pub fn axiom_k_keeps_settled()
     ensures { AxiomKKeepsSettled }
 {}
 
-/// What a definition keeps and denies is scoped.
+/// A definition keeps a settled signature settled, and its denials are scoped.
 pub fn define_keeps_settled()
     ensures { DefineKeepsSettled }
 {}
@@ -71,7 +71,7 @@ pub fn prelude_is_settled()
     ensures { PreludeIsSettled }
 {}
 
-/// What breaks positivity first in a declared type does so in the record that is made of it.
+/// The first violation of positivity in a declared type is also that of the record that is made of it.
 pub fn same_offender()
     ensures { SameOffender }
 {}

@@ -12,7 +12,7 @@ use core_sig::Signature;
 use core_terms::{Tele, Term, Units, copy_tele, copy_whole};
 use std::alloc::Global;
 
-/// What the types of a telescope are: parameters, or indices or arguments of a constructor, whose levels have a limit.
+/// The role of the types of a telescope: parameters, or indices or arguments of a constructor, whose levels have a limit.
 #[derive(Clone, Copy)]
 pub(crate) enum Role {
     Parameter,

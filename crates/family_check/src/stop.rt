@@ -4,7 +4,7 @@ ghost use Rattle.family_check.specs.declared.stop.FamilyStop.TheVariants as stop
 use core_terms::{Denial, Stop};
 use std::alloc::{AllocError, AllocFailed};
 
-/// The written part that a denial is about. Parameters are counted from 1, constructors have their numbers.
+/// The written part of a denial. Parameters are counted from 1, constructors have their numbers.
 #[derive(Clone, Copy, Debug, PartialEq, Eq)]
 pub enum Site {
     Ty,
