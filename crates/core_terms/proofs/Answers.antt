@@ -1,4 +1,4 @@
--- What holds of an answer and of the units that are left after it, from what holds of the parts.
+-- Properties of an answer and of the units that are left after it, from those of the parts.
 use Rattle.std.proofs.Common.{◌≡◌, ℕ, ◌≤◌, Bool, true, false, cond, Result, Ok, Err, IfOk, IfErr, refl, sym, subst as transport, arith}
 use Rattle.std.proofs.lemmas.Bool.Decides.{nat_tests}
 use Rattle.theory.specs.Terms.{Term, height}
@@ -6,7 +6,7 @@ use Rattle.core_terms.specs.Answers.{StandsFor, SpentOr, SpendsFor, and_then, on
 use Rattle.core_terms.specs.declared.stop.Stop.{Stop}
 use Rattle.core_terms.specs.declared.stop.Stop.TheVariants.{Deep}
 
--- what holds of the value that is meant holds of the one that is answered
+-- a property of the meant value is one of the answer
 pub stands-has : {A B E F : Type 0} (free : E → Type 0) (g : E → F) (f : A → B) (P : B → Type 0) (result : Result A E) (meant : Result B F)
     → StandsFor free g f result meant → IfOk meant P → IfOk result (λ a. P (f a))
 stands-has free g f P (Ok a) meant is h = transport (λ r. IfOk r P) (sym is) h
@@ -22,7 +22,7 @@ pub and_then-has : {A B E : Type 0} (P : A → Type 0) (Q : B → Type 0) (first
 and_then-has P Q (Ok a) go h k = k a h
 and_then-has P Q (Err e) go h k = tt
 
--- the same where the second part may know what was answered
+-- the second part may use the answer of the first
 pub and_then-is : {A B E : Type 0} (P : B → Type 0) (first : Result A E) (go : A → Result B E)
     → ((a : A) → first ≡ Ok a → IfOk (go a) P) → IfOk (and_then first go) P
 and_then-is P (Ok a) go k = k a refl

@@ -11,7 +11,7 @@ use Rattle.core_terms.specs.declared.term.Term.{Term}
 pub drop-at : {A : Type 0} (xs : List A) (k : ℕ) (a : A) → k < length xs → a ≡ get_or xs k a → drop k xs ≡ a ∷ drop (k + 1) xs
 drop-at xs k a lt is = drop-cons xs k a lt ∙ ap₂ (λ b n. b ∷ drop n xs) (sym is) (sym (add-one k))
 
--- what comes before number k + 1 ends with the element at k
+-- the first k + 1 elements are the first k and the element at k
 pub take-more : {A : Type 0} (xs : List A) (k : ℕ) (a : A) → k < length xs → a ≡ get_or xs k a → take (k + 1) xs ≡ take k xs ++ a ∷ []
 take-more xs k a lt is =
     ap (λ n. take n xs) (add-one k) ∙ (take-suc xs k a lt ∙ ap (λ b. take k xs ++ b ∷ []) (sym is))
@@ -21,7 +21,7 @@ map-at f [] k d = refl
 map-at f (x ∷ xs) zero d = refl
 map-at f (x ∷ xs) (suc k) d = map-at f xs k d
 
--- what an element of the code stands for
+-- the meaning of an element of the code
 pub map-item : {A B : Type 0} (f : A → B) (xs : List A) (k : ℕ) (x : A) → x ≡ get_or xs k x → f x ≡ get_or (map f xs) k (f x)
 map-item f xs k x is = ap f is ∙ sym (map-at f xs k x)
 
@@ -47,7 +47,7 @@ pub value-has : (P : tree.Term → Type 0) (values : List Term) (k : ℕ) (r : T
 value-has P values k r low e h =
     transport P (value-at values k r low e) (h k (tree_of r) (transport (λ n. k < n) (sym (length-map values tree_of)) low))
 
--- what holds of all terms holds of those after the first
+-- a property of all terms is one of those after the first
 pub rest-have : (P : tree.Term → Type 0) (terms : List Term) → All P (tele_of terms) → All P (tele_of (take (length terms - 1) (drop 1 terms)))
 rest-have P [] h = h
 rest-have P (t ∷ terms) h =

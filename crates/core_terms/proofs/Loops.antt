@@ -5,11 +5,11 @@ use Rattle.core_terms.specs.Loops.{for_each}
 use Rattle.core_terms.proofs.Answers.{and_next-spends}
 use Rattle.core_terms.proofs.Lists.{drop-at}
 
--- what comes after the answers that are there
+-- the answers that are there, before those that follow
 abbrev pub so_far : {A E : Type 0} → List A → SpentOr E (List A) → SpentOr E (List A)
 so_far xs rest = and_next rest (λ more end. (Ok (xs ++ more), end))
 
--- one answer, and what comes after it
+-- one answer, and those after it
 abbrev one_more : {A E : Type 0} → SpentOr E A → (ℕ → SpentOr E (List A)) → SpentOr E (List A)
 one_more first next = and_next first (λ a rest. and_next (next rest) (λ others end. (Ok (a ∷ others), end)))
 

@@ -21,7 +21,7 @@ abbrev pub IsPlaced : (runs : List (ℕ × ℕ)) (size depth : ℕ) (s : ℕ →
 IsPlaced runs size depth s =
     (v : ℕ) → v < size → (level_at runs (size - (v + 1)) < depth) × (s v ≡ variable depth (level_at runs (size - (v + 1))))
 
--- the same after so many binders of a term's own
+-- under so many binders of a term's own
 abbrev IsPlacedUnder : (runs : List (ℕ × ℕ)) (size depth under : ℕ) (s : ℕ → Term) → Type 0
 IsPlacedUnder runs size depth under s = (v : ℕ) → v < size + under → s v ≡ Var (place_var runs size depth under v)
 
@@ -92,7 +92,7 @@ bounded-high t high = by (nat_le (height t) 2000) refl
     by true e = absurd (grind (arith, nat_tests))
     by false e = ap (λ b. if b then Ok t else Err Deep) e
 
--- so what a call answers is the same
+-- so the answer of a call is the same
 pub alike-bounded : (t u : Term) → Alike t u → bounded t ≡ bounded u
 alike-bounded t u (inl same) = ap bounded same
 alike-bounded t u (inr (high, high')) = bounded-high t high ∙ sym (bounded-high u high')
@@ -246,7 +246,7 @@ height-bind : (binder : Binder) (a b : Term) → height (bind binder a b) ≡ 1 
 height-bind Product a b = refl
 height-bind Function a b = refl
 
--- what binds a telescope is as high as that is long, above its end
+-- a term over a telescope is as high as its end and the telescope's length at least
 pub height-over : (binder : Binder) (runs : List (ℕ × ℕ)) (size depth : ℕ) (tele : Telescope) (b : Term) → height b + length tele ≤ height (over binder runs size depth tele b)
 height-over binder runs size depth [] b = omega arith
 height-over binder runs size depth (a ∷ tele) b =

@@ -9,7 +9,7 @@ use Rattle.theory.specs.Telescopes.{Telescope}
 use Rattle.core_terms.specs.Substitution.{subst_under, subst_telescope_under, height_with}
 use Rattle.core_terms.specs.Telescopes.{subst_telescope}
 
--- what is put is lifted by one more under a binder
+-- the term that is put is lifted by one more under a binder
 put_under : (t : Term) (at : ℕ) (u : Term) (under : ℕ) → subst t at (lift u (under + 1) 0) ≡ subst t at (lift (lift u under 0) 1 0)
 put_under t at u under = ap (subst t at) (sym (lift_merge u under 0 1 0 (omega arith) (omega arith)))
 
@@ -54,7 +54,7 @@ height-subst (Let a t b) at u =
     )
 height-subst _ at u = refl
 
--- heights above 2,000 need not be told apart
+-- heights above 2,000 need not be distinguished
 pub height_with-min : (t : Term) (at put : ℕ) → min (height_with t at (min put 2001)) 2001 ≡ min (height_with t at put) 2001
 height_with-min (Var n) at put = grind (arith, nat_tests)
 height_with-min (Pi a b) at put = omega (arith, height_with-min a at put, height_with-min b (at + 1) put)

@@ -11,10 +11,10 @@ abbrev pub shown : Result code.Term Stop → Result Term Stop
 shown (Ok t) = Ok (tree_of t)
 shown (Err e) = Err e
 
--- what is made of two answers, or the first refusal among them
+-- a term made of two answers, or the first refusal among them
 abbrev pub of_two : (Term → Term → Term) → Result Term Stop → Result Term Stop → Result Term Stop
 of_two make first second = and_then first (λ a. and_then second (λ b. Ok (make a b)))
 
--- the same of three
+-- a term made of three answers, or the first refusal among them
 abbrev pub of_three : (Term → Term → Term → Term) → Result Term Stop → Result Term Stop → Result Term Stop → Result Term Stop
 of_three make first second third = and_then first (λ a. and_then second (λ b. and_then third (λ c. Ok (make a b c))))

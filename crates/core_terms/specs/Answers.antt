@@ -7,7 +7,7 @@ use Rattle.core_terms.specs.declared.term.Term as code
 use Rattle.core_terms.specs.declared.stop.Stop.{Stop}
 use Rattle.core_terms.specs.declared.stop.Stop.TheVariants.{Memory, Deep}
 
--- the refusals that nothing rules out, since no definition says when they come: want of memory alone
+-- the refusals that nothing rules out, since no definition says when they come: only out of memory
 abbrev pub IsUnforeseen : Stop → Type 0
 IsUnforeseen e = e ≡ Memory
 
@@ -20,7 +20,7 @@ abbrev pub StandsFor : {A B E F : Type 0} → (E → Type 0) → (E → F) → (
 StandsFor free g f (Ok a) meant = Ok (f a) ≡ meant
 StandsFor free g f (Err e) meant = Unless (free e) (Err (g e) ≡ meant)
 
--- the same where each refusal stands for itself
+-- the answer stands for `meant`, where each refusal stands for itself
 abbrev pub GivesUnless : {A B E : Type 0} → (E → Type 0) → (A → B) → Result A E → Result B E → Type 0
 GivesUnless free f result meant = StandsFor free (λ e. e) f result meant
 
@@ -40,7 +40,7 @@ abbrev pub SpendsFor : {A B E F : Type 0} → (E → Type 0) → (E → F) → (
 SpendsFor free g f (Ok a) left meant = (Ok (f a), left) ≡ meant
 SpendsFor free g f (Err e) left meant = Unless (free e) ((Err (g e), left) ≡ meant)
 
--- the same of a call on terms, unless memory ran out
+-- the answer of a call on terms stands for `meant`, unless memory ran out
 abbrev pub Runs : {A B : Type 0} → (A → B) → Result A Stop → ℕ → Spent B → Type 0
 Runs f result left meant = SpendsFor IsUnforeseen (λ e. e) f result left meant
 
@@ -49,7 +49,7 @@ abbrev pub and_then : {A B E : Type 0} → Result A E → (A → Result B E) →
 and_then (Ok a) go = go a
 and_then (Err e) go = Err e
 
--- the same with the units that are left
+-- the first part's answer, with the units that are left
 abbrev pub on_answer : {A B E : Type 0} → Result A E → ℕ → (A → ℕ → SpentOr E B) → SpentOr E B
 on_answer (Ok a) left go = go a left
 on_answer (Err e) left go = (Err e, left)
@@ -72,7 +72,7 @@ are_low (t ∷ terms) = is_low t && are_low terms
 abbrev pub bounded_terms : List Term → Result (List Term) Stop
 bounded_terms terms = if are_low terms then Ok terms else Err Deep
 
--- The term that is meant; or want of memory; or Deep, but only if the term is too high under so many binders.
+-- The term that is meant; or out of memory; or Deep, but only if the term is too high under so many binders.
 abbrev pub MakesUnder : ℕ → Result code.Term Stop → Term → Type 0
 MakesUnder under (Ok t) meant = tree_of t ≡ meant
 MakesUnder under (Err e) meant = Unless (IsUnforeseen e) ((e ≡ Deep) × (2000 < under + height meant))

@@ -35,7 +35,7 @@ abbrev pub branches : List Branch → Branches
 branches [] = nil
 branches (branch ∷ rest) = cons branch (branches rest)
 
--- what a clause's own walk ends with: the parts of a leaf, and the written dots, each with the term that is forced
+-- the end of a clause's own walk: the parts of a leaf, and the written dots, each with the term that is forced
 pub record Walk : Type 0 where
   pub ctx : List Term
   pub goal : Term

@@ -3,7 +3,7 @@ use Rattle.std.specs.Prelude.{ℕ, List, [], ◌∷◌}
 use Rattle.theory.specs.Terms.{Term}
 use Rattle.core_terms.specs.Patterns.{Pats}
 
--- `Is pats binds right` is a clause: its patterns, the number of variables that they bind, and what comes after them.
+-- `Is pats binds right` is a clause: its patterns, the number of variables that they bind, and its right side.
 -- That is a right side; or a `with`, which has a scrutinee and clauses with one pattern more; or nothing, if one of the
 -- patterns is absurd.
 mutual

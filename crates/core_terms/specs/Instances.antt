@@ -25,7 +25,7 @@ instance_of values under (Con f c) = Con f c
 instance_of values under (Elim f m) = Elim f m
 instance_of values under (AxiomK i m) = AxiomK i m
 
--- the same for each term of a list,
+-- the instances of the terms of a list,
 abbrev pub instances_of : List Term → List Term → List Term
 instances_of values [] = []
 instances_of values (t ∷ terms) = instance_of values 0 t ∷ instances_of values terms

@@ -1,4 +1,4 @@
--- What a term with its height stands for.
+-- The meaning of a term with its height.
 use Rattle.theory.specs.Terms as tree
 use Rattle.core_terms.specs.Meanings.{tree_of}
 use Rattle.core_terms.specs.declared.low.Low.{Low}

@@ -1,5 +1,5 @@
--- What values of the code stand for: terms stand for trees, and types that hold terms for the same with trees. To a
--- contract two values with one meaning are the same.
+-- The meanings of the code's values: trees for terms, and for types that hold terms the same types with trees. To a contract two values
+-- with one meaning are the same.
 use Rattle.std.specs.Prelude.{List, map}
 use Rattle.theory.specs.Terms as tree
 use Rattle.core_terms.specs.Verdicts as pure

@@ -1,4 +1,4 @@
--- What patterns and clauses of the code stand for.
+-- The meanings of the code's patterns and clauses.
 use Rattle.std.specs.Prelude.{List, map}
 use Rattle.core_terms.specs.Meanings.{tree_of}
 use Rattle.core_terms.specs.Patterns as pattern
@@ -25,13 +25,13 @@ pat_of = fold-Pat pattern.Pat pat_step
 abbrev pub pats_of : List Pat → pattern.Pats
 pats_of pats = pattern.vector (map pat_of pats)
 
--- what comes after the patterns, once the clauses of a `with` are given
+-- the right side after the patterns, once the clauses of a `with` are given
 abbrev pub right_step : open_clause.Right-F clause.Right clause.Clause → clause.Right
 right_step (open_clause.Side t) = clause.Side (tree_of t)
 right_step (open_clause.With t inner) = clause.With (tree_of t) (clause.clauses inner)
 right_step open_clause.Absurd = clause.Absurd
 
--- a clause, once what comes after its patterns is given
+-- a clause, once its right side is given
 abbrev pub clause_step : open_clause.Clause-F clause.Right clause.Clause → clause.Clause
 clause_step c = clause.Is (pats_of c.pats) c.binds c.right
 

@@ -1,4 +1,4 @@
--- Patterns over plain terms. A vector of patterns is a `Pats`.
+-- Patterns over plain terms. A list of patterns is a `Pats`.
 use Rattle.std.specs.Prelude.{ℕ, List, [], ◌∷◌}
 use Rattle.theory.specs.Terms.{Term}
 

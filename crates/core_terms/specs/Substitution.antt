@@ -1,4 +1,4 @@
--- Substitution as it is worked out: what is put is lifted once, where it is put. Each function is joined to its
+-- Substitution as it is worked out: the term that is put is lifted once, where it is put. Each function is joined to its
 -- definition by a law.
 use Rattle.std.specs.Prelude.{ℕ, ◌+◌, ◌==◌, cond, max, [], ◌∷◌}
 use Rattle.theory.specs.Terms.{Term, Var, Sort, Pi, Lam, App, Let, Const, Fam, Con, Elim, AxiomK, lift, subst_var}
@@ -19,7 +19,7 @@ subst_under (Con f c) at u under = Con f c
 subst_under (Elim f m) at u under = Elim f m
 subst_under (AxiomK i m) at u under = AxiomK i m
 
--- the same through a telescope
+-- this substitution through a telescope
 abbrev pub subst_telescope_under : Telescope → ℕ → Term → ℕ → Telescope
 subst_telescope_under [] at u under = []
 subst_telescope_under (a ∷ tele) at u under = subst_under a at u under ∷ subst_telescope_under tele (at + 1) u (under + 1)

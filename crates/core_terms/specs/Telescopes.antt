@@ -8,7 +8,7 @@ abbrev pub domains_of : Term → Telescope
 domains_of (Pi a b) = a ∷ domains_of b
 domains_of _ = []
 
--- what comes after them
+-- the end after them
 abbrev pub end_of : Term → Term
 end_of (Pi a b) = end_of b
 end_of t = t

@@ -1,4 +1,4 @@
--- What steps, case trees and walks of the code stand for.
+-- The meanings of the code's steps, case trees and walks.
 use Rattle.std.specs.Prelude.{List, map}
 use Rattle.core_terms.specs.Meanings.{tree_of, tele_of}
 use Rattle.core_terms.specs.CaseTrees as pure

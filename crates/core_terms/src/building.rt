@@ -53,7 +53,7 @@ pub fn functions(alloc: Global, mut tele: Vec<Term>, body: Term) -> Result<Term,
     Ok(whole)
 }
 
-/// Adds the domains of the leading products of the term to the types, and answers what comes after them.
+/// Adds the domains of the leading products of the term to the types, and answers the term after them.
 pub fn split_products(types: &mut Vec<Term>, t: Term) -> Result<Term, Stop>
     ensures domains { OnOk result (tele_of types.new.items ≡ tele_of types.old.items ++ domains_of (tree_of t)) }
     ensures end { IfOk result (λ end. tree_of end ≡ end_of (tree_of t)) }
@@ -113,7 +113,7 @@ pub fn into_spine(alloc: Global, t: Term) -> Result<Vec<Term>, Stop>
     }
 }
 
-/// The head of a term: what its arguments are applied to.
+/// The head of a term, which is applied to its arguments.
 pub fn head(t: &Term) -> &Term
     ensures { tree_of result.now ≡ head_of (tree_of t.now) }
 {

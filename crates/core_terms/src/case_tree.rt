@@ -32,7 +32,7 @@ pub enum Origin {
     Arg(u32),
 }
 
-/// What becomes of one constructor at a split.
+/// The branch of one constructor at a split.
 ///
 /// Either the equations of its indices are absurd: the last step shows this, in the context and at the sides that are
 /// given. Or they are solved, and the tree goes on. `origin` has one item for each variable of the new context.
@@ -77,8 +77,8 @@ pub enum Tree {
     },
 }
 
-/// What a clause's own walk through its patterns ends with: the fields of a leaf, and each written dot with the term
-/// that is forced there.
+/// The end of a clause's own walk through its patterns: the fields of a leaf, and each written dot with the term that is forced
+/// there.
 #[derive(Debug, Drop)]
 pub struct Walk {
     pub ctx: Tele,

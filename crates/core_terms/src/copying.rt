@@ -5,7 +5,7 @@ ghost use Rattle.core_terms.specs.PatternMeanings.{pat_of};
 use crate::{Items, MAX_HEIGHT, Pat, Stop, Tele, Term};
 use std::alloc::Global;
 
-/// The same term in memory of its own, or Deep.
+/// A copy of a term, or Deep.
 pub fn copy(alloc: Global, t: &Term) -> Result<Term, Stop>
     ensures { Gives tree_of result (bounded (tree_of t.now)) }
 {
@@ -51,7 +51,7 @@ pub fn copy_whole(alloc: Global, t: &Term) -> Result<Term, Stop>
     }
 }
 
-/// The same list of terms in memory of its own.
+/// A copy of a list of terms.
 pub fn copy_tele(alloc: Global, terms: &[Term]) -> Result<Tele, Stop>
     ensures { Gives tele_of result (Ok (tele_of terms.now)) }
 {
@@ -62,7 +62,7 @@ pub fn copy_tele(alloc: Global, terms: &[Term]) -> Result<Tele, Stop>
     Ok(copies)
 }
 
-/// The same pattern in memory of its own.
+/// A copy of a pattern.
 pub fn copy_pat(alloc: Global, pat: &Pat) -> Result<Pat, Stop>
     ensures { Gives pat_of result (Ok (pat_of pat.now)) }
 {

@@ -47,7 +47,7 @@ pub fn inst_tele(alloc: Global, values: &[Term], tele: &[Term]) -> Result<Tele, 
     Ok(instances)
 }
 
-/// `inst` under so many binders. What is answered may be too high; Deep comes only where the outcome is.
+/// `inst` under so many binders. The answer may be too high; Deep comes only where the outcome is.
 #[tactic(auto, using(crate::proofs::Instances::instance_heights))]
 pub fn inst_under(alloc: Global, values: &[Term], t: &Term, under: u32) -> Result<Term, Stop>
     requires values { All (λ v. tree.free_of v ≤ most_inner_variables) (tele_of values.now) }
@@ -147,7 +147,7 @@ fn instance(alloc: Global, values: &[Term], t: &Term, under: u32) -> Result<Term
     }
 }
 
-/// What stands for a variable under so many binders.
+/// The term for a variable under so many binders.
 fn value(alloc: Global, values: &[Term], n: u32, under: u32) -> Result<Term, Stop>
     requires values { All (λ v. tree.free_of v ≤ most_inner_variables) (tele_of values.now) }
     requires under { under ≤ 1000000000 }

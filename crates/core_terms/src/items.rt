@@ -53,7 +53,7 @@ impl<T> Items<T> {
 }
 
 impl<T: Drop> Items<T> {
-    /// Adds `x` at the end. After want of memory the list is as it was, and `x` is dropped.
+    /// Adds `x` at the end. If memory runs out, the list is as it was, and `x` is dropped.
     pub fn push(&mut self, x: T) -> Result<(), Stop>
         ensures ok { OnOk result (self.new ≡ self.old ++ x ∷ []) }
         ensures err { OnErr result (self.new ≡ self.old) }

@@ -41,7 +41,7 @@ impl Name {
     }
 }
 
-/// The same name in memory of its own.
+/// A copy of a name.
 pub fn copy_name(alloc: Global, name: &Name) -> Result<Name, AllocError>
     ensures { IfOk result (λ copied. copied ≡ name.now) }
 {

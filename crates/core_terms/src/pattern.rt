@@ -14,8 +14,8 @@ pub enum Pat {
     Absurd,
 }
 
-/// What a clause says: a right side; or a `with`, which has a scrutinee and clauses with one pattern more; or nothing, if
-/// one of the patterns is absurd.
+/// The right side of a clause: a term; or a `with`, which has a scrutinee and clauses with one pattern more; or nothing, if one
+/// of the patterns is absurd.
 #[cycle(clauses)]
 #[derive(Debug, Drop)]
 pub enum Right {
@@ -26,7 +26,7 @@ pub enum Right {
 
 /// A clause of a function.
 ///
-/// Its terms are over `binds` variables, numbered by their order in the text, the last being variable 0. Dots and
+/// Its terms are over `binds` variables, numbered in source order, the last being variable 0. Dots and
 /// wildcards bind none.
 #[cycle(clauses)]
 #[derive(Debug, Drop)]

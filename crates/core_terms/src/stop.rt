@@ -5,8 +5,8 @@ use thiserror::Error;
 
 /// Why a call on terms stopped without its answer.
 ///
-/// `Memory` is want of memory, `Fuel` a unit that is needed where none is left, `Deep` a term higher than 2,000 or
-/// kernel calls nested deeper than that, `PoolFull` a node that is needed where the pool has no room.
+/// `Memory` is out of memory, `Fuel` a unit that is needed where none is left, `Deep` a term higher than 2,000 or kernel calls
+/// nested deeper than that, `PoolFull` a node that is needed where the pool has no room.
 #[derive(Clone, Copy, Debug, PartialEq, Eq, Error)]
 pub enum Stop {
     #[error("Memory")]

@@ -20,7 +20,7 @@ pub fn subst(alloc: Global, t: &Term, at: u32, by: &Term) -> Result<Term, Stop>
     subst_under(alloc, t, at, by, 0)
 }
 
-/// The same where `by` is so many binders further out.
+/// The substitution, where `by` is so many binders further out.
 #[tactic(auto, using(crate::proofs::SubstUnder::height_laws))]
 pub(crate) fn subst_under(
     alloc: Global,

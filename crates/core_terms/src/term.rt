@@ -84,7 +84,7 @@ impl Term {
         }
     }
 
-    /// Whether the terms are equal letter for letter. Takes no memory.
+    /// Whether the terms are syntactically equal. Takes no memory.
     pub fn same(&self, other: &Term) -> bool
         ensures { IsTrue result ↔ (tree_of self.now ≡ tree_of other.now) }
     {

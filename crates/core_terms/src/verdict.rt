@@ -6,7 +6,7 @@ use crate::{Items, Tele, Term};
 /// of a `let`, and child 2 the body of a `let`.
 pub type Place = Items<u8>;
 
-/// Why a checker denies a term.
+/// Why a checker rejects a term.
 #[derive(Debug, Drop)]
 pub enum Reason {
     Mismatch { found: Term, wanted: Term },
@@ -16,7 +16,7 @@ pub enum Reason {
     LevelTooHigh,
 }
 
-/// What a checker denies: the place in the given term, the context there, and the reason.
+/// A checker's denial: the place in the given term, the context there, and the reason.
 #[derive(Debug, Drop)]
 pub struct Denial {
     pub place: Place,
@@ -24,7 +24,7 @@ pub struct Denial {
     pub reason: Reason,
 }
 
-/// What a checker says of a term: its type, or what it denies.
+/// A checker's verdict on a term: its type, or a denial.
 #[derive(Debug, Drop)]
 pub enum Verdict {
     Yes(Term),
