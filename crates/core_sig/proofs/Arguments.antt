@@ -79,7 +79,7 @@ argument_with-recursive n f at count inner targets t level counted is =
     head : Term
     head = weaken_by at (family_head n f)
 
--- the type of what an argument stands for is its own
+-- the type of an argument's meaning is its own
 pub argument_type-of : (n : ℕ) (f : pure.Family) (at : ℕ) (kind : ArgKind) (t : Term) (level : ℕ) → HasKind n f at kind t → argument_type Var (weaken_by at (family_head n f)) (argument_with (length f.parameters) t level kind) ≡ t
 argument_type-of n f at Plain t level is = inst-var t
 argument_type-of n f at (Recursive count) t level is =

@@ -27,7 +27,7 @@ pub ren-applied : (r : ℕ → ℕ) (head : Term) (spine : List Term) → ren r 
 ren-applied r head [] = refl
 ren-applied r head (a ∷ spine) = ren-applied r (App head a) spine
 
--- what constructor number n of a family stands for
+-- the meaning of constructor number n of a family
 pub constructor_at : (p : ℕ) (cons : List Constructor) (n : ℕ) (con : Constructor) (c : pure.Constructor) → n < length cons → con ≡ get_or cons n con → slice_get (map (constructor_of p) cons) n ≡ Some c → constructor_of p con ≡ c
 constructor_at p cons n con c lt is at =
     some_is (ap (λ k. Some (constructor_of p k)) is ∙ (sym (slice_get-map (constructor_of p) cons n ∙ ap (λ o. option_map (constructor_of p) o) (slice_get-get_or cons n con lt)) ∙ at))

@@ -235,7 +235,7 @@ few-eliminator n f m low =
     let tail = inner.1 in
     record { parameters = omega arith; indices = omega arith; constructors = omega arith; arguments = inner.0 }
 
--- what a call answers for it
+-- the bounded types agree
 pub eliminator-bounded : (n : ℕ) (f : Family) (m : ℕ) → HasKinds n f → IsClosedFamily (family_of f) → bounded (eliminator_type n (shape_of f) m) ≡ bounded (spec.eliminator_type n (family_of f) m)
 eliminator-bounded n f m kinds scoped =
     alike-bounded (eliminator_type n (shape_of f) m) (spec.eliminator_type n (family_of f) m) (alike-eliminator n f m kinds scoped)

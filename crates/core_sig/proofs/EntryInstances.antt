@@ -1,4 +1,4 @@
--- What an instantiation does to the types that families bring along.
+-- Instantiation of the types that families bring along.
 use Rattle.std.proofs.Common.{◌≡◌, ℕ, zero, suc, ◌+◌, ◌<◌, Bool, true, false, nat_lt, List, [], ◌∷◌, map, length, refl, ap, ap₂, sym, ◌∙◌, arith}
 use mathlib.Core.Path.{fun_ext}
 use Rattle.std.proofs.lemmas.Bool.Decides.{nat_tests}

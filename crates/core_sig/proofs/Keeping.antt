@@ -1,4 +1,4 @@
--- What holds of each entry by its number.
+-- Properties of each entry by its number.
 use Rattle.std.proofs.Common.{◌≡◌, ℕ, List, [], ◌∷◌, ◌++◌, length, Some, slice_get, inl, inr, sym, subst₂}
 use Rattle.theory.proofs.Lists.{slice_get-pushed}
 

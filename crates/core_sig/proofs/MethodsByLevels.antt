@@ -136,7 +136,7 @@ alike-hypothesis p k motive first at depth count s head inner targets t is inner
         let wanted_least = height-hypothesis s (variable depth motive) (variable depth (first + at)) inner targets in
         inr (omega arith, omega arith)
 
--- what comes after j binders more
+-- the codomain after j binders more
 pub further : (j : ℕ) (a b : Term) → weaken_by j (Pi a (weaken b)) ≡ Pi (weaken_by j a) (weaken_by (j + 1) b)
 further j a b = ap (Pi (weaken_by j a)) (ren-weaken (λ n. n + j) b ∙ weaken-weaken_by j b)
 
@@ -223,7 +223,7 @@ module _ (n : ℕ) (f : pure.Family) where
           ∙ (ap (λ e. spec.hypothesis_type e (inst q (variable depth motive)) (inst q (Var rest)) inner targets) (fun_ext (λ v. sym (ren-is_inst (λ m. m + j) (s v))))
           ∙ ap₂ (λ P u. spec.hypothesis_type (λ v. weaken_by j (s v)) P u inner targets) (ap Var (omega arith)) (ap Var (omega arith))))
 
-  -- what follows an argument, once it is known of those after it
+  -- the methods' types agree from an argument on, if they do from the argument after it on
   step : (motive first at depth j : ℕ) (rest : List Arg) (s : ℕ → Term) (end E : Term) (t : Term) (level : ℕ) (kind : ArgKind) → HasKind n f at kind t → IsArgumentOver (p + at) (argument_with p t level kind)
       → depth ≡ first + at + suc (length (map argument_shape rest)) → motive < first → IsPlaced ((0, p) ∷ (first, at) ∷ []) (p + at) depth s
       → Alike end (weaken_by (j + recursive_count (record { type = t; level = level; kind = kind } ∷ map argument_shape rest)) E)

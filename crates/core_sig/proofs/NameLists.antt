@@ -1,4 +1,4 @@
--- Lists of names: what is new to one, and how those of entries are joined.
+-- Lists of names: names that are new to one, and how those of entries are joined.
 use Rattle.std.proofs.Common.{◌≡◌, ◌≢◌, ℕ, suc, ◌+◌, ◌-◌, ◌<◌, ◌≤◌, Bool, true, false, cond, List, [], ◌∷◌, ◌++◌, map, take, drop, length, None, Some, bytes_eq, get_or, refl, ap, ap₂, sym, ◌∙◌, subst, arith, append_assoc, add-one}
 use Rattle.std.proofs.lemmas.List.{map-append, length-append, length-map, length-take-le, take-take, take-append-drop, append-nil}
 use Rattle.std.proofs.lemmas.Slice.Eq.{bytes_eq-Decides}
@@ -105,7 +105,7 @@ pub length-entry_names : (f : Family) → length (named_by 0 (entry_of (FamilyEn
 length-entry_names f =
     omega (arith, length-named_constructors 0 0 (map (λ c. c.name) (map (constructor_of (length f.params)) f.cons)), length-map f.cons (constructor_of (length f.params)), length-map (map (constructor_of (length f.params)) f.cons) (λ c. c.name))
 
--- what is new of a family
+-- the names of a family are new
 pub new-family : (known : List (List ℕ × Found)) (f : Family) → AreNew known (names_of (entry_of (FamilyEntry f))) → AreNew known (f.name ∷ map (λ c. c.name) f.cons)
 new-family known f new = subst (λ names. AreNew known (f.name ∷ names)) (names-constructors (length f.params) f.cons) new
 

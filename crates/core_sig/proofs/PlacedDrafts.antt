@@ -1,4 +1,4 @@
--- What is made of scoped terms by levels is scoped, over entries of a signature and the names of a draft.
+-- Terms that are made of scoped ones by levels are scoped, over entries of a signature and the names of a draft.
 use Rattle.std.proofs.Common.{◌≡◌, ℕ, zero, suc, ◌+◌, ◌-◌, ◌<◌, ◌≤◌, Bool, true, false, nat_lt, nat_le, if◌then◌else◌, List, [], ◌∷◌, map, length, All, inl, inr, refl, subst as transport, arith}
 use Rattle.std.proofs.lemmas.Bool.Decides.{nat_tests}
 use Rattle.std.proofs.lemmas.List.Elements.{All-head, All-tail, All-nil, All-cons}
@@ -96,7 +96,7 @@ entries-draft S count (Var v) h = tt
 entries-draft S count (Sort i) h = tt
 entries-draft S count (AxiomK i m) h = tt
 
--- what is scoped is a term of any draft
+-- a scoped term is a term of any draft
 pub scoped-draft : (S : Signature) (count n : ℕ) (t : Term) → IsScoped S n t → IsDraftTerm S (length S.entries) count n t
 scoped-draft S count n t h = record { variables = h.variables; entries = entries-draft S count t h.entries }
 

@@ -1,4 +1,4 @@
--- The test for the form of a recursive argument says what its definition says.
+-- The test for the form of a recursive argument agrees with its definition.
 use Rattle.std.proofs.Common.{◌≡◌, ℕ, zero, suc, ◌+◌, Bool, true, false, ◌&&◌, not, ◌==◌, if◌then◌else◌, List, [], ◌∷◌, ◌++◌, map, length, Option, Some, None, option_map, All, refl, ap, ap₂, sym, ◌∙◌, subst, arith}
 use Rattle.std.proofs.lemmas.Bool.{false≢true}
 use Rattle.std.proofs.lemmas.Bool.Decides.{Decides-eqb}
@@ -111,7 +111,7 @@ form-end n f at targets = ap₂ applied (head-is n f at) (map-inst-var targets)
 zero-more : (k : ℕ) → k ≡ 0 + k
 zero-more k = omega arith
 
--- what the test counts for a family
+-- the number that the test counts for a family
 abbrev count_in : ℕ → pure.Family → ℕ → Term → Option ℕ
 count_in n f at t = inner_count n (length f.parameters) (length f.indices) at t
 
@@ -172,7 +172,7 @@ product-form n f at count a b false (Some k) e rest some =
       },
     )
 
--- what is found has the form
+-- a term for which the test counts a number has the form
 count-tells : (n : ℕ) (f : pure.Family) (at count : ℕ) (t : Term) → count_in n f at t ≡ Some count → HasForm n f at count t
 count-tells n f at count (Pi a b) e =
     product-form n f at count a b (mentions n a) (count_in n f (at + 1) b) refl (λ k found. count-tells n f (at + 1) k b found) e

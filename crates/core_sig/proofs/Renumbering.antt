@@ -57,7 +57,7 @@ kind-renumbered r n f g at kind t parameters indices is =
     ∙ sym (kind-same n f at kind t is))
     (kind-is n g at (renumbered r t))
 
--- ---- what an argument stands for
+-- ---- meanings of arguments
 
 domains-renumbered : (r : ℕ → ℕ) (k : ℕ) (t : Term) → domains k (renumbered r t) ≡ map (renumbered r) (domains k t)
 domains-renumbered r zero t = refl

@@ -1,4 +1,4 @@
--- Drafts whose terms are scoped: what is drafted of scoped terms, and what calls answer.
+-- Drafts whose terms are scoped: drafts made of scoped terms, and answers of calls.
 use Rattle.std.proofs.Common.{ℕ, Bool, true, false, nat_le, if◌then◌else◌, List, length, Result, Ok, Err, IfOk, sym, subst as transport}
 use Rattle.theory.specs.Terms.{Term, height}
 use Rattle.theory.specs.Signatures.{Signature, Definition}
@@ -20,7 +20,7 @@ drafted-scoped T name base names type term h k = by (nat_le (height type) 2000) 
     by true false = tt
     by false c = tt
 
--- what a call answers
+-- the answer of a call is scoped if the meant one is
 pub answer-scoped : (T : Signature) (result : Result DraftOfCode Stop) (meant : Result Draft Stop) → Gives draft_of result meant → IfOk meant (IsScopedDraft T) → IfOk result (λ d. IsScopedDraft T (draft_of d))
 answer-scoped T (Ok d) meant is h = transport (λ r. IfOk r (IsScopedDraft T)) (sym is) h
 answer-scoped T (Err e) meant is h = tt

@@ -17,7 +17,7 @@ use Rattle.core_sig.specs.declared.family.Constructor.{Constructor}
 use Rattle.core_sig.specs.declared.family.Family.{Family}
 use Rattle.core_sig.proofs.Renumbering.{kind-renumbered, argument-renumbered}
 
--- ---- what parts stand for
+-- ---- meanings of parts
 
 abbrev argument_from : ℕ → ArgumentParts → pure.Argument
 argument_from p a = argument_with p a.0 a.1.0 a.1.1
@@ -47,7 +47,7 @@ constructor-from_parts p c =
     ap (λ arguments. record { name = c.name; arguments = arguments; targets = tele_of c.targets })
     (map-map (argument_from p) argument_parts c.args)
 
--- a family stands for what its parts say
+-- a family's meaning is given by its parts
 family-from_parts : (f : Family) → family_from (family_parts f) ≡ family_of f
 family-from_parts f =
     ap₂ (λ indices constructors. built f.name (tele_of f.params) indices f.level constructors)

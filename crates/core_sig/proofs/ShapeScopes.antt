@@ -1,4 +1,4 @@
--- What is made of the shape of a family is scoped, where the shape is: for families of a scoped signature.
+-- Terms that are made of the shape of a family are scoped, if the shape is: for families of a scoped signature.
 use Rattle.std.proofs.Common.{◌≡◌, ℕ, zero, suc, ◌+◌, ◌-◌, ◌<◌, ◌≤◌, Bool, true, false, nat_le, if◌then◌else◌, List, [], ◌∷◌, map, length, All, refl, ap, sym, subst as transport, arith}
 use Rattle.std.proofs.lemmas.List.{length-map}
 use Rattle.std.proofs.lemmas.List.Elements.{All-head, All-tail, All-nil, All-cons, All-weaker}
@@ -153,7 +153,7 @@ unit-there S i first low = prelude-has S (unit_type i) (unit_family i) first (un
 pub pair-there : (S : Signature) (i : ℕ) → IsPrefix (prelude S.has_k) S → i < top → IsEntryAt S (pair_type i) (FamilyOf (pair_family i))
 pair-there S i first low = prelude-has S (pair_type i) (pair_family i) first (pair_number S.has_k (pair_type i) i low (omega arith))
 
--- ---- what is made of a shape
+-- ---- terms made of a shape
 
 -- the types of arguments or indices
 pub types-over-draft : {T : Signature} {base count : ℕ} (binder : Binder) (runs : List (ℕ × ℕ)) (size depth : ℕ) (arguments : List ArgumentShape) (end : Term) → AreBelow runs size depth (length arguments) → EachInTelescope (IsDraftTerm T base count) size (types_of arguments) → IsDraftTerm T base count (depth + length arguments) end → IsDraftTerm T base count depth (over binder runs size depth (types_of arguments) end)

@@ -65,7 +65,7 @@ shape-is n f kinds =
     (ap (λ p. map (constructor_shape n (family_of f)) (map (constructor_of p) f.cons)) (sym (length-map f.params tree_of))
     ∙ constructors-are n (family_of f) f.cons kinds.constructors)
 
--- what is answered for the family that the code holds is the entry of the family that the signature has
+-- the entry that is answered for the code's family is that of the signature's family
 pub entry-is : (D : List ℕ → Shape → Result Draft Stop) (result : Result DraftOfCode Stop) (n : ℕ) (f : pure.Family) (code : Family) → HasKinds n code
     → Some (FamilyOf (family_of code)) ≡ Some (FamilyOf f) → Gives draft_of result (D code.name (shape_of code)) → Gives draft_of result (D f.name (family_shape n f))
 entry-is D result n f code kinds same given =

@@ -1,5 +1,5 @@
--- What is made of a family's shape, with variables by level: the parameters have the levels from 0 on, and whatever is
--- at a depth comes after so many binders.
+-- Terms made of a family's shape, with variables by level: the parameters have the levels from 0 on, and whatever is at a depth comes
+-- after so many binders.
 use Rattle.std.specs.Prelude.{ℕ, suc, ◌+◌, ◌-◌, nat_le, if◌then◌else◌, List, [], ◌∷◌, map, length}
 use Rattle.theory.specs.Terms.{Term, Sort, Pi, App, Fam, Con}
 use Rattle.theory.specs.Telescopes.{Telescope, products, applied}

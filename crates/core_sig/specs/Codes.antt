@@ -1,4 +1,4 @@
--- Codes of terms, families and signatures, by which a proof tells their values apart.
+-- Codes of terms, families and signatures, by which a proof distinguishes their values.
 use Rattle.std.specs.Prelude.{◌≡◌, ◌⊎◌, ℕ, zero, suc, Bool, List, refl}
 use Rattle.std.specs.Coded.{Coded, code_by, coded_ℕ, coded_bool, coded_list, coded×, coded⊎}
 use base.Stored.{Gv, gnum, gcons, num}

@@ -1,4 +1,4 @@
--- What drafts stand for, and the names of generated entries.
+-- The meanings of drafts, and the names of generated entries.
 use Rattle.std.specs.Prelude.{ℕ, List, ◌++◌, Result, Ok}
 use Rattle.theory.specs.Terms.{Term}
 use Rattle.theory.specs.PreludeFamilies.{level_text}
@@ -17,7 +17,7 @@ pub record Draft : Type 0 where
 abbrev pub draft_of : DraftOfCode → Draft
 draft_of d = record { entry = entry_of d.entry; base = d.base; names = d.names }
 
--- the name of what is generated for a family at a level: the family's name, a mark and the level
+-- the name of an entry that is generated for a family at a level: the family's name, a mark and the level
 abbrev pub generated_name : (family mark : List ℕ) (m : ℕ) → List ℕ
 generated_name family mark m = family ++ mark ++ level_text m
 

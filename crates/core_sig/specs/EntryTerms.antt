@@ -1,4 +1,4 @@
--- What holds of each term of an entry, with the number of variables that the term is over.
+-- Properties of each term of an entry, with the number of variables that the term is over.
 use Rattle.std.specs.Prelude.{ℕ, ◌+◌, List, [], ◌∷◌, length, All}
 use Rattle.theory.specs.Terms.{Term}
 use Rattle.theory.specs.Telescopes.{Telescope}

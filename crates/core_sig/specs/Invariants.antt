@@ -1,4 +1,4 @@
--- What holds of the fields of every signature.
+-- Invariants of the fields of every signature.
 use Rattle.std.specs.Prelude.{◌≡◌, Some, ℕ, ◌<◌, ◌^◌, map, length, slice_get}
 use Rattle.core_sig.specs.Kinds.{HasEntryKinds}
 use Rattle.core_sig.specs.Meanings.{entry_of}

@@ -38,7 +38,7 @@ pub record HasKinds (n : ℕ) (f : Family) : Type 0 where
   pub indices : All (λ i. i.kind ≡ Plain) f.indices
   pub constructors : All (λ c. HaveKinds n (family_of f) 0 c.args) f.cons
 
--- the same of a family among entries
+-- an entry that is a family has its kinds
 abbrev pub HasEntryKinds : ℕ → Entry → Type 0
 HasEntryKinds n (FamilyEntry f) = HasKinds n f
 HasEntryKinds n _ = Unit {0}

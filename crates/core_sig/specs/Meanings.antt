@@ -1,4 +1,4 @@
--- What families and entries of the code stand for. A recursive argument is split into its inner telescope and its targets.
+-- The meanings of the code's families and entries. A recursive argument is split into its inner telescope and its targets.
 use Rattle.std.specs.Prelude.{ℕ, suc, [], ◌∷◌, map, drop, length}
 use Rattle.theory.specs.Terms as tree
 use Rattle.theory.specs.Telescopes.{Telescope}
@@ -19,7 +19,7 @@ abbrev pub domains : ℕ → tree.Term → Telescope
 domains (suc n) (tree.Pi a b) = a ∷ domains n b
 domains _ t = []
 
--- what comes after the first n products of a term
+-- the rest of a term after its first n products
 abbrev pub behind : ℕ → tree.Term → tree.Term
 behind (suc n) (tree.Pi a b) = behind n b
 behind _ t = t

@@ -1,4 +1,4 @@
--- What breaks the positivity of a family first.
+-- The first constructor and argument that violate the positivity of a family.
 use Rattle.std.specs.Prelude.{ℕ, ◌+◌, Bool, ◌||◌, if◌then◌else◌, List, [], ◌∷◌, Option, Some, None}
 use Rattle.std.specs.List.{list_any}
 use Rattle.std.specs.Option.{option_map_or}

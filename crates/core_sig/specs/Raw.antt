@@ -1,4 +1,4 @@
--- Families as declared, over plain terms, and what those of the code stand for.
+-- Families as declared, over plain terms, and the meanings of the code's.
 use Rattle.std.specs.Prelude.{ℕ, List, ◌∷◌, map}
 use Rattle.theory.specs.Terms.{Term}
 use Rattle.theory.specs.Telescopes.{Telescope}

@@ -64,7 +64,7 @@ pub fn motive_type(alloc: Global, fam: u32, f: &Family, m: u8, depth: u32) -> Re
     arguments_over(alloc, Binder::Product, &runs, params, depth, indices, end)
 }
 
-/// What an eliminator gives, at a depth: (I) -> (x : D p I) -> P I x, where P has the level `motive`.
+/// The goal of an eliminator, at a depth: (I) -> (x : D p I) -> P I x, where P has the level `motive`.
 pub fn goal_type(alloc: Global, fam: u32, f: &Family, motive: u32, depth: u32) -> Result<Term, Stop>
     requires few { IsFew (shape_of f.now) }
     requires depth { depth ≤ 100000 }

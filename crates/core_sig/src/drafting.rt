@@ -9,7 +9,7 @@ use crate::{Draft, Entry};
 use core_terms::{Items, Name, Stop, Term, checked};
 use std::alloc::Global;
 
-/// The name of what is generated for a family at a level: the family's name, a mark and the level.
+/// The name of an entry that is generated for a family at a level: the family's name, a mark and the level.
 pub fn generated_name(alloc: Global, family: &Name, mark: &[u8], m: u8) -> Result<Name, Stop>
     requires { m < 100 }
     ensures ok { IfOk result (λ name. name ≡ spec.generated_name family.now mark.now m) }

@@ -13,7 +13,7 @@ pub enum Entry {
     Def { name: Name, ty: Term, body: Term },
 }
 
-/// What a name stands for: the entry with a number, or a constructor of the family with the first number.
+/// The meaning of a name: the entry with a number, or a constructor of the family with the first number.
 #[derive(Clone, Copy, Debug, PartialEq, Eq)]
 pub enum Found {
     Entry(u32),

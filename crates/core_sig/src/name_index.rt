@@ -8,7 +8,7 @@ use indexmap::IndexMap;
 use std::alloc::Global;
 use std::marker::Model;
 
-/// Names with what each stands for, in the order in which they came. Look-up goes by hashes.
+/// Names with their meanings, in the order in which they came. Look-up goes by hashes.
 #[derive(Drop)]
 pub(crate) struct NameIndex {
     found: IndexMap<Vec<u8>, Found>,
@@ -41,7 +41,7 @@ impl NameIndex {
         self.found.len()
     }
 
-    /// What the name stands for.
+    /// The entry or the constructor with the name.
     pub(crate) fn get(&self, name: &[u8]) -> Option<Found>
         ensures { result ≡ lookup (bytes_eq name.now) self.now }
     {

@@ -9,8 +9,8 @@ ghost use Rattle.core_sig.specs.Offenders.{first_offender, offender_in, offends}
 use crate::{Arg, ArgKind, Constructor, Family};
 use core_terms::Term;
 
-/// What breaks the strict positivity of the family with number `fam` first: a constructor, numbered from 0, and its
-/// argument, numbered from 1, where 0 stands for the targets (Dybjer, "Inductive families", 1994). Takes no memory.
+/// The first violation of strict positivity in the family with number `fam`: a constructor, numbered from 0, and its argument,
+/// numbered from 1, where 0 stands for the targets (Dybjer, "Inductive families", 1994). Takes no memory.
 pub fn strictly_positive(fam: u32, f: &Family) -> Option<(u32, u32)>
     requires kinds { HasKinds fam f.now }
     requires cons { length f.now.cons < 2 ^ 32 }

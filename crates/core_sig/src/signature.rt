@@ -77,7 +77,7 @@ impl Signature {
         self.entries.as_slice().get(at as usize)
     }
 
-    /// What the name stands for.
+    /// The entry or the constructor with the name.
     pub fn find(&self, name: &[u8]) -> Option<Found>
         ensures { result ≡ find self.now name.now }
     {

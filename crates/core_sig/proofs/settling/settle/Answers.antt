@@ -14,7 +14,7 @@ use Rattle.core_sig.proofs.DraftTerms.{each-renumbered, height-renumbered, settl
 use Rattle.core_terms.proofs.Builders.{ok_is}
 use Rattle.core_sig.proofs.settling.settle.Goals as goal
 
--- what holds of the entry that is meant holds of the answer
+-- a property of the meant entry is one of the answer
 answered : (P : Entry → Type 0) (r : Result CodeEntry Stop) (meant : Entry) → Gives entry_of r (Ok meant) → P meant → IfOk r (λ e. P (entry_of e))
 answered P (Ok e) meant is holds = subst P (sym (ok_is is)) holds
 answered P (Err s) meant is holds = tt
