@@ -1,4 +1,4 @@
--- What holds of the answer of a computation with units, and of the units that it leaves, from what holds of its parts.
+-- Properties of the answer of a computation with units, and of the units that it leaves, from those of its parts.
 use Rattle.std.proofs.Common.{ℕ, ◌≤◌, ◌≡◌, zero, suc, Bool, true, false, refl, arith}
 use Rattle.core_terms.specs.Answers.{Spent}
 use Rattle.core_terms.proofs.Answers.{Answers}

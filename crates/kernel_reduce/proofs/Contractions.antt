@@ -1,4 +1,4 @@
--- What the code makes is the contraction.
+-- The term that the code makes is the contraction.
 use Rattle.std.proofs.Common.{◌≡◌, ℕ, zero, suc, ◌+◌, ◌≤◌, true, false, ◌==◌, ◌&&◌, Some, None, IfSome, option_and_then, option_map, List, [], ◌∷◌, ◌++◌, length, map, slice_get, refl, sym, ap, ap₂, ◌∙◌, subst as transport, arith}
 use Rattle.std.proofs.lemmas.Bool.Decides.{Decides-eqb}
 use Rattle.std.proofs.lemmas.List.{length-append, length-map}
@@ -66,7 +66,7 @@ has-all S t u n m number f c args us eh ek ef at awaits met low ea eu =
       args_few = omega (arith, few, ap length ea);
     }
 
--- the contraction is what iota makes
+-- the contraction is iota's right side
 pub contraction-made : (S : Signature) (P : Term → Type 0) (h k : Term) (n m number : ℕ) (f : Family) (c : Constructor) (args us : List Term)
     → Some (n, m) ≡ eliminator_numbers h → Some number ≡ constructor_number k → Some (family_of f) ≡ family_at S n → slice_get f.cons number ≡ Some c
     → HasAllArguments f c number args us → P (iota_made n m (length f.params) (length f.cons) number args us c.args)
@@ -95,7 +95,7 @@ spine-free bound t args e h =
     transport (All (λ v. free_of v ≤ bound)) (sym e)
     ((free_of-applied (head_of t) (spine_of t) bound).1 (transport (λ x. free_of x ≤ bound) (sym (applied-spine t)) h)).1
 
--- the same by the spines of the two terms
+-- the contraction by the spines of the two terms
 pub contraction-of_spines : (S : Signature) (P : Term → Type 0) (t u : Term) (n m number : ℕ) (f : Family) (c : Constructor) (args us : List Term)
     → Some (n, m) ≡ eliminator_numbers (head_of t) → Some number ≡ constructor_number (head_of u) → Some (family_of f) ≡ family_at S n → slice_get f.cons number ≡ Some c
     → awaits_scrutinee S (head_of t) (spine_of t) ≡ true → meets S (head_of t) (head_of u) (length (spine_of u)) ≡ true → height t ≤ 2000
@@ -112,7 +112,7 @@ last-there [] a (suc n) e = absurd (omega arith)
 last-there (u ∷ us) a zero e = absurd (omega arith)
 last-there (u ∷ us) a (suc n) e = last-there us a n (omega arith)
 
--- K gives the last argument of what awaits a scrutinee and is no eliminator
+-- K gives the last argument of a term that awaits a scrutinee and is no eliminator
 pub contraction-last : (S : Signature) (P : Term → Type 0) (t k : Term) (us : List Term) → None ≡ eliminator_numbers (head_of t) → awaits_scrutinee S (head_of t) (spine_of t) ≡ true
     → ((g a : Term) → t ≡ App g a → P a) → IfSome (contraction S (head_of t) (spine_of t) k us) P
 contraction-last S P (App f a) k us eh awaits last = by (head_of f) eh awaits

@@ -1,4 +1,4 @@
--- What has a derivation is scoped: each number in it was looked up.
+-- A term with a derivation is scoped: each number in it was looked up.
 use Rattle.std.proofs.Common.{ℕ, List, [], ◌∷◌, map}
 use Rattle.std.proofs.lemmas.List.Elements.{All-nil, All-cons, All-head, All-tail}
 use Rattle.std.proofs.lemmas.Option.{slice_get_within}

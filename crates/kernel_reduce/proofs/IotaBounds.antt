@@ -1,4 +1,4 @@
--- The free variables of what iota works with.
+-- The free variables of the terms that iota works with.
 use Rattle.std.proofs.Common.{◌≡◌, ℕ, ◌≤◌, List, ◌++◌, take, drop, sym, subst as transport, arith}
 use Rattle.std.proofs.lemmas.List.Elements.{All-append, All-take, All-drop}
 use Rattle.std.specs.List.{All}

@@ -58,7 +58,7 @@ method-is n m number f c vs args d low fits =
         ap (λ xs. take p args ++ take (suc nc) xs) (sym (drop-cons args p d within))
         ∙ (sym (take-add p (suc nc) args) ∙ ap (λ k. take (p + k) args) one)
 
--- what the code makes is iota's right side
+-- the term that the code makes is iota's right side
 pub iota-made : (n m number : ℕ) (f : Family) (c : Constructor) (args us : List Term) (codes : List Arg) → number < length f.constructors
     → length f.parameters + (1 + length f.constructors) ≤ length args → length us ≡ length f.parameters + length c.arguments
     → c.arguments ≡ map (argument_of (length f.parameters)) codes → length f.parameters ≤ 2000

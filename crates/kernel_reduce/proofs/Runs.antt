@@ -1,4 +1,4 @@
--- What a law says of an answer that is meant, said of the answer of the call.
+-- A property of the meant answer is one of the call's answer.
 use Rattle.std.proofs.Common.{◌≡◌, ℕ, Option, Some, None, IfSome, option_map, Result, Ok, Err, IfOk, sym, ap, subst as transport}
 use Rattle.core_terms.specs.Answers.{IsUnforeseen, Spent, Runs}
 use Rattle.core_terms.proofs.Answers.{spends-has}
@@ -10,7 +10,7 @@ meant-has P b left meant e h = transport (λ r. IfOk r P) (sym (ap (λ (s : Spen
 pub runs-has : {A B : Type 0} (f : A → B) (P : B → Type 0) (result : Result A Stop) (left : ℕ) (meant : Spent B) → Runs f result left meant → IfOk meant.0 P → IfOk result (λ a. P (f a))
 runs-has f P result left meant e h = spends-has IsUnforeseen (λ x. x) f P result left meant e h
 
--- the same of a value that may be there
+-- a property of a value that may be there
 pub runs-some : {A B : Type 0} (f : A → B) (P : B → Type 0) (result : Result (Option A) Stop) (left : ℕ) (meant : Spent (Option B)) → Runs (option_map f) result left meant
     → IfOk meant.0 (λ o. IfSome o P) → IfOk result (λ o. IfSome o (λ a. P (f a)))
 runs-some f P (Ok (Some a)) left meant e h = meant-has (λ o. IfSome o P) (Some (f a)) left meant e h

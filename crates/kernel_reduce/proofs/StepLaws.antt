@@ -20,7 +20,7 @@ use Rattle.kernel_reduce.specs.Steps.{beta_step, fills, awaits_scrutinee, method
 pub use Rattle.kernel_reduce.proofs.LookUps.{both-true, family-found}
 use Rattle.kernel_reduce.proofs.Identities.{k-there}
 
--- what an option leads to, where each value in it does
+-- a property of the next value of an option, from each value in the option
 pub some-next : {A B : Type 0} (P : B → Type 0) (next : A → Option B) (o : Option A) → ((x : A) → o ≡ Some x → IfSome (next x) P) → IfSome (option_and_then next o) P
 some-next P next (Some x) h = h x refl
 some-next P next None h = tt
@@ -204,7 +204,7 @@ application-steps S f u (Some g) inner h k = function h
 application-steps S f u None inner h k =
     first-has (Step S (App f u)) (beta_step f u) (elimination_step S f u inner) (beta-steps S f u) (elimination-steps S f u inner k)
 
--- what a term steps to is one step further
+-- the term that `step_of` gives is one step further
 pub step-steps : (S : Signature) (delta : Bool) (t : Term) → IfSome (step_of S delta t) (Step S t)
 step-steps S delta (App f u) =
     application-steps S f u (step_of S delta f) (step_of S delta u) (step-steps S delta f) (step-steps S delta u)

@@ -1,4 +1,4 @@
--- Whether there is a step, told by tests on heads and on numbers of arguments.
+-- Whether there is a step, decided by tests on heads and on numbers of arguments.
 use Rattle.std.proofs.Common.{◌≡◌, ℕ, ◌+◌, ◌<◌, ◌≤◌, min, Bool, true, false, cond, ◌&&◌, ◌||◌, ◌==◌, nat_eq, Option, Some, None, is_some, IfSome, option_and_then, List, [], ◌∷◌, length, take, drop, slice_get, refl, sym, ap, ap₂, ◌∙◌, subst as transport, arith}
 use Rattle.std.proofs.lemmas.Bool.Decides.{Decides-eqb}
 use Rattle.std.proofs.lemmas.List.{length-take, length-drop}

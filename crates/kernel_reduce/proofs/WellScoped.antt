@@ -47,7 +47,7 @@ scoped-longer : {S T : Signature} → IsPrefix S T → (n : ℕ) (ts : List Term
 scoped-longer p n [] h = tt
 scoped-longer p n (t ∷ ts) h = (scoped-wider (keeps-numbers (prefix_keeps p)) h.0, scoped-longer p n ts h.1)
 
--- What the calls of reduction and comparison ask for.
+-- The conditions of the calls of reduction and comparison.
 
 pub can_reduce : {S : Signature} {G : Telescope} {ts : List Term} → AreWellScoped S G ts → CanReduce S ts
 can_reduce {S} {G} {ts} h =
@@ -78,7 +78,7 @@ term_at {S} {G} {ts} k d lt h = with_terms h (scoped-at S (length G) ts k d lt h
 pub both_lists : {S : Signature} {G : Telescope} {ts us : List Term} → AreWellScoped S G ts → AreWellScoped S G us → AreWellScoped S G (ts ++ us)
 both_lists {S} {G} {ts} {us} h k = with_terms h (scoped-append S (length G) ts us h.terms k.terms)
 
--- what a call answers for a term, where it keeps the term scoped
+-- the call's answer for a term, where the call keeps the term scoped
 pub with_answer : {S : Signature} {G : Telescope} {t u : Term} {ts : List Term} → ((n : ℕ) → IsScoped S n t → IsScoped S n u) → AreWellScoped S G (t ∷ ts)
     → AreWellScoped S G (u ∷ ts)
 with_answer {S} {G} keeps h = with_terms h (keeps (length G) h.terms.0, h.terms.1)
@@ -111,7 +111,7 @@ pub spine_terms : {S : Signature} {G : Telescope} {t : Term} {ts : List Term} �
 spine_terms {S} {G} {t} {ts} h =
     with_terms h (scoped-append S (length G) (spine_of t) ts (scoped-all S (length G) (spine_of t) (spine-scoped S (length G) t h.terms.0)) h.terms.1)
 
--- What is made of the first terms.
+-- Terms made of the first ones.
 
 pub applied_term : {S : Signature} {G : Telescope} {t : Term} {us : List Term} → AreWellScoped S G (t ∷ us) → AreWellScoped S G (applied t us ∷ [])
 applied_term {S} {G} {t} {us} h =
@@ -162,7 +162,7 @@ pub after_push : {S : Signature} {ts : List Term} (types more : List code.Term) 
     → AreWellScoped S (tele_of types ++ tree_of t ∷ []) ts → AreWellScoped S (tele_of more) ts
 after_push {S} {ts} types more t is h = transport (λ G. AreWellScoped S G ts) (sym (ap tele_of is ∙ map-append tree_of types (t ∷ []))) h
 
--- the same terms, lifted past the new variables, and as they are
+-- the terms lifted past the new variables, and as they are
 pub lifted : {S : Signature} {G : Telescope} {ts : List Term} (tele : Telescope) → AreWellScoped S G ts → IsScopedTelescope S (length G) tele
     → length G + length tele < context_limit → AreWellScoped S (G ++ tele) (map (λ t. lift t (length tele) 0) ts)
 lifted {S} {G} {ts} tele h inner few = under-telescope tele h inner few (scoped-lift S (length G) (length tele) ts h.terms)
@@ -193,7 +193,7 @@ type_before {S} G H k a lt is h =
     transport (λ n. IsScoped S (length G + n) a) (sym count) (transport (IsScoped S (length G + k)) (sym is) (telescope-at S (length G) k H a lt inner)) in
     under-telescope (take k H) (shorter_context G H h) (telescope-take S (length G) k H inner) (omega (arith, h.few, length-append G H)) (type, tt)
 
--- The same terms over a longer signature.
+-- The terms over a longer signature.
 
 pub over_longer : {S T : Signature} {G : Telescope} {ts : List Term} → IsPrefix S T → IsScopedSignature T → AreWellScoped S G ts → AreWellScoped T G ts
 over_longer {S} {T} {G} {ts} p scoped h =
@@ -204,7 +204,7 @@ over_longer {S} {T} {G} {ts} p scoped h =
       terms = scoped-longer p (length G) ts h.terms;
     }
 
--- what calls of reduction ask for, of fewer terms and of more
+-- the conditions of reduction, for fewer terms and for more
 pub reduce_first : {S : Signature} {t : Term} {ts : List Term} → CanReduce S (t ∷ ts) → CanReduce S (t ∷ [])
 reduce_first h = record { signature = h.signature; terms = (h.terms.0, tt) }
 

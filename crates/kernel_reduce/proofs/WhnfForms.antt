@@ -76,7 +76,7 @@ normal-high S delta zero t left h = refl
 normal-high S delta (suc room) t left h =
     ap (λ r. and_next r (normal_children (normal_of S delta room))) (whnf-high S delta left t h)
 
--- the same as a copy refuses it
+-- a term that a copy refuses
 pub normal-refused : (S : Signature) (delta : Bool) (room : ℕ) (t : Term) (left : ℕ) (stop : Stop) → (stop ≢ Memory → ◌≡◌ {A = Result Term Stop} (Err stop) (bounded t)) → stop ≢ Memory
     → answered (Err stop) left ≡ normal_of S delta room t left
 normal-refused S delta room t left stop h other = by_case (nat_le (height t) 2000) refl (h other)

@@ -20,7 +20,7 @@ call_of values p recursor under (App f a) =
     (lift recursor under 0)
 call_of values p recursor under t = lift recursor under 0
 
--- the same applied to the recursive argument r, which is itself applied to the variables of these binders
+-- this call applied to the recursive argument r, which is itself applied to the variables of these binders
 abbrev pub recursive_call_of : List Term → ℕ → Term → Term → ℕ → Term → Term
 recursive_call_of values p recursor r under t =
     App (call_of values p recursor under t) (applied (lift r under 0) (variables under))
@@ -46,7 +46,7 @@ hypotheses_of values p recursor known [] = []
 hypotheses_of values p recursor known (a ∷ args) =
     hypothesis_before values p recursor known (tree_of a.ty) a.kind (hypotheses_of values p recursor (known + 1) args)
 
--- what iota makes of the eliminator of family n into Type m at constructor `number`, where `args` are the arguments of the
+-- the right side of iota for the eliminator of family n into Type m at constructor `number`, where `args` are the arguments of the
 -- eliminator and `us` those of the constructor, p parameters first in both
 abbrev pub iota_made : ℕ → ℕ → ℕ → ℕ → ℕ → List Term → List Term → List Arg → Term
 iota_made n m p constructors number args us codes =

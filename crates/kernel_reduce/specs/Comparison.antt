@@ -7,7 +7,7 @@ use Rattle.core_terms.specs.Answers.{Spent, and_next, is_low}
 use Rattle.core_terms.specs.declared.stop.Stop.TheVariants.{Deep}
 use Rattle.kernel_reduce.specs.Reduction.{answered, charge, if_low, whnf_of}
 
--- the terms are equal letter for letter
+-- the terms are syntactically equal
 abbrev pub same : Term → Term → Bool
 same a b = elim (Term-discrete ℕ_discrete a b) [ yes e ↦ true | no e ↦ false ]
 

@@ -1,4 +1,4 @@
--- What is at a number of a signature.
+-- The entry with a number in a signature.
 use Rattle.std.specs.Prelude.{ℕ, Bool, false, cond, ◌==◌, Option, Some, None, option_and_then, slice_get}
 use Rattle.theory.specs.Terms.{Term, Const}
 use Rattle.theory.specs.Families.{Family, Constructor}

@@ -1,4 +1,4 @@
--- What reduction and comparison mean: where they answer, the answer is tied to conversion, and no call gives units back.
+-- Laws of reduction and comparison: an answer is tied to conversion, and no call gives units back.
 use Rattle.std.specs.Prelude.{◌≡◌, ℕ, ◌≤◌, Bool, None, IfSome, IfOk, IsTrue}
 use Rattle.theory.specs.Terms.{Term, height}
 use Rattle.theory.specs.Signatures.{Signature}
@@ -50,7 +50,7 @@ SubtypeIsBelow =
     (S : Signature) (room : ℕ) (a b : Term) (left : ℕ) →
     IfOk (subtype_of S room a b left).0 (λ holds. IsTrue holds → Below S a b)
 
--- what is left after a call is at most what was left before it
+-- no call leaves more units than it had
 abbrev pub HeadStepSpends : Type 0
 HeadStepSpends = (S : Signature) (delta : Bool) (t : Term) (left : ℕ) → (head_step_of S delta t left).1 ≤ left
 

@@ -48,7 +48,7 @@ abbrev pub without_units : Term → Option Term → Spent Term
 without_units t None = answered (Ok t) zero
 without_units t (Some u) = answered (Err Fuel) zero
 
--- the same where one unit more than `left` is left: after a step `next` goes on with its term
+-- where one unit more than `left` is left: after a step `next` goes on with its term
 abbrev pub with_unit : Term → ℕ → (Term → Spent Term) → Option Term → Spent Term
 with_unit t left next None = answered (Ok t) (suc left)
 with_unit t left next (Some u) = next u

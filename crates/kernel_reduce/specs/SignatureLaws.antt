@@ -1,4 +1,4 @@
--- What is scoped: well-formed signatures, the prelude, one entry more, and the first entries; and what has a derivation.
+-- Scoping: of well-formed signatures, the prelude, one entry more, and the first entries; and of terms with a derivation.
 use Rattle.std.specs.Prelude.{◌≢◌, ℕ, Bool, List, length}
 use Rattle.theory.specs.Terms.{Term, Const}
 use Rattle.theory.specs.Telescopes.{Context}

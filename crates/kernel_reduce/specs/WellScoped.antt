@@ -1,5 +1,5 @@
--- What calls are asked about: terms in a context, over a signature. Each number in them stands for something, and the variables
--- are few enough for numbers of 32 bits.
+-- The terms of calls: in a context, over a signature. Each number in them stands for something, and the variables are few enough for
+-- numbers of 32 bits.
 use Rattle.std.specs.Prelude.{ℕ, ◌<◌, List, [], ◌∷◌, length}
 use Rattle.theory.specs.Terms.{Term}
 use Rattle.theory.specs.Telescopes.{Telescope}
@@ -20,8 +20,7 @@ pub record AreWellScoped (S : Signature) (types : Telescope) (ts : List Term) : 
   pub few : length types < context_limit
   pub terms : AreScoped S (length types) ts
 
--- What is reduced or compared needs no context, and a bound on the number of variables alone. Terms that are well scoped in a
--- context meet it.
+-- Reduction and comparison need no context, and only a bound on the number of variables. Terms that are well scoped in a context meet it.
 pub record CanReduce (S : Signature) (ts : List Term) : Type 0 where
   pub signature : IsScopedSignature S
   pub terms : AreScoped S most_variables ts

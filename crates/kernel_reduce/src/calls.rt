@@ -105,7 +105,7 @@ pub fn normal(
     normal_form(alloc, sig, t, delta, NESTING, units)
 }
 
-/// Whether two terms are found convertible: equal letter for letter, or of head forms with convertible children.
+/// Whether two terms are found convertible: syntactically equal, or of head forms with convertible children.
 ///
 /// Each comparison, of the terms and then of two children, costs one unit beside the head steps of both sides, those of `a`
 /// first. The test for equality is free. `false` says only that this comparison doesn't find them convertible. Deep where a

@@ -1,4 +1,4 @@
-//! What reduction and comparison mean in the theory.
+//! Laws of reduction and comparison, in the words of the theory.
 ghost use Rattle.kernel_reduce.specs.SignatureLaws.{PreludeScoped, PushedScoped, FirstEntriesScoped, WellFormedScoped, WellFormedWhole, SoFarScoped, TypedTermScoped, TypedContextScoped};
 ghost use Rattle.kernel_reduce.specs.Laws.{HeadStepIsStep, HeadStepIsLow, WhnfIsHeadForm, NormalConverts, ConvertibleConverts, SubtypeIsBelow, HeadStepSpends, WhnfSpends, NormalSpends, ConvertibleSpends, SubtypeSpends, StepScoped, HeadStepScoped, WhnfScoped, NormalScoped};
 
