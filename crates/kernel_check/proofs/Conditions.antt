@@ -1,4 +1,4 @@
--- What the calls of the checker need, from what their callers have.
+-- The conditions of the checker's calls, from those of their callers.
 use Rattle.std.proofs.Common.{◌≡◌, ℕ, zero, suc, ◌&&◌, ◌+◌, ◌≤◌, Bool, true, false, cond, nat_le, ◌∙◌, Result, Ok, Err, IfOk, Some, List, [], ◌∷◌, length, slice_get, refl, sym, ap, subst as transport, Bor, arith}
 use Rattle.std.proofs.lemmas.Bool.Decides.{nat_tests}
 use Rattle.std.proofs.lemmas.List.{length-map}
@@ -162,7 +162,7 @@ infer_step S room under l l' left G t r er el low meant =
     (transport (λ x. Runs verdict_of r left (infer_of S (suc under) G t x)) (sym el)
     (transport (λ x. Runs verdict_of r left (if_low x (charge (infer_form S (infer_of S under) (infer_sort_of S under) (check_of S under) G t)) (suc l'))) (sym test) meant))
 
--- what was compared is low
+-- a compared term is low
 pub compared_low : (S : Signature) (room : ℕ) (a b : tree.Term) (l left : ℕ) (holds : Bool) → Runs {A = Bool} (λ x. x) (Ok holds) left (subtype_of S room a b l)
     → tree.height b ≤ 2000
 compared_low S zero a b l left holds e = absurd (grind arith)
@@ -199,7 +199,7 @@ can_given {S} {ts} {t} types list room e h nested =
       nested = nested;
     }
 
--- the words of the laws for what the code answers
+-- the words of the laws for the code's answers
 pub answer-has : (P : pure.Verdict → Type 0) (r : Result Verdict Stop) (left : ℕ) (meant : Spent pure.Verdict) → Runs verdict_of r left meant
     → IfOk meant.0 P → IfOk r (λ v. P (verdict_of v))
 answer-has P (Ok v) left meant e h = transport (λ x. IfOk x.0 P) (sym e) h

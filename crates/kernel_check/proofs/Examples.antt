@@ -127,7 +127,7 @@ no_reduct : infer_of sample nesting (reducible ∷ []) (App (Var 0) (Sort 0)) 9
 unfolding no_with native.Mathlib.Decide.ℕ_discrete sample reducible
 no_reduct = refl
 
--- a denial in what follows a `let`, after child 2
+-- a denial after a `let`, after child 2
 no_body : infer_of sample nesting [] (Let (Sort 1) (Sort 0) (Pi (Var 0) (App (Var 1) (Var 1)))) 9
     ≡ no_with (2 ∷ 1 ∷ []) (Sort 0 ∷ []) (NotAProduct (Sort 1)) 1
 unfolding no_with native.Mathlib.Decide.ℕ_discrete sample

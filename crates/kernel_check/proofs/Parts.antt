@@ -1,4 +1,4 @@
--- What holds of a verdict, from what holds of the verdicts that it is made of.
+-- Properties of a verdict, from those of the verdicts that it is made of.
 use Rattle.std.proofs.Common.{Result, Ok, Err, IfOk, ℕ, ◌≤◌, ◌∷◌, arith}
 use Rattle.theory.specs.Terms.{Term}
 use Rattle.core_terms.specs.Answers.{Spent, bounded}
@@ -8,7 +8,7 @@ use Rattle.core_terms.specs.Verdicts.Verdict.{Yes, No}
 use Rattle.core_terms.proofs.Answers.{Answers, and_next-has, and_next-spends, bounded-has}
 use Rattle.kernel_check.specs.Checking.{yes_of, typed, on_verdict, if_typed, verdict_behind, behind}
 
--- the type is P, and what is denied is N
+-- the type has P, and the denial has N
 abbrev pub Splits : (Term → Type 0) → (Denial → Type 0) → Verdict → Type 0
 Splits P N (Yes type) = P type
 Splits P N (No denial) = N denial

@@ -1,4 +1,4 @@
--- What the checker answers is scoped.
+-- The checker's answers are scoped.
 use Rattle.std.proofs.Common.{◌≡◌, ℕ, ◌+◌, zero, suc, Bool, true, false, cond, nat_lt, Option, Some, None, IfSome, Ok, Err, Result, IfOk, [], ◌∷◌, length, reverse, slice_get, refl, sym, max, subst as transport, arith}
 use Rattle.std.proofs.lemmas.List.{length-reverse}
 use Rattle.theory.specs.Terms.{Term, lift, subst, top}

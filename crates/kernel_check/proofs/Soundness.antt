@@ -237,7 +237,7 @@ sort_of-sound S G t c (Sort i) ht hc levels = record { level = i; is_sort = refl
 sort_of-sound S G t c (Var n) ht hc levels = tt
 sort_of-sound S G t c _ ht hc levels = tt
 
--- the head form of a type, with what its sorts are
+-- the head form of a type, with its sorts
 head-levels : (S : Signature) → IsTyped S → (c : Term) (left : ℕ) → SortsBelow (top + 1) c
     → Answers (λ d. Converts S c d × SortsBelow (top + 1) d) (whnf_of S true left c)
 head-levels S typed c left levels =
@@ -281,7 +281,7 @@ mutual
       (subtype_of S room found wanted rest) _ (subtype-is_below S room found wanted rest) (λ holds end hb.
       compared-sound S typed G t found wanted holds hf hw hb))
 
--- what is said of a Yes, in the words of the law
+-- a property of a Yes, in the words of the law
 yes-of : (P : Term → Type 0) (r : Result Verdict Stop) → IfOk r (Splits P NoClaim) → IfOk r (λ verdict. IfYes verdict P)
 yes-of P (Ok (Yes type)) h = h
 yes-of P (Ok (No denial)) h = tt

@@ -1,4 +1,4 @@
--- What the checker answers is one more well scoped term of the same context.
+-- The type that the checker answers is one more well scoped term of the same context.
 use Rattle.std.proofs.Common.{◌≡◌, List, [], ◌∷◌, length, sym, subst as transport}
 use Rattle.std.proofs.lemmas.List.{length-map}
 use Rattle.theory.specs.Signatures.{Signature}

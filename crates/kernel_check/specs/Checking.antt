@@ -29,7 +29,7 @@ yes_of (Err e) = Err e
 abbrev pub typed : Term → Result Verdict Stop
 typed made = yes_of (bounded made)
 
--- the term itself is denied
+-- the term itself is rejected
 abbrev pub denied : Context → Reason → Result Verdict Stop
 denied G reason = Ok (No (record { place = []; ctx = reverse G; reason = reason }))
 
@@ -41,7 +41,7 @@ on_verdict (No denial) left next = answered (Ok (No denial)) left
 abbrev pub if_typed : Spent Verdict → (Term → ℕ → Spent Verdict) → Spent Verdict
 if_typed first next = and_next first (λ verdict left. on_verdict verdict left next)
 
--- what is denied in a child has its place after the number of the child
+-- a denial in a child has its place after the number of the child
 abbrev pub denial_behind : ℕ → Denial → Denial
 denial_behind child denial = record denial { place = child ∷ denial.place }
 
@@ -71,7 +71,7 @@ infer_product infer_sort G a b left =
     if_typed (behind 0 (infer_sort G a left)) (λ i rest.
     if_typed (behind 1 (infer_sort (a ∷ G) b rest)) (λ j end. answered (typed (greater_sort i j)) end))
 
--- the sort that has no type, letter for letter
+-- syntactically the sort that has no type
 abbrev pub is_top : Term → Bool
 is_top (Sort i) = i == top
 is_top _ = false
@@ -91,7 +91,7 @@ reduced_product infer_sort G (Pi a b) left =
     if_typed (behind 0 (infer_sort G (Pi a b) left)) (λ i end. answered (Ok (Yes (Pi a b))) end)
 reduced_product infer_sort G c left = answered (denied G (NotAProduct c)) left
 
--- the product that a function's type is, letter for letter or reduced at its head
+-- the product that is a function's type, syntactically or reduced at its head
 abbrev pub product_of : Signature → Asks → Context → Term → ℕ → Spent Verdict
 product_of S infer_sort G (Pi a b) left = answered (Ok (Yes (Pi a b))) left
 product_of S infer_sort G c left = and_next (whnf_of S true left c) (reduced_product infer_sort G)
@@ -106,7 +106,7 @@ infer_application S infer infer_sort check G f u left =
     if_typed (behind 0 (infer G f left)) (λ c rest.
     if_typed (product_of S infer_sort G c rest) (apply_product check G u))
 
--- what follows a `let`, with the value in the variable's place
+-- the body of a `let`, with the value in the variable's place
 abbrev pub infer_body : Asks → Context → Term → ℕ → Spent Verdict
 infer_body infer G made left = and_next (answered (bounded made) left) (λ body end. behind 2 (infer G body end))
 

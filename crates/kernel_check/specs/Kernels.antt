@@ -1,4 +1,4 @@
--- What calls of the kernel work with.
+-- The values that calls of the kernel work with.
 use Rattle.std.specs.Prelude.{ℕ, refl}
 use Rattle.std.specs.Coded.{Coded, code_by, coded×, coded_ℕ}
 use Rattle.theory.specs.Signatures.{Signature}

@@ -1,5 +1,5 @@
--- What the checker's answers mean: a Yes gives a derivation, no call gives units back, and what is answered is scoped and no
--- higher than terms may be.
+-- Laws of the checker's answers: a Yes gives a derivation, no call gives units back, and the answers are scoped and no higher than terms
+-- may be.
 use Rattle.std.specs.Prelude.{◌≡◌, ℕ, ◌+◌, ◌≤◌, length, IfOk}
 use Rattle.theory.specs.Terms.{Term, Sort, SortsBelow, height, top}
 use Rattle.theory.specs.Telescopes.{Context}
@@ -57,7 +57,7 @@ CheckIsLow =
     (S : Signature) (room : ℕ) (G : Context) (t wanted : Term) (left : ℕ) →
     IfOk (check_of S room G t wanted left).0 (λ verdict. IfYes verdict (AreBothLow t))
 
--- what is answered for a type is a sort
+-- the answer for a type is a sort
 abbrev pub InferSortIsSort : Type 0
 InferSortIsSort =
     (S : Signature) (room : ℕ) (G : Context) (t : Term) (left : ℕ) →
@@ -82,7 +82,7 @@ CheckIsSound =
     (S : Signature) → IsTyped S → (room : ℕ) (G : Context) (t wanted : Term) (left : ℕ) → IsContext S G → IsType S G wanted →
     IfOk (check_of S room G t wanted left).0 (λ verdict. IfYes verdict (HasWanted S G t wanted))
 
--- what is left after a call is at most what was left before it
+-- no call leaves more units than it had
 abbrev pub InferSpends : Type 0
 InferSpends = (S : Signature) (room : ℕ) (G : Context) (t : Term) (left : ℕ) → (infer_of S room G t left).1 ≤ left
 
@@ -109,7 +109,7 @@ abbrev pub IsScopedVerdict : Signature → ℕ → Verdict → Type 0
 IsScopedVerdict S n (Yes type) = IsScoped S n type
 IsScopedVerdict S n (No denial) = IsScopedDenial S denial
 
--- What is answered is scoped, over a scoped signature and in a scoped context.
+-- The answers are scoped, over a scoped signature and in a scoped context.
 
 abbrev pub InferScoped : Type 0
 InferScoped =

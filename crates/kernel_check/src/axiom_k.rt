@@ -25,7 +25,7 @@ fn reflexivity(alloc: Global, i: u8, ty: u32, x: u32) -> Result<Term, Stop>
     Term::new_app(alloc, constructor, Term::Var(x))
 }
 
-/// What comes after the motive: that it holds of each equation of the term with itself, where it holds of the reflexivity.
+/// The part after the motive: that it holds of each equation of the term with itself, where it holds of the reflexivity.
 fn after_motive(alloc: Global, i: u8) -> Result<Term, Stop>
     ensures { Gives tree_of result (Ok (tree.Pi (tree.App (tree.Var 0) (spec.reflexivity i (tree.Var 2) (tree.Var 1))) (tree.Pi (spec.equation i (tree.Var 3) (tree.Var 2) (tree.Var 2)) (tree.App (tree.Var 2) (tree.Var 0))))) }
 {

@@ -161,7 +161,7 @@ fn infer_application(
     }
 }
 
-/// The product that a function's type is, letter for letter or reduced at its head.
+/// The product that is a function's type, syntactically or reduced at its head.
 #[cycle(check)]
 fn product_of(
     alloc: Global,

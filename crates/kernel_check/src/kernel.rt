@@ -21,7 +21,7 @@ use core_terms::{Stop, Tele, Term, Units, Verdict};
 use std::alloc::Global;
 use std::marker::Model;
 
-/// What terms are reduced, compared and checked with: where memory comes from, a scoped signature, and units.
+/// The values with which terms are reduced, compared and checked: where memory comes from, a scoped signature, and units.
 ///
 /// Each call is the one of its name on trees, over this signature and with these units, with the same errors. After an error the
 /// units are those that the call left, and the kernel can be asked again. A kernel isn't dropped: who made it ends it by `into_units`.

@@ -1,4 +1,4 @@
-//! What the checker's answers mean.
+//! Laws of the checker's answers.
 ghost use Rattle.kernel_check.specs.Laws.{InferIsSound, InferSortIsSound, CheckIsSound, InferIsLow, InferSortIsLow, CheckIsLow, InferSortIsSort, InferSpends, InferSortSpends, CheckSpends, InferScoped, InferSortScoped, CheckScoped};
 
 /// A type that is inferred has a derivation, and is a sort or has one.
@@ -31,7 +31,7 @@ pub fn check_is_low()
     ensures { CheckIsLow }
 {}
 
-/// What is inferred for a type is a sort.
+/// The answer for a type is a sort.
 pub fn infer_sort_is_sort()
     ensures { InferSortIsSort }
 {}

@@ -1,10 +1,10 @@
 //! The public calls: a type of a term, the sort of a type, and a check against a type, with units.
 //!
 //! A context lists its types from the outermost on. Each unit that a call spends moves from `left` to `spent`, also where the
-//! call ends in an error; nothing else that it is lent changes. A call answers Fuel where it needs a unit and none is left,
-//! and Deep where it is given or makes a term higher than 2,000, or where more than 2,000 calls would be open at once,
-//! whichever comes first. Memory alone may come at any time. What is denied is no error but a No with its place, its context
-//! and its reason.
+//! call ends in an error; nothing else that it is lent changes. A call answers Fuel where it needs a unit and none is left, and
+//! Deep where it is given or makes a term higher than 2,000, or where more than 2,000 calls would be open at once, whichever
+//! comes first. Memory alone may come at any time. A rejected term is no error but a No with its place, its context and its
+//! reason.
 ghost use Rattle.std.specs.Prelude.{◌≡◌, ◌≤◌, ◌+◌, [], ◌∷◌, length, IfOk};
 ghost use Rattle.theory.specs.Telescopes.{context_behind};
 ghost use Rattle.theory.specs.Typing.{IsContext, IsType};

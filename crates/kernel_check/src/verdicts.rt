@@ -15,7 +15,7 @@ pub(crate) fn typed(made: Term) -> Result<Verdict, Stop>
     Ok(Verdict::Yes(checked(made)?))
 }
 
-/// The term itself is denied.
+/// The term itself is rejected.
 pub(crate) fn deny(alloc: Global, scope: &Scope, reason: Reason) -> Result<Verdict, Stop>
     requires { AreLow scope.now }
     ensures { Gives verdict_of result (checking.denied (scope_of scope.now) (reason_of reason)) }
@@ -27,7 +27,7 @@ pub(crate) fn deny(alloc: Global, scope: &Scope, reason: Reason) -> Result<Verdi
     }))
 }
 
-/// What is denied in child number `child` has its place after that number.
+/// A denial in child number `child` has its place after that number.
 pub(crate) fn behind(child: u8, verdict: Verdict) -> Result<Verdict, Stop>
     ensures { Gives verdict_of result (Ok (checking.verdict_behind child (verdict_of verdict))) }
 {
