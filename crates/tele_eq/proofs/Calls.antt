@@ -1,4 +1,4 @@
--- What the calls of telescopic J answer, over plain values.
+-- The answers of the calls of telescopic J, over plain values.
 use Rattle.std.proofs.Common.{◌≡◌, ℕ, zero, suc, ◌+◌, ◌-◌, ◌*◌, ◌≤◌, List, [], ◌∷◌, length, take, drop, ap, ◌∙◌, length-drop, arith}
 use Rattle.std.proofs.lemmas.List.{length-take-le}
 use Rattle.theory.specs.Terms.{Term}

@@ -16,7 +16,7 @@ use Rattle.tele_eq.specs.TelescopicEquality.{Lefts, Goal, type_with, reflexive, 
 use Rattle.tele_eq.proofs.Carrying.{Carries, AreDepths, Agrees, AgreesFrom, AgreesBelow, IsCarried, IsFrom, ups_by, inst-under, deeper, carried-type, carried-variable, carried-reflexive, carried-inside, below-all, bound, bound-own, bound-rest, bound-most, bound-before}
 use Rattle.tele_eq.proofs.DependenceOrder.{dependences-from, dependences-below}
 
--- left sides whose terms are carried wherever what stands for the earlier positions is
+-- left sides whose terms are carried wherever the terms for the earlier positions are
 abbrev pub AreLeftsCarried : Carries → Lefts → Type 0
 AreLeftsCarried c w =
     (z z' e e' : Environment) (k j : ℕ) → AgreesBelow c z z' k j → ((p : ℕ) → p < j → Agrees c e e' k p)
@@ -30,12 +30,11 @@ IsGoalCarried c C =
 abbrev pub IsBaseCarried : Carries → (ℕ → Term) → Type 0
 IsBaseCarried c base = (k d d' : ℕ) → AreDepths c k d d' → inst (ups_by k c.terms) (base d) ≡ base d'
 
--- what stands for the variables at positions that are bound from level l on, where the binders are in a term that is k
--- binders further in
+-- the variables at positions that are bound from level l on agree, where the binders are in a term that is k binders further in
 abbrev AreBound : Carries → (z z' : Environment) (k l : ℕ) (positions : List ℕ) → Type 0
 AreBound c z z' k l positions = (p k' : ℕ) → k ≤ k' → bound positions l p ≤ k' → Agrees c z z' k' p
 
--- what holds of each position holds of those of a list
+-- a property of each position is one of those of a list
 pub every : (P : ℕ → Type 0) → ((p : ℕ) → P p) → (positions : List ℕ) → All P positions
 every P h [] = All-nil P
 every P h (t ∷ positions) = All-cons P t positions (h t) (every P h positions)

@@ -1,5 +1,5 @@
--- What telescopic equality makes of terms of a draft are terms of that draft. The names of a draft are taken as definitions
--- after the entries of its signature.
+-- Telescopic equality makes terms of a draft from terms of that draft. The names of a draft are taken as definitions after the entries of
+-- its signature.
 use Rattle.std.proofs.Common.{◌≡◌, ◌⊎◌, ℕ, zero, suc, ◌+◌, ◌-◌, ◌<◌, ◌≤◌, Bool, true, false, nat_lt, List, [], ◌∷◌, ◌++◌, length, map, All, Some, inl, inr, refl, ap, sym, ◌∙◌, slice_get, arith}
 use Rattle.std.proofs.lemmas.Bool.Decides.{nat_tests}
 use Rattle.std.proofs.lemmas.List.{length-append}

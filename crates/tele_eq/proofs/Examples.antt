@@ -87,7 +87,7 @@ two_transported : transport pair_of_indices 2 (Var 6 ∷ Var 5 ∷ two (Var 6) (
     (Var 8) (Var 7)) (Var 0)) (Var 1) (Var 0)))) (Var 4) (Var 1)) (Var 3)) (Var 0)) (two (Var 6) (Var 5))
 two_transported = refl
 
--- ---- the same with levels that differ
+-- ---- a telescope with different levels
 
 -- X : Type 0, x : X, p : Point X x
 abbrev points : List Item

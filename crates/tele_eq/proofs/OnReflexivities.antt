@@ -47,14 +47,14 @@ two-betas : (S : Signature) (s : ℕ → Term) (a b t v w : Term)
 two-betas S s a b t v w =
     converts-trans (converts-app (beta-behind S s a (Lam b t) v) same) (beta-behind S (extend s v) b t w)
 
--- ---- functions applied to what stands for variables and equations
+-- ---- functions applied to terms for variables and equations
 
 converts-pairs : {S : Signature} {head head' : Term} → Converts S head head' → (positions : List ℕ) (z e : Environment) (depth : ℕ)
     → Converts S (applied_to_pairs head positions z e depth) (applied_to_pairs head' positions z e depth)
 converts-pairs h [] z e depth = h
 converts-pairs h (t ∷ positions) z e depth = converts-pairs (converts-app (converts-app h same) same) positions z e depth
 
--- what stands for the variable and the equation at each of the positions, put for the nearest variables
+-- the terms for the variable and the equation at each of the positions, put for the nearest variables
 abbrev behind : (s : ℕ → Term) (positions : List ℕ) (z e : Environment) (depth : ℕ) → ℕ → Term
 behind s [] z e depth = s
 behind s (t ∷ positions) z e depth = behind (extend (extend s (z depth t)) (e depth t)) positions z e depth
@@ -81,7 +81,7 @@ functions-applied S s X w (t ∷ positions) z e z' e' depth depth' end =
 same_or_other : (p t : ℕ) → (p ≡ t) ⊎ (p ≡ t → ⊥)
 same_or_other p t = grind arith
 
--- the variables at the positions become what is there
+-- the variables at the positions become the terms there
 inside-put : (s : ℕ → Term) (positions : List ℕ) (z e u : Environment) (depth l D p : ℕ) → D ≡ l + 2 * length positions
     → inst (behind s positions z e depth) (u D p) ≡ z depth p
     → inst (behind s positions z e depth) (inside positions l u D p) ≡ z depth p
@@ -115,7 +115,7 @@ equations-put s (t ∷ positions) z e u depth l D p eq h =
 
 -- ---- telescopic J
 
--- what a telescopic J is made of is carried to any depth
+-- the parts of a telescopic J are carried to any depth
 pub record IsUniform (u : Environment) (w : Lefts) (C : Goal) (base : ℕ → Term) : Type 0 where
   pub terms : (c : Carries) → IsCarried c u
   pub lefts : (c : Carries) → AreLeftsCarried c w
@@ -195,7 +195,7 @@ telescopic_j-same : (X : List Item) (u : Environment) (w : Lefts) (m : ℕ) (C :
 telescopic_j-same X u w m C base [] z e e' d all = refl
 telescopic_j-same X u w m C base (s ∷ positions) z e e' d all = pairs-same _ (s ∷ positions) z e e' d all
 
--- a telescopic J along what are reflexivities converts to its base
+-- a telescopic J along equations that are reflexivities converts to its base
 pub converts-base : (S : Signature) (X : List Item) (u : Environment) (w : Lefts) (m : ℕ) (C : Goal) (base : ℕ → Term)
     → IsUniform u w C base → (positions : List ℕ) (n : ℕ) → IsFrom n positions
     → All (λ p. HasIdentity S (level_at X p)) positions → (e : Environment) (d : ℕ)

@@ -1,4 +1,4 @@
--- What telescopic equality makes of scoped terms is scoped.
+-- Telescopic equality makes scoped terms from scoped terms.
 use Rattle.std.proofs.Common.{◌≡◌, ℕ, zero, suc, ◌+◌, ◌-◌, ◌*◌, ◌<◌, ◌≤◌, ◌⊎◌, inl, inr, nat_lt, cond, List, [], ◌∷◌, length, map, refl, sym, subst, arith}
 use Rattle.std.proofs.lemmas.Bool.Decides.{nat_tests}
 use Rattle.std.specs.List.{All}
@@ -21,7 +21,7 @@ use Rattle.tele_eq.proofs.Carrying.{IsFrom, bound, bound-own, bound-rest, bound-
 use Rattle.tele_eq.proofs.CarriedTerms.{every, below-every}
 use Rattle.tele_eq.proofs.DependenceOrder.{dependences-from, dependences-below}
 
--- ---- what stands for variables, in a context of n variables
+-- ---- environments, in a context of n variables
 
 -- z at position p, at depth d
 abbrev pub IsIn : Signature → (n : ℕ) → (z : Environment) → (d p : ℕ) → Type 0

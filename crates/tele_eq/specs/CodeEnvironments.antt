@@ -1,4 +1,4 @@
--- What the sides, the left terms and the goals of the code stand for.
+-- The meanings of the sides, the left terms and the goals of the code.
 use Rattle.std.specs.Prelude.{◌≡◌, ℕ, ◌+◌, ◌*◌, ◌≤◌, List, length}
 use Rattle.core_terms.specs.Meanings.{tree_of, tele_of}
 use Rattle.theory.specs.Terms.{Term, lift}
@@ -17,9 +17,9 @@ use Rattle.tele_eq.specs.declared.sides.Pairs.TheVariants.{Plain, Mapped}
 use Rattle.tele_eq.specs.declared.sides.Goal.{Goal}
 use Rattle.tele_eq.specs.declared.sides.Goal.TheVariants.{Transport, Congruence, Applied}
 
--- ---- what stands for the variables
+-- ---- environments for the variables
 
--- what a map has at each position of its second telescope
+-- the terms of a map at each position of its second telescope
 abbrev pub images_of : Map → Environment → Environment
 images_of map z = images (items_of map.from.now) (tele_of map.terms.now) z
 
@@ -36,14 +36,14 @@ abbrev pub environment_of : (u : Environment) → Pairs → Environment
 environment_of u (Plain sides) = variables_of u sides
 environment_of u (Mapped map n sides) = images_of map (variables_of (outside (tele_of map.left.now)) sides)
 
--- ---- what stands for the equations of a telescope with left terms u
+-- ---- environments for the equations of a telescope with left terms u
 
 abbrev pub proofs_of : List Item → (u : Environment) → Sides → Environment
 proofs_of X u (Given right eqs) = outside (tele_of eqs.now)
 proofs_of X u (Bound right) = as_bound
 proofs_of X u (Inside positions level) = inside positions.now (level + 1) (reflexive X u)
 
--- the congruences that a map gives from what stands for the variables and the equations of its first telescope
+-- the congruences that a map gives from the terms for the variables and the equations of its first telescope
 abbrev pub congruences_of : (n : ℕ) → Map → (z e : Environment) → Environment
 congruences_of n map z e =
     congruence_below n (items_of map.from.now) (items_of map.to.now) (tele_of map.terms.now) (outside (tele_of map.left.now)) z e
@@ -54,7 +54,7 @@ equations_of X u (Mapped map n sides) =
     congruences_of n map (variables_of (outside (tele_of map.left.now)) sides)
     (proofs_of (items_of map.from.now) (outside (tele_of map.left.now)) sides)
 
--- ---- what a telescopic J gives, and begins from
+-- ---- goals of a telescopic J, and their bases
 
 abbrev pub goal_of : List Item → (u : Environment) → Goal → pure.Goal
 goal_of X u (Transport j) = transport_type X u j

@@ -5,7 +5,7 @@ use Rattle.tele_eq.specs.Items.{Item, term_at, greatest_level, each_position, po
 use Rattle.tele_eq.specs.Environments.{Environment, outside, put}
 use Rattle.tele_eq.specs.TelescopicEquality.{reflexive, equation, telescopic_j, left_sides}
 
--- f_j with what stands for the variables of X
+-- f_j with terms put for the variables of X
 abbrev pub images : (X : List Item) (f : List Term) → Environment → Environment
 images X f z depth j = put z (length X) depth (term_at f j)
 

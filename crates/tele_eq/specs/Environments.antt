@@ -1,5 +1,5 @@
--- What stands for the variables of a telescope. The telescope is in a context; a term at depth d comes after d binders
--- more, and the outermost of these has level 0.
+-- Terms for the variables of a telescope. The telescope is in a context; a term at depth d comes after d binders more, and the outermost
+-- of these has level 0.
 use Rattle.std.specs.Prelude.{ℕ, ◌+◌, ◌-◌, ◌==◌, nat_lt, cond, List, [], ◌∷◌}
 use Rattle.theory.specs.Terms.{Term, Var, Sort, Pi, Lam, App, Let, Const, Fam, Con, Elim, AxiomK, lift}
 use Rattle.core_terms.specs.Levels.{variable}
@@ -40,6 +40,6 @@ put_under s size depth under (Con f c) = Con f c
 put_under s size depth under (Elim f m) = Elim f m
 put_under s size depth under (AxiomK i m) = AxiomK i m
 
--- a term over the first `size` variables of a telescope with what stands for them, at a depth
+-- a term over the first `size` variables of a telescope with their terms put in, at a depth
 abbrev pub put : (s : Environment) (size depth : ℕ) → Term → Term
 put s size depth t = put_under s size depth 0 t

@@ -1,4 +1,4 @@
--- Scoping: what is made of scoped terms is scoped, over a signature that has the identity families of the prelude.
+-- Scoping: terms that are made from scoped ones are scoped, over a signature that has the identity families of the prelude.
 use Rattle.std.specs.Prelude.{ℕ, ◌+◌, ◌<◌, List, length, map}
 use Rattle.std.specs.List.{All}
 use Rattle.theory.specs.Terms.{Term, top}

@@ -14,7 +14,7 @@ use Rattle.tele_eq.specs.Items.{Item, type_at, level_at, greatest_level, each_po
 use Rattle.tele_eq.specs.Dependences.{dependences}
 use Rattle.tele_eq.specs.Environments.{Environment, outside, inside, put}
 
--- the type at position j, with what stands for the variables before it
+-- the type at position j, with terms put for the variables before it
 abbrev pub type_with : List Item → Environment → (depth j : ℕ) → Term
 type_with X z depth j = put z j depth (type_at X j)
 
@@ -22,7 +22,7 @@ type_with X z depth j = put z j depth (type_at X j)
 abbrev pub reflexive : List Item → (u : Environment) → Environment
 reflexive X u depth j = reflexivity (level_at X j) (type_with X u depth j) (u depth j)
 
--- what an equation has on its left, for each position, made of what stands for z and e
+-- the left side of an equation, for each position, made of the terms z and e for the variables and their equations
 abbrev pub Lefts : Type 0
 Lefts = (z e : Environment) → Environment
 
@@ -42,7 +42,7 @@ abbrev pub applied_to_pairs : Term → (positions : List ℕ) (z e : Environment
 applied_to_pairs head [] z e depth = head
 applied_to_pairs head (t ∷ positions) z e depth = applied_to_pairs (App (App head (z depth t)) (e depth t)) positions z e depth
 
--- what a telescopic J gives at z and e, at a depth
+-- the goal of a telescopic J at z and e, at a depth
 abbrev pub Goal : Type 0
 Goal = (z e : Environment) → ℕ → Term
 
@@ -70,7 +70,7 @@ telescopic_j X u w m C base (s ∷ positions) z e depth =
     let head = App (App (Elim (equality (level_at X s)) m) (type_with X u depth s)) (u depth s) in
     applied_to_pairs (App (App head (motive X u w C s positions depth)) method) (s ∷ positions) z e depth
 
--- `head` applied to what stands for the variables at the first `count` positions, and then to the equations there
+-- `head` applied to the terms for the variables at the first `count` positions, and then to the equations there
 abbrev pub applied_goal : (head : Term) → (count : ℕ) → Goal
 applied_goal head count z e depth =
     applied (applied (lift head depth 0) (each_position (z depth) 0 count)) (each_position (e depth) 0 count)

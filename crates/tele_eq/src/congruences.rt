@@ -37,7 +37,7 @@ fn congruences_from(
     congruences_from(alloc, map, n, sides, j + 1, count - 1, made)
 }
 
-/// For terms over the telescope `from` that inhabit the telescope `to`: the equations between what they are at the left terms
+/// For terms over the telescope `from` that inhabit the telescope `to`: the equations between these terms at the left terms
 /// and at the right terms, from the equations between these. Their heights are not tested.
 pub fn cong_whole(
     alloc: Global,
@@ -69,7 +69,7 @@ pub fn cong_whole(
     congruences_from(alloc, map, count, sides, 0, count, Items::new(alloc))
 }
 
-/// The same, or Deep where one of them is too high.
+/// The congruences, or Deep if one of them is too high.
 pub fn cong(
     alloc: Global,
     from: &Items<Item>,

@@ -46,7 +46,7 @@ pub fn telescopic_j_whole(
     )
 }
 
-/// The same, or Deep.
+/// The telescopic J, or Deep if it is too high.
 pub fn telescopic_j(
     alloc: Global,
     tele: &Items<Item>,

@@ -49,7 +49,7 @@ pub(crate) fn left_at(alloc: Global, left: Left, depth: u32, position: u32) -> R
     }
 }
 
-/// What stands for the variable at a position, at a depth.
+/// The term for the variable at a position, at a depth.
 #[cycle(put)]
 pub(crate) fn at(
     alloc: Global,
@@ -100,7 +100,7 @@ fn inside(
     }
 }
 
-/// What a map has at a position, with what stands for the variables of its first telescope.
+/// The term of a map at a position, with terms for the variables of its first telescope.
 #[cycle(put)]
 fn image(alloc: Global, map: Map, sides: Sides, depth: u32, position: u32) -> Result<Term, Stop>
     requires map { IsSmallMap map }
@@ -210,7 +210,7 @@ fn put_under(
     }
 }
 
-/// A small term over the first `size` variables of a telescope with what stands for them, at a depth.
+/// A small term over the first `size` variables of a telescope with their terms put in, at a depth.
 pub(crate) fn put(
     alloc: Global,
     left: Left,

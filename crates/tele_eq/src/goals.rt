@@ -15,7 +15,7 @@ use crate::typing::{left_type, reflexive, type_with};
 use core_terms::{Stop, Term, lift, variable};
 use std::alloc::Global;
 
-/// The type at position `j` at the left terms, to what it is at the sides, at a depth.
+/// The function type from the type at position `j` at the left terms to that at the sides, at a depth.
 pub(crate) fn transport_type(
     alloc: Global,
     tele: &[Item],
@@ -86,7 +86,7 @@ fn solved(
     }
 }
 
-/// `head` applied to what stands for the variables at `count` positions from `j` on, at a depth.
+/// `head` applied to the terms for the variables at `count` positions from `j` on, at a depth.
 fn applied_to_variables(
     alloc: Global,
     left: Left,
@@ -136,7 +136,7 @@ fn applied_to_proofs(
     applied_to_proofs(alloc, tele, left, head, sides, j + 1, count - 1, depth)
 }
 
-/// `head` applied to what stands for all variables and to all equations, at a depth.
+/// `head` applied to the terms for all variables and to all equations, at a depth.
 #[tactic(auto, using(core_terms::proofs::SubstUnder::lift_laws))]
 pub(crate) fn applied_goal(
     alloc: Global,

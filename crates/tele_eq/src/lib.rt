@@ -1,4 +1,4 @@
-//! Telescopic equality: equations between two lists of terms of one telescope, and what follows from them.
+//! Telescopic equality: equations between two lists of terms of one telescope, and their consequences.
 #![tactic(auto)]
 
 mod congruences;

@@ -1,4 +1,4 @@
-//! What is made of scoped terms is scoped, over a signature that has the identity families of the prelude.
+//! Terms that are made from scoped ones are scoped, over a signature that has the identity families of the prelude.
 ghost use Rattle.tele_eq.specs.ScopeLaws.{ScopedCongruences, ScopedElimination, ScopedEquations, ScopedReflexivities, ScopedTransport};
 
 /// The equations between two lists of terms are a scoped telescope.

@@ -10,14 +10,14 @@ pub(crate) struct Map<'a> {
     pub(crate) left: &'a [Term],
 }
 
-/// The left terms of a telescope: terms of the context, or what a map has at the left terms of its own telescope.
+/// The left terms of a telescope: terms of the context, or the terms of a map at the left terms of its own telescope.
 #[derive(Clone, Copy)]
 pub(crate) enum Left<'a> {
     Terms(&'a [Term]),
     Images(Map<'a>),
 }
 
-/// What stands for the variables of a telescope and for its equations.
+/// Terms for the variables of a telescope and for its equations.
 #[derive(Clone, Copy)]
 pub(crate) enum Sides<'a> {
     /// Terms of the context.
@@ -28,19 +28,19 @@ pub(crate) enum Sides<'a> {
     Inside(&'a [u32], u32),
 }
 
-/// The same, or what a map has there, with the congruences of so many levels for the equations.
+/// These terms, or a map's terms at them, with the congruences of so many levels for the equations.
 #[derive(Clone, Copy)]
 pub(crate) enum Pairs<'a> {
     Plain(Sides<'a>),
     Mapped(Map<'a>, u32, Sides<'a>),
 }
 
-/// What a telescopic J gives, and the term that it begins from.
+/// The goal of a telescopic J, and the term that it begins from.
 #[derive(Clone, Copy)]
 pub(crate) enum Goal<'a> {
-    /// The function from the type at a position to what it is at the right terms, from the identity.
+    /// The function from the type at a position to that type at the right terms, from the identity.
     Transport(u32),
-    /// The equation of what a map has at a position, with the congruences of so many levels before it, from its reflexivity.
+    /// The equation of a map's terms at a position, with the congruences of so many levels before it, from its reflexivity.
     Congruence(Map<'a>, u32, u32),
     /// A term applied to all right terms and all equations, from a term.
     Applied(&'a Term, &'a Term),

@@ -181,7 +181,7 @@ fn motive(
     Term::function_of(alloc, left_type(alloc, tele, left, depth, s), body)
 }
 
-/// What a telescopic J gives, at a depth.
+/// The goal of a telescopic J, at a depth.
 #[cycle(elimination)]
 fn goal_term(
     alloc: Global,
@@ -245,7 +245,7 @@ fn equations_over(
     }
 }
 
-/// `head` applied to what stands for the variable and the equation at each of the positions, at a depth.
+/// `head` applied to the terms for the variable and the equation at each of the positions, at a depth.
 #[cycle(elimination)]
 fn applied_to_pairs(
     alloc: Global,

@@ -62,7 +62,7 @@ fn type_from(
     }
 }
 
-/// The type at a position, with what stands for the variables before it.
+/// The type at a position, with the terms for the variables before it.
 pub(crate) fn type_with(
     alloc: Global,
     tele: &[Item],
