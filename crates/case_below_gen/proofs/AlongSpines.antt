@@ -23,7 +23,7 @@ path-along d whole arguments (suc at) g r b lt =
     let before : suc at - 1 ≡ at = omega arith in
     ap (λ k. if has_part_along d.family d.shape d.part arguments k g then path_along d whole arguments k g b else path_at d whole arguments k r b (path_of d r)) before
 
--- the same of a test that comes out true, and of one that comes out false
+-- the test along the arguments, if the earlier ones pass it or do not
 pub part-first : (n : ℕ) (f : Shape) (part : Term) (arguments : List ArgumentShape) (at : ℕ) (g r t : Term) (b : Bool) → t ≡ App g r → 0 < at → b ≡ has_part_along n f part arguments (at - 1) g → b ≡ true → b ≡ has_part_along n f part arguments at t
 part-first n f part arguments at g r t b is lt tested holds =
     holds ∙ (ap (λ x. x || is_at part r (slice_get arguments (at - 1)) (has_part n f part r)) (sym holds ∙ tested)

@@ -81,7 +81,7 @@ method-unfolds S σ n q depth number c us hs arguments hypotheses_all =
     (binds-components q depth 0 (depth + length c.arguments) c.arguments (aux_pair n q number depth (depth + length c.arguments + recursive_count c.arguments) (depth + length c.arguments) c))) σ (us ++ hs)
     (let all = length-append us hs in let types = length-map c.arguments (λ a. a.type) in omega arith)
 
--- what holds of all elements holds of one
+-- a property of all elements is one of each
 pub all-slice_get : {X : Type 0} (Q : X → Type 0) (xs : List X) (i : ℕ) (x : X) → All Q xs → slice_get xs i ≡ Some x → Q x
 all-slice_get Q [] i x all at = absurd (none-some x at)
 all-slice_get Q (y ∷ xs) zero x all at = subst Q (some_is at) (All-head Q y xs all)

@@ -1,4 +1,4 @@
--- What is made by levels, where more binders come after the first d: a lift by e under the i binders that come after them.
+-- Terms made by levels, where more binders come after the first d: a lift by e under the i binders that come after them.
 use Rattle.std.proofs.Common.{◌≡◌, ◌⊎◌, ℕ, zero, suc, ◌+◌, ◌-◌, ◌<◌, ◌≤◌, Bool, true, false, nat_lt, nat_le, cond, if◌then◌else◌, List, [], ◌∷◌, map, refl, ap, ap₂, sym, ◌∙◌, inl, inr, arith}
 use Rattle.std.proofs.lemmas.Bool.Decides.{nat_tests}
 use Rattle.theory.specs.Terms.{Term, height, free_of, lift, lift_var}

@@ -41,7 +41,7 @@ few-case n f m low =
     let tail = inner.1 in
     record { parameters = omega arith; indices = omega arith; constructors = omega arith; arguments = inner.0 }
 
--- a definition from what is answered of its type
+-- a definition from the answer for its type
 abbrev drafted_from : (name : List ℕ) (base : ℕ) (names : List (List ℕ)) (term : Term) → Result Term Stop → Result Draft Stop
 drafted_from name base names term type =
     and_then type (λ t. and_then (bounded term) (λ u. Ok (record { entry = Definition name t u; base = base; names = names })))

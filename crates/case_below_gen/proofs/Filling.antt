@@ -1,4 +1,4 @@
--- Terms put for variables by level: what stands for a variable, for a run of them, and for those around others.
+-- Terms put for variables by level: the terms for a variable, for a run of them, and for those around others.
 use Rattle.std.proofs.Common.{◌≡◌, ℕ, suc, ◌+◌, ◌-◌, ◌<◌, Bool, true, false, nat_lt, cond, List, [], ◌∷◌, ◌++◌, map, length, refl, ap, ap₂, sym, ◌∙◌, append_assoc, arith}
 use Rattle.std.proofs.lemmas.Bool.Decides.{nat_tests}
 use Rattle.std.proofs.lemmas.List.{length-append}

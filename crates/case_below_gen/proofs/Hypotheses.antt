@@ -102,7 +102,7 @@ ren-constant r c us = go (Const c) us
 pub map-scope : (r : ℕ → ℕ) (ps : List Term) (P s : Term) → map (ren r) (ps ++ P ∷ s ∷ []) ≡ map (ren r) ps ++ ren r P ∷ ren r s ∷ []
 map-scope r ps P s = map-append (ren r) ps (P ∷ s ∷ [])
 
--- a constant and what it stands for, at parameters, a motive and a step
+-- a constant and its body, at parameters, a motive and a step
 pub agree-constant : (S : Signature) (k c p : ℕ) (t : Term) → ((ps : List Term) (P s : Term) (js : List Term) (y : Term) → length ps ≡ p → length js ≡ k → Converts S (App (applied (Const c) (ps ++ P ∷ s ∷ js)) y) (App (applied (inst (fill no_variable (ps ++ P ∷ s ∷ [])) t) js) y))
     → (ps : List Term) (P s : Term) → length ps ≡ p → Agree S k (applied (Const c) (ps ++ P ∷ s ∷ [])) (inst (fill no_variable (ps ++ P ∷ s ∷ [])) t)
 agree-constant S k c p t unfolds ps P s params r js y counted =

@@ -26,7 +26,7 @@ use Rattle.case_below_gen.specs.PartTests.{same, is_applied, constructor_number,
 use Rattle.case_below_gen.specs.StrictParts.{IsRecursiveArgument, IsStrictPart}
 use Rattle.case_below_gen.specs.StrictParts.IsStrictPart.{itself, inside as within}
 
--- ---- letter for letter
+-- ---- syntactic equality
 
 same-tells : (a b : Term) → same a b ≡ true → a ≡ b
 same-tells a b h = go (Term-discrete ℕ_discrete a b) h
@@ -92,7 +92,7 @@ number-tells n number _ h = absurd (none-some number h)
 number-found : (n number : ℕ) → constructor_number n (Con n number) ≡ Some number
 number-found n number = ap (λ b. if b then Some number else None) ((Decides-eqb n n).1 refl)
 
--- what is found at a term
+-- a term is a constructor with all its arguments
 pub record IsWhole (n : ℕ) (f : Family) (t : Term) (s : ConstructorShape) : Type 0 where
   pub number : ℕ
   pub constructor : Constructor
@@ -219,7 +219,7 @@ argument-low _ r place at = absurd (none-some r at)
 
 -- ---- the test says, and finds
 
--- what is known of each argument
+-- the test is right at each lower term
 abbrev Known : (n : ℕ) (f : Family) (part t : Term) → Type 0
 Known n f part t = (u : Term) → height u < height t → has_part n (family_shape n f) part u ≡ true → IsStrictPart n f part u
 

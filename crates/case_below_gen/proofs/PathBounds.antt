@@ -104,7 +104,7 @@ free-step n d side whole arguments at count end inner b motive_free whole_free i
     values : All (Scoped n) (step_values d whole b inner)
     values = free-values n d whole b inner motive_free whole_free inner_free b_free
 
--- ---- heights: what is made holds what it is made of
+-- ---- heights of made terms and of their parts
 
 le-trans : (a b c : ℕ) → a ≤ b → b ≤ c → a ≤ c
 le-trans a b c h k = omega arith

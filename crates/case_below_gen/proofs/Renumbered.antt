@@ -42,7 +42,7 @@ module _ (r : ℕ → ℕ) where
     pub indices : AllKept (types_of f.indices)
     pub constructors : KeptConstructors f.constructors
 
-  -- the same course, where `D!below.m` has its new number
+  -- the course with the new number of `D!below.m`
   abbrev pub anew : Course → Course
   anew q = record { m = q.m; params = q.params; indices = q.indices; below = r q.below }
 

@@ -37,7 +37,7 @@ pub at_scrutinee-draft : {T : Signature} {base count : ℕ} (depth start k : ℕ
 at_scrutinee-draft depth start k head low h =
     app-draft (at-run-draft head depth start k (omega arith) h) (variable-draft (start + k) low)
 
--- what comes after the arguments of a constructor
+-- the end after the arguments of a constructor
 pub constructor-over-draft : {T : Signature} {base count : ℕ} (binder : Binder) (p depth : ℕ) (c : ConstructorShape) (end : Term) → IsDraftConstructor T base count p c → p ≤ depth → IsDraftTerm T base count (depth + length c.arguments) end
     → IsDraftTerm T base count depth (over binder ((0, p) ∷ (depth, length c.arguments) ∷ []) p depth (types_of c.arguments) end)
 constructor-over-draft binder p depth c end is low h =

@@ -81,7 +81,7 @@ below-scoped S T n f m scoped first low at longer =
 
 -- ---- D!aux.m
 
--- what a course needs of a signature: the tuples, and the constant `D!below.m`
+-- the conditions of a course on a signature: the tuples, and the constant `D!below.m`
 record IsDraftCourse (T : Signature) (base count : ℕ) (f : Shape) (q : Course) : Type 0 where
   pairs : HasPairs T q.m
   below : IsDraftNumber T base count q.below

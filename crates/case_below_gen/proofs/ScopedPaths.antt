@@ -313,7 +313,7 @@ path_of-draft : {T : Signature} {base count n : ℕ} (d : Descent) (t b : Term) 
 path_of-draft d t b is ht hb =
     with-draft (constructor_of d.family d.shape t) b _ hb (λ c found. along-draft d t c.arguments (length c.arguments) t b is ht (found-draft d t c is found) ht hb)
 
--- what is answered
+-- the answer
 path_to-draft : {T : Signature} {base count n : ℕ} (d : Descent) (t b : Term) → IsDraftDescent T base count n d → IsDraftTerm T base count n t → IsDraftTerm T base count n b → IfOk (path_to d t b) (λ path. IfSome path (IsDraftTerm T base count n))
 path_to-draft {T} {base} {count} {n} d t b is ht hb = by (has_part d.family d.shape d.part t) (is_low t && is_low d.part) (is_low (path_of d t b))
   where

@@ -26,7 +26,7 @@ use Rattle.case_below_gen.specs.Projections.{side_mark, side_entry_type, side_en
 use Rattle.case_below_gen.specs.SettledLaws.{AuxSettles, SidesSettle}
 use Rattle.case_below_gen.proofs.Renumbered.{AllKept, KeptConstructors, KeptShape, aux_type-anew, aux_term-anew, side_type-is-anew, side_term-is-anew}
 
--- ---- what is drafted
+-- ---- drafts that are made
 
 drafted-is : (name : List ℕ) (base : ℕ) (names : List (List ℕ)) (type term : Term) (d : Draft) → drafted name base names type term ≡ Ok d → d ≡ record { entry = Definition name type term; base = base; names = names }
 drafted-is name base names type term d is = by (nat_le (height type) 2000) (nat_le (height term) 2000) is

@@ -1,4 +1,4 @@
--- What a step of a path and what `D!rec.m` and `D!all.m` are: a side of a pair whose types are the motive and `D!below.m` at a term.
+-- The forms of a step of a path and of `D!rec.m` and `D!all.m`: a side of a pair whose types are the motive and `D!below.m` at a term.
 use Rattle.std.proofs.Common.{◌≡◌, ℕ, zero, suc, ◌+◌, ◌-◌, ◌<◌, ◌≤◌, inl, List, [], ◌∷◌, ◌++◌, map, length, take, drop, slice_get, Some, All, refl, ap, ap₂, sym, ◌∙◌, subst, append_assoc, append-nil, arith}
 use Rattle.std.proofs.lemmas.List.{length-append, map-append, length-take}
 use Rattle.std.proofs.lemmas.Bool.Decides.{nat_tests}

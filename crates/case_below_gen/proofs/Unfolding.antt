@@ -1,4 +1,4 @@
--- What the generated entries of course-of-values recursion convert to.
+-- The generated entries of course-of-values recursion convert to their right sides.
 use Rattle.std.proofs.Common.{◌≡◌, ℕ, suc, ◌+◌, List, [], ◌∷◌, ◌++◌, length, refl, ap, ap₂, sym, ◌∙◌, append_assoc, append-nil, arith}
 use Rattle.std.proofs.lemmas.List.{length-append, length-map}
 use Rattle.theory.specs.Terms.{Term, lift}

@@ -148,7 +148,7 @@ module _ (S : Signature) (n : ℕ) (f : Family) (m below aux rec all : ℕ) (has
   abbrev Leads : Term → Term → Type 0
   Leads t b = (js : List Term) × HasPartWith n f ps part js t × Converts S (path_of d t b) (rec_at js part)
 
-  -- what is known of lower terms
+  -- the path to the part in each lower term computes
   abbrev Known : Term → Type 0
   Known t = (u b : Term) (js : List Term) → height u < height t → length js ≡ k → HaveParameters n f ps u → has_part n (family_shape n f) part u ≡ true → Converts S b (all_at js u) → Leads u b
 

@@ -1,4 +1,4 @@
--- What the type of case analysis is, in the words of the theory.
+-- The type of case analysis, in the words of the theory.
 use Rattle.std.specs.Prelude.{◌≡◌, ℕ, ◌+◌, List, [], ◌∷◌, map}
 use Rattle.theory.specs.Terms.{Var}
 use Rattle.theory.specs.Telescopes.{weaken_by}

@@ -1,5 +1,5 @@
--- What course-of-values recursion keeps of the recursive arguments of a constructor: a component for each, and their tuple.
--- The motive P comes after the parameters, whose levels begin with 0.
+-- The components of course-of-values recursion for the recursive arguments of a constructor: one for each, and their tuple. The motive P
+-- comes after the parameters, whose levels begin with 0.
 use Rattle.std.specs.Prelude.{ℕ, suc, ◌+◌, ◌-◌, nat_le, if◌then◌else◌, List, [], ◌∷◌, Result, Ok}
 use Rattle.theory.specs.Terms.{Term, Sort, Pi, Lam, App, Const, Fam, Con}
 use Rattle.theory.specs.Telescopes.{applied}
@@ -21,7 +21,7 @@ pair_of m A B = App (App (Fam (pair_type m)) A) B
 abbrev pub pair_with : ℕ → Term → Term → Term → Term → Term
 pair_with m A B a b = App (App (App (App (Con (pair_type m) 0) A) B) a) b
 
--- the same of four answers, or the first refusal among them
+-- a pair made of four answers, or the first refusal among them
 abbrev pub pair_with_answers : ℕ → Result Term Stop → Result Term Stop → Result Term Stop → Result Term Stop → Result Term Stop
 pair_with_answers m A B a b = of_two App (of_two App (of_two App (of_two App (Ok (Con (pair_type m) 0)) A) B) a) b
 
@@ -37,8 +37,8 @@ at_inner depth r start = applied (variable depth r) (run depth start (depth - st
 abbrev pub at_argument : (runs : List (ℕ × ℕ)) (size depth : ℕ) (head : Term) (r start k : ℕ) → Term → Term
 at_argument runs size depth head r start k t = App (applied_to_targets runs size depth head k t) (at_inner depth r start)
 
--- what comes after the inner arguments of the argument r with the hypothesis h: Type m, or Pair.m (P targets (r inner)) (h inner),
--- or Pair.m (P targets (r inner)) (D!below.m p P targets (r inner))
+-- the end after the inner arguments of the argument r with the hypothesis h: Type m, or Pair.m (P targets (r inner)) (h inner), or Pair.m
+-- (P targets (r inner)) (D!below.m p P targets (r inner))
 abbrev pub behind_inner : (e : Ending) (q : Course) (runs : List (ℕ × ℕ)) (size depth r start h : ℕ) → Term → Term
 behind_inner Level q runs size depth r start h t = Sort q.m
 behind_inner Beside q runs size depth r start h t =

@@ -1,4 +1,4 @@
--- What course-of-values recursion computes.
+-- Course-of-values recursion computes.
 use Rattle.std.specs.Prelude.{◌≡◌, Some, ℕ, ◌+◌, ◌≤◌, List, [], ◌∷◌, ◌++◌, map, length, take, slice_get}
 use Rattle.std.specs.List.{All}
 use Rattle.theory.specs.Terms.{Term, Var, App, Const, Con, height, free_of}
@@ -77,7 +77,7 @@ tuple_of q arguments ps P us hs =
     let hypothesis = first + length arguments in
     inst (fill no_variable (ps ++ P ∷ (us ++ hs))) (tuple q first 0 (hypothesis + recursive_count arguments) hypothesis arguments)
 
--- what D!aux.m p P s says of the recursive ones among the arguments us: \inner. D!aux.m p P s targets (r inner)
+-- D!aux.m p P s at the recursive ones among the arguments us: \inner. D!aux.m p P s targets (r inner)
 abbrev pub recursive_pairs : (aux : ℕ) (ps : List Term) (P s : Term) → List Argument → (us : List Term) → List Term
 recursive_pairs aux ps P s arguments us = hypotheses (fill no_variable ps) (applied (Const aux) (ps ++ P ∷ s ∷ [])) arguments us
 

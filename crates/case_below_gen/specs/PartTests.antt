@@ -1,11 +1,11 @@
--- How strict parts are found: the recursive arguments of a constructor, from the left, and each before what is inside it.
+-- How strict parts are found: the recursive arguments of a constructor, from the left, and each before those inside it.
 use Rattle.std.specs.Prelude.{ℕ, zero, suc, ◌+◌, Bool, true, false, ◌&&◌, ◌||◌, ◌==◌, if◌then◌else◌, List, length, Option, Some, None, option_and_then, slice_get}
 use native.Mathlib.Decide.{ℕ_discrete}
 use Rattle.theory.specs.Terms.{Term, Term-discrete, App, Con}
 use Rattle.theory.specs.Spines.{head_of, spine_of}
 use Rattle.core_sig.specs.Shapes.{ArgumentShape, ConstructorShape, Shape, by_kind}
 
--- the terms are equal letter for letter
+-- the terms are syntactically equal
 abbrev pub same : Term → Term → Bool
 same a b = elim (Term-discrete ℕ_discrete a b) [ yes e ↦ true | no e ↦ false ]
 

@@ -1,4 +1,4 @@
--- Where whole paths lead: what `D!all.m` at a term keeps for a strict part of it.
+-- Where whole paths lead: the component of `D!all.m` at a term for a strict part of it.
 use Rattle.std.specs.Prelude.{◌≡◌, Some, ℕ, ◌⊎◌, List, [], ◌∷◌, ◌++◌, map, length, take, slice_get}
 use Rattle.theory.specs.Terms.{Term, App, Const, Con}
 use Rattle.theory.specs.Substitutions.{inst, fill}

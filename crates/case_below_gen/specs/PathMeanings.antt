@@ -1,4 +1,4 @@
--- What the values of a descent stand for.
+-- The meanings of the values of a descent.
 use Rattle.core_terms.specs.Meanings.{tree_of}
 use Rattle.core_sig.specs.Shapes.{shape_of}
 use Rattle.case_below_gen.specs.declared.paths.Descent.{Descent as DescentOfCode}

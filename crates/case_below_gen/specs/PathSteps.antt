@@ -48,15 +48,15 @@ component_in q depth wanted at (a ∷ arguments) b =
     then component_side First q depth at count a.type arguments b
     else component_in q depth wanted (at + 1) arguments (component_side Second q depth at count a.type arguments b))
 
--- `head` at the targets in `end` and at argument `at` with its `count` inner arguments, whose levels begin with `start`; `end` is
--- what the type of the argument ends in
+-- `head` at the targets in `end` and at argument `at` with its `count` inner arguments, whose levels begin with `start`; `end` is the end
+-- of the argument's type
 abbrev pub at_part : (q : Course) (depth at start count : ℕ) (end head : Term) → Term
 at_part q depth at start count end head =
     let first = q.params + 1 in
     App (applied_to_targets ((0, q.params) ∷ (first, at) ∷ (start, count) ∷ []) (q.params + at + count) depth head q.indices end)
     (applied (variable depth (first + at)) (run depth start count))
 
--- the first or the second of what b keeps for argument `at` with its inner arguments, which is in
+-- the first or the second component of b for argument `at` with its inner arguments, which is in
 -- Pair.m (P targets (r inner)) (D!below.m p P targets (r inner))
 abbrev pub part_side : (side : Side) (q : Course) (depth at start count : ℕ) (end b : Term) → Term
 part_side side q depth at start count end b =

@@ -1,4 +1,4 @@
--- The path to a strict part in a below value: what `D!below.m` keeps for it, taken out by projections of pairs. The parameters and
+-- The path to a strict part in a below value: the component of `D!below.m` for it, taken out by projections of pairs. The parameters and
 -- the targets come from the term, a constructor with all its arguments.
 use Rattle.std.specs.Prelude.{ℕ, suc, ◌-◌, ◌&&◌, if◌then◌else◌, List, [], ◌∷◌, ◌++◌, length, take, drop, Option, Some, None, slice_get, Result, Ok, Err}
 use Rattle.theory.specs.Terms.{Term, App}
@@ -18,8 +18,8 @@ use Rattle.case_below_gen.specs.CourseEntries.{course_of}
 use Rattle.case_below_gen.specs.PartTests.{is_applied, if_recursive, constructor_of, has_part_along, has_part}
 use Rattle.case_below_gen.specs.PathSteps.{path_step}
 
--- What is looked for, and in what: a part of terms of family number `family`, with the motive into Type m, where the constant
--- `below` is `D!below.m`.
+-- A descent: it looks for a part in terms of family number `family`, with the motive into Type m, where the constant `below` is
+-- `D!below.m`.
 pub record Descent : Type 0 where
   pub family : ℕ
   pub shape : Shape

@@ -1,4 +1,4 @@
--- What settling makes of the drafts of course-of-values recursion: the entries on whose bodies the laws on computing are stated.
+-- The settled drafts of course-of-values recursion: the entries on whose bodies the laws on computing are stated.
 use Rattle.std.specs.Prelude.{◌≡◌, ℕ, Some, Ok, length, codes}
 use Rattle.theory.specs.Families.{Family}
 use Rattle.theory.specs.Signatures.{Signature, FamilyOf, Definition, IsEntryAt}

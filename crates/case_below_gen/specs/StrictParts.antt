@@ -1,4 +1,4 @@
--- Strict parts of a term, letter for letter: where a structurally recursive function may call itself.
+-- Strict parts of a term, up to syntactic equality: where a structurally recursive function may call itself.
 use Rattle.std.specs.Prelude.{◌≡◌, ℕ, ◌+◌, List, length, option_map, Some, slice_get}
 use Rattle.theory.specs.Terms.{Term, Con}
 use Rattle.theory.specs.Spines.{head_of, spine_of}

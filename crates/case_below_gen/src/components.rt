@@ -20,8 +20,8 @@ pub struct Course {
     pub below: u32,
 }
 
-/// What comes after the inner arguments of a recursive argument r: `Type m`, or the motive at r beside its hypothesis, or
-/// beside `D!below.m` at r.
+/// The end after the inner arguments of a recursive argument r: `Type m`, or the motive at r beside its hypothesis, or beside
+/// `D!below.m` at r.
 #[derive(Clone, Copy, Debug, PartialEq, Eq)]
 pub enum Ending {
     Level,

@@ -1,4 +1,4 @@
-//! What the generated entries are, in the words of the theory.
+//! Laws of the generated entries, in the words of the theory.
 ghost use Rattle.case_below_gen.specs.CaseLaws.{CaseTypeWithoutHypotheses};
 ghost use Rattle.case_below_gen.specs.CourseLaws.{AllComputes, PathStepComputes, RecComputes};
 ghost use Rattle.case_below_gen.specs.PathLaws.{PathComputes};
@@ -9,7 +9,7 @@ pub fn case_type_without_hypotheses()
     ensures { CaseTypeWithoutHypotheses }
 {}
 
-/// At a constructor, `D!rec.m` converts to the step with the tuple of what `D!aux.m` says of the recursive arguments.
+/// At a constructor, `D!rec.m` converts to the step with the tuple of `D!aux.m` at the recursive arguments.
 pub fn rec_computes()
     ensures { RecComputes }
 {}

@@ -192,7 +192,7 @@ fn at_part(
     Term::application_of(alloc, head, argument)
 }
 
-/// The types of what a below value keeps for an argument with its inner arguments.
+/// The types of the two components of a below value for an argument with its inner arguments.
 fn part_types(alloc: Global, q: Course, depth: u32, to: Target, end: &Term) -> Result<Types, Stop>
     requires params { q.params ≤ most_height }
     requires at { to.at ≤ most_height }
@@ -209,7 +209,7 @@ fn part_types(alloc: Global, q: Course, depth: u32, to: Target, end: &Term) -> R
     Ok(Types { first, second })
 }
 
-/// The first or the second of what `value` keeps for an argument with its inner arguments.
+/// The first or the second component of `value` for an argument with its inner arguments.
 fn part_side(
     alloc: Global,
     side: Side,

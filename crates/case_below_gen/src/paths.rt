@@ -33,10 +33,10 @@ use core_terms::{
 };
 use std::alloc::Global;
 
-/// The path to a strict part of a term of family `fam` in a below value for the term: what it keeps for the part, with the motive
-/// into `Type m`, where the constant `number` is `D!below.m`. The given terms and the path are over one context; the parameters and
-/// the targets in it come from the constructors in `term`. None where `part` is no strict part of `term`, letter for letter, and
-/// else Deep where the path, `term` or `part` is too high.
+/// The path to a strict part of a term of family `fam` in a below value for the term: its component for the part, with the motive
+/// into `Type m`, where the constant `number` is `D!below.m`. The given terms and the path are over one context; the parameters
+/// and the targets in it come from the constructors in `term`. None where `part` is not syntactically a strict part of `term`,
+/// and else Deep where the path, `term` or `part` is too high.
 pub fn below_path(
     alloc: Global,
     sig: &Signature,
@@ -73,7 +73,7 @@ pub fn below_path(
     }
 }
 
-/// What is looked for, and in what: a part of terms of family `fam`, with the motive into `Type m`, where the constant `below` is
+/// A descent: it looks for a part in terms of family `fam`, with the motive into `Type m`, where the constant `below` is
 /// `D!below.m`.
 #[derive(Clone, Copy)]
 pub struct Descent<'a> {
@@ -254,7 +254,7 @@ fn step_inside(
     step_to(alloc, d, Side::Second, whole, args, &to, none, below)
 }
 
-/// An argument that a step goes to: its number, how many inner arguments it has, and what its type ends in.
+/// An argument that a step goes to: its number, how many inner arguments it has, and the end of its type.
 #[derive(Clone, Copy)]
 struct Target<'a> {
     at: usize,
@@ -415,7 +415,7 @@ fn last_arguments(alloc: Global, count: u32, t: &Term) -> Result<Vec<Term>, Stop
     copy_behind(alloc, spine.as_slice(), before)
 }
 
-/// What comes after the first `count` products of a term.
+/// The rest of a term after its first `count` products.
 fn behind(t: &Term, count: u32) -> &Term
     ensures { tree_of result.now ≡ behind count (tree_of t.now) }
 {

@@ -12,7 +12,7 @@ ghost use Rattle.case_below_gen.specs.StrictParts.{IsStrictPart};
 use core_sig::{Arg, ArgKind, Constructor, Entry, Family, Signature};
 use core_terms::{Term, head};
 
-/// Whether `part` is a strict part of a term of family `fam`, letter for letter. Takes no memory.
+/// Whether `part` is syntactically a strict part of a term of family `fam`. Takes no memory.
 pub fn is_strict_part(sig: &Signature, fam: u32, part: &Term, term: &Term) -> bool
     requires { IsFamilyNumber sig.now fam }
     ensures { (f : pure.Family) → IsEntryAt sig.now fam (FamilyOf f) → IsTrue result ↔ IsStrictPart fam f (tree_of part.now) (tree_of term.now) }
