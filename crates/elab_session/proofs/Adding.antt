@@ -1,4 +1,4 @@
--- What enters is added.
+-- An entry that enters is added.
 use Rattle.std.proofs.Common.{◌≡◌, ℕ, Bool, true, false, List, [], ◌∷◌, Option, Some, None, Result, Ok, Err, IfOk, refl, sym, ◌∙◌, subst as transport}
 use Rattle.std.specs.Prelude.{slice_get, position, nat_lt}
 use Rattle.std.specs.Option.{is_some}

@@ -1,4 +1,4 @@
--- What the answer of a call says, from what the calls inside it answered.
+-- The answer of a call, from the answers of the calls inside it.
 use Rattle.std.proofs.Common.{◌≡◌, ◌≢◌, ℕ, List, Option, Some, Result, Ok, Err, IfOk, OnErr, sym, ap, ap₂, ◌∙◌, subst as transport}
 use Rattle.theory.specs.Signatures.{Signature}
 use Rattle.core_terms.specs.Answers.{GivesUnless, and_next}
@@ -31,7 +31,7 @@ refuses over names x fuel left s r meant is says other =
 abbrev pub word : List ℕ → ℕ → Word
 word text start = record { text = text; start = start }
 
--- the same of a family, whose names were copied
+-- the refusal of a family, whose names were copied
 pub family-refuses : (S U : Signature) (raw : RawFamily) (names given : List (List ℕ)) (x w : Word) (fuel left : ℕ) (s : FamilyStop) (r : Refusal) (meant : Outcome Entered)
     → U ≡ S → given ≡ names → x ≡ w → (s ≢ Stop memory.Memory → ended (Err (stop_of s)) left ≡ meant)
     → (r ≢ Memory → r ≡ unentered (site_signature U raw) given (Some x) fuel (stop_of s))
@@ -42,7 +42,7 @@ family-refuses S U raw names given x w fuel left s r meant same is named stops s
     ∙ ap₂ (λ V ns. unentered (site_signature V raw) ns (Some x) fuel (stop_of s)) same is
     ∙ ap (λ (y : Word). unentered (site_signature S raw) names (Some y) fuel (stop_of s)) named)
 
--- a phase goes on with what another answered
+-- a phase goes on with the answer of another
 pub goes-on : {A B C : Type 0} (f : C → B) (result : Result C Refusal) (end left : ℕ) (a : A) (first : Result A Refusal) (go : A → ℕ → Declaring B)
     → Ok a ≡ first → Declares f result end (go a left) → Declares f result end (and_next (answers first left) go)
 goes-on f result end left a first go is h = transport (λ r. Declares f result end (and_next (answers r left) go)) is h
@@ -53,7 +53,7 @@ pub answer-of : {A B : Type 0} (f : A → B) (result : Result A Refusal) (left :
 answer-of f (Ok a) left meant is = ap (λ m. m.0) is
 answer-of f (Err e) left meant is = λ other. ap (λ m. m.0) (is other)
 
--- what holds of the answer that is meant holds of the answer
+-- a property of the meant answer is one of the answer
 pub says : (P : Declared → Type 0) (T : Signature) (r : Result (List ℕ) Refusal) (meant : Result Declared Refusal) → Answers T r meant → IfOk meant P → IfOk r (λ name. P (accepted_as name T))
 says P T (Ok name) meant is h = transport (λ m. IfOk m P) (sym is) h
 says P T (Err e) meant is h = tt

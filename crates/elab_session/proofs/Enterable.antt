@@ -1,4 +1,4 @@
--- What is resolved can enter.
+-- A resolved declaration can enter.
 use Rattle.std.proofs.Common.{◌≡◌, List, [], length, Ok, IfOk, subst as transport}
 use Rattle.std.proofs.lemmas.List.Elements.{All-weaker}
 use Rattle.theory.specs.Terms.{Term}

@@ -1,4 +1,4 @@
--- What an entry keeps that enters.
+-- An entry that enters keeps the signature's properties.
 use Rattle.std.proofs.Common.{◌≡◌, ℕ, Option, Some, None, slice_get, Result, Ok, Err, IfOk, OnErr, refl, sym, subst as transport}
 use Rattle.theory.specs.Families.{Family}
 use Rattle.theory.specs.Signatures.{Entry, FamilyOf, EliminatorAt, AxiomKAt, Definition, Signature, IsPrefix}

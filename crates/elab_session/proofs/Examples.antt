@@ -1,4 +1,4 @@
--- Small declarations, by computation: what they add, and what refuses them.
+-- Small declarations, by computation: the entries that they add, and refusals.
 use native.Mathlib.Decide.{ℕ_discrete}
 use Rattle.std.proofs.Common.{◌≡◌, ℕ, false, Ok, Err, List, [], ◌∷◌, codes, refl}
 use Rattle.std.specs.Fmt.{digits}

@@ -1,4 +1,4 @@
--- What holds of what is accepted, from what holds of its parts.
+-- Properties of an accepted declaration, from those of its parts.
 use Rattle.std.proofs.Common.{ℕ, length, Result, Ok, Err, IfOk, sym, subst as transport}
 use Rattle.theory.specs.Prelude.{prelude}
 use Rattle.theory.specs.Signatures.{Entry, Signature, IsPrefix}
@@ -33,7 +33,7 @@ enter_declared-has P S fuel x raw left h = by (checked S raw left).0 h
     by (Ok e) h = h
     by (Err e) h = tt
 
--- what holds of what is declared, from what the checker says of the entry that it stands for
+-- a property of a declaration, from the checker's answer on the entry that it stands for
 pub declare-has : (Q : RawEntry → Type 0) (P : Declared → Type 0) (S : Signature) (fuel : ℕ) (d : surf.Decl) → IfOk (resolve_entry S d) Q
     → ((raw : RawEntry) → Q raw → Answers (λ e. P (accepted_as (declared_word d).text e.signature)) (checked S raw fuel))
     → IfOk (declare_of S fuel d) P
@@ -53,6 +53,6 @@ pub prelude-stays : (S T : Signature) → HasPrelude S → IsPrefix S T → HasP
 prelude-stays S T h longer =
     transport (λ k. IsPrefix (prelude k) T) (sym longer.has_k) (prefix_transitive (prelude S.has_k) S T h longer)
 
--- the last entry of a well-formed signature has what the rules ask of it over the entries before it
+-- the last entry of a well-formed signature meets the rules over the entries before it
 pub last-entry : (S : Signature) (e : Entry) → IsWellFormed (pushed S e) → IsEntry S e
 last-entry S e h = transport (λ T. IsEntry T e) (sym (first-all S e)) (h.each (length S.entries) e (slice_get-last S.entries e))

@@ -77,7 +77,7 @@ module _ (name : List ℕ) (f : Family) (named : f.name ≡ name) (bare : f.cons
   bare-names : (S : Signature) → HaveSameNames (with_name S name) (pushed S (FamilyOf f))
   bare-names S = record { entries = last-named S.entries; constructors = constructors-named S.entries }
 
--- a part of a family is denied over the signature that it is checked over
+-- a part of a family is rejected over the signature that it is checked over
 pub part-denied : (S : Signature) (name : List ℕ) (raw : RawFamily) → raw.name ≡ name → (site : Site) (part : PartName) (d : Denial)
     → ill_typed (with_own S (own_at name site)) part d ≡ ill_typed (site_signature S raw site) part d
 part-denied S name raw named OfType part d = refl

@@ -1,4 +1,4 @@
--- What one declaration keeps, and what is said of what it accepts, form by form.
+-- Laws of one declaration, form by form: what it keeps, and that it is accepted as it is written.
 use Rattle.theory.specs.Signatures.{IsPrefix}
 use Rattle.surface_syntax.specs.Trees as surf
 use Rattle.elab_session.specs.Entering.{CanEnter}

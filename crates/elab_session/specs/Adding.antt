@@ -1,4 +1,4 @@
--- What an entry that enters adds to the signature.
+-- The entries that an entry adds to the signature when it enters.
 use Rattle.std.specs.Prelude.{◌≡◌, ℕ, Bool, true, false, List, length}
 use Rattle.std.specs.List.{list_any}
 use Rattle.theory.specs.Terms.{Term}

@@ -15,7 +15,7 @@ use Rattle.elab_session.specs.Refusals.{IsUnforeseen, unresolved}
 use Rattle.elab_session.specs.declared.refusal.Refusal.{Refusal}
 use Rattle.elab_session.specs.declared.refusal.Refusal.TheVariants.{NotYet}
 
--- the name of what was accepted, and the signature that has it
+-- the name of an accepted declaration, and the signature that has it
 pub record Declared : Type 0 where
   pub name : List ℕ
   pub signature : Signature
@@ -40,7 +40,7 @@ resolve_definition S x ty body =
 abbrev pub resolve_family : Signature → Word → List surf.Typed → surf.Surf → List surf.Typed → Result RawEntry ResolveStop
 resolve_family S x params ty cons = and_then (family S x params ty cons) (λ raw. Ok (RawFamilyOf raw))
 
--- The entry that is declared. A form that is not built yet is refused at its first name.
+-- The entry that is declared. A form that is not implemented yet is refused at its first name.
 abbrev pub resolve_entry : Signature → surf.Decl → Result RawEntry Refusal
 resolve_entry S (surf.Def x ty body) = or_unresolved (resolve_definition S x ty body)
 resolve_entry S (surf.Data x params ty cons) = or_unresolved (resolve_family S x params ty cons)
@@ -48,7 +48,7 @@ resolve_entry S d = Err (NotYet (declared_word d).start)
 
 -- ---- entries
 
--- what is resolved enters, and is accepted under the declared name
+-- a resolved entry enters, and is accepted under the declared name
 abbrev pub enter_declared : Signature → ℕ → Word → RawEntry → ℕ → Declaring Declared
 enter_declared S fuel x raw left =
     and_next (enter_with S x.start fuel raw left) (λ e rest. answers (Ok (accepted_as x.text e.signature)) rest)

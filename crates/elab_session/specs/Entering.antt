@@ -21,7 +21,7 @@ Declaring A = SpentOr Refusal A
 abbrev pub answers : {A : Type 0} → Result A Refusal → ℕ → Declaring A
 answers answer left = (answer, left)
 
--- ---- what the checker says
+-- ---- answers of the checker
 
 -- the eliminator into Type m of the entry with number n, which is a family
 abbrev pub eliminator_in : Signature → ℕ → ℕ → Option Entry → ℕ → Outcome Entered
@@ -34,7 +34,7 @@ checked S (RawEliminator n m) left = eliminator_in S n m (slice_get S.entries n)
 checked S (RawAxiomK i m) left = axiom_k_of S i m left
 checked S (RawDefinition name type body) left = define_of S name type body left
 
--- the same of an entry that would come next, a family as its line shows it
+-- an entry that would come next, a family as its line shows it, is checked
 abbrev pub checked_entry : Signature → Entry → ℕ → Outcome Entered
 checked_entry S e left = checked S (entry_shown (length S.entries) e) left
 
@@ -76,14 +76,14 @@ enter_with S start fuel raw left = or_refused (refused S start fuel raw) (checke
 abbrev pub enter_of : Signature → ℕ → RawEntry → Result Entered Refusal
 enter_of S fuel raw = (enter_with S 0 fuel raw fuel).0
 
--- What entering asks of an entry: its numbers stand for something, the name of a family is new, and K is on where it enters.
+-- The conditions of entering on an entry: its numbers stand for something, the name of a family is new, and K is on where it enters.
 abbrev pub CanEnter : Signature → RawEntry → Type 0
 CanEnter S (RawFamilyOf raw) = IsScopedRaw S raw × (find S raw.name ≡ None)
 CanEnter S (RawEliminator n m) = IsFamilyNumber S n
 CanEnter S (RawAxiomK i m) = IsTrue S.has_k
 CanEnter S (RawDefinition name type body) = IsScoped S 0 type × IsScoped S 0 body
 
--- ---- what calls answer
+-- ---- answers of calls
 
 -- the answer of a call that leaves the signature T stands for `meant`, unless memory ran out
 abbrev pub Enters : Signature → Result ℕ Refusal → Result Entered Refusal → Type 0

@@ -1,4 +1,4 @@
--- What one declaration keeps, and what is said of what it accepts.
+-- Laws of one declaration: what it keeps, and that it is accepted as it is written.
 use Rattle.std.specs.Prelude.{◌≡◌, ℕ, List, [], length, Ok, IfOk}
 use Rattle.theory.specs.Terms.{Term}
 use Rattle.theory.specs.Families.{Family}
@@ -54,7 +54,7 @@ abbrev pub DeclaresAsWritten : Type 0
 DeclaresAsWritten =
     (S : Signature) (fuel : ℕ) (d : surf.Decl) → IsWellFormed S → IfOk (declare_of S fuel d) (IsAsWritten S d)
 
--- The same where an entry of a core file enters.
+-- An entry of a core file that enters extends the signature.
 
 abbrev pub EnterExtends : Type 0
 EnterExtends = (S : Signature) (fuel : ℕ) (raw : RawEntry) → IfOk (enter_of S fuel raw) (λ x. IsPrefix S x.signature)

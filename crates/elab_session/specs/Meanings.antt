@@ -1,4 +1,4 @@
--- What entries of the code stand for.
+-- The meanings of the code's entries.
 use Rattle.core_terms.specs.Meanings.{tree_of}
 use Rattle.core_sig.specs.Raw.{raw_of}
 use Rattle.core_text.specs.RawEntries as pure

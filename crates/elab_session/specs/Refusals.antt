@@ -1,4 +1,4 @@
--- What refuses a declaration: refusals of resolution and of entering, with the names and the texts that they show.
+-- Refusals of a declaration, by resolution and by entering, with the names and the texts that they show.
 use Rattle.std.specs.Prelude.{◌≡◌, ℕ, List, [], Option, Some, None, slice_get, unwrap_or}
 use Rattle.theory.specs.Signatures.{Signature}
 use Rattle.core_terms.specs.Verdicts.{Denial}
@@ -15,7 +15,7 @@ use Rattle.elab_session.specs.declared.refusal.PartName.TheVariants.{Ty, Body, P
 use Rattle.elab_session.specs.declared.refusal.Refusal.{Refusal}
 use Rattle.elab_session.specs.declared.refusal.Refusal.TheVariants.{Memory, Fuel, Deep, UnknownName, Duplicate, WrongArity, NotLinear, BadFamily, NotPositive, IndexTooLarge, IllTyped}
 
--- the refusals that nothing rules out: want of memory alone
+-- the refusals that nothing rules out: only out of memory
 abbrev pub IsUnforeseen : Refusal → Type 0
 IsUnforeseen e = e ≡ Memory
 
@@ -28,7 +28,7 @@ unresolved (resolving.Duplicate offset word) = Duplicate offset word
 unresolved (resolving.WrongArity offset word) = WrongArity offset word
 unresolved (resolving.NotLinear offset word) = NotLinear offset word
 
--- what stops a declaration that may spend `fuel` units; no pool takes part in it
+-- the refusal of a declaration that may spend `fuel` units; no pool takes part in it
 abbrev pub stopped : ℕ → Stop → Refusal
 stopped fuel stop.Memory = Memory
 stopped fuel stop.Fuel = Fuel fuel
@@ -51,7 +51,7 @@ abbrev pub own_at : List ℕ → Site → Option (List ℕ)
 own_at name (OfConstructor n) = Some name
 own_at name _ = None
 
--- the checker denies a part, over the signature S
+-- the checker rejects a part, over the signature S
 abbrev pub ill_typed : Signature → PartName → Denial → Refusal
 ill_typed S part d = IllTyped part d.place (context_text S d.ctx) (reason_text S d.reason)
 

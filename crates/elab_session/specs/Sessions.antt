@@ -15,8 +15,8 @@ session_code =
     code_by (Signature × ℕ) (coded× signature_code coded_ℕ) (λ s. (s.signature, s.fuel)) (λ p. record { signature = p.0; fuel = p.1 })
     (λ _. refl)
 
--- What holds of the signature of every session: it is well formed, its numbers stand for something and no entry is
--- provisional, and it begins with the prelude.
+-- Invariants of the signature of every session: it is well formed, its numbers stand for something and no entry is provisional, and it
+-- begins with the prelude.
 pub record IsReady (S : Signature) : Type 0 where
   pub well_formed : IsWellFormed S
   pub settled : IsSettled S

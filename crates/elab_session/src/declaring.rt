@@ -29,7 +29,7 @@ pub fn declare(alloc: Global, sig: &mut Signature, fuel: u64, d: &Decl) -> Resul
     declare_with(alloc, sig, fuel, d, &mut units)
 }
 
-/// The same with the units that are left.
+/// The declaration with the units that are left.
 fn declare_with(
     alloc: Global,
     sig: &mut Signature,

@@ -1,4 +1,4 @@
-//! What a declaration keeps, and what is accepted.
+//! Laws of one declaration: what it keeps, and what is accepted.
 ghost use Rattle.elab_session.specs.Laws.{DeclareExtends, DeclareKeepsReady, DeclaresAsWritten, EnterAdds, EnterExtends, EnterKeepsReady};
 
 /// Earlier entries stay.
@@ -11,7 +11,7 @@ pub fn declare_keeps_ready()
     ensures { DeclareKeepsReady }
 {}
 
-/// What is accepted is what is written, and has its type by the typing rules over the entries before it.
+/// An accepted declaration is the written one, and has its type by the typing rules over the entries before it.
 pub fn declares_as_written()
     ensures { DeclaresAsWritten }
 {}

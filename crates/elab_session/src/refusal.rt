@@ -9,7 +9,7 @@ use std::alloc::AllocError;
 /// Core text of terms, contexts or reasons.
 pub type Text = Items<u8>;
 
-/// The written part that the checker denies. Parameters are counted from 1, constructors have their names.
+/// The written part that the checker rejects. Parameters are counted from 1, constructors have their names.
 #[derive(Debug, Drop)]
 pub enum PartName {
     Ty,
@@ -20,7 +20,7 @@ pub enum PartName {
 
 /// Why a declaration is refused.
 ///
-/// `NotYet` is a form of declaration that is not built yet, with the offset of its first name. `Fuel` has the units that a
+/// `NotYet` is a form of declaration that is not implemented yet, with the offset of its first name. `Fuel` has the units that a
 /// declaration may spend, `Deep` is a term higher than 2,000 or kernel calls nested deeper than that. `UnknownName`,
 /// `Duplicate`, `WrongArity` and `NotLinear` have an offset and the name that is there. `NotPositive` has a constructor
 /// and its argument, counted from 1, or 0 for its result; `IndexTooLarge` has a constructor and its argument, or an index

@@ -14,7 +14,7 @@ use family_check::{FamilyStop, Site};
 use std::alloc::Global;
 use surface_syntax::Word;
 
-/// What stops a declaration that may spend `fuel` units.
+/// The refusal of a declaration that may spend `fuel` units.
 pub fn stopped(fuel: u64, stop: Stop) -> Refusal
     ensures { result ≡ spec.stopped fuel stop }
 {
@@ -46,7 +46,7 @@ fn part_of(alloc: Global, names: &[Name], site: Site) -> Result<PartName, Stop>
     }
 }
 
-/// The checker denies a part. `own` is the name of what is being declared, where the texts name it.
+/// The checker rejects a part. `own` is the name of the declaration, where the texts name it.
 fn ill_typed(
     alloc: Global,
     sig: &Signature,
@@ -66,7 +66,7 @@ fn ill_typed(
     })
 }
 
-/// The checker denies what is written at the site. `own` is the name of what is being declared, where the texts name it.
+/// The checker rejects what is written at the site. `own` is the name of the declaration, where the texts name it.
 pub(crate) fn denied_part(
     alloc: Global,
     sig: &Signature,

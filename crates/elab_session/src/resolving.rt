@@ -17,7 +17,7 @@ use resolve::{ResolveStop, declared_word, resolve_data, resolve_term};
 use std::alloc::Global;
 use surface_syntax::{Decl, Surf, Word};
 
-/// The entry that is declared. A form that is not built yet is refused at its first name.
+/// The entry that is declared. A form that is not implemented yet is refused at its first name.
 pub(crate) fn resolve_entry(alloc: Global, sig: &Signature, d: &Decl) -> Result<RawEntry, Refusal>
     ensures answer { GivesUnless IsUnforeseen raw_entry_of result (spec.resolve_entry sig.now (decl_of d.now)) }
     ensures can { IfOk result (λ raw. CanEnter sig.now (raw_entry_of raw)) }
