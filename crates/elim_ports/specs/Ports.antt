@@ -1,4 +1,4 @@
--- What the sources and sinks of this crate are.
+-- The sources and sinks of this crate.
 use Rattle.std.specs.Prelude.{ℕ, List, Option}
 use Rattle.elim_ports.specs.Calls.{Calls}
 

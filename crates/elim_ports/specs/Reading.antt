@@ -1,4 +1,4 @@
--- What a read does to the slice that it is given, and what is taken of a source that is read to its end.
+-- The effect of a read on the slice that it is given, and the bytes that are taken of a source that is read to its end.
 use Rattle.std.specs.Prelude.{◌≡◌, ℕ, ◌+◌, ◌<◌, ◌≤◌, ◌↔◌, List, length, drop, Option, Result, Err, MatchResult, IfOk}
 use Rattle.elim_ports.specs.declared.reading.ReadError.{ReadError}
 use Rattle.elim_ports.specs.declared.reading.ReadError.TheVariants.{TooLong}
@@ -8,7 +8,7 @@ use Rattle.std.specs.Io.KnownBytes.{Consumes}
 abbrev pub FillsFront : {E : Type 0} → Result ℕ E → List ℕ → List ℕ → Type 0
 FillsFront r before after = MatchResult r (λ n. drop n after ≡ drop n before) (λ _. after ≡ before)
 
--- these bytes came from the front of what a source had left, at most one beyond the limit;
+-- these bytes came from the front of the bytes that a source had left, at most one beyond the limit;
 -- it was too long exactly where more than `limit` came, and an answer is all of them
 pub record ReadsAll (before after : Option (List ℕ)) (result : Result (List ℕ) ReadError) (limit : ℕ) : Type 0 where
   pub came : List ℕ

@@ -10,7 +10,7 @@ use crate::{PortError, Sink};
 use core_terms::Items;
 use std::marker::Model;
 
-/// A sink that keeps what it takes in memory, with the allocator of `fails`.
+/// A sink that keeps the bytes that it takes in memory, with the allocator of `fails`.
 ///
 /// Its writes are numbered from 1, and those in `fails` fail; after number `u32::MAX` none does.
 #[derive(Debug, Drop)]

@@ -69,7 +69,7 @@ impl Source for MemorySource {
         ensures fault { result ≡ Err PortError.Fault → Rose self.old.calls.faults self.new.calls.faults }
         ensures never_falls { self.old.calls.faults ≤ self.new.calls.faults }
 
-        // The call fails exactly where its number is listed, and never for want of memory.
+        // The call fails exactly where its number is listed, and never because it is out of memory.
         ensures answer { result ≡ (if fails_next self.old.calls then Err PortError.Fault
             else Ok (piece_len self.old.calls.step (min (length into.old) (length self.old.left)))) }
         ensures calls { self.new.calls ≡ after_call self.old.calls }

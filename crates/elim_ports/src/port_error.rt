@@ -5,7 +5,7 @@ use thiserror::Error;
 
 /// Why a read or a write moved nothing.
 ///
-/// `Fault` is a failure of the device, and raises the count of faults; `Memory` is want of memory.
+/// `Fault` is a failure of the device, and raises the count of faults; `Memory` is out of memory.
 #[derive(Clone, Copy, Debug, PartialEq, Eq, Error)]
 pub enum PortError {
     #[error("Fault")]

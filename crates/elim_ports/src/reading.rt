@@ -49,7 +49,7 @@ impl From<AllocError> for ReadError {
 
 /// Reads `source` to its end.
 ///
-/// It stops at `limit + 1` bytes. What was read before an error is gone from the source.
+/// It stops at `limit + 1` bytes. The bytes that were read before an error are gone from the source.
 pub fn read_all<S: Source>(
     alloc: Global,
     source: &mut S,

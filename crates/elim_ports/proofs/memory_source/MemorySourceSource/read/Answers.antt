@@ -3,7 +3,7 @@ use Rattle.std.proofs.lemmas.Grind.{common_steps}
 use Rattle.std.proofs.lemmas.List.{take_at, drop-drop, take-append-drop}
 use Rattle.elim_ports.proofs.memory_source.MemorySourceSource.read.Goals as goal
 
--- what is left is the front that was copied, and the rest
+-- the bytes that are left are the front that was copied, and the rest
 left_parts : (n taken : ℕ) (bytes into : List ℕ) → n ≤ length (drop taken bytes) →
     drop taken bytes ≡ take n (take n (drop taken bytes) ++ drop n into) ++ drop (taken + n) bytes
 left_parts n taken bytes into fits = grind (arith, common_steps, take_at {A = ℕ}, drop-drop {A = ℕ}, take-append-drop {A = ℕ})
