@@ -1,4 +1,4 @@
--- What holds over a signature holds over another one that carries its types and its steps.
+-- Steps, conversion and typing over a signature carry over to another one that carries its types and its steps.
 use Rattle.std.proofs.Common.{ℕ, List}
 use Rattle.theory.specs.Terms.{Term}
 use Rattle.theory.specs.Telescopes.{Context, Telescope}

@@ -121,7 +121,7 @@ pub converts_of_lift : ConvertsOfLift
 converts_of_lift S closed by from t u h =
     subst₂ (Converts S) (sym (lift-is_ren t by from)) (sym (lift-is_ren u by from)) (converts-ren S closed _ h)
 
--- a substitution keeps conversion, in the term and in what is put
+-- a substitution keeps conversion, in the term and in the one that is put
 pub converts_of_subst : ConvertsOfSubst
 converts_of_subst S closed at t t' u u' h k =
     subst₂ (Converts S) (sym (subst-is_inst t at u)) (sym (subst-is_inst t' at u'))

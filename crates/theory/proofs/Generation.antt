@@ -1,4 +1,4 @@
--- Generation: what a derivation is made of, by the form of its term.
+-- Generation: the parts of a derivation, by the form of its term.
 use Rattle.std.proofs.Common.{[], ◌∷◌, max}
 use Rattle.theory.specs.Terms.{Term}
 use Rattle.theory.specs.Terms.Term.{Var, Sort, Pi, Lam, App, Let, Const, Fam, Con, Elim, AxiomK}
@@ -20,7 +20,7 @@ use Rattle.theory.proofs.Scoping.{context_of}
 pub below_same : {S : Signature} (a : Term) → Below S a a
 below_same a = converts same
 
--- a greater type has the same parts; for a local definition the derivations of what follows are carried along
+-- a greater type has the same parts; for a local definition the derivations of its body are carried along
 raise : {S : Signature} {G : Context} (t : Term) {a b : Term} → Below S a b → ((u : Term) → Has S G u a → Has S G u b) → Parts S G t a → Parts S G t b
 raise (Var n) le carry p = record { declared = p.declared; at = p.at; order = trans p.order le }
 raise (Sort i) le carry p = record { limit = p.limit; order = trans p.order le }

@@ -1,4 +1,4 @@
--- What an instantiation does to a scoped term, to a substitution, to spines and to the right side of iota.
+-- Instantiation of scoped terms, of substitutions, of spines and of the right side of iota.
 use Rattle.std.proofs.Common.{◌≡◌, ℕ, zero, suc, ◌+◌, ◌<◌, ◌≤◌, List, [], ◌∷◌, ◌++◌, map, length, refl, ap, ap₂, sym, ◌∙◌, arith}
 use Rattle.std.proofs.lemmas.List.{map-append}
 use mathlib.Core.Path.{fun_ext}

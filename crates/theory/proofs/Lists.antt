@@ -38,7 +38,7 @@ AllPairs-append R B A (x ∷ xs) ys across b a r s =
     (All-append (R x) xs ys (λ k d w. r 0 (suc k) d (omega arith) (omega arith)) (λ k d w. across x (get_or ys k d) x_before (a k d w)))
     (AllPairs-append R B A xs ys across (All-tail B x xs b) a (λ i j d l w. r (suc i) (suc j) d (omega arith) (omega arith)) s)
 
--- what holds of each piece holds of them all in a row
+-- a property of all elements of each piece is one of all pieces in a row
 pub All-flat_map : {Y : Type 0} (P : Y → Type 0) (pieces : ℕ → List Y) (from n : ℕ) → ((i : ℕ) → from ≤ i → i < from + n → All P (pieces i))
     → All P (flat_map pieces (range_with_len from n))
 All-flat_map P pieces from zero h = All-nil P
@@ -71,7 +71,7 @@ slice_get-take (suc n) [] m x at = at
 slice_get-take (suc n) (y ∷ xs) zero x at = at
 slice_get-take (suc n) (y ∷ xs) (suc m) x at = slice_get-take n xs m x at
 
--- a list is what comes before an element, the element and what is after it
+-- a list is the elements before an element, the element and those after it
 pub split_at : {X : Type 0} (xs : List X) (n : ℕ) (x : X) → slice_get xs n ≡ Some x → xs ≡ (take n xs ++ x ∷ []) ++ drop (suc n) xs
 split_at [] n x at = absurd (none-some x at)
 split_at (y ∷ xs) zero x at = ap (λ z. z ∷ xs) (some_is at)

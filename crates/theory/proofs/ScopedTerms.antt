@@ -146,7 +146,7 @@ entries-wider m (Elim n l) h = m.families n h
 entries-wider m (Var n) h = tt
 entries-wider m _ h = tt
 
--- what is scoped over S is scoped over T
+-- a term that is scoped over S is scoped over T
 pub scoped-wider : {S T : Signature} → HasNumbers S T → {n : ℕ} {t : Term} → IsScoped S n t → IsScoped T n t
 scoped-wider m {n} {t} h = record { variables = h.variables; entries = entries-wider m t h.entries }
 

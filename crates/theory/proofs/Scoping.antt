@@ -50,7 +50,7 @@ term_scoped (symbol context type) = let h = symbol_closed type in omega arith
 term_scoped (below i dt le db) = term_scoped dt
 term_scoped (below_sort i dt le) = term_scoped dt
 
--- a type of a context is scoped in what is after it
+-- a type of a context is scoped in the rest of the context
 pub context_scoped : {S : Signature} {G : Context} (n : ℕ) {a : Term} → IsContext S G → slice_get G n ≡ Some a → free_of a + n + 1 ≤ length G
 context_scoped n {a} empty at = absurd (none-some a at)
 context_scoped zero {a} (bind {G = G} {a = b} i context da) at =

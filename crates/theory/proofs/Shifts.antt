@@ -99,13 +99,13 @@ weaken_by-is_lift k t = ren-same t (λ n. sym (lift_var-above n k 0 (omega arith
 pub lift-is_inst : (t : Term) (by from : ℕ) → lift t by from ≡ inst (λ n. Var (lift_var n by from)) t
 lift-is_inst t by from = lift-is_ren t by from ∙ ren-is_inst (λ n. lift_var n by from) t
 
--- what a lift does after an instantiation
+-- a lift after an instantiation
 pub lift-inst : (s : ℕ → Term) (t : Term) (by from : ℕ) → lift (inst s t) by from ≡ inst (λ n. lift (s n) by from) t
 lift-inst s t by from =
     lift-is_inst (inst s t) by from
     ∙ (inst-inst (λ n. Var (lift_var n by from)) s t ∙ sym (inst-same t (λ n. lift-is_inst (s n) by from)))
 
--- what a substitution does after an instantiation
+-- a substitution after an instantiation
 pub subst-inst : (s : ℕ → Term) (t : Term) (at : ℕ) (u : Term) → subst (inst s t) at u ≡ inst (λ n. subst (s n) at u) t
 subst-inst s t at u =
     subst-is_inst (inst s t) at u

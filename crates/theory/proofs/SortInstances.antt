@@ -71,7 +71,7 @@ sorts_bound n positive = record {
   instance = λ k s t h each. sorts_of_inst s t n h each;
 }
 
--- products have the sorts of their telescope and of what comes after it
+-- products have the sorts of their telescope and of their end
 pub sorts_before_products : (tele : Telescope) (body : Term) (n : ℕ) → SortsBelow n (products tele body)
     → All (SortsBelow n) tele × SortsBelow n body
 sorts_before_products [] body n h = (All-nil (SortsBelow n), h)

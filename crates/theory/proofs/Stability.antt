@@ -43,7 +43,7 @@ redex-inst s {ps = ps} {ms = ms} {is = is} {qs = qs} {us = us} h = record {
   arguments = length-map us (inst s) ∙ h.arguments;
 }
 
--- an instantiation keeps what a redex steps to
+-- an instantiation keeps the contraction of a redex
 pub contracts-inst : (S : Signature) → HasClosedBodies S → (s : ℕ → Term) {t u : Term} → Contracts S t u
     → Contracts S (inst s t) (inst s u)
 contracts-inst S closed s (beta {a} {b} {u}) = rw (inst-put s b u) beta

@@ -83,7 +83,7 @@ replaces-extend {S} {G} {a} {u} du = each
 pub has-put : {S : Signature} → IsTyped S → {G : Context} {t u a b : Term} → Has S (a ∷ G) t b → Has S G u a → Has S G (put u t) (put u b)
 has-put typed {G} {u = u} dt du = has-inst typed dt (extend Var u) G (replaces-extend du) (context_of du)
 
--- the same by `subst`
+-- substitution by `subst`
 pub substitution : Substitution
 substitution S G t u a b typed dt du =
     subst₂ (Has S G) (sym (subst-is_extend t u)) (sym (subst-is_extend b u))

@@ -30,7 +30,7 @@ sorts_of_term (symbol context type) = sorts_of_symbol type
 sorts_of_term (below i dt le db) = sorts_of_term dt
 sorts_of_term (below_sort i dt le) = sorts_of_term dt
 
--- the same as a law
+-- this as a law
 pub sorts_of_derivation : SortsOfDerivation
 sorts_of_derivation S G t a h = sorts_of_term h
 

@@ -33,7 +33,7 @@ variable_sort {S} typed (suc n) a (bind {G = G} {a = b} i context db) at =
           (has-ren typed d suc (b ∷ G) (renames-suc b G) (bind i context db)),
     )
 
--- what a closed term has in the empty context, it has in every context
+-- a closed term with a sort in the empty context has it in every context
 pub has-anywhere : {S : Signature} {G : Context} {t : Term} → IsTyped S → IsClosed t → (i : ℕ) → IsContext S G → Has S [] t (Sort i) → Has S G t (Sort i)
 has-anywhere {S} {G} {t} typed closed i context d =
     transport (λ x. Has S G x (Sort i)) (ren-closed (λ n. n) t closed)

@@ -15,7 +15,7 @@ pub record IsIotaRedex (f : Family) (c : Constructor) (ps ms is qs us : List Ter
   pub constructor_parameters : length qs ≡ length f.parameters
   pub arguments : length us ≡ length c.arguments
 
--- what a redex steps to
+-- the contraction of a redex
 pub data Contracts (S : Signature) : Term → Term → Type 0 where
   beta : {a b u : Term} → Contracts S (App (Lam a b) u) (put u b)
   zeta : {a t b : Term} → Contracts S (Let a t b) (put t b)

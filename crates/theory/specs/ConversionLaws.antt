@@ -40,7 +40,7 @@ ConvertsOfLift =
     (S : Signature) → HasClosedBodies S → (by from : ℕ) (t u : Term) →
     Converts S t u → Converts S (lift t by from) (lift u by from)
 
--- the same where convertible terms are put for a variable in convertible terms
+-- and convertible terms may be substituted for a variable in convertible terms
 abbrev pub ConvertsOfSubst : Type 0
 ConvertsOfSubst =
     (S : Signature) → HasClosedBodies S → (at : ℕ) (t t' u u' : Term) →

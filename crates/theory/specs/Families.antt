@@ -1,4 +1,4 @@
--- Inductive families (Dybjer, "Inductive families", 1994) as records, and the types of what they bring along.
+-- Inductive families (Dybjer, "Inductive families", 1994) as records, and the types of the symbols that they bring along.
 --
 -- A record is over the variables of its parameters. The type of constructor argument j is over the parameters and
 -- the arguments before it, and the targets are over the parameters and all arguments.

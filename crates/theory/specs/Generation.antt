@@ -1,4 +1,4 @@
--- What the derivations of each form of term are made of.
+-- The parts of the derivations of each form of term.
 use Rattle.std.specs.Prelude.{Some, ◌≡◌, ℕ, ◌+◌, ◌<◌, ◌∷◌, max, slice_get}
 use Rattle.theory.specs.Terms.{Term, Var, Sort, Pi, Lam, App, Let, Const, Fam, Con, Elim, AxiomK, top}
 use Rattle.theory.specs.Substitutions.{put}
@@ -44,7 +44,7 @@ pub record OfApplication (S : Signature) (G : Context) (f u type : Term) : Type 
   pub argument : Has S G u domain
   pub order : Below S (put u codomain) type
 
--- a local definition has its type, and what follows has the type with the definition in the variable's place
+-- a local definition has its type, and its body has the type with the definition in the variable's place
 pub record OfLet (S : Signature) (G : Context) (a t b type : Term) : Type 0 where
   pub level : ℕ
   pub declared : Has S G a (Sort level)
@@ -57,7 +57,7 @@ pub record OfSymbol (S : Signature) (t type : Term) : Type 0 where
   pub type_of : TypeOf S t given
   pub order : Below S given type
 
--- what a derivation of each form of term is made of
+-- the parts of a derivation of each form of term
 abbrev pub Parts : Signature → Context → Term → Term → Type 0
 Parts S G (Var n) type = OfVariable S G n type
 Parts S G (Sort i) type = OfSort S i type

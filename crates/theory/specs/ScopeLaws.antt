@@ -1,4 +1,4 @@
--- Scoping of what signatures bring: the types of symbols are closed, and steps bring no free variable in.
+-- Scoping in signatures: the types of symbols are closed, and steps bring no free variable in.
 use Rattle.std.specs.Prelude.{ℕ, ◌+◌, ◌≤◌, List, length, ◌↔◌}
 use Rattle.std.specs.List.{All}
 use Rattle.theory.specs.Terms.{Term, free_of, IsClosed}
@@ -10,7 +10,7 @@ use Rattle.theory.specs.Conversion.{Step}
 use Rattle.theory.specs.WellFormed.{IsTyped}
 use Rattle.theory.specs.Scopes.{IsTelescopeOver, IsConstructorOver, IsClosedFamily}
 
--- products are scoped where their telescope is, and what comes after it
+-- products are scoped where their telescope is, and their end after it
 abbrev pub FreeOfProducts : Type 0
 FreeOfProducts =
     (tele : Telescope) (body : Term) (n : ℕ) →

@@ -1,4 +1,4 @@
--- What keeps terms scoped, and which terms are scoped with a signature.
+-- Scoped terms stay scoped over more variables and entries, and under substitutions; the terms of a scoped signature are scoped.
 use Rattle.std.specs.Prelude.{◌≡◌, Some, ℕ, ◌+◌, ◌≤◌, ◌<◌, ◌↔◌, List, [], slice_get, All}
 use Rattle.theory.specs.Terms.{Term, lift, subst}
 use Rattle.theory.specs.Substitutions.{ren, inst}
@@ -13,11 +13,11 @@ use Rattle.theory.specs.SignatureScopes.{IsScoped, IsScopedTelescope, IsScopedCo
 abbrev pub ScopedOverMore : Type 0
 ScopedOverMore = (S : Signature) (n m : ℕ) (t : Term) → n ≤ m → IsScoped S n t → IsScoped S m t
 
--- what is scoped over the first entries of a signature is scoped over all of them
+-- a term that is scoped over the first entries of a signature is scoped over all of them
 abbrev pub ScopedOverAll : Type 0
 ScopedOverAll = (S : Signature) (count n : ℕ) (t : Term) → IsScoped (first_entries S count) n t → IsScoped S n t
 
--- and what is scoped over a signature is scoped over a longer one
+-- and a term that is scoped over a signature is scoped over a longer one
 
 abbrev pub ScopedOverLonger : Type 0
 ScopedOverLonger = (S T : Signature) → IsPrefix S T → (n : ℕ) (t : Term) → IsScoped S n t → IsScoped T n t

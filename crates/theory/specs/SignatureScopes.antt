@@ -40,7 +40,7 @@ abbrev pub IsScopedTelescope : Signature → ℕ → Telescope → Type 0
 IsScopedTelescope S n [] = Unit {0}
 IsScopedTelescope S n (a ∷ tele) = IsScoped S n a × IsScopedTelescope S (n + 1) tele
 
--- the same of a context, which lists its types from the nearest one on
+-- a scoped context, which lists its types from the nearest one on
 abbrev pub IsScopedContext : Signature → Context → Type 0
 IsScopedContext S [] = Unit {0}
 IsScopedContext S (a ∷ G) = IsScoped S (length G) a × IsScopedContext S G

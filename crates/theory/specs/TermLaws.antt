@@ -1,4 +1,4 @@
--- The laws of `lift` and `subst`, with general positions, and what they are as renaming and instantiation.
+-- The laws of `lift` and `subst`, with general positions, and as renaming and instantiation.
 use Rattle.std.specs.Prelude.{◌≡◌, ℕ, ◌+◌, ◌≤◌, nat_lt, cond, ◌↔◌}
 use Rattle.theory.specs.Terms.{Term, Var, lift, lift_var, subst, subst_var, height, free_of, SortsBelow}
 use Rattle.theory.specs.Substitutions.{ren, weaken, inst, extend}

@@ -79,8 +79,8 @@ pub data IsWellFormedSoFar : Signature → Type 0 where
   with_provisional : (S : Signature) (name : List ℕ) (type : Term) → IsWellFormed S → AllPairs (λ x y. x ≢ y) (names (provisional S name type))
       → HasSort S [] type → IsWellFormedSoFar (provisional S name type)
 
--- What the laws of typing need of a signature: each entry's type has a sort, and each body has its type or is the
--- provisional constant.
+-- The condition of the laws of typing on a signature: each entry's type has a sort, and each body has its type or is the provisional
+-- constant.
 pub record IsTyped (S : Signature) : Type 0 where
   pub types : {t a : Term} → TypeOf S t a → HasSort S [] a
   pub bodies : {n : ℕ} {name : List ℕ} {type body : Term} → IsEntryAt S n (Definition name type body) → (body ≡ Const n) ⊎ Has S [] body type

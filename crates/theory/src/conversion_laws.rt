@@ -47,7 +47,7 @@ pub fn converts_of_lift()
     ensures { ConvertsOfLift }
 {}
 
-/// A substitution keeps conversion, in the term and in what it puts.
+/// A substitution keeps conversion, in the term and in the one that it puts.
 pub fn converts_of_subst()
     ensures { ConvertsOfSubst }
 {}

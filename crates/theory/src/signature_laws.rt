@@ -56,7 +56,7 @@ pub fn derivations_over_longer()
     ensures { DerivationsOverLonger }
 {}
 
-/// What has a sort has one over a longer signature.
+/// A type with a sort has one over a longer signature.
 pub fn sorts_over_longer()
     ensures { SortsOverLonger }
 {}

@@ -1,12 +1,12 @@
-//! The laws of scoping: what keeps terms scoped, and which terms are scoped with a signature.
+//! The laws of scoping: scoped terms stay scoped, and the terms of a scoped signature are scoped.
 ghost use Rattle.theory.specs.SignatureScopeLaws.{ScopedOverMore, ScopedOverAll, ScopedOverLonger, ScopedTelescopesOverLonger, ScopedContextsOverLonger, RenScoped, InstScoped, LiftScoped, SubstScoped, ContextScoped, TypesScoped, BodiesScoped, IotaScoped};
 
-/// What is scoped is scoped over more variables.
+/// A scoped term is scoped over more variables.
 pub fn scoped_over_more()
     ensures { ScopedOverMore }
 {}
 
-/// What is scoped over the first entries is scoped over all.
+/// A term that is scoped over the first entries is scoped over all.
 pub fn scoped_over_all()
     ensures { ScopedOverAll }
 {}

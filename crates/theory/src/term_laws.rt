@@ -81,7 +81,7 @@ pub fn free_of_subst()
     ensures { FreeOfSubst }
 {}
 
-/// What is scoped after a substitution was scoped before it, with one variable more.
+/// A term that is scoped after a substitution was scoped before it, with one variable more.
 pub fn free_before_subst()
     ensures { FreeBeforeSubst }
 {}

@@ -46,7 +46,7 @@ pub fn substitution()
     ensures { Substitution }
 {}
 
-/// Generation: what a derivation of each form of term is made of.
+/// Generation: the parts of a derivation of each form of term.
 pub fn generation()
     ensures { Generation }
 {}

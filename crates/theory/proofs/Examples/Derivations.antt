@@ -1,4 +1,4 @@
--- Derivations: sorts, the identity function, `let`, cumulativity, symbols; what has no type.
+-- Derivations: sorts, the identity function, `let`, cumulativity, symbols; terms without a type.
 use Rattle.std.proofs.Common.{◌≡◌, [], ◌∷◌, refl, arith, lit<, lit≤}
 use Rattle.theory.specs.Terms.{Term, Var, Sort, Pi, Lam, Let, Const, Con, Elim, AxiomK, top}
 use Rattle.theory.specs.Telescopes.{Context}
@@ -77,7 +77,7 @@ suc_of_two = application (suc_is_function empty) two_is_nat
 vec_of_two : Has sample [] (Vec Nat (Const 8)) (Sort 0)
 vec_of_two = application (application (symbol empty (family vec refl)) (nat_is_type empty)) two_is_nat
 
--- what has the type Vec Nat two has the type Vec Nat (suc (suc zero)): a step within a type
+-- a term of type Vec Nat two has the type Vec Nat (suc (suc zero)): a step within a type
 converted : Has sample (Vec Nat (Const 8) ∷ []) (Var 0) (Vec Nat two)
 converted =
     let c = bind 0 empty vec_of_two in

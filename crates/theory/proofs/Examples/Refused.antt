@@ -1,4 +1,4 @@
--- What the conditions of well-formed signatures refuse.
+-- Entries that the conditions of well-formed signatures refuse.
 use Rattle.std.proofs.Common.{◌≡◌, ◌≢◌, ℕ, true, false, List, [], ◌∷◌, length, refl, arith, sym, ◌∙◌, true≢false, lit<, AllPairs, ◌<◌, map, ap, subst, subst₂}
 use Rattle.std.proofs.Math.Seq.{take-append_seam}
 use Rattle.std.proofs.lemmas.Option.{slice_get_within}
@@ -25,7 +25,7 @@ k_elsewhere m h = grind (arith, h.identity.entry)
 eliminator_into_top : (S : Signature) (n : ℕ) (f : Family) → IsEliminator S n top f → ⊥
 eliminator_into_top S n f h = let lt = h.level in omega arith
 
--- the same instance once more
+-- an instance that is already there
 instance_twice : IsEliminator defined nat 0 nat_family → ⊥
 instance_twice h = h.new (5, lit< tt, refl)
 
