@@ -101,14 +101,8 @@ module _ (S : Signature) (name : List ℕ) (new : IsNewName S [] [] name) where
   abbrev Parameters : List Term → Type 0
   Parameters found = AreTypesOver S 0 found
 
-  zero-text : List ℕ
-  zero-text = term_text T (Sort 0)
-
   plain-over : (parameters : List Term) → Parameters parameters → (type : Term) → IsTermOver S false (length parameters) type → IsFamilyOver S (raw_family name parameters type [])
   plain-over parameters are type over = record { name = new; parameters = are; type = over; constructors = tt }
-
-  five : (a b c d e : List ℕ) → (((a ++ b) ++ c) ++ d) ++ e ≡ a ++ (b ++ (c ++ (d ++ e)))
-  five a b c d e = simp append_assoc
 
   -- with the type
   type-front : (parameters : List Term) → Parameters parameters → (type : Term) → IsTermOver S false (length parameters) type → IsFront (Goes S) (((head parameters ++ codes " : ") ++ term_text T type) ++ codes " {")
