@@ -102,12 +102,6 @@ written-at [] at w lt = absurd (omega arith)
 written-at (u ∷ us) zero w lt = refl
 written-at (u ∷ us) (suc at) w lt = let n : suc at + 1 ≡ suc (at + 1) = omega arith in rw n (written-at us at w (omega arith))
 
-pub written-before : (us : List code.Term) (at : ℕ) (w : code.Term) → take at (set us at w) ≡ take at us
-written-before [] zero w = refl
-written-before [] (suc at) w = refl
-written-before (u ∷ us) zero w = refl
-written-before (u ∷ us) (suc at) w = ap (λ ws. u ∷ ws) (written-before us at w)
-
 -- the answer for those after is one for all of them
 pub behind-runs : (at : ℕ) (old new : List code.Term) (u : code.Term) (result : Result Bool Stop) (left : ℕ) (rest whole : Spent (Option (List Term))) → at < length old → u ≡ get_or old at u
     → take (at + 1) new ≡ take (at + 1) old → whole ≡ mapped (λ ws. tree_of u ∷ ws) rest → Runs (λ found. cond found (Some (drop (at + 1) (tele_of new))) None) result left rest

@@ -16,14 +16,8 @@ module _ (S : Signature) (t : Term) (n number : ℕ) (head : head_of t ≡ Con n
   at-head : built_of S t ≡ option_and_then (λ f. option_and_then (with_all n number f (spine_of t)) (slice_get f.constructors number)) (family_at S n)
   at-head = ap (λ h. with_spine S h (spine_of t)) head
 
-  pub no_family : family_at S n ≡ None → built_of S t ≡ None
-  no_family e = at-head ∙ ap (option_and_then (λ f. option_and_then (with_all n number f (spine_of t)) (slice_get f.constructors number))) e
-
   at-family : (f : Family) → family_at S n ≡ Some f → built_of S t ≡ option_and_then (with_all n number f (spine_of t)) (slice_get f.constructors number)
   at-family f e = at-head ∙ ap (option_and_then (λ f. option_and_then (with_all n number f (spine_of t)) (slice_get f.constructors number))) e
-
-  pub no_constructor : (f : Family) → family_at S n ≡ Some f → slice_get f.constructors number ≡ None → built_of S t ≡ None
-  no_constructor f e there = at-family f e ∙ ap (option_and_then (with_all n number f (spine_of t))) there
 
   at-constructor : (f : Family) (c : Constructor) → family_at S n ≡ Some f → slice_get f.constructors number ≡ Some c → built_of S t ≡ with_all n number f (spine_of t) c
   at-constructor f c e there = at-family f e ∙ ap (option_and_then (with_all n number f (spine_of t))) there

@@ -1,5 +1,5 @@
 -- The turn of a trial, by the constructors on both sides.
-use Rattle.std.proofs.Common.{◌≡◌, ℕ, ◌+◌, ◌≤◌, ◌==◌, Bool, true, cond, Option, Some, Result, Ok, Err, List, length, take, drop, sym, ap, ap₂, ◌∙◌, subst, arith}
+use Rattle.std.proofs.Common.{◌≡◌, ℕ, ◌+◌, ◌≤◌, ◌==◌, Bool, true, cond, Option, Some, Result, Ok, Err, List, length, take, drop, sym, ap, ap₂, ◌∙◌, arith}
 use Rattle.std.proofs.lemmas.Bool.Decides.{nat_tests}
 use Rattle.std.proofs.lemmas.List.{length-map, length-take, length-drop}
 use Rattle.theory.specs.Terms.{Term, height}
@@ -19,10 +19,8 @@ use Rattle.unification.specs.Heights.{injection_made}
 use Rattle.unification.specs.States.{Equation, State}
 use Rattle.unification.specs.Turns.{Goes, Trial, Turn, goes_to, type_in}
 use Rattle.unifier.specs.declared.built.Built.{Built}
-use Rattle.unifier.specs.Conditions.{AreOver, IsOver}
 use Rattle.core_terms.specs.declared.term.Term as code
 use Rattle.kernel_reduce.proofs.SpineLengths.{spine_fits}
-use Rattle.unifier.proofs.GivenTerms.{drop-over, spine-over}
 use Rattle.unifier.proofs.BuiltCodes.{IsOf, from_code, of-built}
 
 same-number : (x : ℕ) → (x == x) ≡ true
@@ -104,9 +102,6 @@ count-arguments l us count args all is =
 
 pub few-arguments : (l : Term) (count args : ℕ) → length (spine_of l) ≡ count + args → height l ≤ 2000 → args ≤ 2000
 few-arguments l count args all low = let h = spine_fits l in omega arith
-
-pub arguments-over : (n : ℕ) (l : Term) (us : List code.Term) (count : ℕ) → IsOver n l → tele_of us ≡ drop count (spine_of l) → AreOver n (tele_of us)
-arguments-over n l us count h is = subst (AreOver n) (sym is) (drop-over n count (spine_of l) (spine-over n l h))
 
 -- ---- turns of a group
 

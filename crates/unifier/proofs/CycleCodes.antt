@@ -1,6 +1,5 @@
 -- The code finds the same term around a variable, below constructors, as the definition.
-use Rattle.std.proofs.Common.{◌≡◌, ◌≢◌, ℕ, zero, ◌<◌, ◌==◌, Bool, true, false, cond, Option, Some, None, Ok, Err, List, [], ◌∷◌, ◌++◌, length, drop, reverse, slice_get, refl, sym, ap, ap₂, ◌∙◌, subst, append_assoc, append-nil, arith}
-use Rattle.std.proofs.lemmas.Bool.Decides.{nat_tests}
+use Rattle.std.proofs.Common.{◌≡◌, ℕ, zero, ◌<◌, ◌==◌, Bool, true, false, cond, Option, Some, None, Ok, Err, List, [], ◌∷◌, ◌++◌, length, drop, reverse, slice_get, refl, sym, ap, ap₂, ◌∙◌, subst, append_assoc, append-nil, arith}
 use Rattle.std.proofs.lemmas.List.{length-map, map-append, reverse-append, reverse-reverse}
 use Rattle.theory.specs.Terms.{Term}
 use Rattle.theory.specs.Spines.{spine_of}
@@ -79,22 +78,6 @@ none-waits arguments us made whole none h =
 direct-found : (S : Signature) (t : Term) (b : Built) → IsOf S t b → direct_among (from_code b t).constructor.arguments (from_code b t).arguments ≡ direct_in b t
 direct-found S t b h =
     ap (λ n. direct_among (constructor_of (length b.record.now.params) b.con.now).arguments (drop n (spine_of t))) (length-map b.record.now.params tree_of)
-
-same-family : (x : ℕ) (a b : List Term) → cond (x == x) a b ≡ a
-same-family x a b = ap (λ t. cond t a b) (let e : (x == x) ≡ true = grind (arith, nat_tests) in e)
-
-other-family : (x y : ℕ) (a b : List Term) → x ≢ y → cond (x == y) a b ≡ b
-other-family x y a b h = ap (λ t. cond t a b) (let e : (x == y) ≡ false = grind (arith, nat_tests) in e)
-
--- they wait
-pub arguments-found : (S : Signature) (n : ℕ) (t : Term) (b : Built) → IsOf S t b → b.family ≡ n → direct_arguments n (built_of S t) ≡ direct_in b t
-arguments-found S n t b h e =
-    ap₂ direct_arguments (sym e) (of-built S t b h)
-    ∙ (same-family b.family (direct_among (from_code b t).constructor.arguments (from_code b t).arguments) [] ∙ direct-found S t b h)
-
-pub arguments-apart : (S : Signature) (n : ℕ) (t : Term) (b : Built) → IsOf S t b → b.family ≢ n → direct_arguments n (built_of S t) ≡ []
-arguments-apart S n t b h apart =
-    ap (direct_arguments n) (of-built S t b h) ∙ other-family b.family n (direct_among (from_code b t).constructor.arguments (from_code b t).arguments) [] apart
 
 pub direct-same : (S : Signature) (t : Term) (b : Built) (p : pure.Built) → built_of S t ≡ Some p → IsBuiltAs b p → direct_among p.constructor.arguments p.arguments ≡ direct_in b t
 direct-same S t b p e is =

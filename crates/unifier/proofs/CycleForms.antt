@@ -101,10 +101,6 @@ abbrev pub AreLower : (h : ℕ) → List Term → Type 0
 AreLower h [] = Unit {0}
 AreLower h (u ∷ us) = (height u < h) × AreLower h us
 
-lower-more : (h k : ℕ) (us : List Term) → h ≤ k → AreLower h us → AreLower k us
-lower-more h k [] le b = tt
-lower-more h k (u ∷ us) le b = (omega (arith, b.0), lower-more h k us le b.1)
-
 applied-high : (f : Term) (us : List Term) → height f ≤ height (applied f us)
 applied-high f [] = omega arith
 applied-high f (u ∷ us) = let h = applied-high (App f u) us in omega arith

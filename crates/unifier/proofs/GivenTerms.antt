@@ -1,14 +1,13 @@
 -- Terms that are given: those in a state that is kept, and the arguments of a term.
-use Rattle.std.proofs.Common.{◌≡◌, ℕ, zero, suc, ◌+◌, ◌≤◌, ◌<◌, Bool, true, false, cond, Some, List, [], ◌∷◌, ◌++◌, length, take, drop, get_or, slice_get, All, refl, sym, ap, ◌∙◌, subst, arith}
+use Rattle.std.proofs.Common.{◌≡◌, ℕ, zero, suc, ◌+◌, ◌≤◌, ◌<◌, Bool, true, false, cond, Some, List, [], ◌∷◌, ◌++◌, length, take, drop, get_or, slice_get, All, sym, ap, ◌∙◌, subst, arith}
 use Rattle.std.proofs.lemmas.List.Elements.{All-tail}
 use Rattle.std.proofs.lemmas.Option.{slice_get_within}
-use Rattle.theory.specs.Terms.{Term, height, free_of}
+use Rattle.theory.specs.Terms.{Term, height}
 use Rattle.theory.specs.Spines.{spine_of}
 use Rattle.theory.specs.Families.{Argument}
 use Rattle.theory.specs.Signatures.{Signature}
 use Rattle.theory.specs.SignatureScopes.{IsScoped}
 use Rattle.theory.proofs.ScopedTerms.{scoped_over_more, spine-scoped}
-use Rattle.kernel_reduce.proofs.Contractions.{spine-free}
 use Rattle.kernel_reduce.specs.Reduction.{most_variables}
 use Rattle.kernel_reduce.specs.WellScoped.{CanReduce}
 use Rattle.unification.specs.Built.{is_direct}
@@ -21,7 +20,7 @@ use Rattle.unifier.specs.declared.state.State as code
 use Rattle.core_terms.specs.Meanings.{tree_of, tele_of}
 use Rattle.core_terms.specs.declared.term.Term as term
 use Rattle.std.proofs.lemmas.List.{length-map, map-append}
-use Rattle.unifier.specs.Conditions.{AreBehind, AreGiven, AreOver, IsGiven, IsKept, IsOver, most_depth, most_levels}
+use Rattle.unifier.specs.Conditions.{AreBehind, AreGiven, AreOver, IsGiven, IsKept, IsOver, most_levels}
 use Rattle.unifier.proofs.CycleForms.{AreLower, spine-lower}
 use Rattle.unifier.proofs.Rooms.{room-kept}
 
@@ -94,27 +93,6 @@ pub spine-given : (S : Signature) (n : ℕ) (t : Term) → IsGiven S n t → Are
 spine-given S n t h =
     lower-given S n (height t) (spine_of t) (spine-scoped S n t h.scoped)
     (spine-lower t) h.low h.few
-
-pub take-over : (n k : ℕ) (us : List Term) → AreOver n us → AreOver n (take k us)
-take-over n zero us h = tt
-take-over n (suc k) [] h = tt
-take-over n (suc k) (u ∷ us) h = (h.0, take-over n k us h.1)
-
-pub drop-over : (n k : ℕ) (us : List Term) → AreOver n us → AreOver n (drop k us)
-drop-over n zero us h = h
-drop-over n (suc k) [] h = tt
-drop-over n (suc k) (u ∷ us) h = drop-over n k us h.1
-
-lower-over : (n h : ℕ) (us : List Term) → All (λ u. free_of u ≤ n) us → AreLower h us → h ≤ 2000 → n ≤ most_depth → AreOver n us
-lower-over n h [] free lower low few = tt
-lower-over n h (u ∷ us) free lower low few =
-    let f : free_of u ≤ n = free 0 u (omega arith) in
-    ((omega (arith, lower.0), f, few), lower-over n h us (All-tail (λ u. free_of u ≤ n) u us free) lower.1 low few)
-
-pub spine-over : (n : ℕ) (t : Term) → IsOver n t → AreOver n (spine_of t)
-spine-over n t h =
-    lower-over n (height t) (spine_of t) (spine-free n t (spine_of t) refl h.1)
-    (spine-lower t) h.0 h.2
 
 -- ---- the equations of a state
 

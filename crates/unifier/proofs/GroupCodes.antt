@@ -1,5 +1,5 @@
 -- The code finds the same group as the definition.
-use Rattle.std.proofs.Common.{◌≡◌, ◌≢◌, ℕ, zero, suc, ◌+◌, ◌-◌, ◌≤◌, ◌<◌, ◌==◌, ◌&&◌, Bool, true, false, Option, Some, None, Ok, Err, List, [], ◌∷◌, length, take, drop, get_or, All, IsTrue, sym, ap, ap₂, ◌∙◌, arith}
+use Rattle.std.proofs.Common.{◌≡◌, ◌≢◌, ℕ, zero, suc, ◌+◌, ◌-◌, ◌≤◌, ◌<◌, ◌==◌, ◌&&◌, Bool, true, false, Option, Some, Ok, Err, List, [], ◌∷◌, length, take, drop, get_or, All, IsTrue, sym, ap, ap₂, ◌∙◌, arith}
 use Rattle.std.proofs.lemmas.Bool.Decides.{nat_tests}
 use Rattle.std.proofs.lemmas.List.{length-map, take_all}
 use Rattle.std.proofs.lemmas.List.Elements.{All-cons, All-nil}
@@ -45,9 +45,6 @@ module _ (f : CodeFamily) (k : ℕ) (spine : List Term) where
 
   count-parameters : length (family_of f).parameters ≡ length f.params
   count-parameters = length-map f.params tree_of
-
-  pub places-indices : length f.indices ≢ k → false ≡ has_places k spine (family_of f)
-  places-indices h = sym (test-other (length (family_of f).indices) k _ (λ e. h (sym count-indices ∙ e)))
 
   pub places-spine : length f.indices ≡ k → length spine ≢ length f.params + k → false ≡ has_places k spine (family_of f)
   places-spine e h =
@@ -143,22 +140,10 @@ module _ (S : Signature) (s : State) (k : ℕ) (e : PureEquation) (type : Term) 
   go l b r d units =
       and_next (are_equations_of S (membership_from m) (take (k + 1) s.equations) units) (λ holds rest. if_holds holds (group_turn S s k e (membership_from m) type l b r d) rest)
 
-  pub heads-refused : (x : Stop) (end : ℕ) → ◌≡◌ {A = Spent (Option (Term × Term))} (Err x, end) member_heads → ◌≡◌ {A = Spent (Option Turn)} (Err x, end) member_trial
-  heads-refused x end h = ap (λ r. and_next r (λ found rest. with_heads S go found rest)) h
-
-  pub heads-none : (end : ℕ) → ◌≡◌ {A = Spent (Option (Term × Term))} (Ok None, end) member_heads → ◌≡◌ {A = Spent (Option Turn)} (Ok None, end) member_trial
-  heads-none end h = ap (λ r. and_next r (λ found rest. with_heads S go found rest)) h
-
   module _ (l r : Term) (end : ℕ) (found : ◌≡◌ {A = Spent (Option (Term × Term))} (Ok (Some (l, r)), end) member_heads) (one : AreOfOneFamily S l r) where
     at-heads : go l one.b r one.d end ≡ member_trial
     at-heads =
         sym (ap₂ (λ x y. with_built go l r x y end) one.left one.right) ∙ ap (λ r. and_next r (λ found rest. with_heads S go found rest)) found
-
-    pub equations-refused : (x : Stop) (last : ℕ) → ◌≡◌ {A = Spent Bool} (Err x, last) (are_equations_of S (membership_from m) (take (k + 1) s.equations) end) → ◌≡◌ {A = Spent (Option Turn)} (Err x, last) member_trial
-    equations-refused x last h = ap (λ q. and_next q (λ holds rest. if_holds holds (group_turn S s k e (membership_from m) type l one.b r one.d) rest)) h ∙ at-heads
-
-    pub equations-other : (last : ℕ) → ◌≡◌ {A = Spent Bool} (Ok false, last) (are_equations_of S (membership_from m) (take (k + 1) s.equations) end) → ◌≡◌ {A = Spent (Option Turn)} (Ok None, last) member_trial
-    equations-other last h = ap (λ q. and_next q (λ holds rest. if_holds holds (group_turn S s k e (membership_from m) type l one.b r one.d) rest)) h ∙ at-heads
 
     pub equations-hold : (last : ℕ) → ◌≡◌ {A = Spent Bool} (Ok true, last) (are_equations_of S (membership_from m) (take (k + 1) s.equations) end)
         → with_built (group_turn S s k e (membership_from m) type) l r (built_of S l) (built_of S r) last ≡ member_trial

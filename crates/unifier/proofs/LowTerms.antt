@@ -101,10 +101,6 @@ low-sides X left right el er h =
           rw (← e) (omega (arith, sides.1, l))),
     )
 
--- where a side is not low the equations are Deep
-abbrev pub DeepWhere : (X : List Item) (left right : List Term) → Type 0
-DeepWhere X left right = equations_made X left right ≡ Err Deep
-
 deep-terms : (terms : List Term) → (AreLow terms → ⊥) → bounded_terms terms ≡ Err Deep
 deep-terms terms high = go (are_low terms) refl
   where

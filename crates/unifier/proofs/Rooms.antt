@@ -11,7 +11,6 @@ use Rattle.core_terms.specs.Meanings.{tree_of, tele_of}
 use Rattle.core_terms.specs.declared.term.Term as code
 use Rattle.core_terms.specs.declared.stop.Stop.{Stop}
 use Rattle.core_terms.specs.declared.stop.Stop.TheVariants.{Deep}
-use Rattle.tele_eq.specs.Items.{term_at}
 use Rattle.tele_eq.specs.Environments.{put}
 use Rattle.unification.specs.Solving.{reordered}
 use Rattle.unification.specs.Heights.{are_low_equations, bounded_state}
@@ -24,11 +23,6 @@ use Rattle.unifier.proofs.PutTerms.{height-reordered}
 use Rattle.unifier.proofs.LowTerms.{and-parts, low-height}
 
 -- ---- parts of lists
-
-pub type-over : (n : ℕ) (tele : Telescope) (j : ℕ) → AreTypesOver n tele → j < length tele → IsOver (n + j) (term_at tele j)
-type-over n [] j h lt = absurd (omega arith)
-type-over n (a ∷ tele) zero h lt = let e : n + 0 ≡ n = omega arith in rw e h.0
-type-over n (a ∷ tele) (suc j) h lt = let e : n + suc j ≡ n + 1 + j = omega arith in rw e (type-over (n + 1) tele j h.1 (omega arith))
 
 pub types-few : (n : ℕ) (tele : Telescope) → AreTypesOver n tele → n + length tele ≤ most_levels
 types-few n [] h = omega arith

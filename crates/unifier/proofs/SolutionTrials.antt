@@ -1,7 +1,7 @@
 -- The turn of a trial of a solution.
-use Rattle.std.proofs.Common.{◌≡◌, ℕ, ◌+◌, ◌-◌, ◌≤◌, ◌<◌, Bool, true, false, ◌&&◌, not, cond, Option, Some, None, List, ◌∷◌, length, Result, Ok, Err, refl, sym, ap, ap₂, ◌∙◌, subst as transport, arith}
+use Rattle.std.proofs.Common.{◌≡◌, ℕ, ◌+◌, ◌-◌, Bool, true, false, ◌&&◌, not, cond, Option, Some, None, List, ◌∷◌, length, Result, Ok, Err, refl, sym, ap, ap₂, ◌∙◌, subst as transport}
 use Rattle.std.proofs.lemmas.List.{length-map}
-use Rattle.theory.specs.Terms.{Term, Var, free_of}
+use Rattle.theory.specs.Terms.{Term}
 use Rattle.theory.specs.Signatures.{Signature}
 use Rattle.core_terms.specs.Answers.{Gives, IsUnforeseen, Runs, Spent, Unless, and_next, and_then, are_low}
 use Rattle.core_terms.specs.CaseTrees.{Step}
@@ -28,11 +28,6 @@ lacks-of_code ctx n x p moved t r en ep em er =
     let others : moved ≡ dependants (tele_of ctx) (length (tele_of ctx) - (x + 1)) =
     em ∙ ap (λ k. dependants (tele_of ctx) (k - (x + 1))) (sym (length-map ctx tree_of)) in
     er ∙ (ap (λ k. not (has_level k (p ∷ moved) t)) many ∙ ap₂ (λ k levels. not (has_level (length (tele_of ctx)) (k ∷ levels) t)) level others)
-
--- a variable that is scoped
-pub variable-within : (t : Term) (n x : ℕ) → variable_in t ≡ Some x → free_of t ≤ n → x < n
-variable-within (Var y) n x e h = let k : y ≡ x = cc in omega arith
-variable-within _ n x e h = absurd (cc)
 
 -- the answer of a call after a first part that was accepted
 pub runs-behind : {A B X : Type 0} (f : A → B) (r : Result A Stop) (left : ℕ) (first : Spent X) (x : X) (go : X → ℕ → Spent B) (meant : Result B Stop)

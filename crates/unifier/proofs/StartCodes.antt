@@ -37,12 +37,6 @@ module _ (S : Signature) (p : code.Problem) (given : IsScopedProblem S (problem_
   count : (length (problem_of p).context ≡ length p.ctx) × (length (problem_of p).telescope ≡ length p.tele)
   count = (length-map p.ctx tree_of, length-map p.tele item_of)
 
-  pub problem-left : length p.left ≡ length p.tele
-  problem-left = sym (length-map p.left tree_of) ∙ (given.left_length ∙ count.1)
-
-  pub problem-right : length p.right ≡ length p.tele
-  problem-right = sym (length-map p.right tree_of) ∙ (given.right_length ∙ count.1)
-
   pub problem-few_items : HasFewVariables (problem_of p).telescope
   problem-few_items =
       let t = length-map (problem_of p).telescope (λ (x : Item). x.type) in
