@@ -1,6 +1,5 @@
 mod Examples
 pub mod Arguments
-pub mod ClosedFamilies
 pub mod ConstructorTypes
 pub mod DraftTerms
 pub mod EliminatorsByLevels

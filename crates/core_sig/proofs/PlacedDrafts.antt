@@ -3,7 +3,7 @@ use Rattle.std.proofs.Common.{◌≡◌, ℕ, zero, suc, ◌+◌, ◌-◌, ◌<�
 use Rattle.std.proofs.lemmas.Bool.Decides.{nat_tests}
 use Rattle.std.proofs.lemmas.List.Elements.{All-head, All-tail, All-nil, All-cons}
 use Rattle.std.proofs.lemmas.Option.{slice_get_within}
-use Rattle.theory.specs.Terms.{Term, height, lift}
+use Rattle.theory.specs.Terms.{Term, height}
 use Rattle.theory.specs.Terms.Term.{Var, Sort, Pi, Lam, App, Let, Const, Fam, Con, Elim, AxiomK}
 use Rattle.theory.specs.Telescopes.{Telescope, products, functions, applied}
 use Rattle.theory.specs.Signatures.{Signature, Definition, IsPrefix}
@@ -119,21 +119,6 @@ entries-longer m base count (AxiomK i l) h = tt
 pub draft-longer : {S T : Signature} → IsPrefix S T → {base count n : ℕ} {t : Term} → IsDraftTerm S base count n t → IsDraftTerm T base count n t
 draft-longer longer {base} {count} {n} {t} h =
     record { variables = h.variables; entries = entries-longer (keeps-numbers (prefix_keeps longer)) base count t h.entries }
-
--- ---- terms that are lifted
-
-entries-lifted : (T : Signature) (base count : ℕ) (t : Term) (by from : ℕ) → HasDraftEntries T base count t → HasDraftEntries T base count (lift t by from)
-entries-lifted T base count (Pi a b) by from h = (entries-lifted T base count a by from h.0, entries-lifted T base count b by (from + 1) h.1)
-entries-lifted T base count (Lam a b) by from h = (entries-lifted T base count a by from h.0, entries-lifted T base count b by (from + 1) h.1)
-entries-lifted T base count (App f a) by from h = (entries-lifted T base count f by from h.0, entries-lifted T base count a by from h.1)
-entries-lifted T base count (Let a t b) by from h = (entries-lifted T base count a by from h.0, entries-lifted T base count t by from h.1, entries-lifted T base count b by (from + 1) h.2)
-entries-lifted T base count (Const c) by from h = h
-entries-lifted T base count (Fam n) by from h = h
-entries-lifted T base count (Con n c) by from h = h
-entries-lifted T base count (Elim n m) by from h = h
-entries-lifted T base count (Var v) by from h = tt
-entries-lifted T base count (Sort i) by from h = tt
-entries-lifted T base count (AxiomK i m) by from h = tt
 
 -- ---- terms that are placed
 
