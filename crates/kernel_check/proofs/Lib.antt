@@ -9,4 +9,3 @@ pub mod Sorts
 pub mod Soundness
 pub mod Spending
 pub mod SymbolTypes
-pub mod WellScoped
