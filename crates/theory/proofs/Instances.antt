@@ -84,10 +84,6 @@ inst-var (App f a) = ap₂ App (inst-var f) (inst-var a)
 inst-var (Let a t b) = ap₃ Let (inst-var a) (inst-var t) (inst-same b ups-var ∙ inst-var b)
 inst-var _ = refl
 
-ups-of : (r : ℕ → ℕ) (n : ℕ) → ups (λ m. Var (r m)) n ≡ Var (up r n)
-ups-of r zero = refl
-ups-of r (suc n) = refl
-
 -- a renaming is an instantiation by variables
 pub ren-is_inst : (r : ℕ → ℕ) (t : Term) → ren r t ≡ inst (λ n. Var (r n)) t
 ren-is_inst r t = sym (ap (ren r) (inst-var t)) ∙ ren-inst r Var t
