@@ -1,19 +1,19 @@
 // The calls that enter instances, at the greatest level and at the one above it, which has no name in a core file.
-ghost use Rattle.std.specs.Prelude.{◌≡◌, ◌×◌, Bool, IfOk, IsTrue};
+ghost use Rattle.std.specs.Prelude.{IfOk, IsTrue};
 ghost use Rattle.theory.specs.SignatureScopes.{IsFamilyNumber};
-ghost use Rattle.family_check.specs.Scopes.{HasPrelude, IsSettled};
+ghost use Rattle.library_tests.specs.Entering.{CanEnter};
 
-use core_sig::{Signature, TOP, is_scoped};
-use core_terms::{Denial, Reason, Stop, Term, Units};
+use core_sig::{Signature, is_scoped};
+use core_terms::{Denial, Reason, Stop, TOP, Term, Units};
 use family_check::{FamilyStop, axiom_k, instance};
 use std::alloc::Global;
+use std::process::Abort;
 use std::test::Fail;
 
 /// The prelude, which entries may enter.
 fn settled_prelude(alloc: Global, k: bool) -> Result<Signature, Stop>
-    ensures { IfOk result (λ sig. IsSettled sig × HasPrelude sig × (sig.has_k ≡ k)) }
+    ensures { IfOk result (CanEnter k) }
 {
-    family_check::laws::prelude_is_settled();
     Signature::prelude(alloc, k)
 }
 
@@ -32,26 +32,32 @@ fn is_too_high(answer: &Result<u32, FamilyStop>) -> bool {
     matches!(answer, Err(FamilyStop::Denied { denial: Denial { reason: Reason::LevelTooHigh, .. }, .. }))
 }
 
-/// An eliminator may go into each level below the greatest one; a second call finds what the first one entered.
+/// The answer to the eliminator of `Empty` into a level, over the prelude.
+fn eliminator(rt: &impl Abort, alloc: Global, m: u8) -> Result<Result<u32, FamilyStop>, Stop> {
+    let mut sig = settled_prelude(alloc, false)?;
+    assert!(rt; is_family(&sig, 0));
+    Ok(instance(alloc, &mut sig, 0, m, &mut units()))
+}
+
+/// The answer to axiom K at two levels, over the prelude with K.
+fn k(alloc: Global, i: u8, m: u8) -> Result<Result<u32, FamilyStop>, Stop> {
+    let mut sig = settled_prelude(alloc, true)?;
+    Ok(axiom_k(alloc, &mut sig, i, m, &mut units()))
+}
+
 #[test]
 fn eliminators_into_the_greatest_levels(rt: HostRuntime) -> Result<(), Fail> {
     let alloc = rt.alloc();
-    let mut sig = settled_prelude(alloc, false)?;
-    assert!(rt; is_family(&sig, 0));
-    assert!(rt; is_too_high(&instance(alloc, &mut sig, 0, TOP, &mut units())));
-    assert!(rt; is_family(&sig, 0));
-    let first = instance(alloc, &mut sig, 0, TOP - 1, &mut units());
-    assert!(rt; is_family(&sig, 0));
-    let second = instance(alloc, &mut sig, 0, TOP - 1, &mut units());
-    assert!(rt; matches!((first, second), (Ok(a), Ok(b)) if a == b));
+    assert!(rt; is_too_high(&eliminator(&rt, alloc, TOP)?));
+    assert!(rt; eliminator(&rt, alloc, TOP - 1)?.is_ok());
     Ok(())
 }
 
-/// So may axiom K, and the level of its equality is below the greatest one too.
 #[test]
 fn k_at_the_greatest_levels(rt: HostRuntime) -> Result<(), Fail> {
     let alloc = rt.alloc();
-    let mut sig = settled_prelude(alloc, true)?;
-    assert!(rt; is_too_high(&axiom_k(alloc, &mut sig, 0, TOP, &mut units())));
+    assert!(rt; is_too_high(&k(alloc, TOP, 0)?));
+    assert!(rt; is_too_high(&k(alloc, 0, TOP)?));
+    assert!(rt; k(alloc, TOP - 1, TOP - 1)?.is_ok());
     Ok(())
 }
