@@ -1,7 +1,6 @@
 -- The laws of the reports of clauses, however these are found.
-use Rattle.std.specs.Prelude.{◌≡◌, ◌↔◌, ℕ, suc, ◌<◌, ◌≤◌, true, false, Ok, IfOk, List, All, length, map}
-use Rattle.theory.specs.Terms.{Term, Const}
-use Rattle.theory.specs.Telescopes.{applied}
+use Rattle.std.specs.Prelude.{◌≡◌, ◌↔◌, ℕ, suc, ◌<◌, ◌≤◌, true, Ok, IfOk, List, All, length, map}
+use Rattle.theory.specs.Terms.{Term}
 use Rattle.theory.specs.Conversion.{Converts}
 use Rattle.theory.specs.Signatures.{Signature, Definition, IsEntryAt, IsPrefix, equation}
 use Rattle.theory.specs.SignatureScopes.{IsScoped, IsScopedTelescope}
@@ -10,25 +9,13 @@ use Rattle.core_sig.specs.Drafts.{Draft}
 use Rattle.family_check.specs.Entering.{Entered}
 use Rattle.family_check.specs.Scopes.{HasPrelude}
 use Rattle.case_trees.specs.pattern_vectors.Matching.{matches_all}
-use Rattle.case_trees.specs.Points.{under_solution}
 use Rattle.tree_translation.specs.Plans.{Plan}
 use Rattle.clause_reports.specs.Conditions.{IsEntered, IsReference}
 use Rattle.clause_reports.specs.DraftEntering.{enter_draft_of}
-use Rattle.clause_reports.specs.Equations.{Equation, equation_of, in_signature, number_of, part_at, pats_of, closed_type}
+use Rattle.clause_reports.specs.Equations.{Equation, equation_of, part_at, pats_of, closed_type}
 use Rattle.clause_reports.specs.ProofTerms.{proof_name}
 use Rattle.clause_reports.specs.Reports.{Reference, Reported, Definitional, Proved, Shadowed, Absurd, report_of, some_absurd, order_in, shown_leaf}
 use Rattle.clause_reports.specs.Shadows.{leaves_of, equation_at_leaf}
-use Rattle.clause_reports.specs.Showing.{AllShow}
-
--- ---- equations
-
--- The left side of a function's clause shows its patterns.
-abbrev pub LeftShows : Type 0
-LeftShows =
-    (before S : Signature) (plan : Plan) (c : Reference) (e : Equation) → IsEntered before S plan → IsReference plan c → c.part ≡ 0 →
-    some_absurd (pats_of (part_at plan 0) c.clause) ≡ false → equation_of S plan 0 c.clause c.walk ≡ Ok e →
-    (us : List Term) × (e.left ≡ applied (Const (number_of S plan.name)) us)
-    × AllShow S (λ t. in_signature S plan (under_solution c.walk.binds t)) (pats_of (part_at plan 0) c.clause) us c.walk.binds
 
 -- ---- entering
 

@@ -9,5 +9,4 @@ pub mod ProofTerms
 pub mod ProofWalks
 pub mod Reports
 pub mod Shadows
-pub mod Showing
 pub mod Stops

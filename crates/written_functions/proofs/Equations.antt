@@ -33,18 +33,16 @@ use Rattle.tree_translation.specs.Recursion.{recursion_of}
 use Rattle.tree_translation.specs.RightSides.{is_helper}
 use Rattle.clause_reports.specs.Equations.{Equation, all_shown, equation_of, in_signature, last_argument, left_side, number_of, own_number, part_at, part_named, pats_of, right_side, side_of, walk_site}
 use Rattle.clause_reports.specs.Reports.{some_absurd}
-use Rattle.clause_reports.specs.Showing.{AllShow}
+use Rattle.written_functions.specs.Fitting.{AllFit}
 use Rattle.clause_reports.specs.elaboration.Walking.{Opened, Opening, Walked, helper_arguments, opened}
 use Rattle.written_functions.proofs.equation_laws.LeftShowing.{IsAt, equation-is, families-stay}
 use Rattle.written_functions.proofs.equation_laws.OwnMatches.{IsMatched, walk-matched}
-use Rattle.written_functions.proofs.equation_laws.ShownTerms.{FamiliesStay, all-show}
+use Rattle.written_functions.proofs.equation_laws.ShownTerms.{FamiliesStay, all-fit, all-written}
 use Rattle.function_checks.proofs.function_clauses.Fitting.{clause-for}
 use Rattle.resolve.specs.Functions.{Function}
 use Rattle.resolve.specs.Scoping.{IsClause}
 use Rattle.with_abstraction.specs.Laws.{IsScopedAbstraction}
 use Rattle.written_functions.specs.Clauses.{FunctionAt, HasEquation, IsHelperCall, IsLeft, IsOwnWalk, IsRight, Placed, Start, scrutinee_in, start_of, written_in}
-use Rattle.written_functions.specs.Fitting.{AllFit, AnyDot}
-use Rattle.written_functions.proofs.Fitted.{all-fit, all-shown-fit}
 use Rattle.written_functions.proofs.HelperColumns.{columns-told, itself, variable-itself}
 use Rattle.written_functions.proofs.Numbers.{AreUnder, scoped-under}
 use Rattle.written_functions.proofs.PlanClauses.{IsPlaced, columns-are, placed-pats, placed-side}
@@ -305,11 +303,10 @@ module _ (S : Signature) (f : Function) (plan : Plan) (h : IsPlanGiven S f plan)
         context = is.context;
         type = is.type;
         is = record {
-          fit = transport (AllFit U AnyDot c.pats w.terms) m.binds (all-fit X U families c.pats w.terms (m.matches clean));
           shown = all_shown U wr c.pats w.terms;
-          shows =
-              all-shown-fit U wr (λ written t. t ≡ written_in U at w.binds written) (λ x. written-is w.binds x) c.pats (all_shown U wr c.pats w.terms) w.binds
-              (transport (AllShow U wr c.pats (all_shown U wr c.pats w.terms)) m.binds (all-show X U wr families c.pats w.terms (m.matches clean)));
+          fit =
+              all-written U wr (written_in U at w.binds) (written-is w.binds) c.pats w.terms (all_shown U wr c.pats w.terms) w.binds
+              (transport (AllFit U wr c.pats w.terms (all_shown U wr c.pats w.terms)) m.binds (all-fit X U wr families c.pats w.terms (m.matches clean)));
           left = transport (λ n. IsLeft U at n w.terms (all_shown U wr c.pats w.terms) e.left) (sym p.part) left;
           right = right;
         };

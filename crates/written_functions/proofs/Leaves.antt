@@ -41,13 +41,12 @@ use Rattle.clause_reports.specs.Reports.{order_in, shown_leaf}
 use Rattle.clause_reports.specs.Shadows.{TreeLeaf, equation_at_leaf, leaves_below, leaves_in_branch, leaves_of}
 use Rattle.clause_reports.specs.elaboration.Walking.{Walked, helper_arguments}
 use Rattle.written_functions.proofs.equation_laws.LeftShowing.{IsAt, equation-is}
-use Rattle.written_functions.proofs.equation_laws.ShownTerms.{all-show}
+use Rattle.written_functions.proofs.equation_laws.ShownTerms.{all-fit, all-written}
 use Rattle.function_checks.proofs.function_clauses.Fitting.{clauses-for}
 use Rattle.resolve.specs.Functions.{Function}
 use Rattle.resolve.specs.Scoping.{IsClause}
 use Rattle.written_functions.specs.Clauses.{ConvertsAt, IsLeft, IsRight, Placed, written_in}
 use Rattle.written_functions.proofs.Equations.{call-is, families, is-call, no-call, placed_at, written-is}
-use Rattle.written_functions.proofs.Fitted.{all-fit, all-shown-fit}
 use Rattle.written_functions.proofs.PlanClauses.{IsPlaced, columns-are, placed-pats, placed-side}
 use Rattle.written_functions.proofs.PlanGiven.{IsPlanGiven, clauses-listed, helper-made, own-made, start_ordered}
 use Rattle.written_functions.proofs.Walked as walked
@@ -284,11 +283,10 @@ module _ (S : Signature) (f : Function) (plan : Plan) (h : IsPlanGiven S f plan)
           same = all-convert T leaf.binds (all_variable_places T c.pats leaf.terms) bound;
           called = right.called;
           is = record {
-            fit = all-fit T U stay c.pats leaf.terms matched;
             shown = all_shown U wr c.pats leaf.terms;
-            shows =
-                all-shown-fit U wr (λ written t. t ≡ written_in U at leaf.binds written) (λ x. written-is S f plan h U prefix leaf.binds x) c.pats
-                (all_shown U wr c.pats leaf.terms) (all_variable_places T c.pats leaf.terms) (all-show T U wr stay c.pats leaf.terms matched);
+            fit =
+                all-written U wr (written_in U at leaf.binds) (written-is S f plan h U prefix leaf.binds) c.pats leaf.terms
+                (all_shown U wr c.pats leaf.terms) (all_variable_places T c.pats leaf.terms) (all-fit T U wr stay c.pats leaf.terms matched);
             left = transport (λ n. IsLeft U at n leaf.terms (all_shown U wr c.pats leaf.terms) e.left) (sym p.part) left;
             right = right.is;
           };

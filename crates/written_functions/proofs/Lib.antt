@@ -1,5 +1,4 @@
 pub mod Equations
-pub mod Fitted
 pub mod Functions
 pub mod HelperColumns
 pub mod Leaves

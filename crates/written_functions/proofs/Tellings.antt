@@ -2,7 +2,7 @@
 use Rattle.std.proofs.Common.{◌≡◌, ℕ, ◌+◌, ◌<◌, ◌≤◌, Bool, true, false, Some, List, [], ◌∷◌, ◌++◌, length, length-append, map, codes, Result, Ok, Err, IfOk, refl, sym, ap, ap₂, ◌∙◌, subst as transport, arith}
 use Rattle.std.specs.List.{All}
 use Rattle.theory.specs.Signatures.{Definition, IsEntryAt, IsPrefix, Signature}
-use Rattle.theory.specs.WellFormed.{IsWellFormed, definition, provisional}
+use Rattle.theory.specs.WellFormed.{IsWellFormed, provisional}
 use Rattle.theory.proofs.Pushing.{prefix_transitive}
 use Rattle.theory.proofs.Widening.{prefix_keeps}
 use Rattle.core_terms.proofs.Answers.{Answers, and_next-has}
@@ -25,13 +25,12 @@ use Rattle.clause_reports.specs.Stops.{ReportStop}
 use Rattle.clause_reports.proofs.LineLaws.{absurd-line}
 use Rattle.clause_reports.specs.elaboration.Functions.{ClauseLine, Following, Lines, report_parts, report_walks, with_line}
 use Rattle.clause_reports.specs.elaboration.Refusals.{Owner, or_no_report, owner_of, reporting}
-use Rattle.written_functions.proofs.equation_laws.ShownTerms.{FamiliesStay}
+use Rattle.written_functions.proofs.equation_laws.ShownTerms.{FamiliesStay, all-fit}
 use Rattle.family_check.specs.Scopes.{HasPrelude}
 use Rattle.resolve.specs.Functions.{Function}
 use Rattle.written_functions.specs.Clauses as written
 use Rattle.written_functions.specs.Clauses.{AreLinesOf, ConvertsAt, IsLineOf, Placed, parts_of, placed_from, placed_in}
 use Rattle.written_functions.proofs.Equations.{has-equation, placed_at, with-count}
-use Rattle.written_functions.proofs.Fitted.{all-fit}
 use Rattle.written_functions.proofs.Leaves.{leaves-convert}
 use Rattle.written_functions.proofs.Numbers.{all-under, scoped-under, telescope-under}
 use Rattle.written_functions.proofs.PartEntries.{HasName, name-stays, part-there}
@@ -148,8 +147,8 @@ module _ (S Own : Signature) (f : Function) (plan : Plan) (h : IsPlanGiven S f p
         binds = other.binds;
         right = other.right;
         other = transport (λ i. written.clause_in f i earlier ≡ Some (Is other.pats other.binds other.right)) (sym p.part) other.there;
-        other_takes = (_, all-fit U U stay other.pats vector (ap (λ ps. matches_all U ps vector) (sym other.are) ∙ said.other));
-        takes = (_, all-fit U U stay c.pats vector (ap (λ ps. matches_all U ps vector) (sym same) ∙ said.own));
+        other_takes = (_, _, all-fit U U (λ t. t) stay other.pats vector (ap (λ ps. matches_all U ps vector) (sym other.are) ∙ said.other));
+        takes = (_, _, all-fit U U (λ t. t) stay c.pats vector (ap (λ ps. matches_all U ps vector) (sym same) ∙ said.own));
         all = said.shown ∙ ap₂ (λ n i. map shown_leaf (leaves_of n (part_at plan i).tree)) (sym p.own_number) (sym p.part);
         converts =
             transport (All (ConvertsAt U (placed_at S f plan) c)) (sym said.shown)

@@ -20,7 +20,7 @@ use Rattle.clause_reports.specs.Shadows.{leaves_of}
 use Rattle.clause_reports.specs.elaboration.Functions.{ClauseLine, after_domains, first_domains}
 use Rattle.function_session.specs.Laws.{inner}
 use Rattle.resolve.specs.Functions.{Function}
-use Rattle.written_functions.specs.Fitting.{AllFit, AnyDot, IsTaken}
+use Rattle.written_functions.specs.Fitting.{AllFit, IsTaken}
 
 -- the signature over which a function's clauses are read: the function is a provisional constant after the entries of S
 abbrev pub with_own : Signature → Function → Signature
@@ -105,7 +105,7 @@ pub record IsCall (S : Signature) (f : FunctionAt) (k : ℕ) (us : List Term) (c
   pub is : call ≡ applied (Const (part_number S f k)) (arguments ++ more)
   pub at : EachConverts (with_constant f) (map (under_solution arguments) (f.helpers k).columns) us
 
--- The left side: the function at terms that show the patterns, or a helper where its columns are terms that fit them.
+-- The left side: the function at what is shown of the terms, or a helper where its columns are the terms that fit.
 abbrev pub IsLeft : Signature → FunctionAt → (part : ℕ) → (fitting shown : List Term) → Term → Type 0
 IsLeft S f zero fitting shown left = left ≡ applied (Const (part_number S f 0)) shown
 IsLeft S f (suc k) fitting shown left = IsCall S f (suc k) fitting left
@@ -122,12 +122,11 @@ IsRight S f (clause.Side t) terms called right = right ≡ written_in S f terms 
 IsRight S f (clause.With t inside) terms called right = IsHelperCall S f inside called right
 IsRight S f clause.Absurd terms called right = right ≡ Sort 0
 
--- An equation of a clause at terms that fit its patterns and have `found` at its variables. On the left the same is shown, with each dot
--- as it is written. In the dots and on the right the variables are `terms`. A helper is called where its columns are `called`.
+-- An equation of a clause at terms that fit its patterns and have `found` at its variables. On the left these terms are shown, with each
+-- dot as it is written. In the dots and on the right the variables are `terms`. A helper is called where its columns are `called`.
 pub record IsEquation (S : Signature) (f : FunctionAt) (c : Placed) (fitting found terms called : List Term) (e : Equation) : Type 0 where
-  pub fit : AllFit S AnyDot c.pats fitting found
   pub shown : List Term
-  pub shows : AllFit S (λ written t. t ≡ written_in S f terms written) c.pats shown found
+  pub fit : AllFit S (written_in S f terms) c.pats fitting shown found
   pub left : IsLeft S f c.part fitting shown e.left
   pub right : IsRight S f c.right terms called e.right
 

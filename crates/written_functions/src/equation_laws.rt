@@ -1,6 +1,5 @@
 //! The equations of clauses show the patterns, and are over the entries.
-ghost use Rattle.clause_reports.specs.Laws.{LeftShows};
-ghost use Rattle.written_functions.specs.equation_laws.Laws.{EquationIsOver, ProvedIsTyped};
+ghost use Rattle.written_functions.specs.equation_laws.Laws.{EquationIsOver, LeftShows, ProvedIsTyped};
 
 /// The left side of a function's clause shows its patterns.
 pub fn left_shows()

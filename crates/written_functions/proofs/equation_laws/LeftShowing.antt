@@ -21,12 +21,12 @@ use Rattle.tree_translation.specs.Plans.{Plan}
 use Rattle.tree_translation.proofs.Drafting.{and_then-ok, bounded-ok}
 use Rattle.clause_reports.specs.Conditions.{IsEntered}
 use Rattle.clause_reports.specs.Equations.{Equation, Site, in_signature, number_of, all_shown, left_side, right_side, equation_at, equation_of, part_at, pats_of, side_of, walk_site}
-use Rattle.clause_reports.specs.Laws.{LeftShows}
+use Rattle.written_functions.specs.equation_laws.Laws.{LeftShows}
 use Rattle.clause_reports.specs.Reports.{Reference, some_absurd}
-use Rattle.clause_reports.specs.Showing.{AllShow}
+use Rattle.written_functions.specs.Fitting.{AllFit}
 use Rattle.written_functions.proofs.equation_laws.OwnMatches.{IsMatched, walk-matched}
 use Rattle.written_functions.proofs.equation_laws.PlannedClauses.{IsClauseThere, clause-there}
-use Rattle.written_functions.proofs.equation_laws.ShownTerms.{FamiliesStay, all-show}
+use Rattle.written_functions.proofs.equation_laws.ShownTerms.{FamiliesStay, all-fit}
 
 -- ---- the parts of an equation
 
@@ -68,12 +68,12 @@ shown-there : (before S : Signature) (plan : Plan) (c : Reference) (e : Equation
     → 0 < length plan.parts → slice_get (part_at plan 0).walks c.clause ≡ Some c.walk
     → some_absurd (pats_of (part_at plan 0) c.clause) ≡ false → equation_of S plan 0 c.clause c.walk ≡ Ok e
     → (us : List Term) × (e.left ≡ applied (Const (number_of S plan.name)) us)
-    × AllShow S (λ t. in_signature S plan (under_solution c.walk.binds t)) (pats_of (part_at plan 0) c.clause) us c.walk.binds
+    × AllFit S (λ t. in_signature S plan (under_solution c.walk.binds t)) (pats_of (part_at plan 0) c.clause) c.walk.terms us c.walk.binds
 shown-there before S plan c e entered low is clean made = (
   all_shown S written pats c.walk.terms,
   (equation-is S plan 0 pats (side_of (part_at plan 0) c.clause) (walk_site c.walk) e made).left,
-  transport (AllShow S written pats (all_shown S written pats c.walk.terms)) matched.binds
-      (all-show W S written (families-stay before S plan entered.prefix) pats c.walk.terms (matched.matches clean)),
+  transport (AllFit S written pats c.walk.terms (all_shown S written pats c.walk.terms)) matched.binds
+      (all-fit W S written (families-stay before S plan entered.prefix) pats c.walk.terms (matched.matches clean)),
 )
   where
     W : Signature
