@@ -195,6 +195,12 @@ report_parts plan k (part ∷ parts) S left = report_walks plan k 0 part.walks (
 
 -- ---- all of it
 
+-- the plan of a function that may spend so many units
+abbrev pub planned_of : Signature → Function → (fuel : ℕ) → Elaborating Plan
+planned_of S f fuel =
+    and_next (granted S OfType (infer_sort_of S nesting [] f.type fuel)) (λ sort rest.
+    and_next (answers (function_level S sort) rest) (λ level more. plan_of S f level more))
+
 -- the lines of a function that is accepted, with the signature that has its entries
 abbrev pub function_of : Signature → Function → (fuel : ℕ) → Elaborating Lines
 function_of S f fuel =
