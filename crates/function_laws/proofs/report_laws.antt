@@ -8,6 +8,5 @@ pub mod ShadowedReports
 pub mod MadeReports
 pub mod OwnWalks
 pub mod LeafSites
-pub mod NamedEntries
 pub mod EnteredParts
 pub mod FunctionReports

@@ -2,5 +2,4 @@
 #![tactic(auto)]
 
 pub mod declaration_laws;
-pub mod plan_laws;
 pub mod report_laws;

@@ -1,47 +1,55 @@
 -- A function by clauses that is accepted is as it is written.
-use Rattle.std.proofs.Common.{◌≡◌, ℕ, zero, suc, ◌+◌, ◌<◌, ◌≤◌, List, [], ◌∷◌, drop, length, length-append, Ok, Err, IfOk, refl, sym, ap, ◌∙◌, subst as transport, arith}
+use Rattle.std.proofs.Common.{◌≡◌, ℕ, zero, suc, ◌+◌, ◌<◌, ◌≤◌, List, [], ◌∷◌, length, length-append, Ok, Err, IfOk, refl, sym, ap, ◌∙◌, subst as transport, arith, ap₂, true}
 use Rattle.theory.specs.Terms.{Term}
 use Rattle.theory.specs.Signatures.{Definition, IsPrefix, Signature}
-use Rattle.theory.specs.SignatureScopes.{HasEntries}
+use Rattle.theory.specs.SignatureScopes.{IsScoped}
 use Rattle.theory.specs.Typing.{HasSort}
 use Rattle.theory.specs.WellFormed.{IsWellFormed, provisional, pushed}
 use Rattle.core_terms.proofs.Answers.{Answers, and_next-has}
-use Rattle.core_terms.specs.CaseTrees.{Tree}
 use Rattle.kernel_check.specs.Checking.{infer_sort_of}
 use Rattle.kernel_reduce.specs.Reduction.{nesting}
 use Rattle.surface_syntax.specs.Trees as surf
 use Rattle.surface_syntax.specs.declared.tree.Word.{Word}
 use Rattle.elab_session.proofs.Resolved.{prelude-stays}
 use Rattle.elab_session.specs.Sessions.{IsReady}
-use Rattle.tree_translation.specs.Naming.{helper_name}
-use Rattle.tree_translation.specs.Plans.{Plan}
-use Rattle.clause_reports.specs.Equations.{part_named}
+use Rattle.tree_translation.specs.Plans.{Plan, Part, own_part}
+use Rattle.clause_reports.specs.Equations.{part_named, part_at}
 use Rattle.theory.proofs.Lists.{slice_get-last}
-use Rattle.clause_reports.proofs.Keeping.{Grows, grows_on, weaker, weaker-of-two}
-use Rattle.clause_reports.specs.elaboration.Functions.{Lines, enter_plan, function_level, function_of, plan_of, report_parts}
+use Rattle.clause_reports.proofs.Keeping.{Grows, grows_on, weaker, weaker-of-two, grows_same}
+use Rattle.clause_reports.specs.elaboration.Functions.{Lines, enter_plan, function_level, function_of, plan_of, report_parts, first_domains, recursion_in}
 use Rattle.clause_reports.specs.elaboration.Refusals.{Elaborating, OfType, answers, granted}
 use Rattle.family_check.specs.Scopes.{HasPrelude}
 use Rattle.written_functions.proofs.equation_laws.LeftShowing.{ok-is}
 use Rattle.function_session.proofs.function_lines.FunctionAnswers.{function-answers}
 use Rattle.function_session.proofs.function_lines.Provisional.{provisional-over}
-use Rattle.function_session.specs.function_lines.Conditions.{IsFunctionOver}
 use Rattle.function_session.specs.function_lines.FunctionMade.{function_made}
-use Rattle.function_session.proofs.OwnEntry.{HasOwn, own-typed, plan-enters}
+use Rattle.function_session.proofs.OwnEntry.{HasOwn, own-typed}
 use Rattle.function_session.proofs.Written.{elaborates-written, function-new, function-scoped}
-use Rattle.function_session.specs.Elaborating.{Elaborated, elaborate_function, enter_function, on_function, on_lines, with_lines}
+use Rattle.function_session.specs.Elaborating.{Elaborated, elaborate_function, enter_function, on_lines, with_lines}
 use Rattle.function_session.specs.Laws.{IsWrittenFunction}
 use Rattle.function_session.proofs.Keeping.{on_function-has}
 use Rattle.elab_session.specs.Declaring.{accepted_as}
 use Rattle.resolve.specs.Functions.{Function, function}
-use Rattle.written_functions.specs.Clauses.{AreLinesOf, Start, parts_of, placed_from}
+use Rattle.written_functions.specs.Clauses.{AreLinesOf, Start, parts_of, placed_from, AreValues, IsStarted, Values, part_type}
 use Rattle.written_functions.specs.Functions.{IsByClauses}
 use Rattle.written_functions.specs.Laws.{FunctionsAreByClauses}
-use Rattle.written_functions.proofs.Equations.{placed_at}
-use Rattle.written_functions.proofs.PartEntries.{HasHelpers, HasName, helpers-enter, name-stays}
-use Rattle.written_functions.proofs.PlanClauses.{parts-placed}
-use Rattle.written_functions.proofs.PlanGiven.{IsPlanGiven, helpers-count, plan-given}
+use Rattle.written_functions.proofs.Equations.{placed_at, start_in}
+use Rattle.written_functions.proofs.PartEntries.{HasType}
+use Rattle.written_functions.proofs.PlanClauses.{parts-placed, part-wide}
+use Rattle.written_functions.proofs.PlanGiven.{IsPlanGiven, helpers-count, plan-given, own-made, with-ok}
 use Rattle.written_functions.proofs.Walked.{is-ok}
 use Rattle.written_functions.proofs.Tellings.{IsBase, Tells, parts-tell}
+use Rattle.tree_translation.specs.Recursion.{recursion_of}
+use Rattle.theory.proofs.Widening.{prefix_keeps}
+use Rattle.clause_reports.specs.elaboration.Walking.{Opened}
+use Rattle.written_functions.proofs.Values.{IsMade, part-typed, values-are, values-last, values_in}
+use Rattle.written_functions.proofs.PlanMade.{HasEntries, plan-has}
+use Rattle.drafts.specs.draft_checks.Checks.{unmarked}
+use Rattle.plan_laws.proofs.Answering.{if-ok}
+use Rattle.plan_laws.specs.Conditions.{HasLevel}
+use Rattle.resolve.specs.Scoping.{IsResolvedFunction}
+use Rattle.function_plans.proofs.Orders.{in-is}
+use Rattle.written_functions.proofs.PlanFacts.{HasFacts, made-unmarked, plan-facts}
 
 -- ---- the function
 
@@ -50,14 +58,12 @@ record IsTold (S : Signature) (f : Function) (l : Lines) : Type 0 where
   with_plan : Signature
   own : HasOwn S f.name f.type with_plan
   grown : Grows with_plan l.signature
-  helpers : (k : ℕ) → Start
-  trees : (part : ℕ) → Tree
-  told : AreLinesOf (pushed own.before (Definition f.name f.type own.body)) l.signature (record { before = S; function = f; helpers = helpers; trees = trees })
+  parts : (k : ℕ) → Start
+  started : IsStarted f (parts 0)
+  values : List Values
+  values_are : AreValues l.signature (record { before = S; function = f; parts = parts; values = values }) own.body values
+  told : AreLinesOf (pushed own.before (Definition f.name f.type own.body)) l.signature (record { before = S; function = f; parts = parts; values = values })
       (placed_from 0 (parts_of f)) l.lines
-
-named : (S : Signature) (f : Function) (plan : Plan) (T : Signature) → IsPlanGiven S f plan → HasOwn S plan.name plan.type T → HasOwn S f.name f.type T
-named S f plan T is h =
-    transport (λ name. HasOwn S name f.type T) is.name (transport (λ type. HasOwn S plan.name type T) is.type h)
 
 -- a signature that grows is longer
 pub pushed-longer : (S B T : Signature) (name : List ℕ) (type body : Term) → Grows S B → Grows (pushed B (Definition name type body)) T
@@ -72,60 +78,102 @@ pushed-longer S B T name type body g h =
       length-append B.entries (Definition name type body ∷ []),
     )
 
--- each part is there under its name
-parts-there : (S : Signature) (f : Function) (plan : Plan) (T : Signature) (h : IsPlanGiven S f plan) → HasOwn S f.name f.type T → HasHelpers plan T
-    → (k : ℕ) → k < length (parts_of f) → HasName T (part_named f.name k)
-parts-there S f plan T h own helpers zero low =
-    name-stays (pushed own.before (Definition f.name f.type own.body)) T f.name own.entered.prefix
-    (record {
-      number = length own.before.entries;
-      type = f.type;
-      body = own.body;
-      there = slice_get-last own.before.entries (Definition f.name f.type own.body);
-    })
-parts-there S f plan T h own helpers (suc k) low =
-    let less : k < length (drop 1 plan.parts) = omega (arith, low, helpers-count S f plan h) in
-    transport (λ name. HasName T (helper_name name (suc k))) h.name
-    (transport (λ n. HasName T (helper_name plan.name n)) (let e : 1 + k ≡ suc k = omega arith in e) (helpers k less))
+-- each part is there under its name, with its type
+parts-there : (S : Signature) (f : Function) (plan : Plan) (T : Signature) (h : IsPlanGiven S f plan) → IsScoped S 0 f.type → (own : HasOwn S f.name f.type T)
+    → IsMade S plan T own.body → (k : ℕ) → k < length (parts_of f)
+    → HasType T (part_named f.name k) (part_type (placed_at S f plan (values_in T plan plan.parts)) k)
+parts-there S f plan T h typed own made zero low = record {
+  number = length own.before.entries;
+  body = own.body;
+  there =
+      (prefix_keeps own.entered.prefix).entry (length own.before.entries) (Definition f.name f.type own.body)
+      (slice_get-last own.before.entries (Definition f.name f.type own.body));
+}
+parts-there S f plan T h typed own made (suc k) low =
+    part-typed S f plan h typed T own.body made k (omega (arith, low, helpers-count S f plan h)) (part-wide S f plan h (suc k) low)
 
-plan-told : (S : Signature) (f : Function) (plan : Plan) (T : Signature) (left : ℕ) → IsWellFormed S → HasPrelude S → IsPlanGiven S f plan
-    → HasOwn S plan.name plan.type T → HasHelpers plan T → Answers (IsTold S f) (report_parts plan 0 plan.parts T left)
-plan-told S f plan T left well first h entered helpers =
-    let own : HasOwn S f.name f.type T = named S f plan T h entered in
+-- the entries of the plan have entered
+record HasPlan (S : Signature) (f : Function) (plan : Plan) (T : Signature) : Type 0 where
+  own : HasOwn S f.name f.type T
+  made : IsMade S plan T own.body
+
+plan-made : (S : Signature) (f : Function) (plan : Plan) (left : ℕ) → IsWellFormed S → HasPrelude S → IsPlanGiven S f plan → IsScoped S 0 f.type
+    → HasFacts S plan → Answers (HasPlan S f plan) (enter_plan S plan left)
+plan-made S f plan left well first h typed facts =
+    let tele : (own_part plan).tele ≡ first_domains plan.arity plan.type =
+    ap (λ (p : Part). p.tele) (own-made S f plan h).is
+    ∙ (ap (λ (q : Opened). q.tele) h.own_opened ∙ ap₂ first_domains (sym h.arity) (sym h.type)) in
+    let same : recursion_in S (first_domains plan.arity plan.type) plan.position ≡ recursion_of S plan =
+    ap (λ t. recursion_in S t plan.position) (sym tele) ∙ sym (in-is S (own_part plan).tele plan.position) in
+    weaker (HasEntries S plan plan.name plan.type) (HasPlan S f plan) (enter_plan S plan left).0
+    (λ T e.
+    let moved : HasEntries S plan f.name f.type T =
+    transport (λ name. HasEntries S plan name f.type T) h.name (transport (λ type. HasEntries S plan plan.name type T) h.type e) in
+    record { own = moved.own; made = moved.made })
+    (plan-has facts.Good facts.kept S plan facts.planned (transport (IsScoped S 0) (sym h.type) typed)
+    (record { grows = grows_same S; good = facts.good; well = well; prelude = first }) facts.names left same)
+
+-- the function's own part starts from its type
+own-started : (S : Signature) (f : Function) (plan : Plan) (h : IsPlanGiven S f plan) → IsStarted f (start_in (part_at plan 0))
+own-started S f plan h =
+    let same = (own-made S f plan h).is in
+    record {
+      telescope = ap (λ (p : Part). p.tele) same ∙ ap (λ (q : Opened). q.tele) h.own_opened;
+      goal = ap (λ (p : Part). p.goal) same ∙ ap (λ (q : Opened). q.goal) h.own_opened;
+      columns = ap (λ (p : Part). p.terms) same ∙ ap (λ (q : Opened). q.terms) h.own_opened;
+    }
+
+plan-told : (S : Signature) (f : Function) (plan : Plan) (T : Signature) (left : ℕ) → IsWellFormed S → HasPrelude S → IsScoped S 0 f.type
+    → IsPlanGiven S f plan → HasPlan S f plan T → Answers (IsTold S f) (report_parts plan 0 plan.parts T left)
+plan-told S f plan T left well first typed h there =
+    let own = there.own in
     let Own = pushed own.before (Definition f.name f.type own.body) in
     let g : Grows S T = grows_on S own.before T own.longer (grows_on own.before Own T own.enters own.entered) in
-    let base : IsBase S Own f plan T = record {
+    let values = values_in T plan plan.parts in
+    let base : IsBase S Own f plan values T T = record {
       well = g.keeps well first;
       prelude = prelude-stays S T first g.prefix;
       own = own.entered.prefix;
       before = g.prefix;
       low = omega (arith, h.base, pushed-longer S own.before T f.name f.type own.body own.longer own.entered);
-      parts = parts-there S f plan T h own helpers;
+      all = (grows_same T).prefix;
+      parts = parts-there S f plan T h typed own there.made;
     } in
-    weaker (Tells S Own f plan h T (placed_from 0 (parts_of f))) (IsTold S f) (report_parts plan 0 plan.parts T left).0
-    (λ l r. record { with_plan = T; own = own; grown = r.grows; helpers = (placed_at S f plan).helpers; trees = (placed_at S f plan).trees; told = r.told })
-    (parts-tell S Own f plan h 0 plan.parts (parts_of f) (parts-placed S f plan h) T left base)
+    let last = values-last S f plan h typed T own.body there.made in
+    weaker (Tells S Own f plan h values T last T (placed_from 0 (parts_of f))) (IsTold S f) (report_parts plan 0 plan.parts T left).0
+    (λ l r. record {
+      with_plan = T;
+      own = own;
+      grown = r.grows;
+      parts = (placed_at S f plan values).parts;
+      started = own-started S f plan h;
+      values = values;
+      values_are = values-are S f plan h typed T own.body there.made l.signature (r.grows.keeps base.well base.prelude) r.grows.prefix;
+      told = r.told;
+    })
+    (parts-tell S Own f plan h values T last 0 plan.parts (parts_of f) (parts-placed S f plan h) T left base)
 
-function-told : (S : Signature) (f : Function) (fuel : ℕ) → IsWellFormed S → HasPrelude S → HasEntries S f.type → IsFunctionOver (provisional S f.name f.type) f
+function-told : (S : Signature) (f : Function) (fuel : ℕ) → IsReady S → IsResolvedFunction S (provisional S f.name f.type) f → unmarked S ≡ true
     → Answers (IsTold S f) (function_of S f fuel)
-function-told S f fuel well first entries over =
+function-told S f fuel ready resolved marks =
     let P = IsTold S f in
+    let over = provisional-over S f ready resolved in
+    let typed = resolved.type.scoped in
     let found = granted S OfType (infer_sort_of S nesting [] f.type fuel) in
     and_next-has (λ sort. found.0 ≡ Ok sort) P found _ (is-ok found.0) (λ sort rest e1.
     and_next-has (λ level. function_level S sort ≡ Ok level) P (answers (function_level S sort) rest) _ (is-ok (function_level S sort)) (λ level more e2.
-    and_next-has (IsPlanGiven S f) P (plan_of S f level more) _ (plan-given S f level more over) (λ plan end h.
-    let Q : Signature → Type 0 = λ T. HasOwn S plan.name plan.type T × HasHelpers plan T in
-    and_next-has Q P (enter_plan S plan end) _
-    (weaker-of-two (HasOwn S plan.name plan.type) (HasHelpers plan) Q (enter_plan S plan end).0
-    (plan-enters S plan end h.base (transport (HasEntries S) (sym h.type) entries)) (helpers-enter S plan end) (λ T own helpers. (own, helpers)))
-    (λ T last own.
-    plan-told S f plan T last well first h own.0 own.1))))
+    let has : HasLevel S f level = record { fuel = fuel; sort = sort; granted_sort = e1; is_level = e2 } in
+    let made = plan_of S f level more in
+    and_next-has (λ plan. (made.0 ≡ Ok plan) × IsPlanGiven S f plan) P made _ (with-ok (IsPlanGiven S f) made.0 (plan-given S f level more over)) (λ plan end h.
+    let facts = plan-facts S f level more plan ready over resolved marks has h.0 in
+    and_next-has (HasPlan S f plan) P (enter_plan S plan end) _ (plan-made S f plan end ready.well_formed ready.prelude h.1 typed facts) (λ T last there.
+    plan-told S f plan T last ready.well_formed ready.prelude typed h.1 there))))
 
 -- ---- the declaration
 
--- the lines that are made are those that are meant, where they are made
+-- the lines that are made are those that are meant, where they are made, and the signature then has no marks in names
 made-has : (P : Elaborated → Type 0) (S : Signature) (x : Word) (fuel : ℕ) (f : Function)
-    → IfOk (function_of S f fuel).0 (λ l. P (with_lines (accepted_as x.text l.signature) l.lines))
+    → (unmarked S ≡ true → IfOk (function_of S f fuel).0 (λ l. P (with_lines (accepted_as x.text l.signature) l.lines)))
     → IfOk (on_lines x fuel (function_made S f fuel).0) P
 made-has P S x fuel f h = by (function_made S f fuel) refl
   where
@@ -134,7 +182,8 @@ made-has P S x fuel f h = by (function_made S f fuel) refl
 
     by : (r : Elaborating Lines) → function_made S f fuel ≡ r → IfOk (on_lines x fuel r.0) P
     by (Ok l, left) is =
-        transport (λ (m : Elaborating Lines). IfOk m.0 Q) (function-answers S f fuel l left is) h
+        let marks = if-ok (λ (l : Lines). unmarked S ≡ true) (function_made S f fuel).0 l (ap (λ (m : Elaborating Lines). m.0) is) (made-unmarked S f fuel) in
+        transport (λ (m : Elaborating Lines). IfOk m.0 Q) (function-answers S f fuel l left is) (h marks)
     by (Err e, left) is = tt
 
 -- the facts of the lines, with the function that was resolved
@@ -148,11 +197,10 @@ record IsLined (S : Signature) (x : Word) (ty : surf.Surf) (clauses : surf.Claus
 lined : (S : Signature) (fuel : ℕ) (x : Word) (ty : surf.Surf) (cs : surf.Clauses) → IsReady S → IfOk (elaborate_function S fuel x ty cs) (IsLined S x ty cs)
 lined S fuel x ty cs ready =
     on_function-has (IsLined S x ty cs) (function S x ty cs) (enter_function S fuel x) (λ f is.
-    let scoped = function-scoped S (surf.Fun x ty cs) f is in
-    made-has (IsLined S x ty cs) S x fuel f
-    (weaker (IsTold S f) (λ (l : Lines). IsLined S x ty cs (with_lines (accepted_as x.text l.signature) l.lines)) (function_of S f fuel).0
+    made-has (IsLined S x ty cs) S x fuel f (λ marks.
+    weaker (IsTold S f) (λ (l : Lines). IsLined S x ty cs (with_lines (accepted_as x.text l.signature) l.lines)) (function_of S f fuel).0
     (λ l h. record { given = f; resolved = is; lines = l; is = refl; told = h })
-    (function-told S f fuel ready.well_formed ready.prelude scoped.type.scoped.entries (provisional-over S f ready scoped))))
+    (function-told S f fuel ready (function-scoped S (surf.Fun x ty cs) f is) marks)))
 
 written : (S : Signature) (x : Word) (ty : surf.Surf) (cs : surf.Clauses) (a : Elaborated) → IsReady S → IsWrittenFunction S x ty cs a → IsLined S x ty cs a
     → IsByClauses S x ty cs a.signature a.lines
@@ -175,13 +223,15 @@ written S x ty cs a ready w l =
       entered =
           transport (λ name. IsPrefix (pushed t.own.before (Definition name f.type t.own.body)) l.lines.signature) new.name
           (grows_on Own t.with_plan l.lines.signature t.own.entered t.grown).prefix;
-      helpers = t.helpers;
-      trees = t.trees;
+      at = record { before = S; function = f; parts = t.parts; values = t.values };
+      is_at = (refl, refl);
+      started = t.started;
+      values = t.values_are;
       each_line =
           transport
           (λ name.
           AreLinesOf (pushed t.own.before (Definition name f.type t.own.body)) l.lines.signature
-          (record { before = S; function = f; helpers = t.helpers; trees = t.trees }) (placed_from 0 (parts_of f)) l.lines.lines)
+          (record { before = S; function = f; parts = t.parts; values = t.values }) (placed_from 0 (parts_of f)) l.lines.lines)
           new.name t.told;
     })
 

@@ -1,40 +1,24 @@
 -- The columns of a helper at the arguments of its call: the terms of the outer clause, and then the scrutinee.
-use Rattle.std.proofs.Common.{◌≡◌, ℕ, zero, suc, ◌+◌, ◌-◌, ◌≤◌, ◌<◌, Bool, true, false, cond, nat_lt, Some, List, [], ◌∷◌, ◌++◌, length, length-append, map, take, drop, get_or, slice_get, refl, sym, ap, ap₂, ◌∙◌, arith}
+use Rattle.std.proofs.Common.{◌≡◌, ℕ, zero, suc, ◌+◌, ◌-◌, ◌≤◌, ◌<◌, Bool, true, false, cond, nat_lt, Some, List, [], ◌∷◌, ◌++◌, length, length-append, map, take, drop, get_or, slice_get, refl, ap, ap₂, ◌∙◌, arith}
 use Rattle.std.specs.List.{All}
 use Rattle.std.proofs.lemmas.Bool.Decides.{nat_tests}
 use Rattle.std.proofs.lemmas.List.{length-drop, length-map, length-take-le, map-append}
 use Rattle.std.proofs.lemmas.List.Elements.{All-head, All-tail}
-use Rattle.theory.specs.Terms.{Term, Sort, Var, free_of}
+use Rattle.theory.specs.Terms.{Term, Sort, Var}
 use Rattle.theory.specs.Substitutions.{extend, inst, fill}
 use Rattle.theory.specs.Telescopes.{variables}
 use Rattle.theory.specs.Eliminators.{no_variable}
 use Rattle.theory.specs.Signatures.{Signature}
 use Rattle.theory.specs.SignatureScopes.{IsScoped}
-use Rattle.theory.proofs.Instances.{inst-inst, inst-var}
+use Rattle.theory.proofs.Instances.{inst-inst}
 use Rattle.theory.proofs.Instantiation.{inst-scoped}
 use Rattle.tele_eq.specs.Levels.{place_in}
 use Rattle.case_trees.specs.Points.{under_solution}
 use Rattle.clause_reports.specs.elaboration.Walking.{helper_arguments, helper_terms, variable_in}
 use Rattle.unification.proofs.Levels.{place-there}
-use Rattle.unification.proofs.UnderInstances.{fill-variables}
 use Rattle.with_abstraction.specs.Abstractions.{Abstracted}
 use Rattle.with_abstraction.specs.Laws.{IsScopedAbstraction}
 use Rattle.with_abstraction.proofs.PutBack.{fill-place}
-
--- ---- each variable for itself
-
-variables-inst : (k : ℕ) → map (inst Var) (variables k) ≡ variables k
-variables-inst k = by (variables k)
-  where
-    by : (ts : List Term) → map (inst Var) ts ≡ ts
-    by [] = refl
-    by (t ∷ ts) = ap₂ (λ u us. u ∷ us) (inst-var t) (by ts)
-
-pub variable-itself : (n v : ℕ) → v < n → under_solution (variables n) (Var v) ≡ Var v
-variable-itself n v less = ap (λ us. fill no_variable us v) (sym (variables-inst n)) ∙ fill-variables no_variable Var n v less
-
-pub itself : (n : ℕ) (t : Term) → free_of t ≤ n → under_solution (variables n) t ≡ t
-itself n t le = inst-scoped (fill no_variable (variables n)) t n (λ i less. variable-itself n i less) le
 
 -- ---- places in a list
 

@@ -1,26 +1,26 @@
 -- The equation of a clause at a leaf of its tree is one of the clause as it is written.
-use Rattle.std.proofs.Common.{◌≡◌, ℕ, zero, suc, ◌+◌, ◌<◌, ◌==◌, Bool, true, false, cond, Some, List, [], ◌∷◌, ◌++◌, length, map, slice_get, get_or, Result, Ok, IfOk, refl, sym, ap, ap₂, ◌∙◌, subst as transport, arith, eq-eqb}
+use Rattle.std.proofs.Common.{◌≡◌, ℕ, zero, suc, ◌+◌, ◌<◌, ◌==◌, Bool, true, false, cond, Some, List, [], ◌∷◌, length, map, slice_get, get_or, Result, Ok, IfOk, refl, sym, ap, ap₂, ◌∙◌, subst as transport, arith, eq-eqb}
 use Rattle.std.specs.List.{All}
-use Rattle.std.proofs.lemmas.Bool.{eqb-true}
+use Rattle.std.proofs.lemmas.Bool.{eqb-true, false≢true}
 use Rattle.std.proofs.lemmas.List.Elements.{All-append, All-cons, All-map, All-nil}
-use Rattle.std.proofs.lemmas.Option.{get_or_from_slice_get, slice_get_within}
-use Rattle.theory.specs.Terms.{Term, Const}
-use Rattle.theory.specs.Telescopes.{Telescope, applied}
+use Rattle.theory.specs.Terms.{Term}
+use Rattle.theory.specs.Eliminators.{no_variable}
+use Rattle.theory.specs.Telescopes.{Telescope, variables}
 use Rattle.theory.specs.Conversion.{Converts}
 use Rattle.theory.specs.Signatures.{Signature, IsPrefix}
 use Rattle.theory.specs.WellFormed.{provisional}
 use Rattle.theory.proofs.Lists.{some_is}
-use Rattle.theory.proofs.Spines.{applied-append}
+use Rattle.theory.proofs.ScopedTypes.{length-variables}
 use Rattle.core_terms.specs.CaseTrees as tree
 use Rattle.core_terms.specs.CaseTrees.{Tree, Branch, Branches, Walk}
-use Rattle.core_terms.specs.Clauses as clause
-use Rattle.core_terms.specs.Clauses.{Clauses, Is, Right}
+use Rattle.core_terms.specs.Patterns as pattern
 use Rattle.core_terms.specs.Patterns.{Pats}
 use Rattle.tele_eq.specs.Items.{each_position, term_at}
 use Rattle.tele_eq.specs.Levels.{place_in}
 use Rattle.tele_eq.specs.ReflexivityLaws.{EachConverts}
 use Rattle.unification.proofs.UnderInstances.{each-same}
-use Rattle.case_trees.specs.pattern_vectors.Matching.{matches_all}
+use Rattle.case_trees.specs.pattern_vectors.Matching.{matches, matches_all}
+use Rattle.case_trees.proofs.pattern_vectors.Separate.{and-both}
 use Rattle.case_trees.proofs.KeptConversion.{all-convert}
 use Rattle.case_trees.proofs.SolvedOrders.{not-equal}
 use Rattle.case_trees.proofs.TreeMatching.{leaves_lead, leaves_match}
@@ -33,24 +33,23 @@ use Rattle.case_trees.specs.Stops.{TreeStop}
 use Rattle.tree_translation.specs.Conditions.{patterns_of}
 use Rattle.tree_translation.specs.Mappings.{in_old_order}
 use Rattle.tree_translation.specs.Plans.{Part, Plan}
-use Rattle.tree_translation.specs.Recursion.{recursion_of}
 use Rattle.tree_translation.specs.Standings.{levels_from}
 use Rattle.tree_translation.proofs.LevelLists.{length-levels}
-use Rattle.clause_reports.specs.Equations.{Equation, Site, all_shown, in_signature, last_argument, leaf_site, left_side, number_of, part_at, part_named, pats_of, right_side, side_of}
+use Rattle.clause_reports.specs.Equations.{Equation, all_shown, in_signature, leaf_site, left_side, part_at, pats_of, right_side, side_of}
 use Rattle.clause_reports.specs.Reports.{order_in, shown_leaf}
 use Rattle.clause_reports.specs.Shadows.{TreeLeaf, equation_at_leaf, leaves_below, leaves_in_branch, leaves_of}
-use Rattle.clause_reports.specs.elaboration.Walking.{Walked, helper_arguments}
+use Rattle.clause_reports.specs.elaboration.Walking.{Opened, Walked}
 use Rattle.written_functions.proofs.equation_laws.LeftShowing.{IsAt, equation-is}
 use Rattle.written_functions.proofs.equation_laws.ShownTerms.{all-fit, all-written}
 use Rattle.function_checks.proofs.function_clauses.Fitting.{clauses-for}
 use Rattle.resolve.specs.Functions.{Function}
-use Rattle.resolve.specs.Scoping.{IsClause}
-use Rattle.written_functions.specs.Clauses.{ConvertsAt, IsLeft, IsRight, Placed, written_in}
-use Rattle.written_functions.proofs.Equations.{call-is, families, is-call, no-call, placed_at, written-is}
+use Rattle.resolve.specs.Scoping.{count}
+use Rattle.written_functions.specs.Clauses.{ConvertsAt, Placed, Values, left_of, written_in}
+use Rattle.written_functions.proofs.Equations.{AreLast, families, left-is, own-walk, placed_at, right-is, written-is}
 use Rattle.written_functions.proofs.PlanClauses.{IsPlaced, columns-are, placed-pats, placed-side}
-use Rattle.written_functions.proofs.PlanGiven.{IsPlanGiven, clauses-listed, helper-made, own-made, start_ordered}
-use Rattle.written_functions.proofs.Walked as walked
-use Rattle.written_functions.proofs.Walked.{IsPartGiven, IsSideOf}
+use Rattle.written_functions.proofs.PlanGiven.{IsPlanGiven, helper-made, own-made, start_ordered}
+use Rattle.written_functions.proofs.Recursors.{filled}
+use Rattle.written_functions.proofs.Walked.{IsPartGiven, part-given}
 
 -- ---- variables in their own order
 
@@ -84,6 +83,14 @@ same-order n ts long =
     ∙ (each-as (λ i. term_at ts (place_in (levels_from 0 n) i)) (term_at ts) 0 (length ts)
     (λ i lt. ap (term_at ts) (ap (place_in (levels_from 0 n)) (let e : i ≡ 0 + i = omega arith in e) ∙ place-level 0 n i (omega (arith, lt, long))))
     ∙ each-term ts)
+
+-- patterns that match are as many as the terms
+matched-long : (W : Signature) (pats : Pats) (us : List Term) → matches_all W pats us ≡ true → count pats ≡ length us
+matched-long W pattern.nil [] is = refl
+matched-long W pattern.nil (u ∷ us) is = absurd (false≢true is)
+matched-long W (pattern.cons pat pats) [] is = absurd (false≢true is)
+matched-long W (pattern.cons pat pats) (u ∷ us) is =
+    let rest : count pats ≡ length us = matched-long W pats us (and-both (matches W pat u) (matches_all W pats us) is).1 in omega (arith, rest)
 
 -- ---- the leaves of a clause
 
@@ -121,10 +128,10 @@ ConvertsThere S plan k number w leaf =
     (e : Equation) × (equation_at_leaf S plan k number (order_in S plan k) w leaf ≡ Ok e) × Converts S e.left e.right
 
 module _ (S : Signature) (f : Function) (plan : Plan) (h : IsPlanGiven S f plan) where
-  part-given : (k : ℕ) (v : Walked) → slice_get (h.own ∷ h.helpers) k ≡ Some v → IsPartGiven S f (h.own ∷ h.helpers) v
-  part-given k v at =
-      transport (IsPartGiven S f (h.own ∷ h.helpers)) (get_or_from_slice_get (h.own ∷ h.helpers) k v v at)
-      (h.given k v (slice_get_within (h.own ∷ h.helpers) k v at))
+  given-at : (k : ℕ) (v : Walked) → slice_get (h.own ∷ h.helpers) k ≡ Some v → IsPartGiven S f (h.own ∷ h.helpers) k v
+  given-at k v at =
+      transport (λ n. IsPartGiven S f (h.own ∷ h.helpers) n v) (let e : 0 + k ≡ k = omega arith in e)
+      (part-given S f (h.own ∷ h.helpers) 0 (h.own ∷ h.helpers) k v h.given at)
 
   -- the leaves of a part match their clauses
 
@@ -142,7 +149,7 @@ module _ (S : Signature) (f : Function) (plan : Plan) (h : IsPlanGiven S f plan)
   leaves-match (suc k) v at =
       let T = provisional S f.name f.type in
       let made = helper-made S f plan h k v at in
-      let given = (part-given (suc k) v at).walkable in
+      let given = (given-at (suc k) v at).walkable in
       transport (EachLeaf (λ number context goal s us bs. IsLeafOf T v.clauses number us bs)) (sym (ap (λ (p : Part). p.tree) made.is))
       (transport (λ (r : Result Tree TreeStop). IfOk r (EachLeaf (λ number context goal s us bs. IsLeafOf T v.clauses number us bs))) made.splits
       (leaves_match T v.part.tele v.part.goal v.part.terms v.clauses made.units given.given (clauses-for T v.part.terms v.clauses given.fitting)))
@@ -154,7 +161,7 @@ module _ (S : Signature) (f : Function) (plan : Plan) (h : IsPlanGiven S f plan)
   leaves-lead k v at =
       let T = provisional S f.name f.type in
       let made = helper-made S f plan h k v at in
-      let given = (part-given (suc k) v at).walkable in
+      let given = (given-at (suc k) v at).walkable in
       let start = start_at v.part.tele v.part.goal v.part.terms in
       transport (EachLeaf (λ number context goal s us bs. LeadsTo T start goal s us)) (sym (ap (λ (p : Part). p.tree) made.is))
       (transport (λ (r : Result Tree TreeStop). IfOk r (EachLeaf (λ number context goal s us bs. LeadsTo T start goal s us))) made.splits
@@ -180,87 +187,53 @@ module _ (S : Signature) (f : Function) (plan : Plan) (h : IsPlanGiven S f plan)
 
   -- ---- sides at a leaf
 
-  module _ (U : Signature) (prefix : IsPrefix S U) where
-    -- the right side of a clause at a leaf, with the arguments of the helper that it calls
-    record HasRight (right : Right) (binds : List Term) (v : Term) : Type 0 where
-      called : List Term
-      is : IsRight U (placed_at S f plan) right binds called v
-
-    helper-call : (vs args more : List Term) (inside : Clauses) (k : ℕ) (x : Walked) (v : Term) → 0 < k → slice_get (h.own ∷ h.helpers) k ≡ Some x
-        → x.clauses ≡ inside → (t : Term) (binds : List Term)
-        → v ≡ applied (in_signature U plan (under_solution vs (applied (Const (length S.entries + k)) args))) more
-        → HasRight (clause.With t inside) binds v
-    helper-call vs args more inside zero x v low at same t binds e = absurd (omega (arith, low))
-    helper-call vs args more inside (suc k) x v low at same t binds e =
-        let us = map (λ u. in_signature U plan (under_solution vs u)) args in
-        let columns = map (under_solution us) (part_at plan (suc k)).terms in
-        record {
-          called = columns;
-          is = record {
-            k = k;
-            helper = clauses-listed S f plan h (suc k) x at ∙ ap Some same;
-            is = record {
-              arguments = us;
-              more = more;
-              is =
-                  e
-                  ∙ (ap (λ c. applied c more) (call-is S f plan h U prefix vs (suc k) args)
-                  ∙ sym (applied-append (Const (number_of U (part_named f.name (suc k)))) us more));
-              at = each-same (provisional S f.name f.type) columns;
-            };
-          };
-        }
-
-    leaf-right : (w : Walk) (site : Site) (n : ℕ) (pats : Pats) (binds : ℕ) (right : Right) (side v : Term)
-        → IsSideOf S f (h.own ∷ h.helpers) w (Is pats binds right) side → IsClause (provisional S f.name f.type) n (Is pats binds right)
-        → v ≡ right_side U plan side site → HasRight right site.binds v
-    leaf-right w site n _ _ _ _ v (walked.term pats binds t) resolved e = record {
-      called = [];
-      is =
-          e
-          ∙ (ap
-          (λ b. cond b (applied (in_signature U plan (under_solution site.walked t)) (last_argument U plan (recursion_of U plan) site.terms))
-          (in_signature U plan (under_solution site.binds t))) (no-call S f plan h U prefix n binds pats t resolved)
-          ∙ written-is S f plan h U prefix site.binds t);
-    }
-    leaf-right w site n _ _ _ _ v (walked.scrutinee pats binds t inside k o part low at is same abstraction) resolved e =
-        let args = helper_arguments o.abstraction (under_solution w.binds t) in
-        let side = applied (Const (length S.entries + k)) args in
-        let more = last_argument U plan (recursion_of U plan) site.terms in
-        helper-call site.walked args more inside k part v low at same t site.binds
-        (e
-        ∙ ap (λ b. cond b (applied (in_signature U plan (under_solution site.walked side)) more) (in_signature U plan (under_solution site.binds side)))
-        (is-call S f plan h U prefix k args low))
-    leaf-right w site n _ _ _ _ v (walked.nothing pats binds) resolved e = record { called = []; is = e }
+  module _ (values : List Values) (U : Signature) (prefix : IsPrefix S U) (last : AreLast f plan values U) where
+    -- the left side of a clause at a leaf, with terms for the telescope
+    record HasLeft (k : ℕ) (leaf : TreeLeaf) (shown : List Term) (u : Term) : Type 0 where
+      there : List Term
+      led : EachConverts (provisional S f.name f.type) (map (under_solution there) (part_at plan k).terms) leaf.terms
+      is : u ≡ left_of U (placed_at S f plan values) k there leaf.terms shown
 
     leaf-left : (k number : ℕ) (w : Walk) (c : Placed) (p : IsPlaced S f plan h k number w c) (leaf : TreeLeaf) (u : Term) → IsLed k p.made_of leaf
+        → length leaf.terms ≡ length p.made_of.part.terms
         → u ≡ left_side U plan k c.pats (leaf_site (order_in U plan k) w leaf.context leaf.goal leaf.substitution leaf.terms leaf.binds)
-        → IsLeft U (placed_at S f plan) k leaf.terms (all_shown U (λ t. in_signature U plan (under_solution leaf.binds t)) c.pats leaf.terms) u
-    leaf-left zero number w c p leaf u led e =
-        e ∙ ap (λ name. applied (Const (number_of U name)) (all_shown U (λ t. in_signature U plan (under_solution leaf.binds t)) c.pats leaf.terms)) h.name
-    leaf-left (suc k) number w c p leaf u led e =
-        let more = last_argument U plan (recursion_of U plan) leaf.terms in
-        let long : length leaf.substitution ≡ length (part_at plan (suc k)).tele =
+        → HasLeft k leaf (all_shown U (λ t. in_signature U plan (under_solution leaf.binds t)) c.pats leaf.terms) u
+    leaf-left zero number w c p leaf u led long e =
+        let X = provisional S f.name f.type in
+        let site = leaf_site (order_in U plan 0) w leaf.context leaf.goal leaf.substitution leaf.terms leaf.binds in
+        let own : p.made_of.part.terms ≡ variables f.arity =
+        ap (λ (x : Walked). x.part.terms) (let same : p.made_of ≡ h.own = let at = p.at in cc in same) ∙ ap (λ (q : Opened). q.terms) h.own_opened in
+        let there : (part_at plan 0).terms ≡ variables (length leaf.terms) =
+        columns-are S f plan h 0 p.made_of p.at ∙ (own ∙ ap variables (sym (long ∙ (ap length own ∙ length-variables f.arity)))) in
+        record {
+          there = leaf.terms;
+          led =
+              transport (λ us. EachConverts X us leaf.terms)
+              (sym (ap (map (under_solution leaf.terms)) there ∙ filled no_variable leaf.terms)) (each-same X leaf.terms);
+          is = left-is S f plan h values U prefix 0 c.pats site p.made_of u last p.at (omega (arith, p.wide, long)) e;
+        }
+    leaf-left (suc k) number w c p leaf u led long e =
+        let X = provisional S f.name f.type in
+        let site = leaf_site (order_in U plan (suc k)) w leaf.context leaf.goal leaf.substitution leaf.terms leaf.binds in
+        let whole : length leaf.substitution ≡ length (part_at plan (suc k)).tele =
         led.whole ∙ sym (ap (λ (q : Part). length q.tele) (helper-made S f plan h k p.made_of p.at).is) in
         let same : in_old_order (levels_from 0 (length (part_at plan (suc k)).tele)) leaf.substitution ≡ leaf.substitution =
-        same-order (length (part_at plan (suc k)).tele) leaf.substitution long in
+        same-order (length (part_at plan (suc k)).tele) leaf.substitution whole in
         record {
-          arguments = leaf.substitution;
-          more = more;
-          is =
-              e
-              ∙ ap₂ (λ name us. applied (Const (number_of U (part_named name (suc k)))) (us ++ more)) h.name same;
-          at =
-              transport (λ us. EachConverts (provisional S f.name f.type) (map (under_solution leaf.substitution) us) leaf.terms)
-              (sym (columns-are S f plan h (suc k) p.made_of p.at)) led.terms_there;
+          there = site.substitution;
+          led =
+              transport (λ vs. EachConverts X (map (under_solution vs) (part_at plan (suc k)).terms) leaf.terms) (sym same)
+              (transport (λ us. EachConverts X (map (under_solution leaf.substitution) us) leaf.terms)
+              (sym (columns-are S f plan h (suc k) p.made_of p.at)) led.terms_there);
+          is = left-is S f plan h values U prefix (suc k) c.pats site p.made_of u last p.at (omega (arith, p.wide, long)) e;
         }
 
     leaf-converts : (k number : ℕ) (w : Walk) (c : Placed) (p : IsPlaced S f plan h k number w c) (leaf : TreeLeaf)
         → IsLeafOf (provisional S f.name f.type) p.made_of.clauses number leaf.terms leaf.binds → IsLed k p.made_of leaf
-        → ConvertsThere U plan k number w leaf → ConvertsAt U (placed_at S f plan) c (shown_leaf leaf)
+        → ConvertsThere U plan k number w leaf → ConvertsAt U (placed_at S f plan values) c (shown_leaf leaf)
     leaf-converts k number w c p leaf m led (e, made, converts) =
         let T = provisional S f.name f.type in
-        let at = placed_at S f plan in
+        let at = placed_at S f plan values in
         let site = leaf_site (order_in U plan k) w leaf.context leaf.goal leaf.substitution leaf.terms leaf.binds in
         let wr : Term → Term = λ t. in_signature U plan (under_solution leaf.binds t) in
         let is : IsAt U plan k (pats_of (part_at plan k) number) (side_of (part_at plan k) number) site e =
@@ -269,26 +242,32 @@ module _ (S : Signature) (f : Function) (plan : Plan) (h : IsPlanGiven S f plan)
         let matched : matches_all T c.pats leaf.terms ≡ true = transport (λ ps. matches_all T ps leaf.terms ≡ true) pats m.matched in
         let bound : KeptAll T leaf.binds (all_variable_places T c.pats leaf.terms) =
         transport (λ ps. KeptAll T leaf.binds (all_variable_places T ps leaf.terms)) pats m.bound in
+        let long : length leaf.terms ≡ length p.made_of.part.terms = sym (matched-long T c.pats leaf.terms matched) ∙ p.one.resolved.0 in
         let left =
-        leaf-left k number w c p leaf e.left led (is.left ∙ ap (λ ps. left_side U plan k ps site) (placed-pats S f plan h k number w c p)) in
+        leaf-left k number w c p leaf e.left led long (is.left ∙ ap (λ ps. left_side U plan k ps site) (placed-pats S f plan h k number w c p)) in
         let right =
-        leaf-right w site (length p.made_of.part.terms) c.pats c.binds c.right p.side e.right p.one.is_side p.one.resolved
+        right-is S f plan h values U prefix w site (length p.made_of.part.terms) c.helper c.pats c.binds c.right p.side e.right last p.one.is_side
+        p.one.resolved p.one.fit.scoped (omega (arith, p.wide, long))
         (is.right ∙ ap (λ side. right_side U plan side site) (placed-side S f plan h k number w c p)) in
-        let stay = families S f plan h U prefix in
+        let stay = families S f plan h values U prefix in
         record {
+          walk = w;
+          own = own-walk S f plan h values k number w c p;
           equation = e;
           context = is.context;
           found = all_variable_places T c.pats leaf.terms;
-          terms = leaf.binds;
+          binds = leaf.binds;
           same = all-convert T leaf.binds (all_variable_places T c.pats leaf.terms) bound;
-          called = right.called;
+          values = left.there;
+          led = transport (λ n. EachConverts T (map (under_solution left.there) (part_at plan n).terms) leaf.terms) (sym p.part) left.led;
+          walked = site.walked;
           is = record {
             shown = all_shown U wr c.pats leaf.terms;
             fit =
-                all-written U wr (written_in U at leaf.binds) (written-is S f plan h U prefix leaf.binds) c.pats leaf.terms
+                all-written U wr (written_in U at leaf.binds) (written-is S f plan h values U prefix leaf.binds) c.pats leaf.terms
                 (all_shown U wr c.pats leaf.terms) (all_variable_places T c.pats leaf.terms) (all-fit T U wr stay c.pats leaf.terms matched);
-            left = transport (λ n. IsLeft U at n leaf.terms (all_shown U wr c.pats leaf.terms) e.left) (sym p.part) left;
-            right = right.is;
+            left = transport (λ n. e.left ≡ left_of U at n left.there leaf.terms (all_shown U wr c.pats leaf.terms)) (sym p.part) left.is;
+            right = right;
           };
           converts = converts;
         }
@@ -296,10 +275,10 @@ module _ (S : Signature) (f : Function) (plan : Plan) (h : IsPlanGiven S f plan)
     -- at all leaves of a clause, as they are shown
     pub leaves-convert : (k number : ℕ) (w : Walk) (c : Placed) → IsPlaced S f plan h k number w c
         → All (ConvertsThere U plan k number w) (leaves_of number (part_at plan k).tree)
-        → All (ConvertsAt U (placed_at S f plan) c) (map shown_leaf (leaves_of number (part_at plan k).tree))
+        → All (ConvertsAt U (placed_at S f plan values) c) (map shown_leaf (leaves_of number (part_at plan k).tree))
     leaves-convert k number w c p all =
         let leaves = leaves_of number (part_at plan k).tree in
-        All-map (ConvertsAt U (placed_at S f plan) c) shown_leaf leaves
+        All-map (ConvertsAt U (placed_at S f plan values) c) shown_leaf leaves
         (λ i d less.
         leaf-converts k number w c p (get_or leaves i d) (all-matched k number p.made_of p.at i d less) (all-led k number p.made_of p.at i d less)
         (all i d less))

@@ -69,7 +69,7 @@ all-under S n m (t ∷ ts) le h =
 
 -- ---- what is made of terms
 
-ren-under : (n : ℕ) (p : ℕ → ℕ) (t : Term) → AreUnder n t → AreUnder n (ren p t)
+pub ren-under : (n : ℕ) (p : ℕ → ℕ) (t : Term) → AreUnder n t → AreUnder n (ren p t)
 ren-under n p (Pi a b) h = (ren-under n p a h.0, ren-under n (up p) b h.1)
 ren-under n p (Lam a b) h = (ren-under n p a h.0, ren-under n (up p) b h.1)
 ren-under n p (App f a) h = (ren-under n p f h.0, ren-under n p a h.1)

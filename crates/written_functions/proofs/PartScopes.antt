@@ -40,12 +40,12 @@ use Rattle.tree_translation.specs.structural_rec.Calls.{has_constant}
 use Rattle.theory.specs.Telescopes.{products}
 use Rattle.unification.proofs.ScopedRecords.{variables-scoped}
 use Rattle.unification.specs.ScopedStates.{IsReady}
-use Rattle.with_abstraction.proofs.FormScopes.{AreFormsFitting, forms-fitting}
 use Rattle.with_abstraction.proofs.ScopedAbstractions.{abstraction-of_scoped}
 use Rattle.with_abstraction.specs.Abstractions.{Abstracted, abstract_over_of, abstracted}
 use Rattle.with_abstraction.specs.Laws.{IsScopedAbstraction}
 use Rattle.with_abstraction.specs.NormalForms.{normal_forms_of}
 use Rattle.function_session.proofs.Written.{granted-has}
+use Rattle.written_functions.proofs.Abstractions.{AreFormsOf, IsAbstractionOf, abstraction-is, forms-are}
 
 -- ---- helpers that are opened
 
@@ -53,16 +53,24 @@ low-has : (P : Abstracted → Type 0) (b : Bool) (a : Abstracted) (rest : ℕ) �
 low-has P true a rest h = h
 low-has P false a rest h = tt
 
+-- an abstraction in a scoped context that is scoped
+pub record IsScopedOver (S : Signature) (context : Telescope) (goal t : Term) (a : Abstracted) : Type 0 where
+  pub scoped : IsScopedAbstraction S (length context) a
+  pub of : IsAbstractionOf S context goal t a
+
 -- the abstraction in a scoped context, however long, is scoped
 abstraction-fits : (S : Signature) (context : Telescope) (goal t type : Term) (left : ℕ) → IsReady S → IsScopedTelescope S 0 context
     → IsScoped S (length context) goal → IsScoped S (length context) t → IsScoped S (length context) type
-    → Answers (IsScopedAbstraction S (length context)) (abstract_over_of S context goal t type left)
+    → Answers (IsScopedOver S context goal t) (abstract_over_of S context goal t type left)
 abstraction-fits S context goal t type left ready types g u k =
-    and_next-has (AreFormsFitting S (length context)) (IsScopedAbstraction S (length context)) (normal_forms_of S context goal t left)
+    and_next-has (AreFormsOf S context goal t) (IsScopedOver S context goal t) (normal_forms_of S context goal t left)
     (λ m rest. if_low (is_low type) (answered (Ok (abstracted m type))) rest)
-    (forms-fitting S context goal t left ready.scoped types g u)
-    (λ m rest fits. low-has (IsScopedAbstraction S (length context)) (is_low type) (abstracted m type) rest
-    (abstraction-of_scoped S (length context) m type fits k))
+    (forms-are S context goal t left ready types g u)
+    (λ m rest forms. low-has (IsScopedOver S context goal t) (is_low type) (abstracted m type) rest
+    (record {
+      scoped = abstraction-of_scoped S (length context) m type forms.fitting k;
+      of = abstraction-is S context goal t type m ready k forms;
+    }))
 
 halting-has : {A : Type 0} (P : A → Type 0) (r : Result A Stop) → IfOk r P → IfOk (or_halts r) P
 halting-has P (Ok a) h = h
@@ -101,21 +109,21 @@ found-fits S part types t left ready h k =
 -- the opening of a helper over a walk is scoped
 pub opening-fits : (s : Session) (owner : Owner) (w : Walk) (t : Term) (left : ℕ) → IsReady s.signature → IsScopedWalk s.signature w
     → IsScoped s.signature (length w.ctx) t
-    → Answers (λ (o : Opening). IsScopedAbstraction s.signature (length w.ctx) o.abstraction) (open_over s owner w t left)
+    → Answers (λ (o : Opening). IsScopedOver s.signature w.ctx w.goal t o.abstraction) (open_over s owner w t left)
 opening-fits s owner w t left ready scoped k =
     let S = s.signature in
     let n = length w.ctx in
-    let P : Opening → Type 0 = λ o. IsScopedAbstraction S n o.abstraction in
+    let P : Opening → Type 0 = λ o. IsScopedOver S w.ctx w.goal t o.abstraction in
     and_next-has (IsScoped S n) P (granted S (OfWith owner) (infer_of S nesting (reverse w.ctx) t left)) _
     (found-fits S (OfWith owner) w.ctx t left ready scoped.context k) (λ found rest f.
     and_next-has (λ type. type ≡ found) P (answers (without_self s.own owner found) rest) _ (self-is s.own owner found) (λ type more same.
-    and_next-has (IsScopedAbstraction S n) P (halting (abstract_over_of S w.ctx w.goal t type more)) _
-    (halting-has (IsScopedAbstraction S n) (abstract_over_of S w.ctx w.goal t type more).0
+    and_next-has (IsScopedOver S w.ctx w.goal t) P (halting (abstract_over_of S w.ctx w.goal t type more)) _
+    (halting-has (IsScopedOver S w.ctx w.goal t) (abstract_over_of S w.ctx w.goal t type more).0
     (abstraction-fits S w.ctx w.goal t type more ready scoped.context scoped.goal k (transport (IsScoped S n) (sym same) f))) (λ a end h.
     and_next-has Any P (answers (without_self s.own owner a.goal) end) _ (any (without_self s.own owner a.goal)) (λ goal last u.
     let sort = granted S (OfGoal owner) (infer_sort_of S nesting [] (products a.telescope goal) last) in
     and_next-has Any P sort _ (any sort.0) (λ found_sort final v.
-    level-is (IsScopedAbstraction S n) a (if_low_level S owner found_sort) h)))))
+    level-is (IsScopedOver S w.ctx w.goal t) a (if_low_level S owner found_sort) h)))))
 
 -- ---- the columns of a helper
 
@@ -166,26 +174,27 @@ walk-fits S part number binds left pats right w h c e =
     }
 
 -- a helper that is opened over a walk, with the clauses inside
-pub record IsOpenedFor (S : Signature) (w : Walk) (o : Opening) (inside : Clauses) : Type 0 where
-  pub abstraction : IsScopedAbstraction S (length w.ctx) o.abstraction
+pub record IsOpenedFor (S : Signature) (w : Walk) (t : Term) (o : Opening) (inside : Clauses) : Type 0 where
+  pub abstraction : IsScopedOver S w.ctx w.goal t o.abstraction
   pub walkable : IsWalkable S (opened o w) inside
 
 pub helper-opens : (s : Session) (binds rest : ℕ) (part : Opened) (inside : Clauses) (pats : Pats) (scrutinee : Term) (owner : Owner) (w : Walk) (o : Opening)
     → IsReady s.signature → IsClause s.signature (length part.terms) (Is pats binds (clause.With scrutinee inside)) → IsFit s.signature part w
-    → (open_over s owner w (under_solution w.binds scrutinee) rest).0 ≡ Ok o → IsOpenedFor s.signature w o inside
+    → (open_over s owner w (under_solution w.binds scrutinee) rest).0 ≡ Ok o
+    → IsOpenedFor s.signature w (under_solution w.binds scrutinee) o inside
 helper-opens s binds rest part inside pats scrutinee owner w o ready c fit is =
     let S = s.signature in
     let t = under_solution w.binds scrutinee in
     let bound : IsScoped S (length w.ctx) t =
     under-scoped S (free_of scrutinee) (length w.ctx) w.binds scrutinee fit.scoped.binds
     (record { variables = omega arith; entries = c.3.0.scoped.entries }) in
-    let a : IsScopedAbstraction S (length w.ctx) o.abstraction =
-    transport (λ (r : Result Opening Refusal). IfOk r (λ (o : Opening). IsScopedAbstraction S (length w.ctx) o.abstraction)) is
+    let a : IsScopedOver S w.ctx w.goal t o.abstraction =
+    transport (λ (r : Result Opening Refusal). IfOk r (λ (o : Opening). IsScopedOver S w.ctx w.goal t o.abstraction)) is
     (opening-fits s owner w t rest ready fit.scoped bound) in
     record {
       abstraction = a;
       walkable = record {
-        given = helper-given S w o ready fit.scoped a;
+        given = helper-given S w o ready fit.scoped a.scoped;
         fitting = transport (λ n. AreClauses S n inside) (sym (helper-columns w o ∙ ap (λ n. n + 1) fit.columns)) c.3.1;
       };
     }

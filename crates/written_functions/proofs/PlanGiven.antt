@@ -1,12 +1,11 @@
 -- The plan of a function has, part by part, what the walks of its clauses give.
-use Rattle.std.proofs.Common.{◌≡◌, ℕ, zero, suc, ◌+◌, Option, Some, List, [], ◌∷◌, drop, length, slice_get, get_or, Result, Ok, Err, IfOk, refl, sym, ap, ◌∙◌, subst as transport, arith}
-use Rattle.std.specs.List.{All}
-use Rattle.std.proofs.lemmas.List.Elements.{All-cons}
+use Rattle.std.proofs.Common.{◌≡◌, ℕ, zero, suc, ◌+◌, ◌≤◌, Option, Some, List, [], ◌∷◌, drop, length, slice_get, get_or, Result, Ok, Err, IfOk, refl, sym, ap, ◌∙◌, subst as transport, arith}
 use Rattle.theory.specs.Terms.{Term}
 use Rattle.theory.specs.Telescopes.{Telescope}
 use Rattle.theory.specs.Signatures.{Signature}
 use Rattle.theory.specs.SignatureScopes.{IsScopedTelescope}
 use Rattle.theory.specs.WellFormed.{provisional}
+use Rattle.theory.proofs.ScopedTypes.{length-variables}
 use Rattle.core_terms.proofs.Answers.{Answers, and_next-has}
 use Rattle.core_terms.specs.CaseTrees.{Tree}
 use Rattle.tree_translation.specs.structural_rec.Choices.{choose}
@@ -16,7 +15,7 @@ use Rattle.tree_translation.specs.Plans as plans
 use Rattle.tree_translation.specs.Plans.{Part, Plan, no_part}
 use Rattle.tree_translation.specs.Recursion.{Recursion, order_of, ordered_telescope, ordered_term}
 use Rattle.clause_reports.specs.Equations.{part_at, part_named}
-use Rattle.clause_reports.specs.elaboration.Functions.{finished, helpers_finished, own_finished, own_part, plan_of, position_chosen, recursion_in}
+use Rattle.clause_reports.specs.elaboration.Functions.{finished, first_domains, helpers_finished, own_finished, own_part, plan_of, position_chosen, recursion_in}
 use Rattle.clause_reports.specs.elaboration.Refusals.{walking}
 use Rattle.clause_reports.specs.elaboration.Walking.{Opened, Walked, walk_clauses}
 use Rattle.function_checks.proofs.function_clauses.OwnParts.{own-columns, own-part-for, part-walked}
@@ -33,7 +32,7 @@ use Rattle.function_session.specs.function_lines.Conditions.{IsFunctionOver}
 use Rattle.function_session.specs.function_lines.FunctionMade.{session_at}
 use Rattle.resolve.specs.Functions.{Function}
 use Rattle.written_functions.specs.Clauses.{parts_of}
-use Rattle.written_functions.proofs.Walked.{AreAt, Gives, IsPartGiven, clauses-gives, clauses_of, ends-ok, is-ok}
+use Rattle.written_functions.proofs.Walked.{AreAt, ArePartsGiven, Gives, clauses-gives, clauses_of, ends-ok, is-ok}
 
 -- ---- parts that are finished
 
@@ -103,6 +102,8 @@ pub record IsPlanGiven (S : Signature) (f : Function) (plan : Plan) : Type 0 whe
   pub base : plan.base ≡ length S.entries
   pub name : plan.name ≡ f.name
   pub type : plan.type ≡ f.type
+  pub arity : plan.arity ≡ f.arity
+  pub long : length (first_domains f.arity f.type) ≡ f.arity
   pub own : Walked
   pub helpers : List Walked
   pub level : ℕ
@@ -114,7 +115,7 @@ pub record IsPlanGiven (S : Signature) (f : Function) (plan : Plan) : Type 0 whe
   pub own_is : IsFinished (provisional S f.name f.type) (start_ordered order) own own_part
   pub helpers_are : AreFinished (provisional S f.name f.type) helpers helper_parts
   pub lists : clauses_of (own ∷ helpers) ≡ parts_of f
-  pub given : All (IsPartGiven S f (own ∷ helpers)) (own ∷ helpers)
+  pub given : ArePartsGiven S f (own ∷ helpers) 0 (own ∷ helpers)
   pub own_start : IsGiven (provisional S f.name f.type) (start_ordered order own.part).context (start_ordered order own.part).goal (start_ordered order own.part).terms
   pub own_clauses : AreClausesFor (provisional S f.name f.type) (start_ordered order own.part).terms own.clauses
   pub own_scoped : IsScopedTelescope (provisional S f.name f.type) 0 (plans.own_part plan).tele
@@ -127,7 +128,7 @@ at-places all n (w ∷ helpers) h = (
   at-places all (n + 1) helpers (λ i v at. transport (λ m. slice_get all m ≡ Some v) (let e : n + suc i ≡ n + 1 + i = omega arith in e) (h (suc i) v at)),
 )
 
-with-ok : {A E : Type 0} (P : A → Type 0) (r : Result A E) → IfOk r P → IfOk r (λ a. (r ≡ Ok a) × P a)
+pub with-ok : {A E : Type 0} (P : A → Type 0) (r : Result A E) → IfOk r P → IfOk r (λ a. (r ≡ Ok a) × P a)
 with-ok P (Ok a) h = (refl, h)
 with-ok P (Err e) h = tt
 
@@ -140,10 +141,11 @@ plan-given S f level left over =
     let count = length part.tele in
     let P = IsPlanGiven S f in
     let fits = own-part-for over.before T f level over.prefix over.ready over.resolved in
+    let wide : f.arity ≤ length part.terms = omega (arith, length-variables f.arity) in
     let walked = walk_clauses s 0 part 0 1 f.clauses left in
     let H = Gives S f part 0 1 f.clauses in
     and_next-has (λ given. (walked.0 ≡ Ok given) × H given) P walked _
-    (with-ok H walked.0 (clauses-gives S f 0 part 0 1 f.clauses left (omega arith) fits.part.given fits.clauses)) (λ given rest gives.
+    (with-ok H walked.0 (clauses-gives S f 0 part 0 1 f.clauses left (omega arith) wide fits.part.given fits.clauses)) (λ given rest gives.
     let h = gives.1 in
     let w = walked_of f level given in
     let all = w ∷ given.helpers in
@@ -164,6 +166,8 @@ plan-given S f level left over =
       base = refl;
       name = refl;
       type = refl;
+      arity = refl;
+      long = sym (own-columns over.before T f level over.resolved) ∙ length-variables f.arity;
       own = w;
       helpers = given.helpers;
       level = level;
@@ -175,9 +179,7 @@ plan-given S f level left over =
       own_is = o;
       helpers_are = all_finished;
       lists = ap (λ lists. f.clauses ∷ lists) h.lists;
-      given =
-          All-cons (IsPartGiven S f all) w given.helpers
-          (record { walkable = record { given = fits.part.given; fitting = fits.clauses }; given = h.each all at }) (h.helpers all at);
+      given = (record { wide = wide; walkable = record { given = fits.part.given; fitting = fits.clauses }; given = h.each all at }, h.helpers all at);
       own_start =
           start-given T w (ordered_telescope part.tele order) count order start (ordered_term count order part.goal) (ordered_variables order count) refl refl;
       own_clauses = start-clauses T w (ordered_telescope part.tele order) count order start (ordered_variables order count) refl;
@@ -233,7 +235,7 @@ finished-long T [] (p ∷ ps) h = absurd h
 finished-long T (w ∷ ws) [] h = absurd h
 finished-long T (w ∷ ws) (p ∷ ps) h = ap suc (finished-long T ws ps h.1)
 
-lists-long : (ws : List Walked) → length (clauses_of ws) ≡ length ws
+pub lists-long : (ws : List Walked) → length (clauses_of ws) ≡ length ws
 lists-long [] = refl
 lists-long (w ∷ ws) = ap suc (lists-long ws)
 

@@ -62,12 +62,12 @@ mutual
 
 -- ---- values of the recursion
 
-term_at-under : (n : ℕ) (ts : List Term) (p : ℕ) → All (AreUnder n) ts → AreUnder n (term_at ts p)
+pub term_at-under : (n : ℕ) (ts : List Term) (p : ℕ) → All (AreUnder n) ts → AreUnder n (term_at ts p)
 term_at-under n [] p h = tt
 term_at-under n (t ∷ ts) zero h = All-head (AreUnder n) t ts h
 term_at-under n (t ∷ ts) (suc p) h = term_at-under n ts p (All-tail (AreUnder n) t ts h)
 
-terms_at-under : (n : ℕ) (ts : List Term) (positions : List ℕ) → All (AreUnder n) ts → All (AreUnder n) (terms_at positions ts)
+pub terms_at-under : (n : ℕ) (ts : List Term) (positions : List ℕ) → All (AreUnder n) ts → All (AreUnder n) (terms_at positions ts)
 terms_at-under n ts [] h = All-nil (AreUnder n)
 terms_at-under n ts (p ∷ positions) h =
     All-cons (AreUnder n) (term_at ts p) (terms_at positions ts) (term_at-under n ts p h) (terms_at-under n ts positions h)
@@ -80,7 +80,7 @@ filled-under n s (u ∷ us) each all v = filled-under n (extend s u) us extended
     extended zero = All-head (AreUnder n) u us all
     extended (suc k) = each k
 
-solved-under : (n : ℕ) (us : List Term) (t : Term) → All (AreUnder n) us → AreUnder n t → AreUnder n (under_solution us t)
+pub solved-under : (n : ℕ) (us : List Term) (t : Term) → All (AreUnder n) us → AreUnder n t → AreUnder n (under_solution us t)
 solved-under n us t all h = inst-under n (fill no_variable us) t (λ v. filled-under n no_variable us (λ k. tt) all v) h
 
 named-under : (S : Signature) (name : List ℕ) (ts : List Term) → 0 < length S.entries → All (AreUnder (length S.entries)) ts

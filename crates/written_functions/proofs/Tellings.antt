@@ -1,5 +1,5 @@
 -- The lines of a plan's clauses are true of the clauses as they are written.
-use Rattle.std.proofs.Common.{◌≡◌, ℕ, ◌+◌, ◌<◌, ◌≤◌, Bool, true, false, Some, List, [], ◌∷◌, ◌++◌, length, length-append, map, codes, Result, Ok, Err, IfOk, refl, sym, ap, ap₂, ◌∙◌, subst as transport, arith}
+use Rattle.std.proofs.Common.{◌≡◌, ℕ, ◌+◌, ◌<◌, ◌≤◌, Bool, true, false, Some, List, [], ◌∷◌, ◌++◌, length, length-append, codes, Result, Ok, Err, IfOk, refl, sym, ap, ◌∙◌, subst as transport, arith}
 use Rattle.std.specs.List.{All}
 use Rattle.theory.specs.Signatures.{Definition, IsEntryAt, IsPrefix, Signature}
 use Rattle.theory.specs.WellFormed.{IsWellFormed, provisional}
@@ -19,8 +19,7 @@ use Rattle.clause_reports.proofs.Keeping.{Grows, grows_on, grows_same}
 use Rattle.clause_reports.proofs.Lines as found
 use Rattle.clause_reports.proofs.ReportKeeping.{GrowsBy, report-grows}
 use Rattle.clause_reports.specs.Equations.{part_at, part_named, pats_of, closed_type}
-use Rattle.clause_reports.specs.Reports.{Absurd, Definitional, Line, Proved, Reference, Reported, Shadowed, report_of, shown_leaf, some_absurd}
-use Rattle.clause_reports.specs.Shadows.{leaves_of}
+use Rattle.clause_reports.specs.Reports.{Absurd, Definitional, Line, Proved, Reference, Reported, Shadowed, report_of, some_absurd}
 use Rattle.clause_reports.specs.Stops.{ReportStop}
 use Rattle.clause_reports.proofs.LineLaws.{absurd-line}
 use Rattle.clause_reports.specs.elaboration.Functions.{ClauseLine, Following, Lines, report_parts, report_walks, with_line}
@@ -29,11 +28,11 @@ use Rattle.written_functions.proofs.equation_laws.ShownTerms.{FamiliesStay, all-
 use Rattle.family_check.specs.Scopes.{HasPrelude}
 use Rattle.resolve.specs.Functions.{Function}
 use Rattle.written_functions.specs.Clauses as written
-use Rattle.written_functions.specs.Clauses.{AreLinesOf, ConvertsAt, IsLineOf, Placed, parts_of, placed_from, placed_in}
-use Rattle.written_functions.proofs.Equations.{has-equation, placed_at, with-count}
+use Rattle.written_functions.specs.Clauses.{AreLinesOf, ConvertsAt, IsLineOf, Placed, Values, part_type, parts_of, placed_from, placed_in}
+use Rattle.written_functions.proofs.Equations.{AreLast, has-equation, placed_at, with-count}
 use Rattle.written_functions.proofs.Leaves.{leaves-convert}
 use Rattle.written_functions.proofs.Numbers.{all-under, scoped-under, telescope-under}
-use Rattle.written_functions.proofs.PartEntries.{HasName, name-stays, part-there}
+use Rattle.written_functions.proofs.PartEntries.{HasType, part-there, type-stays}
 use Rattle.written_functions.proofs.PlanClauses.{ArePartsPlaced, ArePlaced, IsPlaced, earlier-there, placed-pats}
 use Rattle.written_functions.proofs.PlanGiven.{IsPlanGiven}
 use Rattle.written_functions.proofs.Proofs.{IsClosedUnder, IsProvedBy, SaysProved, report-says}
@@ -44,23 +43,27 @@ use Rattle.written_functions.proofs.Sides.{IsWalkUnder, type-under}
 pub prefix-longer : (S T : Signature) → IsPrefix S T → length S.entries ≤ length T.entries
 prefix-longer S T h = omega (arith, ap length h.entries, length-append S.entries h.more)
 
--- a well-formed signature that has the function, after more entries than there are before it
-pub record IsBase (S Own : Signature) (f : Function) (plan : Plan) (U : Signature) : Type 0 where
+-- A well-formed signature that has the function, after more entries than there are before it. It comes after one with all entries of the
+-- plan, where each part has its type.
+pub record IsBase (S Own : Signature) (f : Function) (plan : Plan) (values : List Values) (Made : Signature) (U : Signature) : Type 0 where
   pub well : IsWellFormed U
   pub prelude : HasPrelude U
   pub own : IsPrefix Own U
   pub before : IsPrefix S U
   pub low : plan.base < length U.entries
-  pub parts : (k : ℕ) → k < length (parts_of f) → HasName U (part_named f.name k)
+  pub all : IsPrefix Made U
+  pub parts : (k : ℕ) → k < length (parts_of f) → HasType U (part_named f.name k) (part_type (placed_at S f plan values) k)
 
-base-grows : (S Own : Signature) (f : Function) (plan : Plan) (U V : Signature) → Grows U V → IsBase S Own f plan U → IsBase S Own f plan V
-base-grows S Own f plan U V g b = record {
+base-grows : (S Own : Signature) (f : Function) (plan : Plan) (values : List Values) (Made U V : Signature) → Grows U V
+    → IsBase S Own f plan values Made U → IsBase S Own f plan values Made V
+base-grows S Own f plan values Made U V g b = record {
   well = g.keeps b.well b.prelude;
   prelude = prelude-stays U V b.prelude g.prefix;
   own = prefix_transitive Own U V b.own g.prefix;
   before = prefix_transitive S U V b.before g.prefix;
   low = omega (arith, b.low, prefix-longer U V g.prefix);
-  parts = λ k low. name-stays U V (part_named f.name k) g.prefix (b.parts k low);
+  all = prefix_transitive Made U V b.all g.prefix;
+  parts = λ k low. type-stays U V (part_named f.name k) (part_type (placed_at S f plan values) k) g.prefix (b.parts k low);
 }
 
 -- ---- one clause
@@ -95,7 +98,8 @@ not-absurd : (b : Bool) (line : Line) → (b ≡ true → line ≡ Absurd) → (
 not-absurd true line h never = absurd (never (h refl))
 not-absurd false line h never = refl
 
-module _ (S Own : Signature) (f : Function) (plan : Plan) (h : IsPlanGiven S f plan) where
+module _ (S Own : Signature) (f : Function) (plan : Plan) (h : IsPlanGiven S f plan) (values : List Values) (Made : Signature)
+    (last : (U : Signature) → IsWellFormed U → IsPrefix Made U → AreLast f plan values U) where
   proof-named : (k number : ℕ) (c : Placed) → c.part ≡ k → c.number ≡ number
       → part_named plan.name k ++ codes "!c" ++ decimal (number + 1) ≡ part_named f.name c.part ++ codes "!c" ++ decimal (c.number + 1)
   proof-named k number c part number_is =
@@ -103,18 +107,18 @@ module _ (S Own : Signature) (f : Function) (plan : Plan) (h : IsPlanGiven S f p
       ∙ (ap (λ i. part_named f.name i ++ codes "!c" ++ decimal (number + 1)) (sym part)
       ∙ ap (λ i. part_named f.name c.part ++ codes "!c" ++ decimal (i + 1)) (sym number_is))
 
-  line-says : (U : Signature) (k number : ℕ) (w : Walk) (c : Placed) (p : IsPlaced S f plan h k number w c) → IsBase S Own f plan U
+  line-says : (U : Signature) (k number : ℕ) (w : Walk) (c : Placed) (p : IsPlaced S f plan h k number w c) → IsBase S Own f plan values Made U
       → (V T : Signature) (line : Line) → found.Says U plan (reference k number w) V line
       → ((n : ℕ) → line ≡ Proved n → IsProvedBy U plan (reference k number w) V n)
       → (some_absurd (pats_of (part_at plan k) number) ≡ true → line ≡ Absurd) → IsPrefix V T → IsWellFormed T
-      → written.Says U (placed_at S f plan) c T line
+      → written.Says U (placed_at S f plan values) c T line
   line-says U k number w c p b V T Definitional said proved clean more well =
       let same = placed-pats S f plan h k number w c p in
       let none : some_absurd c.pats ≡ false =
       not-absurd (some_absurd c.pats) Definitional (λ yes. clean (ap some_absurd same ∙ yes)) (λ no. absurd (cc)) in
       record {
         equation = said.0.equation;
-        of = has-equation S f plan h U b.before k number w c p none said.0.equation said.0.is;
+        of = has-equation S f plan h values U b.before k number w c (last U b.well b.all) p none said.0.equation said.0.is;
         converts = said.0.converts;
       }
   line-says U k number w c p b V T (Proved n) said proved clean more well =
@@ -129,7 +133,7 @@ module _ (S Own : Signature) (f : Function) (plan : Plan) (h : IsPlanGiven S f p
       (transport (λ name. IsEntryAt V n (Definition name (closed_type level by.given) by.body)) (proof-named k number c p.part p.own_number) by.entry) in
       record {
         equation = by.given;
-        of = has-equation S f plan h U b.before k number w c p none by.given by.is;
+        of = has-equation S f plan h values U b.before k number w c (last U b.well b.all) p none by.given by.is;
         level = level;
         body = by.body;
         entry = entry;
@@ -149,23 +153,22 @@ module _ (S Own : Signature) (f : Function) (plan : Plan) (h : IsPlanGiven S f p
         other = transport (λ i. written.clause_in f i earlier ≡ Some (Is other.pats other.binds other.right)) (sym p.part) other.there;
         other_takes = (_, _, all-fit U U (λ t. t) stay other.pats vector (ap (λ ps. matches_all U ps vector) (sym other.are) ∙ said.other));
         takes = (_, _, all-fit U U (λ t. t) stay c.pats vector (ap (λ ps. matches_all U ps vector) (sym same) ∙ said.own));
-        all = said.shown ∙ ap₂ (λ n i. map shown_leaf (leaves_of n (part_at plan i).tree)) (sym p.own_number) (sym p.part);
         converts =
-            transport (All (ConvertsAt U (placed_at S f plan) c)) (sym said.shown)
-            (leaves-convert S f plan h U b.before k number w c p said.converts);
+            transport (All (ConvertsAt U (placed_at S f plan values) c)) (sym said.shown)
+            (leaves-convert S f plan h values U b.before (last U b.well b.all) k number w c p said.converts);
       }
   line-says U k number w c p b V T Absurd said proved clean more well = ap some_absurd (sym (placed-pats S f plan h k number w c p)) ∙ said
 
-  told-line : (U T : Signature) (k number : ℕ) (w : Walk) (c : Placed) (r : Reported) → IsPlaced S f plan h k number w c → IsBase S Own f plan U
+  told-line : (U T : Signature) (k number : ℕ) (w : Walk) (c : Placed) (r : Reported) → IsPlaced S f plan h k number w c → IsBase S Own f plan values Made U
       → IsTold U plan (reference k number w) r → IsPrefix r.signature T → IsWellFormed T
-      → IsLineOf Own T (placed_at S f plan) c (line_at plan (reference k number w) r.line)
+      → IsLineOf Own T (placed_at S f plan values) c (line_at plan (reference k number w) r.line)
   told-line U T k number w c r p b t more well = record {
     part = ap (λ name. part_named name k) h.name ∙ ap (part_named f.name) (sym p.part);
     number = ap (λ n. n + 1) (sym p.own_number);
     over = U;
     longer = b.own;
     rest = prefix_transitive U r.signature T t.grows.prefix more;
-    parts = λ i low. part-there U (placed_at S f plan) i b.well (b.parts i low);
+    parts = λ i low. part-there U (placed_at S f plan values) i b.well (b.parts i low);
     says = line-says U k number w c p b r.signature T r.line t.said t.proved t.absurd_line more well;
   }
 
@@ -174,11 +177,11 @@ module _ (S Own : Signature) (f : Function) (plan : Plan) (h : IsPlanGiven S f p
   -- the lines are those of these clauses, and the signature has come from U
   pub record Tells (U : Signature) (cs : List Placed) (lines : Lines) : Type 0 where
     pub grows : Grows U lines.signature
-    pub told : AreLinesOf Own lines.signature (placed_at S f plan) cs lines.lines
+    pub told : AreLinesOf Own lines.signature (placed_at S f plan values) cs lines.lines
 
   -- ones that follow
   abbrev AllTell : List Placed → Following → Type 0
-  AllTell cs next = (U : Signature) (left : ℕ) → IsBase S Own f plan U → Answers (Tells U cs) (next U left)
+  AllTell cs next = (U : Signature) (left : ℕ) → IsBase S Own f plan values Made U → Answers (Tells U cs) (next U left)
 
   no_report-has : {A : Type 0} (P : A → Type 0) (U : Signature) (owner : Owner) (r : Result A ReportStop) → IfOk r P → IfOk (or_no_report U owner r) P
   no_report-has P U owner (Ok a) k = k
@@ -193,7 +196,7 @@ module _ (S Own : Signature) (f : Function) (plan : Plan) (h : IsPlanGiven S f p
     terms = all-under (provisional S f.name f.type) (length w.ctx) (length U.entries) w.terms le s.terms;
   }
 
-  closed-under : (U : Signature) (k number : ℕ) (w : Walk) (c : Placed) → IsPlaced S f plan h k number w c → IsBase S Own f plan U
+  closed-under : (U : Signature) (k number : ℕ) (w : Walk) (c : Placed) → IsPlaced S f plan h k number w c → IsBase S Own f plan values Made U
       → IsClosedUnder U plan (reference k number w)
   closed-under U k number w c p b = λ e is.
       let le : length (provisional S f.name f.type).entries ≤ length U.entries = omega (arith, with-count S f.name f.type, h.base, b.low) in
@@ -202,10 +205,10 @@ module _ (S Own : Signature) (f : Function) (plan : Plan) (h : IsPlanGiven S f p
       (walk-under U w le p.one.fit.scoped) is
 
   one-more : (U : Signature) (k number : ℕ) (w : Walk) (c : Placed) (cs : List Placed) (r : Reported) (lines : Lines) → IsPlaced S f plan h k number w c
-      → IsBase S Own f plan U → IsTold U plan (reference k number w) r → Tells r.signature cs lines
+      → IsBase S Own f plan values Made U → IsTold U plan (reference k number w) r → Tells r.signature cs lines
       → Tells U (c ∷ cs) (with_line (line_at plan (reference k number w) r.line) lines)
   one-more U k number w c cs r lines p b told rest =
-      let b' = base-grows S Own f plan r.signature lines.signature rest.grows (base-grows S Own f plan U r.signature told.grows b) in
+      let b' = base-grows S Own f plan values Made r.signature lines.signature rest.grows (base-grows S Own f plan values Made U r.signature told.grows b) in
       record {
         grows = grows_on U r.signature lines.signature told.grows rest.grows;
         told = (told-line U lines.signature k number w c r p b told rest.grows.prefix b'.well, rest.told);
@@ -224,7 +227,7 @@ module _ (S Own : Signature) (f : Function) (plan : Plan) (h : IsPlanGiven S f p
       (no_report-has (IsTold U plan r) U owner (report_of U plan r left).0
       (report-told U plan r left (closed-under U k number w c placed.0 b))) (λ x more t.
       and_next-has (Tells x.signature (cs ++ others)) P (report_walks plan k (number + 1) walks next x.signature more) _
-      (walks-tell k (number + 1) walks cs others next placed.1 rest x.signature more (base-grows S Own f plan U x.signature t.grows b)) (λ lines end i.
+      (walks-tell k (number + 1) walks cs others next placed.1 rest x.signature more (base-grows S Own f plan values Made U x.signature t.grows b)) (λ lines end i.
       one-more U k number w c (cs ++ others) x lines placed.0 b t i))
 
   pub parts-tell : (k : ℕ) (parts : List Part) (lists : List Clauses) → ArePartsPlaced S f plan h k parts lists
@@ -233,5 +236,5 @@ module _ (S Own : Signature) (f : Function) (plan : Plan) (h : IsPlanGiven S f p
   parts-tell k [] (cs ∷ lists) placed U left b = absurd placed
   parts-tell k (part ∷ parts) [] placed U left b = absurd placed
   parts-tell k (part ∷ parts) (cs ∷ lists) placed U left b =
-      walks-tell k 0 part.walks (placed_in k 0 cs) (placed_from (k + 1) lists) (report_parts plan (k + 1) parts) placed.0
+      walks-tell k 0 part.walks (placed_in k 0 (k + 1) cs) (placed_from (k + 1) lists) (report_parts plan (k + 1) parts) placed.0
       (parts-tell (k + 1) parts lists placed.1) U left b

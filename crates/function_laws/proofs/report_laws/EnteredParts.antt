@@ -1,53 +1,44 @@
 -- Once the entries of a plan have entered, the names of its parts are those of definitions, and so are those of recursion.
-use Rattle.std.proofs.Common.{◌≡◌, ◌⊎◌, inl, inr, ℕ, zero, suc, ◌+◌, ◌<◌, ◌≤◌, ◌==◌, ◌&&◌, nat_le, nat_lt, Bool, true, false, cond, Option, Some, None, List, [], ◌∷◌, length, drop, map, Result, Ok, Err, IfOk, refl, sym, ap, ap₂, ◌∙◌, subst as transport, arith}
+use Rattle.std.proofs.Common.{◌≡◌, ℕ, zero, suc, ◌+◌, ◌<◌, ◌≤◌, ◌==◌, Bool, true, false, Option, Some, None, List, [], ◌∷◌, length, drop, map, Result, Ok, Err, IfOk, refl, sym, ap, ap₂, ◌∙◌, subst as transport, arith}
 use Rattle.std.proofs.lemmas.Bool.Decides.{nat_tests}
 use Rattle.theory.specs.Terms.{Term, top}
 use Rattle.theory.specs.Telescopes.{Telescope, products}
-use Rattle.theory.specs.Families.{Family}
-use Rattle.theory.specs.Signatures.{Entry, IsEntryAt, IsPrefix, Signature}
-use Rattle.theory.specs.Signatures.Entry.{AxiomKAt, Definition, EliminatorAt, FamilyOf}
+use Rattle.theory.specs.Signatures.{IsPrefix, Signature}
+use Rattle.theory.specs.Signatures.Entry.{FamilyOf}
 use Rattle.theory.specs.WellFormed.{IsWellFormed}
 use Rattle.theory.proofs.Widening.{prefix_keeps}
 use Rattle.core_terms.specs.Answers.{and_next}
 use Rattle.core_terms.specs.declared.stop.Stop.{Stop}
 use Rattle.core_terms.proofs.Answers.{Answers, and_next-has}
 use Rattle.core_sig.specs.Drafts.{Draft}
-use Rattle.core_sig.specs.Names.{find}
-use Rattle.core_sig.specs.Settling.{renumbered_entry, settled_number}
-use Rattle.core_sig.specs.declared.entry.Found.{Found}
 use Rattle.family_check.specs.Entering.{Entered}
 use Rattle.family_check.specs.Scopes.{HasPrelude}
 use Rattle.tree_translation.specs.Conditions.{IsPlanned}
 use Rattle.tree_translation.specs.Entries.{helper_count, translate}
-use Rattle.tree_translation.specs.Laws.{helpers_down, name_in, name_of, names_in_order}
+use Rattle.tree_translation.specs.Laws.{helpers_down, name_of, names_in_order}
 use Rattle.tree_translation.specs.Naming.{helper_name, step_name}
-use Rattle.tree_translation.specs.Needed.{is_found}
 use Rattle.tree_translation.specs.Plans.{Part, Plan, own_part}
 use Rattle.tree_translation.specs.Recursion.{Recursion, recursion_of}
 use Rattle.tree_translation.proofs.EntryNames.{entries_are_these}
 use Rattle.entry_laws.proofs.OnlyConstants.{Each, each-left, each-right, each-weaker}
 use Rattle.entry_laws.proofs.OnlyEntries.{recursion-entry}
 use Rattle.clause_reports.specs.Conditions.{HasRecursion, IsDefined, IsEntered}
-use Rattle.clause_reports.specs.DraftEntering.{Entering, Names, enter_all, enter_chain, enter_draft_of, enter_entry, enter_generated, enter_mention, enter_needed, enter_with, mentioned, with_entry}
+use Rattle.clause_reports.specs.DraftEntering.{Names, enter_draft_of, enter_mention, enter_needed}
 use Rattle.clause_reports.specs.Equations.{part_name}
-use Rattle.clause_reports.specs.Generated as made
-use Rattle.clause_reports.specs.Generated.{all_name, generated_by, generated_draft}
-use Rattle.clause_reports.specs.Stops as stops
+use Rattle.clause_reports.specs.Generated.{all_name}
 use Rattle.clause_reports.specs.Stops.{ReportStop}
-use Rattle.clause_reports.proofs.Keeping.{Grows, GrowsTo, any, enter_mention-grows, enter_needed-grows, entering-grows, grows_on, grows_same, weaker, prelude-on}
+use Rattle.clause_reports.proofs.Keeping.{Grows, GrowsTo, enter_mention-grows, enter_needed-grows, entering-grows, grows_on, grows_same, weaker, prelude-on}
 use Rattle.drafts.specs.draft_entering.Conditions as entering
 use Rattle.drafts.specs.draft_entering.Conditions.{IsGeneratedName, IsOpen}
-use Rattle.drafts.specs.draft_entering.Depths.{entry_own_name, own_name}
-use Rattle.drafts.specs.draft_entering.Tables.{IsMadeOf, names_by}
-use Rattle.drafts.proofs.draft_entering.TableLookups.{found-listed, generated-made, listed-named}
-use Rattle.function_laws.proofs.report_laws.drafts_in_turn.EnteredDraft.{draft-defined, entry-defines, renumbered-name}
+use Rattle.plan_laws.proofs.EnteredDraft.{draft-defined}
 use Rattle.clause_reports.specs.elaboration.Functions.{enter_drafts, enter_plan, enter_values, first_domains, recursion_in}
 use Rattle.clause_reports.specs.elaboration.Refusals.{answers, or_halts, owner_of, reporting}
 use Rattle.clause_reports.proofs.elaboration.Keeping.{no_report-has}
-use Rattle.function_laws.proofs.plan_laws.Planned.{recursion-is}
+use Rattle.plan_laws.proofs.Planned.{recursion-is}
 use Rattle.drafts.specs.entering_laws.Laws.{StaysOpen}
 use Rattle.drafts.proofs.entering_laws.EnteredOpen.{entered-open}
-use Rattle.function_laws.proofs.report_laws.NamedEntries.{defined-on, defined-there}
+use Rattle.plan_laws.proofs.EnteredNames.{can-value, mention-defines}
+use Rattle.plan_laws.proofs.NamedEntries.{defined-on, defined-there}
 
 -- ---- drafts
 
@@ -88,65 +79,6 @@ drafts-in S name (d ∷ drafts) left formed is_open =
       defined = Each.more (defined-on e.signature T k.grows.prefix (name_of d) h.defined) k.defined;
     })
     (drafts-in e.signature name drafts rest h.well_formed h.open_there))
-
--- ---- the values of recursion
-
-with-defined : (enter : Entering) (S : Signature) (d : Draft) (left : ℕ) → Answers (λ e. entering.IsDefined e.signature (name_of d)) (enter_with enter S d left)
-with-defined enter S d left =
-    let P : Entered → Type 0 = λ e. entering.IsDefined e.signature (name_of d) in
-    and_next-has (λ T. Unit {0}) P (enter_all enter S (mentioned d) left) _ (any (enter_all enter S (mentioned d) left).0)
-    (λ T rest u.
-    transport (λ name. Answers (λ e. entering.IsDefined e.signature name) (enter_entry T (renumbered_entry (settled_number T d.base d.names) d.entry) rest))
-    (renumbered-name (settled_number T d.base d.names) d.entry)
-    (entry-defines T (renumbered_entry (settled_number T d.base d.names) d.entry) rest))
-
-own-is : (d : Draft) → own_name d ≡ name_of d
-own-is d = by d.entry
-  where
-    by : (e : Entry) → entry_own_name e ≡ name_in e
-    by (Definition name type body) = refl
-    by (FamilyOf f) = refl
-    by (EliminatorAt n m) = refl
-    by (AxiomKAt i m) = refl
-
-some-found : (S : Signature) (name : List ℕ) → is_found (find S name) ≡ true → (find S name ≡ None) ⊎ entering.IsDefined S name → entering.IsDefined S name
-some-found S name is (inr d) = d
-some-found S name is (inl none) = absurd (absent (find S name) is none)
-  where
-    absent : (o : Option Found) → is_found o ≡ true → o ≡ None → ⊥
-    absent None is none = absurd (cc)
-    absent (Some f) is none = absurd (cc)
-
--- the entry that is generated for a name is a definition of it
-mention-defines : (S : Signature) (name : List ℕ) (left : ℕ) → IsOpen S → IsGeneratedName S name
-    → Answers (λ T. entering.IsDefined T name) (enter_mention enter_needed S (Names name) left)
-mention-defines S name left is_open (g, is) = by (is_found (find S name)) refl
-  where
-    enters : (r : Result Draft Stop) → IfOk r (IsMadeOf (made.name_of g) (names_by g))
-        → Answers (λ T. entering.IsDefined T name) (and_next (stops.answers (stops.or_halts r) left) (λ d rest. with_entry (enter_needed S d rest)))
-    enters (Ok d) h =
-        let same : name_of d ≡ name = sym (own-is d) ∙ (h.own ∙ (found-listed S name g is).named) in
-        and_next-has (λ e. entering.IsDefined e.signature name) (λ T. entering.IsDefined T name) (enter_needed S d left) _
-        (transport (λ n. Answers (λ e. entering.IsDefined e.signature n) (enter_needed S d left)) same (with-defined (enter_chain 2) S d left))
-        (λ e rest k. k)
-    enters (Err e) h = tt
-
-    generated : Answers (λ T. entering.IsDefined T name) (enter_generated enter_needed S (generated_by S name) left)
-    generated =
-        transport (λ o. Answers (λ T. entering.IsDefined T name) (enter_generated enter_needed S o left)) (sym is)
-        (enters (generated_draft (length S.entries) g) (generated-made (length S.entries) g))
-
-    by : (b : Bool) → is_found (find S name) ≡ b
-        → Answers (λ T. entering.IsDefined T name) (cond b (stops.answers (Ok S) left) (enter_generated enter_needed S (generated_by S name) left))
-    by true there = some-found S name there (is_open.tabled name (g, is))
-    by false there = generated
-
-can-value : (S : Signature) (L n : ℕ) (f : Family) → L + 1 < top → f.level ≤ L → IsEntryAt S n (FamilyOf f) → IsGeneratedName S (all_name f L)
-can-value S L n f fits level known =
-    let reaches : nat_le f.level L ≡ true = grind (arith, nat_tests, level) in
-    let ends : nat_lt (L + 1) top ≡ true = grind (arith, nat_tests, fits) in
-    let below : L < top = omega (arith, fits) in
-    listed-named S (made.All n f L) (known, below) (ap₂ (λ (x y : Bool). x && y) reaches ends)
 
 -- ---- the entries of a plan
 

@@ -20,13 +20,10 @@ use Rattle.clause_reports.specs.elaboration.Functions.{enter_plan, first_domains
 use Rattle.clause_reports.specs.elaboration.Refusals.{Elaborating, OfType, answers, granted}
 use Rattle.clause_reports.specs.elaboration.Walking.{greatest_level}
 use Rattle.drafts.proofs.entering_laws.OpenSignatures.{well_formed-settled}
-use Rattle.entry_laws.proofs.OnlyEntries.{recursion-entry}
 use Rattle.family_check.specs.Scopes.{HasPrelude}
 use Rattle.function_session.specs.function_lines.FunctionMade.{parts_reported, plan_entered, plan_over, plan_reported, reference_of}
 use Rattle.kernel_check.specs.Checking.{infer_sort_of}
 use Rattle.kernel_reduce.specs.Reduction.{nesting}
-use Rattle.entry_laws.proofs.order_scopes.OrderLengths.{recursion-tells}
-use Rattle.tree_translation.proofs.structural_rec.AdmittingPositions.{admission-decides}
 use Rattle.tree_translation.specs.Plans.{Part, Plan, no_part, own_part}
 use Rattle.tree_translation.specs.Recursion.{Recursion, recursion_of}
 use Rattle.unification.specs.ScopedStates.{IsReady}
@@ -39,20 +36,22 @@ use Rattle.clause_reports.proofs.ReportKeeping.{GrowsBy, report-grows}
 use Rattle.clause_equations.proofs.MadeEquations.{found-low}
 use Rattle.drafts.proofs.draft_entering.Entered.{next-assoc}
 use Rattle.function_laws.specs.report_laws.plan_drafts.Laws.{IsPlanFor}
-use Rattle.function_laws.specs.plan_laws.Laws.{IsPlanOf, PlanIsOfFunction, PlanIsPlanned}
-use Rattle.function_laws.specs.plan_laws.MadePlans.{PlanIsMade}
-use Rattle.function_laws.proofs.plan_laws.Answering.{if-ok}
-use Rattle.function_laws.proofs.plan_laws.ExactPlans.{domains-low, next-same}
+use Rattle.plan_laws.specs.Laws.{IsPlanOf, PlanIsOfFunction, PlanIsPlanned}
+use Rattle.plan_laws.specs.MadePlans.{PlanIsMade}
+use Rattle.plan_laws.proofs.Answering.{if-ok}
+use Rattle.plan_laws.proofs.ExactPlans.{domains-low, next-same}
 use Rattle.function_laws.specs.report_laws.made_functions.Laws.{LinesAreReported, PartsInTurn, WalksInTurn}
-use Rattle.function_laws.specs.report_laws.drafts_in_turn.Laws.{FunctionEntersInTurn, HasLevel}
-use Rattle.function_laws.proofs.report_laws.drafts_in_turn.FamilyLevels.{family-level, level-low}
+use Rattle.function_laws.specs.report_laws.drafts_in_turn.Laws.{FunctionEntersInTurn}
+use Rattle.plan_laws.specs.Conditions.{HasLevel}
+use Rattle.plan_laws.proofs.FamilyLevels.{level-low}
+use Rattle.plan_laws.proofs.PlanLevels.{position-low}
 use Rattle.function_laws.proofs.report_laws.drafts_in_turn.PartLevels.{ArePartsLow, part-low, plan-low}
 use Rattle.function_laws.specs.report_laws.Functions.{FunctionIsMeant, PlanReports}
 use Rattle.function_laws.specs.report_laws.Reportable.{IsReportable}
 use Rattle.function_laws.proofs.report_laws.EnteredParts.{HasPlan, domains-are, plan-has}
 use Rattle.function_laws.proofs.report_laws.LeafSites.{leaves-over, own-over}
 use Rattle.function_laws.proofs.report_laws.MadeReports.{report-is_made}
-use Rattle.function_laws.proofs.report_laws.NamedEntries.{defined-on}
+use Rattle.plan_laws.proofs.NamedEntries.{defined-on}
 use Rattle.function_laws.proofs.report_laws.OwnWalks.{own-walk}
 
 pub ready-of : (S : Signature) → IsWellFormed S → HasPrelude S → IsReady S
@@ -160,19 +159,12 @@ plan-reports of plans opens lines S f plan left h level formed first marks =
     let levels : ArePartsLow plan.parts =
     if-ok (λ (plan : Plan). ArePartsLow plan.parts) (plan_of S f h.level h.left).0 plan h.is (plan-low S f h.level h.left top_level) in
     let same : plan.level ≡ h.level = is.level_is in
-    let reaches : (r : Recursion) → recursion_of S plan ≡ Some r → r.family.level ≤ plan.level =
-    (λ r e.
-    let known = recursion-entry S plan r e in
-    let admits = (admission-decides S (own_part plan).tele r.position r.admission).0 (recursion-tells S plan r e).admits in
-    let low : r.family.level ≤ h.level =
-    family-level S f h.level r.position (own_part plan).tele (own_part plan).goal r.admission r.family level (sym is.type ∙ planned.type) admits known in
-    omega (arith, same, low)) in
     let tele : first_domains f.arity f.type ≡ (own_part plan).tele =
     ap₂ first_domains (sym is.arity ∙ planned.arity) (sym is.type ∙ planned.type) ∙ domains-are (own_part plan).tele (own_part plan).goal in
     let low : are_low (own_part plan).tele ≡ true = transport (λ tele. are_low tele ≡ true) tele (domains-low f.arity f.type h.function.resolved.type.low) in
     weaker (HasPlan S plan) (λ T. (rest : ℕ) → parts_reported plan 0 plan.parts [] T rest ≡ report_parts plan 0 plan.parts T rest) (enter_plan S plan left).0
     (λ T has rest. lines plan T rest (all-turn S T plan (record { has = has; low = low; levels = levels })))
-    (plan-has S plan planned formed first (opens S formed first marks) (omega (arith, same, top_level)) reaches left)
+    (plan-has S plan planned formed first (opens S formed first marks) (omega (arith, same, top_level)) (position-low S f h.level plan level is planned) left)
 
 -- ---- the function
 

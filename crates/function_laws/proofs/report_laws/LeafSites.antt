@@ -16,7 +16,7 @@ use Rattle.clause_reports.specs.Equations.{Equation, equation_of, leaf_site, par
 use Rattle.clause_reports.specs.Laws.{IsOver}
 use Rattle.clause_reports.specs.Reports.{Reference}
 use Rattle.clause_reports.specs.Shadows.{TreeLeaf, leaves_below, leaves_in_branch, leaves_of}
-use Rattle.function_laws.proofs.plan_laws.WalkScopes.{IsWalkOver}
+use Rattle.plan_laws.proofs.WalkScopes.{IsWalkOver}
 use Rattle.written_functions.proofs.equation_laws.EquationScopes.{IsScopedSite, site-over, walk-over}
 use Rattle.function_laws.specs.report_laws.Reportable.{IsLeafOver}
 use Rattle.function_laws.proofs.report_laws.OwnWalks.{own-walk, part-in}

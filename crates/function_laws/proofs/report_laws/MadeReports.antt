@@ -33,8 +33,8 @@ use Rattle.proof_walks.proofs.ScopeTests.{term-told}
 use Rattle.clause_lines.specs.CodeReports.{Candidate, Judgement, Known, equation_converts, equation_judged, in_plan, on_judged, proof_judged, report_made, sides_judged, unless_converts, with_candidate}
 use Rattle.clause_lines.proofs.NameMarks.{clause-marked, mark_after}
 use Rattle.clause_lines.proofs.ReportsAnswered.{candidate-own}
-use Rattle.function_laws.proofs.plan_laws.Answering.{if-ok}
-use Rattle.function_laws.proofs.plan_laws.ExactPlans.{next-same}
+use Rattle.plan_laws.proofs.Answering.{if-ok}
+use Rattle.plan_laws.proofs.ExactPlans.{next-same}
 use Rattle.function_laws.specs.report_laws.Laws.{ReportIsMade}
 use Rattle.function_laws.specs.report_laws.Reportable.{IsLeafOver, IsReportable}
 use Rattle.function_laws.proofs.report_laws.WalkedProofs.{IsProofOver, walk-proves}

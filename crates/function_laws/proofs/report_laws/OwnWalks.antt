@@ -5,15 +5,15 @@ use Rattle.theory.specs.Signatures.{Signature}
 use Rattle.theory.specs.SignatureScopes.{IsScoped, IsScopedTelescope}
 use Rattle.core_terms.specs.CaseTrees.{Walk}
 use Rattle.core_terms.specs.Clauses.{Is}
-use Rattle.unification.specs.Outcomes as outcome
 use Rattle.unification.proofs.ScopedRecords.{variables-scoped}
 use Rattle.case_trees.specs.OwnWalks.{own_walk_of}
 use Rattle.case_trees.specs.Points.{start_at}
 use Rattle.case_trees.specs.Scoped.{IsScopedPoint, IsScopedTree}
-use Rattle.function_laws.proofs.plan_laws.Answering.{if-ok}
-use Rattle.function_laws.proofs.plan_laws.SameReduction.{not-read}
-use Rattle.function_laws.proofs.plan_laws.SameWalks.{same-walks}
-use Rattle.function_laws.proofs.plan_laws.WalkScopes.{IsWalkOver, walk-over}
+use Rattle.unification.specs.Outcomes as outcome
+use Rattle.plan_laws.proofs.Answering.{if-ok}
+use Rattle.plan_laws.proofs.SameReduction.{not-read}
+use Rattle.plan_laws.proofs.SameWalks.{same-walks}
+use Rattle.plan_laws.proofs.WalkScopes.{IsWalkOver, walk-over}
 use Rattle.tree_translation.specs.Conditions.{IsPlanned, with_function}
 use Rattle.tree_translation.specs.Plans.{Part, Plan}
 use Rattle.clause_reports.specs.Equations.{part_at}

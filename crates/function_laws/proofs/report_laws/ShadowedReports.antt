@@ -19,7 +19,7 @@ use Rattle.clause_reports.specs.Reports.{Reference, Reported, order_in, at_leaf,
 use Rattle.clause_reports.specs.Shadows.{TreeLeaf, convert_at_all, earlier_leaf, equation_at_leaf, leaves_of, vector_of}
 use Rattle.clause_reports.specs.Stops.{Rejection, ReportStop, Reporting, Halts, Rejected, answers, or_halts, halting}
 use Rattle.clause_equations.proofs.MadeEquations.{equation-at-is}
-use Rattle.function_laws.proofs.plan_laws.ExactPlans.{next-same}
+use Rattle.plan_laws.proofs.ExactPlans.{next-same}
 use Rattle.drafts.proofs.draft_entering.Entered.{next-assoc}
 use Rattle.proof_walks.proofs.ScopeTests.{term-told}
 use Rattle.clause_lines.specs.CodeReports.{in_plan, equation_converts, equation_there, converts_at_all, converts_with, converts_at_leaves, if_shadowed, both_match, at_matched, at_vector_made, at_place, place_converts, shadowed_among, shadowed_made}

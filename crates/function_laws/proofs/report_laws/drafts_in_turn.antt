@@ -1,10 +1,8 @@
 pub mod CycleSides
 pub mod RunNames
 pub mod TreeNames
-pub mod EnteredDraft
 pub mod EnteringInTurn
 pub mod PartLevels
-pub mod FamilyLevels
 pub mod PlanNames
 pub mod FunctionNames
 pub mod MadeInTurn

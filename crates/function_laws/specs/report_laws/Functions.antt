@@ -3,12 +3,12 @@ use Rattle.std.specs.Prelude.{◌≡◌, ℕ, true, IfOk, []}
 use Rattle.theory.specs.Signatures.{Signature}
 use Rattle.theory.specs.WellFormed.{IsWellFormed}
 use Rattle.drafts.specs.draft_checks.Checks.{unmarked}
-use Rattle.function_laws.specs.report_laws.drafts_in_turn.Laws.{HasLevel}
+use Rattle.plan_laws.specs.Conditions.{HasLevel}
 use Rattle.clause_reports.specs.elaboration.Functions.{enter_plan, function_of, report_parts}
 use Rattle.family_check.specs.Scopes.{HasPrelude}
 use Rattle.function_session.specs.function_lines.FunctionMade.{function_made, parts_reported}
 use Rattle.function_laws.specs.report_laws.plan_drafts.Laws.{IsPlanFor}
-use Rattle.function_laws.specs.plan_laws.Conditions.{IsFunctionFor}
+use Rattle.plan_laws.specs.Conditions.{IsFunctionFor}
 use Rattle.resolve.specs.Functions.{Function}
 use Rattle.tree_translation.specs.Plans.{Plan}
 

@@ -2,7 +2,7 @@
 ghost use Rattle.function_laws.specs.report_laws.made_functions.Entering.{FunctionEnters};
 ghost use Rattle.function_laws.specs.report_laws.made_functions.Laws.{FunctionIsMade, LinesAreReported, PlanEnters};
 
-use crate::plan_laws::{plan_is_made, plan_is_of_function};
+use plan_laws::laws::{plan_is_made, plan_is_of_function};
 use crate::report_laws::plan_drafts::{function_drafts_tested, function_entries_made};
 use drafts::draft_checks::laws::unmarked_is_open;
 use drafts::entering_laws::entered_is_open;

@@ -1,7 +1,7 @@
 //! The drafts of a resolved function: they are scoped, and are made.
 ghost use Rattle.function_laws.specs.report_laws.plan_drafts.Laws.{FunctionDraftsScoped, FunctionDraftsTested, FunctionEntriesMade};
 
-use crate::plan_laws::{plan_is_of_function, plan_is_planned, plan_stands_apart};
+use plan_laws::laws::{plan_is_of_function, plan_is_planned, plan_stands_apart};
 use exact_laws::deep_laws::translate_is_exact;
 use exact_laws::step_scopes::drafts_scoped;
 

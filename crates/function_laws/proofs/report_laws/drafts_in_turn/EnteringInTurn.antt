@@ -17,7 +17,7 @@ use Rattle.tree_translation.specs.Laws.{name_of}
 use Rattle.drafts.proofs.entering_laws.EnteredOpen.{entering-extends}
 use Rattle.entry_laws.proofs.OnlyConstants.{Each, each-append, each-weaker}
 use Rattle.function_laws.specs.report_laws.made_functions.Entering.{NamesInTurn}
-use Rattle.function_laws.proofs.report_laws.drafts_in_turn.EnteredDraft.{draft-defined}
+use Rattle.plan_laws.proofs.EnteredDraft.{draft-defined}
 use Rattle.entry_laws.proofs.GrowingDrafts.{Grows, IsKnown, among-each}
 
 -- ---- a name

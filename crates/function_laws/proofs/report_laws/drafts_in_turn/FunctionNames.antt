@@ -6,7 +6,7 @@ use Rattle.drafts.specs.draft_entering.Conditions.{IsGeneratedName}
 use Rattle.drafts.proofs.draft_entering.Longer.{extends-same}
 use Rattle.tree_translation.specs.Entries.{translate}
 use Rattle.entry_laws.proofs.OnlyConstants.{Each}
-use Rattle.function_laws.specs.plan_laws.Laws.{PlanIsOfFunction, PlanIsPlanned}
+use Rattle.plan_laws.specs.Laws.{PlanIsOfFunction, PlanIsPlanned}
 use Rattle.function_laws.specs.report_laws.made_functions.Entering.{FunctionEnters, NamesInTurn}
 use Rattle.function_laws.specs.report_laws.drafts_in_turn.Laws.{FunctionEntersInTurn, FunctionNamesEnter}
 use Rattle.function_laws.proofs.report_laws.drafts_in_turn.EnteringInTurn.{grown-in_turn}

@@ -11,11 +11,12 @@ use Rattle.kernel_reduce.specs.Reduction.{nesting}
 use Rattle.tree_translation.specs.Plans.{Plan}
 use Rattle.drafts.proofs.draft_entering.Entered.{next-assoc}
 use Rattle.function_laws.specs.report_laws.plan_drafts.Laws.{IsPlanFor}
-use Rattle.function_laws.specs.plan_laws.MadePlans.{PlanIsMade}
-use Rattle.function_laws.proofs.plan_laws.Answering.{if-ok}
-use Rattle.function_laws.proofs.plan_laws.ExactPlans.{next-same}
-use Rattle.function_laws.specs.report_laws.drafts_in_turn.Laws.{FunctionEntersInTurn, FunctionIsMadeInTurn, HasLevel, IsReportedPlan}
-use Rattle.function_laws.proofs.report_laws.drafts_in_turn.FamilyLevels.{level-low}
+use Rattle.plan_laws.specs.MadePlans.{PlanIsMade}
+use Rattle.plan_laws.proofs.Answering.{if-ok}
+use Rattle.plan_laws.proofs.ExactPlans.{next-same}
+use Rattle.function_laws.specs.report_laws.drafts_in_turn.Laws.{FunctionEntersInTurn, FunctionIsMadeInTurn, IsReportedPlan}
+use Rattle.plan_laws.specs.Conditions.{HasLevel}
+use Rattle.plan_laws.proofs.FamilyLevels.{level-low}
 
 -- once the plan is there
 reported-is : (S : Signature) (plan : Plan) (left : ℕ) → IsReportedPlan S plan → ((left : ℕ) → plan_entered S plan left ≡ enter_plan S plan left)

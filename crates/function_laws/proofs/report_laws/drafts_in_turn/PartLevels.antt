@@ -25,7 +25,7 @@ use Rattle.tree_translation.specs.Plans.{Part, Plan}
 use Rattle.tree_translation.specs.Entries.{ordered_variables}
 use Rattle.tree_translation.specs.Recursion.{Recursion, order_of, ordered_telescope, ordered_term}
 use Rattle.with_abstraction.specs.Abstractions.{Abstracted, abstract_over_of}
-use Rattle.function_laws.proofs.plan_laws.Answering.{dots-have, if-ok, next-has}
+use Rattle.plan_laws.proofs.Answering.{dots-have, if-ok, next-has}
 
 -- the helpers that are walked
 abbrev AreLow : List Walked → Type 0

@@ -12,11 +12,10 @@ use Rattle.drafts.proofs.draft_entering.Entered.{pushed-longer}
 use Rattle.drafts.proofs.draft_entering.Longer.{generated-longer}
 use Rattle.clause_reports.specs.elaboration.Functions.{plan_of}
 use Rattle.clause_reports.specs.elaboration.Walking.{greatest_level}
-use Rattle.entry_laws.proofs.order_scopes.OrderLengths.{order-counted, recursion-tells}
+use Rattle.entry_laws.proofs.order_scopes.OrderLengths.{order-counted}
 use Rattle.entry_laws.proofs.order_scopes.OrderedScopes.{length-ordered, variables-scoped}
 use Rattle.resolve.specs.Functions.{Function}
 use Rattle.tree_translation.specs.structural_rec.Uses.{Use}
-use Rattle.tree_translation.proofs.structural_rec.AdmittingPositions.{admission-decides}
 use Rattle.tree_translation.specs.Conditions.{IsPartOf, IsPlanned, with_function}
 use Rattle.tree_translation.specs.Entries.{helper_node, ordered_variables, step_node}
 use Rattle.tree_translation.specs.Naming.{below_name, rec_name}
@@ -34,16 +33,18 @@ use Rattle.entry_laws.proofs.OnlyEntries.{own_node, recursion-entry}
 use Rattle.entry_laws.specs.draft_scopes.Laws.{IsOrdered}
 use Rattle.entry_laws.proofs.draft_scopes.FunctionSignatures.{part-tree}
 use Rattle.exact_laws.proofs.step_scopes.PlanOrders.{order-there, plan-ordered}
-use Rattle.function_laws.specs.plan_laws.Laws.{IsPlanOf, PlanIsOfFunction, PlanIsPlanned}
-use Rattle.function_laws.proofs.plan_laws.Answering.{if-ok}
+use Rattle.plan_laws.specs.Laws.{IsPlanOf, PlanIsOfFunction, PlanIsPlanned}
+use Rattle.plan_laws.proofs.Answering.{if-ok}
 use Rattle.function_laws.specs.report_laws.plan_drafts.Laws.{IsPlanFor}
-use Rattle.function_laws.specs.report_laws.drafts_in_turn.Laws.{HasLevel}
-use Rattle.function_laws.proofs.report_laws.drafts_in_turn.FamilyLevels.{family-level, level-low}
+use Rattle.plan_laws.specs.Conditions.{HasLevel}
+use Rattle.plan_laws.proofs.FamilyLevels.{level-low}
 use Rattle.entry_laws.proofs.GrowingDrafts.{CanBeMade}
 use Rattle.exact_laws.proofs.own_scopes.PlainFunctions.{own-plain}
 use Rattle.exact_laws.proofs.step_scopes.AllDrafts.{step-own}
 use Rattle.function_laws.proofs.report_laws.drafts_in_turn.PartLevels.{ArePartsLow, part-low, plan-low}
-use Rattle.function_laws.proofs.report_laws.drafts_in_turn.RunNames.{IsFitting, can-recur}
+use Rattle.function_laws.proofs.report_laws.drafts_in_turn.RunNames.{IsFitting}
+use Rattle.plan_laws.proofs.EnteredNames.{can-recur}
+use Rattle.plan_laws.proofs.PlanLevels.{position-low}
 use Rattle.function_laws.proofs.report_laws.drafts_in_turn.TreeNames.{tree-fits}
 
 -- a name that is generated with the function is generated without it
@@ -134,9 +135,6 @@ function-names of plans S f plan h level =
     let own : (own_part plan).level ≤ greatest_level = (let e = planned.level in omega (arith, e, same, top_level)) in
     let recursion : (r : Recursion) → recursion_of S plan ≡ Some r → IsGeneratedName S (below_name r.family plan.level) × IsGeneratedName S (rec_name r.family plan.level) =
     (λ r e.
-    let known = recursion-entry S plan r e in
-    let admits = (admission-decides S (own_part plan).tele r.position r.admission).0 (recursion-tells S plan r e).admits in
-    let low : r.family.level ≤ h.level =
-    family-level S f h.level r.position (own_part plan).tele (own_part plan).goal r.admission r.family level (sym is.type ∙ planned.type) admits known in
-    can-recur S plan.level r.admission.number r.family (omega (arith, same, top_level)) (omega (arith, same, low)) known) in
+    can-recur S plan.level r.admission.number r.family (omega (arith, same, top_level)) (position-low S f h.level plan level is planned r e)
+    (recursion-entry S plan r e)) in
     (planned, names-made S plan planned ready own (λ k part at. part-low plan.parts (k + 1) part parts at) recursion)

@@ -1,5 +1,5 @@
 -- The names that the term of a run may mention can be generated, where the level of its goal is low enough.
-use Rattle.std.proofs.Common.{◌≡◌, inl, inr, ℕ, ◌+◌, ◌<◌, ◌≤◌, nat_le, nat_lt, max, true, Option, Some, None, IfSome, Result, Ok, Err, IfOk, List, [], ◌∷◌, length, refl, sym, ap, ◌∙◌, subst as transport, arith}
+use Rattle.std.proofs.Common.{◌≡◌, inl, inr, ℕ, ◌+◌, ◌<◌, ◌≤◌, nat_lt, max, true, Option, Some, None, IfSome, Result, Ok, Err, IfOk, List, [], ◌∷◌, length, refl, sym, ap, ◌∙◌, subst as transport, arith}
 use Rattle.std.proofs.lemmas.Bool.Decides.{nat_tests}
 use Rattle.std.proofs.lemmas.Option.{slice_get_within}
 use Rattle.std.proofs.lemmas.Result.{IfOk-at_ok}
@@ -37,7 +37,7 @@ use Rattle.generators.specs.acyclic_gen.DirectEntries.{direct_name}
 use Rattle.tree_translation.specs.Comparisons.{Comparison}
 use Rattle.tree_translation.specs.Hidden.{visible, widened}
 use Rattle.tree_translation.specs.Laws.{Widens, widened_equations}
-use Rattle.tree_translation.specs.Naming.{below_name, case_name, left_name, noconf_name, rec_name}
+use Rattle.tree_translation.specs.Naming.{case_name, left_name, noconf_name}
 use Rattle.tree_translation.specs.Replays.{behind_step, level_of_first, step_in}
 use Rattle.tree_translation.specs.RunTerms.{compared_names, cycle_names, rule_names, run_names}
 use Rattle.tree_translation.specs.Standings.{Standing, problem_state}
@@ -71,17 +71,6 @@ pub can-analyse : (S : Signature) (L n : ℕ) (f : Family) → L < top → IsEnt
 can-analyse S L n f low known =
     let test : nat_lt L top ≡ true = grind (arith, nat_tests, low) in
     listed-named S (made.Case n f L) (known, low) test
-
-pub can-recur : (S : Signature) (L n : ℕ) (f : Family) → L + 1 < top → f.level ≤ L → IsEntryAt S n (FamilyOf f)
-    → IsGeneratedName S (below_name f L) × IsGeneratedName S (rec_name f L)
-can-recur S L n f fits level known =
-    let reaches : nat_le f.level L ≡ true = grind (arith, nat_tests, level) in
-    let ends : nat_lt (L + 1) top ≡ true = grind (arith, nat_tests, fits) in
-    let below : L < top = omega (arith, fits) in
-    let test = and_from (nat_le f.level L) (nat_lt (L + 1) top) reaches ends in (
-      listed-named S (made.Below n f L) (known, below) test,
-      listed-named S (made.Rec n f L) (known, below) test,
-    )
 
 fitting-low : (f : Family) → is_fitting f ≡ true → nat_lt (f.level + 1) top ≡ true
 fitting-low f e = grind (arith, nat_tests, e)

@@ -15,8 +15,8 @@ use Rattle.tree_translation.specs.Entries.{translate}
 use Rattle.tree_translation.specs.Recursion.{Recursion}
 use Rattle.function_plans.proofs.PlansMade.{made-low}
 use Rattle.drafts.proofs.draft_entering.Entered.{next-assoc}
-use Rattle.function_laws.proofs.plan_laws.Answering.{halts-ok, if-ok}
-use Rattle.function_laws.proofs.plan_laws.ExactPlans.{next-same}
+use Rattle.plan_laws.proofs.Answering.{halts-ok, if-ok}
+use Rattle.plan_laws.proofs.ExactPlans.{next-same}
 use Rattle.function_laws.specs.report_laws.made_functions.Laws.{EnterInTurn, PlanEnters}
 
 -- an answer of a report is one of the call

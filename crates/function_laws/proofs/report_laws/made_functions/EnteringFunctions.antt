@@ -18,9 +18,9 @@ use Rattle.drafts.proofs.draft_entering.Longer.{extends-prefix}
 use Rattle.clause_reports.specs.elaboration.Functions.{first_domains, plan_of}
 use Rattle.drafts.specs.entering_laws.Laws.{EnteredIsOpen, StaysOpen}
 use Rattle.tree_translation.specs.Entries.{translate}
-use Rattle.function_laws.specs.plan_laws.Laws.{IsPlanOf, PlanIsOfFunction}
-use Rattle.function_laws.proofs.plan_laws.Answering.{if-ok}
-use Rattle.function_laws.proofs.plan_laws.ExactPlans.{domains-low}
+use Rattle.plan_laws.specs.Laws.{IsPlanOf, PlanIsOfFunction}
+use Rattle.plan_laws.proofs.Answering.{if-ok}
+use Rattle.plan_laws.proofs.ExactPlans.{domains-low}
 use Rattle.function_laws.specs.report_laws.plan_drafts.Laws.{FunctionDraftsTested, FunctionEntriesMade}
 use Rattle.function_laws.specs.report_laws.made_functions.Entering.{FunctionEnters, NamesInTurn}
 use Rattle.function_laws.specs.report_laws.made_functions.Laws.{EnterInTurn}

@@ -9,9 +9,9 @@ use Rattle.kernel_check.specs.Checking.{infer_sort_of}
 use Rattle.kernel_reduce.specs.Reduction.{nesting}
 use Rattle.tree_translation.specs.Plans.{Plan}
 use Rattle.drafts.proofs.draft_entering.Entered.{next-assoc}
-use Rattle.function_laws.specs.plan_laws.MadePlans.{PlanIsMade}
-use Rattle.function_laws.proofs.plan_laws.Answering.{if-ok}
-use Rattle.function_laws.proofs.plan_laws.ExactPlans.{next-same}
+use Rattle.plan_laws.specs.MadePlans.{PlanIsMade}
+use Rattle.plan_laws.proofs.Answering.{if-ok}
+use Rattle.plan_laws.proofs.ExactPlans.{next-same}
 use Rattle.function_laws.specs.report_laws.made_functions.Laws.{FunctionIsMade, IsMadeWhole}
 
 -- once the plan is there

@@ -13,8 +13,8 @@ use Rattle.clause_reports.specs.elaboration.Refusals.{Owner, or_no_report, owner
 use Rattle.function_session.specs.function_lines.FunctionMade.{clause_line, clause_reported, lines_with, parts_reported, reference_of, walks_reported}
 use Rattle.function_session.proofs.function_lines.Agreeing.{spent}
 use Rattle.function_session.proofs.function_lines.ReportedParts.{Made, before, prefixed, shifted, none-behind, nothing-before}
-use Rattle.function_laws.proofs.plan_laws.Answering.{if-ok}
-use Rattle.function_laws.proofs.plan_laws.ExactPlans.{next-same}
+use Rattle.plan_laws.proofs.Answering.{if-ok}
+use Rattle.plan_laws.proofs.ExactPlans.{next-same}
 use Rattle.function_laws.specs.report_laws.made_functions.Laws.{LinesAreReported, PartsInTurn, WalksInTurn}
 
 -- an answer of a report is one of the call

@@ -9,8 +9,8 @@ use Rattle.exact_laws.specs.step_scopes.Laws.{DraftsScopedAfterPrelude}
 use Rattle.tree_translation.specs.Conditions.{IsPlanned, with_function}
 use Rattle.tree_translation.specs.Plans.{Plan}
 use Rattle.unification.specs.ScopedStates.{IsReady}
-use Rattle.function_laws.specs.plan_laws.Laws.{IsPlanOf, PlanIsOfFunction, PlanIsPlanned, PlanStandsApart}
-use Rattle.function_laws.proofs.plan_laws.Answering.{if-ok}
+use Rattle.plan_laws.specs.Laws.{IsPlanOf, PlanIsOfFunction, PlanIsPlanned, PlanStandsApart}
+use Rattle.plan_laws.proofs.Answering.{if-ok}
 use Rattle.function_laws.specs.report_laws.plan_drafts.Laws.{FunctionDraftsScoped, FunctionEntriesMade, IsPlanFor}
 
 plan-ready : PlanIsOfFunction → (S : Signature) (f : Function) (plan : Plan) → IsPlanFor S f plan → IsReady (with_function S plan)

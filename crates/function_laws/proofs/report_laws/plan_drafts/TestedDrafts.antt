@@ -24,8 +24,8 @@ use Rattle.tree_translation.specs.TreeTerms.{tree_names}
 use Rattle.tree_translation.specs.Plans.{Part, Plan, own_part}
 use Rattle.tree_translation.specs.Recursion.{Recursion, first_positions, order_of, ordered_telescope, ordered_term, recursion_of}
 use Rattle.exact_laws.specs.step_scopes.Laws.{DraftsScopedAfterPrelude}
-use Rattle.function_laws.specs.plan_laws.Laws.{PlanIsOfFunction, PlanIsPlanned}
-use Rattle.function_laws.proofs.plan_laws.Answering.{if-ok}
+use Rattle.plan_laws.specs.Laws.{PlanIsOfFunction, PlanIsPlanned}
+use Rattle.plan_laws.proofs.Answering.{if-ok}
 use Rattle.function_laws.specs.report_laws.plan_drafts.Laws.{FunctionDraftsTested}
 use Rattle.function_laws.proofs.report_laws.plan_drafts.FunctionDrafts.{drafts-scoped}
 

@@ -1,28 +1,17 @@
 -- The names of the drafts of a function enter in turn.
-use Rattle.std.specs.Prelude.{◌≡◌, ℕ, true, Ok, IfOk, []}
-use Rattle.theory.specs.Terms.{Term}
+use Rattle.std.specs.Prelude.{◌≡◌, ℕ, true, IfOk, []}
 use Rattle.theory.specs.Signatures.{Signature}
 use Rattle.theory.specs.WellFormed.{IsWellFormed}
 use Rattle.drafts.specs.draft_checks.Checks.{unmarked}
-use Rattle.clause_reports.specs.elaboration.Functions.{enter_plan, function_level, function_of, plan_of, report_parts}
-use Rattle.clause_reports.specs.elaboration.Refusals.{OfType, granted}
+use Rattle.clause_reports.specs.elaboration.Functions.{enter_plan, function_of, plan_of, report_parts}
 use Rattle.family_check.specs.Scopes.{HasPrelude}
 use Rattle.function_session.specs.function_lines.FunctionMade.{function_made, parts_reported, plan_entered}
-use Rattle.kernel_check.specs.Checking.{infer_sort_of}
-use Rattle.kernel_reduce.specs.Reduction.{nesting}
 use Rattle.function_laws.specs.report_laws.made_functions.Entering.{NamesInTurn}
 use Rattle.function_laws.specs.report_laws.plan_drafts.Laws.{IsPlanFor}
-use Rattle.function_laws.specs.plan_laws.Conditions.{IsFunctionFor}
+use Rattle.plan_laws.specs.Conditions.{HasLevel, IsFunctionFor}
 use Rattle.resolve.specs.Functions.{Function}
 use Rattle.tree_translation.specs.Entries.{translate}
 use Rattle.tree_translation.specs.Plans.{Plan}
-
--- The checker gives the function's type a sort, with some units, and it has this level, which is not too high.
-pub record HasLevel (S : Signature) (f : Function) (level : ℕ) : Type 0 where
-  pub fuel : ℕ
-  pub sort : Term
-  pub granted_sort : (granted S OfType (infer_sort_of S nesting [] f.type fuel)).0 ≡ Ok sort
-  pub is_level : function_level S sort ≡ Ok level
 
 -- Where the plan of a function has the level of its type, each name of a draft is that of a definition, or of something that can be
 -- generated, in the signature that has the drafts before it.

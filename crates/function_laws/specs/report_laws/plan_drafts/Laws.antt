@@ -8,7 +8,7 @@ use Rattle.core_sig.specs.ScopedDrafts.{IsScopedDraft}
 use Rattle.drafts.specs.draft_checks.Checks.{enterable, names_enter}
 use Rattle.clause_reports.specs.elaboration.Functions.{plan_of}
 use Rattle.function_entries.specs.CodeEntries.{translate_made}
-use Rattle.function_laws.specs.plan_laws.Conditions.{IsFunctionFor}
+use Rattle.plan_laws.specs.Conditions.{IsFunctionFor}
 use Rattle.resolve.specs.Functions.{Function}
 use Rattle.tree_translation.specs.Entries.{translate}
 use Rattle.tree_translation.specs.Plans.{Plan}
