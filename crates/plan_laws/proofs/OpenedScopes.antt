@@ -124,7 +124,7 @@ pub record IsAbstractionOver (S : Signature) (n : ℕ) (a : Abstracted) : Type 0
   pub variables : length a.order ≡ n
   pub each : All (λ x. x < n) a.order
 
-low-has : (P : Abstracted → Type 0) (b : Bool) (a : Abstracted) (rest : ℕ) → P a → IfOk (if_low b (answered (Ok a)) rest).0 P
+pub low-has : (P : Abstracted → Type 0) (b : Bool) (a : Abstracted) (rest : ℕ) → P a → IfOk (if_low b (answered (Ok a)) rest).0 P
 low-has P true a rest h = h
 low-has P false a rest h = tt
 

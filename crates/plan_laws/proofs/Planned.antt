@@ -16,6 +16,7 @@ use Rattle.clause_reports.specs.elaboration.Refusals.{answers}
 use Rattle.clause_reports.specs.elaboration.Walking.{Given, Session, Walked, walk_clauses}
 use Rattle.function_checks.proofs.function_clauses.Fitting.{clauses-for}
 use Rattle.function_checks.proofs.function_clauses.OwnParts.{own-columns, own-part-for}
+use Rattle.function_plans.proofs.Orders.{in-is}
 use Rattle.function_plans.proofs.Starts.{IsStart, start-clauses, start-given, starts}
 use Rattle.function_checks.specs.function_walks.Conditions.{IsPart, IsPartFor}
 use Rattle.entry_laws.proofs.order_scopes.RecursionOrders.{recursion-ordered}
@@ -69,10 +70,6 @@ pub chosen-is : (s : Session) (c : Choice) (position : Option ℕ) → position_
 chosen-is s NotRecursive position e = let same : None ≡ position = cc in ap choice_of same
 chosen-is s (At j) position e = let same : Some j ≡ position = cc in ap choice_of same
 chosen-is s (NotSmaller rows) position e = absurd (cc)
-
-pub recursion-is : (S : Signature) (tele : Telescope) (position : Option ℕ) → recursion_in S tele position ≡ option_and_then (recursion_at S tele) position
-recursion-is S tele None = refl
-recursion-is S tele (Some j) = refl
 
 -- ---- the type
 
@@ -220,7 +217,7 @@ module _ (S : Signature) (f : Function) (is : IsFunctionFor S f) (level : ℕ) (
       (λ o. (split_of (provisional S f.name f.type) (ordered_telescope part.tele (order_of (length part.tele) o))
       (ordered_term (length part.tele) (order_of (length part.tele) o) part.goal) (ordered_variables (order_of (length part.tele) o) (length part.tele)) f.clauses done.units).0
       ≡ Ok done.tree)
-      (recursion-is S part.tele position) done.splits)
+      (sym (in-is S part.tele position)) done.splits)
       finish)))))
 
 pub plan-of_function : PlanIsOfFunction

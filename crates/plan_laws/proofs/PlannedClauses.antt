@@ -49,7 +49,7 @@ patterns-first (Is pats binds right) clauses = refl
 
 -- ---- arguments of helpers
 
-arguments-long : (a : Abstracted) (t : Term) (n : ℕ) → length a.order ≡ n → a.place ≤ n → length (helper_arguments a t) ≡ n + 1
+pub arguments-long : (a : Abstracted) (t : Term) (n : ℕ) → length a.order ≡ n → a.place ≤ n → length (helper_arguments a t) ≡ n + 1
 arguments-long a t n long low =
     let both : length (helper_arguments a t) ≡ length (map Var (take a.place a.order)) + suc (length (map Var (drop a.place a.order))) =
     length-append (map Var (take a.place a.order)) (t ∷ map Var (drop a.place a.order)) in

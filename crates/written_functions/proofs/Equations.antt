@@ -48,6 +48,7 @@ use Rattle.written_functions.proofs.Numbers.{AreUnder, scoped-under}
 use Rattle.written_functions.proofs.PlanClauses.{IsPlaced, columns-are, placed-pats, placed-side}
 use Rattle.written_functions.proofs.PlanGiven.{IsPlanGiven, clauses-listed, part-made}
 use Rattle.written_functions.proofs.PartScopes.{IsScopedOver}
+use Rattle.written_functions.proofs.Recursors.{map-each}
 use Rattle.written_functions.proofs.Walked as walked
 use Rattle.written_functions.proofs.Walked.{IsSideOf}
 
@@ -99,10 +100,6 @@ placed_at S f plan vs = record { before = S; function = f; parts = λ k. start_i
 abbrev pub AreLast : Function → Plan → List Values → Signature → Type 0
 AreLast f plan vs U =
     1 < length (parts_of f) → (terms : List Term) → f.arity ≤ length terms → last_argument U plan (recursion_of U plan) terms ≡ map (λ (v : Values). under_solution (take f.arity terms) v.term) vs
-
-map-same : (g h : Term → Term) → ((t : Term) → g t ≡ h t) → (ts : List Term) → map g ts ≡ map h ts
-map-same g h same [] = refl
-map-same g h same (t ∷ ts) = ap₂ (λ u us. u ∷ us) (same t) (map-same g h same ts)
 
 types-in : (context : Telescope) (vs : List ℕ) → map (type_of_variable context) vs ≡ map (type_in context) vs
 types-in context [] = refl
@@ -162,7 +159,7 @@ module _ (S : Signature) (f : Function) (plan : Plan) (h : IsPlanGiven S f plan)
       ap (renumbered r) (inst-applied (fill no_variable vs) (Const (length S.entries + j)) args)
       ∙ (renumbered-applied r (Const (length S.entries + j)) (map (under_solution vs) args)
       ∙ ap₂ (λ c us. applied (Const c) us) (helper-number j)
-      (map-both (renumbered r) (under_solution vs) args ∙ map-same (λ t. renumbered r (under_solution vs t)) (written_in U (placed_at S f plan values) vs) (written-is vs) args))
+      (map-both (renumbered r) (under_solution vs) args ∙ map-each (λ t. renumbered r (under_solution vs t)) (written_in U (placed_at S f plan values) vs) (written-is vs) args))
 
   -- the columns of a helper, with a term for the new variable
   columns-at : (w : Walk) (k : ℕ) (v : Walked) (o : Opening) (s : Term) → slice_get (h.own ∷ h.helpers) k ≡ Some v → v.part ≡ opened o w

@@ -1,11 +1,11 @@
 -- The columns of a helper at the arguments of its call: the terms of the outer clause, and then the scrutinee.
-use Rattle.std.proofs.Common.{◌≡◌, ℕ, zero, suc, ◌+◌, ◌-◌, ◌≤◌, ◌<◌, Bool, true, false, cond, nat_lt, Some, List, [], ◌∷◌, ◌++◌, length, length-append, map, take, drop, get_or, slice_get, refl, ap, ap₂, ◌∙◌, arith}
+use Rattle.std.proofs.Common.{◌≡◌, ℕ, zero, suc, ◌+◌, ◌-◌, ◌≤◌, ◌<◌, Bool, true, false, cond, nat_lt, Some, List, [], ◌∷◌, ◌++◌, length, map, take, drop, get_or, slice_get, refl, ap, ap₂, ◌∙◌, arith}
 use Rattle.std.specs.List.{All}
 use Rattle.std.proofs.lemmas.Bool.Decides.{nat_tests}
-use Rattle.std.proofs.lemmas.List.{length-drop, length-map, length-take-le, map-append}
+use Rattle.std.proofs.lemmas.List.{length-map, map-append}
 use Rattle.std.proofs.lemmas.List.Elements.{All-head, All-tail}
 use Rattle.theory.specs.Terms.{Term, Sort, Var}
-use Rattle.theory.specs.Substitutions.{extend, inst, fill}
+use Rattle.theory.specs.Substitutions.{inst, fill}
 use Rattle.theory.specs.Telescopes.{variables}
 use Rattle.theory.specs.Eliminators.{no_variable}
 use Rattle.theory.specs.Signatures.{Signature}
@@ -19,14 +19,9 @@ use Rattle.unification.proofs.Levels.{place-there}
 use Rattle.with_abstraction.specs.Abstractions.{Abstracted}
 use Rattle.with_abstraction.specs.Laws.{IsScopedAbstraction}
 use Rattle.with_abstraction.proofs.PutBack.{fill-place}
+use Rattle.plan_laws.proofs.PlannedClauses.{arguments-long}
 
 -- ---- places in a list
-
-fill-last : (s : ℕ → Term) (us : List Term) (v : ℕ) → length us ≤ v → fill s us v ≡ s (v - length us)
-fill-last s [] v h = ap s (omega arith)
-fill-last s (u ∷ us) v h =
-    fill-last (extend s u) us v (omega arith)
-    ∙ ap (extend s u) (let e : v - length us ≡ suc (v - length (u ∷ us)) = omega arith in e)
 
 get-mapped : (g : Term → Term) (ts : List Term) (i : ℕ) → i < length ts → get_or (map g ts) i (Sort 0) ≡ g (get_or ts i (Sort 0))
 get-mapped g [] i less = absurd (omega arith)
@@ -59,25 +54,12 @@ get-after (x ∷ order) (suc p) (suc i) v t le at = get-after order p i v t (ome
 
 -- ---- the arguments
 
-pub arguments-long : (a : Abstracted) (t : Term) (n : ℕ) → length a.order ≡ n → a.place ≤ n → length (helper_arguments a t) ≡ n + 1
-arguments-long a t n long low =
-    let both : length (helper_arguments a t) ≡ length (map Var (take a.place a.order)) + suc (length (map Var (drop a.place a.order))) =
-    length-append (map Var (take a.place a.order)) (t ∷ map Var (drop a.place a.order)) in
-    let first : length (map Var (take a.place a.order)) ≡ length (take a.place a.order) = length-map (take a.place a.order) Var in
-    let rest : length (map Var (drop a.place a.order)) ≡ length (drop a.place a.order) = length-map (drop a.place a.order) Var in
-    let taken : length (take a.place a.order) ≡ a.place = length-take-le a.place a.order (omega (arith, long, low)) in
-    let dropped : length (drop a.place a.order) ≡ length a.order - a.place = length-drop a.place a.order in
-    omega (arith, both, first, rest, taken, dropped, long, low)
-
 -- the argument at a place, counted from the first on, is the term for the variable there
 at-place : (us : List Term) (n q : ℕ) → length us ≡ n + 1 → q < n + 1 → fill no_variable us (n - q) ≡ get_or us q (Sort 0)
 at-place us n q long less =
     ap (fill no_variable us) (let e : n - q ≡ length us - (q + 1) = omega (arith, long) in e) ∙ fill-place no_variable us q (omega (arith, long, less))
 
 module _ (S : Signature) (n : ℕ) (a : Abstracted) (h : IsScopedAbstraction S n a) (t : Term) (g : Term → Term) where
-  arguments : List Term
-  arguments = map g (helper_arguments a t)
-
   long : length (map g (helper_arguments a t)) ≡ n + 1
   long = length-map (helper_arguments a t) g ∙ arguments-long a t n h.variables h.place
 

@@ -43,9 +43,6 @@ among-either i (x ∷ xs) ys h = elim (among-cases i x (xs ++ ys) h) [
 ]
 
 module _ (base : ℕ) (table : List (List ℕ)) (places : List ℕ) (i : ℕ) (there : is_among i places ≡ true) where
-  names : List (List ℕ)
-  names = map (λ j. get_or table j []) places
-
   abbrev pub Mentions : Term → Type 0
   Mentions t = IsIn (Names (get_or table i [])) (mentions_in base (map (λ j. get_or table j []) places) (renumbered (number_among base places) t))
 

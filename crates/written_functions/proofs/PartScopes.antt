@@ -45,13 +45,10 @@ use Rattle.with_abstraction.specs.Abstractions.{Abstracted, abstract_over_of, ab
 use Rattle.with_abstraction.specs.Laws.{IsScopedAbstraction}
 use Rattle.with_abstraction.specs.NormalForms.{normal_forms_of}
 use Rattle.function_session.proofs.Written.{granted-has}
+use Rattle.plan_laws.proofs.OpenedScopes.{low-has}
 use Rattle.written_functions.proofs.Abstractions.{AreFormsOf, IsAbstractionOf, abstraction-is, forms-are}
 
 -- ---- helpers that are opened
-
-low-has : (P : Abstracted → Type 0) (b : Bool) (a : Abstracted) (rest : ℕ) → P a → IfOk (if_low b (answered (Ok a)) rest).0 P
-low-has P true a rest h = h
-low-has P false a rest h = tt
 
 -- an abstraction in a scoped context that is scoped
 pub record IsScopedOver (S : Signature) (context : Telescope) (goal t : Term) (a : Abstracted) : Type 0 where

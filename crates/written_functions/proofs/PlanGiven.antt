@@ -32,7 +32,8 @@ use Rattle.function_session.specs.function_lines.Conditions.{IsFunctionOver}
 use Rattle.function_session.specs.function_lines.FunctionMade.{session_at}
 use Rattle.resolve.specs.Functions.{Function}
 use Rattle.written_functions.specs.Clauses.{parts_of}
-use Rattle.written_functions.proofs.Walked.{AreAt, ArePartsGiven, Gives, clauses-gives, clauses_of, ends-ok, is-ok}
+use Rattle.plan_laws.proofs.GivenClauses.{AreAt}
+use Rattle.written_functions.proofs.Walked.{ArePartsGiven, Gives, clauses-gives, clauses_of, ends-ok, is-ok}
 
 -- ---- parts that are finished
 

@@ -49,7 +49,7 @@ take-map g zero ts = refl
 take-map g (suc k) [] = refl
 take-map g (suc k) (t ∷ ts) = ap (λ us. g t ∷ us) (take-map g k ts)
 
-map-each : (g h : Term → Term) → ((t : Term) → g t ≡ h t) → (ts : List Term) → map g ts ≡ map h ts
+pub map-each : (g h : Term → Term) → ((t : Term) → g t ≡ h t) → (ts : List Term) → map g ts ≡ map h ts
 map-each g h same [] = refl
 map-each g h same (t ∷ ts) = ap₂ (λ u us. u ∷ us) (same t) (map-each g h same ts)
 
@@ -58,9 +58,6 @@ map-map g h [] = refl
 map-map g h (t ∷ ts) = ap (λ us. g (h t) ∷ us) (map-map g h ts)
 
 module _ (us : List Term) where
-  put : Term → Term
-  put = under_solution us
-
   term-put : (ts : List Term) (p : ℕ) → under_solution us (term_at ts p) ≡ term_at (map (under_solution us) ts) p
   term-put [] p = refl
   term-put (t ∷ ts) zero = refl

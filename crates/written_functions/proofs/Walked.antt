@@ -29,6 +29,7 @@ use Rattle.resolve.specs.Functions.{Function}
 use Rattle.resolve.specs.Scoping.{AreClauses, IsClause}
 use Rattle.tree_translation.proofs.Drafting.{bounded-ok}
 use Rattle.case_trees.specs.Laws.{IsGiven}
+use Rattle.plan_laws.proofs.GivenClauses.{AreAt, at-parts}
 use Rattle.written_functions.proofs.PartScopes.{IsFit, IsScopedOver, IsWalkable, helper-opens, walk-fits}
 
 -- ---- answers
@@ -42,17 +43,6 @@ ends-ok S name (Ok a) = refl
 ends-ok S name (Err e) = tt
 
 -- ---- lists of parts
-
--- the parts have these numbers among all
-abbrev pub AreAt : (all : List Walked) → (n : ℕ) → List Walked → Type 0
-AreAt all n [] = Unit {0}
-AreAt all n (w ∷ helpers) = (slice_get all n ≡ Some w) × AreAt all (n + 1) helpers
-
-at-parts : (all : List Walked) (n : ℕ) (first rest : List Walked) → AreAt all n (first ++ rest) → AreAt all n first × AreAt all (n + length first) rest
-at-parts all n [] rest h = (tt, transport (λ k. AreAt all k rest) (let e : n ≡ n + 0 = omega arith in e) h)
-at-parts all n (w ∷ first) rest h =
-    let parts = at-parts all (n + 1) first rest h.1 in
-    ((h.0, parts.0), transport (λ k. AreAt all k rest) (let e : n + 1 + length first ≡ n + suc (length first) = omega arith in e) parts.1)
 
 abbrev pub clauses_of : List Walked → List Clauses
 clauses_of helpers = map (λ (w : Walked). w.clauses) helpers

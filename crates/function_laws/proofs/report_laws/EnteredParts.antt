@@ -34,7 +34,7 @@ use Rattle.plan_laws.proofs.EnteredDraft.{draft-defined}
 use Rattle.clause_reports.specs.elaboration.Functions.{enter_drafts, enter_plan, enter_values, first_domains, recursion_in}
 use Rattle.clause_reports.specs.elaboration.Refusals.{answers, or_halts, owner_of, reporting}
 use Rattle.clause_reports.proofs.elaboration.Keeping.{no_report-has}
-use Rattle.plan_laws.proofs.Planned.{recursion-is}
+use Rattle.function_plans.proofs.Orders.{in-is}
 use Rattle.drafts.specs.entering_laws.Laws.{StaysOpen}
 use Rattle.drafts.proofs.entering_laws.EnteredOpen.{entered-open}
 use Rattle.plan_laws.proofs.EnteredNames.{can-value, mention-defines}
@@ -169,7 +169,7 @@ module _ (S : Signature) (plan : Plan) (planned : IsPlanned S plan) (formed : Is
   recursion-there =
       ap₂ (λ count type. recursion_in S (first_domains count type) plan.position) planned.arity planned.type
       ∙ (ap (λ tele. recursion_in S tele plan.position) (domains-are (own_part plan).tele (own_part plan).goal)
-      ∙ recursion-is S (own_part plan).tele plan.position)
+      ∙ sym (in-is S (own_part plan).tele plan.position))
 
   value-name : (T : Signature) → IsPrefix S T → (r : Recursion) → recursion_of S plan ≡ Some r → IsGeneratedName T (all_name r.family plan.level)
   value-name T more r is =
