@@ -6,10 +6,10 @@ pub mod plan_drafts;
 ghost use Rattle.function_laws.specs.report_laws.Functions.{FunctionIsMeant, PlanReports};
 ghost use Rattle.function_laws.specs.report_laws.Laws.{ReportIsMade};
 
-use plan_laws::laws::{plan_is_made, plan_is_of_function, plan_is_planned};
 use crate::report_laws::drafts_in_turn::function_enters_in_turn;
 use crate::report_laws::made_functions::lines_are_reported;
 use drafts::draft_checks::laws::unmarked_is_open;
+use plan_laws::laws::{plan_is_made, plan_is_of_function, plan_is_planned};
 
 /// The report of a clause is made with each refusal that is meant, and with the same units.
 pub fn report_is_made()

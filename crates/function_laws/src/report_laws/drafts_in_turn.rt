@@ -1,8 +1,8 @@
 //! The names of the drafts of a function enter in turn.
 ghost use Rattle.function_laws.specs.report_laws.drafts_in_turn.Laws.{FunctionEntersInTurn, FunctionIsMadeInTurn, FunctionNamesEnter};
 
-use plan_laws::laws::{plan_is_made, plan_is_of_function, plan_is_planned};
 use crate::report_laws::made_functions::function_enters;
+use plan_laws::laws::{plan_is_made, plan_is_of_function, plan_is_planned};
 
 /// The names of the drafts of a function enter in turn.
 pub fn function_names_enter()

@@ -2,10 +2,10 @@
 ghost use Rattle.function_laws.specs.report_laws.made_functions.Entering.{FunctionEnters};
 ghost use Rattle.function_laws.specs.report_laws.made_functions.Laws.{FunctionIsMade, LinesAreReported, PlanEnters};
 
-use plan_laws::laws::{plan_is_made, plan_is_of_function};
 use crate::report_laws::plan_drafts::{function_drafts_tested, function_entries_made};
 use drafts::draft_checks::laws::unmarked_is_open;
 use drafts::entering_laws::entered_is_open;
+use plan_laws::laws::{plan_is_made, plan_is_of_function};
 
 /// The function that the code makes is the one that is meant, where its drafts enter and its clauses are reported as is meant.
 pub fn function_is_made()

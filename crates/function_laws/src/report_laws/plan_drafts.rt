@@ -1,9 +1,9 @@
 //! The drafts of a resolved function: they are scoped, and are made.
 ghost use Rattle.function_laws.specs.report_laws.plan_drafts.Laws.{FunctionDraftsScoped, FunctionDraftsTested, FunctionEntriesMade};
 
-use plan_laws::laws::{plan_is_of_function, plan_is_planned, plan_stands_apart};
 use exact_laws::deep_laws::translate_is_exact;
 use exact_laws::step_scopes::drafts_scoped;
+use plan_laws::laws::{plan_is_of_function, plan_is_planned, plan_stands_apart};
 
 /// The drafts of a resolved function are scoped.
 pub fn function_drafts_scoped()
