@@ -1,5 +1,6 @@
 -- Reduced terms are scoped again.
 use Rattle.std.proofs.Common.{◌≡◌, ℕ, Bool, true, false, cond, Option, Some, None, Ok, List, [], ◌∷◌, ◌++◌, refl, subst as transport}
+use Rattle.std.proofs.lemmas.List.Elements.{All-append}
 use Rattle.theory.specs.Terms.{Term, Con}
 use Rattle.theory.specs.Signatures.{Signature}
 use Rattle.theory.specs.SignatureScopes.{IsScoped, IsScopedSignature}
@@ -11,7 +12,7 @@ use Rattle.core_terms.proofs.Answers.{Answers, and_next-has, bounded-has}
 use Rattle.kernel_reduce.specs.Reduction.{answered, whnf_of}
 use Rattle.kernel_reduce.specs.WellScoped.{AreScoped}
 use Rattle.kernel_reduce.proofs.ScopedReduction.{whnf-scoped}
-use Rattle.kernel_reduce.proofs.WellScoped.{all-scoped, scoped-all, scoped-append}
+use Rattle.kernel_reduce.proofs.WellScoped.{all-scoped, scoped-all}
 use Rattle.unification.specs.Built.{Built, built_of}
 use Rattle.unification.proofs.Constructors.{built-is}
 use Rattle.case_trees.specs.pattern_vectors.Matching.{is_constructor}
@@ -25,7 +26,7 @@ module _ (S : Signature) (n : ℕ) where
   others-scoped w b us e h scoped =
       let parts = applied-parts S n b.n b.number b.parameters b.arguments (transport (IsScoped S n) (built-is S w b e).term h) in
       applied-scoped S n (Con b.n b.number) (b.parameters ++ us) parts.0
-      (all-scoped S n (b.parameters ++ us) (scoped-append S n b.parameters us (scoped-all S n b.parameters parts.1) scoped))
+      (All-append (IsScoped S n) b.parameters us parts.1 (all-scoped S n us scoped))
 
   own-scoped : (w : Term) (b : Built) → built_of S w ≡ Some b → IsScoped S n w → AreScoped S n b.arguments
   own-scoped w b e h =
