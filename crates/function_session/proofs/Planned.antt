@@ -1,4 +1,5 @@
--- The plan of a function has its name, its type, and a walk for each clause.
+-- The plan of a function has its name, its type, and a walk for each clause. The lines of the function come after its plan.
+use mathlib.Core.Path.{fun_ext}
 use Rattle.std.proofs.Common.{◌≡◌, ℕ, suc, ◌+◌, Option, List, [], ◌∷◌, ◌++◌, map, length, reverse, refl, sym, ap, ap₂, ◌∙◌, length-append, arith}
 use Rattle.std.proofs.lemmas.List.{map-append}
 use Rattle.theory.specs.Terms.{Term}
@@ -12,7 +13,7 @@ use Rattle.core_terms.specs.CaseTrees.{Walk}
 use Rattle.case_trees.specs.OwnWalks.{own_walk_of}
 use Rattle.case_trees.specs.Points.{under_solution}
 use Rattle.case_trees.specs.Trees.{split_of}
-use Rattle.core_terms.specs.Answers.{bounded}
+use Rattle.core_terms.specs.Answers.{SpentOr, and_next, bounded}
 use Rattle.tree_translation.specs.structural_rec.Choices.{choose}
 use Rattle.tree_translation.specs.Entries.{ordered_variables}
 use Rattle.tree_translation.specs.Plans.{Plan, Part}
@@ -20,11 +21,12 @@ use Rattle.tree_translation.specs.Recursion.{Recursion, order_of, ordered_telesc
 use Rattle.clause_reports.specs.Equations.{part_named}
 use Rattle.clause_reports.proofs.Keeping.{Any, any}
 use Rattle.resolve.specs.Functions.{Function}
-use Rattle.kernel_check.specs.Checking.{check_of}
+use Rattle.kernel_check.specs.Checking.{check_of, infer_sort_of}
 use Rattle.kernel_reduce.specs.Reduction.{nesting}
-use Rattle.clause_reports.specs.elaboration.Refusals.{Elaborating, Owner, OfSide, granted, or_halts, owner_of, walking}
-use Rattle.clause_reports.specs.elaboration.Functions.{helpers_finished, own_finished, own_part, plan_of, position_chosen, recursion_in}
+use Rattle.clause_reports.specs.elaboration.Refusals.{Elaborating, Owner, OfSide, OfType, answers, granted, or_halts, owner_of, walking}
+use Rattle.clause_reports.specs.elaboration.Functions.{enter_plan, function_level, function_of, helpers_finished, own_finished, own_part, plan_of, planned_of, position_chosen, recursion_in, report_parts}
 use Rattle.clause_reports.specs.elaboration.Walking.{Given, Opened, Session, Walked, after_dots, check_dot, open_over, opened, walk_clause, walk_clauses, walk_right}
+use Rattle.drafts.proofs.draft_entering.Entered.{next-assoc}
 use Rattle.function_session.specs.Laws.{inner, inner_of, inner_right}
 use Rattle.function_session.proofs.Counting.{count_of}
 
@@ -145,3 +147,13 @@ plan-is S f level left =
       type = refl;
       parts = ap₂ (λ first rest. first ∷ rest) (o ∙ h.walks) (hs ∙ h.helpers);
     }))))
+
+pub function-planned : (S : Signature) (f : Function) (fuel : ℕ)
+    → function_of S f fuel
+    ≡ and_next (planned_of S f fuel) (λ plan end. and_next (enter_plan S plan end) (λ T last. report_parts plan 0 plan.parts T last))
+function-planned S f fuel =
+    let asked = granted S OfType (infer_sort_of S nesting [] f.type fuel) in
+    sym
+    (next-assoc asked (λ sort rest. and_next (answers (function_level S sort) rest) (λ level more. plan_of S f level more)) _
+    ∙ ap (λ go. and_next asked go)
+    (fun_ext (λ sort. fun_ext (λ rest. next-assoc (answers (function_level S sort) rest) (λ level more. plan_of S f level more) _))))

@@ -26,10 +26,12 @@ use Rattle.kernel_check.specs.Checking.{infer_sort_of}
 use Rattle.kernel_check.specs.Laws.{HasUniverse, IfYes}
 use Rattle.kernel_check.proofs.Soundness.{infer_sort-is_sound}
 use Rattle.kernel_reduce.specs.Reduction.{nesting}
-use Rattle.clause_reports.proofs.Keeping.{Any, any, weaker, Grows, grows_on}
+use Rattle.clause_reports.proofs.Keeping.{Any, any, weaker, weaker-of-two, Grows, grows_on}
+use Rattle.tree_translation.specs.Entries.{translate}
+use Rattle.core_sig.specs.Drafts.{Draft}
 use Rattle.tree_translation.specs.Plans.{Plan}
-use Rattle.clause_reports.specs.elaboration.Functions.{Lines, enter_plan, function_level, function_of, plan_of, report_parts}
-use Rattle.clause_reports.specs.elaboration.Refusals.{OfType, Part, granted, or_ill_typed}
+use Rattle.clause_reports.specs.elaboration.Functions.{Lines, enter_plan, function_level, function_of, plan_of, planned_of, report_parts}
+use Rattle.clause_reports.specs.elaboration.Refusals.{OfType, Part, granted, or_halts, or_ill_typed}
 use Rattle.elab_session.specs.Declaring.{Declared, accepted_as, declare_of}
 use Rattle.elab_session.specs.Laws as session
 use Rattle.elab_session.specs.Sessions.{IsReady}
@@ -39,8 +41,8 @@ use Rattle.function_session.specs.Evidence.{AreLinesOf, line_owner, references_f
 use Rattle.function_session.specs.Laws.{ElaboratesAsWritten, IsWrittenFunction, IsWrittenPlainly, clause_owners, inner}
 use Rattle.function_session.proofs.Counting.{all-numbered, count_of, numbered_from}
 use Rattle.function_session.proofs.Keeping.{function-has, without_lines-has}
-use Rattle.function_session.proofs.OwnEntry.{HasOwn, own-typed, plan-enters}
-use Rattle.function_session.proofs.Planned.{IsPlanOf, part_counts, plan-is}
+use Rattle.function_session.proofs.OwnEntry.{HasOwn, halts-is, own-typed, plan-enters}
+use Rattle.function_session.proofs.Planned.{IsPlanOf, function-planned, part_counts, plan-is}
 use Rattle.function_session.proofs.Reported.{Reports, lines-from, parts-report}
 
 -- ---- resolved functions
@@ -78,30 +80,38 @@ granted-has P S part (Ok (No d)) h = tt
 granted-has P S part (Err e) h = tt
 
 -- the facts about an accepted function and its lines
-record IsElaborated (S : Signature) (f : Function) (l : Lines) : Type 0 where
+record IsElaborated (S : Signature) (f : Function) (fuel : ℕ) (l : Lines) : Type 0 where
   pub sort : HasSort S [] f.type
   pub with_plan : Signature
   pub own : HasOwn S f.name f.type with_plan
   pub grown : Grows with_plan l.signature
   pub lines : map line_owner l.lines ≡ clause_owners f
-  pub level : ℕ
-  pub left : ℕ
   pub plan : Plan
-  pub planned : (plan_of S f level left).0 ≡ Ok plan
+  pub planned : (planned_of S f fuel).0 ≡ Ok plan
+  pub drafts : List Draft
+  pub translated : translate S plan ≡ Ok drafts
   pub evidence : AreLinesOf (pushed own.before (Definition f.name f.type own.body)) l.signature plan (references_from 0 plan.parts) l.lines
 
--- the plan of a function
-record IsPlanned (S : Signature) (f : Function) (level left : ℕ) (plan : Plan) : Type 0 where
+-- the plan of a function whose type has a sort
+record IsPlanned (S : Signature) (f : Function) (fuel : ℕ) (plan : Plan) : Type 0 where
+  pub sort : HasSort S [] f.type
   pub is : IsPlanOf S f plan
-  pub planned : (plan_of S f level left).0 ≡ Ok plan
+  pub planned : (planned_of S f fuel).0 ≡ Ok plan
 
 pub itself : {A E : Type 0} (P Z : A → Type 0) (r : Result A E) → IfOk r P → ((a : A) → P a → r ≡ Ok a → Z a) → IfOk r Z
 itself P Z (Ok a) p k = k a p refl
 itself P Z (Err e) p k = tt
 
-planned-is : (S : Signature) (f : Function) (level left : ℕ) → Answers (IsPlanned S f level left) (plan_of S f level left)
-planned-is S f level left =
-    itself (IsPlanOf S f) (IsPlanned S f level left) (plan_of S f level left).0 (plan-is S f level left) (λ plan is same. record { is = is; planned = same })
+planned-is : (S : Signature) (f : Function) (fuel : ℕ) → IsWellFormed S → Answers (IsPlanned S f fuel) (planned_of S f fuel)
+planned-is S f fuel well =
+    let P : Plan → Type 0 = λ plan. HasSort S [] f.type × IsPlanOf S f plan in
+    let asked = infer_sort_of S nesting [] f.type fuel in
+    itself P (IsPlanned S f fuel) (planned_of S f fuel).0
+    (and_next-has (HasUniverse S [] f.type) P (granted S OfType asked) _
+    (granted-has (HasUniverse S [] f.type) S OfType asked.0 (infer_sort-is_sound S (well_formed_typed S well) nesting [] f.type fuel empty)) (λ sort rest h.
+    and_next-has Any P (function_level S sort, rest) _ (any (function_level S sort)) (λ level more u.
+    weaker (IsPlanOf S f) P (plan_of S f level more).0 (λ plan is. ((h.level, h.derivation), is)) (plan-is S f level more))))
+    (λ plan p same. record { sort = p.0; is = p.1; planned = same })
 
 named : (S : Signature) (f : Function) (plan : Plan) (T : Signature) → IsPlanOf S f plan → HasOwn S plan.name plan.type T → HasOwn S f.name f.type T
 named S f plan T is h =
@@ -113,47 +123,56 @@ owned S f plan is =
     ∙ (ap (λ name. numbered_from name 0 (map count_of (f.clauses ∷ inner f.clauses))) is.name
     ∙ sym (all-numbered f.name 0 (f.clauses ∷ inner f.clauses)))
 
-reports-own : (S : Signature) (f : Function) (sort : HasSort S [] f.type) (level left : ℕ) (plan : Plan) (T : Signature) (rest : ℕ)
-    → IsPlanned S f level left plan → HasOwn S plan.name plan.type T → Answers (IsElaborated S f) (report_parts plan 0 plan.parts T rest)
-reports-own S f sort level left plan T rest p own =
+-- the drafts of a plan
+record HasDrafts (S : Signature) (plan : Plan) : Type 0 where
+  pub drafts : List Draft
+  pub translated : translate S plan ≡ Ok drafts
+
+plan-translates : (S : Signature) (plan : Plan) (left : ℕ) → Answers (λ (T : Signature). HasDrafts S plan) (enter_plan S plan left)
+plan-translates S plan left =
+    let P : Signature → Type 0 = λ T. HasDrafts S plan in
+    and_next-has (λ drafts. translate S plan ≡ Ok drafts) P (or_halts (translate S plan), left) _ (halts-is (translate S plan)) (λ drafts rest is.
+    weaker Any P _ (λ T u. record { drafts = drafts; translated = is }) (any _))
+
+reports-own : (S : Signature) (f : Function) (fuel : ℕ) (plan : Plan) (T : Signature) (rest : ℕ)
+    → IsPlanned S f fuel plan → HasOwn S plan.name plan.type T → HasDrafts S plan → Answers (IsElaborated S f fuel) (report_parts plan 0 plan.parts T rest)
+reports-own S f fuel plan T rest p own d =
     let h : HasOwn S f.name f.type T = named S f plan T p.is own in
-    weaker (Reports T plan (references_from 0 plan.parts) (numbered_from plan.name 0 (part_counts plan.parts))) (IsElaborated S f)
+    weaker (Reports T plan (references_from 0 plan.parts) (numbered_from plan.name 0 (part_counts plan.parts))) (IsElaborated S f fuel)
     (report_parts plan 0 plan.parts T rest).0
     (λ l r. record {
-      sort = sort;
+      sort = p.sort;
       with_plan = T;
       own = h;
       grown = r.grows;
       lines = r.owners ∙ owned S f plan p.is;
-      level = level;
-      left = left;
       plan = plan;
       planned = p.planned;
+      drafts = d.drafts;
+      translated = d.translated;
       evidence =
           lines-from (pushed h.before (Definition f.name f.type h.body)) T l.signature plan (references_from 0 plan.parts) l.lines h.entered.prefix
           r.evidence;
     })
     (parts-report plan 0 plan.parts T rest)
 
-function-elaborated : (S : Signature) (f : Function) (fuel : ℕ) → IsWellFormed S → HasEntries S f.type → Answers (IsElaborated S f) (function_of S f fuel)
+function-elaborated : (S : Signature) (f : Function) (fuel : ℕ) → IsWellFormed S → HasEntries S f.type → Answers (IsElaborated S f fuel) (function_of S f fuel)
 function-elaborated S f fuel well scoped =
-    let P = IsElaborated S f in
-    let asked = infer_sort_of S nesting [] f.type fuel in
-    and_next-has (HasUniverse S [] f.type) P (granted S OfType asked) _
-    (granted-has (HasUniverse S [] f.type) S OfType asked.0 (infer_sort-is_sound S (well_formed_typed S well) nesting [] f.type fuel empty)) (λ sort rest h.
-    and_next-has Any P (function_level S sort, rest) _ (any (function_level S sort)) (λ level more u.
-    and_next-has (IsPlanned S f level more) P (plan_of S f level more) _ (planned-is S f level more) (λ plan end p.
-    and_next-has (HasOwn S plan.name plan.type) P (enter_plan S plan end) _
-    (plan-enters S plan end p.is.base (transport (HasEntries S) (sym p.is.type) scoped)) (λ T last own.
-    reports-own S f (h.level, h.derivation) level more plan T last p own))))
+    let P = IsElaborated S f fuel in
+    transport (λ r. Answers P r) (sym (function-planned S f fuel))
+    (and_next-has (IsPlanned S f fuel) P (planned_of S f fuel) _ (planned-is S f fuel well) (λ plan end p.
+    and_next-has (λ T. HasOwn S plan.name plan.type T × HasDrafts S plan) P (enter_plan S plan end) _
+    (weaker-of-two (HasOwn S plan.name plan.type) (λ T. HasDrafts S plan) (λ T. HasOwn S plan.name plan.type T × HasDrafts S plan) (enter_plan S plan end).0
+    (plan-enters S plan end p.is.base (transport (HasEntries S) (sym p.is.type) scoped)) (plan-translates S plan end) (λ T own d. (own, d)))
+    (λ T last h. reports-own S f fuel plan T last p h.0 h.1)))
 
 function-written : (S : Signature) (fuel : ℕ) (x : Word) (ty : surf.Surf) (cs : surf.Clauses) → IsReady S
-    → IfOk (elaborate_function S fuel x ty cs) (IsWrittenFunction S x ty cs)
+    → IfOk (elaborate_function S fuel x ty cs) (IsWrittenFunction S fuel x ty cs)
 function-written S fuel x ty cs ready =
-    function-has (IsWrittenFunction S x ty cs) S fuel x ty cs (λ f is.
+    function-has (IsWrittenFunction S fuel x ty cs) S fuel x ty cs (λ f is.
     let new = function-new S x ty cs f is in
     let scoped = function-scoped S (surf.Fun x ty cs) f is in
-    weaker (IsElaborated S f) (λ (l : Lines). IsWrittenFunction S x ty cs (with_lines (accepted_as x.text l.signature) l.lines)) (function_of S f fuel).0
+    weaker (IsElaborated S f fuel) (λ (l : Lines). IsWrittenFunction S fuel x ty cs (with_lines (accepted_as x.text l.signature) l.lines)) (function_of S f fuel).0
     (λ l h. record {
       given = f;
       resolved = is;
@@ -169,10 +188,10 @@ function-written S fuel x ty cs ready =
       formed = formed f h.with_plan l.signature h.own h.grown;
       accepted = refl;
       lines = h.lines;
-      level = h.level;
-      left = h.left;
       plan = h.plan;
       planned = h.planned;
+      drafts = h.drafts;
+      translated = h.translated;
       evidence =
           transport (λ name. AreLinesOf (pushed h.own.before (Definition name f.type h.own.body)) l.signature h.plan (references_from 0 h.plan.parts) l.lines)
           new.name h.evidence;

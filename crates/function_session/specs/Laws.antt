@@ -10,9 +10,11 @@ use Rattle.surface_syntax.specs.Trees as surf
 use Rattle.surface_syntax.specs.declared.tree.Word.{Word}
 use Rattle.resolve.specs.Functions.{Function, function}
 use Rattle.resolve.specs.Resolving.{resolve_term}
+use Rattle.core_sig.specs.Drafts.{Draft}
+use Rattle.tree_translation.specs.Entries.{translate}
 use Rattle.tree_translation.specs.Plans.{Plan}
 use Rattle.clause_reports.specs.Equations.{part_named}
-use Rattle.clause_reports.specs.elaboration.Functions.{plan_of}
+use Rattle.clause_reports.specs.elaboration.Functions.{planned_of}
 use Rattle.clause_reports.specs.elaboration.Refusals.{Owner, owner_of}
 use Rattle.elab_session.specs.Declaring.{accepted_as}
 use Rattle.elab_session.specs.Laws as session
@@ -64,8 +66,9 @@ clause_owners f = owners_from f.name 0 (f.clauses ∷ inner f.clauses)
 -- A function was added that is written by clauses. Its type is the core term to which the written one is resolved, and by the typing rules
 -- over the entries before it has a sort. All new entries are formed by the rules over those before them. One of them is the function, a
 -- definition with the declared name and exactly this type. Each clause has one line, in the order of the clauses, and the statement of the
--- line holds of the clause in the plan of the function.
-pub record IsWrittenFunction (S : Signature) (x : Word) (ty : surf.Surf) (clauses : surf.Clauses) (a : Elaborated) : Type 0 where
+-- line holds of the clause in the plan of the function, which is that of the run with these units. The function's entries are the drafts
+-- that the plan translates to.
+pub record IsWrittenFunction (S : Signature) (fuel : ℕ) (x : Word) (ty : surf.Surf) (clauses : surf.Clauses) (a : Elaborated) : Type 0 where
   pub given : Function
   pub resolved : function S x ty clauses ≡ Ok given
   pub type_resolved : resolve_term S [] ty ≡ Ok given.type
@@ -78,10 +81,10 @@ pub record IsWrittenFunction (S : Signature) (x : Word) (ty : surf.Surf) (clause
   pub formed : IsWellFormed a.signature
   pub accepted : declared_of a ≡ accepted_as x.text a.signature
   pub lines : map line_owner a.lines ≡ clause_owners given
-  pub level : ℕ
-  pub left : ℕ
   pub plan : Plan
-  pub planned : (plan_of S given level left).0 ≡ Ok plan
+  pub planned : (planned_of S given fuel).0 ≡ Ok plan
+  pub drafts : List Draft
+  pub translated : translate S plan ≡ Ok drafts
   pub evidence : AreLinesOf (pushed before (Definition x.text given.type body)) a.signature plan (references_from 0 plan.parts) a.lines
 
 -- a definition or a family is as written, and has no clauses
@@ -89,9 +92,9 @@ pub record IsWrittenPlainly (S : Signature) (d : surf.Decl) (a : Elaborated) : T
   pub written : session.IsAsWritten S d (declared_of a)
   pub lines : a.lines ≡ []
 
-abbrev pub IsAsWritten : Signature → surf.Decl → Elaborated → Type 0
-IsAsWritten S (surf.Fun x ty clauses) a = IsWrittenFunction S x ty clauses a
-IsAsWritten S d a = IsWrittenPlainly S d a
+abbrev pub IsAsWritten : Signature → (fuel : ℕ) → surf.Decl → Elaborated → Type 0
+IsAsWritten S fuel (surf.Fun x ty clauses) a = IsWrittenFunction S fuel x ty clauses a
+IsAsWritten S fuel d a = IsWrittenPlainly S d a
 
 abbrev pub ElaboratesAsWritten : Type 0
-ElaboratesAsWritten = (S : Signature) (fuel : ℕ) (d : surf.Decl) → IsReady S → IfOk (elaborate_of S fuel d) (IsAsWritten S d)
+ElaboratesAsWritten = (S : Signature) (fuel : ℕ) (d : surf.Decl) → IsReady S → IfOk (elaborate_of S fuel d) (IsAsWritten S fuel d)

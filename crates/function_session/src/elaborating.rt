@@ -22,7 +22,7 @@ pub fn elaborate(alloc: Global, session: &mut Session, d: &Decl) -> Result<Elabo
     ensures fuel { session.new.fuel ≡ session.old.fuel }
     ensures longer { IsPrefix session.old.signature session.new.signature }
     ensures ready { IsReady session.new.signature }
-    ensures written { IfOk result (λ a. IsAsWritten session.old.signature (decl_of d.now) (elaborated_in session.new.signature a)) }
+    ensures written { IfOk result (λ a. IsAsWritten session.old.signature session.old.fuel (decl_of d.now) (elaborated_in session.new.signature a)) }
 {
     elaborate_over(alloc, &mut session.sig, session.fuel, d)
 }

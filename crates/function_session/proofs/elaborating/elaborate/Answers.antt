@@ -36,6 +36,6 @@ returns-clause-longer c =
 
 pub returns-clause-written : goal.returns-clause-written
 returns-clause-written c =
-    transport (λ (s : Session). IfOk c.elaborate_over.result (λ a. IsAsWritten s.signature (decl_of c.args.d.now) (elaborated_in c.elaborate_over.new.sig a))) c.session.view_is
-    (says (IsAsWritten c.session.inside.sig (decl_of c.args.d.now)) _ _ _ c.elaborate_over.ensures.answer
+    transport (λ (s : Session). IfOk c.elaborate_over.result (λ a. IsAsWritten s.signature s.fuel (decl_of c.args.d.now) (elaborated_in c.elaborate_over.new.sig a))) c.session.view_is
+    (says (IsAsWritten c.session.inside.sig c.session.inside.fuel (decl_of c.args.d.now)) _ _ _ c.elaborate_over.ensures.answer
     (elaborates-written c.session.inside.sig c.session.inside.fuel (decl_of c.args.d.now) c.session.invariant))
